@@ -1,0 +1,5 @@
+-- Lemmas on the bytes and marks of a disk, and on raw bytes that are read into them.
+pub mod HeldBytes
+pub mod RawBytes
+pub mod RawImages
+pub mod LostPages

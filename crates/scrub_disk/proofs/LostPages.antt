@@ -1,0 +1,70 @@
+-- Which pages of a loaded image are unreadable.
+use Rattle.std.proofs.Common.{◌≡◌, ◌<◌, ◌≤◌, ◌+◌, ◌-◌, ◌*◌, ℕ, Bool, true, false, cond, List, [], length, get_or, arith, refl, sym, ◌∙◌, inl, inr, ◌⊎◌, Option, Some, None, IfSome, subst}
+use Rattle.std.specs.List.{between, Contains}
+use Rattle.std.proofs.lemmas.Nat.{row_fits}
+use Rattle.std.proofs.lemmas.Option.{slice_get_within, none-some}
+use Rattle.scrub_disk.specs.declared.geometry.Geometry.{Geometry}
+use Rattle.scrub_disk.specs.Image.{Image}
+use Rattle.scrub_disk.specs.Held.{held}
+use Rattle.scrub_disk.specs.Raw.{IsPageAt, HoldsRaw, MarksAll, MarksOnly, LosesOnly}
+
+-- a page that is whole at its place isn't cut
+uncut : (told : List ℕ) (place size : ℕ) (page : Option (List ℕ)) → 0 < size → length told < place + size → IfSome page (IsPageAt told place size) → page ≡ None
+uncut told place size None some cut at = refl
+uncut told place size (Some bytes) some cut at =
+    let last : size - 1 < length bytes = omega (arith, at.whole, some) in
+    let within : place + (size - 1) < length told = slice_get_within told (place + (size - 1)) (get_or bytes (size - 1) 0) (at.stands (size - 1) last) in
+    absurd (let none : ⊥ = omega (arith, within, cut, some) in none)
+
+-- a page is unreadable only where its number is marked
+marked_at : (b : Bool) (page : List ℕ) → cond b None (Some page) ≡ None → b ≡ true
+marked_at true page e = refl
+marked_at false page e = absurd (none-some page (sym e))
+
+-- a disk whose unmarked pages are the raw ones, and whose marks are few, has lost few pages
+loses_only : (g : Geometry) (told bytes : List ℕ) (marks : List Bool) (failures : ℕ) →
+    MarksOnly told g.page (g.pages * g.extents) failures marks → HoldsRaw told (held g bytes marks) → LosesOnly told g [] failures (held g bytes marks)
+loses_only g told bytes marks failures m holds = record {
+  cut = λ e p he hp cut. uncut told ((e * g.pages + p) * g.page) g.page ((held g bytes marks).page e p) (omega (arith, g.page_size.least)) cut (holds e p he hp);
+  failed = m.failed;
+  few = m.few;
+  only = λ e p he hp none.
+      let row : e * g.pages + g.pages ≤ g.extents * g.pages = row_fits e g.pages g.extents g.pages he (omega arith) in
+      elim (m.only (e * g.pages + p) (omega (arith, row, hp)) (marked_at (get_or marks (e * g.pages + p) false) (between ((e * g.pages + p) * g.page) ((e * g.pages + p) * g.page + g.page) bytes) none)) [
+        | inl cut ↦ inr (inl cut)
+        | inr failed ↦ inr (inr failed)
+      ];
+}
+
+-- the same of a disk that was loaded, where the raw image may not tell its bytes
+pub loses_loaded : (g : Geometry) (raw : Option (List ℕ)) (bytes : List ℕ) (marks : List Bool) (page count failures : ℕ) (image : Image) → image ≡ held g bytes marks → page ≡ g.page → count ≡ g.pages * g.extents →
+    IfSome raw (λ told. HoldsRaw told image) → IfSome raw (λ told. MarksOnly told page count failures marks) → IfSome raw (λ told. LosesOnly told g [] failures image)
+loses_loaded g None bytes marks page count failures image is same all holds m = tt
+loses_loaded g (Some told) bytes marks page count failures image is same all holds m =
+    subst (λ (d : Image). LosesOnly told g [] failures d) (sym is)
+    (loses_only g told bytes marks failures (subst (λ (n : ℕ). MarksOnly told g.page n failures marks) all (subst (λ (p : ℕ). MarksOnly told p count failures marks) same m)) (subst (λ (d : Image). HoldsRaw told d) is holds))
+
+-- pages that are named are lost too, and no more
+loses_marked : (told : List ℕ) (g : Geometry) (named : List (ℕ × ℕ)) (before after : ℕ) (old new : Image) → old.geometry ≡ g → before ≤ after →
+    LosesOnly told g [] before old → MarksAll old new named → LosesOnly told g named after new
+loses_marked told g named before after old new is le l m = record {
+  cut = λ e p he hp cut. elim (changed e p he hp) [ inl same ↦ same ∙ l.cut e p he hp cut | inr gone ↦ gone.0 ];
+  failed = l.failed;
+  few = omega (arith, l.few, le);
+  only = λ e p he hp none. elim (changed e p he hp) [
+    | inr gone ↦ inl gone.1
+    | inl same ↦ elim (l.only e p he hp (sym same ∙ none)) [
+      | inl unnamed ↦ absurd (let none : ⊥ = omega (arith, unnamed.1) in none)
+      | inr lost ↦ inr lost
+    ]
+  ];
+}
+  where
+    changed : (e p : ℕ) → e < g.extents → p < g.pages → (new.page e p ≡ old.page e p) ⊎ ((new.page e p ≡ None) × Contains named (e, p))
+    changed e p he hp = m.others e p (subst (λ (h : Geometry). e < h.extents) (sym is) he) (subst (λ (h : Geometry). p < h.pages) (sym is) hp)
+
+-- the same by counts of failures, where the raw image may not tell its bytes
+pub loses_named : (raw : Option (List ℕ)) (g : Geometry) (named : List (ℕ × ℕ)) (first before after : ℕ) (old new : Image) → old.geometry ≡ g → before ≤ after →
+    IfSome raw (λ told. LosesOnly told g [] (before - first) old) → MarksAll old new named → IfSome raw (λ told. LosesOnly told g named (after - first) new)
+loses_named None g named first before after old new is le l m = tt
+loses_named (Some told) g named first before after old new is le l m = loses_marked told g named (before - first) (after - first) old new is (omega (arith, le)) l m

@@ -1,0 +1,148 @@
+-- Raw bytes that are read piece by piece into a list.
+use Rattle.std.proofs.Common.{rules, ◌≡◌, ◌<◌, ◌≤◌, ◌+◌, ◌-◌, ◌*◌, ◌/◌, ℕ, Bool, true, false, not, List, [], ◌∷◌, ◌++◌, ◌⊎◌, length, length-append, take, get_or, set, slice_get, arith, refl, sym, ◌∙◌, ap, inl, inr, Option, Some, None, IfSome, subst, get_or-set_same, get_or-set_other, ◌≢◌}
+use Rattle.std.proofs.lemmas.Nat.{div_below, div-mul-add}
+use Rattle.std.proofs.Math.Nat.{mul-le-mul_left}
+use Rattle.std.specs.Bool.{OnTrue, OnFalse}
+use Rattle.std.proofs.lemmas.Bool.{cases_lt, cases_eq, false≢true}
+use Rattle.std.proofs.lemmas.List.Elements.{Contains-push, Contains-append_left}
+use Rattle.std.specs.List.{Contains}
+use Rattle.std.proofs.lemmas.List.{places, get_or-take, length-take-le}
+use borrow.Rule.Slice.PartMut.{put_mid}
+use Rattle.scrub_disk.specs.Image.{IsText}
+use Rattle.scrub_disk.specs.Raw.{ReadFrom, IsRead, MarksOnly}
+
+-- the first `done` bytes of the list stand at the offset
+abbrev pub StandsSoFar : List ℕ → ℕ → ℕ → List ℕ → Type 0
+StandsSoFar bytes offset done out = (k : ℕ) → k < done → slice_get bytes (offset + k) ≡ Some (get_or out k 0)
+
+-- the same of the raw image's bytes, where it tells them
+abbrev pub ReadSoFar : Option (List ℕ) → ℕ → ℕ → List ℕ → Type 0
+ReadSoFar raw offset done out = IfSome raw (λ bytes. StandsSoFar bytes offset done out)
+
+-- a write behind a place keeps what stands before it,
+kept_before : (out piece : List ℕ) (done n k : ℕ) → done + n ≤ length out → length piece ≡ n → k < done → get_or (put_mid done n out piece) k 0 ≡ get_or out k 0
+kept_before out piece done n k fits l h = search (rules, places)
+
+-- and what was written stands there
+brought : (out piece : List ℕ) (done n j : ℕ) → done + n ≤ length out → length piece ≡ n → j < n → get_or (put_mid done n out piece) (done + j) 0 ≡ get_or piece j 0
+brought out piece done n j fits l h = search (rules, places)
+
+-- what stands after one more read
+stands_more : (bytes : List ℕ) (offset done n : ℕ) (out piece : List ℕ) → done ≤ length out → length piece ≡ length out - done → n ≤ length piece →
+    StandsSoFar bytes offset done out → ReadFrom bytes (offset + done) piece n → StandsSoFar bytes offset (done + n) (put_mid done (length out - done) out piece)
+stands_more bytes offset done n out piece within l few before read k hk = elim (cases_lt k done) [
+  | inl below ↦ before k below ∙ ap Some (sym (kept_before out piece done (length out - done) k (omega arith) l below))
+  | inr past ↦
+      let j : done + (k - done) ≡ k = omega (arith, past) in
+      let here : k - done < n = omega (arith, past, hk) in
+      let taken : length (take n piece) ≡ n = length-take-le n piece few in
+      let place : offset + done + (k - done) ≡ offset + k = omega (arith, past) in
+      ap (slice_get bytes) (sym place) ∙ read.given (k - done) (omega (arith, taken, here))
+      ∙ ap Some (get_or-take n piece (k - done) 0 here ∙ sym (brought out piece done (length out - done) (k - done) (omega arith) l (omega (arith, here, few, l)))
+      ∙ ap (λ i. get_or (put_mid done (length out - done) out piece) i 0) j)
+]
+
+-- the same where the raw image may not tell its bytes
+pub read_more : (raw was : Option (List ℕ)) (offset done n : ℕ) (out piece : List ℕ) → was ≡ raw → done ≤ length out → length piece ≡ length out - done →
+    ReadSoFar raw offset done out → IsRead was (offset + done) piece n → ReadSoFar raw offset (done + n) (put_mid done (length out - done) out piece)
+read_more None was offset done n out piece e within l before read = tt
+read_more (Some bytes) was offset done n out piece e within l before read =
+    let told : IsRead (Some bytes) (offset + done) piece n = subst (λ (r : Option (List ℕ)). IsRead r (offset + done) piece n) e read in
+    stands_more bytes offset done n out piece within l told.within before told.told
+
+-- a write in the middle keeps the length
+pub length-put : (out piece : List ℕ) (done n : ℕ) → done + n ≤ length out → length piece ≡ n → length (put_mid done n out piece) ≡ length out
+length-put out piece done n fits l = search (rules, places)
+
+-- the bytes below page n stand at their places, where their pages aren't marked
+abbrev pub HeldBelow : List ℕ → ℕ → ℕ → List Bool → List ℕ → Type 0
+HeldBelow told page n marks bytes = (i : ℕ) → i < n * page → get_or marks (i / page) true ≡ false → slice_get told i ≡ Some (get_or bytes i 0)
+
+-- one more page was read at its place, and marked where it isn't whole
+held_more : (told : List ℕ) (page n : ℕ) (marks : List Bool) (bytes piece : List ℕ) (whole : Bool) → 0 < page → n < length marks → n * page + page ≤ length bytes → length piece ≡ page →
+    HeldBelow told page n marks bytes → OnTrue whole (IsText (slice_get told) (n * page) piece) → HeldBelow told page (n + 1) (set marks n (not whole)) (put_mid (n * page) page bytes piece)
+held_more told page n marks bytes piece whole pos below fits l before read i hi unmarked = elim (cases_lt i (n * page)) [
+  | inl less ↦
+      let q : i / page < n = div_below i page n pos (omega (arith, less)) in
+      let ne : i / page ≢ n = omega (arith, q) in
+      before i less (sym (get_or-set_other marks n (i / page) (not whole) true ne) ∙ unmarked)
+      ∙ ap Some (sym (kept_before bytes piece (n * page) page i fits l less))
+  | inr past ↦
+      let k : n * page + (i - n * page) ≡ i = omega (arith, past) in
+      let small : i - n * page < page = omega (arith, past, hi) in
+      let q : i / page ≡ n = ap (λ m. m / page) (sym k) ∙ div-mul-add n page (i - n * page) small in
+      let is_whole : whole ≡ true = not_false whole (sym (get_or-set_same marks n (not whole) true below) ∙ ap (λ m. get_or (set marks n (not whole)) m true) (sym q) ∙ unmarked) in
+      let text : IsText (slice_get told) (n * page) piece = given whole is_whole read in
+      ap (slice_get told) (sym k) ∙ text (i - n * page) (omega (arith, small, l))
+      ∙ ap Some (sym (brought bytes piece (n * page) page (i - n * page) fits l small) ∙ ap (λ m. get_or (put_mid (n * page) page bytes piece) m 0) k)
+]
+  where
+    not_false : (b : Bool) → not b ≡ false → b ≡ true
+    not_false true e = refl
+    not_false false e = sym e
+
+    given : (b : Bool) {P : Type 0} → b ≡ true → OnTrue b P → P
+    given true e p = p
+    given false e p = absurd (false≢true e)
+
+-- the same where the raw image may not tell its bytes
+pub pages_more : (raw was : Option (List ℕ)) (page n size : ℕ) (marks : List Bool) (bytes piece : List ℕ) (whole : Bool) → was ≡ raw → size ≡ page → 0 < page → n < length marks → n * page + page ≤ length bytes → length piece ≡ page →
+    IfSome raw (λ told. HeldBelow told page n marks bytes) → IfSome was (λ told. OnTrue whole (IsText (slice_get told) (n * page) piece)) →
+    IfSome raw (λ told. HeldBelow told page (n + 1) (set marks n (not whole)) (put_mid (n * page) size bytes piece))
+pages_more None was page n size marks bytes piece whole e same pos below fits l before read = tt
+pages_more (Some told) was page n size marks bytes piece whole e same pos below fits l before read =
+    let here : IfSome (Some told) (λ t. OnTrue whole (IsText (slice_get t) (n * page) piece)) = subst (λ (r : Option (List ℕ)). IfSome r (λ t. OnTrue whole (IsText (slice_get t) (n * page) piece))) e read in
+    rw same (held_more told page n marks bytes piece whole pos below fits l before here)
+
+-- a page before the last ends within all of them
+pub page_fits : (page n count size : ℕ) → n < count → size ≡ page * count → n * page + page ≤ size
+page_fits page n count size below e =
+    let next : n + 1 ≤ count = omega (arith, below) in
+    let room : page * (n + 1) ≤ page * count = mul-le-mul_left page next in
+    omega (arith, room, e)
+
+-- a page more, which is marked where it wasn't read whole: then it was cut, or one more failure was counted
+marks_only_more : (told : List ℕ) (page n before after : ℕ) (marks : List Bool) (whole : Bool) → n < length marks → before ≤ after →
+    MarksOnly told page n before marks → OnFalse whole ((length told < n * page + page) ⊎ (before < after)) → MarksOnly told page (n + 1) after (set marks n (not whole))
+marks_only_more told page n before after marks true below le m lost = record {
+  failed = m.failed;
+  few = omega (arith, m.few, le);
+  only = λ k hk marked. elim (cases_eq k n) [
+    | inr ne ↦ m.only k (omega (arith, hk, ne)) (sym (get_or-set_other marks n k false false ne) ∙ marked)
+    | inl e ↦ absurd (false≢true (sym (get_or-set_same marks n false false below) ∙ ap (λ i. get_or (set marks n false) i false) (sym e) ∙ marked))
+  ];
+}
+marks_only_more told page n before after marks false below le m (inl cut) = record {
+  failed = m.failed;
+  few = omega (arith, m.few, le);
+  only = λ k hk marked. elim (cases_eq k n) [
+    | inr ne ↦ m.only k (omega (arith, hk, ne)) (sym (get_or-set_other marks n k true false ne) ∙ marked)
+    | inl e ↦ inl (subst (λ (i : ℕ). length told < i * page + page) (sym e) cut)
+  ];
+}
+marks_only_more told page n before after marks false below le m (inr more) = record {
+  failed = m.failed ++ n ∷ [];
+  few = omega (arith, m.few, more, length-append m.failed (n ∷ []));
+  only = λ k hk marked. elim (cases_eq k n) [
+    | inr ne ↦ elim (m.only k (omega (arith, hk, ne)) (sym (get_or-set_other marks n k true false ne) ∙ marked)) [
+      | inl cut ↦ inl cut
+      | inr there ↦ inr (Contains-append_left m.failed (n ∷ []) k there)
+    ]
+    | inl e ↦ inr (subst (λ (i : ℕ). Contains (m.failed ++ n ∷ []) i) (sym e) (Contains-push m.failed n))
+  ];
+}
+
+-- the same by counts of failures, where the raw image may not tell its bytes
+pub lost_more : (raw was : Option (List ℕ)) (page n first before after : ℕ) (marks : List Bool) (whole : Bool) (start size : ℕ) → was ≡ raw → start ≡ n * page → size ≡ page →
+    first ≤ before → before ≤ after → n < length marks → IfSome raw (λ told. MarksOnly told page n (before - first) marks) →
+    IfSome was (λ told. OnFalse whole ((length told < start + size) ⊎ (before < after))) →
+    IfSome raw (λ told. MarksOnly told page (n + 1) (after - first) (set marks n (not whole)))
+lost_more None was page n first before after marks whole start size e at same le more below m lost = tt
+lost_more (Some told) was page n first before after marks whole start size e at same le more below m lost =
+    marks_only_more told page n (before - first) (after - first) marks whole below (omega (arith, le, more)) m
+    (counted whole (subst (λ (r : Option (List ℕ)). IfSome r (λ t. OnFalse whole ((length t < start + size) ⊎ (before < after)))) e lost))
+  where
+    counted : (b : Bool) → OnFalse b ((length told < start + size) ⊎ (before < after)) → OnFalse b ((length told < n * page + page) ⊎ (before - first < after - first))
+    counted true l = l
+    counted false (inl cut) = inl (omega (arith, cut, at, same))
+    counted false (inr one) = inr (omega (arith, one, le))

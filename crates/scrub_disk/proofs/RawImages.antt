@@ -1,0 +1,117 @@
+-- Images whose pages hold raw bytes, and marks on them.
+use Rattle.std.proofs.Common.{◌≡◌, ◌<◌, ◌≤◌, ◌+◌, ◌-◌, ◌*◌, ◌/◌, ℕ, Bool, true, false, cond, List, length, get_or, arith, refl, sym, ◌∙◌, ap, inl, inr, ◌⊎◌, Option, Some, None, IfSome, subst, All, take}
+use Rattle.std.specs.List.{between}
+use Rattle.std.proofs.lemmas.Nat.{div-mul-add, row_fits}
+use Rattle.std.proofs.Math.Nat.{mul-le-mul_left}
+use Rattle.std.proofs.lemmas.Bool.{cases_eq}
+use Rattle.std.proofs.lemmas.List.{get_or_default, get_or-take, length-take-le}
+use Rattle.std.proofs.lemmas.List.Elements.{All-more}
+use Rattle.std.proofs.lemmas.List.Edits.{length-between, get_or-between}
+use Rattle.std.proofs.Common.{Vec, Global}
+use Rattle.std.specs.Vec.{with_items}
+use Rattle.std.proofs.lemmas.List.{with_items_is}
+use Rattle.scrub_disk.specs.declared.geometry.Geometry.{Geometry}
+use Rattle.scrub_disk.specs.Image.{Image}
+use Rattle.scrub_disk.specs.Held.{held}
+use Rattle.scrub_disk.specs.Memory.{Marks}
+use Rattle.scrub_disk.specs.Raw.{IsPageAt, HoldsRaw, HoldsUnmarked, MarksAll}
+
+-- page n of all pages lies within all bytes
+page_room : (g : Geometry) (e p : ℕ) → e < g.extents → p < g.pages → (e * g.pages + p < g.pages * g.extents) × ((e * g.pages + p) * g.page + g.page ≤ g.page * g.pages * g.extents)
+page_room g e p he hp =
+    let r : e * g.pages + g.pages ≤ g.extents * g.pages = row_fits e g.pages g.extents g.pages he (omega arith) in
+    let below : e * g.pages + p + 1 ≤ g.pages * g.extents = omega (arith, r, hp) in
+    let t : g.page * (e * g.pages + p + 1) ≤ g.page * (g.pages * g.extents) = mul-le-mul_left g.page below in
+    (omega (arith, below), omega (arith, t))
+
+-- a disk whose unmarked bytes are the raw ones has the raw pages
+pub holds_raw : (g : Geometry) (told bytes : List ℕ) (marks : List Bool) → length bytes ≡ g.page * g.pages * g.extents → length marks ≡ g.pages * g.extents →
+    HoldsUnmarked told g.page marks bytes → HoldsRaw told (held g bytes marks)
+holds_raw g told bytes marks lb lm h e p he hp = by_mark (get_or marks (e * g.pages + p) false) (λ f. f)
+  where
+    n : ℕ
+    n = e * g.pages + p
+
+    by_mark : (b : Bool) → (b ≡ false → get_or marks (e * g.pages + p) false ≡ false) →
+        IfSome (cond b None (Some (between ((e * g.pages + p) * g.page) ((e * g.pages + p) * g.page + g.page) bytes))) (IsPageAt told ((e * g.pages + p) * g.page) g.page)
+    by_mark true f = tt
+    by_mark false f =
+        let room = page_room g e p he hp in
+        let from : ℕ = (e * g.pages + p) * g.page in
+        let l : length (between ((e * g.pages + p) * g.page) ((e * g.pages + p) * g.page + g.page) bytes) ≡ g.page =
+        length-between bytes ((e * g.pages + p) * g.page) ((e * g.pages + p) * g.page + g.page) (omega (arith, room.1, lb)) ∙ (let z : (e * g.pages + p) * g.page + g.page - (e * g.pages + p) * g.page ≡ g.page = omega arith in z) in
+        record {
+          whole = l;
+          stands = λ k hk.
+              let small : k < g.page = omega (arith, hk, l) in
+              let q : ((e * g.pages + p) * g.page + k) / g.page ≡ e * g.pages + p = div-mul-add (e * g.pages + p) g.page k small in
+              h ((e * g.pages + p) * g.page + k) (omega (arith, room.1, lb, small))
+              (ap (λ m. get_or marks m true) q ∙ get_or_default marks (e * g.pages + p) true false (omega (arith, room.0, lm)) ∙ f refl)
+              ∙ ap Some (sym (get_or-between bytes ((e * g.pages + p) * g.page) ((e * g.pages + p) * g.page + g.page) k 0 (omega (arith, small))));
+        }
+
+-- the image of two vectors that were written through slices
+pub loaded_image : (g : Geometry) (v : Vec ℕ Global) (m : Vec Bool Global) (bytes : List ℕ) (marks : List Bool) (image : Image) →
+    image ≡ held g (with_items v bytes).items (with_items m marks).items → length bytes ≡ length v.items → length marks ≡ length m.items → image ≡ held g bytes marks
+loaded_image g v m bytes marks image is lb lm =
+    let vb : (with_items v bytes).items ≡ bytes = with_items_is v bytes (lb ∙ sym v.ok.0) in
+    let mb : (with_items m marks).items ≡ marks = with_items_is m marks (lm ∙ sym m.ok.0) in
+    is ∙ ap (λ xs. held g xs (with_items m marks).items) vb ∙ ap (λ ys. held g bytes ys) mb
+
+-- an image that was loaded has the raw pages, where the raw image may not tell its bytes
+pub holds_loaded : (g : Geometry) (raw : Option (List ℕ)) (bytes : List ℕ) (marks : List Bool) (page : ℕ) (image : Image) →
+    image ≡ held g bytes marks → page ≡ g.page → length bytes ≡ g.page * (g.pages * g.extents) → length marks ≡ g.pages * g.extents →
+    IfSome raw (λ told. HoldsUnmarked told page marks bytes) → IfSome raw (λ told. HoldsRaw told image)
+holds_loaded g None bytes marks page image is same lb lm h = tt
+holds_loaded g (Some told) bytes marks page image is same lb lm h =
+    subst (λ (d : Image). HoldsRaw told d) (sym is)
+    (holds_raw g told bytes marks (omega (arith, lb)) lm (subst (λ (p : ℕ). HoldsUnmarked told p marks bytes) same h))
+
+-- an element of a front of a list
+front_at : {X : Type 0} (xs : List X) (i k : ℕ) (d : X) → i ≤ length xs → k < length (take i xs) → (k < i) × (get_or (take i xs) k d ≡ get_or xs k d)
+front_at {X} xs i k d le hk =
+    let small : k < i = omega (arith, hk, length-take-le {A = X} i xs le) in
+    (small, get_or-take i xs k d small)
+
+-- page p of extent e, as it is named
+abbrev at : ℕ → ℕ → ℕ × ℕ
+at e p = (e, p)
+
+-- what one more mark changes
+marks_step : (mid new : Image) (e p f q : ℕ) → Marks mid new e p → f < mid.geometry.extents → q < mid.geometry.pages →
+    (new.page f q ≡ mid.page f q) ⊎ ((new.page f q ≡ None) × (at f q ≡ at e p))
+marks_step mid new e p f q m hf hq = elim (cases_eq f e) [
+  | inr ne ↦ inl (m.others f q hf hq (inl ne))
+  | inl fe ↦ elim (cases_eq q p) [
+    | inr ne ↦ inl (m.others f q hf hq (inr ne))
+    | inl qp ↦ inr (ap (λ x. new.page x q) fe ∙ ap (λ y. new.page e y) qp ∙ m.marked, ap (λ x. at x q) fe ∙ ap (λ y. at e y) qp)
+  ]
+]
+
+-- one more named page was marked
+pub marks_more : (old mid new : Image) (named : List (ℕ × ℕ)) (i e p : ℕ) (d : ℕ × ℕ) →
+    All (λ (x : ℕ × ℕ). (x.0 < old.geometry.extents) × (x.1 < old.geometry.pages)) named → MarksAll old mid (take i named) → Marks mid new e p → i < length named → get_or named i d ≡ at e p →
+    MarksAll old new (take (i + 1) named)
+marks_more old mid new named i e p d range h m below is =
+    let same : mid.geometry ≡ old.geometry = h.geometry in
+    let step : (f q : ℕ) → f < old.geometry.extents → q < old.geometry.pages → (new.page f q ≡ mid.page f q) ⊎ ((new.page f q ≡ None) × (at f q ≡ at e p)) =
+    λ f q hf hq. marks_step mid new e p f q m (subst (λ (g : Geometry). f < g.extents) (sym same) hf) (subst (λ (g : Geometry). q < g.pages) (sym same) hq) in
+    let before : All (λ (x : ℕ × ℕ). new.page x.0 x.1 ≡ None) (take i named) =
+    λ k z hk.
+    let front = front_at named i k z (omega (arith, below)) hk in
+    let r = subst (λ (x : ℕ × ℕ). (x.0 < old.geometry.extents) × (x.1 < old.geometry.pages)) (sym front.1) (range k z (omega (arith, front.0, below))) in
+    elim (step (get_or (take i named) k z).0 (get_or (take i named) k z).1 r.0 r.1) [ inl kept ↦ kept ∙ h.marked k z hk | inr gone ↦ gone.0 ] in
+    record {
+      geometry = m.geometry ∙ h.geometry;
+      marked = All-more (λ (x : ℕ × ℕ). new.page x.0 x.1 ≡ None) named i d below before (subst (λ (x : ℕ × ℕ). new.page x.0 x.1 ≡ None) (sym is) m.marked);
+      others = λ f q hf hq. elim (step f q hf hq) [
+        | inl kept ↦ elim (h.others f q hf hq) [
+          | inl was ↦ inl (kept ∙ was)
+          | inr gone ↦
+              let k : ℕ = gone.1.0 in
+              let front = front_at named i gone.1.0 (f, q) (omega (arith, below)) gone.1.1 in
+              inr (kept ∙ gone.0, (gone.1.0, omega (arith, front.0, below, length-take-le {A = ℕ × ℕ} (i + 1) named (omega (arith, below))), get_or-take (i + 1) named gone.1.0 (f, q) (omega (arith, front.0)) ∙ sym front.1 ∙ gone.1.2))
+        ]
+        | inr gone ↦ inr (gone.0, (i, omega (arith, below, length-take-le {A = ℕ × ℕ} (i + 1) named (omega (arith, below))), get_or-take (i + 1) named i (f, q) (omega arith) ∙ get_or_default named i (f, q) d below ∙ is ∙ sym gone.1))
+      ];
+    }

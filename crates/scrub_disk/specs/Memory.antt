@@ -1,0 +1,30 @@
+-- The image of a disk in memory, and how it changes.
+use Rattle.std.specs.Prelude.{◌≡◌, ◌≢◌, ◌<◌, ◌≤◌, ◌+◌, ℕ, List, length, slice_index, replicate, Some, None, ◌⊎◌}
+use Rattle.std.specs.Option.{option_map}
+use Rattle.scrub_disk.specs.declared.geometry.Geometry.{Geometry}
+use Rattle.scrub_disk.specs.declared.memory.MemDisk.{MemDisk}
+use Rattle.scrub_disk.specs.Image.{Image, byte, extent_bytes}
+use Rattle.scrub_disk.specs.Held.{held}
+
+-- the image that a disk in memory holds
+abbrev pub image_of : MemDisk → Image
+image_of d = held d.geometry d.bytes.items d.bad.items
+
+-- each page is readable and all zero
+pub record IsBlank (d : Image) (g : Geometry) : Type 0 where
+  pub geometry : d.geometry ≡ g
+  pub zero : (e p : ℕ) → e < g.extents → p < g.pages → d.page e p ≡ Some (replicate g.page 0)
+
+-- Where a page is readable, the bytes put there stand at their place, and each other byte is as it was. No page
+-- becomes readable or unreadable.
+pub record Puts (old new : Image) (e offset : ℕ) (bytes : List ℕ) : Type 0 where
+  pub geometry : new.geometry ≡ old.geometry
+  pub written : (k : ℕ) → k < length bytes → byte new e (offset + k) ≡ option_map (λ _. slice_index bytes k) (byte old e (offset + k))
+  pub kept : (i : ℕ) → i < extent_bytes old.geometry → (i < offset) ⊎ (offset + length bytes ≤ i) → byte new e i ≡ byte old e i
+  pub others : (f i : ℕ) → f < old.geometry.extents → i < extent_bytes old.geometry → f ≢ e → byte new f i ≡ byte old f i
+
+-- this page is unreadable, and each other page is as it was
+pub record Marks (old new : Image) (e p : ℕ) : Type 0 where
+  pub geometry : new.geometry ≡ old.geometry
+  pub marked : new.page e p ≡ None
+  pub others : (f q : ℕ) → f < old.geometry.extents → q < old.geometry.pages → (f ≢ e) ⊎ (q ≢ p) → new.page f q ≡ old.page f q

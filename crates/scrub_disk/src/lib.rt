@@ -1,0 +1,16 @@
+//! The disk of a storage node: its sizes, its image as a source of pages, an image in memory, and how one is loaded
+//! from raw bytes. What the bytes of a page mean is left to the crates above.
+#![tactic(auto)]
+
+pub mod geometry;
+pub mod loading;
+pub mod memory;
+pub mod raw;
+pub mod source;
+
+pub use geometry::{Geometry, GeometryFault};
+pub use loading::{LoadFault, load};
+pub use memory::MemDisk;
+pub use raw::{RawFault, RawImage};
+pub use source::{PageSource, Unreadable};
+pub use std::alloc::AllocError as OutOfMemory;

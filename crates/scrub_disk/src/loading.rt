@@ -1,0 +1,151 @@
+//! Loading a raw image into memory, page by page. Whether the bytes of a page mean anything is left to the crates above.
+
+ghost use Rattle.std.specs.Prelude.{◌≡◌, ◌≢◌, ◌≤◌, ◌+◌, ◌-◌, ◌*◌, ◌<◌, ◌^◌, ◌/◌, ◌⊎◌, [], ℕ, All, false, true, IfOk, IfSome, length, slice_get, slice_index, slice_index_or, Err, Some};
+ghost use Rattle.std.specs.Bool.{OnTrue, OnFalse};
+ghost use Rattle.scrub_disk.specs.Image.{IsText};
+ghost use Rattle.scrub_disk.specs.Raw.{HoldsUnmarked, HoldsRaw, MarksAll, MarksOnly, LosesOnly, IsLoaded};
+ghost use Rattle.scrub_disk.specs.Memory.{image_of};
+
+use crate::geometry::Geometry;
+use crate::memory::MemDisk;
+use crate::raw::RawImage;
+use std::alloc::Global;
+use thiserror::Error;
+
+/// Why a raw image wasn't loaded.
+#[derive(Debug, Clone, Copy, PartialEq, Eq, Error)]
+pub enum LoadFault {
+    /// There was no memory for the disk.
+    #[error("out of memory")]
+    OutOfMemory,
+    /// There is a byte behind the last page.
+    #[error("the raw image is too long")]
+    TooLong,
+}
+
+/// Fills `out` with the bytes from an offset on, in as many reads as it takes, and says whether it did: a failure or the
+/// end may come first.
+fn read_whole<R: RawImage>(raw: &mut R, offset: u64, out: &mut [u8]) -> bool
+    requires few_reads { R.reads raw.old + length out.old < 2 ^ 63 }
+    requires in_range { offset + length out.old < 2 ^ 64 }
+    ensures whole { IfSome (R.bytes raw.old) (λ bytes. OnTrue result (IsText (slice_get bytes) offset out.new)) }
+    ensures not_whole { IfSome (R.bytes raw.old) (λ bytes. OnFalse result
+        ((length bytes < offset + length out.new) ⊎ (R.failures raw.old < R.failures raw.new))) }
+    ensures failures { R.failures raw.old ≤ R.failures raw.new }
+    ensures same_bytes { R.bytes raw.new ≡ R.bytes raw.old }
+    ensures reads { R.reads raw.new ≤ R.reads raw.old + length out.old }
+{
+    let mut done = 0;
+    while done < out.len() {
+        match raw.read_at(offset + done as u64, &mut out[done..]) {
+            Ok(0) | Err(_) => return false,
+            Ok(n) => done += n,
+        }
+    }
+    true
+}
+
+/// Reads each page from its place, and marks those that couldn't be read whole.
+fn read_pages<R: RawImage>(raw: &mut R, page: usize, bytes: &mut [u8], unreadable: &mut [bool])
+    requires few_reads { R.reads raw.old + length bytes.old < 2 ^ 63 }
+    requires page { 0 < page }
+    requires whole { length bytes.old ≡ page * length unreadable.old }
+    ensures read { IfSome (R.bytes raw.old) (λ told. HoldsUnmarked told page unreadable.new bytes.new) }
+    ensures lost { IfSome (R.bytes raw.old) (λ told.
+        MarksOnly told page (length unreadable.new) (R.failures raw.new - R.failures raw.old) unreadable.new) }
+    ensures failures { R.failures raw.old ≤ R.failures raw.new }
+    ensures same_bytes { R.bytes raw.new ≡ R.bytes raw.old }
+    ensures reads { R.reads raw.new ≤ R.reads raw.old + length bytes.old }
+{
+    for (number, mark) in unreadable.iter_mut().enumerate() {
+        let start = number * page;
+        *mark = !read_whole(raw, start as u64, &mut bytes[start..start + page]);
+    }
+}
+
+/// Whether a byte stands at an offset and can be read.
+fn has_byte_at<R: RawImage>(raw: &mut R, offset: u64) -> bool
+    requires { R.reads raw.old < 2 ^ 63 }
+    ensures there { IfSome (R.bytes raw.old) (λ told. OnTrue result (offset < length told)) }
+    ensures not_there { IfSome (R.bytes raw.old) (λ told. OnFalse result
+        ((length told ≤ offset) ⊎ (R.failures raw.old < R.failures raw.new))) }
+    ensures failures { R.failures raw.old ≤ R.failures raw.new }
+    ensures same_bytes { R.bytes raw.new ≡ R.bytes raw.old }
+    ensures reads { R.reads raw.new ≡ R.reads raw.old + 1 }
+{
+    match raw.read_at(offset, &mut [0u8]) {
+        Ok(n) => n > 0,
+        Err(_) => false,
+    }
+}
+
+/// The disk whose pages stand in the raw bytes one behind the other. A page that can't be read whole is unreadable.
+fn read_disk<R: RawImage>(
+    alloc: Global,
+    raw: &mut R,
+    geometry: Geometry,
+) -> Result<MemDisk, LoadFault>
+    requires few_reads { R.reads raw.old < 2 ^ 62 }
+    ensures geometry { IfOk result (λ disk. (image_of disk).geometry ≡ geometry) }
+    ensures pages { IfOk result (λ disk. IfSome (R.bytes raw.old) (λ told. HoldsRaw told (image_of disk))) }
+    ensures lost { IfOk result (λ disk. IfSome (R.bytes raw.old) (λ told.
+        LosesOnly told geometry [] (R.failures raw.new - R.failures raw.old) (image_of disk))) }
+    ensures failures { R.failures raw.old ≤ R.failures raw.new }
+    ensures fault { result ≢ Err LoadFault.TooLong }
+    ensures same_bytes { R.bytes raw.new ≡ R.bytes raw.old }
+    ensures reads { R.reads raw.new ≤ R.reads raw.old + geometry.page * (geometry.pages * geometry.extents) }
+{
+    let pages = geometry.pages() as usize * geometry.extents() as usize;
+    let page = geometry.page() as usize;
+    let mut bytes = vec![in alloc; 0u8; page * pages].map_err(|_| LoadFault::OutOfMemory)?;
+    let mut unreadable = vec![in alloc; false; pages].map_err(|_| LoadFault::OutOfMemory)?;
+    read_pages(raw, page, &mut bytes, &mut unreadable);
+    Ok(MemDisk::from_parts(geometry, bytes, unreadable))
+}
+
+/// Makes each named page unreadable, where a name is a pair of an extent and a page of it.
+fn mark_all(disk: &mut MemDisk, named: &[(u32, u32)])
+    requires { All (λ at. (at.0 < (image_of disk.old).geometry.extents) × (at.1 < (image_of disk.old).geometry.pages)) named.now }
+    ensures { MarksAll (image_of disk.old) (image_of disk.new) named.now }
+{
+    for &(extent, page) in named {
+        disk.mark_bad(extent, page);
+    }
+}
+
+/// Loads an image of this geometry from raw bytes, in which page p of extent e stands at byte (e × N + p) × P, for N
+/// pages an extent of P bytes each. A page is unreadable where a read of it failed, where the bytes end before it does,
+/// or where it is named in `bad`, which lists pairs of an extent and a page of it. It makes at most P + 1 reads for each
+/// page and one more, and a failed read costs one page at most.
+///
+/// Faults, in this order: `OutOfMemory`; `TooLong`, where a byte stands behind the last page (a failure of that last
+/// read is no fault). After a fault the raw image has been read.
+pub fn load<R: RawImage>(
+    alloc: Global,
+    raw: &mut R,
+    geometry: Geometry,
+    bad: &[(u32, u32)],
+) -> Result<MemDisk, LoadFault>
+    requires few_reads { R.reads raw.old < 2 ^ 62 }
+    requires in_range { All (λ at. (at.0 < geometry.extents) × (at.1 < geometry.pages)) bad.now }
+    ensures loaded { IfOk result (λ disk. IsLoaded (R.bytes raw.old) geometry bad.now (image_of disk)) }
+    ensures lost { IfOk result (λ disk. IfSome (R.bytes raw.old) (λ told.
+        LosesOnly told geometry bad.now (R.failures raw.new - R.failures raw.old) (image_of disk))) }
+    ensures not_too_long { IfOk result (λ _. IfSome (R.bytes raw.old) (λ told.
+        R.failures raw.new ≡ R.failures raw.old → length told ≤ geometry.page * geometry.pages * geometry.extents)) }
+    ensures too_long { result ≡ Err LoadFault.TooLong →
+        IfSome (R.bytes raw.old) (λ told. geometry.page * geometry.pages * geometry.extents < length told) }
+    ensures same_bytes { R.bytes raw.new ≡ R.bytes raw.old }
+    ensures reads { R.reads raw.new ≤ R.reads raw.old + (geometry.page + 1) * (geometry.pages * geometry.extents) + 1 }
+{
+    let mut disk = read_disk(alloc, raw, geometry)?;
+    let end = geometry.extent_bytes() as u64 * geometry.extents() as u64;
+    if has_byte_at(raw, end) {
+        return Err(LoadFault::TooLong);
+    }
+    mark_all(&mut disk, bad);
+    Ok(disk)
+}
+
+#[cfg(test)]
+mod tests;

@@ -1,0 +1,211 @@
+//! Raw images that give few bytes at once or fail, and the disks that are loaded from them.
+
+ghost use Rattle.std.specs.Prelude.{◌≡◌, ◌≤◌, ◌<◌, ◌^◌, All, Some, None};
+ghost use Rattle.std.proofs.Common.{rules};
+
+use super::*;
+use crate::raw::RawFault;
+use crate::source::{PageSource, Unreadable};
+use std::process::Abort;
+use std::test::Fail;
+
+/// A raw image over bytes of its own. One read gives few bytes, and one may fail.
+#[derive(Drop)]
+struct Bytes<'a> {
+    bytes: &'a [u8],
+    /// How many bytes one read gives at most.
+    most: usize,
+    /// Which read fails, counted from 0.
+    failing: Option<u64>,
+    reads: u64,
+    failures: u64,
+    ghost gives: { 1 ≤ most },
+    ghost counted: { failures ≤ reads },
+}
+
+impl<'a> RawImage for Bytes<'a> {
+    ghost bytes = { λ image. Some image.bytes.now };
+
+    ghost reads = { λ image. image.reads };
+
+    ghost failures = { λ image. image.failures };
+
+    ghost failures_are_reads = { λ image. image.counted };
+
+    fn read_at(&mut self, offset: u64, out: &mut [u8]) -> Result<usize, RawFault> {
+        let number = self.reads;
+        self.reads += 1;
+        if self.failing == Some(number) {
+            self.failures += 1;
+            return Err(RawFault);
+        }
+        let start = self.bytes.len().min(offset as usize);
+        let n = out.len().min(self.most).min(self.bytes.len() - start);
+        out[..n].copy_from_slice(&self.bytes[start..start + n]);
+        Ok(n)
+    }
+}
+
+/// A raw image that tells no bytes and fails at each read.
+#[derive(Drop)]
+struct Broken {
+    reads: u64,
+}
+
+impl RawImage for Broken {
+    ghost bytes = { λ image. None };
+
+    ghost reads = { λ image. image.reads };
+
+    ghost failures = { λ image. image.reads };
+
+    ghost failures_are_reads = { λ image. Prim.search rules };
+
+    fn read_at(&mut self, _offset: u64, _out: &mut [u8]) -> Result<usize, RawFault> {
+        self.reads += 1;
+        Err(RawFault)
+    }
+}
+
+/// Bytes of which no two pages of 64 have the same, and one more than twelve such pages have.
+fn numbered() -> [u8; 769] {
+    let mut bytes = [0; 769];
+    for (place, byte) in bytes.iter_mut().enumerate() {
+        *byte = (place % 251) as u8;
+    }
+    bytes
+}
+
+fn bytes_of(bytes: &[u8], most: usize, failing: Option<u64>) -> Bytes<'_>
+    requires { 1 ≤ most }
+    ensures { result.reads ≡ 0 }
+{
+    Bytes {
+        bytes,
+        most,
+        failing,
+        reads: 0,
+        failures: 0,
+    }
+}
+
+/// Loads three extents of four pages of 64 bytes, sees that each readable page has its own of these bytes, and tells
+/// the others as pairs of an extent and a page of it.
+fn unreadable_pages<R: RawImage>(
+    rt: &impl Abort,
+    alloc: Global,
+    raw: &mut R,
+    bad: &[(u32, u32)],
+    bytes: &[u8; 769],
+) -> Result<Vec<(u32, u32)>, Fail>
+    requires few_reads { R.reads raw.old < 2 ^ 62 }
+    requires in_range { All (λ at. (at.0 < 3) × (at.1 < 4)) bad.now }
+{
+    let disk = load(alloc, raw, Geometry::new(64, 4, 3)?, bad)?;
+    let mut unreadable = Vec::new(alloc);
+    for number in 0..12 {
+        let mut out = [0; 64];
+        match disk.read_page(number / 4, number % 4, &mut out) {
+            Ok(()) => {
+                let place = number as usize * 64;
+                assert_eq!(rt; out.as_slice(), &bytes[place..place + 64], "page {number}");
+            }
+            Err(Unreadable) => unreadable.push((number / 4, number % 4))?,
+        }
+    }
+    Ok(unreadable)
+}
+
+#[test]
+fn each_page_of_a_whole_image_is_readable(rt: HostRuntime) -> Result<(), Fail> {
+    let bytes = numbered();
+    let mut raw = bytes_of(&bytes[..768], 4096, None);
+    let unreadable = unreadable_pages(&rt, rt.alloc(), &mut raw, &[], &bytes)?;
+    assert_eq!(rt; unreadable.as_slice(), [].as_slice());
+    assert_eq!(rt; raw.reads, 13);
+    Ok(())
+}
+
+#[test]
+fn pages_behind_the_end_of_a_short_image_are_unreadable(rt: HostRuntime) -> Result<(), Fail> {
+    let bytes = numbered();
+    let mut raw = bytes_of(&bytes[..668], 4096, None);
+    let unreadable = unreadable_pages(&rt, rt.alloc(), &mut raw, &[], &bytes)?;
+    assert_eq!(rt; unreadable.as_slice(), [(2, 2), (2, 3)].as_slice());
+    Ok(())
+}
+
+#[test]
+fn no_bytes_leave_no_page_readable(rt: HostRuntime) -> Result<(), Fail> {
+    let mut raw = bytes_of(&[], 4096, None);
+    let unreadable = unreadable_pages(&rt, rt.alloc(), &mut raw, &[], &numbered())?;
+    assert_eq!(rt; unreadable.len(), 12);
+    assert_eq!(rt; (raw.reads, raw.failures), (13, 0));
+    Ok(())
+}
+
+#[test]
+fn one_byte_behind_the_last_page_is_too_long(rt: HostRuntime) -> Result<(), Fail> {
+    let bytes = numbered();
+    let geometry = Geometry::new(64, 4, 3)?;
+    let mut raw = bytes_of(&bytes, 4096, None);
+    let refused = load(rt.alloc(), &mut raw, geometry, &[]);
+    assert_eq!(rt;
+        refused.map(|disk| disk.geometry()),
+        Err(LoadFault::TooLong)
+    );
+    let mut cut_short = bytes_of(&bytes, 4096, Some(12));
+    let unreadable = unreadable_pages(&rt, rt.alloc(), &mut cut_short, &[], &bytes)?;
+    assert_eq!(rt; unreadable.as_slice(), [].as_slice(), "the last read fails");
+    assert_eq!(rt; (cut_short.reads, cut_short.failures), (13, 1));
+    Ok(())
+}
+
+#[test]
+fn one_byte_at_a_time_makes_as_many_reads_as_bytes_and_one_more(
+    rt: HostRuntime,
+) -> Result<(), Fail> {
+    let bytes = numbered();
+    let mut raw = bytes_of(&bytes[..768], 1, None);
+    let unreadable = unreadable_pages(&rt, rt.alloc(), &mut raw, &[], &bytes)?;
+    assert_eq!(rt; unreadable.as_slice(), [].as_slice());
+    assert_eq!(rt; raw.reads, 769);
+    Ok(())
+}
+
+#[test]
+fn a_failed_read_makes_its_own_page_unreadable(rt: HostRuntime) -> Result<(), Fail> {
+    let bytes = numbered();
+    let mut whole_pages = bytes_of(&bytes[..768], 4096, Some(4));
+    let unreadable = unreadable_pages(&rt, rt.alloc(), &mut whole_pages, &[], &bytes)?;
+    assert_eq!(rt; unreadable.as_slice(), [(1, 0)].as_slice());
+    assert_eq!(rt; (whole_pages.reads, whole_pages.failures), (13, 1));
+    let mut single_bytes = bytes_of(&bytes[..768], 1, Some(4 * 64 + 63));
+    let unreadable = unreadable_pages(&rt, rt.alloc(), &mut single_bytes, &[], &bytes)?;
+    assert_eq!(rt;
+        unreadable.as_slice(),
+        [(1, 0)].as_slice(),
+        "at its last byte"
+    );
+    assert_eq!(rt; (single_bytes.reads, single_bytes.failures), (769, 1));
+    Ok(())
+}
+
+#[test]
+fn a_named_page_is_unreadable(rt: HostRuntime) -> Result<(), Fail> {
+    let bytes = numbered();
+    let mut raw = bytes_of(&bytes[..768], 4096, None);
+    let bad = [(2, 3), (0, 0), (2, 3)];
+    let unreadable = unreadable_pages(&rt, rt.alloc(), &mut raw, &bad, &bytes)?;
+    assert_eq!(rt; unreadable.as_slice(), [(0, 0), (2, 3)].as_slice());
+    Ok(())
+}
+
+#[test]
+fn an_image_that_always_fails_has_no_readable_page(rt: HostRuntime) -> Result<(), Fail> {
+    let mut raw = Broken { reads: 0 };
+    let unreadable = unreadable_pages(&rt, rt.alloc(), &mut raw, &[], &numbered())?;
+    assert_eq!(rt; unreadable.len(), 12);
+    assert_eq!(rt; raw.reads, 13);
+    Ok(())
+}

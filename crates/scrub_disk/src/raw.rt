@@ -1,0 +1,36 @@
+//! Raw images: the bytes of a whole disk, as a file gives them, in pieces and with failures. How pages lie in them is
+//! left to `loading`.
+
+ghost use Rattle.std.specs.Prelude.{◌≡◌, ◌≤◌, ◌+◌, ◌<◌, ◌^◌, ℕ, List, Option, IfOk, IfSome, if◌then◌else◌, is_ok};
+ghost use Rattle.scrub_disk.specs.Raw.{IsRead};
+
+use thiserror::Error;
+
+/// A read of a raw image failed.
+#[derive(Debug, Clone, Copy, PartialEq, Eq, Error)]
+#[error("the raw image could not be read")]
+pub struct RawFault;
+
+/// The bytes of a whole disk, which never change. A read may give fewer than were asked for, and it may fail. The two
+/// counts are for contracts alone.
+pub trait RawImage {
+    /// Its bytes, or None where it doesn't tell them, as a file doesn't.
+    ghost bytes: { Self → Option (List ℕ) };
+    /// How many reads were made.
+    ghost reads: { Self → ℕ };
+    /// How many of them failed.
+    ghost failures: { Self → ℕ };
+
+    /// Reads bytes from an offset on, in bytes, into the front of `out`, and says how many: none only where `out` is
+    /// empty, or where the offset is at the end or past it. What the rest of `out` then holds is open, and so is all of
+    /// it after a failure.
+    fn read_at(&mut self, offset: u64, out: &mut [u8]) -> Result<usize, RawFault>
+        requires { reads self.old < 2 ^ 63 }
+        ensures same_bytes { bytes self.new ≡ bytes self.old }
+        ensures one_read { reads self.new ≡ reads self.old + 1 }
+        ensures one_failure { failures self.new ≡ (if is_ok result then failures self.old else failures self.old + 1) }
+        ensures read { IfOk result (λ n. IsRead (bytes self.old) offset out.new n) };
+
+    /// A failure is a failed read.
+    ghost failures_are_reads: { (image : Self) → failures image ≤ reads image };
+}

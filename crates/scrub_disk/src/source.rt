@@ -1,0 +1,32 @@
+//! Where the pages of a disk come from. What stands on them is left to the crates above.
+
+ghost use Rattle.std.specs.Prelude.{◌≡◌, ◌<◌, length, OnOk, OnErr, Some, None};
+ghost use Rattle.scrub_disk.specs.Image.{Image};
+
+use crate::geometry::Geometry;
+use thiserror::Error;
+
+/// A page can't be read.
+#[derive(Debug, Clone, Copy, PartialEq, Eq, Error)]
+#[error("unreadable")]
+pub struct Unreadable;
+
+/// A source of a disk's pages, whose image doesn't change while it is lent.
+pub trait PageSource: Sync {
+    /// For each extent and page its bytes, or unreadable.
+    ghost image: { Self → Image };
+
+    /// The disk's sizes.
+    fn geometry(&self) -> Geometry
+        ensures { result ≡ (image self.now).geometry };
+
+    /// Reads one page of an extent, both counted from 0, into `out`, which is a page long. An unreadable page leaves
+    /// `out` as it is.
+    fn read_page(&self, extent: u32, page: u32, out: &mut [u8]) -> Result<(), Unreadable>
+        requires in_extents { extent < (image self.now).geometry.extents }
+        requires in_pages { page < (image self.now).geometry.pages }
+        requires one_page { length out.old ≡ (image self.now).geometry.page }
+        ensures readable { OnOk result ((image self.now).page extent page ≡ Some out.new) }
+        ensures unreadable { OnErr result ((image self.now).page extent page ≡ None) }
+        ensures unchanged { OnErr result (out.new ≡ out.old) };
+}

@@ -1,0 +1,5 @@
+-- Lemmas on the bytes of frames and locators.
+pub mod Bytes
+pub mod Frames
+pub mod Locators
+pub mod Examples

@@ -1,0 +1,13 @@
+//! The digest of a payload. Where a digest is kept and what it is compared with is left to its callers.
+
+ghost use Rattle.std.specs.Prelude.{◌≡◌};
+ghost use Rattle.sha2.specs.Sha256.{sha256};
+
+use sha2::{Digest, Sha256};
+
+/// The SHA-256 of a payload, as in FIPS 180-4. Takes no memory.
+pub fn digest_of(payload: &[u8]) -> [u8; 32]
+    ensures { result ≡ sha256 payload.now }
+{
+    Sha256::digest(payload)
+}

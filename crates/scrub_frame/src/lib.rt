@@ -1,0 +1,17 @@
+//! The bytes of chunk frames and of locators, and the digests of payloads. On disk a chunk's payload stands in a frame:
+//! a magic, a UUID, the payload's length, the payload, and the UUID once more. A locator names a chunk by its place,
+//! length, UUID and digest. This crate reads and writes both; it knows nothing of disks, pages and write pointers.
+#![tactic(auto)]
+
+pub mod digest;
+pub mod frame;
+pub mod locator;
+pub mod write;
+
+pub use digest::digest_of;
+pub use frame::{Frame, Head, MAGIC, no_frame_begins_another, one_frame, read_frame, read_head};
+pub use locator::{Locator, locate, one_locator, read_locator, write_locator};
+pub use write::{FrameFault, MAX_PAYLOAD, write_frame};
+
+#[cfg(test)]
+mod tests;

@@ -1,0 +1,169 @@
+//! Vectors and worked examples, with bytes from the formats' description and from FIPS 180-4.
+
+ghost use Rattle.std.specs.Prelude.{◌≡◌};
+
+use crate::*;
+use std::test::Fail;
+use uuid::Uuid;
+
+/// The SHA-256 of `abc`.
+const ABC_DIGEST: [u8; 32] = [
+    0xba, 0x78, 0x16, 0xbf, 0x8f, 0x01, 0xcf, 0xea, 0x41, 0x41, 0x40, 0xde, 0x5d, 0xae, 0x22, 0x23,
+    0xb0, 0x03, 0x61, 0xa3, 0x96, 0x17, 0x7a, 0x9c, 0xb4, 0x10, 0xff, 0x61, 0xf2, 0x00, 0x15, 0xad,
+];
+
+/// The SHA-256 of no bytes.
+const EMPTY_DIGEST: [u8; 32] = [
+    0xe3, 0xb0, 0xc4, 0x42, 0x98, 0xfc, 0x1c, 0x14, 0x9a, 0xfb, 0xf4, 0xc8, 0x99, 0x6f, 0xb9, 0x24,
+    0x27, 0xae, 0x41, 0xe4, 0x64, 0x9b, 0x93, 0x4c, 0xa4, 0x95, 0x99, 0x1b, 0x78, 0x52, 0xb8, 0x55,
+];
+
+/// The frame of `abc` whose UUID is sixteen bytes 11.
+const ABC_FRAME: [u8; 41] = [
+    0xc5, 0x5e, 0x11, 0x11, 0x11, 0x11, 0x11, 0x11, 0x11, 0x11, 0x11, 0x11, 0x11, 0x11, 0x11, 0x11,
+    0x11, 0x11, 0x00, 0x00, 0x00, 0x03, 0x61, 0x62, 0x63, 0x11, 0x11, 0x11, 0x11, 0x11, 0x11, 0x11,
+    0x11, 0x11, 0x11, 0x11, 0x11, 0x11, 0x11, 0x11, 0x11,
+];
+
+/// The locator of that chunk at extent 1, offset 0.
+const ABC_LOCATOR: [u8; 60] = [
+    0x00, 0x00, 0x00, 0x01, 0x00, 0x00, 0x00, 0x00, 0x00, 0x00, 0x00, 0x03, 0x11, 0x11, 0x11, 0x11,
+    0x11, 0x11, 0x11, 0x11, 0x11, 0x11, 0x11, 0x11, 0x11, 0x11, 0x11, 0x11, 0xba, 0x78, 0x16, 0xbf,
+    0x8f, 0x01, 0xcf, 0xea, 0x41, 0x41, 0x40, 0xde, 0x5d, 0xae, 0x22, 0x23, 0xb0, 0x03, 0x61, 0xa3,
+    0x96, 0x17, 0x7a, 0x9c, 0xb4, 0x10, 0xff, 0x61, 0xf2, 0x00, 0x15, 0xad,
+];
+
+/// The UUID of sixteen bytes 11.
+fn ones() -> Uuid {
+    Uuid::from_bytes([0x11; 16])
+}
+
+#[test]
+fn digests_of_abc_and_of_no_bytes(rt: HostRuntime) {
+    assert_eq!(rt; digest_of(b"abc"), ABC_DIGEST);
+    assert_eq!(rt; digest_of(b""), EMPTY_DIGEST);
+}
+
+#[test]
+fn the_frame_of_abc_is_appended(rt: HostRuntime) -> Result<(), Fail> {
+    let mut out = Vec::from_slice(rt.alloc(), &[7])?;
+    write_frame(&mut out, ones(), b"abc")?;
+    assert_eq!(rt; out.len(), 42);
+    assert_eq!(rt; out[0], 7);
+    assert_eq!(rt; &out[1..], ABC_FRAME.as_slice());
+    Ok(())
+}
+
+#[test]
+fn a_payload_one_byte_too_long_is_refused(rt: HostRuntime) -> Result<(), Fail> {
+    let mut out = Vec::from_slice(rt.alloc(), &[7])?;
+    let payload = vec![in rt.alloc(); 0u8; 67_108_827]?;
+    assert_eq!(rt;
+        write_frame(&mut out, ones(), &payload),
+        Err(FrameFault::TooLong)
+    );
+    assert_eq!(rt; out.as_slice(), [7].as_slice());
+    Ok(())
+}
+
+#[test]
+fn the_frame_of_abc_is_read_whole_or_not_at_all(rt: HostRuntime) -> Result<(), Fail> {
+    let found = Some(Frame {
+        uuid: ones(),
+        length: 3,
+    });
+    assert_eq!(rt; read_frame(&ABC_FRAME), found);
+    let mut longer = Vec::from_slice(rt.alloc(), &ABC_FRAME)?;
+    longer.extend_from_slice(&[0xC5, 0x5E, 0])?;
+    assert_eq!(rt; read_frame(&longer), found, "bytes behind it");
+    assert_eq!(rt; read_frame(&ABC_FRAME[..40]), None, "without its last byte");
+    let mut changed = ABC_FRAME;
+    changed[40] = 0x10;
+    assert_eq!(rt; read_frame(&changed), None, "its last byte changed");
+    assert_eq!(rt; read_frame(b""), None, "no bytes");
+    Ok(())
+}
+
+#[test]
+fn a_frame_of_no_payload_has_38_bytes(rt: HostRuntime) {
+    let mut bytes = [0x11; 38];
+    bytes[..2].copy_from_slice(&MAGIC);
+    bytes[18..22].copy_from_slice(&[0; 4]);
+    let found = Some(Frame {
+        uuid: ones(),
+        length: 0,
+    });
+    assert_eq!(rt; read_frame(&bytes), found);
+    assert_eq!(rt; read_frame(&bytes[..37]), None);
+}
+
+#[test]
+fn a_head_claims_the_greatest_length(rt: HostRuntime) {
+    let mut page = [0u8; 256];
+    page[0] = 0xC5;
+    page[1] = 0x5E;
+    page[18..22].copy_from_slice(&[0xFF; 4]);
+    let head = Head {
+        uuid: Uuid::from_bytes([0; 16]),
+        length: 4_294_967_295,
+    };
+    assert_eq!(rt;
+        page.first_chunk::<22>().and_then(|first| read_head(first)),
+        Some(head)
+    );
+    assert_eq!(rt;
+        read_frame(&page),
+        None,
+        "the page ends before that payload"
+    );
+}
+
+#[test]
+fn a_head_begins_with_the_magic(rt: HostRuntime) {
+    let mut bytes = [0x11; 22];
+    assert_eq!(rt; read_head(&bytes), None);
+    bytes[0] = 0xC5;
+    assert_eq!(rt; read_head(&bytes), None);
+    bytes[1] = 0x5E;
+    let head = Head {
+        uuid: ones(),
+        length: 0x1111_1111,
+    };
+    assert_eq!(rt; read_head(&bytes), Some(head));
+}
+
+#[test]
+fn the_locator_of_abc_is_read_and_written(rt: HostRuntime) {
+    let locator = locate(1, 0, ones(), b"abc");
+    let fields = Locator {
+        extent: 1,
+        offset: 0,
+        length: 3,
+        uuid: ones(),
+        digest: ABC_DIGEST,
+    };
+    assert_eq!(rt; locator, fields);
+    assert_eq!(rt; write_locator(&locator), ABC_LOCATOR);
+    assert_eq!(rt; read_locator(&ABC_LOCATOR), locator);
+    assert_eq!(rt; written_and_read(&locator), locator);
+}
+
+/// A locator that was written is read back, whatever it is: this follows from the contracts alone.
+fn written_and_read(locator: &Locator) -> Locator
+    ensures { result ≡ locator.now }
+{
+    read_locator(&write_locator(locator))
+}
+
+/// Bytes that were read as a locator are written again, whatever they are.
+fn read_and_written(bytes: &[u8; 60]) -> [u8; 60]
+    ensures { result ≡ bytes.now }
+{
+    write_locator(&read_locator(bytes))
+}
+
+#[test]
+fn any_sixty_bytes_are_a_locator(rt: HostRuntime) {
+    let bytes = [0xFF; 60];
+    assert_eq!(rt; read_and_written(&bytes), bytes);
+}

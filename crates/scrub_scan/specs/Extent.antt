@@ -1,0 +1,39 @@
+-- One extent under its write pointer, and what stands at a place of it.
+use Rattle.std.specs.Prelude.{◌≡◌, ◌<◌, ◌≤◌, ◌+◌, ◌*◌, ◌/◌, ℕ, min, List, length, Option, Some, None}
+use Rattle.scrub_disk.specs.Image.{Image, byte, IsText}
+use Rattle.scrub_frame.specs.Frame.{frame, magic, HasFrame}
+
+-- an extent: each byte of it, None where its page is unreadable; the bytes of a page; the write pointer, in bytes
+pub record Extent : Type 0 where
+  pub byte : ℕ → Option ℕ
+  pub page : ℕ
+  pub pointer : ℕ
+
+-- extent e of an image, under the pointer w
+abbrev pub extent_of : Image → ℕ → ℕ → Extent
+extent_of image e w = record { byte = byte image e; page = image.geometry.page; pointer = w }
+
+-- the frame of u and b stands at p, all of it readable, and ends at or before the pointer
+pub record FrameAt (x : Extent) (p : ℕ) (u b : List ℕ) : Type 0 where
+  pub has_frame : HasFrame u b
+  pub fits : p + length b + 38 ≤ x.pointer
+  pub stands : IsText x.byte p (frame u b)
+
+-- the least of the pointer and the next page bound above p
+abbrev pub bound : Extent → ℕ → ℕ
+bound x p = min x.pointer ((p / x.page + 1) * x.page)
+
+abbrev pub NoFrameAt : Extent → ℕ → Type 0
+NoFrameAt x p = (u b : List ℕ) → ¬ FrameAt x p u b
+
+-- the page of p, a place of the extent, is unreadable
+abbrev pub IsUnreadable : Extent → ℕ → Type 0
+IsUnreadable x p = x.byte p ≡ None
+
+-- all bytes from p to the bound are zero
+abbrev pub IsZero : Extent → ℕ → Type 0
+IsZero x p = (i : ℕ) → p ≤ i → i < bound x p → x.byte i ≡ Some 0
+
+-- the magic stands at p, before the bound
+abbrev pub HasMagic : Extent → ℕ → Type 0
+HasMagic x p = (p + 2 ≤ bound x p) × IsText x.byte p magic

@@ -1,0 +1,138 @@
+//! The items of an extent, and their lines of text. Where items begin and end is left to the tiling.
+
+ghost use Rattle.std.specs.Prelude.{◌≡◌, IfOk, length, string_bytes};
+
+use scrub_disk::OutOfMemory;
+use std::alloc::Global;
+use std::fmt;
+use std::marker::Model;
+use uuid::Uuid;
+
+/// What stands on a part of an extent, from its byte `start` up to its byte `stop`, which belongs to what comes next. All
+/// but a chunk stop at the next page bound above their start, or at the write pointer where that comes first.
+#[derive(Debug, Clone, Copy, PartialEq, Eq)]
+pub enum Item {
+    /// A whole frame on readable pages, with its UUID, the length of its payload in bytes (`stop` is 38 bytes further than
+    /// that), and the SHA-256 of its payload. Nothing says that the payload is what its writer meant.
+    Chunk {
+        start: u32,
+        stop: u32,
+        uuid: Uuid,
+        length: u32,
+        digest: [u8; 32],
+    },
+    /// Readable, and all zero.
+    Pad {
+        start: u32,
+        stop: u32,
+    },
+    /// A magic with no whole frame behind it, as a write that never ended leaves it.
+    Torn {
+        start: u32,
+        stop: u32,
+    },
+    /// Readable, and none of the others.
+    Noise {
+        start: u32,
+        stop: u32,
+    },
+    /// On an unreadable page.
+    Lost {
+        start: u32,
+        stop: u32,
+    },
+}
+
+/// The items of an extent in rising order, without gap or overlap. Contracts see them as a list.
+#[derive(Drop)]
+pub struct Items {
+    items: Vec<Item>,
+}
+
+impl Model for Items {
+    ghost use Rattle.std.specs.Prelude.{List};
+    ghost use Rattle.scrub_scan.specs.declared.item.Item.{Item};
+
+    ghost Value = { List Item };
+
+    ghost view = { λ a. a.items.items };
+}
+
+impl Item {
+    ghost use Rattle.scrub_scan.specs.Item.{start_of, stop_of};
+
+    /// The byte of the extent that the item begins at.
+    pub fn start(&self) -> u32
+        ensures { result ≡ start_of self.now }
+    {
+        match self {
+            Item::Chunk { start, .. } => *start,
+            Item::Pad { start, .. } => *start,
+            Item::Torn { start, .. } => *start,
+            Item::Noise { start, .. } => *start,
+            Item::Lost { start, .. } => *start,
+        }
+    }
+
+    /// The byte of the extent behind the item's last one.
+    pub fn stop(&self) -> u32
+        ensures { result ≡ stop_of self.now }
+    {
+        match self {
+            Item::Chunk { stop, .. } => *stop,
+            Item::Pad { stop, .. } => *stop,
+            Item::Torn { stop, .. } => *stop,
+            Item::Noise { stop, .. } => *stop,
+            Item::Lost { stop, .. } => *stop,
+        }
+    }
+}
+
+impl fmt::Display for Item {
+    ghost use Rattle.std.specs.Prelude.{Some};
+    ghost use Rattle.scrub_scan.specs.Line.{line_of};
+
+    ghost output = { λ item. Some (line_of item) };
+
+    fn fmt<W: fmt::Write>(&self, f: &mut fmt::Formatter<W>) -> fmt::Result {
+        match self {
+            Item::Chunk {
+                start,
+                stop,
+                uuid,
+                length,
+                ..
+            } => write!(f, "chunk {start} {stop} {uuid} {length}"),
+            Item::Pad { start, stop } => write!(f, "pad {start} {stop}"),
+            Item::Torn { start, stop } => write!(f, "torn {start} {stop}"),
+            Item::Noise { start, stop } => write!(f, "noise {start} {stop}"),
+            Item::Lost { start, stop } => write!(f, "lost {start} {stop}"),
+        }
+    }
+}
+
+ghost use Rattle.scrub_scan.specs.Line.{line_of};
+
+/// The line of an item, without a line feed: the word for its kind, its start and stop in decimal, and of a chunk its
+/// UUID as RFC 9562 writes it, in lower case, and the length of its payload.
+pub fn item_line(alloc: Global, item: &Item) -> Result<String, OutOfMemory>
+    ensures { IfOk result (λ line. string_bytes line ≡ line_of item.now) }
+{
+    format!(in alloc; "{item}")
+}
+
+impl Items {
+    /// These items, whose order is the caller's affair.
+    pub(crate) fn from_vec(items: Vec<Item>) -> Items
+        ensures { result ≡ items.items }
+    {
+        Items { items }
+    }
+
+    /// The items as a slice, by rising start.
+    pub fn as_slice(&self) -> &[Item]
+        ensures { result.now ≡ self.now }
+    {
+        self.items.as_slice()
+    }
+}
