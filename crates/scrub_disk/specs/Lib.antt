@@ -3,6 +3,7 @@ pub mod Limits
 pub mod Faults
 pub mod Image
 pub mod Held
+pub mod WholePages
 pub mod Memory
 pub mod Raw
 pub mod Sets

@@ -71,8 +71,11 @@ impl MemDisk {
 
 impl PageSource for MemDisk {
     ghost use Rattle.scrub_disk.specs.Memory.{image_of};
+    ghost use Rattle.scrub_disk.specs.WholePages.{held_whole};
 
     ghost image = { image_of };
+
+    ghost whole_pages = { λ d. held_whole d.geometry d.bytes.items d.bad.items d.whole };
 
     fn geometry(&self) -> Geometry {
         self.geometry

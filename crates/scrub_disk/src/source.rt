@@ -1,7 +1,7 @@
 //! Where the pages of a disk come from. What stands on them is left to the crates above.
 
 ghost use Rattle.std.specs.Prelude.{◌≡◌, ◌<◌, length, OnOk, OnErr, Some, None};
-ghost use Rattle.scrub_disk.specs.Image.{Image};
+ghost use Rattle.scrub_disk.specs.Image.{Image, HasWholePages};
 
 use crate::geometry::Geometry;
 use thiserror::Error;
@@ -29,4 +29,7 @@ pub trait PageSource: Sync {
         ensures readable { OnOk result ((image self.now).page extent page ≡ Some out.new) }
         ensures unreadable { OnErr result ((image self.now).page extent page ≡ None) }
         ensures unchanged { OnErr result (out.new ≡ out.old) };
+
+    /// A law: each page of the disk that has bytes has as many as its page size says.
+    ghost whole_pages: { (source : Self) → HasWholePages (image source) };
 }

@@ -9,7 +9,7 @@ use Rattle.scrub_frame.proofs.Frames.{one_frame_lem, length-frame}
 use Rattle.scrub_scan.specs.declared.buffer.BufferedExtent.{BufferedExtent}
 use Rattle.scrub_scan.specs.Extent.{FrameAt, NoFrameAt}
 use Rattle.scrub_scan.specs.Held.{held_extent, bytes_from, payload_from, AreReadable}
-use Rattle.scrub_scan.proofs.PageNumbers.{page_rises, place_in_page}
+use Rattle.scrub_scan.proofs.PlacePages.{page_rises, place_in_page}
 
 -- ---- bytes
 

@@ -8,7 +8,7 @@ use Rattle.scrub_frame.specs.Frame.{magic}
 use Rattle.scrub_scan.specs.declared.buffer.BufferedExtent.{BufferedExtent}
 use Rattle.scrub_scan.specs.Extent.{bound, IsUnreadable, IsZero, HasMagic}
 use Rattle.scrub_scan.specs.Held.{held_extent}
-use Rattle.scrub_scan.proofs.PageNumbers.{page_of}
+use Rattle.scrub_scan.proofs.PlacePages.{page_of}
 use Rattle.scrub_scan.proofs.HeldFrames.{readable_byte, byte_reads}
 
 -- q is the bound above p

@@ -1,7 +1,13 @@
 pub mod Examples
 pub mod HeldFrames
 pub mod HeldParts
-pub mod PageNumbers
+pub mod PlacePages
 pub mod PagesRead
 pub mod Tilings
 pub mod Unreadable
+pub mod PageFilters
+pub mod Found
+pub mod Tails
+pub mod Search
+pub mod Texts
+pub mod FrameTexts

@@ -1,5 +1,5 @@
 -- One extent under its write pointer, and what stands at a place of it.
-use Rattle.std.specs.Prelude.{◌≡◌, ◌<◌, ◌≤◌, ◌+◌, ◌*◌, ◌/◌, ℕ, min, List, length, Option, Some, None}
+use Rattle.std.specs.Prelude.{◌≡◌, ◌<◌, ◌≤◌, ◌+◌, ◌*◌, ◌/◌, ℕ, min, List, ◌++◌, length, Option, Some, None}
 use Rattle.scrub_disk.specs.Image.{Image, byte, IsText}
 use Rattle.scrub_frame.specs.Frame.{frame, magic, HasFrame}
 
@@ -37,3 +37,18 @@ IsZero x p = (i : ℕ) → p ≤ i → i < bound x p → x.byte i ≡ Some 0
 -- the magic stands at p, before the bound
 abbrev pub HasMagic : Extent → ℕ → Type 0
 HasMagic x p = (p + 2 ≤ bound x p) × IsText x.byte p magic
+
+-- one of the n bytes from p on can't be read
+pub record HasGap (at : ℕ → Option ℕ) (p n : ℕ) : Type 0 where
+  pub place : ℕ
+  pub low : p ≤ place
+  pub high : place < p + n
+  pub unreadable : at place ≡ None
+
+-- n bytes or more stand at p, and the list has grown by the first n of them, one or more
+pub record AppendsText (at : ℕ → Option ℕ) (p n : ℕ) (old new : List ℕ) : Type 0 where
+  pub some : 0 < n
+  pub part : List ℕ
+  pub count : length part ≡ n
+  pub text : IsText at p part
+  pub appended : new ≡ old ++ part

@@ -5,3 +5,8 @@ pub mod Item
 pub mod Line
 pub mod Tiling
 pub mod OneFrame
+pub mod Findings
+pub mod Props
+pub mod Result
+pub mod OneReader
+pub mod Standing

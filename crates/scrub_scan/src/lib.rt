@@ -1,12 +1,24 @@
-//! What lies in one extent: its tiling into items below the write pointer. Which extents are scanned and under which
-//! pointers, and what the chunks are worth, is left to the crates around.
+//! What lies in one extent: its tiling into items below the write pointer, found in one reading of its pages. Which
+//! extents are scanned and under which pointers, and what the chunks are worth, is left to the crates around.
 #![tactic(auto)]
 
+pub mod all;
 mod buffer;
+pub mod findings;
 pub mod item;
+pub mod result;
+pub mod scan;
+pub mod standing;
+mod tail;
+mod text;
 pub mod tiling;
 
+pub use all::AllFindings;
+pub use findings::{Findings, PageNumbers};
 pub use item::{Item, Items, item_line};
+pub use result::ExtentResult;
+pub use scan::{scan_extent, scan_in_order};
+pub use standing::{Standing, frame_stands, read_payload};
 pub use tiling::{one_tiling, tile};
 
 #[cfg(test)]

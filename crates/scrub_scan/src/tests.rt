@@ -1,13 +1,24 @@
-//! Worked examples: what is written to a disk in memory, and the lines of the items that are found there. The lines are
-//! those of the format's description.
+//! Worked examples: what is written to a disk in memory, and what is found there. Lines, numbers and digests are those of
+//! the format's description.
+
+ghost use Rattle.std.specs.Prelude.{◌≡◌, ◌-◌, IfOk};
+ghost use Rattle.std.specs.List.{range_with_len};
+ghost use Rattle.scrub_disk.specs.Memory.{image_of};
+ghost use Rattle.scrub_super.specs.Plan.{geometry_of, planned};
 
 use crate::*;
 use scrub_disk::{Geometry, MemDisk, PageSource};
-use scrub_frame::write_frame;
+use scrub_frame::{Locator, locate, write_frame};
+use scrub_super::{MAX_RUNS, Plan, Superblock, choose, write_record};
 use std::alloc::Global;
 use std::process::Abort;
 use std::test::Fail;
 use uuid::Uuid;
+
+mod all;
+mod findings;
+mod items;
+mod standing;
 
 /// The SHA-256 of `abc`, as FIPS 180-4 gives it.
 const ABC_DIGEST: [u8; 32] = [
@@ -20,268 +31,119 @@ const ENDS_IN_MAGIC: [u8; 16] = [
     0x33, 0x33, 0x33, 0x33, 0x33, 0x33, 0x33, 0x33, 0x33, 0x33, 0x33, 0x33, 0x33, 0x33, 0xC5, 0x5E,
 ];
 
+/// The index run of one identifier, fifteen zero bytes and 01, with one locator: the chunk of `abc` at extent 1, offset 0.
+const RUN: [u8; 117] = [
+    0x52, 0x55, 0x4e, 0x31, 0x00, 0x00, 0x00, 0x01, 0x00, 0x00, 0x00, 0x00, 0x00, 0x00, 0x00, 0x00,
+    0x00, 0x00, 0x00, 0x00, 0x00, 0x00, 0x00, 0x01, 0x01, 0x00, 0x00, 0x00, 0x01, 0x00, 0x00, 0x00,
+    0x00, 0x00, 0x00, 0x00, 0x03, 0x11, 0x11, 0x11, 0x11, 0x11, 0x11, 0x11, 0x11, 0x11, 0x11, 0x11,
+    0x11, 0x11, 0x11, 0x11, 0x11, 0xba, 0x78, 0x16, 0xbf, 0x8f, 0x01, 0xcf, 0xea, 0x41, 0x41, 0x40,
+    0xde, 0x5d, 0xae, 0x22, 0x23, 0xb0, 0x03, 0x61, 0xa3, 0x96, 0x17, 0x7a, 0x9c, 0xb4, 0x10, 0xff,
+    0x61, 0xf2, 0x00, 0x15, 0xad, 0xb4, 0x9d, 0x3a, 0xcd, 0xf7, 0x59, 0x9e, 0x0e, 0x61, 0x1b, 0x32,
+    0xf1, 0x79, 0xab, 0x8a, 0xb6, 0x8e, 0xa5, 0x3e, 0x82, 0xe6, 0x49, 0xda, 0x20, 0xc0, 0xf9, 0x94,
+    0x81, 0xd0, 0x11, 0x0e, 0x8d,
+];
+
 /// A blank disk with pages of 64 bytes, four pages an extent and three extents.
 fn blank_disk(alloc: Global) -> Result<MemDisk, Fail> {
     Ok(MemDisk::blank(alloc, Geometry::new(64, 4, 3)?)?)
 }
 
-/// Writes bytes to extent 1.
-fn put(rt: &impl Abort, disk: &mut MemDisk, offset: u32, bytes: &[u8]) {
+/// Writes bytes to an extent.
+fn put(rt: &impl Abort, disk: &mut MemDisk, extent: u32, offset: u32, bytes: &[u8]) {
     let geometry = disk.geometry();
-    assert!(rt; geometry.extents() > 1);
+    assert!(rt; extent < geometry.extents());
     assert!(rt; offset as usize + bytes.len() <= geometry.extent_bytes() as usize);
-    disk.put(1, offset, bytes);
+    disk.put(extent, offset, bytes);
 }
 
-/// Writes the frame of a payload to extent 1.
+/// Writes the frame of a payload to an extent.
 fn put_frame(
     rt: &impl Abort,
     alloc: Global,
     disk: &mut MemDisk,
+    extent: u32,
     offset: u32,
     uuid: [u8; 16],
     payload: &[u8],
 ) -> Result<(), Fail> {
     let mut frame = Vec::new(alloc);
     write_frame(&mut frame, Uuid::from_bytes(uuid), payload)?;
-    put(rt, disk, offset, &frame);
+    put(rt, disk, extent, offset, &frame);
     Ok(())
 }
 
-/// Makes a page of extent 1 unreadable.
-fn mark_bad(rt: &impl Abort, disk: &mut MemDisk, page: u32) {
-    let geometry = disk.geometry();
-    assert!(rt; geometry.extents() > 1);
-    assert!(rt; page < geometry.pages());
-    disk.mark_bad(1, page);
-}
-
-/// Compares the lines of extent 1 under a pointer.
-fn check_lines(
+/// Writes a superblock record of generation 1 to page 0 of extent 0.
+fn put_superblock(
     rt: &impl Abort,
     alloc: Global,
-    disk: &MemDisk,
-    pointer: u32,
-    lines: &[&str],
+    disk: &mut MemDisk,
+    pointers: &[u32],
+    runs: &[Locator],
 ) -> Result<(), Fail> {
     let geometry = disk.geometry();
-    assert!(rt; geometry.extents() > 1);
-    assert!(rt; pointer <= geometry.extent_bytes());
-    let items = tile(alloc, disk, 1, pointer)?;
-    assert_eq!(rt; items.as_slice().len(), lines.len());
-    for (item, line) in items.as_slice().iter().zip(lines) {
+    assert_eq!(rt; pointers.len() + 1, geometry.extents() as usize);
+    assert!(rt;
+        pointers
+            .iter()
+            .all(|pointer| *pointer <= geometry.extent_bytes())
+    );
+    assert!(rt; runs.len() <= MAX_RUNS);
+    let superblock = Superblock::new(
+        1,
+        Vec::from_slice(alloc, pointers)?,
+        Vec::from_slice(alloc, runs)?,
+    );
+    let mut record = Vec::new(alloc);
+    write_record(&mut record, geometry, &superblock)?;
+    put(rt, disk, 0, 0, &record);
+    Ok(())
+}
+
+/// Makes a page of an extent unreadable.
+fn mark_bad(rt: &impl Abort, disk: &mut MemDisk, extent: u32, page: u32) {
+    let geometry = disk.geometry();
+    assert!(rt; extent < geometry.extents());
+    assert!(rt; page < geometry.pages());
+    disk.mark_bad(extent, page);
+}
+
+/// The plan by what is chosen on a disk.
+fn plan_of(alloc: Global, disk: &MemDisk) -> Result<Plan, Fail>
+    ensures geometry { IfOk result (λ plan. geometry_of plan ≡ (image_of disk.now).geometry) }
+    ensures planned { IfOk result (λ plan. planned plan ≡ range_with_len 1 ((image_of disk.now).geometry.extents - 1)) }
+{
+    let chosen = choose(alloc, disk)?;
+    Ok(Plan::make(alloc, &chosen, disk.geometry())?)
+}
+
+/// Compares items by their lines.
+fn check_lines(rt: &impl Abort, alloc: Global, items: &[Item], lines: &[&str]) -> Result<(), Fail> {
+    assert_eq!(rt; items.len(), lines.len());
+    for (item, line) in items.iter().zip(lines) {
         assert_eq!(rt; item_line(alloc, item)?.as_str(), *line);
     }
     Ok(())
 }
 
-#[test]
-fn the_chunk_of_abc_under_pointers_41_40_and_1(rt: HostRuntime) -> Result<(), Fail> {
-    let mut disk = blank_disk(rt.alloc())?;
-    put_frame(&rt, rt.alloc(), &mut disk, 0, [0x11; 16], b"abc")?;
-    check_lines(
-        &rt,
-        rt.alloc(),
-        &disk,
-        41,
-        &["chunk 0 41 11111111-1111-1111-1111-111111111111 3"],
-    )?;
-    check_lines(&rt, rt.alloc(), &disk, 40, &["torn 0 40"])?;
-    check_lines(&rt, rt.alloc(), &disk, 1, &["noise 0 1"])?;
-    check_lines(&rt, rt.alloc(), &disk, 0, &[])?;
-    Ok(())
+/// What is to be found in an extent.
+#[derive(Clone, Copy)]
+struct Expected<'a> {
+    lines: &'a [&'a str],
+    tail_count: u32,
+    tail_first: Option<u32>,
+    bad_pages: &'a [u32],
 }
 
-#[test]
-fn the_chunk_of_abc_and_zeros_behind_it(rt: HostRuntime) -> Result<(), Fail> {
-    let mut disk = blank_disk(rt.alloc())?;
-    put_frame(&rt, rt.alloc(), &mut disk, 0, [0x11; 16], b"abc")?;
-    check_lines(
-        &rt,
-        rt.alloc(),
-        &disk,
-        256,
-        &[
-            "chunk 0 41 11111111-1111-1111-1111-111111111111 3",
-            "pad 41 64",
-            "pad 64 128",
-            "pad 128 192",
-            "pad 192 256",
-        ],
-    )
-}
-
-#[test]
-fn a_blank_extent_is_four_pads(rt: HostRuntime) -> Result<(), Fail> {
-    let disk = blank_disk(rt.alloc())?;
-    check_lines(
-        &rt,
-        rt.alloc(),
-        &disk,
-        256,
-        &["pad 0 64", "pad 64 128", "pad 128 192", "pad 192 256"],
-    )
-}
-
-#[test]
-fn a_frame_over_an_unreadable_page(rt: HostRuntime) -> Result<(), Fail> {
-    let mut disk = blank_disk(rt.alloc())?;
-    put_frame(&rt, rt.alloc(), &mut disk, 0, [0x11; 16], &[0x78; 60])?;
-    mark_bad(&rt, &mut disk, 1);
-    check_lines(&rt, rt.alloc(), &disk, 98, &["torn 0 64", "lost 64 98"])
-}
-
-#[test]
-fn a_frame_whose_last_page_is_unreadable(rt: HostRuntime) -> Result<(), Fail> {
-    let mut disk = blank_disk(rt.alloc())?;
-    put_frame(&rt, rt.alloc(), &mut disk, 0, [0x22; 16], &[0x78; 117])?;
-    mark_bad(&rt, &mut disk, 2);
-    mark_bad(&rt, &mut disk, 3);
-    check_lines(
-        &rt,
-        rt.alloc(),
-        &disk,
-        155,
-        &["torn 0 64", "noise 64 128", "lost 128 155"],
-    )
-}
-
-#[test]
-fn the_collision_hides_the_chunk_at_the_page_bound(rt: HostRuntime) -> Result<(), Fail> {
-    let mut disk = blank_disk(rt.alloc())?;
-    put_frame(&rt, rt.alloc(), &mut disk, 0, ENDS_IN_MAGIC, &[0x78; 28])?;
-    put_frame(&rt, rt.alloc(), &mut disk, 64, [0x11; 16], b"abc")?;
-    check_lines(
-        &rt,
-        rt.alloc(),
-        &disk,
-        105,
-        &[
-            "chunk 0 66 33333333-3333-3333-3333-33333333c55e 28",
-            "noise 66 105",
-        ],
-    )
-}
-
-#[test]
-fn two_frames_end_to_end(rt: HostRuntime) -> Result<(), Fail> {
-    let mut disk = blank_disk(rt.alloc())?;
-    put_frame(&rt, rt.alloc(), &mut disk, 0, [0x11; 16], &[0x78; 12])?;
-    put_frame(&rt, rt.alloc(), &mut disk, 50, [0x11; 16], b"abc")?;
-    check_lines(
-        &rt,
-        rt.alloc(),
-        &disk,
-        91,
-        &[
-            "chunk 0 50 11111111-1111-1111-1111-111111111111 12",
-            "chunk 50 91 11111111-1111-1111-1111-111111111111 3",
-        ],
-    )
-}
-
-#[test]
-fn a_frame_of_no_payload(rt: HostRuntime) -> Result<(), Fail> {
-    let mut disk = blank_disk(rt.alloc())?;
-    put_frame(&rt, rt.alloc(), &mut disk, 0, [0x11; 16], b"")?;
-    check_lines(
-        &rt,
-        rt.alloc(),
-        &disk,
-        38,
-        &["chunk 0 38 11111111-1111-1111-1111-111111111111 0"],
-    )
-}
-
-#[test]
-fn a_head_that_claims_the_greatest_length(rt: HostRuntime) -> Result<(), Fail> {
-    let mut disk = blank_disk(rt.alloc())?;
-    put(&rt, &mut disk, 0, &[0xC5, 0x5E]);
-    put(&rt, &mut disk, 2, &[0x11; 16]);
-    put(&rt, &mut disk, 18, &[0xFF; 4]);
-    check_lines(
-        &rt,
-        rt.alloc(),
-        &disk,
-        256,
-        &["torn 0 64", "pad 64 128", "pad 128 192", "pad 192 256"],
-    )
-}
-
-#[test]
-fn damage_between_frames_ends_at_the_page_bound(rt: HostRuntime) -> Result<(), Fail> {
-    let mut disk = MemDisk::blank(rt.alloc(), Geometry::new(128, 2, 3)?)?;
-    put_frame(&rt, rt.alloc(), &mut disk, 0, [0x11; 16], b"abc")?;
-    put_frame(&rt, rt.alloc(), &mut disk, 44, [0x22; 16], b"")?;
-    put_frame(&rt, rt.alloc(), &mut disk, 128, [0x33; 16], b"abc")?;
-    check_lines(
-        &rt,
-        rt.alloc(),
-        &disk,
-        169,
-        &[
-            "chunk 0 41 11111111-1111-1111-1111-111111111111 3",
-            "noise 41 128",
-            "chunk 128 169 33333333-3333-3333-3333-333333333333 3",
-        ],
-    )
-}
-
-#[test]
-fn an_item_of_each_kind_has_its_line(rt: HostRuntime) -> Result<(), Fail> {
-    let chunk = Item::Chunk {
-        start: 0,
-        stop: 41,
-        uuid: Uuid::from_bytes([0x11; 16]),
-        length: 3,
-        digest: ABC_DIGEST,
-    };
-    let noise = Item::Noise {
-        start: 66,
-        stop: 105,
-    };
-    let cases = [
-        (chunk, "chunk 0 41 11111111-1111-1111-1111-111111111111 3"),
-        (
-            Item::Pad {
-                start: 41,
-                stop: 64,
-            },
-            "pad 41 64",
-        ),
-        (Item::Torn { start: 0, stop: 40 }, "torn 0 40"),
-        (noise, "noise 66 105"),
-        (
-            Item::Lost {
-                start: 64,
-                stop: 98,
-            },
-            "lost 64 98",
-        ),
-    ];
-    for (item, line) in cases.iter() {
-        assert_eq!(rt; item_line(rt.alloc(), item)?.as_str(), *line);
-    }
-    assert_eq!(rt; noise.start(), 66);
-    assert_eq!(rt; noise.stop(), 105);
-    Ok(())
-}
-
-#[test]
-fn a_chunk_has_the_digest_of_its_payload(rt: HostRuntime) -> Result<(), Fail> {
-    let mut disk = blank_disk(rt.alloc())?;
-    put_frame(&rt, rt.alloc(), &mut disk, 0, [0x11; 16], b"abc")?;
-    let geometry = disk.geometry();
-    assert!(rt; geometry.extents() > 1 && geometry.extent_bytes() >= 41);
-    let items = tile(rt.alloc(), &disk, 1, 41)?;
-    let chunk = Item::Chunk {
-        start: 0,
-        stop: 41,
-        uuid: Uuid::from_bytes([0x11; 16]),
-        length: 3,
-        digest: ABC_DIGEST,
-    };
-    assert_eq!(rt; items.as_slice(), [chunk].as_slice());
-    one_tiling();
+/// Compares what was found in an extent.
+fn check_findings(
+    rt: &impl Abort,
+    alloc: Global,
+    findings: &Findings,
+    expected: &Expected,
+) -> Result<(), Fail> {
+    check_lines(rt, alloc, findings.items(), expected.lines)?;
+    assert_eq!(rt; findings.tail_count(), expected.tail_count);
+    assert_eq!(rt; findings.tail_first(), expected.tail_first);
+    assert_eq!(rt; findings.bad_pages(), expected.bad_pages);
     Ok(())
 }

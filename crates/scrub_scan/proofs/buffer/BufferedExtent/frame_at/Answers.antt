@@ -1,6 +1,6 @@
 use Rattle.std.proofs.Common.{arith, sym, ◌∙◌, ◌+◌}
 use Rattle.std.proofs.lemmas.Bool.{false≢true}
-use Rattle.scrub_scan.proofs.PageNumbers.{page_rises}
+use Rattle.scrub_scan.proofs.PlacePages.{page_rises}
 use Rattle.scrub_scan.proofs.HeldFrames.{bytes_begin, found_fits, found_last_page, found_stands, none_stands}
 use Rattle.scrub_scan.proofs.buffer.BufferedExtent.frame_at.Goals as goal
 

@@ -1,0 +1,78 @@
+//! What was found in an extent: its items, its tail and its unreadable pages. How they were found is left to the scan.
+
+ghost use Rattle.std.specs.Prelude.{◌≡◌};
+
+use crate::item::Items;
+use std::marker::Model;
+
+/// Numbers of pages of an extent, rising.
+#[derive(Drop)]
+pub struct PageNumbers {
+    pages: Vec<u32>,
+}
+
+impl Model for PageNumbers {
+    ghost use Rattle.std.specs.Prelude.{List, ℕ};
+
+    ghost Value = { List ℕ };
+
+    ghost view = { λ a. a.pages.items };
+}
+
+impl PageNumbers {
+    pub(crate) fn from_vec(pages: Vec<u32>) -> PageNumbers
+        ensures { result ≡ pages.items }
+    {
+        PageNumbers { pages }
+    }
+
+    /// The numbers as a slice.
+    pub fn as_slice(&self) -> &[u32]
+        ensures { result.now ≡ self.now }
+    {
+        self.pages.as_slice()
+    }
+}
+
+/// What was found in an extent under a write pointer.
+#[derive(Drop)]
+pub struct Findings {
+    /// The items below the pointer, in order.
+    pub(crate) items: Items,
+    /// How many readable bytes at or past the pointer aren't zero.
+    pub(crate) tail_count: u32,
+    /// The place of the first of these, in bytes.
+    pub(crate) tail_first: Option<u32>,
+    /// All unreadable pages of the extent, on both sides of the pointer.
+    pub(crate) bad_pages: PageNumbers,
+}
+
+impl Findings {
+    /// The items below the write pointer, in order.
+    pub fn items(&self) -> &[crate::item::Item]
+        ensures { result.now ≡ self.now.items }
+    {
+        self.items.as_slice()
+    }
+
+    /// How many readable bytes at or past the write pointer aren't zero.
+    pub fn tail_count(&self) -> u32
+        ensures { result ≡ self.now.tail_count }
+    {
+        self.tail_count
+    }
+
+    /// The place of the first such byte, counted from the start of the extent.
+    pub fn tail_first(&self) -> Option<u32>
+        ensures { result ≡ self.now.tail_first }
+    {
+        self.tail_first
+    }
+
+    /// The numbers of all unreadable pages of the extent, rising.
+    pub fn bad_pages(&self) -> &[u32]
+        ensures { result.now ≡ self.now.bad_pages }
+    {
+        self.bad_pages.as_slice()
+    }
+}

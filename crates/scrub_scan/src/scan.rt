@@ -1,0 +1,92 @@
+//! Scanning planned extents: of each its items, its tail and its unreadable pages, from one reading.
+
+ghost use Rattle.std.specs.Prelude.{◌≡◌, ◌≤◌, ◌<◌, Contains, IfOk, length, filter, not, false, slice_index_or};
+ghost use Rattle.std.specs.List.{range_with_len};
+ghost use Rattle.scrub_disk.specs.Image.{extent_bytes};
+ghost use Rattle.scrub_super.specs.Plan.{geometry_of, planned, pointer_of};
+ghost use Rattle.scrub_scan.specs.Result.{image_of, found};
+ghost use Rattle.scrub_scan.specs.OneReader.{IsOneReader, image_of_all, all_found};
+
+use crate::all::AllFindings;
+use crate::buffer::ExtentBuffer;
+use crate::findings::{Findings, PageNumbers};
+use crate::result::ExtentResult;
+use crate::tail::tail_of;
+use crate::tiling::tile_buffer;
+use scrub_disk::{OutOfMemory, PageSource};
+use scrub_super::Plan;
+use std::alloc::Global;
+
+/// The numbers of the pages that aren't readable, rising.
+fn unreadable_pages(alloc: Global, readable: &[bool]) -> Result<PageNumbers, OutOfMemory>
+    requires { length readable.now ≤ 65536 }
+    ensures { IfOk result (λ pages. pages ≡ filter (λ p. not (slice_index_or readable.now p false)) (range_with_len 0 (length readable.now))) }
+{
+    let mut pages = Vec::new(alloc);
+    for page in 0..readable.len() {
+        if !readable[page] {
+            pages.push(page as u32)?;
+        }
+    }
+    Ok(PageNumbers::from_vec(pages))
+}
+
+/// What an extent of a source's image holds under a write pointer.
+fn scan_under<'d, D: PageSource>(
+    alloc: Global,
+    disk: &'d D,
+    extent: u32,
+    pointer: u32,
+) -> Result<ExtentResult<'d, D>, OutOfMemory>
+    requires in_extents { extent < (D.image disk.now).geometry.extents }
+    requires in_extent { pointer ≤ extent_bytes (D.image disk.now).geometry }
+    ensures image { IfOk result (λ r. image_of r ≡ D.image disk.now) }
+    ensures extent { IfOk result (λ r. (found r).extent ≡ extent) }
+    ensures pointer { IfOk result (λ r. (found r).pointer ≡ pointer) }
+{
+    let buffer = ExtentBuffer::read(alloc, disk, extent)?;
+    let view = buffer.under(pointer as usize);
+    let items = tile_buffer(alloc, &view)?;
+    let tail = tail_of(&view);
+    let bad_pages = unreadable_pages(alloc, view.readable)?;
+    let findings = Findings {
+        items,
+        tail_count: tail.count,
+        tail_first: tail.first,
+        bad_pages,
+    };
+    Ok(ExtentResult::new(disk, extent, pointer, findings))
+}
+
+/// What a planned extent of a source's image holds under the plan's write pointer. It reads each page of the extent once.
+pub fn scan_extent<'d, D: PageSource>(
+    alloc: Global,
+    disk: &'d D,
+    plan: &Plan,
+    extent: u32,
+) -> Result<ExtentResult<'d, D>, OutOfMemory>
+    requires geometry { geometry_of plan.now ≡ (D.image disk.now).geometry }
+    requires planned { Contains (planned plan.now) extent }
+    ensures image { IfOk result (λ r. image_of r ≡ D.image disk.now) }
+    ensures extent { IfOk result (λ r. (found r).extent ≡ extent) }
+    ensures pointer { IfOk result (λ r. (found r).pointer ≡ pointer_of plan.now extent) }
+{
+    scan_under(alloc, disk, extent, plan.pointer(extent))
+}
+
+/// The findings of one reader, who scans the planned extents one after another, by rising numbers.
+pub fn scan_in_order<'d, D: PageSource>(
+    alloc: Global,
+    disk: &'d D,
+    plan: &Plan,
+) -> Result<AllFindings<'d, D>, OutOfMemory>
+    requires { geometry_of plan.now ≡ (D.image disk.now).geometry }
+    ensures image { IfOk result (λ all. image_of_all all ≡ D.image disk.now) }
+    ensures findings { IfOk result (λ all. IsOneReader (D.image disk.now) plan.now (all_found all)) }
+{
+    let mut results = Vec::new(alloc);
+    for extent in plan.planned() {
+        results.push(scan_extent(alloc, disk, plan, *extent)?)?;
+    }
+    Ok(AllFindings::of_results(disk, results))
+}

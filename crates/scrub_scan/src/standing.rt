@@ -1,0 +1,114 @@
+//! The frame at a given place of an extent, without the tiling. Whether an item begins there is left to the crates above.
+
+ghost use Rattle.std.specs.Prelude.{◌≡◌, ◌+◌, ◌<◌, ◌≤◌, ◌^◌, ℕ, List, length, IfOk, IfSome, IfNone};
+ghost use Rattle.scrub_disk.specs.Image.{extent_bytes};
+ghost use Rattle.scrub_scan.specs.Extent.{extent_of, FrameAt, NoFrameAt};
+ghost use Rattle.scrub_scan.specs.Standing.{StandsAt, Stands, HasPayload};
+
+use crate::text::read_text;
+use scrub_disk::{OutOfMemory, PageSource};
+use scrub_frame::{digest_of, read_frame, read_head};
+use std::alloc::Global;
+use uuid::Uuid;
+
+/// A frame that stands in an extent.
+#[derive(Debug, Clone, Copy, PartialEq, Eq)]
+pub struct Standing {
+    /// The number of the extent.
+    pub extent: u32,
+    /// The byte of the extent that the frame begins at.
+    pub offset: u32,
+    /// The UUID of the frame.
+    pub uuid: Uuid,
+    /// The length of its payload, in bytes.
+    pub length: u32,
+    /// The SHA-256 of its payload.
+    pub digest: [u8; 32],
+}
+
+/// The bytes that a head at a place claims for its frame, where the magic stands there and all of the head can be read.
+fn claimed_size<D: PageSource>(
+    alloc: Global,
+    disk: &D,
+    extent: u32,
+    offset: u32,
+) -> Result<Option<usize>, OutOfMemory>
+    requires in_extents { extent < (D.image disk.now).geometry.extents }
+    requires in_extent { offset + 22 ≤ extent_bytes (D.image disk.now).geometry }
+    ensures claimed { IfOk result (λ size. IfSome size (λ n. (w : ℕ) (u b : List ℕ) → FrameAt (extent_of (D.image disk.now) extent w) offset u b → n ≡ length b + 38)) }
+    ensures none { IfOk result (λ size. IfNone size ((w : ℕ) → NoFrameAt (extent_of (D.image disk.now) extent w) offset)) }
+    ensures some { IfOk result (λ size. IfSome size (λ n. 38 ≤ n)) }
+    ensures small { IfOk result (λ size. IfSome size (λ n. n < 2 ^ 33)) }
+{
+    let Some(text) = read_text(alloc, disk, extent, offset as usize, 22)? else {
+        return Ok(None);
+    };
+    let Some(bytes) = text.first_chunk::<22>() else {
+        return Ok(None);
+    };
+    match read_head(bytes) {
+        Some(head) => Ok(Some(head.length as usize + 38)),
+        None => Ok(None),
+    }
+}
+
+/// The frame that stands at a place of an extent: it ends at or before the pointer, and every byte of it can be read.
+/// Places are bytes of the extent. Only the pages that the frame claims are read.
+pub fn frame_stands<D: PageSource>(
+    alloc: Global,
+    disk: &D,
+    pointer: u32,
+    extent: u32,
+    offset: u32,
+) -> Result<Option<Standing>, OutOfMemory>
+    requires in_extents { extent < (D.image disk.now).geometry.extents }
+    requires pointer { pointer ≤ extent_bytes (D.image disk.now).geometry }
+    requires offset { offset ≤ extent_bytes (D.image disk.now).geometry }
+    ensures found { IfOk result (λ found. IfSome found (StandsAt (D.image disk.now) pointer extent offset)) }
+    ensures none { IfOk result (λ found. IfNone found (NoFrameAt (extent_of (D.image disk.now) extent pointer) offset)) }
+{
+    if (offset as usize) + 38 > pointer as usize {
+        return Ok(None);
+    }
+    let Some(size) = claimed_size(alloc, disk, extent, offset)? else {
+        return Ok(None);
+    };
+    if offset as usize + size > pointer as usize {
+        return Ok(None);
+    }
+    let Some(text) = read_text(alloc, disk, extent, offset as usize, size)? else {
+        return Ok(None);
+    };
+    match read_frame(&text) {
+        Some(frame) => Ok(Some(Standing {
+            extent,
+            offset,
+            uuid: frame.uuid,
+            length: frame.length,
+            digest: digest_of(&text[22..22 + frame.length as usize]),
+        })),
+        None => Ok(None),
+    }
+}
+
+/// The payload of a frame that stands in the disk's image.
+pub fn read_payload<D: PageSource>(
+    alloc: Global,
+    disk: &D,
+    standing: &Standing,
+) -> Result<Vec<u8>, OutOfMemory>
+    requires { Stands (D.image disk.now) standing.now }
+    ensures { IfOk result (λ payload. HasPayload (D.image disk.now) standing.now payload.items) }
+{
+    let start = standing.offset as usize + 22;
+    match read_text(
+        alloc,
+        disk,
+        standing.extent,
+        start,
+        standing.length as usize,
+    )? {
+        Some(payload) => Ok(payload),
+        None => unreachable!(),
+    }
+}

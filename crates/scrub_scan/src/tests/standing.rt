@@ -1,0 +1,121 @@
+//! The frames that stand at given places, whatever the tiling makes of these.
+
+use super::*;
+
+/// The SHA-256 of 220 bytes 78.
+const LONG_DIGEST: [u8; 32] = [
+    0x53, 0x2f, 0xa9, 0x80, 0x28, 0x6a, 0x8e, 0x43, 0xc6, 0x36, 0x18, 0xf3, 0x1f, 0x43, 0x47, 0x1f,
+    0x48, 0xa2, 0xab, 0xf7, 0x96, 0x45, 0x1b, 0xe2, 0x9e, 0x1e, 0x4f, 0xd2, 0x83, 0xb1, 0xe0, 0x28,
+];
+
+/// A disk with pages of 256 bytes, eight pages an extent and four extents. Extent 1 has `abc` at 0, and its page 1 is
+/// unreadable. Extent 2 has a frame of 258 bytes at 0, whose last two bytes are the magic of the frame of `abc` at 256.
+fn two_extents(rt: &impl Abort, alloc: Global) -> Result<MemDisk, Fail> {
+    let mut disk = MemDisk::blank(alloc, Geometry::new(256, 8, 4)?)?;
+    put_frame(rt, alloc, &mut disk, 1, 0, [0x11; 16], b"abc")?;
+    mark_bad(rt, &mut disk, 1, 1);
+    put_frame(rt, alloc, &mut disk, 2, 0, ENDS_IN_MAGIC, &[0x78; 220])?;
+    put_frame(rt, alloc, &mut disk, 2, 256, [0x11; 16], b"abc")?;
+    Ok(disk)
+}
+
+/// The frame that stands at a place under a pointer.
+fn standing_at(
+    rt: &impl Abort,
+    alloc: Global,
+    disk: &MemDisk,
+    pointer: u32,
+    extent: u32,
+    offset: u32,
+) -> Result<Option<Standing>, Fail> {
+    let geometry = disk.geometry();
+    assert!(rt; extent < geometry.extents());
+    assert!(rt; pointer <= geometry.extent_bytes());
+    assert!(rt; offset <= geometry.extent_bytes());
+    Ok(frame_stands(alloc, disk, pointer, extent, offset)?)
+}
+
+/// The frame of `abc` at a place.
+fn standing_abc(extent: u32, offset: u32) -> Standing {
+    Standing {
+        extent,
+        offset,
+        uuid: Uuid::from_bytes([0x11; 16]),
+        length: 3,
+        digest: ABC_DIGEST,
+    }
+}
+
+#[test]
+fn frames_stand_at_their_places(rt: HostRuntime) -> Result<(), Fail> {
+    let disk = two_extents(&rt, rt.alloc())?;
+    let long = Standing {
+        extent: 2,
+        offset: 0,
+        uuid: Uuid::from_bytes(ENDS_IN_MAGIC),
+        length: 220,
+        digest: LONG_DIGEST,
+    };
+    let cases = [
+        (512, standing_abc(1, 0)),
+        (297, long),
+        (297, standing_abc(2, 256)),
+    ];
+    for (pointer, standing) in cases {
+        let found = standing_at(
+            &rt,
+            rt.alloc(),
+            &disk,
+            pointer,
+            standing.extent,
+            standing.offset,
+        )?;
+        assert_eq!(rt; found, Some(standing));
+    }
+    Ok(())
+}
+
+#[test]
+fn no_frame_stands_where_none_was_written(rt: HostRuntime) -> Result<(), Fail> {
+    let disk = two_extents(&rt, rt.alloc())?;
+    for (pointer, extent, offset) in [(512, 1, 41), (512, 1, 300), (512, 1, 2048), (0, 3, 0)] {
+        let found = standing_at(&rt, rt.alloc(), &disk, pointer, extent, offset)?;
+        assert!(rt; found.is_none(), "at {offset} of extent {extent}");
+    }
+    Ok(())
+}
+
+#[test]
+fn a_frame_that_ends_one_byte_past_the_pointer_does_not_stand(rt: HostRuntime) -> Result<(), Fail> {
+    let disk = two_extents(&rt, rt.alloc())?;
+    for (end, extent, offset) in [(41, 1, 0), (258, 2, 0), (297, 2, 256)] {
+        let whole = standing_at(&rt, rt.alloc(), &disk, end, extent, offset)?;
+        assert!(rt; whole.is_some(), "ends at {end}");
+        let cut = standing_at(&rt, rt.alloc(), &disk, end - 1, extent, offset)?;
+        assert!(rt; cut.is_none(), "ends at {end}");
+    }
+    Ok(())
+}
+
+#[test]
+fn a_frame_with_a_byte_on_an_unreadable_page_does_not_stand(rt: HostRuntime) -> Result<(), Fail> {
+    let mut disk = two_extents(&rt, rt.alloc())?;
+    // Frames of 41 bytes: the last byte of the one, part of the head of the other and all of the third are on page 1.
+    for (offset, stands) in [(215, true), (216, false), (240, false), (300, false)] {
+        put_frame(&rt, rt.alloc(), &mut disk, 1, offset, [0x11; 16], b"abc")?;
+        let found = standing_at(&rt, rt.alloc(), &disk, 512, 1, offset)?;
+        assert_eq!(rt; found.is_some(), stands, "at {offset}");
+    }
+    Ok(())
+}
+
+#[test]
+fn the_payload_of_a_frame_that_was_stepped_past(rt: HostRuntime) -> Result<(), Fail> {
+    let disk = two_extents(&rt, rt.alloc())?;
+    let geometry = disk.geometry();
+    assert!(rt; geometry.extents() > 2 && geometry.extent_bytes() >= 297);
+    let standing = frame_stands(rt.alloc(), &disk, 297, 2, 256)?.ok_or("a frame")?;
+    let payload = read_payload(rt.alloc(), &disk, &standing)?;
+    assert_eq!(rt; payload.as_slice(), b"abc".as_slice());
+    Ok(())
+}

@@ -1,0 +1,12 @@
+-- Lemmas on records, the choice and the plan.
+pub mod Parts
+pub mod Cuts
+pub mod Records
+pub mod Plans
+pub mod PagesRead
+pub mod Filters
+pub mod Standing
+pub mod Finding
+pub mod Steps
+pub mod Choices
+pub mod Laws

@@ -1,0 +1,67 @@
+-- The superblock that counts: of the records of an image that are valid, the newest, and of equally new ones the one on
+-- the lowest page.
+use Rattle.std.specs.Prelude.{◌≡◌, ◌≢◌, ◌<◌, ◌≤◌, ◌*◌, ◌↔◌, ℕ, List, Bool, Option, Some, None, IsTrue, Contains}
+use Rattle.std.specs.Prelude.{length as len}
+use Rattle.std.specs.List.Sorted.{IsStrictlyIncreasing}
+use Rattle.scrub_disk.specs.declared.geometry.Geometry.{Geometry}
+use Rattle.scrub_disk.specs.Image.{Image, byte, IsText}
+use Rattle.scrub_super.specs.Contents.{Contents}
+use Rattle.scrub_super.specs.Record.{AreContents, record_bytes}
+use Rattle.scrub_disk.specs.Image.{unreadable_pages}
+
+-- a valid record: that of these contents stands at the bound of page g of extent 0, whole on readable pages
+pub record StandsAt (image : Image) (g : ℕ) (c : Contents) : Type 0 where
+  pub within : g < image.geometry.pages
+  pub contents : AreContents image.geometry c
+  pub stands : IsText (byte image 0) (g * image.geometry.page) (record_bytes image.geometry c)
+
+-- no valid record has a greater generation
+abbrev pub IsGreatest : Image → ℕ → Type 0
+IsGreatest image n = (g : ℕ) (c : Contents) → StandsAt image g c → c.generation ≤ n
+
+-- the record that counts
+pub record IsNewest (image : Image) (g : ℕ) (c : Contents) : Type 0 where
+  pub stands : StandsAt image g c
+  pub greatest : IsGreatest image c.generation
+  pub lowest : (h : ℕ) (d : Contents) → StandsAt image h d → d.generation ≡ c.generation → g ≤ h
+
+-- what counts, and on which page it stands; nothing only where no record is valid
+abbrev pub IsChosen : Image → Option Contents → Option ℕ → Type 0
+IsChosen image (Some c) (Some g) = IsNewest image g c
+IsChosen image None None = (g : ℕ) (c : Contents) → ¬ StandsAt image g c
+IsChosen image (Some c) None = ⊥
+IsChosen image None (Some g) = ⊥
+
+-- the greatest generation stands on two pages
+pub record IsTie (image : Image) : Type 0 where
+  pub one : ℕ
+  pub other : ℕ
+  pub apart : one ≢ other
+  pub contents : Contents
+  pub contents_of_other : Contents
+  pub stands : StandsAt image one contents
+  pub other_stands : StandsAt image other contents_of_other
+  pub same : contents_of_other.generation ≡ contents.generation
+  pub greatest : IsGreatest image contents.generation
+
+-- the pages with a valid record, rising
+pub record AreRecordPages (image : Image) (pages : List ℕ) : Type 0 where
+  pub rising : IsStrictlyIncreasing pages
+  pub exact : (g : ℕ) → Contains pages g ↔ ((c : Contents) × StandsAt image g c)
+
+-- what is told of the records of an image
+pub record Choice : Type 0 where
+  pub geometry : Geometry
+  pub superblock : Option Contents
+  pub page : Option ℕ
+  pub records : ℕ
+  pub tie : Bool
+  pub bad_pages : List ℕ
+
+-- it is told as it is
+pub record IsChoice (image : Image) (choice : Choice) : Type 0 where
+  pub geometry : choice.geometry ≡ image.geometry
+  pub chosen : IsChosen image choice.superblock choice.page
+  pub records : (pages : List ℕ) × AreRecordPages image pages × (choice.records ≡ len pages)
+  pub tie : IsTrue choice.tie ↔ IsTie image
+  pub bad_pages : choice.bad_pages ≡ unreadable_pages image 0

@@ -1,0 +1,10 @@
+-- The words of this crate's contracts, and those of the crates below that they cite.
+pub mod Contents
+pub mod Record
+pub mod Extent
+pub mod Chosen
+pub mod Found
+pub mod Planned
+pub mod Plan
+pub use Rattle.scrub_disk.specs.Image
+pub use Rattle.scrub_frame.specs.Locator

@@ -1,0 +1,19 @@
+//! The superblock of a disk: its records, which of them counts, and the plan of the scan that follows from it. What
+//! stands in the extents that are scanned is left to the crates above.
+#![tactic(auto)]
+
+mod choice;
+pub mod chosen;
+mod extent;
+pub mod plan;
+pub mod record;
+pub mod superblock;
+
+pub use choice::{choose, one_choice};
+pub use chosen::Chosen;
+pub use plan::Plan;
+pub use record::{MAX_RUNS, one_record, read_record, write_record};
+pub use superblock::Superblock;
+
+#[cfg(test)]
+mod tests;
