@@ -1,0 +1,136 @@
+//! Why a run ends without an answer: for each reason its status and its line on the error stream, in one place.
+
+ghost use Rattle.std.specs.Prelude.{◌≡◌};
+ghost use Rattle.scrub_cli.specs.declared.fault.Fault.TheVariants.{Geometry, OutOfMemory};
+
+use crate::words::WordsFault;
+use scrub_disk::{GeometryFault, LoadFault, OutOfMemory};
+use std::alloc::AllocFailed;
+use std::io::Write;
+
+/// Why a run ends without a whole answer, in the order in which the reasons are found. Want of memory comes wherever a
+/// growth is refused.
+#[derive(Drop)]
+pub enum Fault<'a> {
+    /// A word isn't UTF-8.
+    NotUtf8,
+    /// The words ask for help: the text is the help.
+    Help(String),
+    /// `clap` refuses the words: the text says why.
+    Words(String),
+    /// The sizes are no geometry.
+    Geometry(GeometryFault),
+    /// The extent isn't one of the disk's.
+    Extent,
+    /// The write pointer lies past the extent.
+    Pointer,
+    /// The word isn't a pair of an extent and a page of it.
+    BadPage(&'a str),
+    /// No image of this name can be opened.
+    NoImage(&'a str),
+    /// There is a byte behind the image's last page.
+    TooLong,
+    /// The output failed after so many bytes.
+    Output { written: usize },
+    /// A growth was refused.
+    OutOfMemory,
+}
+
+impl From<OutOfMemory> for Fault<'_> {
+    ghost from_gives = { λ _ fault. fault ≡ OutOfMemory };
+
+    fn from(_fault: OutOfMemory) -> Self {
+        Fault::OutOfMemory
+    }
+}
+
+impl<T: Drop> From<AllocFailed<T>> for Fault<'_> {
+    ghost from_gives = { λ _ fault. fault ≡ OutOfMemory };
+
+    fn from(_fault: AllocFailed<T>) -> Self {
+        Fault::OutOfMemory
+    }
+}
+
+impl From<GeometryFault> for Fault<'_> {
+    ghost from_gives = { λ geometry fault. fault ≡ Geometry geometry };
+
+    fn from(fault: GeometryFault) -> Self {
+        Fault::Geometry(fault)
+    }
+}
+
+impl From<LoadFault> for Fault<'_> {
+    ghost use Rattle.scrub_cli.specs.Fault.{fault_of_load};
+
+    ghost from_gives = { λ load fault. fault ≡ fault_of_load load };
+
+    fn from(fault: LoadFault) -> Self {
+        match fault {
+            LoadFault::OutOfMemory => Fault::OutOfMemory,
+            LoadFault::TooLong => Fault::TooLong,
+        }
+    }
+}
+
+impl From<WordsFault> for Fault<'_> {
+    ghost use Rattle.scrub_cli.specs.Fault.{fault_of_words};
+
+    ghost from_gives = { λ words fault. fault ≡ fault_of_words words };
+
+    fn from(fault: WordsFault) -> Self {
+        match fault {
+            WordsFault::Help(text) => Fault::Help(text),
+            WordsFault::Refused(text) => Fault::Words(text),
+            WordsFault::OutOfMemory => Fault::OutOfMemory,
+        }
+    }
+}
+
+impl Fault<'_> {
+    ghost use Rattle.scrub_cli.specs.Fault.{status_of};
+
+    /// The status that the program ends with.
+    pub fn status(&self) -> u8
+        ensures { result ≡ status_of self.now }
+    {
+        match self {
+            Fault::Help(_) => 0,
+            Fault::NotUtf8
+            | Fault::Words(_)
+            | Fault::Geometry(_)
+            | Fault::Extent
+            | Fault::Pointer
+            | Fault::BadPage(_) => 2,
+            Fault::NoImage(_) | Fault::TooLong | Fault::Output { .. } => 3,
+            Fault::OutOfMemory => 4,
+        }
+    }
+
+    /// Writes what happened to the error stream, with a line feed. It takes no memory, and a fault of the stream is
+    /// ignored, as nothing is left to tell it to.
+    fn tell<E: Write>(&self, err: &mut E) {
+        let _ = match self {
+            Fault::Help(text) | Fault::Words(text) => err.write_all(text.as_bytes()),
+            Fault::NotUtf8 => writeln!(err, "shardscrub: a word is not UTF-8"),
+            Fault::Geometry(fault) => writeln!(err, "shardscrub: geometry refused: {fault}"),
+            Fault::Extent => writeln!(err, "shardscrub: extent out of range"),
+            Fault::Pointer => writeln!(err, "shardscrub: pointer out of range"),
+            Fault::BadPage(word) => writeln!(err, "shardscrub: bad page refused: {word}"),
+            Fault::NoImage(name) => writeln!(err, "shardscrub: image cannot be opened: {name}"),
+            Fault::TooLong => writeln!(err, "shardscrub: image too long"),
+            Fault::Output { written } => {
+                writeln!(err, "shardscrub: output failed after {written} bytes")
+            }
+            Fault::OutOfMemory => writeln!(err, "shardscrub: out of memory"),
+        };
+    }
+
+    /// Tells it on the error stream, and gives the status that the program ends with.
+    pub fn end<E: Write>(&self, err: &mut E) -> u8
+        ensures { result ≡ status_of self.now }
+    {
+        self.tell(err);
+        self.status()
+    }
+}

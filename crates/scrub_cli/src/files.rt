@@ -1,0 +1,78 @@
+//! Raw images in files of the system. No contract says what a file holds: all that is known of one is how often it was
+//! read, and how often that failed.
+
+ghost use Rattle.std.specs.Prelude.{◌≤◌, None};
+
+use crate::images::Images;
+use scrub_disk::{RawFault, RawImage};
+use std::fs::{File, Files};
+use std::os::unix::fs::FileExt;
+
+/// A file that is read as a raw image.
+#[derive(Drop)]
+pub struct FileImage {
+    file: File,
+    reads: u64,
+    failures: u64,
+    ghost counted: { failures ≤ reads },
+}
+
+impl RawImage for FileImage {
+    ghost bytes = { λ _. None };
+
+    ghost reads = { λ image. image.reads };
+
+    ghost failures = { λ image. image.failures };
+
+    ghost failures_are_reads = { λ image. image.counted };
+
+    fn read_at(&mut self, offset: u64, out: &mut [u8]) -> Result<usize, RawFault> {
+        self.reads += 1;
+        match self.file.read_at(out, offset) {
+            Ok(count) => Ok(count),
+            Err(_) => {
+                self.failures += 1;
+                Err(RawFault)
+            }
+        }
+    }
+}
+
+/// The files of the system, by their paths.
+#[derive(Drop)]
+pub struct NamedFiles<'a, R> {
+    pub runtime: &'a R,
+}
+
+impl<R: Files<File = File>> Images for NamedFiles<'_, R> {
+    type Image = FileImage;
+
+    ghost bytes = { λ _ _. None };
+
+    /// The file of this path. A directory can't be read as an image, so it isn't opened as one.
+    fn image(&mut self, name: &str) -> Option<FileImage> {
+        let file = File::open(self.runtime, name).ok()?;
+        if file.metadata().ok()?.is_dir() {
+            return None;
+        }
+        Some(FileImage {
+            file,
+            reads: 0,
+            failures: 0,
+        })
+    }
+}
+
+#[cfg(test)]
+mod tests {
+    use super::NamedFiles;
+    use crate::images::Images;
+
+    #[test]
+    fn neither_a_folder_nor_a_name_without_a_file_is_an_image(rt: HostRuntime) {
+        let mut files = NamedFiles { runtime: &rt };
+        for name in [".", "no-such-folder/disk.img", ""] {
+            assert!(rt; files.image(name).is_none(), "{name}");
+        }
+    }
+}

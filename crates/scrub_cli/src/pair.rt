@@ -1,0 +1,58 @@
+//! The words that name unreadable pages. Whether an extent and a page lie on the disk is for the
+//! geometry to say.
+ghost use Rattle.std.specs.Prelude.{◌≡◌, ◌^◌, ◌<◌, ℕ, MatchOption, IfSome};
+ghost use Rattle.scrub_cli.specs.Pair.{IsDecimal, IsPair};
+
+/// Reads `EXTENT:PAGE`: an extent's number, a colon, a page's number, both in decimal digits alone
+/// and at most 4,294,967,295. Leading zeros count for nothing; a sign or a blank is refused.
+pub fn bad_page(word: &str) -> Option<(u32, u32)>
+    ensures pair { MatchOption result
+        ((extent page : ℕ) → extent < 2 ^ 32 → page < 2 ^ 32 → ¬ IsPair word.now extent page)
+        (λ pair. IsPair word.now pair.0 pair.1) }
+    ensures only { IfSome result (λ pair. (extent page : ℕ) → IsPair word.now extent page → (extent ≡ pair.0) × (page ≡ pair.1)) }
+{
+    let (extent, page) = word.split_once(':')?;
+    Some((decimal(extent)?, decimal(page)?))
+}
+
+/// The number that decimal digits write, where the text is nothing else and the number fits.
+fn decimal(text: &str) -> Option<u32>
+    ensures { MatchOption result ((n : ℕ) → n < 2 ^ 32 → ¬ IsDecimal text.now n) (IsDecimal text.now) }
+{
+    if text.starts_with('+') {
+        return None;
+    }
+    text.parse::<u32>().ok()
+}
+
+#[cfg(test)]
+mod tests {
+    use super::bad_page;
+
+    #[test]
+    fn pairs_that_read(rt: HostRuntime) {
+        assert_eq!(rt; bad_page("1:4"), Some((1, 4)));
+        assert_eq!(rt; bad_page("007:4294967295"), Some((7, 4294967295)));
+    }
+
+    #[test]
+    fn words_that_are_no_pair(rt: HostRuntime) {
+        for word in [
+            "",
+            ":",
+            "1",
+            "1:",
+            ":1",
+            "1:x",
+            "+1:2",
+            "1:+2",
+            "-1:2",
+            "1 :2",
+            "1:2:3",
+            "4294967296:0",
+            "0:4294967296",
+        ] {
+            assert_eq!(rt; bad_page(word), None, "{word}");
+        }
+    }
+}
