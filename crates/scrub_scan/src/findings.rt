@@ -38,13 +38,13 @@ impl PageNumbers {
 #[derive(Drop)]
 pub struct Findings {
     /// The items below the pointer, in order.
-    pub(crate) items: Items,
+    pub items: Items,
     /// How many readable bytes at or past the pointer aren't zero.
-    pub(crate) tail_count: u32,
+    pub tail_count: u32,
     /// The place of the first of these, in bytes.
-    pub(crate) tail_first: Option<u32>,
+    pub tail_first: Option<u32>,
     /// All unreadable pages of the extent, on both sides of the pointer.
-    pub(crate) bad_pages: PageNumbers,
+    pub bad_pages: PageNumbers,
 }
 
 impl Findings {

@@ -1,60 +1,47 @@
 //! Which words ask for what, what is refused, and that the help has what its reader looks for.
-use crate::words::{ImageWords, ItemsWords, Request, WordsFault, read_words};
-use std::alloc::AllocError;
+
+use crate::words::{Request, WordsFault, read_words};
 use std::process::Abort;
 use std::test::Fail;
 
 const EXAMPLE: &str =
     "shardscrub items --page 64 --pages 4 --extents 3 --extent 1 --pointer 41 examples/one-chunk.img";
 
-/// The text with which these words are refused.
-fn refusal<R: AllocGlobal + Abort>(rt: &R, words: &'static [&'static str]) -> Result<String, Fail> {
-    match read_words(rt.alloc(), words) {
+/// The text with which words that are parted by blanks are refused.
+fn refusal<R: AllocGlobal + Abort>(rt: &R, words: &str) -> Result<String, Fail> {
+    let split: Vec<&str> = words.split_whitespace().collect(rt.alloc())?;
+    match read_words(rt.alloc(), &split) {
         Err(WordsFault::Refused(text)) => Ok(text),
         outcome => panic!(rt; "not refused: {outcome:?}"),
     }
 }
 
-/// The help that these words ask for.
-fn help<R: AllocGlobal + Abort>(rt: &R, words: &'static [&'static str]) -> Result<String, Fail> {
-    match read_words(rt.alloc(), words) {
-        Err(WordsFault::Help(text)) => Ok(text),
+/// The help that such words ask for has all these parts.
+fn check_help<R: AllocGlobal + Abort>(rt: &R, words: &str, parts: &[&str]) -> Result<(), Fail> {
+    let split: Vec<&str> = words.split_whitespace().collect(rt.alloc())?;
+    match read_words(rt.alloc(), &split) {
+        Err(WordsFault::Help(text)) => {
+            for part in parts {
+                assert!(rt; text.as_str().contains(*part), "{part}");
+            }
+        }
         outcome => panic!(rt; "no help: {outcome:?}"),
     }
-}
-
-#[test]
-fn no_words_ask_for_the_demo(rt: HostRuntime) -> Result<(), Fail> {
-    assert!(rt; matches!(read_words(rt.alloc(), &[])?, Request::Demo));
     Ok(())
 }
 
 #[test]
-fn the_word_demo_asks_for_the_demo(rt: HostRuntime) -> Result<(), Fail> {
+fn no_words_and_the_word_demo_ask_for_the_demo(rt: HostRuntime) -> Result<(), Fail> {
+    assert!(rt; matches!(read_words(rt.alloc(), &[])?, Request::Demo));
     assert!(rt; matches!(read_words(rt.alloc(), &["demo"])?, Request::Demo));
     Ok(())
 }
 
 #[test]
 fn items_with_all_options(rt: HostRuntime) -> Result<(), Fail> {
-    let words = [
-        "items",
-        "--page",
-        "64",
-        "--pages",
-        "4",
-        "--extents",
-        "3",
-        "--extent",
-        "1",
-        "--pointer",
-        "41",
-        "disk.img",
-        "1:3",
-        "x",
-        "2:0",
-    ];
-    let Request::Items(items) = read_words(rt.alloc(), &words)? else {
+    let words = "items --page 64 --pages 4 --extents 3 --extent 1 --pointer 41 disk.img 1:3 x 2:0";
+    let split: Vec<&str> = words.split_whitespace().collect(rt.alloc())?;
+    let Request::Items(items) = read_words(rt.alloc(), &split)? else {
         panic!(rt; "not items");
     };
     assert_eq!(rt; items.extent, 1);
@@ -68,15 +55,9 @@ fn items_with_all_options(rt: HostRuntime) -> Result<(), Fail> {
 
 #[test]
 fn items_without_a_pointer_or_bad_pages(rt: HostRuntime) -> Result<(), Fail> {
-    let words = [
-        "items",
-        "--page=4294967295",
-        "--pages=0",
-        "--extents=3",
-        "--extent=1",
-        "x",
-    ];
-    let Request::Items(items) = read_words(rt.alloc(), &words)? else {
+    let words = "items --page=4294967295 --pages=0 --extents=3 --extent=1 disk.img";
+    let split: Vec<&str> = words.split_whitespace().collect(rt.alloc())?;
+    let Request::Items(items) = read_words(rt.alloc(), &split)? else {
         panic!(rt; "not items");
     };
     assert_eq!(rt; items.pointer, None);
@@ -87,142 +68,73 @@ fn items_without_a_pointer_or_bad_pages(rt: HostRuntime) -> Result<(), Fail> {
 }
 
 #[test]
-fn a_missing_option_is_refused(rt: HostRuntime) -> Result<(), Fail> {
-    let text = refusal(
-        &rt,
-        &[
-            "items", "--page", "64", "--pages", "4", "--extent", "1", "x",
-        ],
-    )?;
-    assert!(rt; text.as_str().contains("--extents <COUNT>"));
-    Ok(())
-}
-
-#[test]
-fn a_missing_image_is_refused(rt: HostRuntime) -> Result<(), Fail> {
-    let text = refusal(
-        &rt,
-        &[
-            "items",
-            "--page=64",
-            "--pages=4",
-            "--extents=3",
-            "--extent=1",
-        ],
-    )?;
-    assert!(rt; text.as_str().contains("<IMAGE>"));
-    Ok(())
-}
-
-#[test]
-fn a_number_over_32_bits_is_refused(rt: HostRuntime) -> Result<(), Fail> {
-    let text = refusal(
-        &rt,
-        &[
-            "items",
-            "--page=64",
-            "--pages=4",
-            "--extents=4294967296",
-            "--extent=1",
-            "x",
-        ],
-    )?;
-    assert!(rt;
-        text.as_str()
-            .contains("4294967296 is not in 0..=4294967295")
-    );
-    Ok(())
-}
-
-#[test]
-fn a_number_that_is_none_is_refused(rt: HostRuntime) -> Result<(), Fail> {
-    let text = refusal(
-        &rt,
-        &[
-            "items",
-            "--page=64",
-            "--pages=0x4",
-            "--extents=3",
-            "--extent=1",
-            "x",
-        ],
-    )?;
-    assert!(rt; text.as_str().contains("'0x4'"));
-    Ok(())
-}
-
-#[test]
-fn workers_are_refused(rt: HostRuntime) -> Result<(), Fail> {
-    let text = refusal(
-        &rt,
-        &[
-            "items",
-            "--page=64",
-            "--pages=4",
-            "--extents=3",
-            "--extent=1",
+fn a_refusal_says_what_is_wrong(rt: HostRuntime) -> Result<(), Fail> {
+    for (words, part) in [
+        ("repair", "'repair'"),
+        (
+            "items --page 64 --pages 4 --extent 1 x",
+            "--extents <COUNT>",
+        ),
+        (
+            "items --page 64 --pages 4 --extents 3 --extent 1",
+            "<IMAGE>",
+        ),
+        (
+            "items --page 64 --pages 4 --extents 4294967296 --extent 1 x",
+            "4294967296 is not in 0..=4294967295",
+        ),
+        (
+            "items --page 64 --pages 0x4 --extents 3 --extent 1 x",
+            "'0x4'",
+        ),
+        (
+            "items --page 64 --pages 4 --extents 3 --extent 1 --workers 2 x",
             "--workers",
-            "2",
-            "x",
+        ),
+    ] {
+        let text = refusal(&rt, words)?;
+        assert!(rt; text.as_str().contains(part), "{words}");
+    }
+    Ok(())
+}
+
+#[test]
+fn the_help_of_the_program_and_of_each_command(rt: HostRuntime) -> Result<(), Fail> {
+    check_help(
+        &rt,
+        "--help",
+        &[
+            "Usage: shardscrub [COMMAND]",
+            "demo",
+            "items",
+            "Exit status",
+            EXAMPLE,
         ],
     )?;
-    assert!(rt; text.as_str().contains("--workers"));
-    Ok(())
-}
-
-#[test]
-fn an_unknown_command_is_refused(rt: HostRuntime) -> Result<(), Fail> {
-    let text = refusal(&rt, &["repair"])?;
-    assert!(rt; text.as_str().contains("'repair'"));
-    Ok(())
-}
-
-#[test]
-fn the_help_of_the_program(rt: HostRuntime) -> Result<(), Fail> {
-    let text = help(&rt, &["--help"])?;
-    for part in [
-        "Usage: shardscrub [COMMAND]",
-        "demo",
-        "items",
-        "Exit status",
-        EXAMPLE,
-    ] {
-        assert!(rt; text.as_str().contains(part), "{part}");
-    }
-    Ok(())
-}
-
-#[test]
-fn the_help_of_demo(rt: HostRuntime) -> Result<(), Fail> {
-    let text = help(&rt, &["demo", "--help"])?;
-    for part in [
-        "Usage: shardscrub demo",
-        "Exit status",
-        "\n  shardscrub demo\n",
-    ] {
-        assert!(rt; text.as_str().contains(part), "{part}");
-    }
-    Ok(())
-}
-
-#[test]
-fn the_help_of_items(rt: HostRuntime) -> Result<(), Fail> {
-    let text = help(&rt, &["items", "--help"])?;
-    let parts = [
-        "Usage: shardscrub items",
-        "--page <BYTES>",
-        "power of two, 64 to 65536",
-        "1 to 65536",
-        "67108864 bytes",
-        "2 to 65536",
-        "4294967296 bytes",
-        "--pointer <BYTES>",
-        "[EXTENT:PAGE]...",
-        "Exit status",
-        EXAMPLE,
-    ];
-    for part in parts {
-        assert!(rt; text.as_str().contains(part), "{part}");
-    }
-    Ok(())
+    check_help(
+        &rt,
+        "demo --help",
+        &[
+            "Usage: shardscrub demo",
+            "Exit status",
+            "\n  shardscrub demo\n",
+        ],
+    )?;
+    check_help(
+        &rt,
+        "items --help",
+        &[
+            "Usage: shardscrub items",
+            "--page <BYTES>",
+            "power of two, 64 to 65536",
+            "1 to 65536",
+            "67108864 bytes",
+            "2 to 65536",
+            "4294967296 bytes",
+            "--pointer <BYTES>",
+            "[EXTENT:PAGE]...",
+            "Exit status",
+            EXAMPLE,
+        ],
+    )
 }

@@ -100,7 +100,7 @@ fn a_frame_that_ends_one_byte_past_the_pointer_does_not_stand(rt: HostRuntime) -
 #[test]
 fn a_frame_with_a_byte_on_an_unreadable_page_does_not_stand(rt: HostRuntime) -> Result<(), Fail> {
     let mut disk = two_extents(&rt, rt.alloc())?;
-    // Frames of 41 bytes: the last byte of the one, part of the head of the other and all of the third are on page 1.
+    // Frames of 41 bytes. The first ends with page 0; of the others the last byte, part of the head and all lie on page 1.
     for (offset, stands) in [(215, true), (216, false), (240, false), (300, false)] {
         put_frame(&rt, rt.alloc(), &mut disk, 1, offset, [0x11; 16], b"abc")?;
         let found = standing_at(&rt, rt.alloc(), &disk, 512, 1, offset)?;

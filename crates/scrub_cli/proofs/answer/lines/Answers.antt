@@ -1,3 +1,4 @@
+-- One more line.
 use Rattle.std.proofs.Common.{◌∙◌}
 use Rattle.scrub_cli.proofs.ItemLines.{lines_of-more}
 use Rattle.scrub_cli.proofs.answer.lines.Goals as goal

@@ -1,3 +1,4 @@
+-- So far the text has the lines of the first items.
 use Rattle.std.proofs.Common.{◌≡◌, take}
 use Rattle.scrub_cli.specs.Lines.{lines_of}
 use Rattle.scrub_cli.proofs.answer.lines.Given as goal

@@ -1,3 +1,4 @@
+-- The listing of the demo's extent is the demo's answer.
 use Rattle.scrub_disk.specs.Memory.{image_of}
 use Rattle.scrub_cli.proofs.DemoAnswers.{demo_answer}
 use Rattle.scrub_cli.proofs.demo.demo.Goals as goal

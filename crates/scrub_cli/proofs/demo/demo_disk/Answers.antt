@@ -1,3 +1,4 @@
+-- The sizes keep the limits, and the frame was put onto zeros.
 use Rattle.std.proofs.Common.{refl, subst, ◌∙◌, lit≤, ℕ, List}
 use Rattle.scrub_disk.specs.Memory.{image_of, Puts}
 use Rattle.scrub_cli.proofs.DemoAnswers.{blank_disk}

@@ -1,3 +1,4 @@
+-- One more word, which names a page.
 use Rattle.scrub_cli.proofs.NamedPages.{named_more}
 use Rattle.scrub_cli.proofs.items.bad_pages.Goals as goal
 

@@ -1,3 +1,4 @@
+-- So far each word has named a page.
 use Rattle.std.proofs.Common.{take}
 use Rattle.scrub_cli.specs.Items.{NamePages}
 use Rattle.scrub_cli.proofs.items.bad_pages.Given as goal

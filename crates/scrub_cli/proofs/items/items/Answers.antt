@@ -1,3 +1,4 @@
+-- Each way out of `items`, in the order of the code.
 use Rattle.std.proofs.Common.{ap, arith, refl, subst, Err}
 use Rattle.std.proofs.lemmas.Result.{err_from_is_err_and}
 use Rattle.scrub_disk.specs.Memory.{image_of}

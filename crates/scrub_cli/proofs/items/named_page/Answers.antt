@@ -1,3 +1,4 @@
+-- A word is one pair at most, and that pair may lie outside the disk.
 use Rattle.std.proofs.Common.{arith}
 use Rattle.scrub_cli.proofs.items.named_page.Goals.{else-extent-geometry-via-then-extent-geometry+else-page-geometry, else-extent-geometry-via-else-extent-geometry}
 use Rattle.scrub_cli.proofs.items.named_page.Goals as goal

@@ -1,3 +1,4 @@
+-- A pair has a colon, with a number on both sides of the first one.
 use Rattle.std.proofs.Common.{None, Some, sym, ◌∙◌}
 use Rattle.scrub_cli.proofs.Pairs.{pair_parts}
 use Rattle.scrub_cli.proofs.pair.bad_page.Goals as goal

@@ -1,3 +1,4 @@
+-- What `items` answers is an answer of the program.
 use Rattle.std.proofs.Common.{inr}
 use Rattle.std.proofs.lemmas.Result.{MatchResult-weaker}
 use Rattle.scrub_cli.proofs.run.answer.Goals as goal

@@ -1,3 +1,4 @@
+-- One more write.
 use Rattle.scrub_cli.proofs.Appending.{appends_next}
 use Rattle.scrub_cli.proofs.write.write_all_counted.Goals as goal
 

@@ -1,3 +1,4 @@
+-- So far the first bytes have been written.
 use Rattle.std.proofs.Common.{length, ◌-◌, take, ◌≤◌}
 use Rattle.std.specs.Io.KnownBytes.{Appends}
 use Rattle.scrub_cli.proofs.write.write_all_counted.Given as goal

@@ -1,4 +1,4 @@
-use Rattle.std.proofs.Common.{◌≡◌, ◌-◌, ◌∙◌, ℕ, zero, suc, List, [], ◌∷◌, All, arith, refl, sym, ap}
+use Rattle.std.proofs.Common.{◌≡◌, ◌-◌, ◌∙◌, ℕ, zero, suc, [], ◌∷◌, All, arith, refl, ap}
 use Rattle.std.specs.List.{Contains, range_with_len}
 use Rattle.scrub_disk.specs.Memory.{image_of}
 use Rattle.scrub_scan.proofs.tests.all.one_reader_of_two_of_three_extents.Goals as goal

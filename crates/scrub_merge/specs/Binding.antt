@@ -1,0 +1,33 @@
+-- Bindings of identifiers over a list of index runs, newest first, and which of them is an identifier's newest.
+use Rattle.std.specs.Prelude.{◌≡◌, ◌<◌, ◌↔◌, ℕ, Bool, IsTrue, Option, Some, None, List, Contains, slice_get}
+use Rattle.scrub_frame.specs.declared.locator.Locator.{Locator}
+use Rattle.scrub_run.specs.declared.shard.ShardId.{ShardId}
+use Rattle.scrub_run.specs.Entry.{EntryValue}
+
+-- an identifier, its locators, the number of the run that binds it, and whether that is doubtful
+pub record BindingValue : Type 0 where
+  pub id : ShardId
+  pub locators : List Locator
+  pub run : ℕ
+  pub doubtful : Bool
+
+-- the entries of each run, the newest run first; a run that could not be read is lost, and has none
+abbrev pub Runs : Type 0
+Runs = List (Option (List EntryValue))
+
+-- the run of this number has this entry
+pub record IsEntryOf (runs : Runs) (number : ℕ) (e : EntryValue) : Type 0 where
+  pub entries : List EntryValue
+  pub is_read : slice_get runs number ≡ Some (Some entries)
+  pub among : Contains entries e
+
+-- a lost run stands before the run of this number
+abbrev pub LostBefore : Runs → ℕ → Type 0
+LostBefore runs number = (k : ℕ) × (k < number) × (slice_get runs k ≡ Some None)
+
+-- the newest binding of an identifier: its entry in the first run that isn't lost and has it. It is doubtful where a
+-- lost run stands before that run.
+pub record IsNewest (runs : Runs) (b : BindingValue) : Type 0 where
+  pub entry : IsEntryOf runs b.run (record { id = b.id; locators = b.locators })
+  pub first : (k : ℕ) (e : EntryValue) → k < b.run → IsEntryOf runs k e → e.id ≡ b.id → ⊥
+  pub doubt : IsTrue b.doubtful ↔ LostBefore runs b.run

@@ -1,0 +1,15 @@
+//! Which binding of each shard counts, over a list of index runs: the newest one, and whether a lost run makes it
+//! doubtful. Which runs can be read, and what the locators are worth, is left to the crates above.
+#![tactic(auto)]
+
+pub mod binding;
+pub mod newest;
+pub mod shards;
+
+pub use binding::Binding;
+pub use newest::{merge, one_shard_map};
+pub use scrub_run::OutOfMemory;
+pub use shards::ShardMap;
+
+#[cfg(test)]
+mod tests;

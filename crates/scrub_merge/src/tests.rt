@@ -1,0 +1,171 @@
+//! Worked examples of merges. The runs are read from bytes that are put together here.
+
+use crate::*;
+use scrub_frame::{Locator, digest_of, read_locator, write_locator};
+use scrub_run::{Run, ShardId, read_run};
+use std::alloc::Global;
+use std::test::Fail;
+
+/// The locator of the chunk of `abc` at extent 1, offset 0.
+const ABC_LOCATOR: [u8; 60] = [
+    0x00, 0x00, 0x00, 0x01, 0x00, 0x00, 0x00, 0x00, 0x00, 0x00, 0x00, 0x03, 0x11, 0x11, 0x11, 0x11,
+    0x11, 0x11, 0x11, 0x11, 0x11, 0x11, 0x11, 0x11, 0x11, 0x11, 0x11, 0x11, 0xba, 0x78, 0x16, 0xbf,
+    0x8f, 0x01, 0xcf, 0xea, 0x41, 0x41, 0x40, 0xde, 0x5d, 0xae, 0x22, 0x23, 0xb0, 0x03, 0x61, 0xa3,
+    0x96, 0x17, 0x7a, 0x9c, 0xb4, 0x10, 0xff, 0x61, 0xf2, 0x00, 0x15, 0xad,
+];
+
+/// The locator of `abc` at an offset of extent 1.
+fn abc_at(offset: u32) -> Locator {
+    Locator {
+        offset,
+        ..read_locator(&ABC_LOCATOR)
+    }
+}
+
+/// The identifier of twelve zero bytes and a number.
+fn shard(number: u32) -> ShardId {
+    let mut bytes = [0; 16];
+    bytes[12..].copy_from_slice(&number.to_be_bytes());
+    ShardId(bytes)
+}
+
+/// An entry of a run: a shard that was deleted, or has `abc` at an offset of extent 1.
+#[derive(Clone, Copy)]
+struct Written {
+    number: u32,
+    offset: Option<u32>,
+}
+
+fn deleted(number: u32) -> Written {
+    Written {
+        number,
+        offset: None,
+    }
+}
+
+fn bound(number: u32, offset: u32) -> Written {
+    Written {
+        number,
+        offset: Some(offset),
+    }
+}
+
+/// The payload that has these entries.
+fn payload(alloc: Global, entries: &[Written]) -> Result<Vec<u8>, OutOfMemory> {
+    let mut bytes = Vec::from_slice(alloc, b"RUN1")?;
+    let count = entries.len() & 0xFFFF_FFFF;
+    bytes.extend_from_slice(&(count as u32).to_be_bytes())?;
+    for entry in entries {
+        append(&mut bytes, entry)?;
+    }
+    let digest = digest_of(&bytes);
+    bytes.extend_from_slice(&digest)?;
+    Ok(bytes)
+}
+
+fn append(bytes: &mut Vec<u8>, entry: &Written) -> Result<(), OutOfMemory> {
+    bytes.extend_from_slice(&shard(entry.number).0)?;
+    match entry.offset {
+        None => bytes.push(0)?,
+        Some(offset) => {
+            bytes.push(1)?;
+            bytes.extend_from_slice(&write_locator(&abc_at(offset)))?;
+        }
+    }
+    Ok(())
+}
+
+#[test]
+fn a_deleted_shard_stays_deleted_behind_a_lost_run(rt: HostRuntime) -> Result<(), Fail> {
+    let newer = read_run(
+        rt.alloc(),
+        &payload(rt.alloc(), &[deleted(1), bound(2, 0)])?,
+    )?;
+    let older = read_run(
+        rt.alloc(),
+        &payload(rt.alloc(), &[bound(1, 0), bound(2, 41)])?,
+    )?;
+    let runs = [None, Some(newer), Some(older)];
+    let map = merge(rt.alloc(), &runs)?;
+    assert_eq!(rt; map.bindings().len(), 1);
+    for binding in map.bindings() {
+        assert_eq!(rt; binding.id(), shard(2));
+        assert_eq!(rt; binding.run(), 1);
+        assert_eq!(rt; binding.locators(), [abc_at(0)].as_slice());
+        assert!(rt; binding.doubtful());
+    }
+    assert!(rt; map.get(&shard(1)).is_none(), "deleted");
+    assert!(rt; map.get(&shard(2)).is_some_and(|binding| binding.run() == 1));
+    assert!(rt; map.get(&shard(3)).is_none(), "in no run");
+    Ok(())
+}
+
+#[test]
+fn no_runs_and_a_lost_run_bind_nothing(rt: HostRuntime) -> Result<(), Fail> {
+    assert!(rt; merge(rt.alloc(), &[])?.bindings().is_empty());
+    let lost: [Option<Run>; 1] = [None];
+    assert!(rt; merge(rt.alloc(), &lost)?.bindings().is_empty());
+    Ok(())
+}
+
+#[test]
+fn two_older_runs_do_not_bring_back_a_deleted_shard(rt: HostRuntime) -> Result<(), Fail> {
+    let newest = read_run(rt.alloc(), &payload(rt.alloc(), &[deleted(1)])?)?;
+    let older = read_run(rt.alloc(), &payload(rt.alloc(), &[bound(1, 0)])?)?;
+    let oldest = read_run(rt.alloc(), &payload(rt.alloc(), &[bound(1, 0)])?)?;
+    let runs = [Some(newest), Some(older), Some(oldest)];
+    assert!(rt; merge(rt.alloc(), &runs)?.bindings().is_empty());
+    Ok(())
+}
+
+#[test]
+fn a_shard_is_doubtful_where_a_newer_run_is_lost(rt: HostRuntime) -> Result<(), Fail> {
+    let older = read_run(rt.alloc(), &payload(rt.alloc(), &[bound(1, 0)])?)?;
+    let runs = [None, Some(older)];
+    let map = merge(rt.alloc(), &runs)?;
+    assert!(rt;
+        map.get(&shard(1))
+            .is_some_and(|binding| binding.doubtful() && binding.run() == 1)
+    );
+    Ok(())
+}
+
+#[test]
+fn a_lost_run_behind_it_leaves_a_shard_undoubted(rt: HostRuntime) -> Result<(), Fail> {
+    let newer = read_run(rt.alloc(), &payload(rt.alloc(), &[bound(1, 0)])?)?;
+    let runs = [Some(newer), None];
+    let map = merge(rt.alloc(), &runs)?;
+    assert!(rt;
+        map.get(&shard(1))
+            .is_some_and(|binding| !binding.doubtful() && binding.run() == 0)
+    );
+    Ok(())
+}
+
+/// The run of 2,000 shards from a number on.
+fn numbered(alloc: Global, first: u32) -> Result<Vec<u8>, OutOfMemory> {
+    let mut entries = Vec::new(alloc);
+    for number in first..first.saturating_add(2000) {
+        entries.push(bound(number, number))?;
+    }
+    payload(alloc, &entries)
+}
+
+#[test]
+fn thirty_two_runs_of_two_thousand_entries(rt: HostRuntime) -> Result<(), Fail> {
+    let mut runs = Vec::new(rt.alloc());
+    for run in 0..32 {
+        runs.push(Some(read_run(rt.alloc(), &numbered(rt.alloc(), 1000 * run)?)?))?;
+    }
+    assert!(rt; runs.len() == 32);
+    let map = merge(rt.alloc(), &runs)?;
+    assert_eq!(rt; map.bindings().len(), 33_000);
+    for (number, binding) in (0..33_000).zip(map.bindings()) {
+        let run = if number < 2000 { 0 } else { number / 1000 - 1 };
+        assert_eq!(rt; binding.id(), shard(number));
+        assert_eq!(rt; binding.run(), run, "shard {number}");
+    }
+    assert!(rt; map.get(&shard(32_999)).is_some());
+    assert!(rt; map.get(&shard(33_000)).is_none());
+    Ok(())
+}

@@ -1,0 +1,162 @@
+-- Bytes that begin with entries: which entries these are.
+use Rattle.std.proofs.Common.{◌≡◌, ◌<◌, ◌≤◌, ◌+◌, ◌*◌, ℕ, List, [], ◌∷◌, ◌++◌, length, drop, get_or, All, arith, refl, sym, ◌∙◌, ap, append_assoc, length-append}
+use Rattle.std.specs.List.{flat_map}
+use Rattle.std.proofs.lemmas.List.{append-nil, drop_at, flat_map_more, get_or_append_left, get_or_at}
+use Rattle.std.proofs.lemmas.List.Elements.{All-drop, All-head, All-push, All-tail}
+use Rattle.std.proofs.lemmas.List.Quantifiers.{all_pairs_push}
+use Rattle.scrub_frame.specs.declared.locator.Locator.{Locator}
+use Rattle.scrub_frame.specs.Locator.{locator_bytes, IsLocator}
+use Rattle.scrub_frame.proofs.Locators.{one_locator_lem}
+use Rattle.scrub_run.specs.Entry.{EntryValue, entry_bytes, IsEntry, IsBelow}
+use Rattle.scrub_run.specs.Run.{RisesById}
+use Rattle.scrub_run.proofs.Parts.{same_cut}
+
+length-locator_bytes : (l : Locator) → IsLocator l → length (locator_bytes l) ≡ 60
+length-locator_bytes l h = omega (arith, length-append l.uuid l.digest, h.uuid, h.digest)
+
+pub length-locators : (ls : List Locator) → All IsLocator ls → length (flat_map locator_bytes ls) ≡ 60 * length ls
+length-locators [] h = omega arith
+length-locators (l ∷ ls) h =
+    omega (arith, length-append (locator_bytes l) (flat_map locator_bytes ls), length-locator_bytes l (All-head IsLocator l ls h), length-locators ls (All-tail IsLocator l ls h))
+
+-- as many locators that are spelled alike are the same
+same_locators : (ls ms : List Locator) → All IsLocator ls → All IsLocator ms → length ls ≡ length ms → flat_map locator_bytes ls ≡ flat_map locator_bytes ms → ls ≡ ms
+same_locators [] [] hl hm count e = refl
+same_locators [] (m ∷ ms) hl hm count e = absurd (omega (arith, count))
+same_locators (l ∷ ls) [] hl hm count e = absurd (omega (arith, count))
+same_locators (l ∷ ls) (m ∷ ms) hl hm count e =
+    let fl : IsLocator l = All-head IsLocator l ls hl in
+    let fm : IsLocator m = All-head IsLocator m ms hm in
+    let cut : (locator_bytes l ≡ locator_bytes m) × (flat_map locator_bytes ls ≡ flat_map locator_bytes ms) =
+    same_cut (locator_bytes l) (locator_bytes m) (flat_map locator_bytes ls) (flat_map locator_bytes ms) (length-locator_bytes l fl ∙ sym (length-locator_bytes m fm)) e in
+    ap (λ z. z ∷ ls) (one_locator_lem l m fl fm cut.0)
+    ∙ ap (λ zs. m ∷ zs) (same_locators ls ms (All-tail IsLocator l ls hl) (All-tail IsLocator m ms hm) (omega (arith, count)) cut.1)
+
+same_value : (e f : EntryValue) → e.id.0 ≡ f.id.0 → e.locators ≡ f.locators → e ≡ f
+same_value e f h k = λ i. record { id = record { 0 = h i }; locators = k i }
+
+-- the bytes of an entry, with what follows them, part by part
+entry_parts : (e : EntryValue) (r : List ℕ) → entry_bytes e ++ r ≡ e.id.0 ++ (length e.locators ∷ (flat_map locator_bytes e.locators ++ r))
+entry_parts e r = append_assoc e.id.0 (length e.locators ∷ flat_map locator_bytes e.locators) r
+
+-- bytes begin with one entry at most
+pub same_entry : (e f : EntryValue) (r s : List ℕ) → IsEntry e → IsEntry f → entry_bytes e ++ r ≡ entry_bytes f ++ s → (e ≡ f) × (r ≡ s)
+same_entry e f r s he hf same = (same_value e f ids.0 (same_locators e.locators f.locators he.each hf.each count spelled.0), spelled.1)
+  where
+    ids : (e.id.0 ≡ f.id.0) × (length e.locators ∷ (flat_map locator_bytes e.locators ++ r) ≡ length f.locators ∷ (flat_map locator_bytes f.locators ++ s))
+    ids = same_cut e.id.0 f.id.0 (length e.locators ∷ (flat_map locator_bytes e.locators ++ r)) (length f.locators ∷ (flat_map locator_bytes f.locators ++ s))
+        (he.sixteen ∙ sym hf.sixteen) (sym (entry_parts e r) ∙ same ∙ entry_parts f s)
+
+    count : length e.locators ≡ length f.locators
+    count = ap (λ t. get_or t 0 0) ids.1
+
+    spelled : (flat_map locator_bytes e.locators ≡ flat_map locator_bytes f.locators) × (r ≡ s)
+    spelled = same_cut (flat_map locator_bytes e.locators) (flat_map locator_bytes f.locators) r s
+        (length-locators e.locators he.each ∙ ap (λ n. 60 * n) count ∙ sym (length-locators f.locators hf.each)) (ap (drop 1) ids.1)
+
+-- the entries ys are xs and then some more, which the rest of the bytes is
+pub record Continues (xs ys : List EntryValue) (rest : List ℕ) : Type 0 where
+  pub more : List EntryValue
+  pub whole : ys ≡ xs ++ more
+  pub rest_is : rest ≡ flat_map entry_bytes more
+
+-- where bytes are the entries ys, and begin with no more entries xs than these, ys begin with xs
+pub continues : (xs ys : List EntryValue) (rest : List ℕ) → All IsEntry xs → All IsEntry ys → length xs ≤ length ys →
+    flat_map entry_bytes xs ++ rest ≡ flat_map entry_bytes ys → Continues xs ys rest
+continues [] ys rest hx hy few e = record { more = ys; whole = refl; rest_is = e }
+continues (x ∷ xs) [] rest hx hy few e = absurd (omega (arith, few))
+continues (x ∷ xs) (y ∷ ys) rest hx hy few e =
+    let cut : (x ≡ y) × (flat_map entry_bytes xs ++ rest ≡ flat_map entry_bytes ys) =
+    same_entry x y (flat_map entry_bytes xs ++ rest) (flat_map entry_bytes ys) (All-head IsEntry x xs hx) (All-head IsEntry y ys hy)
+    (sym (append_assoc (entry_bytes x) (flat_map entry_bytes xs) rest) ∙ e) in
+    let after : Continues xs ys rest = continues xs ys rest (All-tail IsEntry x xs hx) (All-tail IsEntry y ys hy) (omega (arith, few)) cut.1 in
+    record { more = after.more; whole = ap (λ z. z ∷ ys) (sym cut.0) ∙ ap (λ zs. x ∷ zs) after.whole; rest_is = after.rest_is }
+
+-- what stands where, in bytes that begin with an entry
+pub entry_stands : (x : List ℕ) (e : EntryValue) (r : List ℕ) → IsEntry e → x ≡ entry_bytes e ++ r → (get_or x 16 0 ≡ length e.locators) × (17 + 60 * length e.locators ≤ length x)
+entry_stands x e r h same = (ap (λ t. get_or t 16 0) parts ∙ get_or_at e.id.0 (length e.locators) (flat_map locator_bytes e.locators ++ r) 0 16 h.sixteen, long)
+  where
+    parts : x ≡ e.id.0 ++ (length e.locators ∷ (flat_map locator_bytes e.locators ++ r))
+    parts = same ∙ entry_parts e r
+
+    long : 17 + 60 * length e.locators ≤ length x
+    long = omega (
+      arith,
+      ap length parts,
+      length-append e.id.0 (length e.locators ∷ (flat_map locator_bytes e.locators ++ r)),
+      length-append (flat_map locator_bytes e.locators) r,
+      length-locators e.locators h.each,
+      h.sixteen,
+    )
+
+-- so much of the bytes was read: the entries xs, as many as n, with the rest to come
+pub record HasRead (x : List ℕ) (xs : List EntryValue) (rest : List ℕ) (n : ℕ) : Type 0 where
+  pub count : length xs ≡ n
+  pub each : All IsEntry xs
+  pub rising : RisesById xs
+  pub spelled : x ≡ flat_map entry_bytes xs ++ rest
+
+-- one more entry was read, from the front of the rest
+pub read_entry_more : (x : List ℕ) (xs : List EntryValue) (rest text behind : List ℕ) (n : ℕ) (e : EntryValue) → HasRead x xs rest n → IsEntry e →
+    entry_bytes e ≡ text → text ++ behind ≡ rest → All (λ v. IsBelow v.id e.id) xs → HasRead x (xs ++ e ∷ []) behind (n + 1)
+read_entry_more x xs rest text behind n e h he ht hr above = record {
+  count = omega (arith, length-append xs (e ∷ []), h.count);
+  each = All-push IsEntry xs e h.each he;
+  rising = all_pairs_push (λ v w. IsBelow v.id w.id) xs e h.rising above;
+  spelled =
+      h.spelled ∙ ap (λ t. flat_map entry_bytes xs ++ t) (sym hr ∙ ap (λ t. t ++ behind) (sym ht))
+      ∙ sym (append_assoc (flat_map entry_bytes xs) (entry_bytes e) behind)
+      ∙ ap (λ t. t ++ behind) (flat_map_more entry_bytes [] xs e);
+}
+
+-- where as many entries as n or more spell the bytes, they go on with what the rest is
+pub goes_on : (x : List ℕ) (xs ys : List EntryValue) (rest : List ℕ) (n : ℕ) → HasRead x xs rest n → All IsEntry ys → n ≤ length ys → x ≡ flat_map entry_bytes ys → Continues xs ys rest
+goes_on x xs ys rest n h hy few e = continues xs ys rest h.each hy (omega (arith, h.count, few)) (sym h.spelled ∙ e)
+
+-- so where more entries are to come, the rest begins with one
+pub no_entry_more : (x : List ℕ) (xs ys : List EntryValue) (rest : List ℕ) (n : ℕ) → HasRead x xs rest n → All IsEntry ys → n < length ys → x ≡ flat_map entry_bytes ys →
+    ((e : EntryValue) (r : List ℕ) → IsEntry e → rest ≡ entry_bytes e ++ r → ⊥) → ⊥
+no_entry_more x xs ys rest n h hy few e none = by go.more go.whole go.rest_is
+  where
+    go : Continues xs ys rest
+    go = goes_on x xs ys rest n h hy (omega (arith, few)) e
+
+    by : (more : List EntryValue) → ys ≡ xs ++ more → rest ≡ flat_map entry_bytes more → ⊥
+    by [] whole is = omega (arith, few, h.count, ap length whole, length-append xs [])
+    by (m ∷ more) whole is =
+        none m (flat_map entry_bytes more)
+        (All-head IsEntry m more (rw (drop_at xs (m ∷ more) (length xs) refl) at (All-drop IsEntry (length xs) (xs ++ m ∷ more) (rw whole at hy)))) is
+
+-- nor can the next entry be one that isn't above all before it
+pub no_rise : (x : List ℕ) (xs ys : List EntryValue) (rest text behind : List ℕ) (n : ℕ) (e : EntryValue) → HasRead x xs rest n → All IsEntry ys → n < length ys → x ≡ flat_map entry_bytes ys →
+    RisesById ys → IsEntry e → entry_bytes e ≡ text → text ++ behind ≡ rest → All (λ v. IsBelow v.id e.id) xs
+no_rise x xs ys rest text behind n e h hy few same rising he ht hr = by go.more go.whole go.rest_is
+  where
+    go : Continues xs ys rest
+    go = goes_on x xs ys rest n h hy (omega (arith, few)) same
+
+    by : (more : List EntryValue) → ys ≡ xs ++ more → rest ≡ flat_map entry_bytes more → All (λ v. IsBelow v.id e.id) xs
+    by [] whole is = absurd (omega (arith, few, h.count, ap length whole, length-append xs []))
+    by (m ∷ more) whole is = λ k d hk.
+        let next : IsEntry m = All-head IsEntry m more (rw (drop_at xs (m ∷ more) (length xs) refl) at (All-drop IsEntry (length xs) (xs ++ m ∷ more) (rw whole at hy))) in
+        let found : (e ≡ m) × (behind ≡ flat_map entry_bytes more) = same_entry e m behind (flat_map entry_bytes more) he next (ap (λ t. t ++ behind) ht ∙ hr ∙ is) in
+        let pair : IsBelow (get_or ys k d).id (get_or ys (length xs) d).id = rising k (length xs) d hk (omega (arith, few, h.count)) in
+        let here : get_or ys (length xs) d ≡ e = ap (λ t. get_or t (length xs) d) whole ∙ get_or_at xs m more d (length xs) refl ∙ sym found.0 in
+        let before : get_or ys k d ≡ get_or xs k d = ap (λ t. get_or t k d) whole ∙ get_or_append_left xs (m ∷ more) d k hk in
+        rw (here, before) at pair
+
+-- and where all entries were read nothing is left
+pub nothing_left : (x : List ℕ) (xs ys : List EntryValue) (rest : List ℕ) (n : ℕ) → HasRead x xs rest n → All IsEntry ys → length ys ≡ n → x ≡ flat_map entry_bytes ys → length rest ≡ 0
+nothing_left x xs ys rest n h hy count e = by go.more go.whole go.rest_is
+  where
+    go : Continues xs ys rest
+    go = goes_on x xs ys rest n h hy (omega (arith, count)) e
+
+    by : (more : List EntryValue) → ys ≡ xs ++ more → rest ≡ flat_map entry_bytes more → length rest ≡ 0
+    by [] whole is = ap length is
+    by (m ∷ more) whole is = absurd (omega (arith, h.count, count, ap length whole, length-append xs (m ∷ more)))
+
+-- and what was read is then the bytes
+pub all_read : (x : List ℕ) (xs : List EntryValue) (rest : List ℕ) (n : ℕ) → HasRead x xs rest n → length rest ≡ 0 → x ≡ flat_map entry_bytes xs
+all_read x xs [] n h l = h.spelled ∙ append-nil (flat_map entry_bytes xs)
+all_read x xs (b ∷ rest) n h l = absurd (let f : ⊥ = omega (arith, l) in f)

@@ -1,0 +1,92 @@
+-- What is read of a run's bytes, and that nothing else could be.
+use Rattle.std.proofs.Common.{◌≡◌, ◌<◌, ◌≤◌, ◌-◌, ◌^◌, ℕ, List, [], ◌∷◌, ◌++◌, length, take, drop, get_or, All, arith, refl, sym, ◌∙◌, ap, length-append, take-append-drop}
+use Rattle.std.specs.List.{flat_map}
+use Rattle.std.proofs.Math.Seq.{take-add}
+use Rattle.std.proofs.lemmas.List.{append-nil, drop_at, take_at}
+use Rattle.byteorder.specs.Endian.{big_bytes, big_number}
+use Rattle.sha2.specs.Sha256.{sha256}
+use Rattle.sha2.proofs.Facts256.{length-sha256}
+use Rattle.scrub_frame.proofs.Bytes.{bytes-injective, bytes-number_at}
+use Rattle.scrub_run.specs.Entry.{EntryValue, entry_bytes, IsEntry}
+use Rattle.scrub_run.specs.Run.{magic, signed_bytes, RisesById, IsRun}
+use Rattle.scrub_run.proofs.Parts.{same_cut}
+use Rattle.scrub_run.proofs.Entries.{Continues, continues}
+
+-- as many entries that are spelled alike are the same
+same_entries : (xs ys : List EntryValue) → All IsEntry xs → All IsEntry ys → length xs ≡ length ys → flat_map entry_bytes xs ≡ flat_map entry_bytes ys → xs ≡ ys
+same_entries xs ys hx hy count e = sym (go.whole ∙ ap (λ t. xs ++ t) (none go.more nothing) ∙ append-nil xs)
+  where
+    go : Continues xs ys []
+    go = continues xs ys [] hx hy (omega (arith, count)) (append-nil (flat_map entry_bytes xs) ∙ e)
+
+    nothing : length go.more ≡ 0
+    nothing = omega (arith, count, ap length go.whole, length-append xs go.more)
+
+    none : (zs : List EntryValue) → length zs ≡ 0 → zs ≡ []
+    none [] l = refl
+    none (z ∷ zs) l = absurd (let f : ⊥ = omega (arith, l) in f)
+
+-- what stands before its own digest is told by the whole
+pub same_signed : (a b : List ℕ) → a ++ sha256 a ≡ b ++ sha256 b → a ≡ b
+same_signed a b e = (same_cut a b (sha256 a) (sha256 b) (omega (arith, ap length e, length-append a (sha256 a), length-append b (sha256 b), length-sha256 a, length-sha256 b)) e).0
+
+-- a head tells the count, and what follows it
+pub same_head : (n m : ℕ) (x y : List ℕ) → magic ++ (big_bytes 4 n ++ x) ≡ magic ++ (big_bytes 4 m ++ y) → (big_bytes 4 n ≡ big_bytes 4 m) × (x ≡ y)
+same_head n m x y e = same_cut (big_bytes 4 n) (big_bytes 4 m) x y refl (ap (drop 4) e)
+
+-- a payload is the run of one list of entries at most
+pub one_run_lem : (payload : List ℕ) (xs ys : List EntryValue) → IsRun payload xs → IsRun payload ys → xs ≡ ys
+one_run_lem payload xs ys hx hy =
+    same_entries xs ys hx.entries_of_run.each hy.entries_of_run.each
+    (bytes-injective (length xs) (length ys) hx.entries_of_run.count hy.entries_of_run.count head.0) head.1
+  where
+    head : (big_bytes 4 (length xs) ≡ big_bytes 4 (length ys)) × (flat_map entry_bytes xs ≡ flat_map entry_bytes ys)
+    head = same_head (length xs) (length ys) (flat_map entry_bytes xs) (flat_map entry_bytes ys)
+        (same_signed (signed_bytes xs) (signed_bytes ys) (sym hx.spelled ∙ hy.spelled))
+
+-- where a payload isn't something with its own digest behind it
+pub signed_cut : (x s a d : List ℕ) → a ≡ take (length x - 32) x → d ≡ drop (length x - 32) x → x ≡ s ++ sha256 s → (a ≡ s) × (d ≡ sha256 s)
+signed_cut x s a d ha hd e = (
+  ha ∙ ap (take (length x - 32)) e ∙ take_at s (sha256 s) (length x - 32) (sym before),
+  hd ∙ ap (drop (length x - 32)) e ∙ drop_at s (sha256 s) (length x - 32) (sym before),
+)
+  where
+    before : length x - 32 ≡ length s
+    before = omega (arith, ap length e, length-append s (sha256 s), length-sha256 s)
+
+pub no_signed : (x s : List ℕ) → length x < 32 → x ≡ s ++ sha256 s → ⊥
+no_signed x s short e = omega (arith, short, ap length e, length-append s (sha256 s), length-sha256 s)
+
+-- the head that was read: the first four bytes, and the number that the next four spell
+pub head_read : (x first count : List ℕ) (n : ℕ) → ((i : ℕ) → get_or x i 0 < 256) → first ≡ take 4 x → first ≡ magic → count ≡ take 4 (drop 4 x) → 8 ≤ length x → n ≡ big_number 4 count →
+    take 8 x ≡ magic ++ big_bytes 4 n
+head_read x first count n bytes hf hm hc long hn =
+    take-add 4 4 x ∙ ap (λ t. t ++ take 4 (drop 4 x)) (sym hf ∙ hm)
+    ∙ ap (λ t. magic ++ t) (sym (bytes-number_at x 4 n bytes long (hn ∙ ap (big_number 4) hc)))
+
+-- what stands before the digest of a run
+pub signed_of_run : (payload signed : List ℕ) (entries : List EntryValue) → payload ≡ signed ++ sha256 signed → IsRun payload entries → signed ≡ signed_bytes entries
+signed_of_run payload signed entries e h = same_signed signed (signed_bytes entries) (sym e ∙ h.spelled)
+
+-- a run has as many entries as its head claims
+pub count_of_run : (payload signed : List ℕ) (entries : List EntryValue) (n : ℕ) → payload ≡ signed ++ sha256 signed → IsRun payload entries → n < 2 ^ 32 → take 8 signed ≡ magic ++ big_bytes 4 n → length entries ≡ n
+count_of_run payload signed entries n e h small head =
+    bytes-injective (length entries) n h.entries_of_run.count small
+    (ap (drop 4) (sym (ap (take 8) (signed_of_run payload signed entries e h)) ∙ head))
+
+-- and its entries stand behind the head
+pub texts_of_run : (payload signed : List ℕ) (entries : List EntryValue) → payload ≡ signed ++ sha256 signed → IsRun payload entries → drop 8 signed ≡ flat_map entry_bytes entries
+texts_of_run payload signed entries e h = ap (drop 8) (signed_of_run payload signed entries e h)
+
+-- a head, entries behind it and the digest of both are a run
+pub run_read : (payload signed : List ℕ) (entries : List EntryValue) (n : ℕ) → payload ≡ signed ++ sha256 signed → take 8 signed ≡ magic ++ big_bytes 4 n → n < 2 ^ 32 →
+    length entries ≡ n → All IsEntry entries → RisesById entries → drop 8 signed ≡ flat_map entry_bytes entries → IsRun payload entries
+run_read payload signed entries n e head small count each rising texts = record {
+  entries_of_run = record { count = omega (arith, count, small); each = each; rising = rising };
+  spelled = e ∙ ap (λ s. s ++ sha256 s) whole;
+}
+  where
+    whole : signed ≡ signed_bytes entries
+    whole =
+        sym (take-append-drop 8 signed) ∙ ap (λ t. t ++ drop 8 signed) (head ∙ ap (λ k. magic ++ big_bytes 4 k) (sym count))
+        ∙ ap (λ t. (magic ++ big_bytes 4 (length entries)) ++ t) texts

@@ -1,0 +1,11 @@
+-- One more locator is written.
+use Rattle.scrub_frame.specs.Locator.{locator_bytes, IsLocator}
+use Rattle.scrub_run.proofs.Parts.{written_more, fit_more}
+use Rattle.scrub_run.proofs.write.append_locators.Goals as goal
+
+pub loop-locator-preserved : goal.loop-locator-preserved
+loop-locator-preserved c = record {
+  fit = fit_more IsLocator c.args.locators.now c.loop-locator.locator-index c.locator-item.result c.loop-locator-test.true c.locator-item.is c.write_locator.ensures.in_range c.loop-locator.invariant.fit;
+  written = written_more locator_bytes c.args.out.now.items c.loop-locator.out.items c.extend_from_slice.new.self.items c.write_locator.result c.args.locators.now c.loop-locator.locator-index c.locator-item.result
+      c.loop-locator-test.true c.locator-item.is c.write_locator.ensures.bytes c.loop-locator.invariant.written c.in_ok-extend_from_slice.ensures.items;
+}

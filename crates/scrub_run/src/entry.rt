@@ -1,0 +1,46 @@
+//! An entry of an index run. How it stands in a payload is left to `read` and `write`.
+
+ghost use Rattle.std.specs.Prelude.{◌≡◌};
+
+use crate::shard::ShardId;
+use scrub_frame::Locator;
+use std::marker::Model;
+
+/// A shard and the locators of its chunks, as one index run tells of it. An entry without locators says that the shard
+/// was deleted.
+#[derive(Debug, Drop)]
+pub struct Entry {
+    id: ShardId,
+    locators: Vec<Locator>,
+}
+
+impl Model for Entry {
+    ghost use Rattle.scrub_run.specs.Entry.{EntryValue};
+
+    ghost Value = { EntryValue };
+
+    ghost view = { λ e. record { id = e.id; locators = e.locators.items } };
+}
+
+impl Entry {
+    /// An entry of what is handed in. Takes no memory. An entry of a run has at most 64 locators; more may be held here.
+    pub fn new(id: ShardId, locators: Vec<Locator>) -> Entry
+        ensures { result ≡ record { id = id; locators = locators.items } }
+    {
+        Entry { id, locators }
+    }
+
+    /// The identifier of the shard.
+    pub fn id(&self) -> ShardId
+        ensures { result ≡ self.now.id }
+    {
+        self.id
+    }
+
+    /// The locators of the shard's chunks in order: none where the shard was deleted.
+    pub fn locators(&self) -> &[Locator]
+        ensures { result.now ≡ self.now.locators }
+    {
+        self.locators.as_slice()
+    }
+}

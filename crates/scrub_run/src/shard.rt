@@ -1,0 +1,16 @@
+//! Identifiers of shards. What an identifier is bound to is left to `entry`.
+
+ghost use Rattle.std.specs.Prelude.{◌↔◌, IsTrue};
+
+/// The identifier of a shard: sixteen bytes, any values. Identifiers are ordered as bytes, the first byte first.
+#[derive(Debug, Clone, Copy, PartialEq, Eq, PartialOrd, Ord)]
+pub struct ShardId(pub [u8; 16]);
+
+ghost use Rattle.scrub_run.specs.Entry.{IsBelow};
+
+/// Whether an identifier is less than another.
+pub(crate) fn is_below(first: ShardId, second: ShardId) -> bool
+    ensures { IsTrue result ↔ IsBelow first second }
+{
+    first < second
+}

@@ -1,0 +1,336 @@
+//! Worked examples of runs, sound and broken. Their bytes come from the format's description; the digests of the two
+//! vectors were made by another program.
+
+ghost use Rattle.std.specs.Prelude.{◌≡◌, ◌≢◌, IfOk, Err};
+
+use crate::*;
+use scrub_frame::{Locator, digest_of, read_locator};
+use std::alloc::Global;
+use std::test::Fail;
+
+/// The run of one shard, which has the chunk of `abc` at extent 1, offset 0.
+const ONE_SHARD: [u8; 117] = [
+    0x52, 0x55, 0x4e, 0x31, 0x00, 0x00, 0x00, 0x01, 0x00, 0x00, 0x00, 0x00, 0x00, 0x00, 0x00, 0x00,
+    0x00, 0x00, 0x00, 0x00, 0x00, 0x00, 0x00, 0x01, 0x01, 0x00, 0x00, 0x00, 0x01, 0x00, 0x00, 0x00,
+    0x00, 0x00, 0x00, 0x00, 0x03, 0x11, 0x11, 0x11, 0x11, 0x11, 0x11, 0x11, 0x11, 0x11, 0x11, 0x11,
+    0x11, 0x11, 0x11, 0x11, 0x11, 0xba, 0x78, 0x16, 0xbf, 0x8f, 0x01, 0xcf, 0xea, 0x41, 0x41, 0x40,
+    0xde, 0x5d, 0xae, 0x22, 0x23, 0xb0, 0x03, 0x61, 0xa3, 0x96, 0x17, 0x7a, 0x9c, 0xb4, 0x10, 0xff,
+    0x61, 0xf2, 0x00, 0x15, 0xad, 0xb4, 0x9d, 0x3a, 0xcd, 0xf7, 0x59, 0x9e, 0x0e, 0x61, 0x1b, 0x32,
+    0xf1, 0x79, 0xab, 0x8a, 0xb6, 0x8e, 0xa5, 0x3e, 0x82, 0xe6, 0x49, 0xda, 0x20, 0xc0, 0xf9, 0x94,
+    0x81, 0xd0, 0x11, 0x0e, 0x8d,
+];
+
+/// The run of no entries.
+const NO_ENTRIES: [u8; 40] = [
+    0x52, 0x55, 0x4e, 0x31, 0x00, 0x00, 0x00, 0x00, 0x9a, 0x61, 0x1d, 0x9f, 0xb7, 0x17, 0x61, 0xfb,
+    0x2e, 0x22, 0x99, 0xe2, 0xf7, 0xe3, 0x46, 0xc4, 0xea, 0x61, 0xd8, 0xe2, 0x52, 0x97, 0x40, 0x4a,
+    0xeb, 0x68, 0xd5, 0x4d, 0x2e, 0xef, 0xb7, 0x96,
+];
+
+/// The locator in `ONE_SHARD`, as bytes.
+const ABC_LOCATOR: [u8; 60] = [
+    0x00, 0x00, 0x00, 0x01, 0x00, 0x00, 0x00, 0x00, 0x00, 0x00, 0x00, 0x03, 0x11, 0x11, 0x11, 0x11,
+    0x11, 0x11, 0x11, 0x11, 0x11, 0x11, 0x11, 0x11, 0x11, 0x11, 0x11, 0x11, 0xba, 0x78, 0x16, 0xbf,
+    0x8f, 0x01, 0xcf, 0xea, 0x41, 0x41, 0x40, 0xde, 0x5d, 0xae, 0x22, 0x23, 0xb0, 0x03, 0x61, 0xa3,
+    0x96, 0x17, 0x7a, 0x9c, 0xb4, 0x10, 0xff, 0x61, 0xf2, 0x00, 0x15, 0xad,
+];
+
+/// That locator.
+fn abc() -> Locator {
+    read_locator(&ABC_LOCATOR)
+}
+
+/// The identifier of fifteen zero bytes and this one.
+fn shard(last: u8) -> ShardId {
+    let mut bytes = [0; 16];
+    bytes[15] = last;
+    ShardId(bytes)
+}
+
+/// The bytes, with their digest behind them.
+fn signed(mut bytes: Vec<u8>) -> Result<Vec<u8>, OutOfMemory> {
+    let digest = digest_of(&bytes);
+    bytes.extend_from_slice(&digest)?;
+    Ok(bytes)
+}
+
+/// An entry as a test writes it: the last byte of its identifier, the number of locators that it claims, and the number
+/// of locators that follow, each the one of `abc`.
+#[derive(Clone, Copy)]
+struct Written {
+    last: u8,
+    claimed: u8,
+    present: usize,
+}
+
+/// An entry that has as many locators as it claims.
+fn sound(last: u8, locators: u8) -> Written {
+    Written {
+        last,
+        claimed: locators,
+        present: locators as usize,
+    }
+}
+
+/// The payload that claims so many entries and has these, with its digest.
+fn payload(alloc: Global, claimed: u32, entries: &[Written]) -> Result<Vec<u8>, OutOfMemory> {
+    let mut bytes = Vec::from_slice(alloc, b"RUN1")?;
+    bytes.extend_from_slice(&claimed.to_be_bytes())?;
+    for entry in entries {
+        append(&mut bytes, entry)?;
+    }
+    signed(bytes)
+}
+
+fn append(bytes: &mut Vec<u8>, entry: &Written) -> Result<(), OutOfMemory> {
+    bytes.extend_from_slice(&shard(entry.last).0)?;
+    bytes.push(entry.claimed)?;
+    for _ in 0..entry.present {
+        bytes.extend_from_slice(&ABC_LOCATOR)?;
+    }
+    Ok(())
+}
+
+/// A payload of more than 32 bytes with one byte changed and its digest made anew.
+fn changed(alloc: Global, payload: &[u8], place: usize, byte: u8) -> Result<Vec<u8>, OutOfMemory> {
+    let mut bytes = Vec::from_slice(alloc, payload)?;
+    bytes.truncate(payload.len().saturating_sub(32));
+    if place < bytes.len() {
+        bytes[place] = byte;
+    }
+    signed(bytes)
+}
+
+/// Why no run is read, if none is.
+fn fault(alloc: Global, payload: &[u8]) -> Option<RunFault> {
+    read_run(alloc, payload).err()
+}
+
+#[test]
+fn the_run_of_one_shard_is_written(rt: HostRuntime) -> Result<(), Fail> {
+    let locators = Vec::from_slice(rt.alloc(), &[abc()])?;
+    let entries = [Entry::new(shard(1), locators)];
+    let bytes = write_run(rt.alloc(), &entries)?;
+    assert_eq!(rt; bytes.as_slice(), ONE_SHARD.as_slice());
+    Ok(())
+}
+
+#[test]
+fn the_run_of_one_shard_is_read(rt: HostRuntime) -> Result<(), Fail> {
+    let run = read_run(rt.alloc(), &ONE_SHARD)?;
+    assert_eq!(rt; run.entries().len(), 1);
+    for entry in run.entries() {
+        assert_eq!(rt; entry.id(), shard(1));
+        assert_eq!(rt; entry.locators(), [abc()].as_slice());
+    }
+    Ok(())
+}
+
+#[test]
+fn a_run_of_no_entries_has_40_bytes(rt: HostRuntime) -> Result<(), Fail> {
+    let bytes = write_run(rt.alloc(), &[])?;
+    assert_eq!(rt; bytes.as_slice(), NO_ENTRIES.as_slice());
+    let run = read_run(rt.alloc(), &NO_ENTRIES)?;
+    assert!(rt; run.entries().is_empty());
+    Ok(())
+}
+
+#[test]
+fn a_deleted_shard_has_no_locators(rt: HostRuntime) -> Result<(), Fail> {
+    let bytes = payload(rt.alloc(), 1, &[sound(1, 0)])?;
+    assert_eq!(rt; bytes.len(), 57);
+    let run = read_run(rt.alloc(), &bytes)?;
+    assert_eq!(rt; run.entries().len(), 1);
+    assert!(rt;
+        run.entries()
+            .iter()
+            .all(|entry| entry.locators().is_empty())
+    );
+    Ok(())
+}
+
+#[test]
+fn an_entry_keeps_its_locators_in_order(rt: HostRuntime) -> Result<(), Fail> {
+    let moved = Locator {
+        offset: 41,
+        ..abc()
+    };
+    let kept = [moved, abc(), moved];
+    let entry = Entry::new(shard(2), Vec::from_slice(rt.alloc(), &kept)?);
+    assert_eq!(rt; entry.id(), shard(2));
+    assert_eq!(rt; entry.locators(), kept.as_slice());
+    Ok(())
+}
+
+#[test]
+fn identifiers_are_ordered_as_bytes(rt: HostRuntime) {
+    let mut first = [0xFF; 16];
+    first[0] = 0x7F;
+    let mut second = [0; 16];
+    second[0] = 0x80;
+    assert!(rt; ShardId(first) < ShardId(second), "the first byte decides");
+    assert!(rt; shard(1) < shard(2), "else a later one");
+    assert!(rt; shard(0x7F) < shard(0x80), "without a sign");
+    assert!(rt; shard(0xFF) < ShardId(first));
+}
+
+#[test]
+fn a_run_with_one_byte_changed_is_none(rt: HostRuntime) -> Result<(), Fail> {
+    let bytes = payload(rt.alloc(), 2, &[sound(1, 1), sound(2, 1)])?;
+    assert_eq!(rt; bytes.len(), 194);
+    assert_eq!(rt; fault(rt.alloc(), &bytes), None);
+    for (what, place, byte) in [
+        ("another magic", 3, b'2'),
+        ("a count one less", 7, 1),
+        ("a count one more", 7, 3),
+        ("a count far too great", 4, 0xFF),
+        ("two equal identifiers", 100, 1),
+        ("falling identifiers", 100, 0),
+        ("a first entry that claims no locator", 24, 0),
+        ("a first entry that claims two", 24, 2),
+        ("a last entry that claims no locator", 101, 0),
+        ("a last entry that claims two", 101, 2),
+    ] {
+        let broken = changed(rt.alloc(), &bytes, place, byte)?;
+        assert_eq!(rt;
+            fault(rt.alloc(), &broken),
+            Some(RunFault::NotARun),
+            "{what}"
+        );
+    }
+    let same = changed(rt.alloc(), &bytes, 3, b'1')?;
+    assert_eq!(rt; fault(rt.alloc(), &same), None, "no byte changed");
+    Ok(())
+}
+
+#[test]
+fn a_run_with_another_digest_is_none(rt: HostRuntime) {
+    let mut bytes = ONE_SHARD;
+    assert_eq!(rt; fault(rt.alloc(), &bytes), None);
+    bytes[116] ^= 1;
+    assert_eq!(rt;
+        fault(rt.alloc(), &bytes),
+        Some(RunFault::NotARun),
+        "its last bit changed"
+    );
+    bytes[116] ^= 1;
+    bytes[40] ^= 1;
+    assert_eq!(rt;
+        fault(rt.alloc(), &bytes),
+        Some(RunFault::NotARun),
+        "a locator changed"
+    );
+}
+
+#[test]
+fn a_run_ends_with_its_digest(rt: HostRuntime) -> Result<(), Fail> {
+    let mut longer = Vec::from_slice(rt.alloc(), &ONE_SHARD)?;
+    longer.push(0)?;
+    assert_eq!(rt;
+        fault(rt.alloc(), &longer),
+        Some(RunFault::NotARun),
+        "one byte behind it"
+    );
+    assert_eq!(rt;
+        fault(rt.alloc(), &ONE_SHARD[..116]),
+        Some(RunFault::NotARun),
+        "its last byte cut off"
+    );
+    assert_eq!(rt; fault(rt.alloc(), &[]), Some(RunFault::NotARun), "no bytes");
+    let mut inner = Vec::from_slice(rt.alloc(), &ONE_SHARD[..85])?;
+    inner.push(0)?;
+    let inner = signed(inner)?;
+    assert_eq!(rt;
+        fault(rt.alloc(), &inner),
+        Some(RunFault::NotARun),
+        "one byte before it"
+    );
+    Ok(())
+}
+
+#[test]
+fn an_entry_has_at_most_64_locators(rt: HostRuntime) -> Result<(), Fail> {
+    let most = payload(rt.alloc(), 1, &[sound(1, 64)])?;
+    assert_eq!(rt; fault(rt.alloc(), &most), None);
+    let more = payload(rt.alloc(), 1, &[sound(1, 65)])?;
+    assert_eq!(rt; fault(rt.alloc(), &more), Some(RunFault::NotARun));
+    let missing = Written {
+        last: 1,
+        claimed: 64,
+        present: 63,
+    };
+    let fewer = payload(rt.alloc(), 1, &[missing])?;
+    assert_eq!(rt; fault(rt.alloc(), &fewer), Some(RunFault::NotARun));
+    Ok(())
+}
+
+/// No list of that many entries could be held: the count alone makes no list grow.
+#[test]
+fn forty_bytes_claim_the_greatest_count(rt: HostRuntime) -> Result<(), Fail> {
+    let bytes = payload(rt.alloc(), 4_294_967_295, &[])?;
+    assert_eq!(rt; bytes.len(), 40);
+    assert_eq!(rt; fault(rt.alloc(), &bytes), Some(RunFault::NotARun));
+    Ok(())
+}
+
+/// A run that is read is written again byte for byte, whatever it is: this follows from the contracts alone.
+fn read_and_written(alloc: Global, payload: &[u8]) -> Result<Vec<u8>, RunFault>
+    ensures { IfOk result (λ out. out.items ≡ payload.now) }
+{
+    let run = read_run(alloc, payload)?;
+    write_run(alloc, run.entries()).map_err(|_| RunFault::OutOfMemory)
+}
+
+ghost use Rattle.std.specs.Prelude.{◌<◌, ◌≤◌, ◌^◌, All, length};
+ghost use Rattle.scrub_run.specs.Run.{RisesById};
+
+/// Entries that are written are read again, whatever they are.
+fn written_and_read(alloc: Global, entries: &[Entry]) -> Result<Run, RunFault>
+    requires rising { RisesById entries.now }
+    requires few { All (λ e. length e.locators ≤ 64) entries.now }
+    requires count { length entries.now < 2 ^ 32 }
+    ensures again { IfOk result (λ run. run ≡ entries.now) }
+    ensures a_run { result ≢ Err RunFault.NotARun }
+{
+    let Ok(bytes) = write_run(alloc, entries) else {
+        return Err(RunFault::OutOfMemory);
+    };
+    read_run(alloc, &bytes)
+}
+
+#[test]
+fn two_shards_are_written_and_read(rt: HostRuntime) -> Result<(), Fail> {
+    let first = read_run(
+        rt.alloc(),
+        &payload(rt.alloc(), 2, &[sound(1, 0), sound(2, 1)])?,
+    )?;
+    let again = written_and_read(rt.alloc(), first.entries())?;
+    assert_eq!(rt; again.entries().len(), 2);
+    assert_eq!(rt; again.entries()[0].id(), shard(1));
+    assert!(rt; again.entries()[0].locators().is_empty());
+    assert_eq!(rt; again.entries()[1].id(), shard(2));
+    assert_eq!(rt; again.entries()[1].locators(), [abc()].as_slice());
+    Ok(())
+}
+
+/// A run of so many entries, each with the locator of `abc`; their identifiers are twelve zero bytes and a number.
+fn many(alloc: Global, count: u32) -> Result<Vec<u8>, OutOfMemory> {
+    let mut bytes = Vec::from_slice(alloc, b"RUN1")?;
+    bytes.extend_from_slice(&count.to_be_bytes())?;
+    for number in 0..count {
+        bytes.extend_from_slice(&[0; 12])?;
+        bytes.extend_from_slice(&number.to_be_bytes())?;
+        bytes.push(1)?;
+        bytes.extend_from_slice(&ABC_LOCATOR)?;
+    }
+    signed(bytes)
+}
+
+#[test]
+fn twenty_thousand_entries_are_read_and_written(rt: HostRuntime) -> Result<(), Fail> {
+    let bytes = many(rt.alloc(), 20_000)?;
+    assert_eq!(rt; bytes.len(), 1_540_040);
+    let written = read_and_written(rt.alloc(), &bytes)?;
+    assert_eq!(rt; written.as_slice(), bytes.as_slice());
+    Ok(())
+}
