@@ -1,0 +1,55 @@
+-- Unreadable pages, and the bytes on them.
+use Rattle.std.proofs.Common.{◌≡◌, ◌<◌, ◌≤◌, ◌+◌, ◌-◌, ◌/◌, ◌%◌, ℕ, List, true, length, get_or, arith, refl, sym, ◌∙◌, ap, Option, Some, None, is_none}
+use Rattle.std.proofs.Math.Nat.{mod-lt}
+use Rattle.std.proofs.lemmas.Nat.{div-add-mod', div_below}
+use Rattle.scrub_disk.specs.Image.{Image, byte, extent_bytes, unreadable_pages, HasWholePages}
+use Rattle.scrub_disk.proofs.HeldBytes.{byte-page, byte-unreadable}
+use Rattle.scrub_scan.specs.Extent.{HasGap}
+use Rattle.scrub_scan.proofs.PlacePages.{page_rises, place_in_page}
+use Rattle.scrub_check.proofs.Filtered.{filtered_has, filtered_is}
+use Rattle.scrub_check.proofs.Searches.{LiesBetween}
+
+none_is : {A : Type 0} (o : Option A) → is_none o ≡ true → o ≡ None
+none_is None e = refl
+none_is (Some x) e = absurd (let no_such : ⊥ = cc in no_such)
+
+-- a byte of a whole page can be read
+page_byte : (image : Image) (e i : ℕ) (o : Option (List ℕ)) → HasWholePages image → e < image.geometry.extents → i < extent_bytes image.geometry → image.page e (i / image.geometry.page) ≡ o → byte image e i ≡ None → is_none o ≡ true
+page_byte image e i None whole he hi is gap = refl
+page_byte image e i (Some bytes) whole he hi is gap =
+    let pos : 0 < image.geometry.page = omega (arith, image.geometry.page_size.least) in
+    let q : i / image.geometry.page < image.geometry.pages = div_below i image.geometry.page image.geometry.pages pos (omega (arith, hi)) in
+    let l : length bytes ≡ image.geometry.page = whole e (i / image.geometry.page) bytes he q is in
+    let there : byte image e i ≡ Some (get_or bytes (i % image.geometry.page) 0) =
+    ap (byte image e) (sym (div-add-mod' i image.geometry.page)) ∙ byte-page image e (i / image.geometry.page) (i % image.geometry.page) bytes is l q (mod-lt i pos) in
+    let no_such : Some (get_or bytes (i % image.geometry.page) 0) ≡ None = sym there ∙ gap in absurd (let f : ⊥ = cc in f)
+
+-- one of the bytes from `start` up to `end` can't be read exactly where one of their pages can't
+pub gap_pages : (image : Image) (e start size page first last : ℕ) → HasWholePages image → e < image.geometry.extents → start + size ≤ extent_bytes image.geometry → 0 < size →
+    page ≡ image.geometry.page → first ≡ start / page → last ≡ (start + size - 1) / page →
+    LiesBetween (unreadable_pages image e) first last → HasGap (byte image e) start size
+gap_pages image e start size page first last whole he fits some hp hf hl (q, there, low, high) =
+    let pos : 0 < page = omega (arith, hp, image.geometry.page_size.least) in
+    let is = filtered_is (λ p. is_none (image.page e p)) 0 image.geometry.pages q there in
+    let place = place_in_page q start (start + size) page pos (omega (arith, some)) (omega (arith, low, hf)) (omega (arith, high, hl)) in
+    record {
+      place = place.0;
+      low = place.1;
+      high = place.2;
+      unreadable = byte-unreadable image e place.0 (ap (image.page e) (ap (λ p. place.0 / p) (sym hp) ∙ place.3) ∙ none_is (image.page e q) is.2);
+    }
+
+pub pages_gap : (image : Image) (e start size page first last : ℕ) → HasWholePages image → e < image.geometry.extents → start + size ≤ extent_bytes image.geometry → 0 < size →
+    page ≡ image.geometry.page → first ≡ start / page → last ≡ (start + size - 1) / page →
+    HasGap (byte image e) start size → LiesBetween (unreadable_pages image e) first last
+pages_gap image e start size page first last whole he fits some hp hf hl gap =
+    let pos : 0 < page = omega (arith, hp, image.geometry.page_size.least) in
+    let inside : gap.place < extent_bytes image.geometry = omega (arith, gap.high, fits) in
+    let none : is_none (image.page e (gap.place / image.geometry.page)) ≡ true = page_byte image e gap.place (image.page e (gap.place / image.geometry.page)) whole he inside refl gap.unreadable in
+    let q : gap.place / image.geometry.page < image.geometry.pages = div_below gap.place image.geometry.page image.geometry.pages (omega (arith, pos, hp)) (omega (arith, inside)) in
+    let same : gap.place / image.geometry.page ≡ gap.place / page = ap (λ p. gap.place / p) (sym hp) in (
+      gap.place / image.geometry.page,
+      filtered_has (λ p. is_none (image.page e p)) 0 image.geometry.pages (gap.place / image.geometry.page) (omega arith) (omega (arith, q)) none,
+      omega (arith, page_rises start gap.place page pos gap.low, same, hf),
+      omega (arith, page_rises gap.place (start + size - 1) page pos (omega (arith, gap.high)), same, hl),
+    )

@@ -1,0 +1,10 @@
+pub mod Searches
+pub mod Filtered
+pub mod Starts
+pub mod Gaps
+pub mod PlannedFindings
+pub mod Judged
+pub mod Payloads
+pub mod RunStates
+pub mod Listed
+pub mod NamedLists

@@ -1,0 +1,30 @@
+-- The starts of the items of a tiling.
+use Rattle.std.proofs.Common.{◌<◌, ◌+◌, ℕ, zero, suc, List, [], ◌∷◌, map, get_or, arith, subst, All}
+use Rattle.std.specs.List.{Contains}
+use Rattle.std.specs.List.Sorted.{IsStrictlyIncreasing}
+use Rattle.std.proofs.lemmas.List.Elements.{All-head, All-tail}
+use Rattle.scrub_scan.specs.declared.item.Item.{Item}
+use Rattle.scrub_scan.specs.Extent.{Extent}
+use Rattle.scrub_scan.specs.Item.{start_of, stop_of, IsItem}
+use Rattle.scrub_scan.specs.Tiling.{Joins, IsTiling}
+use Rattle.scrub_scan.proofs.Tilings.{advances, one_tiling}
+use Rattle.scrub_check.specs.Status.{BeginsAt}
+
+-- they rise
+pub starts_rise : (x : Extent) (items : List Item) → 0 < x.page → IsTiling x items → IsStrictlyIncreasing (map start_of items)
+starts_rise x items pos h = go 0 items h.joined h.each
+  where
+    go : (a : ℕ) (is : List Item) → Joins a x.pointer is → All (IsItem x) is → IsStrictlyIncreasing (map start_of is)
+    go a [] j each k hk = absurd (omega arith)
+    go a (i ∷ []) j each k hk = absurd (omega arith)
+    go a (i ∷ next ∷ is) j each zero hk =
+        let one = advances x i pos (All-head (IsItem x) i (next ∷ is) each) in omega (arith, one.0, j.1.0)
+    go a (i ∷ next ∷ is) j each (suc k) hk =
+        let more : get_or (map start_of (next ∷ is)) k 0 < get_or (map start_of (next ∷ is)) (k + 1) 0 = go (stop_of i) (next ∷ is) j.1 (All-tail (IsItem x) i (next ∷ is) each) k (omega (arith, hk)) in
+        subst (λ (n : ℕ). get_or (map start_of (next ∷ is)) k 0 < get_or (map start_of (i ∷ next ∷ is)) n 0) {x = suc (k + 1)} (omega arith) more
+
+pub begins : (x : Extent) (items : List Item) (p : ℕ) → IsTiling x items → Contains (map start_of items) p → BeginsAt x p
+begins x items p tiled there = record { items = items; tiled = tiled; begins = there }
+
+pub begins_among : (x : Extent) (items : List Item) (p : ℕ) → 0 < x.page → IsTiling x items → BeginsAt x p → Contains (map start_of items) p
+begins_among x items p pos tiled b = subst (λ (is : List Item). Contains (map start_of is) p) (one_tiling x b.items items pos b.tiled tiled) b.begins

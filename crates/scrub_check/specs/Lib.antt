@@ -1,0 +1,4 @@
+-- The words of this crate's contracts.
+pub mod Status
+pub mod Runs
+pub mod Named

@@ -1,0 +1,82 @@
+-- What a locator is worth: the first line of the table that applies to it. It is judged at its own place; only the step
+-- from hidden to sound asks the tiling.
+use Rattle.std.specs.Prelude.{◌≡◌, ◌≢◌, ◌<◌, ◌≤◌, ◌+◌, ℕ, List, map, Contains}
+use Rattle.std.specs.Prelude.{length as len}
+use Rattle.sha2.specs.Sha256.{sha256}
+use Rattle.scrub_disk.specs.declared.geometry.Geometry.{Geometry}
+use Rattle.scrub_disk.specs.Image.{Image, byte, extent_bytes}
+use Rattle.scrub_frame.specs.declared.locator.Locator.{Locator}
+use Rattle.scrub_scan.specs.declared.item.Item.{Item}
+use Rattle.scrub_scan.specs.Extent.{Extent, extent_of, FrameAt, NoFrameAt, HasGap}
+use Rattle.scrub_scan.specs.Item.{start_of}
+use Rattle.scrub_scan.specs.Tiling.{IsTiling}
+use Rattle.scrub_scan.specs.declared.standing.Standing.{Standing}
+use Rattle.scrub_check.specs.declared.status.Status.{Status}
+use Rattle.scrub_check.specs.declared.status.Status.TheVariants.{OutOfRange, PastPointer, Unreadable, NoFrame, WrongUuid, WrongLength, WrongDigest, Hidden, Sound}
+
+-- where the frame that a locator names would end
+abbrev pub end_of : Locator → ℕ
+end_of l = l.offset + l.length + 38
+
+-- it would lie in one of the extents that chunks are written to
+pub record InRange (g : Geometry) (l : Locator) : Type 0 where
+  pub from_one : 1 ≤ l.extent
+  pub in_disk : l.extent < g.extents
+  pub in_extent : end_of l ≤ extent_bytes g
+
+-- it would end at or before the pointer
+abbrev pub BelowPointer : ℕ → Locator → Type 0
+BelowPointer w l = end_of l ≤ w
+
+-- one of its bytes can't be read
+abbrev pub IsUnreadable : Image → Locator → Type 0
+IsUnreadable image l = HasGap (byte image l.extent) l.offset (l.length + 38)
+
+-- it would lie where it can be read, in range and below the pointer
+pub record CanStand (image : Image) (w : ℕ) (l : Locator) : Type 0 where
+  pub in_range : InRange image.geometry l
+  pub below : BelowPointer w l
+  pub readable : ¬ IsUnreadable image l
+
+-- the frame of u and b stands at its place
+pub record FindsFrame (image : Image) (w : ℕ) (l : Locator) (u b : List ℕ) : Type 0 where
+  pub can : CanStand image w l
+  pub frame : FrameAt (extent_of image l.extent w) l.offset u b
+
+-- an item of the tiling begins at a place
+pub record BeginsAt (x : Extent) (p : ℕ) : Type 0 where
+  pub items : List Item
+  pub tiled : IsTiling x items
+  pub begins : Contains (map start_of items) p
+
+-- a chunk as the locator tells it stands at its place
+pub record NamesChunk (image : Image) (w : ℕ) (l : Locator) : Type 0 where
+  pub payload : List ℕ
+  pub found : FindsFrame image w l l.uuid payload
+  pub length : len payload ≡ l.length
+  pub digest : sha256 payload ≡ l.digest
+
+-- the status of a locator in an image, under the write pointer of its extent
+abbrev pub HasStatus : Image → ℕ → Locator → Status → Type 0
+HasStatus image w l OutOfRange = ¬ InRange image.geometry l
+HasStatus image w l PastPointer = InRange image.geometry l × ¬ BelowPointer w l
+HasStatus image w l Unreadable = InRange image.geometry l × BelowPointer w l × IsUnreadable image l
+HasStatus image w l NoFrame = CanStand image w l × NoFrameAt (extent_of image l.extent w) l.offset
+HasStatus image w l WrongUuid = (u : List ℕ) × ((b : List ℕ) × FindsFrame image w l u b × (u ≢ l.uuid))
+HasStatus image w l WrongLength = (b : List ℕ) × FindsFrame image w l l.uuid b × (len b ≢ l.length)
+HasStatus image w l WrongDigest = (b : List ℕ) × FindsFrame image w l l.uuid b × (len b ≡ l.length) × (sha256 b ≢ l.digest)
+HasStatus image w l Hidden = NamesChunk image w l × ¬ BeginsAt (extent_of image l.extent w) l.offset
+HasStatus image w l Sound = NamesChunk image w l × BeginsAt (extent_of image l.extent w) l.offset
+
+-- the frame that stands at its place isn't the one that it names, for the first reason that applies
+abbrev pub IsMismatch : Locator → Standing → Status → Type 0
+IsMismatch l s WrongUuid = s.uuid ≢ l.uuid
+IsMismatch l s WrongLength = (s.uuid ≡ l.uuid) × (s.length ≢ l.length)
+IsMismatch l s WrongDigest = (s.uuid ≡ l.uuid) × (s.length ≡ l.length) × (s.digest ≢ l.digest)
+IsMismatch l s _ = ⊥
+
+-- it is the one that it names
+pub record Agrees (l : Locator) (s : Standing) : Type 0 where
+  pub uuid : s.uuid ≡ l.uuid
+  pub length : s.length ≡ l.length
+  pub digest : s.digest ≡ l.digest

@@ -1,0 +1,160 @@
+//! What a locator is worth: whether the chunk that it names stands at its place.
+
+ghost use Rattle.std.specs.Prelude.{◌≡◌, ◌≤◌, ◌<◌, ◌+◌, ◌-◌, ◌/◌, ◌↔◌, ℕ, IfOk, IfSome, IfNone, IsTrue, Contains, map, length, slice_index};
+ghost use Rattle.std.specs.List.{range_with_len};
+ghost use Rattle.std.specs.List.Sorted.{IsStrictlyIncreasing};
+ghost use Rattle.sha2.specs.Sha256.{sha256};
+ghost use Rattle.scrub_disk.specs.Image.{Image, extent_bytes, unreadable_pages};
+ghost use Rattle.scrub_super.specs.Plan.{geometry_of, planned, pointer_of};
+ghost use Rattle.scrub_super.specs.declared.plan.Plan.{Plan};
+ghost use Rattle.scrub_scan.specs.Findings.{IsFindings};
+ghost use Rattle.scrub_scan.specs.Item.{start_of};
+ghost use Rattle.scrub_check.specs.Status.{end_of, InRange, IsUnreadable, IsMismatch, Agrees, HasStatus};
+ghost use Rattle.scrub_scan.specs.OneReader.{IsOneReader, image_of_all, all_found};
+
+use scrub_disk::{Geometry, OutOfMemory, PageSource};
+use scrub_frame::Locator;
+use scrub_scan::{AllFindings, Findings, Item, Standing, frame_stands};
+use scrub_super::Plan;
+use std::alloc::Global;
+
+/// What a locator is worth: the first of these that applies.
+#[derive(Debug, Clone, Copy, PartialEq, Eq)]
+pub enum Status {
+    /// It names extent 0 or none of the disk, or its frame would end past the extent.
+    OutOfRange,
+    /// Its frame would end past the write pointer.
+    PastPointer,
+    /// A page with a byte of its frame is unreadable.
+    Unreadable,
+    /// No frame stands at its place.
+    NoFrame,
+    /// The frame there has another UUID.
+    WrongUuid,
+    /// The payload there has another length.
+    WrongLength,
+    /// The payload there has another SHA-256.
+    WrongDigest,
+    /// The chunk stands there, but the tiling stepped past it: no item begins at its place.
+    Hidden,
+    /// The chunk stands there, and an item of the tiling begins at its place.
+    Sound,
+}
+
+/// The bytes of a frame round its payload.
+const FRAME_OVERHEAD: u64 = 38;
+
+/// Where the frame that a locator names would end, in bytes of the extent.
+fn end_of(locator: &Locator) -> u64
+    ensures { result ≡ end_of locator.now }
+{
+    locator.offset as u64 + locator.length as u64 + FRAME_OVERHEAD
+}
+
+/// Whether one of the pages from the first through the last is among some that rise.
+fn has_page_between(pages: &[u32], first: u32, last: u32) -> bool
+    requires { IsStrictlyIncreasing pages.now }
+    ensures { IsTrue result ↔ ((q : ℕ) × Contains pages.now q × (first ≤ q) × (q ≤ last)) }
+{
+    let i = pages.partition_point(|page| *page < first);
+    i < pages.len() && pages[i] <= last
+}
+
+/// Whether an item begins at a place.
+fn begins_at(items: &[Item], place: u32) -> bool
+    requires { IsStrictlyIncreasing (map start_of items.now) }
+    ensures { IsTrue result ↔ Contains (map start_of items.now) place }
+{
+    items
+        .binary_search_by_key(&place, |item| item.start())
+        .is_ok()
+}
+
+/// Whether the frame that a locator names would lie in one of the extents that chunks are written to.
+fn lies_in_range(geometry: Geometry, locator: &Locator) -> bool
+    ensures { IsTrue result ↔ InRange geometry locator.now }
+{
+    locator.extent >= 1
+        && locator.extent < geometry.extents()
+        && end_of(locator) <= geometry.extent_bytes() as u64
+}
+
+/// Why a frame isn't the one that a locator names, or `None` where it is.
+fn mismatch(locator: &Locator, standing: &Standing) -> Option<Status>
+    ensures other { IfSome result (IsMismatch locator.now standing.now) }
+    ensures same { IfNone result (Agrees locator.now standing.now) }
+{
+    if standing.uuid != locator.uuid {
+        return Some(Status::WrongUuid);
+    }
+    if standing.length != locator.length {
+        return Some(Status::WrongLength);
+    }
+    if standing.digest != locator.digest {
+        return Some(Status::WrongDigest);
+    }
+    None
+}
+
+/// The findings of a planned extent.
+fn findings_of<'a, D: PageSource>(all: &'a AllFindings<'_, D>, extent: u32) -> &'a Findings
+    requires { Contains (map (λ f. f.extent) (all_found all.now)) extent }
+    ensures { (image : Image) (plan : Plan) → IsOneReader image plan (all_found all.now) → IsFindings image extent (pointer_of plan extent) result.now }
+{
+    match all.of_extent(extent) {
+        Some(findings) => findings,
+        None => unreachable!(),
+    }
+}
+
+/// Whether a byte of the frame that a locator names can't be read, by the unreadable pages of its extent.
+fn is_unreadable<D: PageSource>(disk: &D, bad_pages: &[u32], locator: &Locator) -> bool
+    requires in_range { InRange (D.image disk.now).geometry locator.now }
+    requires pages { bad_pages.now ≡ unreadable_pages (D.image disk.now) locator.now.extent }
+    ensures { IsTrue result ↔ IsUnreadable (D.image disk.now) locator.now }
+{
+    let page = disk.geometry().page();
+    let first = locator.offset / page;
+    let last = (end_of(locator) - 1) / page as u64;
+    has_page_between(bad_pages, first, last as u32)
+}
+
+/// What a locator is worth in the image of a disk: the first status of the table that applies. Its place is looked at
+/// itself; the tiling is asked only whether an item begins there.
+pub fn status_of<D: PageSource>(
+    alloc: Global,
+    disk: &D,
+    plan: &Plan,
+    all: &AllFindings<'_, D>,
+    locator: &Locator,
+) -> Result<Status, OutOfMemory>
+    requires geometry { geometry_of plan.now ≡ (D.image disk.now).geometry }
+    requires planned { planned plan.now ≡ range_with_len 1 ((D.image disk.now).geometry.extents - 1) }
+    requires findings { IsOneReader (D.image disk.now) plan.now (all_found all.now) }
+    ensures { IfOk result (HasStatus (D.image disk.now) (pointer_of plan.now locator.now.extent) locator.now) }
+{
+    let geometry = plan.geometry();
+    if !lies_in_range(geometry, locator) {
+        return Ok(Status::OutOfRange);
+    }
+    let pointer = plan.pointer(locator.extent);
+    if end_of(locator) > pointer as u64 {
+        return Ok(Status::PastPointer);
+    }
+    let findings = findings_of(all, locator.extent);
+    if is_unreadable(disk, findings.bad_pages(), locator) {
+        return Ok(Status::Unreadable);
+    }
+    let standing = frame_stands(alloc, disk, pointer, locator.extent, locator.offset)?;
+    let Some(standing) = standing else {
+        return Ok(Status::NoFrame);
+    };
+    if let Some(status) = mismatch(locator, &standing) {
+        return Ok(status);
+    }
+    if begins_at(findings.items(), locator.offset) {
+        Ok(Status::Sound)
+    } else {
+        Ok(Status::Hidden)
+    }
+}
