@@ -6,5 +6,6 @@ pub mod PlannedFindings
 pub mod Judged
 pub mod Payloads
 pub mod RunStates
+pub mod OneStatus
 pub mod Listed
 pub mod NamedLists

@@ -158,3 +158,11 @@ pub fn status_of<D: PageSource>(
         Ok(Status::Hidden)
     }
 }
+
+/// A law: exactly one status applies to a locator. Two that do are one, and it can't be that none does. So what a locator
+/// is worth is told by the image, the pointer of its extent and its tiling, and by nothing else.
+pub fn one_status()
+    ensures one { (image : Image) (pointer : ℕ) (locator : Locator) (status other : Status) →
+        HasStatus image pointer locator status → HasStatus image pointer locator other → status ≡ other }
+    ensures some { (image : Image) (pointer : ℕ) (locator : Locator) → ¬ ((status : Status) → ¬ HasStatus image pointer locator status) }
+{}

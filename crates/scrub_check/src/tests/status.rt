@@ -25,45 +25,6 @@ fn long_at(rt: &impl Abort, alloc: Global, offset: u32, payload: &[u8]) -> Resul
     Ok(disk)
 }
 
-/// Nine locators, each with what it is worth on the disk of `nine_locators`.
-fn judged_locators() -> [(Locator, Status); 9] {
-    let abc = abc_at(1, 0);
-    let twos = Uuid::from_bytes(TWOS);
-    [
-        (abc_at(4, 0), Status::OutOfRange),
-        (abc_at(1, 600), Status::PastPointer),
-        (abc_at(1, 300), Status::Unreadable),
-        (abc_at(1, 41), Status::NoFrame),
-        (Locator { uuid: twos, ..abc }, Status::WrongUuid),
-        (Locator { length: 4, ..abc }, Status::WrongLength),
-        (
-            Locator {
-                digest: [0; 32],
-                ..abc
-            },
-            Status::WrongDigest,
-        ),
-        (abc_at(2, 256), Status::Hidden),
-        (abc, Status::Sound),
-    ]
-}
-
-/// A disk with pages of 256 bytes, eight pages an extent and four extents, under the pointers 512, 297 and 635. Extent 1
-/// has `abc` at 0, and its page 1 is unreadable. Extent 2 has a frame of 258 bytes at 0, whose last two bytes are the
-/// magic of the frame of `abc` at 256. Extent 3 has the run of one shard with the nine locators. Tells the run's locator.
-fn nine_locators(rt: &impl Abort, alloc: Global) -> Result<(MemDisk, Locator), Fail> {
-    let mut disk = MemDisk::blank(alloc, Geometry::new(256, 8, 4)?)?;
-    put_frame(rt, alloc, &mut disk, 1, 0, ONES, b"abc")?;
-    mark_bad(rt, &mut disk, 1, 1);
-    put_frame(rt, alloc, &mut disk, 2, 0, ENDS_IN_MAGIC, &[0x78; 220])?;
-    put_frame(rt, alloc, &mut disk, 2, 256, ONES, b"abc")?;
-    let locators = judged_locators().map(|judged| judged.0);
-    let run = put_run(rt, alloc, &mut disk, 3, &locators)?;
-    assert_eq!(rt; run.length, 597);
-    put_superblock(rt, alloc, &mut disk, &[512, 297, 635], &[run])?;
-    Ok((disk, run))
-}
-
 #[test]
 fn nine_locators_of_nine_statuses(rt: HostRuntime) -> Result<(), Fail> {
     let (disk, run) = nine_locators(&rt, rt.alloc())?;
@@ -232,7 +193,8 @@ fn overwritten_end(rt: &impl Abort, alloc: Global, uuid: [u8; 16]) -> Result<Mem
     let mut disk = blank_disk(alloc)?;
     put_frame(rt, alloc, &mut disk, 1, 0, uuid, &[0x78; 28])?;
     put_frame(rt, alloc, &mut disk, 1, 64, ONES, b"abc")?;
-    let run = put_run(rt, alloc, &mut disk, 2, &[abc_at(1, 64)])?;
+    let payload = run_of(rt, alloc, &[abc_at(1, 64)])?;
+    let run = put_chunk(rt, alloc, &mut disk, 2, 0, TWOS, &payload)?;
     put_superblock(rt, alloc, &mut disk, &[105, 155], &[run])?;
     Ok(disk)
 }

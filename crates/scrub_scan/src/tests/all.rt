@@ -5,7 +5,7 @@ use super::*;
 /// Four pages of zeros.
 const PADS: [&str; 4] = ["pad 0 64", "pad 64 128", "pad 128 192", "pad 192 256"];
 
-/// What is to be found in a readable extent under a pointer at its end.
+/// What is to be found in a readable extent that has nothing past its pointer.
 fn full<'a>(lines: &'a [&'a str]) -> Expected<'a> {
     Expected {
         lines,
@@ -38,13 +38,33 @@ fn one_reader_of_a_blank_disk(rt: HostRuntime) -> Result<(), Fail> {
     Ok(())
 }
 
+/// A disk with the chunk `abc` in extent 1, the run that names it in extent 2, and the superblock of both.
+fn chunk_and_its_run(rt: &impl Abort, alloc: Global) -> Result<MemDisk, Fail> {
+    let mut disk = blank_disk(alloc)?;
+    let run = locate(2, 0, Uuid::from_bytes([0x22; 16]), &RUN);
+    put_superblock(rt, alloc, &mut disk, &[41, 155], &[run])?;
+    put_frame(rt, alloc, &mut disk, 1, 0, [0x11; 16], b"abc")?;
+    put_frame(rt, alloc, &mut disk, 2, 0, [0x22; 16], &RUN)?;
+    Ok(disk)
+}
+
+#[test]
+fn one_reader_of_a_chunk_and_its_run(rt: HostRuntime) -> Result<(), Fail> {
+    let disk = chunk_and_its_run(&rt, rt.alloc())?;
+    let plan = plan_of(rt.alloc(), &disk)?;
+    let all = scan_in_order(rt.alloc(), &disk, &plan)?;
+    check_extents(&rt, &all, &[1, 2]);
+    let first = ["chunk 0 41 11111111-1111-1111-1111-111111111111 3"];
+    let findings = all.of_extent(1).ok_or("the findings of extent 1")?;
+    check_findings(&rt, rt.alloc(), findings, &full(&first))?;
+    let second = ["chunk 0 155 22222222-2222-2222-2222-222222222222 117"];
+    let findings = all.of_extent(2).ok_or("the findings of extent 2")?;
+    check_findings(&rt, rt.alloc(), findings, &full(&second))
+}
+
 #[test]
 fn one_reader_of_a_disk_whose_extent_0_is_unreadable(rt: HostRuntime) -> Result<(), Fail> {
-    let mut disk = blank_disk(rt.alloc())?;
-    let run = locate(2, 0, Uuid::from_bytes([0x22; 16]), &RUN);
-    put_superblock(&rt, rt.alloc(), &mut disk, &[41, 155], &[run])?;
-    put_frame(&rt, rt.alloc(), &mut disk, 1, 0, [0x11; 16], b"abc")?;
-    put_frame(&rt, rt.alloc(), &mut disk, 2, 0, [0x22; 16], &RUN)?;
+    let mut disk = chunk_and_its_run(&rt, rt.alloc())?;
     for page in 0..4 {
         mark_bad(&rt, &mut disk, 0, page);
     }

@@ -1,0 +1,127 @@
+-- Exactly one status applies to a locator. Each is that of the first test that the locator fails, and the tests are the
+-- same for all.
+use Rattle.std.proofs.Common.{◌≡◌, ◌⊎◌, ℕ, List, length, inl, inr, sym, ◌∙◌, ap, subst, refl}
+use Rattle.scrub_disk.specs.Image.{Image}
+use Rattle.scrub_frame.specs.declared.locator.Locator.{Locator}
+use Rattle.scrub_scan.specs.Extent.{extent_of, FrameAt, NoFrameAt}
+use Rattle.scrub_scan.specs.OneFrame.{one_frame_at}
+use Rattle.scrub_check.specs.declared.status.Status.{Status}
+use Rattle.scrub_check.specs.declared.status.Status.TheVariants.{OutOfRange, PastPointer, Unreadable, NoFrame, WrongUuid, WrongLength, WrongDigest, Hidden, Sound}
+use Rattle.scrub_check.specs.Status.{InRange, BelowPointer, IsUnreadable, CanStand, FindsFrame, NamesChunk, BeginsAt, HasStatus}
+use Rattle.scrub_check.proofs.RunStates.{unnamed}
+
+-- a frame of the locator's UUID stands there
+abbrev HasUuid : Image → ℕ → Locator → Type 0
+HasUuid image w l = (b : List ℕ) × FrameAt (extent_of image l.extent w) l.offset l.uuid b
+
+-- one whose payload has the locator's length
+abbrev HasLength : Image → ℕ → Locator → Type 0
+HasLength image w l = (b : List ℕ) × FrameAt (extent_of image l.extent w) l.offset l.uuid b × (length b ≡ l.length)
+
+-- the status is that of a test which fails, or the test is passed and more is known
+abbrev Tested : Status → Status → Type 0 → Type 0 → Type 0
+Tested failed s test more = ((failed ≡ s) × ¬ test) ⊎ (test × more)
+
+-- a status by the tests from that of the tiling on, and so up to all of them
+abbrev ByTiling : Image → ℕ → Locator → Status → Type 0
+ByTiling image w l s = Tested Hidden s (BeginsAt (extent_of image l.extent w) l.offset) (Sound ≡ s)
+
+abbrev ByLength : Image → ℕ → Locator → Status → Type 0
+ByLength image w l s = Tested WrongLength s (HasLength image w l) (Tested WrongDigest s (NamesChunk image w l) (ByTiling image w l s))
+
+abbrev ByFrame : Image → ℕ → Locator → Status → Type 0
+ByFrame image w l s = Tested NoFrame s (¬ NoFrameAt (extent_of image l.extent w) l.offset) (Tested WrongUuid s (HasUuid image w l) (ByLength image w l s))
+
+abbrev ByTests : Image → ℕ → Locator → Status → Type 0
+ByTests image w l s =
+    Tested OutOfRange s (InRange image.geometry l)
+    (Tested PastPointer s (BelowPointer w l)
+    (Tested Unreadable s (¬ IsUnreadable image l) (ByFrame image w l s)))
+
+from_can : (image : Image) (w : ℕ) (l : Locator) (s : Status) → CanStand image w l → ByFrame image w l s → ByTests image w l s
+from_can image w l s can more = inr (can.in_range, inr (can.below, inr (can.readable, more)))
+
+from_frame : (image : Image) (w : ℕ) (l : Locator) (s : Status) (b : List ℕ) → FindsFrame image w l l.uuid b → ByLength image w l s → ByTests image w l s
+from_frame image w l s b f more = from_can image w l s f.can (inr (λ none. none l.uuid b f.frame, inr ((b, f.frame), more)))
+
+from_chunk : (image : Image) (w : ℕ) (l : Locator) (s : Status) → NamesChunk image w l → ByTiling image w l s → ByTests image w l s
+from_chunk image w l s n more = from_frame image w l s n.payload n.found (inr ((n.payload, n.found.frame, n.length), inr (n, more)))
+
+by_tests : (image : Image) (w : ℕ) (l : Locator) (s : Status) → HasStatus image w l s → ByTests image w l s
+by_tests image w l OutOfRange h = inl (refl, h)
+by_tests image w l PastPointer h = inr (h.0, inl (refl, h.1))
+by_tests image w l Unreadable h = inr (h.0, inr (h.1, inl (refl, λ readable. readable h.2)))
+by_tests image w l NoFrame h = from_can image w l NoFrame h.0 (inl (refl, λ some. some h.1))
+by_tests image w l WrongUuid (u, (b, f, other)) =
+    from_can image w l WrongUuid f.can
+    (inr (λ none. none u b f.frame, inl (refl, λ h. other (one_frame_at (extent_of image l.extent w) l.offset u l.uuid b h.0 f.frame h.1).0)))
+by_tests image w l WrongLength (b, f, other) =
+    from_frame image w l WrongLength b f
+    (inl (refl, λ h. other (ap (λ (xs : List ℕ). length xs) (one_frame_at (extent_of image l.extent w) l.offset l.uuid l.uuid b h.0 f.frame h.1).1 ∙ h.2)))
+by_tests image w l WrongDigest (b, f, same, other) =
+    from_frame image w l WrongDigest b f
+    (inr ((b, f.frame, same), inl (refl, unnamed image w l WrongDigest (λ e. cc) (λ e. cc) (b, f, same, other))))
+by_tests image w l Hidden h = from_chunk image w l Hidden h.0 (inl (refl, h.1))
+by_tests image w l Sound h = from_chunk image w l Sound h.0 (inr (h.1, refl))
+
+-- two statuses by one test: that of the test both, or by the tests behind it
+tested : (failed s t : Status) (test P Q : Type 0) → (P → Q → s ≡ t) → Tested failed s test P → Tested failed t test Q → s ≡ t
+tested failed s t test P Q same (inl a) (inl b) = sym a.0 ∙ b.0
+tested failed s t test P Q same (inl a) (inr b) = absurd (a.1 b.0)
+tested failed s t test P Q same (inr a) (inl b) = absurd (b.1 a.0)
+tested failed s t test P Q same (inr a) (inr b) = same a.1 b.1
+
+pub one_status_lem : (image : Image) (w : ℕ) (l : Locator) (s t : Status) → HasStatus image w l s → HasStatus image w l t → s ≡ t
+one_status_lem image w l s t h k =
+    tested OutOfRange s t _ _ _ (
+    tested PastPointer s t _ _ _ (
+    tested Unreadable s t _ _ _ (
+    tested NoFrame s t _ _ _ (
+    tested WrongUuid s t _ _ _ (
+    tested WrongLength s t _ _ _ (
+    tested WrongDigest s t _ _ _ (
+    tested Hidden s t _ _ _ (λ a b. sym a ∙ b)))))))) (by_tests image w l s h) (by_tests image w l t k)
+
+-- no status at all
+abbrev NoStatus : Image → ℕ → Locator → Type 0
+NoStatus image w l = (s : Status) → ¬ HasStatus image w l s
+
+chunk_judged : (image : Image) (w : ℕ) (l : Locator) → NoStatus image w l → ¬ NamesChunk image w l
+chunk_judged image w l none n = none Hidden (n, λ begins. none Sound (n, begins))
+
+frame_judged : (image : Image) (w : ℕ) (l : Locator) (b : List ℕ) → NoStatus image w l → ¬ FindsFrame image w l l.uuid b
+frame_judged image w l b none f =
+    none WrongLength (
+      b,
+      f,
+      λ same. none WrongDigest (
+        b,
+        f,
+        same,
+        λ digest.
+            chunk_judged image w l none (record { payload = b; found = f; length = same; digest = digest }),
+      ),
+    )
+
+place_judged : (image : Image) (w : ℕ) (l : Locator) → NoStatus image w l → ¬ CanStand image w l
+place_judged image w l none can =
+    none NoFrame (
+      can,
+      λ u b f. none WrongUuid (
+        u,
+        (
+          b,
+          record { can = can; frame = f },
+          λ same.
+              frame_judged image w l b none (record { can = can; frame = subst (λ (v : List ℕ). FrameAt (extent_of image l.extent w) l.offset v b) same f }),
+        ),
+      ),
+    )
+
+pub some_status_lem : (image : Image) (w : ℕ) (l : Locator) → ¬ NoStatus image w l
+some_status_lem image w l none =
+    none OutOfRange (λ in_range. none PastPointer (
+      in_range,
+      λ below.
+          place_judged image w l none (record { in_range = in_range; below = below; readable = λ gap. none Unreadable (in_range, below, gap) }),
+    ))
