@@ -3,3 +3,5 @@ pub mod HeldBytes
 pub mod RawBytes
 pub mod RawImages
 pub mod LostPages
+pub mod PagesRead
+pub mod Filters

@@ -2,6 +2,7 @@
 pub mod Limits
 pub mod Faults
 pub mod Image
+pub mod Buffered
 pub mod Held
 pub mod WholePages
 pub mod Memory

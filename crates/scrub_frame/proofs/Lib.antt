@@ -1,4 +1,5 @@
 -- Lemmas on the bytes of frames and locators.
+pub mod Parts
 pub mod Bytes
 pub mod Frames
 pub mod Locators

@@ -1,9 +1,11 @@
 -- The parts of a locator's sixty bytes.
-use Rattle.std.proofs.Common.{◌≡◌, ◌<◌, ◌≤◌, ◌+◌, ℕ, List, [], ◌++◌, length, take, drop, get_or, arith, refl, sym, ◌∙◌, ap, append_assoc, length-append, length-drop, drop-drop}
+use Rattle.std.proofs.Common.{◌≡◌, ◌<◌, ◌≤◌, ◌+◌, ◌*◌, ℕ, List, [], ◌++◌, All, length, take, drop, get_or, arith, refl, sym, ◌∙◌, ap, append_assoc, length-append, length-drop, drop-drop}
+use Rattle.std.specs.List.{flat_map}
 use Rattle.std.proofs.lemmas.List.{take_at, drop_at, drop_all, append-nil, take_all}
 use Rattle.byteorder.specs.Endian.{big_bytes, big_number}
 use Rattle.scrub_frame.specs.declared.locator.Locator.{Locator}
 use Rattle.scrub_frame.specs.Locator.{locator_bytes, IsLocator}
+use Rattle.scrub_frame.proofs.Parts.{length-flat_map_of, flat_map-injective}
 use Rattle.scrub_frame.proofs.Bytes.{part-rest, bytes-number_at, bytes-injective}
 
 -- what was read from sixty bytes is spelled by them
@@ -66,6 +68,12 @@ fields_written l a b c d z s t u v w ha hb hc hd ld le lz hs ht hu hv hw =
     replaced : (a b c d p q r y : List ℕ) → a ≡ p → b ≡ q → c ≡ r → d ≡ y → a ++ (b ++ (c ++ (d ++ l.digest))) ≡ p ++ (q ++ (r ++ (y ++ l.digest)))
     replaced a b c d p q r y ha hb hc hd = cc
 
+pub length-locator_bytes : (l : Locator) → IsLocator l → length (locator_bytes l) ≡ 60
+length-locator_bytes l h = omega (arith, length-append l.uuid l.digest, h.uuid, h.digest)
+
+pub length-locators : (ls : List Locator) → All IsLocator ls → length (flat_map locator_bytes ls) ≡ 60 * length ls
+length-locators ls h = length-flat_map_of locator_bytes 60 ls (λ k d hk. length-locator_bytes (get_or ls k d) (h k d hk))
+
 -- no two locators have the same sixty bytes
 pub one_locator_lem : (l m : Locator) → IsLocator l → IsLocator m → locator_bytes l ≡ locator_bytes m → l ≡ m
 one_locator_lem l m hl hm same = equal l m
@@ -77,3 +85,7 @@ one_locator_lem l m hl hm same = equal l m
   where
     equal : (l m : Locator) → l.extent ≡ m.extent → l.offset ≡ m.offset → l.length ≡ m.length → l.uuid ≡ m.uuid → l.digest ≡ m.digest → l ≡ m
     equal l m a b c d e = λ i. record { extent = a i; offset = b i; length = c i; uuid = d i; digest = e i }
+
+-- as many locators that are spelled alike are the same
+pub same_locators : (ls ms : List Locator) → All IsLocator ls → All IsLocator ms → length ls ≡ length ms → flat_map locator_bytes ls ≡ flat_map locator_bytes ms → ls ≡ ms
+same_locators ls ms hl hm count e = flat_map-injective locator_bytes IsLocator 60 ls ms length-locator_bytes one_locator_lem hl hm count e

@@ -10,8 +10,12 @@ pub mod write;
 
 pub use digest::digest_of;
 pub use frame::{Frame, Head, MAGIC, no_frame_begins_another, one_frame, read_frame, read_head};
-pub use locator::{Locator, locate, one_locator, read_locator, write_locator};
-pub use write::{FrameFault, MAX_PAYLOAD, write_frame};
+pub use locator::{
+    LOCATOR_BYTES, Locator, append_locators, locate, one_locator, read_locator, read_locators,
+    write_locator,
+};
+pub use std::alloc::AllocError as OutOfMemory;
+pub use write::{FrameFault, MAX_PAYLOAD, append, write_frame};
 
 #[cfg(test)]
 mod tests;

@@ -1,15 +1,22 @@
-//! Locators as sixty bytes, and the locator of a payload. Whether a chunk stands where a locator says is left to the
+//! Locators as bytes, sixty for each, and the locator of a payload. Whether a chunk stands where a locator says is left to the
 //! crates above.
 
-ghost use Rattle.std.specs.Prelude.{◌≡◌, ◌+◌, ◌≤◌, ◌++◌, length, take, drop};
+ghost use Rattle.std.specs.Prelude.{◌≡◌, ◌+◌, ◌*◌, ◌≤◌, ◌++◌, All, IfOk, length, take, drop, vec_len, vec_capacity};
+ghost use Rattle.std.specs.List.{flat_map};
 ghost use Rattle.byteorder.specs.Endian.{big_bytes};
 ghost use Rattle.sha2.specs.Sha256.{sha256};
 ghost use Rattle.scrub_frame.specs.Frame.{longest_payload};
 
+use crate::OutOfMemory;
 use crate::digest::digest_of;
 use crate::frame::uuid_at;
+use crate::write::append;
 use byteorder::{BigEndian, ByteOrder};
+use std::alloc::Global;
 use uuid::Uuid;
+
+/// The bytes of a locator.
+pub const LOCATOR_BYTES: usize = 60;
 
 /// Names a chunk: where its frame begins, and what its payload is. Any values may stand in it; no field is checked
 /// against a disk or against another field.
@@ -82,6 +89,34 @@ fn put_part(bytes: &mut [u8], place: usize, part: &[u8])
     ensures { bytes.new ≡ take place bytes.old ++ (part.now ++ drop (place + length part.now) bytes.old) }
 {
     bytes[place..place + part.len()].copy_from_slice(part);
+}
+
+/// The locators that the bytes are, so many.
+pub fn read_locators(alloc: Global, bytes: &[u8], count: usize) -> Result<Vec<Locator>, OutOfMemory>
+    requires { length bytes.now ≡ 60 * count }
+    ensures count { IfOk result (λ v. length v.items ≡ count) }
+    ensures fit { IfOk result (λ v. All IsLocator v.items) }
+    ensures spelled { IfOk result (λ v. flat_map locator_bytes v.items ≡ bytes.now) }
+{
+    let mut locators = Vec::with_capacity(alloc, count)?;
+    for i in 0..count {
+        let mut part = [0u8; LOCATOR_BYTES];
+        part.copy_from_slice(&bytes[LOCATOR_BYTES * i..LOCATOR_BYTES * (i + 1)]);
+        locators.push(read_locator(&part))?;
+    }
+    Ok(locators)
+}
+
+/// Appends locators for which the list has room. Takes no memory.
+pub fn append_locators(out: &mut Vec<u8>, locators: &[Locator])
+    requires { vec_len out.old + 60 * length locators.now ≤ vec_capacity out.old }
+    ensures fit { All IsLocator locators.now }
+    ensures items { out.new.items ≡ out.old.items ++ flat_map locator_bytes locators.now }
+    ensures capacity { vec_capacity out.old ≤ vec_capacity out.new }
+{
+    for locator in locators {
+        append(out, &write_locator(locator));
+    }
 }
 
 /// The locator of a payload whose frame, with that UUID, begins at a byte offset of an extent.

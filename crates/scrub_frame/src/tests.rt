@@ -167,3 +167,34 @@ fn any_sixty_bytes_are_a_locator(rt: HostRuntime) {
     let bytes = [0xFF; 60];
     assert_eq!(rt; read_and_written(&bytes), bytes);
 }
+
+#[test]
+fn two_locators_are_written_and_read_in_their_order(rt: HostRuntime) -> Result<(), Fail> {
+    let moved = Locator {
+        offset: 41,
+        ..read_locator(&ABC_LOCATOR)
+    };
+    let locators = [read_locator(&ABC_LOCATOR), moved];
+    let mut out = Vec::from_slice(rt.alloc(), &[7])?;
+    out.reserve(2 * LOCATOR_BYTES)?;
+    append_locators(&mut out, &locators);
+    assert_eq!(rt; out.len(), 121);
+    assert_eq!(rt; out[0], 7);
+    assert_eq!(rt; &out[1..61], ABC_LOCATOR.as_slice());
+    let read = read_locators(rt.alloc(), &out[1..], 2)?;
+    assert_eq!(rt; read.as_slice(), locators.as_slice());
+    let none = read_locators(rt.alloc(), &[], 0)?;
+    assert!(rt; none.is_empty());
+    Ok(())
+}
+
+#[test]
+fn bytes_are_appended_where_there_is_room(rt: HostRuntime) -> Result<(), Fail> {
+    let mut out = Vec::from_slice(rt.alloc(), &[7])?;
+    out.reserve(3)?;
+    append(&mut out, b"abc");
+    assert_eq!(rt; out.as_slice(), [7, 0x61, 0x62, 0x63].as_slice());
+    append(&mut out, b"");
+    assert_eq!(rt; out.len(), 4);
+    Ok(())
+}

@@ -45,8 +45,8 @@ pub fn write_frame(out: &mut Vec<u8>, uuid: Uuid, payload: &[u8]) -> Result<(), 
     Ok(())
 }
 
-/// Appends bytes for which the list has room.
-fn append(out: &mut Vec<u8>, bytes: &[u8])
+/// Appends bytes for which the list has room. Takes no memory.
+pub fn append(out: &mut Vec<u8>, bytes: &[u8])
     requires { vec_len out.old + length bytes.now ≤ vec_capacity out.old }
     ensures items { out.new.items ≡ out.old.items ++ bytes.now }
     ensures capacity { vec_capacity out.old ≤ vec_capacity out.new }

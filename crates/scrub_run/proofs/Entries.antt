@@ -4,33 +4,11 @@ use Rattle.std.specs.List.{flat_map}
 use Rattle.std.proofs.lemmas.List.{append-nil, drop_at, flat_map_more, get_or_append_left, get_or_at}
 use Rattle.std.proofs.lemmas.List.Elements.{All-drop, All-head, All-push, All-tail}
 use Rattle.std.proofs.lemmas.List.Quantifiers.{all_pairs_push}
-use Rattle.scrub_frame.specs.declared.locator.Locator.{Locator}
-use Rattle.scrub_frame.specs.Locator.{locator_bytes, IsLocator}
-use Rattle.scrub_frame.proofs.Locators.{one_locator_lem}
+use Rattle.scrub_frame.specs.Locator.{locator_bytes}
+use Rattle.scrub_frame.proofs.Parts.{same_cut}
+use Rattle.scrub_frame.proofs.Locators.{length-locators, same_locators}
 use Rattle.scrub_run.specs.Entry.{EntryValue, entry_bytes, IsEntry, IsBelow}
 use Rattle.scrub_run.specs.Run.{RisesById}
-use Rattle.scrub_run.proofs.Parts.{same_cut}
-
-length-locator_bytes : (l : Locator) → IsLocator l → length (locator_bytes l) ≡ 60
-length-locator_bytes l h = omega (arith, length-append l.uuid l.digest, h.uuid, h.digest)
-
-pub length-locators : (ls : List Locator) → All IsLocator ls → length (flat_map locator_bytes ls) ≡ 60 * length ls
-length-locators [] h = omega arith
-length-locators (l ∷ ls) h =
-    omega (arith, length-append (locator_bytes l) (flat_map locator_bytes ls), length-locator_bytes l (All-head IsLocator l ls h), length-locators ls (All-tail IsLocator l ls h))
-
--- as many locators that are spelled alike are the same
-same_locators : (ls ms : List Locator) → All IsLocator ls → All IsLocator ms → length ls ≡ length ms → flat_map locator_bytes ls ≡ flat_map locator_bytes ms → ls ≡ ms
-same_locators [] [] hl hm count e = refl
-same_locators [] (m ∷ ms) hl hm count e = absurd (omega (arith, count))
-same_locators (l ∷ ls) [] hl hm count e = absurd (omega (arith, count))
-same_locators (l ∷ ls) (m ∷ ms) hl hm count e =
-    let fl : IsLocator l = All-head IsLocator l ls hl in
-    let fm : IsLocator m = All-head IsLocator m ms hm in
-    let cut : (locator_bytes l ≡ locator_bytes m) × (flat_map locator_bytes ls ≡ flat_map locator_bytes ms) =
-    same_cut (locator_bytes l) (locator_bytes m) (flat_map locator_bytes ls) (flat_map locator_bytes ms) (length-locator_bytes l fl ∙ sym (length-locator_bytes m fm)) e in
-    ap (λ z. z ∷ ls) (one_locator_lem l m fl fm cut.0)
-    ∙ ap (λ zs. m ∷ zs) (same_locators ls ms (All-tail IsLocator l ls hl) (All-tail IsLocator m ms hm) (omega (arith, count)) cut.1)
 
 same_value : (e f : EntryValue) → e.id.0 ≡ f.id.0 → e.locators ≡ f.locators → e ≡ f
 same_value e f h k = λ i. record { id = record { 0 = h i }; locators = k i }

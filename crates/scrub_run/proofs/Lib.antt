@@ -1,6 +1,5 @@
 -- Lemmas on the order of identifiers and on the bytes of entries and runs.
 pub mod Order
-pub mod Parts
 pub mod Entries
 pub mod Runs
 pub mod Examples

@@ -9,7 +9,7 @@ use Rattle.sha2.proofs.Facts256.{length-sha256}
 use Rattle.scrub_frame.proofs.Bytes.{bytes-injective, bytes-number_at}
 use Rattle.scrub_run.specs.Entry.{EntryValue, entry_bytes, IsEntry}
 use Rattle.scrub_run.specs.Run.{magic, signed_bytes, RisesById, IsRun}
-use Rattle.scrub_run.proofs.Parts.{same_cut}
+use Rattle.scrub_frame.proofs.Parts.{same_cut}
 use Rattle.scrub_run.proofs.Entries.{Continues, continues}
 
 -- as many entries that are spelled alike are the same

@@ -12,8 +12,8 @@ pub mod write;
 pub use entry::Entry;
 pub use read::{RunFault, read_run};
 pub use run::{Run, one_run};
+pub use scrub_frame::OutOfMemory;
 pub use shard::ShardId;
-pub use std::alloc::AllocError as OutOfMemory;
 pub use write::write_run;
 
 #[cfg(test)]

@@ -4,7 +4,6 @@ ghost use Rattle.std.specs.Prelude.{◌≡◌, ◌+◌, ◌*◌, ◌≤◌, ◌+
 ghost use Rattle.std.specs.List.{flat_map};
 ghost use Rattle.byteorder.specs.Endian.{big_bytes};
 ghost use Rattle.sha2.specs.Sha256.{sha256};
-ghost use Rattle.scrub_frame.specs.Locator.{locator_bytes, IsLocator};
 ghost use Rattle.scrub_run.specs.Entry.{EntryValue, entry_bytes, IsEntry, IsBelow};
 ghost use Rattle.scrub_run.specs.Run.{magic, RisesById, IsRun};
 
@@ -13,7 +12,7 @@ use crate::entry::Entry;
 use crate::run::Run;
 use crate::shard::{ShardId, is_below};
 use byteorder::{BigEndian, ByteOrder};
-use scrub_frame::{Locator, digest_of, read_locator};
+use scrub_frame::{LOCATOR_BYTES, digest_of, read_locators};
 use std::alloc::Global;
 use thiserror::Error;
 
@@ -25,9 +24,6 @@ const MAX_LOCATORS: usize = 64;
 
 /// The bytes of an entry without locators.
 const BARE_ENTRY_BYTES: usize = 17;
-
-/// The bytes of a locator.
-const LOCATOR_BYTES: usize = 60;
 
 /// Why no run was read.
 #[derive(Debug, Clone, Copy, PartialEq, Eq, Error)]
@@ -80,22 +76,6 @@ fn entry_length(bytes: &[u8]) -> Option<usize>
         return None;
     }
     Some(needed)
-}
-
-/// The locators that the bytes are, sixty bytes each.
-fn read_locators(alloc: Global, bytes: &[u8], count: usize) -> Result<Vec<Locator>, OutOfMemory>
-    requires { length bytes.now ≡ 60 * count }
-    ensures count { IfOk result (λ v. length v.items ≡ count) }
-    ensures fit { IfOk result (λ v. All IsLocator v.items) }
-    ensures spelled { IfOk result (λ v. flat_map locator_bytes v.items ≡ bytes.now) }
-{
-    let mut locators = Vec::with_capacity(alloc, count)?;
-    for i in 0..count {
-        let mut part = [0u8; LOCATOR_BYTES];
-        part.copy_from_slice(&bytes[LOCATOR_BYTES * i..LOCATOR_BYTES * (i + 1)]);
-        locators.push(read_locator(&part))?;
-    }
-    Ok(locators)
 }
 
 /// The entry that the bytes are.

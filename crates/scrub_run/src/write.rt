@@ -1,27 +1,14 @@
 //! Index runs, written as payloads. Where on a disk they go is left to the caller.
 
 ghost use Rattle.std.specs.Prelude.{◌≡◌, ◌+◌, ◌*◌, ◌<◌, ◌≤◌, ◌++◌, ◌^◌, All, IfOk, OnOk, length};
-ghost use Rattle.std.specs.List.{flat_map};
-ghost use Rattle.scrub_frame.specs.Locator.{locator_bytes, IsLocator};
 ghost use Rattle.scrub_run.specs.Entry.{entry_bytes, IsEntry};
 ghost use Rattle.scrub_run.specs.Run.{run_bytes, RisesById, IsRun};
 
 use crate::OutOfMemory;
 use crate::entry::Entry;
 use crate::read::MAGIC;
-use scrub_frame::{Locator, digest_of, write_locator};
+use scrub_frame::{LOCATOR_BYTES, append_locators, digest_of};
 use std::alloc::Global;
-
-/// Appends locators, sixty bytes each.
-fn append_locators(out: &mut Vec<u8>, locators: &[Locator]) -> Result<(), OutOfMemory>
-    ensures fit { OnOk result (All IsLocator locators.now) }
-    ensures items { OnOk result (out.new.items ≡ out.old.items ++ flat_map locator_bytes locators.now) }
-{
-    for locator in locators {
-        out.extend_from_slice(&write_locator(locator))?;
-    }
-    Ok(())
-}
 
 /// Appends an entry.
 fn append_entry(out: &mut Vec<u8>, entry: &Entry) -> Result<(), OutOfMemory>
@@ -33,7 +20,9 @@ fn append_entry(out: &mut Vec<u8>, entry: &Entry) -> Result<(), OutOfMemory>
     let locators = entry.locators();
     out.extend_from_slice(&id.0)?;
     out.push(locators.len() as u8)?;
-    append_locators(out, locators)
+    out.reserve(LOCATOR_BYTES * locators.len())?;
+    append_locators(out, locators);
+    Ok(())
 }
 
 /// The payload that is the run of these entries. It is read again as the same entries.

@@ -7,7 +7,7 @@ use Rattle.scrub_scan.specs.Extent.{Extent}
 use Rattle.scrub_scan.specs.Buffer.{buffered_byte, buffered_extent}
 use Rattle.scrub_scan.specs.Tiling.{IsTiling}
 use Rattle.scrub_scan.specs.Findings.{IsFindings, nonzero_places}
-use Rattle.scrub_scan.proofs.PageFilters.{filter-agree}
+use Rattle.scrub_disk.proofs.Filters.{filter_same}
 
 -- a buffer that has the image's bytes has its findings
 pub found_all : (image : Image) (e w page : ℕ) (bytes : List ℕ) (readable : List Bool) (items : List Item) (count : ℕ) (first : Option ℕ) (bad : List ℕ) →
@@ -22,7 +22,7 @@ found_all image e w page bytes readable items count first bad hp hb lb lr unread
   tiled = subst (λ (x : Extent). IsTiling x items) (ap (λ p. buffered_extent p bytes readable w) hp ∙ ap (λ f. record { byte = f; page = image.geometry.page; pointer = w }) hb) tiled;
   tail = record { counted = hc ∙ ap length places; least = hf ∙ ap (λ xs. slice_get xs 0) places };
   bad_pages = hbad ∙ ap (λ n. filter (λ p. not (get_or readable p false)) (range_with_len 0 n)) lr
-      ∙ filter-agree (λ p. not (get_or readable p false)) (λ p. is_none (image.page e p)) 0 image.geometry.pages (λ i low high. sym (unread i (omega (arith, high))));
+      ∙ filter_same (λ p. not (get_or readable p false)) (λ p. is_none (image.page e p)) 0 image.geometry.pages (λ i low high. sym (unread i (omega (arith, high))));
 }
   where
     places : nonzero_places (buffered_byte page bytes readable) w (length bytes - w) ≡ nonzero_places (byte image e) w (extent_bytes image.geometry - w)

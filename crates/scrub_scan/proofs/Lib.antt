@@ -2,10 +2,9 @@ pub mod Examples
 pub mod HeldFrames
 pub mod HeldParts
 pub mod PlacePages
-pub mod PagesRead
+pub mod Buffered
 pub mod Tilings
 pub mod Unreadable
-pub mod PageFilters
 pub mod Found
 pub mod Tails
 pub mod Search

@@ -6,7 +6,7 @@ ghost use Rattle.scrub_disk.specs.Image.{byte, extent_bytes};
 ghost use Rattle.scrub_scan.specs.Extent.{FrameAt, NoFrameAt, bound};
 ghost use Rattle.scrub_scan.specs.Buffer.{buffered_byte, IsNextUnreadable};
 
-use scrub_disk::{OutOfMemory, PageSource};
+use scrub_disk::{ExtentPages, OutOfMemory, PageSource, read_extent};
 use scrub_frame::{Frame, read_frame};
 use std::alloc::Global;
 
@@ -62,7 +62,7 @@ fn next_unreadable(alloc: Global, readable: &[bool]) -> Result<Vec<u32>, OutOfMe
 }
 
 impl ExtentBuffer {
-    /// Reads an extent whole, one page after another.
+    /// Reads an extent whole, each page once.
     pub fn read<D: PageSource>(
         alloc: Global,
         disk: &D,
@@ -76,15 +76,8 @@ impl ExtentBuffer {
             is_none ((D.image disk.now).page extent q) ≡ not (slice_index_or b.readable.items q false)) }
         ensures image { IfOk result (λ b. buffered_byte (D.image disk.now).geometry.page b.bytes.items b.readable.items ≡ byte (D.image disk.now) extent) }
     {
-        let geometry = disk.geometry();
-        let page = geometry.page() as usize;
-        let mut bytes = vec![in alloc; 0u8; geometry.extent_bytes() as usize]?;
-        let mut readable = Vec::with_capacity(alloc, geometry.pages() as usize)?;
-        for number in 0..geometry.pages() {
-            let start = number as usize * page;
-            let read = disk.read_page(extent, number, &mut bytes[start..start + page]);
-            readable.push(read.is_ok())?;
-        }
+        let page = disk.geometry().page() as usize;
+        let ExtentPages { bytes, readable } = read_extent(alloc, disk, extent)?;
         let next_unreadable = next_unreadable(alloc, &readable)?;
         Ok(ExtentBuffer {
             page,

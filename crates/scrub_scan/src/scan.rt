@@ -1,7 +1,6 @@
 //! Scanning planned extents: of each its items, its tail and its unreadable pages, from one reading.
 
-ghost use Rattle.std.specs.Prelude.{◌≡◌, ◌≤◌, ◌<◌, Contains, IfOk, length, filter, not, false, slice_index_or};
-ghost use Rattle.std.specs.List.{range_with_len};
+ghost use Rattle.std.specs.Prelude.{◌≡◌, ◌≤◌, ◌<◌, Contains, IfOk};
 ghost use Rattle.scrub_disk.specs.Image.{extent_bytes};
 ghost use Rattle.scrub_super.specs.Plan.{geometry_of, planned, pointer_of};
 ghost use Rattle.scrub_scan.specs.Result.{image_of, found};
@@ -13,23 +12,9 @@ use crate::findings::{Findings, PageNumbers};
 use crate::result::ExtentResult;
 use crate::tail::tail_of;
 use crate::tiling::tile_buffer;
-use scrub_disk::{OutOfMemory, PageSource};
+use scrub_disk::{OutOfMemory, PageSource, unreadable_pages};
 use scrub_super::Plan;
 use std::alloc::Global;
-
-/// The numbers of the pages that aren't readable, rising.
-fn unreadable_pages(alloc: Global, readable: &[bool]) -> Result<PageNumbers, OutOfMemory>
-    requires { length readable.now ≤ 65536 }
-    ensures { IfOk result (λ pages. pages ≡ filter (λ p. not (slice_index_or readable.now p false)) (range_with_len 0 (length readable.now))) }
-{
-    let mut pages = Vec::new(alloc);
-    for page in 0..readable.len() {
-        if !readable[page] {
-            pages.push(page as u32)?;
-        }
-    }
-    Ok(PageNumbers::from_vec(pages))
-}
 
 /// What an extent of a source's image holds under a write pointer.
 fn scan_under<'d, D: PageSource>(
@@ -53,7 +38,7 @@ fn scan_under<'d, D: PageSource>(
         items,
         tail_count: tail.count,
         tail_first: tail.first,
-        bad_pages,
+        bad_pages: PageNumbers::from_vec(bad_pages),
     };
     Ok(ExtentResult::new(disk, extent, pointer, findings))
 }

@@ -14,13 +14,13 @@ use Rattle.scrub_super.specs.declared.choice.Newest.{Newest}
 use Rattle.scrub_super.specs.declared.choice.Found.{Found}
 use Rattle.scrub_super.specs.Contents.{Contents}
 use Rattle.scrub_super.specs.Record.{record_bytes, BeginsWithRecord}
-use Rattle.scrub_super.specs.Extent.{IsBuffered}
+use Rattle.scrub_disk.specs.Buffered.{IsBuffered}
 use Rattle.scrub_disk.specs.Image.{unreadable_pages}
 use Rattle.scrub_super.specs.Chosen.{StandsAt, IsGreatest, IsTie, IsChoice}
 use Rattle.scrub_super.specs.Found.{StandsFrom, IsNewestFrom, IsFoundFrom}
 use Rattle.scrub_super.proofs.Records.{one_record_lem}
 use Rattle.scrub_super.proofs.Standing.{byte_held, some_bytes}
-use Rattle.scrub_super.proofs.Filters.{filter_same}
+use Rattle.scrub_disk.proofs.Filters.{filter_same}
 
 not_none : {A : Type 0} (x : A) → None ≡ Some x → ⊥
 not_none x e = cc

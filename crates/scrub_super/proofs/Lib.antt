@@ -3,8 +3,6 @@ pub mod Parts
 pub mod Cuts
 pub mod Records
 pub mod Plans
-pub mod PagesRead
-pub mod Filters
 pub mod Standing
 pub mod Finding
 pub mod Steps

@@ -1,5 +1,5 @@
 -- What stands in bytes that begin with a record, and when they do.
-use Rattle.std.proofs.Common.{◌≡◌, ◌<◌, ◌≤◌, ◌+◌, ◌*◌, ◌-◌, ◌^◌, ℕ, List, [], ◌++◌, length, take, drop, get_or, arith, refl, sym, ◌∙◌, ap, append_assoc, length-append, length-drop, All, Bool, false, IsTrue}
+use Rattle.std.proofs.Common.{◌≡◌, ◌<◌, ◌≤◌, ◌+◌, ◌*◌, ◌-◌, ◌^◌, ℕ, List, [], ◌++◌, length, take, drop, get_or, arith, refl, sym, ◌∙◌, ap, append_assoc, length-drop, All, Bool, false, IsTrue}
 use Rattle.std.specs.List.{flat_map}
 use Rattle.std.specs.Array.{IsFirstChunk}
 use Rattle.std.proofs.lemmas.List.{take_all, length-take-le, drop_at}
@@ -13,14 +13,12 @@ use Rattle.scrub_disk.specs.declared.geometry.Geometry.{Geometry}
 use Rattle.scrub_frame.specs.declared.locator.Locator.{Locator}
 use Rattle.scrub_frame.specs.Locator.{locator_bytes, IsLocator}
 use Rattle.scrub_frame.proofs.Bytes.{bytes-number, number-bytes, number-take, bytes-injective}
-use Rattle.scrub_frame.proofs.Locators.{one_locator_lem, fields_read}
+use Rattle.scrub_frame.proofs.Locators.{fields_read, length-locators, same_locators}
 use Rattle.scrub_super.specs.Contents.{Contents}
 use Rattle.scrub_super.specs.Record.{head_bytes, signed_bytes, record_bytes, IsHead, ArePointers, AreRuns, AreContents, BeginsWithRecord, BeginsWithSome}
-use Rattle.scrub_super.proofs.Parts.{AreBytes, AreBytes-drop, AreBytes-take, values, length-values, get_or-values, flat_map-values, length-flat_map_of, part-flat_map, flat_map-injective}
+use Rattle.scrub_super.proofs.Parts.{AreBytes, AreBytes-drop, AreBytes-take, values, length-values, get_or-values, flat_map-values, part-flat_map}
+use Rattle.scrub_frame.proofs.Parts.{length-flat_map_of, flat_map-injective}
 use Rattle.scrub_super.proofs.Cuts.{AreParts, parts_of, whole_of, signed_of, three_parts}
-
-pub length-locator_bytes : (l : Locator) → IsLocator l → length (locator_bytes l) ≡ 60
-length-locator_bytes l h = omega (arith, length-append l.uuid l.digest, h.uuid, h.digest)
 
 -- the generation and the number of runs that a head tells
 pub generation_read : (g : Geometry) (n r : ℕ) → n < 2 ^ 64 → big_number 8 (drop 4 (head_bytes g n r)) ≡ n
@@ -45,7 +43,7 @@ length_pointers : (g : Geometry) (ws : List ℕ) → ArePointers g ws → length
 length_pointers g ws h = omega (arith, length-flat_map_of (big_bytes 4) 4 ws (λ k d hk. refl), h.count)
 
 length_runs : (rs : List Locator) → AreRuns rs → length (flat_map locator_bytes rs) ≡ 60 * length rs
-length_runs rs h = length-flat_map_of locator_bytes 60 rs (λ k d hk. length-locator_bytes (get_or rs k d) (h.each k d hk))
+length_runs rs h = length-locators rs h.each
 
 pub record_parts : (g : Geometry) (x : List ℕ) (c : Contents) → BeginsWithRecord g x c → AreRecordParts g x c
 record_parts g x c h =
@@ -96,7 +94,7 @@ one_record_lem g x c d h k =
     flat_map-injective (big_bytes 4) (λ w. w < 2 ^ 32) 4 c.pointers d.pointers (λ w hw. refl) bytes-injective (small c h) (small d k)
     (omega (arith, h.contents.pointers.count, k.contents.pointers.count)) (sym p.pointers_are ∙ q.pointers_are) in
     let runs : c.runs ≡ d.runs =
-    flat_map-injective locator_bytes IsLocator 60 c.runs d.runs length-locator_bytes one_locator_lem h.contents.runs.each k.contents.runs.each heads.1
+    same_locators c.runs d.runs h.contents.runs.each k.contents.runs.each heads.1
     (sym p.runs_are ∙ ap (λ r. take (60 * r) (drop (26 + 4 * (g.extents - 1)) x)) heads.1 ∙ q.runs_are) in
     same_contents c d heads.0 pointers runs
   where
@@ -280,7 +278,7 @@ contents_read g x ws rs n r m e some hm he lw fits hw lr are hr =
 
     runs : some.contents.runs ≡ rs
     runs =
-        flat_map-injective locator_bytes IsLocator 60 some.contents.runs rs length-locator_bytes one_locator_lem some.begins.contents.runs.each are (some.count ∙ sym lr)
+        same_locators some.contents.runs rs some.begins.contents.runs.each are (some.count ∙ sym lr)
         (sym parts.runs_are ∙ ap (λ k. take (60 * k) (drop (26 + 4 * (g.extents - 1)) x)) some.count
         ∙ ap (λ k. take k (drop (26 + 4 * (g.extents - 1)) x)) (let k : 60 * r ≡ e - m = omega (arith, he) in k)
         ∙ ap (λ k. take (e - m) (drop k x)) (sym hm) ∙ sym hr)

@@ -14,7 +14,7 @@ use Rattle.scrub_disk.specs.Image.{Image, byte, extent_bytes}
 use Rattle.scrub_disk.proofs.HeldBytes.{byte-page, byte-unreadable}
 use Rattle.scrub_super.specs.Contents.{Contents}
 use Rattle.scrub_super.specs.Record.{signed_bytes, record_bytes, BeginsWithRecord}
-use Rattle.scrub_super.specs.Extent.{IsBuffered}
+use Rattle.scrub_disk.specs.Buffered.{IsBuffered}
 use Rattle.scrub_super.specs.Chosen.{StandsAt}
 use Rattle.scrub_super.specs.Found.{IsReadableUpTo}
 

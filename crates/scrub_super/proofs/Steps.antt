@@ -6,7 +6,7 @@ use Rattle.scrub_disk.specs.Image.{Image}
 use Rattle.scrub_super.specs.declared.choice.Found.{Found}
 use Rattle.scrub_super.specs.Contents.{Contents}
 use Rattle.scrub_super.specs.Record.{BeginsWithRecord, BeginsWithSome}
-use Rattle.scrub_super.specs.Extent.{IsBuffered}
+use Rattle.scrub_disk.specs.Buffered.{IsBuffered}
 use Rattle.scrub_super.specs.Found.{IsReadableUpTo, StandsFrom, IsFoundFrom, AddsRecord}
 use Rattle.scrub_super.proofs.Records.{one_record_lem}
 use Rattle.scrub_super.proofs.Standing.{readable_bytes, stands_of_front, front_of_stands}

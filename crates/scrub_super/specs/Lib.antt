@@ -1,7 +1,6 @@
 -- The words of this crate's contracts, and those of the crates below that they cite.
 pub mod Contents
 pub mod Record
-pub mod Extent
 pub mod Chosen
 pub mod Found
 pub mod Planned

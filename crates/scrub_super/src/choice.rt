@@ -1,17 +1,16 @@
 //! Choosing the superblock that counts, by reading extent 0.
 
 ghost use Rattle.std.specs.Prelude.{◌≡◌, ◌+◌, ◌*◌, ◌<◌, ◌≤◌, ◌^◌, ℕ, List, Option, IfOk, length, drop};
-ghost use Rattle.scrub_super.specs.Extent.{IsBuffered};
+ghost use Rattle.scrub_disk.specs.Buffered.{IsBuffered};
 ghost use Rattle.scrub_super.specs.Contents.{Contents};
 ghost use Rattle.scrub_super.specs.Record.{BeginsWithRecord};
 ghost use Rattle.scrub_super.specs.Chosen.{Choice, IsChoice, StandsAt};
 ghost use Rattle.scrub_disk.specs.Image.{Image};
 
 use crate::chosen::Chosen;
-use crate::extent::{read_extent, unreadable_pages};
 use crate::record::{read_record, record_at};
 use crate::superblock::Superblock;
-use scrub_disk::{Geometry, OutOfMemory, PageSource};
+use scrub_disk::{Geometry, OutOfMemory, PageSource, read_extent, unreadable_pages};
 use std::alloc::Global;
 
 /// The newest record so far.

@@ -4,7 +4,6 @@
 
 mod choice;
 pub mod chosen;
-mod extent;
 pub mod plan;
 pub mod record;
 pub mod superblock;

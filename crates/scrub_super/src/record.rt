@@ -5,14 +5,13 @@ ghost use Rattle.std.specs.List.{flat_map};
 ghost use Rattle.byteorder.specs.Endian.{big_bytes, big_number};
 ghost use Rattle.sha2.specs.Sha256.{sha256};
 ghost use Rattle.scrub_disk.specs.declared.geometry.Geometry.{Geometry};
-ghost use Rattle.scrub_frame.specs.Locator.{locator_bytes, IsLocator};
 ghost use Rattle.scrub_super.specs.Contents.{Contents};
 ghost use Rattle.scrub_super.specs.Record.{ArePointers, IsHead, BeginsWithRecord, BeginsWithSome, head_bytes, record_bytes};
 
 use crate::superblock::Superblock;
 use byteorder::{BigEndian, ByteOrder};
 use scrub_disk::{Geometry, OutOfMemory};
-use scrub_frame::{Locator, digest_of, read_locator, write_locator};
+use scrub_frame::{LOCATOR_BYTES, append, append_locators, digest_of, read_locators};
 use std::alloc::Global;
 
 /// `SSB1`, what each record begins with.
@@ -97,7 +96,7 @@ pub(crate) fn record_at(bytes: &[u8], geometry: Geometry) -> Option<Head>
 {
     let head = read_head(bytes.first_chunk::<26>()?, geometry)?;
     let middle = runs_start(geometry);
-    let end = middle + 60 * head.runs;
+    let end = middle + LOCATOR_BYTES * head.runs;
     if bytes.len() < end + 32 {
         return None;
     }
@@ -122,22 +121,6 @@ fn read_pointers(alloc: Global, bytes: &[u8], count: usize) -> Result<Vec<u32>, 
     Ok(pointers)
 }
 
-/// The locators of sixty bytes each.
-fn read_runs(alloc: Global, bytes: &[u8], count: usize) -> Result<Vec<Locator>, OutOfMemory>
-    requires { length bytes.now ≡ 60 * count }
-    ensures count { IfOk result (λ v. length v.items ≡ count) }
-    ensures fit { IfOk result (λ v. All IsLocator v.items) }
-    ensures spelled { IfOk result (λ v. flat_map locator_bytes v.items ≡ bytes.now) }
-{
-    let mut runs = Vec::with_capacity(alloc, count)?;
-    for i in 0..count {
-        let mut run = [0u8; 60];
-        run.copy_from_slice(&bytes[60 * i..60 * (i + 1)]);
-        runs.push(read_locator(&run))?;
-    }
-    Ok(runs)
-}
-
 /// What the record that the bytes begin with tells, if they begin with a record of this geometry. What follows it
 /// doesn't matter.
 pub fn read_record(
@@ -152,26 +135,14 @@ pub fn read_record(
         return Ok(None);
     };
     let middle = runs_start(geometry);
-    let end = middle + 60 * head.runs;
+    let end = middle + LOCATOR_BYTES * head.runs;
     let pointers = read_pointers(
         alloc,
         &bytes[HEAD_LEN..middle],
         geometry.extents() as usize - 1,
     )?;
-    let runs = read_runs(alloc, &bytes[middle..end], head.runs)?;
+    let runs = read_locators(alloc, &bytes[middle..end], head.runs)?;
     Ok(Some(Superblock::new(head.generation, pointers, runs)))
-}
-
-/// Appends bytes for which room is kept.
-fn append(out: &mut Vec<u8>, bytes: &[u8])
-    requires { vec_len out.old + length bytes.now ≤ vec_capacity out.old }
-    ensures items { out.new.items ≡ out.old.items ++ bytes.now }
-    ensures capacity { vec_capacity out.old ≤ vec_capacity out.new }
-{
-    match out.extend_from_slice(bytes) {
-        Ok(()) => {}
-        Err(_) => unreachable!(),
-    }
 }
 
 /// Appends write pointers, four bytes each.
@@ -182,18 +153,6 @@ fn append_pointers(out: &mut Vec<u8>, pointers: &[u32])
 {
     for pointer in pointers {
         append(out, &pointer.to_be_bytes());
-    }
-}
-
-/// Appends locators, sixty bytes each.
-fn append_runs(out: &mut Vec<u8>, runs: &[Locator])
-    requires { vec_len out.old + 60 * length runs.now ≤ vec_capacity out.old }
-    ensures fit { All IsLocator runs.now }
-    ensures items { out.new.items ≡ out.old.items ++ flat_map locator_bytes runs.now }
-    ensures capacity { vec_capacity out.old ≤ vec_capacity out.new }
-{
-    for run in runs {
-        append(out, &write_locator(run));
     }
 }
 
@@ -215,13 +174,13 @@ pub fn write_record(
 {
     let start = out.len();
     let count = superblock.runs().len();
-    out.reserve(runs_start(geometry) + 60 * count + 32)?;
+    out.reserve(runs_start(geometry) + LOCATOR_BYTES * count + 32)?;
     append(
         out,
         &write_head(geometry, superblock.generation(), count as u16),
     );
     append_pointers(out, superblock.pointers());
-    append_runs(out, superblock.runs());
+    append_locators(out, superblock.runs());
     let digest = digest_of(&out[start..]);
     append(out, &digest);
     Ok(())

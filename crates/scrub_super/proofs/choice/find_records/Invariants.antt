@@ -1,6 +1,6 @@
 -- What is found from a page on, and where the readable pages from it on end.
 use Rattle.std.proofs.Common.{◌+◌, ◌≤◌, ℕ, List, Option, length}
-use Rattle.scrub_super.specs.Extent.{IsBuffered}
+use Rattle.scrub_disk.specs.Buffered.{IsBuffered}
 use Rattle.scrub_super.specs.Found.{IsFoundFrom, IsReadableUpTo, StandsFrom}
 use Rattle.scrub_super.proofs.choice.find_records.Given as goal
 

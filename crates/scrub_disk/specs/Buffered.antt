@@ -1,0 +1,13 @@
+-- An extent in memory.
+use Rattle.std.specs.Prelude.{◌≡◌, ◌<◌, ◌+◌, ◌*◌, ℕ, List, Bool, false, Some, None, length, slice_index_or, slice_range, if◌then◌else◌}
+use Rattle.scrub_disk.specs.Image.{Image, extent_bytes}
+
+-- the bytes hold each readable page of extent e at its place, and the marks tell which pages are readable
+pub record IsBuffered (image : Image) (e : ℕ) (bytes : List ℕ) (readable : List Bool) : Type 0 where
+  pub size : length bytes ≡ extent_bytes image.geometry
+  pub count : length readable ≡ image.geometry.pages
+  pub pages : (g : ℕ) → g < image.geometry.pages →
+      image.page e g
+      ≡ (if slice_index_or readable g false
+      then Some (slice_range bytes (g * image.geometry.page) (g * image.geometry.page + image.geometry.page))
+      else None)
