@@ -9,3 +9,4 @@ pub mod RunStates
 pub mod OneStatus
 pub mod Listed
 pub mod NamedLists
+pub mod Examples

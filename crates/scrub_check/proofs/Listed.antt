@@ -1,7 +1,7 @@
 -- Lists that tell one thing of each locator, as they grow.
-use Rattle.std.proofs.Common.{◌≡◌, ◌<◌, ◌+◌, ℕ, List, [], ◌∷◌, ◌++◌, Option, length, take, get_or, subst, sym}
+use Rattle.std.proofs.Common.{◌≡◌, ◌<◌, ◌+◌, ℕ, List, [], ◌∷◌, ◌++◌, Option, length, take, get_or}
 use Rattle.std.specs.List.{AllZip}
-use Rattle.std.proofs.lemmas.List.{take_more}
+use Rattle.scrub_disk.proofs.Zips.{AllZip-take_more}
 use Rattle.scrub_disk.specs.Image.{Image}
 use Rattle.scrub_frame.specs.declared.locator.Locator.{Locator}
 use Rattle.scrub_super.specs.declared.plan.Plan.{Plan}
@@ -9,18 +9,6 @@ use Rattle.scrub_super.specs.Plan.{pointer_of}
 use Rattle.scrub_run.specs.Entry.{EntryValue}
 use Rattle.scrub_check.specs.declared.runs.RunState.{RunState}
 use Rattle.scrub_check.specs.Runs.{IsRunOf, HasRunState}
-
-pushed : {A B : Type 0} (R : A → B → Type 0) (xs : List A) (ys : List B) (x : A) (y : B) → AllZip R xs ys → R x y → AllZip R (xs ++ x ∷ []) (ys ++ y ∷ [])
-pushed R [] [] x y all more = (more, tt)
-pushed R [] (b ∷ ys) x y all more = absurd all
-pushed R (a ∷ xs) [] x y all more = absurd all
-pushed R (a ∷ xs) (b ∷ ys) x y all more = (all.0, pushed R xs ys x y all.1 more)
-
-one_more : {A B : Type 0} (R : A → B → Type 0) (xs : List A) (ys more : List B) (i : ℕ) (d : A) (y : B) →
-    i < length xs → AllZip R (take i xs) ys → R (get_or xs i d) y → more ≡ ys ++ y ∷ [] → AllZip R (take (i + 1) xs) more
-one_more R xs ys more i d y below all next grown =
-    subst (λ l. AllZip R l more) (sym (take_more xs i d below))
-    (subst (λ l. AllZip R (take i xs ++ get_or xs i d ∷ []) l) (sym grown) (pushed R (take i xs) ys (get_or xs i d) y all next))
 
 -- what is told of the locators so far
 pub record AreToldOf (image : Image) (plan : Plan) (locators : List Locator) (read : List (Option (List EntryValue))) (told : List RunState) : Type 0 where
@@ -33,6 +21,6 @@ pub told_more : (image : Image) (plan : Plan) (locators : List Locator) (runs mo
     HasRunState image (pointer_of plan (get_or locators i d).extent) (get_or locators i d) state →
     more_runs ≡ runs ++ run ∷ [] → more_states ≡ states ++ state ∷ [] → AreToldOf image plan (take (i + 1) locators) more_runs more_states
 told_more image plan locators runs more_runs states more_states i d run state below told is has run_grown state_grown = record {
-  runs = one_more (λ l x. IsRunOf image (pointer_of plan l.extent) l x) locators runs more_runs i d run below told.runs is run_grown;
-  states = one_more (λ l x. HasRunState image (pointer_of plan l.extent) l x) locators states more_states i d state below told.states has state_grown;
+  runs = AllZip-take_more (λ l x. IsRunOf image (pointer_of plan l.extent) l x) locators runs more_runs i d run below told.runs is run_grown;
+  states = AllZip-take_more (λ l x. HasRunState image (pointer_of plan l.extent) l x) locators states more_states i d state below told.states has state_grown;
 }

@@ -5,3 +5,4 @@ pub mod RawImages
 pub mod LostPages
 pub mod PagesRead
 pub mod Filters
+pub mod Zips

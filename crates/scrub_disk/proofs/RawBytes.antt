@@ -1,7 +1,6 @@
 -- Raw bytes that are read piece by piece into a list.
 use Rattle.std.proofs.Common.{rules, ◌≡◌, ◌<◌, ◌≤◌, ◌+◌, ◌-◌, ◌*◌, ◌/◌, ℕ, Bool, true, false, not, List, [], ◌∷◌, ◌++◌, ◌⊎◌, length, length-append, take, get_or, set, slice_get, arith, refl, sym, ◌∙◌, ap, inl, inr, Option, Some, None, IfSome, subst, get_or-set_same, get_or-set_other, ◌≢◌}
 use Rattle.std.proofs.lemmas.Nat.{div_below, div-mul-add}
-use Rattle.std.proofs.Math.Nat.{mul-le-mul_left}
 use Rattle.std.specs.Bool.{OnTrue, OnFalse}
 use Rattle.std.proofs.lemmas.Bool.{cases_lt, cases_eq, false≢true}
 use Rattle.std.proofs.lemmas.List.Elements.{Contains-push, Contains-append_left}
@@ -93,13 +92,6 @@ pages_more None was page n size marks bytes piece whole e same pos below fits l 
 pages_more (Some told) was page n size marks bytes piece whole e same pos below fits l before read =
     let here : IfSome (Some told) (λ t. OnTrue whole (IsText (slice_get t) (n * page) piece)) = subst (λ (r : Option (List ℕ)). IfSome r (λ t. OnTrue whole (IsText (slice_get t) (n * page) piece))) e read in
     rw same (held_more told page n marks bytes piece whole pos below fits l before here)
-
--- a page before the last ends within all of them
-pub page_fits : (page n count size : ℕ) → n < count → size ≡ page * count → n * page + page ≤ size
-page_fits page n count size below e =
-    let next : n + 1 ≤ count = omega (arith, below) in
-    let room : page * (n + 1) ≤ page * count = mul-le-mul_left page next in
-    omega (arith, room, e)
 
 -- a page more, which is marked where it wasn't read whole: then it was cut, or one more failure was counted
 marks_only_more : (told : List ℕ) (page n before after : ℕ) (marks : List Bool) (whole : Bool) → n < length marks → before ≤ after →

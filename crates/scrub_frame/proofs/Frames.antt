@@ -45,7 +45,7 @@ head_read x u n l are_bytes first second uuid size =
 
 -- ---- frames
 
-frame-head : (u b : List ℕ) → frame u b ≡ head u (length b) ++ (b ++ u)
+pub frame-head : (u b : List ℕ) → frame u b ≡ head u (length b) ++ (b ++ u)
 frame-head u b = simp append_assoc refl
 
 -- how long a frame is

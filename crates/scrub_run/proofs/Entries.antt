@@ -1,7 +1,7 @@
 -- Bytes that begin with entries: which entries these are.
 use Rattle.std.proofs.Common.{◌≡◌, ◌<◌, ◌≤◌, ◌+◌, ◌*◌, ℕ, List, [], ◌∷◌, ◌++◌, length, drop, get_or, All, arith, refl, sym, ◌∙◌, ap, append_assoc, length-append}
 use Rattle.std.specs.List.{flat_map}
-use Rattle.std.proofs.lemmas.List.{append-nil, drop_at, flat_map_more, get_or_append_left, get_or_at}
+use Rattle.std.proofs.lemmas.List.{drop_at, flat_map_more, get_or_append_left, get_or_at}
 use Rattle.std.proofs.lemmas.List.Elements.{All-drop, All-head, All-push, All-tail}
 use Rattle.std.proofs.lemmas.List.Quantifiers.{all_pairs_push}
 use Rattle.scrub_frame.specs.Locator.{locator_bytes}
@@ -133,8 +133,3 @@ nothing_left x xs ys rest n h hy count e = by go.more go.whole go.rest_is
     by : (more : List EntryValue) → ys ≡ xs ++ more → rest ≡ flat_map entry_bytes more → length rest ≡ 0
     by [] whole is = ap length is
     by (m ∷ more) whole is = absurd (omega (arith, h.count, count, ap length whole, length-append xs (m ∷ more)))
-
--- and what was read is then the bytes
-pub all_read : (x : List ℕ) (xs : List EntryValue) (rest : List ℕ) (n : ℕ) → HasRead x xs rest n → length rest ≡ 0 → x ≡ flat_map entry_bytes xs
-all_read x xs [] n h l = h.spelled ∙ append-nil (flat_map entry_bytes xs)
-all_read x xs (b ∷ rest) n h l = absurd (let f : ⊥ = omega (arith, l) in f)

@@ -1,5 +1,5 @@
 -- What is read of a run's bytes, and that nothing else could be.
-use Rattle.std.proofs.Common.{◌≡◌, ◌<◌, ◌≤◌, ◌-◌, ◌^◌, ℕ, List, [], ◌∷◌, ◌++◌, length, take, drop, get_or, All, arith, refl, sym, ◌∙◌, ap, length-append, take-append-drop}
+use Rattle.std.proofs.Common.{◌≡◌, ◌<◌, ◌≤◌, ◌-◌, ◌^◌, ℕ, List, [], ◌∷◌, ◌++◌, length, take, drop, get_or, All, arith, refl, sym, ◌∙◌, ap, length-append}
 use Rattle.std.specs.List.{flat_map}
 use Rattle.std.proofs.Math.Seq.{take-add}
 use Rattle.std.proofs.lemmas.List.{append-nil, drop_at, take_at}
@@ -8,7 +8,7 @@ use Rattle.sha2.specs.Sha256.{sha256}
 use Rattle.sha2.proofs.Facts256.{length-sha256}
 use Rattle.scrub_frame.proofs.Bytes.{bytes-injective, bytes-number_at}
 use Rattle.scrub_run.specs.Entry.{EntryValue, entry_bytes, IsEntry}
-use Rattle.scrub_run.specs.Run.{magic, signed_bytes, RisesById, IsRun}
+use Rattle.scrub_run.specs.Run.{magic, signed_bytes, IsRun}
 use Rattle.scrub_frame.proofs.Parts.{same_cut}
 use Rattle.scrub_run.proofs.Entries.{Continues, continues}
 
@@ -77,16 +77,3 @@ count_of_run payload signed entries n e h small head =
 -- and its entries stand behind the head
 pub texts_of_run : (payload signed : List ℕ) (entries : List EntryValue) → payload ≡ signed ++ sha256 signed → IsRun payload entries → drop 8 signed ≡ flat_map entry_bytes entries
 texts_of_run payload signed entries e h = ap (drop 8) (signed_of_run payload signed entries e h)
-
--- a head, entries behind it and the digest of both are a run
-pub run_read : (payload signed : List ℕ) (entries : List EntryValue) (n : ℕ) → payload ≡ signed ++ sha256 signed → take 8 signed ≡ magic ++ big_bytes 4 n → n < 2 ^ 32 →
-    length entries ≡ n → All IsEntry entries → RisesById entries → drop 8 signed ≡ flat_map entry_bytes entries → IsRun payload entries
-run_read payload signed entries n e head small count each rising texts = record {
-  entries_of_run = record { count = omega (arith, count, small); each = each; rising = rising };
-  spelled = e ∙ ap (λ s. s ++ sha256 s) whole;
-}
-  where
-    whole : signed ≡ signed_bytes entries
-    whole =
-        sym (take-append-drop 8 signed) ∙ ap (λ t. t ++ drop 8 signed) (head ∙ ap (λ k. magic ++ big_bytes 4 k) (sym count))
-        ∙ ap (λ t. (magic ++ big_bytes 4 (length entries)) ++ t) texts

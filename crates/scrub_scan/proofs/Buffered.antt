@@ -1,5 +1,5 @@
 -- An extent that was read whole, as the bytes of the image.
-use Rattle.std.proofs.Common.{◌≡◌, ◌<◌, ◌≤◌, ◌+◌, ◌*◌, ◌/◌, ◌%◌, ◌-◌, ℕ, List, Bool, true, false, cond, length, get_or, slice_get, arith, refl, sym, ◌∙◌, ap, inl, inr, Option, Some, None, is_none, not, option_and_then}
+use Rattle.std.proofs.Common.{◌≡◌, ◌<◌, ◌≤◌, ◌+◌, ◌*◌, ◌/◌, ◌%◌, ◌-◌, ℕ, List, Bool, true, false, cond, length, get_or, slice_get, arith, refl, sym, ◌∙◌, ap, inl, inr, Option, Some, None, option_and_then}
 use Rattle.std.proofs.lemmas.Bool.{cases_lt, lt-ltb, le-ltb}
 use Rattle.std.proofs.lemmas.List.{get_or_past}
 use Rattle.std.proofs.lemmas.List.Edits.{length-between, get_or-between}
@@ -11,15 +11,6 @@ use Rattle.scrub_disk.specs.Image.{Image, byte, extent_bytes}
 use Rattle.scrub_disk.specs.Buffered.{IsBuffered}
 use Rattle.scrub_disk.proofs.PagesRead.{page_bytes}
 use Rattle.scrub_scan.specs.Buffer.{buffered_byte}
-
--- which pages are unreadable
-pub unreadable_pages : (image : Image) (e : ℕ) (bytes : List ℕ) (readable : List Bool) → IsBuffered image e bytes readable →
-    (q : ℕ) → q < image.geometry.pages → is_none (image.page e q) ≡ not (get_or readable q false)
-unreadable_pages image e bytes readable h q hq = ap is_none (h.pages q hq) ∙ by_mark (get_or readable q false) (page_bytes image.geometry.page q bytes)
-  where
-    by_mark : (b : Bool) (s : List ℕ) → is_none (cond b (Some s) None) ≡ not b
-    by_mark true s = refl
-    by_mark false s = refl
 
 positive : (image : Image) → 0 < image.geometry.page
 positive image = omega (arith, image.geometry.page_size.least)

@@ -1,10 +1,10 @@
 -- Bytes of an extent that were read, and the frame that stands at their place.
-use Rattle.std.proofs.Common.{◌≡◌, ◌<◌, ◌≤◌, ◌+◌, ◌-◌, ◌^◌, ℕ, List, [], ◌++◌, length, take, get_or, arith, refl, sym, ◌∙◌, ap, subst, Option, Some, None, append_assoc, length-append}
+use Rattle.std.proofs.Common.{◌≡◌, ◌<◌, ◌≤◌, ◌+◌, ◌-◌, ◌^◌, ℕ, List, [], ◌++◌, length, take, get_or, arith, sym, ◌∙◌, ap, subst, Option, Some, None, length-append}
 use Rattle.std.proofs.Math.Seq.{get_or-append_right}
 use Rattle.std.proofs.lemmas.List.{get_or_append_left, get_or_default, same_lists, append-nil}
 use Rattle.scrub_disk.specs.Image.{IsText}
 use Rattle.scrub_frame.specs.Frame.{frame, head, magic, BeginsWithFrame}
-use Rattle.scrub_frame.proofs.Frames.{length-frame, length-head, head-injective}
+use Rattle.scrub_frame.proofs.Frames.{frame-head, length-frame, length-head, head-injective}
 use Rattle.scrub_scan.specs.Extent.{Extent, FrameAt, HasGap}
 
 some_injective : (a b : ℕ) → Some a ≡ Some b → a ≡ b
@@ -27,9 +27,6 @@ text_behind at p q xs ys e h k hk =
     ∙ ap Some (get_or-append_right xs ys (length xs + k) 0 (omega arith) ∙ ap (λ n. get_or ys n 0) (let i : length xs + k - length xs ≡ k = omega arith in i))
 
 -- a frame in its three parts
-frame_parts : (u b : List ℕ) → frame u b ≡ head u (length b) ++ (b ++ u)
-frame_parts u b = simp append_assoc refl
-
 length-head_of : (u : List ℕ) (n : ℕ) → length u ≡ 16 → length (head u n) ≡ 22
 length-head_of u n l = omega (arith, length-head u n, l)
 
@@ -44,7 +41,7 @@ no_gap x p n u b f within gap =
 pub head_read : (x : Extent) (p : ℕ) (u b text : List ℕ) → FrameAt x p u b → length text ≡ 22 → IsText x.byte p text → text ≡ head u (length b)
 head_read x p u b text f l h =
     same_text x.byte p text (head u (length b)) (l ∙ sym (length-head_of u (length b) f.has_frame.sixteen)) h
-    (text_front x.byte p (head u (length b)) (b ++ u) (subst (λ (t : List ℕ). IsText x.byte p t) (frame_parts u b) f.stands))
+    (text_front x.byte p (head u (length b)) (b ++ u) (subst (λ (t : List ℕ). IsText x.byte p t) (frame-head u b) f.stands))
 
 pub claimed : (x : Extent) (p n : ℕ) (u b v text : List ℕ) → FrameAt x p u b → length text ≡ 22 → IsText x.byte p text → length v ≡ 16 → n < 2 ^ 32 → text ≡ head v n → n ≡ length b
 claimed x p n u b v text f l h lv small is = (head-injective v u n (length b) lv f.has_frame.sixteen small f.has_frame.short (sym is ∙ head_read x p u b text f l h)).1
@@ -63,5 +60,5 @@ frame_read x p u b text f l h = record {
 -- what was read behind the head is the payload
 pub payload_read : (x : Extent) (p : ℕ) (u b text : List ℕ) → FrameAt x p u b → length text ≡ length b → IsText x.byte (p + 22) text → text ≡ b
 payload_read x p u b text f l h =
-    let behind : IsText x.byte (p + 22) (b ++ u) = text_behind x.byte p (p + 22) (head u (length b)) (b ++ u) (omega (arith, length-head_of u (length b) f.has_frame.sixteen)) (subst (λ (t : List ℕ). IsText x.byte p t) (frame_parts u b) f.stands) in
+    let behind : IsText x.byte (p + 22) (b ++ u) = text_behind x.byte p (p + 22) (head u (length b)) (b ++ u) (omega (arith, length-head_of u (length b) f.has_frame.sixteen)) (subst (λ (t : List ℕ). IsText x.byte p t) (frame-head u b) f.stands) in
     same_text x.byte (p + 22) text b l h (text_front x.byte (p + 22) b u behind)

@@ -1,7 +1,8 @@
 -- Bytes that are cut into the parts of a record: a head, the write pointers, the locators, the digest, and the rest.
 use Rattle.std.proofs.Common.{◌≡◌, ◌≤◌, ◌+◌, ℕ, List, ◌++◌, length, take, drop, arith, refl, sym, ◌∙◌, ap, append_assoc, length-append, take-append-drop, drop-drop}
 use Rattle.std.proofs.Math.Seq.{take-add}
-use Rattle.std.proofs.lemmas.List.{take_at, drop_at}
+use Rattle.std.proofs.lemmas.List.{take_at}
+use Rattle.scrub_frame.proofs.Bytes.{part_at}
 
 -- the parts, where they stand in the bytes
 pub record AreParts (x head pointers runs digest : List ℕ) (p r : ℕ) : Type 0 where
@@ -10,10 +11,6 @@ pub record AreParts (x head pointers runs digest : List ℕ) (p r : ℕ) : Type 
   pub pointers_are : take p (drop 26 x) ≡ pointers
   pub runs_are : take r (drop (26 + p) x) ≡ runs
   pub digest_is : take 32 (drop (26 + p + r) x) ≡ digest
-
--- the part behind those that stand before it
-part_at : (before part behind : List ℕ) (n k : ℕ) → length before ≡ n → length part ≡ k → take k (drop n (before ++ (part ++ behind))) ≡ part
-part_at before part behind n k hn hk = ap (take k) (drop_at before (part ++ behind) n hn) ∙ take_at part behind k hk
 
 pub parts_of : (x head pointers runs digest rest : List ℕ) (p r : ℕ) → length head ≡ 26 → length pointers ≡ p → length runs ≡ r → length digest ≡ 32 →
     x ≡ (head ++ (pointers ++ runs)) ++ digest ++ rest → AreParts x head pointers runs digest p r

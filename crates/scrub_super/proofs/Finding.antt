@@ -146,15 +146,3 @@ found_more stands g n old new s one h adds = record {
       | inl older ↦ rw (is.0 older) (newest_kept stands g n b one older newest)
       | inr newer ↦ rw (is.1 newer) (newest_replaced stands g n b s one newer newest)
     ]
-
--- nothing stands past the last page
-pub found_nothing : (stands : ℕ → ℕ → Type 0) (g : ℕ) (f : Found) → ((q n : ℕ) → g ≤ q → stands q n → ⊥) → f.records ≡ 0 → f.newest ≡ None → IsFoundFrom stands g f
-found_nothing stands g f absent none is = record {
-  pages = [];
-  are = record {
-    rising = λ k hk. absurd (omega (arith, hk));
-    exact = λ q. ((λ there. absurd (let e : ⊥ = omega (arith, there.1) in e)), (λ x. absurd (absent q x.1.0 x.0 x.1.1)));
-  };
-  records = none;
-  newest = rw is absent;
-}

@@ -1,6 +1,7 @@
 -- One more page, which was read whole or is marked.
 use Rattle.std.proofs.Common.{rules, arith, refl, length, ◌≡◌, ◌+◌, ◌*◌, ◌-◌, ◌≤◌, ◌<◌}
-use Rattle.scrub_disk.proofs.RawBytes.{pages_more, lost_more, page_fits}
+use Rattle.scrub_disk.proofs.RawBytes.{pages_more, lost_more}
+use Rattle.scrub_disk.proofs.PagesRead.{page_fits}
 use Rattle.scrub_disk.proofs.loading.read_pages.Goals as goal
 
 pub loop-number-preserved : goal.loop-number-preserved
