@@ -1,5 +1,5 @@
-//! Worked examples: what is written to a disk in memory, and what the locators of it are worth. Bytes, numbers and digests
-//! are those of the format's description.
+//! Worked examples: what is written to a disk in memory, and what the locators of it are worth. Bytes, numbers and
+//! digests are those of the format's description.
 
 ghost use Rattle.std.specs.Prelude.{◌≡◌, ◌-◌, IfOk};
 ghost use Rattle.std.specs.List.{range_with_len};
@@ -8,8 +8,8 @@ ghost use Rattle.scrub_super.specs.Plan.{geometry_of, planned};
 
 use crate::*;
 use scrub_disk::{Geometry, MemDisk, PageSource};
-use scrub_frame::{Locator, digest_of, locate, write_frame, write_locator};
-use scrub_run::ShardId;
+use scrub_frame::{Locator, locate, write_frame};
+use scrub_run::{Entry, ShardId, write_run};
 use scrub_scan::scan_in_order;
 use scrub_super::{MAX_RUNS, Plan, Superblock, choose, write_record};
 use std::alloc::Global;
@@ -103,34 +103,21 @@ fn put_chunk(
 /// The identifier of the shard in the runs here, fifteen zero bytes and 01.
 const SHARD: ShardId = ShardId([0, 0, 0, 0, 0, 0, 0, 0, 0, 0, 0, 0, 0, 0, 0, 1]);
 
-/// The bytes, with their digest behind them.
-fn signed(mut bytes: Vec<u8>) -> Result<Vec<u8>, Fail> {
-    let digest = digest_of(&bytes);
-    bytes.extend_from_slice(&digest)?;
-    Ok(bytes)
-}
-
 /// The run of one shard with these locators; without one it was deleted.
 fn run_of(rt: &impl Abort, alloc: Global, locators: &[Locator]) -> Result<Vec<u8>, Fail> {
     assert!(rt; locators.len() <= 64);
-    let mut run = Vec::from_slice(alloc, b"RUN1")?;
-    run.extend_from_slice(&1u32.to_be_bytes())?;
-    run.extend_from_slice(&SHARD.0)?;
-    run.push(locators.len() as u8)?;
-    for locator in locators {
-        run.extend_from_slice(&write_locator(locator))?;
-    }
-    signed(run)
+    let entry = Entry::new(SHARD, Vec::from_slice(alloc, locators)?);
+    Ok(write_run(alloc, &[entry])?)
 }
 
-/// Writes a superblock record of generation 1 to page 0 of extent 0.
+/// Writes a superblock record of generation 1 to page 0 of extent 0, and tells its length in bytes.
 fn put_superblock(
     rt: &impl Abort,
     alloc: Global,
     disk: &mut MemDisk,
     pointers: &[u32],
     runs: &[Locator],
-) -> Result<(), Fail> {
+) -> Result<usize, Fail> {
     let geometry = disk.geometry();
     assert_eq!(rt; pointers.len() + 1, geometry.extents() as usize);
     assert!(rt;
@@ -147,7 +134,7 @@ fn put_superblock(
     let mut record = Vec::new(alloc);
     write_record(&mut record, geometry, &superblock)?;
     put(rt, disk, 0, 0, &record);
-    Ok(())
+    Ok(record.len())
 }
 
 /// Makes a page of an extent unreadable.
@@ -167,8 +154,8 @@ fn plan_of(alloc: Global, disk: &MemDisk) -> Result<Plan, Fail>
     Ok(Plan::make(alloc, &chosen, disk.geometry())?)
 }
 
-/// Writes to a blank disk of three extents `abc` at the start of extent 1, the run of one shard that names it in extent 2,
-/// and the superblock of both. Tells the run's locator.
+/// Writes to a blank disk of three extents `abc` at the start of extent 1, the run of one shard that names it in extent
+/// 2, and the superblock of both. Tells the run's locator.
 fn put_abc_and_its_run(
     rt: &impl Abort,
     alloc: Global,
@@ -181,8 +168,8 @@ fn put_abc_and_its_run(
     Ok(run)
 }
 
-/// A disk of four extents with `abc` in extent 1 and three runs of one shard: the newest, at the start of extent 2, deletes
-/// it; one behind it and one in extent 3 name the chunk.
+/// A disk of four extents with `abc` in extent 1 and three runs of one shard: the newest, at the start of extent 2,
+/// deletes it; one behind it and one in extent 3 name the chunk.
 fn deleted_in_the_newest_run(rt: &impl Abort, alloc: Global) -> Result<MemDisk, Fail> {
     let mut disk = MemDisk::blank(alloc, Geometry::new(64, 4, 4)?)?;
     put_frame(rt, alloc, &mut disk, 1, 0, ONES, b"abc")?;
@@ -192,18 +179,14 @@ fn deleted_in_the_newest_run(rt: &impl Abort, alloc: Global) -> Result<MemDisk, 
     let newest = put_chunk(rt, alloc, &mut disk, 2, 0, TWOS, &deleted)?;
     let older = put_chunk(rt, alloc, &mut disk, 2, 95, THREES, &bound)?;
     let oldest = put_chunk(rt, alloc, &mut disk, 3, 0, FOURS, &bound)?;
-    put_superblock(
-        rt,
-        alloc,
-        &mut disk,
-        &[41, 250, 155],
-        &[newest, older, oldest],
-    )?;
+    let runs = [newest, older, oldest];
+    let record = put_superblock(rt, alloc, &mut disk, &[41, 250, 155], &runs)?;
+    assert_eq!(rt; record, 250);
     Ok(disk)
 }
 
-/// A disk of four extents with `abc` in extent 1 and two runs of one shard: the newer, in extent 2, deletes it, but the last
-/// bit of its digest is another; the older, in extent 3, names the chunk.
+/// A disk of four extents with `abc` in extent 1 and two runs of one shard: the newer, in extent 2, deletes it, but the
+/// last bit of its digest is another; the older, in extent 3, names the chunk.
 fn broken_newest_run(rt: &impl Abort, alloc: Global) -> Result<MemDisk, Fail> {
     let mut disk = MemDisk::blank(alloc, Geometry::new(64, 4, 4)?)?;
     put_frame(rt, alloc, &mut disk, 1, 0, ONES, b"abc")?;
@@ -217,11 +200,13 @@ fn broken_newest_run(rt: &impl Abort, alloc: Global) -> Result<MemDisk, Fail> {
     Ok(disk)
 }
 
-/// A disk of three extents with `abc` in extent 1 and the run that names it in extent 2; the superblock names the run twice.
+/// A disk of three extents with `abc` in extent 1 and the run that names it in extent 2; the superblock names the run
+/// twice.
 fn run_named_twice(rt: &impl Abort, alloc: Global) -> Result<MemDisk, Fail> {
     let mut disk = blank_disk(alloc)?;
     let run = put_abc_and_its_run(rt, alloc, &mut disk)?;
-    put_superblock(rt, alloc, &mut disk, &[41, 155], &[run; 2])?;
+    let record = put_superblock(rt, alloc, &mut disk, &[41, 155], &[run; 2])?;
+    assert_eq!(rt; record, 186);
     Ok(disk)
 }
 

@@ -1,5 +1,5 @@
-//! Locators as bytes, sixty for each, and the locator of a payload. Whether a chunk stands where a locator says is left to the
-//! crates above.
+//! Locators as bytes, sixty for each, and the locator of a payload. Whether a chunk stands where a locator says is left
+//! to the crates above.
 
 ghost use Rattle.std.specs.Prelude.{◌≡◌, ◌+◌, ◌*◌, ◌≤◌, ◌++◌, All, IfOk, length, take, drop, vec_len, vec_capacity};
 ghost use Rattle.std.specs.List.{flat_map};
