@@ -1,16 +1,15 @@
 //! What a locator is worth: whether the chunk that it names stands at its place.
 
-ghost use Rattle.std.specs.Prelude.{◌≡◌, ◌≤◌, ◌<◌, ◌+◌, ◌-◌, ◌/◌, ◌↔◌, ℕ, IfOk, IfSome, IfNone, IsTrue, Contains, map, length, slice_index};
+ghost use Rattle.std.specs.Prelude.{◌≡◌, ◌≤◌, ◌<◌, ◌+◌, ◌-◌, ◌/◌, ◌↔◌, ℕ, IfOk, IfSome, IfNone, IsTrue, Contains, map, length};
 ghost use Rattle.std.specs.List.{range_with_len};
 ghost use Rattle.std.specs.List.Sorted.{IsStrictlyIncreasing};
-ghost use Rattle.sha2.specs.Sha256.{sha256};
 ghost use Rattle.scrub_disk.specs.Image.{Image, extent_bytes, unreadable_pages};
 ghost use Rattle.scrub_super.specs.Plan.{geometry_of, planned, pointer_of};
 ghost use Rattle.scrub_super.specs.declared.plan.Plan.{Plan};
 ghost use Rattle.scrub_scan.specs.Findings.{IsFindings};
 ghost use Rattle.scrub_scan.specs.Item.{start_of};
 ghost use Rattle.scrub_check.specs.Status.{end_of, InRange, IsUnreadable, IsMismatch, Agrees, HasStatus};
-ghost use Rattle.scrub_scan.specs.OneReader.{IsOneReader, image_of_all, all_found};
+ghost use Rattle.scrub_scan.specs.OneReader.{IsOneReader, all_found};
 
 use scrub_disk::{Geometry, OutOfMemory, PageSource};
 use scrub_frame::Locator;

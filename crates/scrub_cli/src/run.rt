@@ -1,6 +1,6 @@
 //! A run of the program: words in, an answer and a status out.
 
-ghost use Rattle.std.specs.Prelude.{◌≡◌, ◌≢◌, IfOk, IfErr};
+ghost use Rattle.std.specs.Prelude.{◌≢◌, IfOk, IfErr};
 ghost use Rattle.scrub_cli.specs.Answer.{IsAnswer, RunWrites, WritesAnswer};
 ghost use Rattle.scrub_cli.specs.Fault.{status_of};
 

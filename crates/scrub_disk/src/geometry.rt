@@ -1,6 +1,6 @@
 //! The sizes of a disk, and the limits that they keep. Which bytes the disk holds is left to its image.
 
-ghost use Rattle.std.specs.Prelude.{◌≡◌, ◌+◌, ◌*◌, ◌^◌, ◌<◌, ◌≤◌, MatchResult, IsTrue};
+ghost use Rattle.std.specs.Prelude.{◌≡◌, ◌*◌, ◌^◌, ◌<◌, ◌≤◌, MatchResult};
 ghost use Rattle.scrub_disk.specs.Limits.{IsPageSize, AreExtents, ArePages};
 
 use thiserror::Error;

@@ -1,6 +1,6 @@
 //! Loading a raw image into memory, page by page. Whether the bytes of a page mean anything is left to the crates above.
 
-ghost use Rattle.std.specs.Prelude.{◌≡◌, ◌≢◌, ◌≤◌, ◌+◌, ◌-◌, ◌*◌, ◌<◌, ◌^◌, ◌/◌, ◌⊎◌, [], ℕ, All, false, true, IfOk, IfSome, length, slice_get, slice_index, slice_index_or, Err, Some};
+ghost use Rattle.std.specs.Prelude.{◌≡◌, ◌≢◌, ◌≤◌, ◌+◌, ◌-◌, ◌*◌, ◌<◌, ◌^◌, ◌/◌, ◌⊎◌, [], All, false, true, IfOk, IfSome, length, slice_get, Err, Some};
 ghost use Rattle.std.specs.Bool.{OnTrue, OnFalse};
 ghost use Rattle.scrub_disk.specs.Image.{IsText};
 ghost use Rattle.scrub_disk.specs.Raw.{HoldsUnmarked, HoldsRaw, MarksAll, MarksOnly, LosesOnly, IsLoaded};

@@ -1,7 +1,7 @@
 //! Raw images: the bytes of a whole disk, as a file gives them, in pieces and with failures. How pages lie in them is
 //! left to `loading`.
 
-ghost use Rattle.std.specs.Prelude.{◌≡◌, ◌≤◌, ◌+◌, ◌<◌, ◌^◌, ℕ, List, Option, IfOk, IfSome, if◌then◌else◌, is_ok};
+ghost use Rattle.std.specs.Prelude.{◌≡◌, ◌≤◌, ◌+◌, ◌<◌, ◌^◌, ℕ, List, Option, IfOk, if◌then◌else◌, is_ok};
 ghost use Rattle.scrub_disk.specs.Raw.{IsRead};
 
 use thiserror::Error;

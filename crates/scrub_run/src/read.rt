@@ -1,6 +1,6 @@
 //! Index runs, read from payloads. Which payloads are read is left to the crates above.
 
-ghost use Rattle.std.specs.Prelude.{◌≡◌, ◌+◌, ◌*◌, ◌≤◌, ◌++◌, ◌↔◌, List, [], ◌∷◌, ℕ, All, IsTrue, IfOk, IfSome, IfNone, IsErrOf, length, take, slice_index};
+ghost use Rattle.std.specs.Prelude.{◌≡◌, ◌+◌, ◌*◌, ◌≤◌, ◌++◌, ◌↔◌, List, ℕ, All, IsTrue, IfOk, IfSome, IfNone, IsErrOf, length, take, slice_index};
 ghost use Rattle.std.specs.List.{flat_map};
 ghost use Rattle.byteorder.specs.Endian.{big_bytes};
 ghost use Rattle.sha2.specs.Sha256.{sha256};

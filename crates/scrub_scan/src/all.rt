@@ -29,7 +29,6 @@ fn position_of<D: PageSource>(results: &[ExtentResult<'_, D>], extent: u32) -> O
 }
 
 impl<'d, D: PageSource> AllFindings<'d, D> {
-    ghost use Rattle.scrub_scan.specs.Findings.{IsFindings};
     ghost use Rattle.scrub_scan.specs.OneReader.{image_of_all, all_found};
     ghost use Rattle.scrub_scan.specs.Result.{image_of, found};
 

@@ -1,7 +1,7 @@
 //! An extent that is read whole into memory, and what stands at a place of it. Which item that makes is left to the
 //! tiling.
 
-ghost use Rattle.std.specs.Prelude.{◌≡◌, ℕ, ◌+◌, ◌*◌, ◌/◌, ◌^◌, ◌<◌, ◌≤◌, ◌↔◌, not, true, false, is_none, length, IsTrue, IfSome, IfNone, IfOk, slice_index, slice_index_or, slice_range};
+ghost use Rattle.std.specs.Prelude.{◌≡◌, ℕ, ◌+◌, ◌*◌, ◌/◌, ◌^◌, ◌<◌, ◌≤◌, ◌↔◌, not, false, is_none, length, IsTrue, IfSome, IfNone, IfOk, slice_index, slice_index_or};
 ghost use Rattle.scrub_disk.specs.Image.{byte, extent_bytes};
 ghost use Rattle.scrub_scan.specs.Extent.{FrameAt, NoFrameAt, bound};
 ghost use Rattle.scrub_scan.specs.Buffer.{buffered_byte, IsNextUnreadable};

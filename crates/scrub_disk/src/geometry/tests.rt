@@ -1,7 +1,5 @@
 //! Sizes at the limits and past them.
 
-ghost use Rattle.std.specs.Prelude.{◌≡◌};
-
 use super::*;
 use std::test::Fail;
 
