@@ -2,14 +2,14 @@
 use Rattle.std.proofs.Common.{◌≡◌, ◌≢◌, ◌<◌, ◌≤◌, ◌+◌, ℕ, Bool, List, [], ◌∷◌, replicate, arith, refl, sym, ◌∙◌, ap, Some, None, slice_index, lit<}
 use Rattle.std.proofs.lemmas.List.Elements.{All-cons, All-nil}
 use Rattle.sha2.specs.Sha256.{sha256}
-use Rattle.scrub_disk.specs.Image.{Image, byte, IsText, extent_bytes}
+use Rattle.scrub_disk.specs.Image.{Image, byte, AreBytesAt, extent_bytes}
 use Rattle.scrub_frame.specs.Frame.{frame}
 use Rattle.scrub_frame.specs.declared.locator.Locator.{Locator}
 use Rattle.scrub_scan.specs.declared.item.Item.TheVariants.{Chunk}
 use Rattle.scrub_scan.specs.Extent.{extent_of, FrameAt}
 use Rattle.scrub_scan.specs.Item.{IsItem}
 use Rattle.scrub_scan.specs.Tiling.{IsTiling}
-use Rattle.scrub_run.specs.declared.shard.ShardId.{ShardId}
+use Rattle.scrub_run.specs.declared.shard_id.ShardId.{ShardId}
 use Rattle.scrub_check.specs.declared.status.Status.TheVariants.{OutOfRange, PastPointer, WrongUuid, WrongLength, WrongDigest, Sound}
 use Rattle.scrub_check.specs.declared.named.Owner.TheVariants.{Run, Shard}
 use Rattle.scrub_check.specs.Status.{InRange, FindsFrame, HasStatus}
@@ -38,7 +38,7 @@ record HoldsAbc (image : Image) : Type 0 where
   page : image.geometry.page ≡ 64
   pages : image.geometry.pages ≡ 4
   extents : image.geometry.extents ≡ 3
-  text : IsText (byte image 1) 0 (frame ones abc)
+  stands : AreBytesAt (byte image 1) 0 (frame ones abc)
 
 -- a locator of the start of an extent
 abbrev start_of_extent : ℕ → ℕ → List ℕ → List ℕ → Locator
@@ -49,7 +49,7 @@ unfolding ones abc
 stands image w a h = record {
   has_frame = record { sixteen = refl; short = lit< tt };
   fits = omega (arith, h);
-  stands = a.text;
+  stands = a.stands;
 }
 
 in_range : (image : Image) (n : ℕ) (u d : List ℕ) → HoldsAbc image → n ≤ 3 → InRange image.geometry (start_of_extent 1 n u d)
@@ -76,7 +76,7 @@ finds image n u d a h = record {
     readable : (i : ℕ) → i < 41 → byte image 1 i ≡ None → ⊥
     readable i low none =
         let at : 0 + i ≡ i = omega arith in
-        let there : byte image 1 (0 + i) ≡ Some (slice_index (frame ones abc) i) = a.text i (omega (arith, low)) in
+        let there : byte image 1 (0 + i) ≡ Some (slice_index (frame ones abc) i) = a.stands i (omega (arith, low)) in
         let same : Some (slice_index (frame ones abc) i) ≡ None = sym there ∙ ap (byte image 1) at ∙ none in
         some_not_none (slice_index (frame ones abc) i) same
 

@@ -7,7 +7,7 @@ use Rattle.scrub_scan.specs.Extent.{extent_of, FrameAt, NoFrameAt}
 use Rattle.scrub_scan.specs.OneFrame.{one_frame_at}
 use Rattle.scrub_check.specs.declared.status.Status.{Status}
 use Rattle.scrub_check.specs.declared.status.Status.TheVariants.{OutOfRange, PastPointer, Unreadable, NoFrame, WrongUuid, WrongLength, WrongDigest, Hidden, Sound}
-use Rattle.scrub_check.specs.Status.{InRange, BelowPointer, IsUnreadable, CanStand, FindsFrame, NamesChunk, BeginsAt, HasStatus}
+use Rattle.scrub_check.specs.Status.{InRange, BelowPointer, HasUnreadableByte, CanStand, FindsFrame, NamesChunk, BeginsAt, HasStatus}
 use Rattle.scrub_check.proofs.RunStates.{unnamed}
 
 -- a frame of the locator's UUID stands there
@@ -36,7 +36,7 @@ abbrev ByTests : Image → ℕ → Locator → Status → Type 0
 ByTests image w l s =
     Tested OutOfRange s (InRange image.geometry l)
     (Tested PastPointer s (BelowPointer w l)
-    (Tested Unreadable s (¬ IsUnreadable image l) (ByFrame image w l s)))
+    (Tested Unreadable s (¬ HasUnreadableByte image l) (ByFrame image w l s)))
 
 from_can : (image : Image) (w : ℕ) (l : Locator) (s : Status) → CanStand image w l → ByFrame image w l s → ByTests image w l s
 from_can image w l s can more = inr (can.in_range, inr (can.below, inr (can.readable, more)))

@@ -29,14 +29,14 @@ abbrev pub BelowPointer : ℕ → Locator → Type 0
 BelowPointer w l = end_of l ≤ w
 
 -- one of its bytes can't be read
-abbrev pub IsUnreadable : Image → Locator → Type 0
-IsUnreadable image l = HasGap (byte image l.extent) l.offset (l.length + 38)
+abbrev pub HasUnreadableByte : Image → Locator → Type 0
+HasUnreadableByte image l = HasGap (byte image l.extent) l.offset (l.length + 38)
 
 -- it would lie where it can be read, in range and below the pointer
 pub record CanStand (image : Image) (w : ℕ) (l : Locator) : Type 0 where
   pub in_range : InRange image.geometry l
   pub below : BelowPointer w l
-  pub readable : ¬ IsUnreadable image l
+  pub readable : ¬ HasUnreadableByte image l
 
 -- the frame of u and b stands at its place
 pub record FindsFrame (image : Image) (w : ℕ) (l : Locator) (u b : List ℕ) : Type 0 where
@@ -60,7 +60,7 @@ pub record NamesChunk (image : Image) (w : ℕ) (l : Locator) : Type 0 where
 abbrev pub HasStatus : Image → ℕ → Locator → Status → Type 0
 HasStatus image w l OutOfRange = ¬ InRange image.geometry l
 HasStatus image w l PastPointer = InRange image.geometry l × ¬ BelowPointer w l
-HasStatus image w l Unreadable = InRange image.geometry l × BelowPointer w l × IsUnreadable image l
+HasStatus image w l Unreadable = InRange image.geometry l × BelowPointer w l × HasUnreadableByte image l
 HasStatus image w l NoFrame = CanStand image w l × NoFrameAt (extent_of image l.extent w) l.offset
 HasStatus image w l WrongUuid = (u : List ℕ) × ((b : List ℕ) × FindsFrame image w l u b × (u ≢ l.uuid))
 HasStatus image w l WrongLength = (b : List ℕ) × FindsFrame image w l l.uuid b × (len b ≢ l.length)

@@ -4,7 +4,7 @@
 ghost use Rattle.std.specs.Prelude.{◌≡◌, ◌-◌, ℕ, IfOk};
 ghost use Rattle.std.specs.List.{range_with_len};
 ghost use Rattle.scrub_super.specs.Plan.{geometry_of, planned, pointer_of};
-ghost use Rattle.scrub_scan.specs.OneReader.{IsOneReader, all_found};
+ghost use Rattle.scrub_scan.specs.AllFindings.{AreAllFindings, all_scanned};
 ghost use Rattle.scrub_check.specs.Status.{NamesChunk};
 ghost use Rattle.scrub_check.specs.Runs.{IsRunOf, HasRunState, AreReadRuns};
 
@@ -99,7 +99,7 @@ fn run_of<D: PageSource>(
 ) -> Result<(Option<Run>, RunState), OutOfMemory>
     requires geometry { geometry_of plan.now ≡ (D.image disk.now).geometry }
     requires planned { planned plan.now ≡ range_with_len 1 ((D.image disk.now).geometry.extents - 1) }
-    requires findings { IsOneReader (D.image disk.now) plan.now (all_found all.now) }
+    requires findings { AreAllFindings (D.image disk.now) plan.now (all_scanned all.now) }
     ensures run { IfOk result (λ r. IsRunOf (D.image disk.now) (pointer_of plan.now locator.now.extent) locator.now r.0) }
     ensures state { IfOk result (λ r. HasRunState (D.image disk.now) (pointer_of plan.now locator.now.extent) locator.now r.1) }
 {
@@ -118,7 +118,7 @@ pub fn read_runs<D: PageSource>(
 ) -> Result<ReadRuns, OutOfMemory>
     requires geometry { geometry_of plan.now ≡ (D.image disk.now).geometry }
     requires planned { planned plan.now ≡ range_with_len 1 ((D.image disk.now).geometry.extents - 1) }
-    requires findings { IsOneReader (D.image disk.now) plan.now (all_found all.now) }
+    requires findings { AreAllFindings (D.image disk.now) plan.now (all_scanned all.now) }
     ensures { IfOk result (AreReadRuns (D.image disk.now) plan.now) }
 {
     let locators = plan.runs();

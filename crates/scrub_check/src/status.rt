@@ -8,8 +8,8 @@ ghost use Rattle.scrub_super.specs.Plan.{geometry_of, planned, pointer_of};
 ghost use Rattle.scrub_super.specs.declared.plan.Plan.{Plan};
 ghost use Rattle.scrub_scan.specs.Findings.{IsFindings};
 ghost use Rattle.scrub_scan.specs.Item.{start_of};
-ghost use Rattle.scrub_check.specs.Status.{end_of, InRange, IsUnreadable, IsMismatch, Agrees, HasStatus};
-ghost use Rattle.scrub_scan.specs.OneReader.{IsOneReader, all_found};
+ghost use Rattle.scrub_check.specs.Status.{end_of, InRange, HasUnreadableByte, IsMismatch, Agrees, HasStatus};
+ghost use Rattle.scrub_scan.specs.AllFindings.{AreAllFindings, all_scanned};
 
 use scrub_disk::{Geometry, OutOfMemory, PageSource};
 use scrub_frame::Locator;
@@ -97,8 +97,8 @@ fn mismatch(locator: &Locator, standing: &Standing) -> Option<Status>
 
 /// The findings of a planned extent.
 fn findings_of<'a, D: PageSource>(all: &'a AllFindings<'_, D>, extent: u32) -> &'a Findings
-    requires { Contains (map (λ f. f.extent) (all_found all.now)) extent }
-    ensures { (image : Image) (plan : Plan) → IsOneReader image plan (all_found all.now) → IsFindings image extent (pointer_of plan extent) result.now }
+    requires { Contains (map (λ f. f.extent) (all_scanned all.now)) extent }
+    ensures { (image : Image) (plan : Plan) → AreAllFindings image plan (all_scanned all.now) → IsFindings image extent (pointer_of plan extent) result.now }
 {
     match all.of_extent(extent) {
         Some(findings) => findings,
@@ -110,7 +110,7 @@ fn findings_of<'a, D: PageSource>(all: &'a AllFindings<'_, D>, extent: u32) -> &
 fn is_unreadable<D: PageSource>(disk: &D, bad_pages: &[u32], locator: &Locator) -> bool
     requires in_range { InRange (D.image disk.now).geometry locator.now }
     requires pages { bad_pages.now ≡ unreadable_pages (D.image disk.now) locator.now.extent }
-    ensures { IsTrue result ↔ IsUnreadable (D.image disk.now) locator.now }
+    ensures { IsTrue result ↔ HasUnreadableByte (D.image disk.now) locator.now }
 {
     let page = disk.geometry().page();
     let first = locator.offset / page;
@@ -129,7 +129,7 @@ pub fn status_of<D: PageSource>(
 ) -> Result<Status, OutOfMemory>
     requires geometry { geometry_of plan.now ≡ (D.image disk.now).geometry }
     requires planned { planned plan.now ≡ range_with_len 1 ((D.image disk.now).geometry.extents - 1) }
-    requires findings { IsOneReader (D.image disk.now) plan.now (all_found all.now) }
+    requires findings { AreAllFindings (D.image disk.now) plan.now (all_scanned all.now) }
     ensures { IfOk result (HasStatus (D.image disk.now) (pointer_of plan.now locator.now.extent) locator.now) }
 {
     let geometry = plan.geometry();

@@ -47,14 +47,14 @@ IsBadPageFault g words TooLong = ⊥
 IsBadPageFault g words (Output written) = ⊥
 
 -- the write pointer: the one that is given, or the extent's size
-abbrev pub pointer_of : ItemsWords → Sizes → ℕ
-pointer_of words g = unwrap_or words.pointer (extent_bytes g)
+abbrev pub given_pointer : ItemsWords → Sizes → ℕ
+given_pointer words g = unwrap_or words.pointer (extent_bytes g)
 
 -- the disk has the sizes that are given, and the extent and the pointer lie in it
 pub record AreInDisk (words : ItemsWords) (g : Sizes) : Type 0 where
   pub sizes : HasSizes g words.image.page words.image.pages words.image.extents
   pub in_disk : words.extent < g.extents
-  pub in_extent : pointer_of words g ≤ extent_bytes g
+  pub in_extent : given_pointer words g ≤ extent_bytes g
 
 -- the words are accepted: sizes, extent and pointer are, and the words for unreadable pages name these pages
 pub record AreAccepted (words : ItemsWords) (g : Sizes) (unreadable : List (ℕ × ℕ)) : Type 0 where
@@ -68,13 +68,13 @@ pub record IsItemsAnswer (raw : Option (List ℕ)) (words : ItemsWords) (text : 
   pub accepted : AreAccepted words geometry unreadable
   pub image : Image
   pub loaded : IsLoaded raw geometry unreadable image
-  pub listed : IsListing (extent_of image words.extent (pointer_of words geometry)) text status
+  pub listed : IsListing (extent_of image words.extent (given_pointer words geometry)) text status
 
 -- Why there is no listing: each fault comes only where none before it does, and want of memory comes anywhere.
 abbrev pub IsItemsFault : Option (List ℕ) → ItemsWords → Fault → Type 0
 IsItemsFault raw words (Geometry fault) = IsFirstBroken words.image.page words.image.pages words.image.extents fault
 IsItemsFault raw words Extent = (g : Sizes) × HasSizes g words.image.page words.image.pages words.image.extents × (g.extents ≤ words.extent)
-IsItemsFault raw words Pointer = (g : Sizes) × HasSizes g words.image.page words.image.pages words.image.extents × (words.extent < g.extents) × (extent_bytes g < pointer_of words g)
+IsItemsFault raw words Pointer = (g : Sizes) × HasSizes g words.image.page words.image.pages words.image.extents × (words.extent < g.extents) × (extent_bytes g < given_pointer words g)
 IsItemsFault raw words (BadPage word) = (g : Sizes) × AreInDisk words g × IsFirstBadPage g words.image.bad_pages.items word
 IsItemsFault raw words (NoImage name) = (g : Sizes) × (pages : List (ℕ × ℕ)) × AreAccepted words g pages × (name ≡ words.image.name)
 IsItemsFault raw words TooLong = (g : Sizes) × (pages : List (ℕ × ℕ)) × AreAccepted words g pages × IfSome raw (λ told. g.page * g.pages * g.extents < length told)

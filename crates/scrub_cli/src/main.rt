@@ -15,13 +15,13 @@ mod files;
 mod images;
 mod items;
 mod pair;
-mod run;
+mod running;
 mod words;
-mod write;
+mod writing;
 
 use crate::fault::Fault;
 use crate::files::NamedFiles;
-use crate::run::run;
+use crate::running::run;
 use scrub_disk::OutOfMemory;
 use std::env::Env;
 use std::fs::{File, Files};

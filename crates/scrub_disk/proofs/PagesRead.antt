@@ -20,10 +20,10 @@ pub record PagesRead (page_at : ℕ → Option (List ℕ)) (page n : ℕ) (bytes
   pub count : length readable ≡ n
   pub each : (q : ℕ) → q < n → page_at q ≡ cond (get_or readable q false) (Some (page_bytes page q bytes)) None
 
--- what the answer of a read says of the page: `text` is what was read
-pub page_answered : {E : Type 0} (r : Result (Unit {0}) E) (page : Option (List ℕ)) (text : List ℕ) → OnOk r (page ≡ Some text) → OnErr r (page ≡ None) → page ≡ cond (is_ok r) (Some text) None
-page_answered (Ok x) page text ok err = ok
-page_answered (Err e) page text ok err = err
+-- what the answer of a read says of the page: `part` is what was read
+pub page_answered : {E : Type 0} (r : Result (Unit {0}) E) (page : Option (List ℕ)) (part : List ℕ) → OnOk r (page ≡ Some part) → OnErr r (page ≡ None) → page ≡ cond (is_ok r) (Some part) None
+page_answered (Ok x) page part ok err = ok
+page_answered (Err e) page part ok err = err
 
 -- a page among n lies in the bytes
 pub page_fits : (page q n size : ℕ) → q < n → size ≡ page * n → q * page + page ≤ size
@@ -33,8 +33,8 @@ page_fits page q n size below e =
     omega (arith, room, e)
 
 -- how long the part is that a page is read into
-pub length-page_text : (page a size : ℕ) (xs ys text : List ℕ) → length text ≡ length (between a (a + page) xs) → xs ≡ ys → length ys ≡ size → a + page ≤ size → length text ≡ page
-length-page_text page a size xs ys text e same l fits =
+pub length-page_bytes : (page a size : ℕ) (xs ys part : List ℕ) → length part ≡ length (between a (a + page) xs) → xs ≡ ys → length ys ≡ size → a + page ≤ size → length part ≡ page
+length-page_bytes page a size xs ys part e same l fits =
     e ∙ length-between xs a (a + page) (let m : length xs ≡ length ys = ap length same in omega (arith, m, l, fits)) ∙ (let k : a + page - a ≡ page = omega arith in k)
 
 -- ---- one more page
@@ -51,40 +51,40 @@ part_below_write xs ys i j a n below fits l =
     at_place : (k : ℕ) (d : ℕ) → k < a → get_or (put_mid a n xs ys) k d ≡ get_or xs k d
     at_place k d hk = search (rules, places)
 
-one_more_page : (page_at : ℕ → Option (List ℕ)) (page n : ℕ) (bytes text : List ℕ) (readable : List Bool) (b : Bool) →
-    PagesRead page_at page n bytes readable → n * page + page ≤ length bytes → length text ≡ page → page_at n ≡ cond b (Some text) None →
-    PagesRead page_at page (n + 1) (put_mid (n * page) page bytes text) (readable ++ b ∷ [])
-one_more_page page_at page n bytes text readable b h fits l answered = record {
+one_more_page : (page_at : ℕ → Option (List ℕ)) (page n : ℕ) (bytes part : List ℕ) (readable : List Bool) (b : Bool) →
+    PagesRead page_at page n bytes readable → n * page + page ≤ length bytes → length part ≡ page → page_at n ≡ cond b (Some part) None →
+    PagesRead page_at page (n + 1) (put_mid (n * page) page bytes part) (readable ++ b ∷ [])
+one_more_page page_at page n bytes part readable b h fits l answered = record {
   count = length_push readable b ∙ ap (λ m. m + 1) h.count;
   each = λ q hq. elim (cases_lt q n) [
     | inl below ↦
         let next : q + 1 ≤ n = omega (arith, below) in
         let room : page * (q + 1) ≤ page * n = mul-le-mul_left page next in
-        let same : page_bytes page q (put_mid (n * page) page bytes text) ≡ page_bytes page q bytes =
-        part_below_write bytes text (q * page) (q * page + page) (n * page) page (omega (arith, room)) fits l in
+        let same : page_bytes page q (put_mid (n * page) page bytes part) ≡ page_bytes page q bytes =
+        part_below_write bytes part (q * page) (q * page + page) (n * page) page (omega (arith, room)) fits l in
         h.each q below
         ∙ ap (λ m. cond m (Some (page_bytes page q bytes)) None) (sym (get_or_append_left readable (b ∷ []) false q (omega (arith, below, h.count))))
         ∙ ap (λ s. cond (get_or (readable ++ b ∷ []) q false) (Some s) None) (sym same)
     | inr above ↦
         let e : q ≡ n = omega (arith, hq, above) in
         rw e (answered
-        ∙ ap (λ m. cond m (Some text) None) (sym (get_or_push readable b false n h.count))
+        ∙ ap (λ m. cond m (Some part) None) (sym (get_or_push readable b false n h.count))
         ∙ ap (λ s. cond (get_or (readable ++ b ∷ []) n false) (Some s) None) (sym (written (n * page) refl)))
   ];
 }
   where
-    written : (a : ℕ) → a ≡ n * page → between a (a + page) (put_mid a page bytes text) ≡ text
-    written a e = between-put_mid a page bytes text (a + page) (omega (arith, fits, e)) (l ∙ (let m : page ≡ a + page - a = omega arith in m))
+    written : (a : ℕ) → a ≡ n * page → between a (a + page) (put_mid a page bytes part) ≡ part
+    written a e = between-put_mid a page bytes part (a + page) (omega (arith, fits, e)) (l ∙ (let m : page ≡ a + page - a = omega arith in m))
 
 -- the same of a `Vec` after a page was read into a part of it
-pub one_more_page_in_vec : (page_at : ℕ → Option (List ℕ)) (page n size : ℕ) (v : Vec ℕ Global) (xs text : List ℕ) (readable after : List Bool) (b : Bool) →
-    length v.items ≡ size → PagesRead page_at page n v.items readable → n * page + page ≤ size → xs ≡ v.items → length text ≡ page → page_at n ≡ cond b (Some text) None → after ≡ readable ++ b ∷ [] →
-    (length ((with_items v (put_mid (n * page) (n * page + page - n * page) xs text)).items) ≡ size) × PagesRead page_at page (n + 1) ((with_items v (put_mid (n * page) (n * page + page - n * page) xs text)).items) after
-one_more_page_in_vec page_at page n size v xs text readable after b l h fits hx lz answered pushed' =
+pub one_more_page_in_vec : (page_at : ℕ → Option (List ℕ)) (page n size : ℕ) (v : Vec ℕ Global) (xs part : List ℕ) (readable after : List Bool) (b : Bool) →
+    length v.items ≡ size → PagesRead page_at page n v.items readable → n * page + page ≤ size → xs ≡ v.items → length part ≡ page → page_at n ≡ cond b (Some part) None → after ≡ readable ++ b ∷ [] →
+    (length ((with_items v (put_mid (n * page) (n * page + page - n * page) xs part)).items) ≡ size) × PagesRead page_at page (n + 1) ((with_items v (put_mid (n * page) (n * page + page - n * page) xs part)).items) after
+one_more_page_in_vec page_at page n size v xs part readable after b l h fits hx lz answered pushed' =
     let k : n * page + page - n * page ≡ page = omega arith in
-    let m : length (put_mid (n * page) page v.items text) ≡ length v.items = length_written v.items text (n * page) page (omega (arith, fits, l)) lz in
-    let same : (with_items v (put_mid (n * page) page v.items text)).items ≡ put_mid (n * page) page v.items text = with_items_is v (put_mid (n * page) page v.items text) (m ∙ sym v.ok.0) in
-    rw (k, hx, same, pushed') (m ∙ l, one_more_page page_at page n v.items text readable b h (omega (arith, fits, l)) lz answered)
+    let m : length (put_mid (n * page) page v.items part) ≡ length v.items = length_written v.items part (n * page) page (omega (arith, fits, l)) lz in
+    let same : (with_items v (put_mid (n * page) page v.items part)).items ≡ put_mid (n * page) page v.items part = with_items_is v (put_mid (n * page) page v.items part) (m ∙ sym v.ok.0) in
+    rw (k, hx, same, pushed') (m ∙ l, one_more_page page_at page n v.items part readable b h (omega (arith, fits, l)) lz answered)
   where
     length_written : (xs ys : List ℕ) (a n : ℕ) → a + n ≤ length xs → length ys ≡ n → length (put_mid a n xs ys) ≡ length xs
     length_written xs ys a n fits l = search (rules, places)

@@ -7,7 +7,7 @@ use Rattle.std.proofs.lemmas.List.Elements.{Contains-push, Contains-append_left}
 use Rattle.std.specs.List.{Contains}
 use Rattle.std.proofs.lemmas.List.{places, get_or-take, length-take-le}
 use borrow.Rule.Slice.PartMut.{put_mid}
-use Rattle.scrub_disk.specs.Image.{IsText}
+use Rattle.scrub_disk.specs.Image.{AreBytesAt}
 use Rattle.scrub_disk.specs.Raw.{ReadFrom, IsRead, MarksOnly}
 
 -- the first `done` bytes of the list stand at the offset
@@ -59,7 +59,7 @@ HeldBelow told page n marks bytes = (i : ℕ) → i < n * page → get_or marks 
 
 -- one more page was read at its place, and marked where it isn't whole
 held_more : (told : List ℕ) (page n : ℕ) (marks : List Bool) (bytes piece : List ℕ) (whole : Bool) → 0 < page → n < length marks → n * page + page ≤ length bytes → length piece ≡ page →
-    HeldBelow told page n marks bytes → OnTrue whole (IsText (slice_get told) (n * page) piece) → HeldBelow told page (n + 1) (set marks n (not whole)) (put_mid (n * page) page bytes piece)
+    HeldBelow told page n marks bytes → OnTrue whole (AreBytesAt (slice_get told) (n * page) piece) → HeldBelow told page (n + 1) (set marks n (not whole)) (put_mid (n * page) page bytes piece)
 held_more told page n marks bytes piece whole pos below fits l before read i hi unmarked = elim (cases_lt i (n * page)) [
   | inl less ↦
       let q : i / page < n = div_below i page n pos (omega (arith, less)) in
@@ -71,7 +71,7 @@ held_more told page n marks bytes piece whole pos below fits l before read i hi 
       let small : i - n * page < page = omega (arith, past, hi) in
       let q : i / page ≡ n = ap (λ m. m / page) (sym k) ∙ div-mul-add n page (i - n * page) small in
       let is_whole : whole ≡ true = not_false whole (sym (get_or-set_same marks n (not whole) true below) ∙ ap (λ m. get_or (set marks n (not whole)) m true) (sym q) ∙ unmarked) in
-      let text : IsText (slice_get told) (n * page) piece = given whole is_whole read in
+      let text : AreBytesAt (slice_get told) (n * page) piece = given whole is_whole read in
       ap (slice_get told) (sym k) ∙ text (i - n * page) (omega (arith, small, l))
       ∙ ap Some (sym (brought bytes piece (n * page) page (i - n * page) fits l small) ∙ ap (λ m. get_or (put_mid (n * page) page bytes piece) m 0) k)
 ]
@@ -86,11 +86,11 @@ held_more told page n marks bytes piece whole pos below fits l before read i hi 
 
 -- the same where the raw image may not tell its bytes
 pub pages_more : (raw was : Option (List ℕ)) (page n size : ℕ) (marks : List Bool) (bytes piece : List ℕ) (whole : Bool) → was ≡ raw → size ≡ page → 0 < page → n < length marks → n * page + page ≤ length bytes → length piece ≡ page →
-    IfSome raw (λ told. HeldBelow told page n marks bytes) → IfSome was (λ told. OnTrue whole (IsText (slice_get told) (n * page) piece)) →
+    IfSome raw (λ told. HeldBelow told page n marks bytes) → IfSome was (λ told. OnTrue whole (AreBytesAt (slice_get told) (n * page) piece)) →
     IfSome raw (λ told. HeldBelow told page (n + 1) (set marks n (not whole)) (put_mid (n * page) size bytes piece))
 pages_more None was page n size marks bytes piece whole e same pos below fits l before read = tt
 pages_more (Some told) was page n size marks bytes piece whole e same pos below fits l before read =
-    let here : IfSome (Some told) (λ t. OnTrue whole (IsText (slice_get t) (n * page) piece)) = subst (λ (r : Option (List ℕ)). IfSome r (λ t. OnTrue whole (IsText (slice_get t) (n * page) piece))) e read in
+    let here : IfSome (Some told) (λ t. OnTrue whole (AreBytesAt (slice_get t) (n * page) piece)) = subst (λ (r : Option (List ℕ)). IfSome r (λ t. OnTrue whole (AreBytesAt (slice_get t) (n * page) piece))) e read in
     rw same (held_more told page n marks bytes piece whole pos below fits l before here)
 
 -- a page more, which is marked where it wasn't read whole: then it was cut, or one more failure was counted

@@ -6,8 +6,8 @@ use Rattle.scrub_disk.specs.Image.{Image, extent_bytes}
 pub record IsBuffered (image : Image) (e : ℕ) (bytes : List ℕ) (readable : List Bool) : Type 0 where
   pub size : length bytes ≡ extent_bytes image.geometry
   pub count : length readable ≡ image.geometry.pages
-  pub pages : (g : ℕ) → g < image.geometry.pages →
-      image.page e g
-      ≡ (if slice_index_or readable g false
-      then Some (slice_range bytes (g * image.geometry.page) (g * image.geometry.page + image.geometry.page))
+  pub pages : (q : ℕ) → q < image.geometry.pages →
+      image.page e q
+      ≡ (if slice_index_or readable q false
+      then Some (slice_range bytes (q * image.geometry.page) (q * image.geometry.page + image.geometry.page))
       else None)

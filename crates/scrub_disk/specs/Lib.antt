@@ -3,6 +3,7 @@ pub mod Limits
 pub mod Faults
 pub mod Image
 pub mod Buffered
+pub mod NextUnreadable
 pub mod Held
 pub mod WholePages
 pub mod Memory

@@ -13,7 +13,7 @@ image_of d = held d.geometry d.bytes.items d.bad.items
 -- each page is readable and all zero
 pub record IsBlank (d : Image) (g : Geometry) : Type 0 where
   pub geometry : d.geometry ≡ g
-  pub zero : (e p : ℕ) → e < g.extents → p < g.pages → d.page e p ≡ Some (replicate g.page 0)
+  pub zero : (e q : ℕ) → e < g.extents → q < g.pages → d.page e q ≡ Some (replicate g.page 0)
 
 -- Where a page is readable, the bytes put there stand at their place, and each other byte is as it was. No page
 -- becomes readable or unreadable.
@@ -24,7 +24,7 @@ pub record Puts (old new : Image) (e offset : ℕ) (bytes : List ℕ) : Type 0 w
   pub others : (f i : ℕ) → f < old.geometry.extents → i < extent_bytes old.geometry → f ≢ e → byte new f i ≡ byte old f i
 
 -- this page is unreadable, and each other page is as it was
-pub record Marks (old new : Image) (e p : ℕ) : Type 0 where
+pub record Marks (old new : Image) (e q : ℕ) : Type 0 where
   pub geometry : new.geometry ≡ old.geometry
-  pub marked : new.page e p ≡ None
-  pub others : (f q : ℕ) → f < old.geometry.extents → q < old.geometry.pages → (f ≢ e) ⊎ (q ≢ p) → new.page f q ≡ old.page f q
+  pub marked : new.page e q ≡ None
+  pub others : (f r : ℕ) → f < old.geometry.extents → r < old.geometry.pages → (f ≢ e) ⊎ (r ≢ q) → new.page f r ≡ old.page f r

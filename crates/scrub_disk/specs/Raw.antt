@@ -1,12 +1,12 @@
 -- Raw bytes: what one read of them gives, and what an image that was loaded from them holds.
 use Rattle.std.specs.Prelude.{◌≡◌, ◌<◌, ◌≤◌, ◌+◌, ◌*◌, ◌/◌, ℕ, Bool, true, false, List, length, take, slice_get, slice_index, slice_index_or, Option, Some, None, IfSome, ◌⊎◌, All, Contains}
 use Rattle.scrub_disk.specs.declared.geometry.Geometry.{Geometry}
-use Rattle.scrub_disk.specs.Image.{Image, IsText}
+use Rattle.scrub_disk.specs.Image.{Image, AreBytesAt}
 use Rattle.scrub_disk.specs.Held.{page_number}
 
 -- the first n bytes of `out` stand at the offset, and there are none only at the end or where `out` has no room
 pub record ReadFrom (bytes : List ℕ) (offset : ℕ) (out : List ℕ) (n : ℕ) : Type 0 where
-  pub given : IsText (slice_get bytes) offset (take n out)
+  pub given : AreBytesAt (slice_get bytes) offset (take n out)
   pub ended : n ≡ 0 → (length out ≡ 0) ⊎ (length bytes ≤ offset)
 
 -- a read gave the first n bytes of `out`, which are those of the raw image where it tells them
@@ -14,27 +14,27 @@ pub record IsRead (raw : Option (List ℕ)) (offset : ℕ) (out : List ℕ) (n :
   pub within : n ≤ length out
   pub told : IfSome raw (λ bytes. ReadFrom bytes offset out n)
 
--- page p of extent e stands at byte (e * N + p) * P
+-- page q of extent e stands at byte (e * N + q) * P
 abbrev pub raw_place : Geometry → ℕ → ℕ → ℕ
-raw_place g e p = page_number g e p * g.page
+raw_place g e q = page_number g e q * g.page
 
 -- a page that stands whole at a place of the bytes
 pub record IsPageAt (bytes : List ℕ) (place size : ℕ) (page : List ℕ) : Type 0 where
   pub whole : length page ≡ size
-  pub stands : IsText (slice_get bytes) place page
+  pub stands : AreBytesAt (slice_get bytes) place page
 
 -- each readable page has the bytes of its place
 abbrev pub HoldsRaw : List ℕ → Image → Type 0
 HoldsRaw bytes image =
-    (e p : ℕ) → e < image.geometry.extents → p < image.geometry.pages →
-    IfSome (image.page e p) (IsPageAt bytes (raw_place image.geometry e p) image.geometry.page)
+    (e q : ℕ) → e < image.geometry.extents → q < image.geometry.pages →
+    IfSome (image.page e q) (IsPageAt bytes (raw_place image.geometry e q) image.geometry.page)
 
 -- the pages that were named are unreadable, and each page is one of these or as it was
 pub record MarksAll (old new : Image) (named : List (ℕ × ℕ)) : Type 0 where
   pub geometry : new.geometry ≡ old.geometry
   pub marked : All (λ at. new.page at.0 at.1 ≡ None) named
-  pub others : (e p : ℕ) → e < old.geometry.extents → p < old.geometry.pages →
-      (new.page e p ≡ old.page e p) ⊎ ((new.page e p ≡ None) × Contains named (e, p))
+  pub others : (e q : ℕ) → e < old.geometry.extents → q < old.geometry.pages →
+      (new.page e q ≡ old.page e q) ⊎ ((new.page e q ≡ None) × Contains named (e, q))
 
 -- An image that was loaded: each readable page has the raw bytes of its place, where these are told, and each page that
 -- was named is unreadable.
@@ -43,18 +43,18 @@ pub record IsLoaded (raw : Option (List ℕ)) (g : Geometry) (named : List (ℕ 
   pub pages : IfSome raw (λ bytes. HoldsRaw bytes image)
   pub unreadable : All (λ at. image.page at.0 at.1 ≡ None) named
 
--- page p of extent e isn't whole before the bytes end
+-- page q of extent e isn't whole before the bytes end
 abbrev pub IsCut : List ℕ → Geometry → ℕ → ℕ → Type 0
-IsCut bytes g e p = length bytes < raw_place g e p + g.page
+IsCut bytes g e q = length bytes < raw_place g e q + g.page
 
 -- Which pages a load leaves unreadable: each that isn't whole before the bytes end, and of the others only those that
 -- were named and at most as many as the failures that were counted, listed here by their numbers.
 pub record LosesOnly (bytes : List ℕ) (g : Geometry) (named : List (ℕ × ℕ)) (failures : ℕ) (image : Image) : Type 0 where
-  pub cut : (e p : ℕ) → e < g.extents → p < g.pages → IsCut bytes g e p → image.page e p ≡ None
+  pub cut : (e q : ℕ) → e < g.extents → q < g.pages → IsCut bytes g e q → image.page e q ≡ None
   pub failed : List ℕ
   pub few : length failed ≤ failures
-  pub only : (e p : ℕ) → e < g.extents → p < g.pages → image.page e p ≡ None →
-      Contains named (e, p) ⊎ (IsCut bytes g e p ⊎ Contains failed (page_number g e p))
+  pub only : (e q : ℕ) → e < g.extents → q < g.pages → image.page e q ≡ None →
+      Contains named (e, q) ⊎ (IsCut bytes g e q ⊎ Contains failed (page_number g e q))
 
 -- The same of the marks on the first pages, of which none was named.
 pub record MarksOnly (bytes : List ℕ) (page : ℕ) (count : ℕ) (failures : ℕ) (marks : List Bool) : Type 0 where

@@ -2,14 +2,14 @@
 //! from raw bytes. What the bytes of a page mean is left to the crates above.
 #![tactic(auto)]
 
-pub mod extent;
+pub mod buffered_extent;
 pub mod geometry;
 pub mod loading;
 pub mod memory;
 pub mod raw;
 pub mod source;
 
-pub use extent::{ExtentPages, read_extent, unreadable_pages};
+pub use buffered_extent::{BufferedExtent, read_extent, unreadable_pages};
 pub use geometry::{Geometry, GeometryFault};
 pub use loading::{LoadFault, load};
 pub use memory::MemDisk;

@@ -2,7 +2,7 @@
 
 ghost use Rattle.std.specs.Prelude.{◌≡◌, ◌≢◌, ◌≤◌, ◌+◌, ◌-◌, ◌*◌, ◌<◌, ◌^◌, ◌/◌, ◌⊎◌, [], All, false, true, IfOk, IfSome, length, slice_get, Err, Some};
 ghost use Rattle.std.specs.Bool.{OnTrue, OnFalse};
-ghost use Rattle.scrub_disk.specs.Image.{IsText};
+ghost use Rattle.scrub_disk.specs.Image.{AreBytesAt};
 ghost use Rattle.scrub_disk.specs.Raw.{HoldsUnmarked, HoldsRaw, MarksAll, MarksOnly, LosesOnly, IsLoaded};
 ghost use Rattle.scrub_disk.specs.Memory.{image_of};
 
@@ -28,7 +28,7 @@ pub enum LoadFault {
 fn read_whole<R: RawImage>(raw: &mut R, offset: u64, out: &mut [u8]) -> bool
     requires few_reads { R.reads raw.old + length out.old < 2 ^ 63 }
     requires in_range { offset + length out.old < 2 ^ 64 }
-    ensures whole { IfSome (R.bytes raw.old) (λ bytes. OnTrue result (IsText (slice_get bytes) offset out.new)) }
+    ensures whole { IfSome (R.bytes raw.old) (λ bytes. OnTrue result (AreBytesAt (slice_get bytes) offset out.new)) }
     ensures not_whole { IfSome (R.bytes raw.old) (λ bytes. OnFalse result
         ((length bytes < offset + length out.new) ⊎ (R.failures raw.old < R.failures raw.new))) }
     ensures failures { R.failures raw.old ≤ R.failures raw.new }

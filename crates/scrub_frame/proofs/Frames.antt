@@ -8,7 +8,7 @@ use Rattle.std.specs.Array.{IsFirstChunk}
 use Rattle.std.specs.Cmp.Lexicographic.{pointwise}
 use Rattle.std.specs.List.{slice_range}
 use Rattle.byteorder.specs.Endian.{big_bytes, big_number}
-use Rattle.scrub_frame.specs.Frame.{magic, head, frame, HasFrame, BeginsWithFrame}
+use Rattle.scrub_frame.specs.Frame.{frame_magic, head, frame, HasFrame, BeginsWithFrame}
 use Rattle.scrub_frame.proofs.Bytes.{part-rest, part_at, bytes-number_at, bytes-injective}
 
 -- ---- heads
@@ -19,26 +19,26 @@ length-head u n = omega (arith, length-append u (big_bytes 4 n))
 -- the head says which UUID and which length stand in it
 pub head-injective : (u v : List ℕ) (n m : ℕ) → length u ≡ 16 → length v ≡ 16 → n < 2 ^ 32 → m < 2 ^ 32 → head u n ≡ head v m → (u ≡ v) × (n ≡ m)
 head-injective u v n m lu lv hn hm same = (
-  sym (part_at magic u (big_bytes 4 n) 2 16 refl lu) ∙ ap (λ t. take 16 (drop 2 t)) same ∙ part_at magic v (big_bytes 4 m) 2 16 refl lv,
+  sym (part_at frame_magic u (big_bytes 4 n) 2 16 refl lu) ∙ ap (λ t. take 16 (drop 2 t)) same ∙ part_at frame_magic v (big_bytes 4 m) 2 16 refl lv,
   bytes-injective n m hn hm (sym (size u n lu) ∙ ap (λ t. take 4 (drop 18 t)) same ∙ size v m lv),
 )
   where
     size : (w : List ℕ) (k : ℕ) → length w ≡ 16 → take 4 (drop 18 (head w k)) ≡ big_bytes 4 k
-    size w k lw = let e : head w k ≡ (magic ++ w) ++ (big_bytes 4 k ++ []) = sym (ap (λ t. (magic ++ w) ++ t) (append-nil (big_bytes 4 k))) in
-        ap (λ t. take 4 (drop 18 t)) e ∙ part_at (magic ++ w) (big_bytes 4 k) [] 18 4 (omega (arith, length-append magic w, lw)) refl
+    size w k lw = let e : head w k ≡ (frame_magic ++ w) ++ (big_bytes 4 k ++ []) = sym (ap (λ t. (frame_magic ++ w) ++ t) (append-nil (big_bytes 4 k))) in
+        ap (λ t. take 4 (drop 18 t)) e ∙ part_at (frame_magic ++ w) (big_bytes 4 k) [] 18 4 (omega (arith, length-append frame_magic w, lw)) refl
 
 -- twenty-two bytes that begin with the magic are the head of what stands behind it
 pub head_read : (x u : List ℕ) (n : ℕ) → length x ≡ 22 → ((i : ℕ) → get_or x i 0 < 256) → get_or x 0 0 ≡ 0xC5 → get_or x 1 0 ≡ 0x5E →
     u ≡ take 16 (take 20 (drop 2 x)) → n ≡ big_number 4 (take 4 (drop 18 x)) → x ≡ head u n
 head_read x u n l are_bytes first second uuid size =
-    sym (ap (λ t. magic ++ (u ++ t)) (bytes-number_at x 18 n are_bytes (omega (arith, l)) size)
-    ∙ ap (λ t. magic ++ (t ++ take 4 (drop 18 x))) (uuid ∙ take-take 16 20 (drop 2 x) (omega arith))
+    sym (ap (λ t. frame_magic ++ (u ++ t)) (bytes-number_at x 18 n are_bytes (omega (arith, l)) size)
+    ∙ ap (λ t. frame_magic ++ (t ++ take 4 (drop 18 x))) (uuid ∙ take-take 16 20 (drop 2 x) (omega arith))
     ∙ ap (λ t. t ++ (take 16 (drop 2 x) ++ take 4 (drop 18 x))) (sym (first_two x l first second))
     ∙ ap (λ t. take 2 x ++ (take 16 (drop 2 x) ++ t)) (sym (append-nil (take 4 (drop 18 x))) ∙ ap (λ t. take 4 (drop 18 x) ++ t) (sym (drop_all 22 x (omega (arith, l)))) ∙ part-rest x 4 18)
     ∙ ap (λ t. take 2 x ++ t) (part-rest x 16 2)
     ∙ take-append-drop 2 x)
   where
-    first_two : (y : List ℕ) → length y ≡ 22 → get_or y 0 0 ≡ 0xC5 → get_or y 1 0 ≡ 0x5E → take 2 y ≡ magic
+    first_two : (y : List ℕ) → length y ≡ 22 → get_or y 0 0 ≡ 0xC5 → get_or y 1 0 ≡ 0x5E → take 2 y ≡ frame_magic
     first_two [] m a b = absurd (let e : ⊥ = omega (arith, m) in e)
     first_two (p ∷ []) m a b = absurd (let e : ⊥ = omega (arith, m) in e)
     first_two (p ∷ q ∷ ys) m a b = rw (a, b) refl

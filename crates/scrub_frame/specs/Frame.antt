@@ -4,16 +4,24 @@ use Rattle.std.specs.Prelude.{◌≡◌, ◌<◌, ◌^◌, ℕ, List, [], ◌∷
 use Rattle.byteorder.specs.Endian.{big_bytes}
 
 -- the two bytes that every frame begins with
-abbrev pub magic : List ℕ
-magic = 0xC5 ∷ 0x5E ∷ []
+abbrev pub frame_magic : List ℕ
+frame_magic = 0xC5 ∷ 0x5E ∷ []
+
+-- how many bytes a head has: those before the payload
+abbrev pub head_size : ℕ
+head_size = 22
+
+-- how many bytes a frame has round its payload: the head, and the second UUID
+abbrev pub frame_overhead : ℕ
+frame_overhead = 38
 
 -- what stands before a payload of this many bytes
 abbrev pub head : List ℕ → ℕ → List ℕ
-head uuid size = magic ++ (uuid ++ big_bytes 4 size)
+head uuid size = frame_magic ++ (uuid ++ big_bytes 4 size)
 
 -- the frame of a UUID and a payload
 abbrev pub frame : List ℕ → List ℕ → List ℕ
-frame uuid payload = magic ++ (uuid ++ (big_bytes 4 (length payload) ++ (payload ++ uuid)))
+frame uuid payload = frame_magic ++ (uuid ++ (big_bytes 4 (length payload) ++ (payload ++ uuid)))
 
 -- what has a frame: a UUID of sixteen bytes, and a payload whose length four bytes can say
 pub record HasFrame (uuid payload : List ℕ) : Type 0 where
@@ -26,6 +34,6 @@ pub record BeginsWithFrame (bytes uuid payload : List ℕ) : Type 0 where
   pub rest : List ℕ
   pub spelled : bytes ≡ frame uuid payload ++ rest
 
--- the longest payload that is written: with the 38 bytes round it, it fills an extent of 2 ^ 26 bytes
+-- the longest payload that is written: with the bytes round it, it fills an extent of 2 ^ 26 bytes
 abbrev pub longest_payload : ℕ
 longest_payload = 67108826

@@ -1,13 +1,19 @@
 //! Frames, read from bytes. Which bytes of a disk are read so, and what the payload means, is left to the crates above.
 
 ghost use Rattle.std.specs.Prelude.{◌≡◌, ◌+◌, ◌≤◌, ◌++◌, List, [], ℕ, length, take, slice_range, IfSome, IfNone};
-ghost use Rattle.scrub_frame.specs.Frame.{magic, head, frame, HasFrame, BeginsWithFrame};
+ghost use Rattle.scrub_frame.specs.Frame.{frame_magic, head, head_size, frame_overhead, frame, HasFrame, BeginsWithFrame};
 
 use byteorder::{BigEndian, ByteOrder};
 use uuid::Uuid;
 
 /// The first two bytes of every frame.
 pub const MAGIC: [u8; 2] = [0xC5, 0x5E];
+
+/// The bytes of a head: what stands before a payload.
+pub const HEAD_BYTES: usize = 22;
+
+/// The bytes of a frame round its payload: the head, and the second UUID.
+pub const FRAME_OVERHEAD: usize = 38;
 
 /// What stands between the magic and the payload.
 #[derive(Debug, Clone, Copy, PartialEq, Eq)]
@@ -30,9 +36,9 @@ pub struct Frame {
 
 /// The head that twenty-two bytes are: the magic, a UUID, and a big-endian length. `None` where they don't begin with the
 /// magic. A head alone doesn't say that a frame follows.
-pub fn read_head(bytes: &[u8; 22]) -> Option<Head>
+pub fn read_head(bytes: &[u8; HEAD_BYTES]) -> Option<Head>
     ensures found { IfSome result (λ h. bytes.now ≡ head h.uuid h.length) }
-    ensures none { IfNone result (¬ (take 2 bytes.now ≡ magic)) }
+    ensures none { IfNone result (¬ (take 2 bytes.now ≡ frame_magic)) }
 {
     if bytes[0] != MAGIC[0] || bytes[1] != MAGIC[1] {
         return None;
@@ -47,12 +53,12 @@ pub fn read_head(bytes: &[u8; 22]) -> Option<Head>
 /// also where they end before the frame does. Only the head and the second UUID are looked at, never the payload.
 pub fn read_frame(bytes: &[u8]) -> Option<Frame>
     ensures found { IfSome result (λ f.
-        BeginsWithFrame bytes.now f.uuid (slice_range bytes.now 22 (22 + f.length))) }
-    ensures whole { IfSome result (λ f. f.length + 38 ≤ length bytes.now) }
+        BeginsWithFrame bytes.now f.uuid (slice_range bytes.now head_size (head_size + f.length))) }
+    ensures whole { IfSome result (λ f. f.length + frame_overhead ≤ length bytes.now) }
     ensures none { IfNone result ((uuid payload : List ℕ) → ¬ BeginsWithFrame bytes.now uuid payload) }
 {
-    let head = read_head(bytes.first_chunk::<22>()?)?;
-    let payload_end = 22 + head.length as usize;
+    let head = read_head(bytes.first_chunk::<HEAD_BYTES>()?)?;
+    let payload_end = HEAD_BYTES + head.length as usize;
     if bytes.len() < payload_end + 16 {
         return None;
     }

@@ -6,16 +6,19 @@
 pub mod digest;
 pub mod frame;
 pub mod locator;
-pub mod write;
+pub mod writing;
 
 pub use digest::digest_of;
-pub use frame::{Frame, Head, MAGIC, no_frame_begins_another, one_frame, read_frame, read_head};
+pub use frame::{
+    FRAME_OVERHEAD, Frame, HEAD_BYTES, Head, MAGIC, no_frame_begins_another, one_frame, read_frame,
+    read_head,
+};
 pub use locator::{
     LOCATOR_BYTES, Locator, append_locators, locate, one_locator, read_locator, read_locators,
     write_locator,
 };
 pub use std::alloc::AllocError as OutOfMemory;
-pub use write::{FrameFault, MAX_PAYLOAD, append, write_frame};
+pub use writing::{FrameFault, MAX_PAYLOAD, append, write_frame};
 
 #[cfg(test)]
 mod tests;

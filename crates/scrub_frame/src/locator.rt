@@ -10,7 +10,7 @@ ghost use Rattle.scrub_frame.specs.Frame.{longest_payload};
 use crate::OutOfMemory;
 use crate::digest::digest_of;
 use crate::frame::uuid_at;
-use crate::write::append;
+use crate::writing::append;
 use byteorder::{BigEndian, ByteOrder};
 use std::alloc::Global;
 use uuid::Uuid;

@@ -10,11 +10,11 @@ use Rattle.std.proofs.lemmas.List.{drop_more, get_or_default}
 use Rattle.std.proofs.lemmas.Cmp.{tied_itself}
 use Rattle.std.proofs.lemmas.Map.Lookups.{CmpEqualImpliesEq, exact_bytes}
 use Rattle.std.proofs.lemmas.Map.Views.{tells_apart}
-use Rattle.scrub_run.specs.declared.shard.ShardId.{ShardId}
+use Rattle.scrub_run.specs.declared.shard_id.ShardId.{ShardId}
 use Rattle.scrub_run.specs.Entry.{EntryValue, IsBelow}
 use Rattle.scrub_run.specs.Run.{RisesById}
 use Rattle.scrub_merge.specs.Binding.{BindingValue}
-use Rattle.scrub_merge.specs.Newest.{id_cmp, binding_in}
+use Rattle.scrub_merge.specs.NewestMap.{id_cmp, binding_in}
 
 pub id_cmp_total : IsTotalOrder id_cmp
 id_cmp_total = on_texts (λ s. s.0)

@@ -17,11 +17,11 @@ use Rattle.std.proofs.lemmas.Map.Keys.{Less-from_sorted}
 use Rattle.std.proofs.lemmas.Map.Views.{All-found, btree_map_get_iff}
 use Rattle.std.proofs.lemmas.Map.Entries.{length-keys_of, length-values_of}
 use Rattle.scrub_frame.specs.declared.locator.Locator.{Locator}
-use Rattle.scrub_run.specs.declared.shard.ShardId.{ShardId}
+use Rattle.scrub_run.specs.declared.shard_id.ShardId.{ShardId}
 use Rattle.scrub_run.specs.Entry.{EntryValue, IsBelow}
-use Rattle.scrub_merge.specs.Binding.{BindingValue, Runs, IsNewest}
-use Rattle.scrub_merge.specs.Bindings.{AreRuns, AreBindings, IsShardMap}
-use Rattle.scrub_merge.specs.Newest.{id_cmp, value_at, has_locator, HoldsNewest}
+use Rattle.scrub_merge.specs.Binding.{BindingValue, Runs, IsNewestBinding}
+use Rattle.scrub_merge.specs.ShardMap.{AreRuns, AreBindings, IsShardMap}
+use Rattle.scrub_merge.specs.NewestMap.{id_cmp, value_at, has_locator, HoldsNewest}
 use Rattle.scrub_merge.proofs.Identifiers.{id_cmp_total, id_cmp_exact, itself, not_below_itself, same_entry}
 
 -- ---- lists
@@ -49,7 +49,7 @@ abbrev pub entry_of : BindingValue → EntryValue
 entry_of b = record { id = b.id; locators = b.locators }
 
 -- an identifier has one newest binding at most
-pub one_newest : (runs : Runs) (b c : BindingValue) → AreRuns runs → IsNewest runs b → IsNewest runs c → b.id ≡ c.id → b ≡ c
+pub one_newest : (runs : Runs) (b c : BindingValue) → AreRuns runs → IsNewestBinding runs b → IsNewestBinding runs c → b.id ≡ c.id → b ≡ c
 one_newest runs b c rise hb hc same = equal
   where
     run : b.run ≡ c.run
@@ -122,15 +122,15 @@ bindings_made runs m bindings h made = rw made (record {
 pub shard_map_made : (runs : Runs) (m : BTreeMap ShardId BindingValue) (bindings : List BindingValue) → HoldsNewest runs m → bindings ≡ filter has_locator (tree.values m) → IsShardMap runs bindings
 shard_map_made runs m bindings h made = record {
   bindings_of_map = bindings_made runs m bindings h made;
-  newest = rw made (All-filter has_locator (IsNewest runs) (tree.values m) newest);
+  newest = rw made (All-filter has_locator (IsNewestBinding runs) (tree.values m) newest);
   all = λ b is has. rw made (Contains-filter has_locator (tree.values m) b (some_has b has) (among b is (value_at m b.id) refl));
 }
   where
-    newest : All (IsNewest runs) (tree.values m)
-    newest = All-map (IsNewest runs) (λ (e : ShardId × BindingValue). e.1) m.entries
+    newest : All (IsNewestBinding runs) (tree.values m)
+    newest = All-map (IsNewestBinding runs) (λ (e : ShardId × BindingValue). e.1) m.entries
         (λ k d hk. h.newest (get_or m.entries k d).0 (get_or m.entries k d).1 (All-found id_cmp_total m h.ordered k d hk))
 
-    among : (b : BindingValue) → IsNewest runs b → (o : Option BindingValue) → value_at m b.id ≡ o → Contains (tree.values m) b
+    among : (b : BindingValue) → IsNewestBinding runs b → (o : Option BindingValue) → value_at m b.id ≡ o → Contains (tree.values m) b
     among b is None was = absurd (h.none b.id was b.run (entry_of b) is.entry refl)
     among b is (Some x) was =
         let same : x ≡ b = one_newest runs x b h.runs_rise (h.newest b.id x was) is (h.own b.id x was) in
@@ -197,5 +197,5 @@ same_bindings (x ∷ xs) (y ∷ ys) hx hy f g =
 -- runs have one shard map
 pub one_shard_map_lem : (runs : Runs) (xs ys : List BindingValue) → AreRuns runs → IsShardMap runs xs → IsShardMap runs ys → xs ≡ ys
 one_shard_map_lem runs xs ys rise hx hy = same_bindings xs ys hx.bindings_of_map.rising hy.bindings_of_map.rising
-    (λ b c. hy.all b (All-contains (IsNewest runs) xs b hx.newest c) (All-contains (λ v. 0 < length v.locators) xs b hx.bindings_of_map.bound c))
-    (λ b c. hx.all b (All-contains (IsNewest runs) ys b hy.newest c) (All-contains (λ v. 0 < length v.locators) ys b hy.bindings_of_map.bound c))
+    (λ b c. hy.all b (All-contains (IsNewestBinding runs) xs b hx.newest c) (All-contains (λ v. 0 < length v.locators) xs b hx.bindings_of_map.bound c))
+    (λ b c. hx.all b (All-contains (IsNewestBinding runs) ys b hy.newest c) (All-contains (λ v. 0 < length v.locators) ys b hy.bindings_of_map.bound c))

@@ -5,11 +5,11 @@ use Rattle.std.specs.Option.{option_or}
 use Rattle.std.specs.BTreeMap.{BTreeMap, IsOrdered}
 use Rattle.std.proofs.lemmas.Bool.{cases_lt, false≢true}
 use Rattle.std.proofs.lemmas.Option.{slice_get_within}
-use Rattle.scrub_run.specs.declared.shard.ShardId.{ShardId}
+use Rattle.scrub_run.specs.declared.shard_id.ShardId.{ShardId}
 use Rattle.scrub_run.specs.Entry.{EntryValue}
 use Rattle.scrub_run.specs.Run.{AreEntries}
-use Rattle.scrub_merge.specs.Binding.{BindingValue, Runs, IsEntryOf, LostBefore, IsNewest}
-use Rattle.scrub_merge.specs.Newest.{id_cmp, value_at, binding_in, HoldsNewest}
+use Rattle.scrub_merge.specs.Binding.{BindingValue, Runs, IsEntryOf, LostBefore, IsNewestBinding}
+use Rattle.scrub_merge.specs.NewestMap.{id_cmp, value_at, binding_in, HoldsNewest}
 use Rattle.scrub_merge.proofs.Identifiers.{IsBoundBy, bound_by, not_bound}
 
 -- ---- lists with one more element
@@ -46,7 +46,7 @@ lost_front rs ys n fits = (
   λ l. (l.0, l.1, sym (slice_front rs ys l.0 (omega (arith, l.1, fits))) ∙ l.2),
 )
 
-newest_front : (rs ys : Runs) (b : BindingValue) → IsNewest rs b → IsNewest (rs ++ ys) b
+newest_front : (rs ys : Runs) (b : BindingValue) → IsNewestBinding rs b → IsNewestBinding (rs ++ ys) b
 newest_front rs ys b h = record {
   entry = entry_front rs ys b.run (record { id = b.id; locators = b.locators }) h.entry;
   first = λ k e before at. h.first k e before (entry_back rs ys k e (omega (arith, before, within)) at);
@@ -124,7 +124,7 @@ read_step rs m n doubtful number entries h count are ordered binds = record {
     own id b None was is = (bound_by number doubtful id entries b is).own
     own id b (Some x) was is = h.holds.own id b (was ∙ is)
 
-    newest_now : (id : ShardId) (b : BindingValue) → value_at m id ≡ None → IsBoundBy number doubtful id entries b → IsNewest (rs ++ Some entries ∷ []) b
+    newest_now : (id : ShardId) (b : BindingValue) → value_at m id ≡ None → IsBoundBy number doubtful id entries b → IsNewestBinding (rs ++ Some entries ∷ []) b
     newest_now id b was by = record {
       entry = record { entries = entries; is_read = ap (slice_get (rs ++ Some entries ∷ [])) (by.run ∙ count) ∙ slice_end rs (Some entries); among = by.among };
       first = λ k e before at same.
@@ -135,7 +135,7 @@ read_step rs m n doubtful number entries h count are ordered binds = record {
         lost_now : IsTrue doubtful ↔ LostBefore (rs ++ Some entries ∷ []) b.run
         lost_now = rw (by.run, count) (λ d. (lost_front rs (Some entries ∷ []) (length rs) (omega arith)).0 (h.lost.0 d), λ l. h.lost.1 ((lost_front rs (Some entries ∷ []) (length rs) (omega arith)).1 l))
 
-    newest : (id : ShardId) (b : BindingValue) (o : Option BindingValue) → value_at m id ≡ o → option_or o (binding_in number doubtful id entries) ≡ Some b → IsNewest (rs ++ Some entries ∷ []) b
+    newest : (id : ShardId) (b : BindingValue) (o : Option BindingValue) → value_at m id ≡ o → option_or o (binding_in number doubtful id entries) ≡ Some b → IsNewestBinding (rs ++ Some entries ∷ []) b
     newest id b None was is = newest_now id b was (bound_by number doubtful id entries b is)
     newest id b (Some x) was is = newest_front rs (Some entries ∷ []) b (h.holds.newest id b (was ∙ is))
 

@@ -1,7 +1,7 @@
 -- Bindings of identifiers over a list of index runs, newest first, and which of them is an identifier's newest.
 use Rattle.std.specs.Prelude.{◌≡◌, ◌<◌, ◌↔◌, ℕ, Bool, IsTrue, Option, Some, None, List, Contains, slice_get}
 use Rattle.scrub_frame.specs.declared.locator.Locator.{Locator}
-use Rattle.scrub_run.specs.declared.shard.ShardId.{ShardId}
+use Rattle.scrub_run.specs.declared.shard_id.ShardId.{ShardId}
 use Rattle.scrub_run.specs.Entry.{EntryValue}
 
 -- an identifier, its locators, the number of the run that binds it, and whether that is doubtful
@@ -27,7 +27,7 @@ LostBefore runs number = (k : ℕ) × (k < number) × (slice_get runs k ≡ Some
 
 -- the newest binding of an identifier: its entry in the first run that isn't lost and has it. It is doubtful where a
 -- lost run stands before that run.
-pub record IsNewest (runs : Runs) (b : BindingValue) : Type 0 where
+pub record IsNewestBinding (runs : Runs) (b : BindingValue) : Type 0 where
   pub entry : IsEntryOf runs b.run (record { id = b.id; locators = b.locators })
   pub first : (k : ℕ) (e : EntryValue) → k < b.run → IsEntryOf runs k e → e.id ≡ b.id → ⊥
   pub doubt : IsTrue b.doubtful ↔ LostBefore runs b.run

@@ -3,13 +3,13 @@
 #![tactic(auto)]
 
 pub mod binding;
-pub mod newest;
-pub mod shards;
+pub mod merging;
+pub mod shard_map;
 
 pub use binding::Binding;
-pub use newest::{merge, one_shard_map};
+pub use merging::{merge, one_shard_map};
 pub use scrub_run::OutOfMemory;
-pub use shards::ShardMap;
+pub use shard_map::ShardMap;
 
 #[cfg(test)]
 mod tests;

@@ -75,9 +75,9 @@ pub record HasRead (x : List ℕ) (xs : List EntryValue) (rest : List ℕ) (n : 
   pub spelled : x ≡ flat_map entry_bytes xs ++ rest
 
 -- one more entry was read, from the front of the rest
-pub read_entry_more : (x : List ℕ) (xs : List EntryValue) (rest text behind : List ℕ) (n : ℕ) (e : EntryValue) → HasRead x xs rest n → IsEntry e →
-    entry_bytes e ≡ text → text ++ behind ≡ rest → All (λ v. IsBelow v.id e.id) xs → HasRead x (xs ++ e ∷ []) behind (n + 1)
-read_entry_more x xs rest text behind n e h he ht hr above = record {
+pub read_entry_more : (x : List ℕ) (xs : List EntryValue) (rest first behind : List ℕ) (n : ℕ) (e : EntryValue) → HasRead x xs rest n → IsEntry e →
+    entry_bytes e ≡ first → first ++ behind ≡ rest → All (λ v. IsBelow v.id e.id) xs → HasRead x (xs ++ e ∷ []) behind (n + 1)
+read_entry_more x xs rest first behind n e h he ht hr above = record {
   count = omega (arith, length-append xs (e ∷ []), h.count);
   each = All-push IsEntry xs e h.each he;
   rising = all_pairs_push (λ v w. IsBelow v.id w.id) xs e h.rising above;
@@ -106,9 +106,9 @@ no_entry_more x xs ys rest n h hy few e none = by go.more go.whole go.rest_is
         (All-head IsEntry m more (rw (drop_at xs (m ∷ more) (length xs) refl) at (All-drop IsEntry (length xs) (xs ++ m ∷ more) (rw whole at hy)))) is
 
 -- nor can the next entry be one that isn't above all before it
-pub no_rise : (x : List ℕ) (xs ys : List EntryValue) (rest text behind : List ℕ) (n : ℕ) (e : EntryValue) → HasRead x xs rest n → All IsEntry ys → n < length ys → x ≡ flat_map entry_bytes ys →
-    RisesById ys → IsEntry e → entry_bytes e ≡ text → text ++ behind ≡ rest → All (λ v. IsBelow v.id e.id) xs
-no_rise x xs ys rest text behind n e h hy few same rising he ht hr = by go.more go.whole go.rest_is
+pub no_rise : (x : List ℕ) (xs ys : List EntryValue) (rest first behind : List ℕ) (n : ℕ) (e : EntryValue) → HasRead x xs rest n → All IsEntry ys → n < length ys → x ≡ flat_map entry_bytes ys →
+    RisesById ys → IsEntry e → entry_bytes e ≡ first → first ++ behind ≡ rest → All (λ v. IsBelow v.id e.id) xs
+no_rise x xs ys rest first behind n e h hy few same rising he ht hr = by go.more go.whole go.rest_is
   where
     go : Continues xs ys rest
     go = goes_on x xs ys rest n h hy (omega (arith, few)) same

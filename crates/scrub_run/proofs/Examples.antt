@@ -1,9 +1,9 @@
 -- The definitions on worked examples, where they compute.
 use Rattle.std.proofs.Common.{◌≡◌, ℕ, List, [], ◌∷◌, ◌++◌, replicate, refl}
 use Rattle.scrub_frame.specs.declared.locator.Locator.{Locator}
-use Rattle.scrub_run.specs.declared.shard.ShardId.{ShardId}
+use Rattle.scrub_run.specs.declared.shard_id.ShardId.{ShardId}
 use Rattle.scrub_run.specs.Entry.{entry_bytes, IsBelow}
-use Rattle.scrub_run.specs.Run.{signed_bytes}
+use Rattle.scrub_run.specs.Run.{run_body}
 
 -- the identifier of fifteen zero bytes and this one
 shard : ℕ → ShardId
@@ -20,7 +20,7 @@ locator : Locator
 locator = record { extent = 1; offset = 0; length = 3; uuid = replicate 16 0x11; digest = digest }
 
 -- the run of one shard, which has that chunk, up to its digest
-one_shard : signed_bytes (record { id = shard 1; locators = locator ∷ [] } ∷ []) ≡
+one_shard : run_body (record { id = shard 1; locators = locator ∷ [] } ∷ []) ≡
     0x52 ∷ 0x55 ∷ 0x4e ∷ 0x31 ∷ 0x00 ∷ 0x00 ∷ 0x00 ∷ 0x01 ∷
     0x00 ∷ 0x00 ∷ 0x00 ∷ 0x00 ∷ 0x00 ∷ 0x00 ∷ 0x00 ∷ 0x00 ∷ 0x00 ∷ 0x00 ∷ 0x00 ∷ 0x00 ∷ 0x00 ∷ 0x00 ∷ 0x00 ∷ 0x01 ∷ 0x01 ∷
     0x00 ∷ 0x00 ∷ 0x00 ∷ 0x01 ∷ 0x00 ∷ 0x00 ∷ 0x00 ∷ 0x00 ∷ 0x00 ∷ 0x00 ∷ 0x00 ∷ 0x03 ∷
@@ -31,7 +31,7 @@ unfolding shard digest locator
 one_shard = refl
 
 -- the run of no entries, up to its digest
-no_entries : signed_bytes [] ≡ 0x52 ∷ 0x55 ∷ 0x4e ∷ 0x31 ∷ 0x00 ∷ 0x00 ∷ 0x00 ∷ 0x00 ∷ []
+no_entries : run_body [] ≡ 0x52 ∷ 0x55 ∷ 0x4e ∷ 0x31 ∷ 0x00 ∷ 0x00 ∷ 0x00 ∷ 0x00 ∷ []
 no_entries = refl
 
 -- a shard that was deleted

@@ -8,7 +8,7 @@ use Rattle.sha2.specs.Sha256.{sha256}
 use Rattle.sha2.proofs.Facts256.{length-sha256}
 use Rattle.scrub_frame.proofs.Bytes.{bytes-injective, bytes-number_at}
 use Rattle.scrub_run.specs.Entry.{EntryValue, entry_bytes, IsEntry}
-use Rattle.scrub_run.specs.Run.{magic, signed_bytes, IsRun}
+use Rattle.scrub_run.specs.Run.{run_magic, run_body, IsRun}
 use Rattle.scrub_frame.proofs.Parts.{same_cut}
 use Rattle.scrub_run.proofs.Entries.{Continues, continues}
 
@@ -27,11 +27,11 @@ same_entries xs ys hx hy count e = sym (go.whole ∙ ap (λ t. xs ++ t) (none go
     none (z ∷ zs) l = absurd (let f : ⊥ = omega (arith, l) in f)
 
 -- what stands before its own digest is told by the whole
-pub same_signed : (a b : List ℕ) → a ++ sha256 a ≡ b ++ sha256 b → a ≡ b
-same_signed a b e = (same_cut a b (sha256 a) (sha256 b) (omega (arith, ap length e, length-append a (sha256 a), length-append b (sha256 b), length-sha256 a, length-sha256 b)) e).0
+pub same_body : (a b : List ℕ) → a ++ sha256 a ≡ b ++ sha256 b → a ≡ b
+same_body a b e = (same_cut a b (sha256 a) (sha256 b) (omega (arith, ap length e, length-append a (sha256 a), length-append b (sha256 b), length-sha256 a, length-sha256 b)) e).0
 
 -- a head tells the count, and what follows it
-pub same_head : (n m : ℕ) (x y : List ℕ) → magic ++ (big_bytes 4 n ++ x) ≡ magic ++ (big_bytes 4 m ++ y) → (big_bytes 4 n ≡ big_bytes 4 m) × (x ≡ y)
+pub same_head : (n m : ℕ) (x y : List ℕ) → run_magic ++ (big_bytes 4 n ++ x) ≡ run_magic ++ (big_bytes 4 m ++ y) → (big_bytes 4 n ≡ big_bytes 4 m) × (x ≡ y)
 same_head n m x y e = same_cut (big_bytes 4 n) (big_bytes 4 m) x y refl (ap (drop 4) e)
 
 -- a payload is the run of one list of entries at most
@@ -42,11 +42,11 @@ one_run_lem payload xs ys hx hy =
   where
     head : (big_bytes 4 (length xs) ≡ big_bytes 4 (length ys)) × (flat_map entry_bytes xs ≡ flat_map entry_bytes ys)
     head = same_head (length xs) (length ys) (flat_map entry_bytes xs) (flat_map entry_bytes ys)
-        (same_signed (signed_bytes xs) (signed_bytes ys) (sym hx.spelled ∙ hy.spelled))
+        (same_body (run_body xs) (run_body ys) (sym hx.spelled ∙ hy.spelled))
 
 -- where a payload isn't something with its own digest behind it
-pub signed_cut : (x s a d : List ℕ) → a ≡ take (length x - 32) x → d ≡ drop (length x - 32) x → x ≡ s ++ sha256 s → (a ≡ s) × (d ≡ sha256 s)
-signed_cut x s a d ha hd e = (
+pub body_cut : (x s a d : List ℕ) → a ≡ take (length x - 32) x → d ≡ drop (length x - 32) x → x ≡ s ++ sha256 s → (a ≡ s) × (d ≡ sha256 s)
+body_cut x s a d ha hd e = (
   ha ∙ ap (take (length x - 32)) e ∙ take_at s (sha256 s) (length x - 32) (sym before),
   hd ∙ ap (drop (length x - 32)) e ∙ drop_at s (sha256 s) (length x - 32) (sym before),
 )
@@ -54,26 +54,26 @@ signed_cut x s a d ha hd e = (
     before : length x - 32 ≡ length s
     before = omega (arith, ap length e, length-append s (sha256 s), length-sha256 s)
 
-pub no_signed : (x s : List ℕ) → length x < 32 → x ≡ s ++ sha256 s → ⊥
-no_signed x s short e = omega (arith, short, ap length e, length-append s (sha256 s), length-sha256 s)
+pub no_body : (x s : List ℕ) → length x < 32 → x ≡ s ++ sha256 s → ⊥
+no_body x s short e = omega (arith, short, ap length e, length-append s (sha256 s), length-sha256 s)
 
 -- the head that was read: the first four bytes, and the number that the next four spell
-pub head_read : (x first count : List ℕ) (n : ℕ) → ((i : ℕ) → get_or x i 0 < 256) → first ≡ take 4 x → first ≡ magic → count ≡ take 4 (drop 4 x) → 8 ≤ length x → n ≡ big_number 4 count →
-    take 8 x ≡ magic ++ big_bytes 4 n
+pub head_read : (x first count : List ℕ) (n : ℕ) → ((i : ℕ) → get_or x i 0 < 256) → first ≡ take 4 x → first ≡ run_magic → count ≡ take 4 (drop 4 x) → 8 ≤ length x → n ≡ big_number 4 count →
+    take 8 x ≡ run_magic ++ big_bytes 4 n
 head_read x first count n bytes hf hm hc long hn =
     take-add 4 4 x ∙ ap (λ t. t ++ take 4 (drop 4 x)) (sym hf ∙ hm)
-    ∙ ap (λ t. magic ++ t) (sym (bytes-number_at x 4 n bytes long (hn ∙ ap (big_number 4) hc)))
+    ∙ ap (λ t. run_magic ++ t) (sym (bytes-number_at x 4 n bytes long (hn ∙ ap (big_number 4) hc)))
 
 -- what stands before the digest of a run
-pub signed_of_run : (payload signed : List ℕ) (entries : List EntryValue) → payload ≡ signed ++ sha256 signed → IsRun payload entries → signed ≡ signed_bytes entries
-signed_of_run payload signed entries e h = same_signed signed (signed_bytes entries) (sym e ∙ h.spelled)
+pub body_of_run : (payload body : List ℕ) (entries : List EntryValue) → payload ≡ body ++ sha256 body → IsRun payload entries → body ≡ run_body entries
+body_of_run payload body entries e h = same_body body (run_body entries) (sym e ∙ h.spelled)
 
 -- a run has as many entries as its head claims
-pub count_of_run : (payload signed : List ℕ) (entries : List EntryValue) (n : ℕ) → payload ≡ signed ++ sha256 signed → IsRun payload entries → n < 2 ^ 32 → take 8 signed ≡ magic ++ big_bytes 4 n → length entries ≡ n
-count_of_run payload signed entries n e h small head =
+pub count_of_run : (payload body : List ℕ) (entries : List EntryValue) (n : ℕ) → payload ≡ body ++ sha256 body → IsRun payload entries → n < 2 ^ 32 → take 8 body ≡ run_magic ++ big_bytes 4 n → length entries ≡ n
+count_of_run payload body entries n e h small head =
     bytes-injective (length entries) n h.entries_of_run.count small
-    (ap (drop 4) (sym (ap (take 8) (signed_of_run payload signed entries e h)) ∙ head))
+    (ap (drop 4) (sym (ap (take 8) (body_of_run payload body entries e h)) ∙ head))
 
 -- and its entries stand behind the head
-pub texts_of_run : (payload signed : List ℕ) (entries : List EntryValue) → payload ≡ signed ++ sha256 signed → IsRun payload entries → drop 8 signed ≡ flat_map entry_bytes entries
-texts_of_run payload signed entries e h = ap (drop 8) (signed_of_run payload signed entries e h)
+pub entries_of_body : (payload body : List ℕ) (entries : List EntryValue) → payload ≡ body ++ sha256 body → IsRun payload entries → drop 8 body ≡ flat_map entry_bytes entries
+entries_of_body payload body entries e h = ap (drop 8) (body_of_run payload body entries e h)

@@ -6,7 +6,7 @@ use Rattle.std.specs.declared.cmp.Ordering.TheVariants.{Less}
 use Rattle.std.specs.List.{flat_map}
 use Rattle.scrub_frame.specs.declared.locator.Locator.{Locator}
 use Rattle.scrub_frame.specs.Locator.{locator_bytes, IsLocator}
-use Rattle.scrub_run.specs.declared.shard.ShardId.{ShardId}
+use Rattle.scrub_run.specs.declared.shard_id.ShardId.{ShardId}
 
 -- a shard's identifier, and the locators of its chunks in order: none where the shard was deleted
 pub record EntryValue : Type 0 where

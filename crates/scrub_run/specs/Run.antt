@@ -6,16 +6,16 @@ use Rattle.sha2.specs.Sha256.{sha256}
 use Rattle.scrub_run.specs.Entry.{EntryValue, entry_bytes, IsEntry, IsBelow}
 
 -- `RUN1`, what each run begins with
-abbrev pub magic : List ℕ
-magic = 0x52 ∷ 0x55 ∷ 0x4E ∷ 0x31 ∷ []
+abbrev pub run_magic : List ℕ
+run_magic = 0x52 ∷ 0x55 ∷ 0x4E ∷ 0x31 ∷ []
 
 -- what the digest is taken of
-abbrev pub signed_bytes : List EntryValue → List ℕ
-signed_bytes entries = magic ++ (big_bytes 4 (length entries) ++ flat_map entry_bytes entries)
+abbrev pub run_body : List EntryValue → List ℕ
+run_body entries = run_magic ++ (big_bytes 4 (length entries) ++ flat_map entry_bytes entries)
 
 -- the bytes of the run of these entries
 abbrev pub run_bytes : List EntryValue → List ℕ
-run_bytes entries = signed_bytes entries ++ sha256 (signed_bytes entries)
+run_bytes entries = run_body entries ++ sha256 (run_body entries)
 
 -- each identifier is below those of all later entries
 abbrev pub RisesById : List EntryValue → Type 0

@@ -2,7 +2,7 @@
 
 ghost use Rattle.std.specs.Prelude.{◌≡◌};
 
-use crate::shard::ShardId;
+use crate::shard_id::ShardId;
 use scrub_frame::Locator;
 use std::marker::Model;
 

@@ -4,17 +4,17 @@
 #![tactic(auto)]
 
 pub mod entry;
-pub mod read;
+pub mod reading;
 pub mod run;
-pub mod shard;
-pub mod write;
+pub mod shard_id;
+pub mod writing;
 
 pub use entry::Entry;
-pub use read::{RunFault, read_run};
+pub use reading::{RunFault, read_run};
 pub use run::{Run, one_run};
 pub use scrub_frame::OutOfMemory;
-pub use shard::ShardId;
-pub use write::write_run;
+pub use shard_id::ShardId;
+pub use writing::write_run;
 
 #[cfg(test)]
 mod tests;

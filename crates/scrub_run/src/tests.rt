@@ -48,7 +48,7 @@ fn shard(last: u8) -> ShardId {
 }
 
 /// The bytes, with their digest behind them.
-fn signed(mut bytes: Vec<u8>) -> Result<Vec<u8>, OutOfMemory> {
+fn body(mut bytes: Vec<u8>) -> Result<Vec<u8>, OutOfMemory> {
     let digest = digest_of(&bytes);
     bytes.extend_from_slice(&digest)?;
     Ok(bytes)
@@ -79,7 +79,7 @@ fn payload(alloc: Global, claimed: u32, entries: &[Written]) -> Result<Vec<u8>, 
     for entry in entries {
         append(&mut bytes, entry)?;
     }
-    signed(bytes)
+    body(bytes)
 }
 
 fn append(bytes: &mut Vec<u8>, entry: &Written) -> Result<(), OutOfMemory> {
@@ -98,7 +98,7 @@ fn changed(alloc: Global, payload: &[u8], place: usize, byte: u8) -> Result<Vec<
     if place < bytes.len() {
         bytes[place] = byte;
     }
-    signed(bytes)
+    body(bytes)
 }
 
 /// Why no run is read, if none is.
@@ -180,7 +180,7 @@ fn a_run_with_one_byte_changed_is_none(rt: HostRuntime) -> Result<(), Fail> {
     assert_eq!(rt; bytes.len(), 194);
     assert_eq!(rt; fault(rt.alloc(), &bytes), None);
     for (what, place, byte) in [
-        ("another magic", 3, b'2'),
+        ("another run_magic", 3, b'2'),
         ("a count one less", 7, 1),
         ("a count one more", 7, 3),
         ("a count far too great", 4, 0xFF),
@@ -239,7 +239,7 @@ fn a_run_ends_with_its_digest(rt: HostRuntime) -> Result<(), Fail> {
     assert_eq!(rt; fault(rt.alloc(), &[]), Some(RunFault::NotARun), "no bytes");
     let mut inner = Vec::from_slice(rt.alloc(), &ONE_SHARD[..85])?;
     inner.push(0)?;
-    let inner = signed(inner)?;
+    let inner = body(inner)?;
     assert_eq!(rt;
         fault(rt.alloc(), &inner),
         Some(RunFault::NotARun),
@@ -323,7 +323,7 @@ fn many(alloc: Global, count: u32) -> Result<Vec<u8>, OutOfMemory> {
         bytes.push(1)?;
         bytes.extend_from_slice(&ABC_LOCATOR)?;
     }
-    signed(bytes)
+    body(bytes)
 }
 
 #[test]

@@ -7,10 +7,10 @@ use Rattle.std.proofs.lemmas.Option.{slice_get-get_or}
 use Rattle.std.proofs.lemmas.List.Elements.{All-cons, All-nil}
 use Rattle.uuid.specs.Text.{by_index}
 use Rattle.sha2.specs.Sha256.{sha256}
-use Rattle.scrub_frame.specs.Frame.{frame, magic}
+use Rattle.scrub_frame.specs.Frame.{frame, frame_magic}
 use Rattle.scrub_frame.proofs.Frames.{length-frame}
 use Rattle.scrub_scan.specs.declared.item.Item.TheVariants.{Chunk, Pad, Torn, Noise, Lost}
-use Rattle.scrub_scan.specs.Extent.{Extent, FrameAt, NoFrameAt, IsZero, IsUnreadable, HasMagic}
+use Rattle.scrub_scan.specs.Extent.{Extent, FrameAt, NoFrameAt, IsZero, IsUnreadableAt, HasMagic}
 use Rattle.scrub_scan.specs.Item.{IsItem}
 use Rattle.scrub_scan.specs.Line.{line_of}
 use Rattle.scrub_scan.specs.Tiling.{IsTiling}
@@ -78,7 +78,7 @@ no_frame_under w h u b f =
     let same : length b ≡ 3 = ap length (one_frame_at (abc_under 41) 0 u ones b abc longer (stands 41 (omega arith))).1 in
     omega (arith, f.fits, same, h)
 
-is_readable : (w : ℕ) → ¬ IsUnreadable (abc_under w) 0
+is_readable : (w : ℕ) → ¬ IsUnreadableAt (abc_under w) 0
 unfolding abc_under ones abc
 is_readable w none = absurd (let f : ⊥ = cc in f)
 
@@ -90,7 +90,7 @@ begins_with_magic : (w : ℕ) → 2 ≤ w → HasMagic (abc_under w) 0
 unfolding abc_under ones abc
 begins_with_magic w h = (omega (arith, h), each)
   where
-    each : (k : ℕ) → k < 2 → slice_get (frame ones abc) (0 + k) ≡ Some (get_or magic k 0)
+    each : (k : ℕ) → k < 2 → slice_get (frame ones abc) (0 + k) ≡ Some (get_or frame_magic k 0)
     each zero hk = refl
     each (suc zero) hk = refl
     each (suc (suc k)) hk = absurd (let f : ⊥ = omega (arith, hk) in f)

@@ -1,12 +1,12 @@
 pub mod Examples
-pub mod HeldFrames
-pub mod HeldParts
+pub mod ViewFrames
+pub mod ViewParts
 pub mod PlacePages
 pub mod Buffered
 pub mod Tilings
 pub mod Unreadable
-pub mod Found
+pub mod ScannedExtents
 pub mod Tails
 pub mod Search
-pub mod Texts
-pub mod FrameTexts
+pub mod BytesAt
+pub mod FrameBytes

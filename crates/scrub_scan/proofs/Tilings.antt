@@ -6,7 +6,7 @@ use Rattle.std.proofs.lemmas.List.Elements.{All-push, All-head, All-tail}
 use Rattle.scrub_scan.specs.declared.item.Item.{Item}
 use Rattle.scrub_scan.specs.declared.item.Item.TheVariants.{Chunk, Pad, Torn, Noise, Lost}
 use Rattle.sha2.specs.Sha256.{sha256}
-use Rattle.scrub_scan.specs.Extent.{Extent, bound, IsZero, IsUnreadable}
+use Rattle.scrub_scan.specs.Extent.{Extent, bound, IsZero, IsUnreadableAt}
 use Rattle.scrub_scan.specs.Item.{start_of, stop_of, IsItem, IsChunk, Fits, Spans}
 use Rattle.scrub_scan.specs.OneFrame.{one_frame_at}
 use Rattle.scrub_scan.specs.Tiling.{Joins, IsTiling}
@@ -59,7 +59,7 @@ same_chunk x p a b u n d a' b' v m f h k =
     ap (λ z. Chunk z b u n d) (h.0 ∙ sym k.0) ∙ ap (λ z. Chunk a' z u n d) stop ∙ ap (λ z. Chunk a' b' z n d) s.0 ∙ ap (λ z. Chunk a' b' v z d) e ∙ ap (λ z. Chunk a' b' v m z) sha
 
 -- where zeros stand the page is readable
-zeros_are_readable : (x : Extent) (p : ℕ) → p < bound x p → IsZero x p → IsUnreadable x p → ⊥
+zeros_are_readable : (x : Extent) (p : ℕ) → p < bound x p → IsZero x p → IsUnreadableAt x p → ⊥
 zeros_are_readable x p hp z none = some_none 0 (sym (z p (omega arith) hp) ∙ none)
   where
     some_none : (a : ℕ) → Some a ≡ None → ⊥

@@ -1,7 +1,7 @@
 -- One extent under its write pointer, and what stands at a place of it.
 use Rattle.std.specs.Prelude.{◌≡◌, ◌<◌, ◌≤◌, ◌+◌, ◌*◌, ◌/◌, ℕ, min, List, ◌++◌, length, Option, Some, None}
-use Rattle.scrub_disk.specs.Image.{Image, byte, IsText}
-use Rattle.scrub_frame.specs.Frame.{frame, magic, HasFrame}
+use Rattle.scrub_disk.specs.Image.{Image, byte, AreBytesAt}
+use Rattle.scrub_frame.specs.Frame.{frame, frame_magic, HasFrame}
 
 -- an extent: each byte of it, None where its page is unreadable; the bytes of a page; the write pointer, in bytes
 pub record Extent : Type 0 where
@@ -17,7 +17,7 @@ extent_of image e w = record { byte = byte image e; page = image.geometry.page; 
 pub record FrameAt (x : Extent) (p : ℕ) (u b : List ℕ) : Type 0 where
   pub has_frame : HasFrame u b
   pub fits : p + length b + 38 ≤ x.pointer
-  pub stands : IsText x.byte p (frame u b)
+  pub stands : AreBytesAt x.byte p (frame u b)
 
 -- the least of the pointer and the next page bound above p
 abbrev pub bound : Extent → ℕ → ℕ
@@ -27,8 +27,8 @@ abbrev pub NoFrameAt : Extent → ℕ → Type 0
 NoFrameAt x p = (u b : List ℕ) → ¬ FrameAt x p u b
 
 -- the page of p, a place of the extent, is unreadable
-abbrev pub IsUnreadable : Extent → ℕ → Type 0
-IsUnreadable x p = x.byte p ≡ None
+abbrev pub IsUnreadableAt : Extent → ℕ → Type 0
+IsUnreadableAt x p = x.byte p ≡ None
 
 -- all bytes from p to the bound are zero
 abbrev pub IsZero : Extent → ℕ → Type 0
@@ -36,7 +36,7 @@ IsZero x p = (i : ℕ) → p ≤ i → i < bound x p → x.byte i ≡ Some 0
 
 -- the magic stands at p, before the bound
 abbrev pub HasMagic : Extent → ℕ → Type 0
-HasMagic x p = (p + 2 ≤ bound x p) × IsText x.byte p magic
+HasMagic x p = (p + 2 ≤ bound x p) × AreBytesAt x.byte p frame_magic
 
 -- one of the n bytes from p on can't be read
 pub record HasGap (at : ℕ → Option ℕ) (p n : ℕ) : Type 0 where
@@ -46,9 +46,9 @@ pub record HasGap (at : ℕ → Option ℕ) (p n : ℕ) : Type 0 where
   pub unreadable : at place ≡ None
 
 -- n bytes or more stand at p, and the list has grown by the first n of them, one or more
-pub record AppendsText (at : ℕ → Option ℕ) (p n : ℕ) (old new : List ℕ) : Type 0 where
+pub record AppendsBytesAt (at : ℕ → Option ℕ) (p n : ℕ) (old new : List ℕ) : Type 0 where
   pub some : 0 < n
   pub part : List ℕ
   pub count : length part ≡ n
-  pub text : IsText at p part
+  pub bytes : AreBytesAt at p part
   pub appended : new ≡ old ++ part

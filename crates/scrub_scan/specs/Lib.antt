@@ -1,12 +1,12 @@
 pub mod Extent
 pub mod Buffer
-pub mod Held
+pub mod View
 pub mod Item
 pub mod Line
 pub mod Tiling
 pub mod OneFrame
 pub mod Findings
 pub mod Props
-pub mod Result
-pub mod OneReader
+pub mod Scanned
+pub mod AllFindings
 pub mod Standing

@@ -13,7 +13,7 @@ pub record IsFrameOf (image : Image) (pointer : ℕ) (s : Standing) (payload : L
   pub digest : s.digest ≡ sha256 payload
 
 -- it stands at this place, under this pointer
-pub record StandsAt (image : Image) (pointer extent offset : ℕ) (s : Standing) : Type 0 where
+pub record IsStandingAt (image : Image) (pointer extent offset : ℕ) (s : Standing) : Type 0 where
   pub in_extent : s.extent ≡ extent
   pub at_offset : s.offset ≡ offset
   pub payload : List ℕ

@@ -4,16 +4,16 @@
 ghost use Rattle.std.specs.Prelude.{◌≡◌, ℕ, ◌+◌, ◌*◌, ◌/◌, ◌^◌, ◌<◌, ◌≤◌, ◌↔◌, not, false, is_none, length, IsTrue, IfSome, IfNone, IfOk, slice_index, slice_index_or};
 ghost use Rattle.scrub_disk.specs.Image.{byte, extent_bytes};
 ghost use Rattle.scrub_scan.specs.Extent.{FrameAt, NoFrameAt, bound};
-ghost use Rattle.scrub_scan.specs.Buffer.{buffered_byte, IsNextUnreadable};
+ghost use Rattle.scrub_scan.specs.Buffer.{buffered_byte, AreNextUnreadable};
 
-use scrub_disk::{ExtentPages, OutOfMemory, PageSource, read_extent};
+use scrub_disk::{BufferedExtent, OutOfMemory, PageSource, read_extent};
 use scrub_frame::{Frame, read_frame};
 use std::alloc::Global;
 
 /// The bytes of an extent, and which of its pages could be read. The bytes of a page that could not are zeros and mean
 /// nothing.
 #[derive(Drop)]
-pub(crate) struct ExtentBuffer {
+pub(crate) struct ScanBuffer {
     /// The bytes of a page.
     pub page: usize,
     /// The bytes of the extent.
@@ -26,12 +26,12 @@ pub(crate) struct ExtentBuffer {
     ghost positive: { 0 < page },
     ghost whole: { length bytes.items ≡ page * length readable.items },
     ghost small: { length bytes.items ≤ 2 ^ 26 },
-    ghost next: { IsNextUnreadable readable.items next_unreadable.items },
+    ghost next: { AreNextUnreadable readable.items next_unreadable.items },
 }
 
 /// An extent in memory under a write pointer, with the fields of its `ExtentBuffer`.
 #[derive(Clone, Copy)]
-pub(crate) struct BufferedExtent<'a> {
+pub(crate) struct ScanView<'a> {
     pub page: usize,
     pub bytes: &'a [u8],
     pub readable: &'a [bool],
@@ -41,14 +41,14 @@ pub(crate) struct BufferedExtent<'a> {
     ghost positive: { 0 < page },
     ghost whole: { length bytes.now ≡ page * length readable.now },
     ghost small: { length bytes.now ≤ 2 ^ 26 },
-    ghost next: { IsNextUnreadable readable.now next_unreadable.now },
+    ghost next: { AreNextUnreadable readable.now next_unreadable.now },
     ghost within: { pointer ≤ length bytes.now },
 }
 
 /// For each page the next one at or above it that isn't readable, or the number of pages where there is none.
 fn next_unreadable(alloc: Global, readable: &[bool]) -> Result<Vec<u32>, OutOfMemory>
     requires { length readable.now ≤ 65536 }
-    ensures { IfOk result (λ next. IsNextUnreadable readable.now next.items) }
+    ensures { IfOk result (λ next. AreNextUnreadable readable.now next.items) }
 {
     let mut next = vec![in alloc; 0u32; readable.len()]?;
     let mut nearest = readable.len() as u32;
@@ -61,13 +61,13 @@ fn next_unreadable(alloc: Global, readable: &[bool]) -> Result<Vec<u32>, OutOfMe
     Ok(next)
 }
 
-impl ExtentBuffer {
+impl ScanBuffer {
     /// Reads an extent whole, each page once.
     pub fn read<D: PageSource>(
         alloc: Global,
         disk: &D,
         extent: u32,
-    ) -> Result<ExtentBuffer, OutOfMemory>
+    ) -> Result<ScanBuffer, OutOfMemory>
         requires { extent < (D.image disk.now).geometry.extents }
         ensures page { IfOk result (λ b. b.page ≡ (D.image disk.now).geometry.page) }
         ensures bytes { IfOk result (λ b. length b.bytes.items ≡ extent_bytes (D.image disk.now).geometry) }
@@ -77,9 +77,9 @@ impl ExtentBuffer {
         ensures image { IfOk result (λ b. buffered_byte (D.image disk.now).geometry.page b.bytes.items b.readable.items ≡ byte (D.image disk.now) extent) }
     {
         let page = disk.geometry().page() as usize;
-        let ExtentPages { bytes, readable } = read_extent(alloc, disk, extent)?;
+        let BufferedExtent { bytes, readable } = read_extent(alloc, disk, extent)?;
         let next_unreadable = next_unreadable(alloc, &readable)?;
-        Ok(ExtentBuffer {
+        Ok(ScanBuffer {
             page,
             bytes,
             readable,
@@ -88,14 +88,14 @@ impl ExtentBuffer {
     }
 
     /// The extent under a write pointer.
-    pub fn under(&self, pointer: usize) -> BufferedExtent<'_>
+    pub fn under(&self, pointer: usize) -> ScanView<'_>
         requires { pointer ≤ length self.now.bytes.items }
         ensures page { result.page ≡ self.now.page }
         ensures bytes { result.bytes.now ≡ self.now.bytes.items }
         ensures readable { result.readable.now ≡ self.now.readable.items }
         ensures pointer { result.pointer ≡ pointer }
     {
-        BufferedExtent {
+        ScanView {
             page: self.page,
             bytes: self.bytes.as_slice(),
             readable: self.readable.as_slice(),
@@ -105,8 +105,8 @@ impl ExtentBuffer {
     }
 }
 
-impl BufferedExtent<'_> {
-    ghost use Rattle.scrub_scan.specs.Held.{held_extent, payload_from, AreReadable};
+impl ScanView<'_> {
+    ghost use Rattle.scrub_scan.specs.View.{viewed_extent, payload_from, AreReadable};
 
     /// Whether the pages from the first through the last are readable.
     pub fn are_readable(&self, first: usize, last: usize) -> bool
@@ -120,9 +120,9 @@ impl BufferedExtent<'_> {
     /// The frame that stands at a place, all of it readable, and ends at or before the pointer.
     pub fn frame_at(&self, start: usize) -> Option<Frame>
         requires { start < self.now.pointer }
-        ensures found { IfSome result (λ f. FrameAt (held_extent self.now) start f.uuid (payload_from self.now start f.length)) }
+        ensures found { IfSome result (λ f. FrameAt (viewed_extent self.now) start f.uuid (payload_from self.now start f.length)) }
         ensures fits { IfSome result (λ f. start + f.length + 38 ≤ self.now.pointer) }
-        ensures none { IfNone result (NoFrameAt (held_extent self.now) start) }
+        ensures none { IfNone result (NoFrameAt (viewed_extent self.now) start) }
     {
         let frame = read_frame(&self.bytes[start..self.pointer])?;
         let last = (start + frame.length as usize + 37) / self.page;
@@ -135,7 +135,7 @@ impl BufferedExtent<'_> {
     /// The least of the pointer and the next page bound above a place.
     pub fn bound(&self, start: usize) -> usize
         requires { start < self.now.pointer }
-        ensures { result ≡ bound (held_extent self.now) start }
+        ensures { result ≡ bound (viewed_extent self.now) start }
     {
         let next = (start / self.page + 1) * self.page;
         self.pointer.min(next)

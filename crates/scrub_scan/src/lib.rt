@@ -2,22 +2,22 @@
 //! extents are scanned and under which pointers, and what the chunks are worth, is left to the crates around.
 #![tactic(auto)]
 
-pub mod all;
+pub mod all_findings;
 mod buffer;
+pub mod extent_result;
 pub mod findings;
 pub mod item;
-pub mod result;
-pub mod scan;
+mod reading;
+pub mod scanning;
 pub mod standing;
 mod tail;
-mod text;
 pub mod tiling;
 
-pub use all::AllFindings;
+pub use all_findings::AllFindings;
+pub use extent_result::ExtentResult;
 pub use findings::{Findings, PageNumbers};
 pub use item::{Item, Items, item_line};
-pub use result::ExtentResult;
-pub use scan::{scan_extent, scan_in_order};
+pub use scanning::{scan_extent, scan_in_order};
 pub use standing::{Standing, frame_stands, read_payload};
 pub use tiling::{one_tiling, tile};
 

@@ -3,9 +3,9 @@
 ghost use Rattle.std.specs.Prelude.{◌≡◌, ◌+◌, ◌<◌, ◌≤◌, ◌^◌, ℕ, List, length, IfOk, IfSome, IfNone};
 ghost use Rattle.scrub_disk.specs.Image.{extent_bytes};
 ghost use Rattle.scrub_scan.specs.Extent.{extent_of, FrameAt, NoFrameAt};
-ghost use Rattle.scrub_scan.specs.Standing.{StandsAt, Stands, HasPayload};
+ghost use Rattle.scrub_scan.specs.Standing.{IsStandingAt, Stands, HasPayload};
 
-use crate::text::read_text;
+use crate::reading::read_bytes;
 use scrub_disk::{OutOfMemory, PageSource};
 use scrub_frame::{digest_of, read_frame, read_head};
 use std::alloc::Global;
@@ -40,13 +40,13 @@ fn claimed_size<D: PageSource>(
     ensures some { IfOk result (λ size. IfSome size (λ n. 38 ≤ n)) }
     ensures small { IfOk result (λ size. IfSome size (λ n. n < 2 ^ 33)) }
 {
-    let Some(text) = read_text(alloc, disk, extent, offset as usize, 22)? else {
+    let Some(bytes) = read_bytes(alloc, disk, extent, offset as usize, 22)? else {
         return Ok(None);
     };
-    let Some(bytes) = text.first_chunk::<22>() else {
+    let Some(head) = bytes.first_chunk::<22>() else {
         return Ok(None);
     };
-    match read_head(bytes) {
+    match read_head(head) {
         Some(head) => Ok(Some(head.length as usize + 38)),
         None => Ok(None),
     }
@@ -64,7 +64,7 @@ pub fn frame_stands<D: PageSource>(
     requires in_extents { extent < (D.image disk.now).geometry.extents }
     requires pointer { pointer ≤ extent_bytes (D.image disk.now).geometry }
     requires offset { offset ≤ extent_bytes (D.image disk.now).geometry }
-    ensures found { IfOk result (λ found. IfSome found (StandsAt (D.image disk.now) pointer extent offset)) }
+    ensures found { IfOk result (λ found. IfSome found (IsStandingAt (D.image disk.now) pointer extent offset)) }
     ensures none { IfOk result (λ found. IfNone found (NoFrameAt (extent_of (D.image disk.now) extent pointer) offset)) }
 {
     if (offset as usize) + 38 > pointer as usize {
@@ -76,16 +76,16 @@ pub fn frame_stands<D: PageSource>(
     if offset as usize + size > pointer as usize {
         return Ok(None);
     }
-    let Some(text) = read_text(alloc, disk, extent, offset as usize, size)? else {
+    let Some(bytes) = read_bytes(alloc, disk, extent, offset as usize, size)? else {
         return Ok(None);
     };
-    match read_frame(&text) {
+    match read_frame(&bytes) {
         Some(frame) => Ok(Some(Standing {
             extent,
             offset,
             uuid: frame.uuid,
             length: frame.length,
-            digest: digest_of(&text[22..22 + frame.length as usize]),
+            digest: digest_of(&bytes[22..22 + frame.length as usize]),
         })),
         None => Ok(None),
     }
@@ -101,7 +101,7 @@ pub fn read_payload<D: PageSource>(
     ensures { IfOk result (λ payload. HasPayload (D.image disk.now) standing.now payload.items) }
 {
     let start = standing.offset as usize + 22;
-    match read_text(
+    match read_bytes(
         alloc,
         disk,
         standing.extent,

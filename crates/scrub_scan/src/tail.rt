@@ -1,10 +1,10 @@
 //! The tail of an extent: what was written at and past its write pointer.
 
 ghost use Rattle.std.specs.Prelude.{◌≡◌, ◌==◌, ◌+◌, ◌-◌, ◌<◌, ◌≤◌, ◌^◌, not, length, count_by, position, slice_get, option_map};
-ghost use Rattle.scrub_scan.specs.Held.{held_extent};
+ghost use Rattle.scrub_scan.specs.View.{viewed_extent};
 ghost use Rattle.scrub_scan.specs.Findings.{nonzero_places};
 
-use crate::buffer::BufferedExtent;
+use crate::buffer::ScanView;
 
 /// Bytes that aren't zero: how many there are, and the place of the first.
 #[derive(Clone, Copy)]
@@ -35,10 +35,10 @@ fn nonzero_bytes(part: &[u8], start: usize) -> Tail
 }
 
 /// The readable bytes at and past the write pointer that aren't zero.
-pub(crate) fn tail_of(extent: &BufferedExtent) -> Tail
-    ensures count { result.count ≡ length (nonzero_places (held_extent extent.now).byte
+pub(crate) fn tail_of(extent: &ScanView) -> Tail
+    ensures count { result.count ≡ length (nonzero_places (viewed_extent extent.now).byte
         extent.now.pointer (length extent.now.bytes.now - extent.now.pointer)) }
-    ensures first { result.first ≡ slice_get (nonzero_places (held_extent extent.now).byte
+    ensures first { result.first ≡ slice_get (nonzero_places (viewed_extent extent.now).byte
         extent.now.pointer (length extent.now.bytes.now - extent.now.pointer)) 0 }
 {
     let mut tail = Tail {

@@ -15,7 +15,7 @@ use std::process::Abort;
 use std::test::Fail;
 use uuid::Uuid;
 
-mod all;
+mod all_findings;
 mod findings;
 mod items;
 mod standing;

@@ -4,11 +4,11 @@ ghost use Rattle.std.specs.Prelude.{◌≡◌, ◌+◌, ◌<◌, ◌≤◌, ◌�
 ghost use Rattle.scrub_disk.specs.Image.{extent_bytes};
 ghost use Rattle.scrub_scan.specs.declared.item.Item.{Item};
 ghost use Rattle.scrub_scan.specs.Extent.{Extent, extent_of, FrameAt, NoFrameAt};
-ghost use Rattle.scrub_scan.specs.Held.{held_extent, payload_from};
+ghost use Rattle.scrub_scan.specs.View.{viewed_extent, payload_from};
 ghost use Rattle.scrub_scan.specs.Item.{start_of, IsItem};
 ghost use Rattle.scrub_scan.specs.Tiling.{IsTiling};
 
-use crate::buffer::{BufferedExtent, ExtentBuffer};
+use crate::buffer::{ScanBuffer, ScanView};
 use crate::item::{Item, Items};
 use scrub_disk::{OutOfMemory, PageSource};
 use scrub_frame::{Frame, MAGIC, digest_of};
@@ -29,12 +29,12 @@ fn has_magic(part: &[u8]) -> bool
 }
 
 /// The chunk of a frame that stands at a place.
-fn chunk_at(extent: &BufferedExtent, start: usize, frame: Frame) -> Item
+fn chunk_at(extent: &ScanView, start: usize, frame: Frame) -> Item
     requires below { start < extent.now.pointer }
-    requires stands { FrameAt (held_extent extent.now) start frame.uuid (payload_from extent.now start frame.length) }
+    requires stands { FrameAt (viewed_extent extent.now) start frame.uuid (payload_from extent.now start frame.length) }
     requires fits { start + frame.length + 38 ≤ extent.now.pointer }
     ensures start { start_of result ≡ start }
-    ensures item { IsItem (held_extent extent.now) result }
+    ensures item { IsItem (viewed_extent extent.now) result }
 {
     let size = frame.length as usize;
     let digest = digest_of(&extent.bytes[start..extent.pointer][22..22 + size]);
@@ -48,11 +48,11 @@ fn chunk_at(extent: &BufferedExtent, start: usize, frame: Frame) -> Item
 }
 
 /// The item at a place where no frame stands: what lies between it and the next page bound, or the pointer.
-fn unframed_at(extent: &BufferedExtent, start: usize) -> Item
+fn unframed_at(extent: &ScanView, start: usize) -> Item
     requires below { start < extent.now.pointer }
-    requires unframed { NoFrameAt (held_extent extent.now) start }
+    requires unframed { NoFrameAt (viewed_extent extent.now) start }
     ensures start { start_of result ≡ start }
-    ensures item { IsItem (held_extent extent.now) result }
+    ensures item { IsItem (viewed_extent extent.now) result }
 {
     let bound = extent.bound(start);
     let is_readable = extent.readable[start / extent.page];
@@ -71,10 +71,10 @@ fn unframed_at(extent: &BufferedExtent, start: usize) -> Item
 }
 
 /// The item that begins at a place below the pointer.
-fn item_at(extent: &BufferedExtent, start: usize) -> Item
+fn item_at(extent: &ScanView, start: usize) -> Item
     requires { start < extent.now.pointer }
     ensures start { start_of result ≡ start }
-    ensures item { IsItem (held_extent extent.now) result }
+    ensures item { IsItem (viewed_extent extent.now) result }
 {
     match extent.frame_at(start) {
         Some(frame) => chunk_at(extent, start, frame),
@@ -83,8 +83,8 @@ fn item_at(extent: &BufferedExtent, start: usize) -> Item
 }
 
 /// The tiling of an extent in memory, item by item from byte 0.
-pub(crate) fn tile_buffer(alloc: Global, extent: &BufferedExtent) -> Result<Items, OutOfMemory>
-    ensures { IfOk result (IsTiling (held_extent extent.now)) }
+pub(crate) fn tile_buffer(alloc: Global, extent: &ScanView) -> Result<Items, OutOfMemory>
+    ensures { IfOk result (IsTiling (viewed_extent extent.now)) }
 {
     let mut items: Vec<Item> = Vec::new(alloc);
     let mut start = 0;
@@ -110,7 +110,7 @@ pub fn tile<D: PageSource>(
     requires in_extent { pointer ≤ extent_bytes (D.image disk.now).geometry }
     ensures { IfOk result (IsTiling (extent_of (D.image disk.now) extent pointer)) }
 {
-    let buffer = ExtentBuffer::read(alloc, disk, extent)?;
+    let buffer = ScanBuffer::read(alloc, disk, extent)?;
     tile_buffer(alloc, &buffer.under(pointer as usize))
 }
 

@@ -10,14 +10,14 @@ use Rattle.std.proofs.Math.Nat.{mul-le-mul_left}
 use Rattle.scrub_disk.specs.declared.geometry.Geometry.{Geometry}
 use Rattle.scrub_disk.specs.Image.{Image, byte, extent_bytes}
 use Rattle.scrub_disk.proofs.HeldBytes.{byte-unreadable}
-use Rattle.scrub_super.specs.declared.choice.Newest.{Newest}
-use Rattle.scrub_super.specs.declared.choice.Found.{Found}
+use Rattle.scrub_super.specs.declared.choosing.Newest.{Newest}
+use Rattle.scrub_super.specs.declared.choosing.RecordsSeen.{RecordsSeen}
 use Rattle.scrub_super.specs.Contents.{Contents}
 use Rattle.scrub_super.specs.Record.{record_bytes, BeginsWithRecord}
 use Rattle.scrub_disk.specs.Buffered.{IsBuffered}
 use Rattle.scrub_disk.specs.Image.{unreadable_pages}
-use Rattle.scrub_super.specs.Chosen.{StandsAt, IsGreatest, IsTie, IsChoice}
-use Rattle.scrub_super.specs.Found.{StandsFrom, IsNewestFrom, IsFoundFrom}
+use Rattle.scrub_super.specs.Chosen.{RecordStandsAt, IsGreatest, IsTie, IsChoice}
+use Rattle.scrub_super.specs.RecordsSeen.{StandsFrom, IsNewestFrom, AreSeenFrom}
 use Rattle.scrub_super.proofs.Records.{one_record_lem}
 use Rattle.scrub_super.proofs.Standing.{byte_held, some_bytes}
 use Rattle.scrub_disk.proofs.Filters.{filter_same}
@@ -42,7 +42,7 @@ byte_there image bytes readable i x h e = elim (cases_lt i (extent_bytes image.g
         ∙ ap (λ b. cond b (Some (between (i / image.geometry.page * image.geometry.page) (i / image.geometry.page * image.geometry.page + image.geometry.page) bytes)) None) marked)) ∙ e))
 
 -- a record that stands at a page is what the bytes from there on begin with
-pub front_at : (image : Image) (bytes : List ℕ) (readable : List Bool) (g : ℕ) (c : Contents) → IsBuffered image 0 bytes readable → StandsAt image g c →
+pub front_at : (image : Image) (bytes : List ℕ) (readable : List Bool) (g : ℕ) (c : Contents) → IsBuffered image 0 bytes readable → RecordStandsAt image g c →
     BeginsWithRecord image.geometry (drop (g * image.geometry.page) bytes) c
 front_at image bytes readable g c h s = record {
   contents = s.contents;
@@ -70,7 +70,7 @@ bad_pages_are image bytes readable n bad h hn e =
     by_mark false s = refl
 
 -- nothing was found
-pub choice_without : (image : Image) (f : Found) (bad : List ℕ) → IsFoundFrom (StandsFrom image) 0 f → f.newest ≡ None → bad ≡ unreadable_pages image 0 →
+pub choice_without : (image : Image) (f : RecordsSeen) (bad : List ℕ) → AreSeenFrom (StandsFrom image) 0 f → f.newest ≡ None → bad ≡ unreadable_pages image 0 →
     IsChoice image (record { geometry = image.geometry; superblock = None; page = None; records = 0; tie = false; bad_pages = bad })
 choice_without image f bad found is hb = record {
   geometry = refl;
@@ -98,8 +98,8 @@ same_or_not m n = elim (cases_lt m n) [
 ]
 
 -- the newest that was found, read where it stands
-pub choice_by : (image : Image) (bytes : List ℕ) (readable : List Bool) (f : Found) (b : Newest) (c : Contents) (bad : List ℕ) →
-    IsBuffered image 0 bytes readable → IsFoundFrom (StandsFrom image) 0 f → f.newest ≡ Some b →
+pub choice_by : (image : Image) (bytes : List ℕ) (readable : List Bool) (f : RecordsSeen) (b : Newest) (c : Contents) (bad : List ℕ) →
+    IsBuffered image 0 bytes readable → AreSeenFrom (StandsFrom image) 0 f → f.newest ≡ Some b →
     BeginsWithRecord image.geometry (drop (b.page * image.geometry.page) bytes) c → bad ≡ unreadable_pages image 0 →
     IsChoice image (record { geometry = image.geometry; superblock = Some c; page = Some b.page; records = f.records; tie = b.tie; bad_pages = bad })
 choice_by image bytes readable f b c bad h found is begins hb = record {
@@ -130,7 +130,7 @@ choice_by image bytes readable f b c bad h found is begins hb = record {
     same : newest.there.0 ≡ c
     same = one_record_lem image.geometry (drop (b.page * image.geometry.page) bytes) newest.there.0 c (front_at image bytes readable b.page newest.there.0 h newest.there.1) begins
 
-    stands : StandsAt image b.page c
+    stands : RecordStandsAt image b.page c
     stands = rw same at newest.there.1
 
     generation : c.generation ≡ b.generation
@@ -162,13 +162,13 @@ choice_by image bytes readable f b c bad h found is begins hb = record {
         ]
 
 -- what was found in the bytes is what stands on the image
-pub found_of : (image : Image) (g : Geometry) (xs bytes : List ℕ) (ys readable : List Bool) (f : Found) → g ≡ image.geometry → xs ≡ bytes → ys ≡ readable → IsBuffered image 0 bytes readable →
-    ((page : ℕ → ℕ → Option (List ℕ)) → IsBuffered (record { geometry = g; page = page }) 0 xs ys → IsFoundFrom (StandsFrom (record { geometry = g; page = page })) 0 f) →
-    IsFoundFrom (StandsFrom image) 0 f
+pub found_of : (image : Image) (g : Geometry) (xs bytes : List ℕ) (ys readable : List Bool) (f : RecordsSeen) → g ≡ image.geometry → xs ≡ bytes → ys ≡ readable → IsBuffered image 0 bytes readable →
+    ((page : ℕ → ℕ → Option (List ℕ)) → IsBuffered (record { geometry = g; page = page }) 0 xs ys → AreSeenFrom (StandsFrom (record { geometry = g; page = page })) 0 f) →
+    AreSeenFrom (StandsFrom image) 0 f
 found_of image g xs bytes ys readable f hg hx hy h all = (rw (hg, hx, hy) at all) image.page h
 
 -- where the newest that was found stands
-pub newest_page : (image : Image) (bytes : List ℕ) (readable : List Bool) (f : Found) (b : Newest) → IsBuffered image 0 bytes readable → IsFoundFrom (StandsFrom image) 0 f → f.newest ≡ Some b →
+pub newest_page : (image : Image) (bytes : List ℕ) (readable : List Bool) (f : RecordsSeen) (b : Newest) → IsBuffered image 0 bytes readable → AreSeenFrom (StandsFrom image) 0 f → f.newest ≡ Some b →
     b.page * image.geometry.page ≤ length bytes
 newest_page image bytes readable f b h found is =
     let newest : IsNewestFrom (StandsFrom image) 0 b = rw is at found.newest in
@@ -177,7 +177,7 @@ newest_page image bytes readable f b h found is =
     omega (arith, room, h.size)
 
 -- a record is read there
-pub newest_begins : (image : Image) (bytes : List ℕ) (readable : List Bool) (f : Found) (b : Newest) → IsBuffered image 0 bytes readable → IsFoundFrom (StandsFrom image) 0 f → f.newest ≡ Some b →
+pub newest_begins : (image : Image) (bytes : List ℕ) (readable : List Bool) (f : RecordsSeen) (b : Newest) → IsBuffered image 0 bytes readable → AreSeenFrom (StandsFrom image) 0 f → f.newest ≡ Some b →
     (c : Contents) × BeginsWithRecord image.geometry (drop (b.page * image.geometry.page) bytes) c
 newest_begins image bytes readable f b h found is =
     let newest : IsNewestFrom (StandsFrom image) 0 b = rw is at found.newest in

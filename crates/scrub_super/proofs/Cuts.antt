@@ -58,9 +58,9 @@ whole_of x head pointers runs digest p r h =
     regroup rest = sym (simp append_assoc refl)
 
 -- the bytes before the digest
-pub signed_of : (x head pointers runs digest : List ℕ) (p r : ℕ) → length head ≡ 26 → length pointers ≡ p → length runs ≡ r →
+pub body_of : (x head pointers runs digest : List ℕ) (p r : ℕ) → length head ≡ 26 → length pointers ≡ p → length runs ≡ r →
     AreParts x head pointers runs digest p r → take (26 + p + r) x ≡ head ++ (pointers ++ runs)
-signed_of x head pointers runs digest p r lh lp lr h =
+body_of x head pointers runs digest p r lh lp lr h =
     ap (take (26 + p + r)) (whole_of x head pointers runs digest p r h ∙ append_assoc (head ++ (pointers ++ runs)) digest (drop (26 + p + r + 32) x))
     ∙ take_at (head ++ (pointers ++ runs)) (digest ++ drop (26 + p + r + 32) x) (26 + p + r)
     (omega (arith, length-append head (pointers ++ runs), length-append pointers runs, lh, lp, lr))

@@ -10,11 +10,11 @@ use Rattle.scrub_disk.specs.declared.geometry.Geometry.{Geometry}
 use Rattle.scrub_disk.specs.Image.{Image}
 use Rattle.scrub_super.specs.Contents.{Contents}
 use Rattle.scrub_super.specs.Record.{record_bytes}
-use Rattle.scrub_super.specs.Chosen.{StandsAt, IsNewest, IsChosen, IsTie, Choice, IsChoice}
+use Rattle.scrub_super.specs.Chosen.{RecordStandsAt, IsNewestRecord, IsChosen, IsTie, Choice, IsChoice}
 use Rattle.scrub_super.proofs.Records.{one_record_lem}
 
 -- where one record is as long as the other or longer
-longer_record : (image : Image) (g : ℕ) (c d : Contents) → length (record_bytes image.geometry d) ≤ length (record_bytes image.geometry c) → StandsAt image g c → StandsAt image g d → c ≡ d
+longer_record : (image : Image) (g : ℕ) (c d : Contents) → length (record_bytes image.geometry d) ≤ length (record_bytes image.geometry c) → RecordStandsAt image g c → RecordStandsAt image g d → c ≡ d
 longer_record image g c d fits h k =
     one_record_lem image.geometry (record_bytes image.geometry c) c d
     (record { contents = h.contents; rest = []; spelled = sym (append-nil (record_bytes image.geometry c)) })
@@ -25,7 +25,7 @@ longer_record image g c d fits h k =
           (λ i hi. same_Some _ _ (sym (h.stands i (omega (arith, hi, fits))) ∙ k.stands i hi));
     })
 
-pub one_record_on_page : (image : Image) (g : ℕ) (c d : Contents) → StandsAt image g c → StandsAt image g d → c ≡ d
+pub one_record_on_page : (image : Image) (g : ℕ) (c d : Contents) → RecordStandsAt image g c → RecordStandsAt image g d → c ≡ d
 one_record_on_page image g c d h k = elim (cases_lt (length (record_bytes image.geometry c)) (length (record_bytes image.geometry d))) [
   | inl shorter ↦ sym (longer_record image g d c (omega (arith, shorter)) k h)
   | inr fits ↦ longer_record image g c d fits h k
@@ -33,7 +33,7 @@ one_record_on_page image g c d h k = elim (cases_lt (length (record_bytes image.
 
 -- ---- the choice
 
-one_newest : (image : Image) (g h : ℕ) (c d : Contents) → IsNewest image g c → IsNewest image h d → (g ≡ h) × (c ≡ d)
+one_newest : (image : Image) (g h : ℕ) (c d : Contents) → IsNewestRecord image g c → IsNewestRecord image h d → (g ≡ h) × (c ≡ d)
 one_newest image g h c d p q =
     let same : c.generation ≡ d.generation = omega (arith, q.greatest g c p.stands, p.greatest h d q.stands) in
     let page : g ≡ h = omega (arith, p.lowest h d q.stands (sym same), q.lowest g c p.stands same) in

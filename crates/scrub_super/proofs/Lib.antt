@@ -4,7 +4,7 @@ pub mod Cuts
 pub mod Records
 pub mod Plans
 pub mod Standing
-pub mod Finding
+pub mod RecordsSeenSteps
 pub mod Steps
 pub mod Choices
 pub mod Laws

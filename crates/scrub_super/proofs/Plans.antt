@@ -7,7 +7,7 @@ use Rattle.std.proofs.lemmas.List.FromFn.{length-range_with_len, get_or-range_wi
 use Rattle.scrub_disk.specs.declared.geometry.Geometry.{Geometry}
 use Rattle.scrub_frame.specs.declared.locator.Locator.{Locator}
 use Rattle.scrub_super.specs.Planned.{ArePlanned}
-use Rattle.scrub_super.specs.Record.{ArePointers, AreRuns, AreContents}
+use Rattle.scrub_super.specs.Record.{ArePointers, AreRunLocators, AreContents}
 use Rattle.scrub_super.specs.Contents.{Contents}
 
 -- all extents but extent 0 can be planned
@@ -44,7 +44,7 @@ full_pointers g size n hn hs = record {
     at_most : (k d : ℕ) → k < n → get_or (replicate n size) k d ≤ g.page * g.pages
     at_most k d hk = rw (get_or-replicate n k size d hk) (omega (arith, hs))
 
-pub no_runs : (rs : List Locator) → rs ≡ [] → AreRuns rs
+pub no_runs : (rs : List Locator) → rs ≡ [] → AreRunLocators rs
 no_runs rs e = rw e (record { count = omega arith; each = λ k d hk. absurd (omega (arith, hk)) })
 
 -- what was chosen fits the geometry that it was chosen under

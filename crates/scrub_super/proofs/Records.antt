@@ -15,10 +15,10 @@ use Rattle.scrub_frame.specs.Locator.{locator_bytes, IsLocator}
 use Rattle.scrub_frame.proofs.Bytes.{bytes-number, number-bytes, number-take, bytes-injective}
 use Rattle.scrub_frame.proofs.Locators.{fields_read, length-locators, same_locators}
 use Rattle.scrub_super.specs.Contents.{Contents}
-use Rattle.scrub_super.specs.Record.{head_bytes, signed_bytes, record_bytes, IsHead, ArePointers, AreRuns, AreContents, BeginsWithRecord, BeginsWithSome}
+use Rattle.scrub_super.specs.Record.{head_bytes, record_body, record_bytes, IsHead, ArePointers, AreRunLocators, AreContents, BeginsWithRecord, BeginsWithSome}
 use Rattle.scrub_super.proofs.Parts.{AreBytes, AreBytes-drop, AreBytes-take, values, length-values, get_or-values, flat_map-values, part-flat_map}
 use Rattle.scrub_frame.proofs.Parts.{length-flat_map_of, flat_map-injective}
-use Rattle.scrub_super.proofs.Cuts.{AreParts, parts_of, whole_of, signed_of, three_parts}
+use Rattle.scrub_super.proofs.Cuts.{AreParts, parts_of, whole_of, body_of, three_parts}
 
 -- the generation and the number of runs that a head tells
 pub generation_read : (g : Geometry) (n r : ℕ) → n < 2 ^ 64 → big_number 8 (drop 4 (head_bytes g n r)) ≡ n
@@ -37,35 +37,35 @@ head_bytes-injective g n m r s hn hm hr hs e = (
 abbrev pub AreRecordParts : Geometry → List ℕ → Contents → Type 0
 AreRecordParts g x c =
     AreParts x (head_bytes g c.generation (length c.runs)) (flat_map (big_bytes 4) c.pointers) (flat_map locator_bytes c.runs)
-    (sha256 (signed_bytes g c)) (4 * (g.extents - 1)) (60 * length c.runs)
+    (sha256 (record_body g c)) (4 * (g.extents - 1)) (60 * length c.runs)
 
 length_pointers : (g : Geometry) (ws : List ℕ) → ArePointers g ws → length (flat_map (big_bytes 4) ws) ≡ 4 * (g.extents - 1)
 length_pointers g ws h = omega (arith, length-flat_map_of (big_bytes 4) 4 ws (λ k d hk. refl), h.count)
 
-length_runs : (rs : List Locator) → AreRuns rs → length (flat_map locator_bytes rs) ≡ 60 * length rs
+length_runs : (rs : List Locator) → AreRunLocators rs → length (flat_map locator_bytes rs) ≡ 60 * length rs
 length_runs rs h = length-locators rs h.each
 
 pub record_parts : (g : Geometry) (x : List ℕ) (c : Contents) → BeginsWithRecord g x c → AreRecordParts g x c
 record_parts g x c h =
     parts_of x (head_bytes g c.generation (length c.runs)) (flat_map (big_bytes 4) c.pointers) (flat_map locator_bytes c.runs)
-    (sha256 (signed_bytes g c)) h.rest (4 * (g.extents - 1)) (60 * length c.runs)
-    refl (length_pointers g c.pointers h.contents.pointers) (length_runs c.runs h.contents.runs) (length-sha256 (signed_bytes g c)) h.spelled
+    (sha256 (record_body g c)) h.rest (4 * (g.extents - 1)) (60 * length c.runs)
+    refl (length_pointers g c.pointers h.contents.pointers) (length_runs c.runs h.contents.runs) (length-sha256 (record_body g c)) h.spelled
 
 pub record_of_parts : (g : Geometry) (x : List ℕ) (c : Contents) → AreContents g c → AreRecordParts g x c → BeginsWithRecord g x c
 record_of_parts g x c contents h = record {
   contents = contents;
   rest = drop (26 + 4 * (g.extents - 1) + 60 * length c.runs + 32) x;
   spelled = whole_of x (head_bytes g c.generation (length c.runs)) (flat_map (big_bytes 4) c.pointers) (flat_map locator_bytes c.runs)
-      (sha256 (signed_bytes g c)) (4 * (g.extents - 1)) (60 * length c.runs) h;
+      (sha256 (record_body g c)) (4 * (g.extents - 1)) (60 * length c.runs) h;
 }
 
 -- the digest stands behind what it is taken of
-pub record_signed : (g : Geometry) (x : List ℕ) (c : Contents) → BeginsWithRecord g x c →
+pub body_of_record : (g : Geometry) (x : List ℕ) (c : Contents) → BeginsWithRecord g x c →
     take 32 (drop (26 + 4 * (g.extents - 1) + 60 * length c.runs) x) ≡ sha256 (take (26 + 4 * (g.extents - 1) + 60 * length c.runs) x)
-record_signed g x c h =
+body_of_record g x c h =
     let parts : AreRecordParts g x c = record_parts g x c h in
-    parts.digest_is ∙ ap sha256 (sym (signed_of x (head_bytes g c.generation (length c.runs)) (flat_map (big_bytes 4) c.pointers) (flat_map locator_bytes c.runs)
-    (sha256 (signed_bytes g c)) (4 * (g.extents - 1)) (60 * length c.runs)
+    parts.digest_is ∙ ap sha256 (sym (body_of x (head_bytes g c.generation (length c.runs)) (flat_map (big_bytes 4) c.pointers) (flat_map locator_bytes c.runs)
+    (sha256 (record_body g c)) (4 * (g.extents - 1)) (60 * length c.runs)
     refl (length_pointers g c.pointers h.contents.pointers) (length_runs c.runs h.contents.runs) parts))
 
 -- the head that bytes begin with is that of the record
@@ -134,8 +134,8 @@ over_limit g x part c m most answer hm is limit all over b = false≢true (sym o
 -- nor where another digest stands
 pub not_signed : (g : Geometry) (x : List ℕ) (n r m e : ℕ) (c : Contents) (answer : Bool) → IsHead g (take 26 x) n r → m ≡ 26 + 4 * (g.extents - 1) → e ≡ m + 60 * r →
     (take 32 (drop e x) ≡ sha256 (take e x) → IsTrue answer) → answer ≡ false → BeginsWithRecord g x c → ⊥
-not_signed g x n r m e c answer h hm he signed wrong b =
-    false≢true (sym wrong ∙ signed (rw ends (record_signed g x c b)))
+not_signed g x n r m e c answer h hm he body wrong b =
+    false≢true (sym wrong ∙ body (rw ends (body_of_record g x c b)))
   where
     ends : e ≡ 26 + 4 * (g.extents - 1) + 60 * length c.runs
     ends = omega (arith, hm, he, (record_head g x n r c h b).1)
@@ -183,10 +183,10 @@ pub record_of_values : (g : Geometry) (x ws : List ℕ) (rs : List Locator) (n r
     flat_map locator_bytes rs ≡ take (60 * r) (drop (26 + 4 * (g.extents - 1)) x) →
     take 32 (drop (26 + 4 * (g.extents - 1) + 60 * r) x) ≡ sha256 (take (26 + 4 * (g.extents - 1) + 60 * r) x) →
     BeginsWithRecord g x (record { generation = n; pointers = ws; runs = rs })
-record_of_values g x ws rs n r head count pointers runs enough hw hr signed =
+record_of_values g x ws rs n r head count pointers runs enough hw hr body =
     record_of_parts g x (record { generation = n; pointers = ws; runs = rs })
     (record { generation = head.fits; pointers = pointers; runs = record { count = omega (arith, head.few, count); each = runs } })
-    (rw (count) (record { enough = enough; head_is = head.spelled; pointers_are = sym hw; runs_are = sym hr; digest_is = signed ∙ ap sha256 (sym whole) }))
+    (rw (count) (record { enough = enough; head_is = head.spelled; pointers_are = sym hw; runs_are = sym hr; digest_is = body ∙ ap sha256 (sym whole) }))
   where
     whole : head_bytes g n r ++ (flat_map (big_bytes 4) ws ++ flat_map locator_bytes rs) ≡ take (26 + 4 * (g.extents - 1) + 60 * r) x
     whole =
@@ -220,13 +220,13 @@ locators_fit r part l bytes k d hk =
 pub record_found : (g : Geometry) (x part : List ℕ) (n r m e most : ℕ) → AreBytes x → IsHead g (take 26 x) n r → m ≡ 26 + 4 * (g.extents - 1) → e ≡ m + 60 * r →
     e + 32 ≤ length x → part ≡ take (m - 26) (drop 26 x) → most ≡ g.page * g.pages → ((k : ℕ) → 4 * k + 4 ≤ length part → big_number 4 (drop (4 * k) part) ≤ most) →
     take 32 (drop e x) ≡ sha256 (take e x) → BeginsWithSome g x n r
-record_found g x part n r m e most bytes head hm he enough hpart limit all signed = record {
+record_found g x part n r m e most bytes head hm he enough hpart limit all body = record {
   contents = record { generation = n; pointers = values (big_number 4) 4 (g.extents - 1) part; runs = values locator_of 60 r runs_part };
   begins = record_of_values g x (values (big_number 4) 4 (g.extents - 1) part) (values locator_of 60 r runs_part) n r head count_runs
       (pointers_fit g part most limit length_part all) (locators_fit r runs_part length_runs_part bytes_runs) room
       (flat_map-values (big_bytes 4) (big_number 4) 4 (g.extents - 1) part number_spelled length_part bytes_part ∙ part_is)
       (flat_map-values locator_bytes locator_of 60 r runs_part locator_spelled length_runs_part bytes_runs)
-      (rw (ends) at signed);
+      (rw (ends) at body);
   generation = refl;
   count = count_runs;
 }
@@ -302,9 +302,9 @@ head_again g x y generation runs n r hg hr h hy =
     h.spelled ∙ ap (λ m. head_bytes g m r) (sym read.0) ∙ ap (head_bytes g generation) (sym read.1) ∙ sym hy
 
 -- what is appended before the digest, and with it
-pub signed_written : (g : Geometry) (s : Contents) (old o1 o2 o3 h ps : List ℕ) (rs : List Locator) (n r : ℕ) → h ≡ head_bytes g n r → n ≡ s.generation → r ≡ length s.runs →
-    ps ≡ s.pointers → rs ≡ s.runs → o1 ≡ old ++ h → o2 ≡ o1 ++ flat_map (big_bytes 4) ps → o3 ≡ o2 ++ flat_map locator_bytes rs → o3 ≡ old ++ signed_bytes g s
-signed_written g s old o1 o2 o3 h ps rs n r hh hn hr hps hrs h1 h2 h3 =
+pub body_written : (g : Geometry) (s : Contents) (old o1 o2 o3 h ps : List ℕ) (rs : List Locator) (n r : ℕ) → h ≡ head_bytes g n r → n ≡ s.generation → r ≡ length s.runs →
+    ps ≡ s.pointers → rs ≡ s.runs → o1 ≡ old ++ h → o2 ≡ o1 ++ flat_map (big_bytes 4) ps → o3 ≡ o2 ++ flat_map locator_bytes rs → o3 ≡ old ++ record_body g s
+body_written g s old o1 o2 o3 h ps rs n r hh hn hr hps hrs h1 h2 h3 =
     h3 ∙ ap (λ t. t ++ flat_map locator_bytes rs) (h2 ∙ ap (λ t. t ++ flat_map (big_bytes 4) ps) h1)
     ∙ ap (λ t. old ++ t ++ flat_map (big_bytes 4) ps ++ flat_map locator_bytes rs) (hh ∙ ap (λ m. head_bytes g m r) hn ∙ ap (head_bytes g s.generation) hr)
     ∙ ap (λ t. old ++ head_bytes g s.generation (length s.runs) ++ flat_map (big_bytes 4) t ++ flat_map locator_bytes rs) hps
@@ -314,17 +314,17 @@ signed_written g s old o1 o2 o3 h ps rs n r hh hn hr hps hrs h1 h2 h3 =
     regroup : (a b c d : List ℕ) → a ++ b ++ c ++ d ≡ a ++ (b ++ (c ++ d))
     regroup a b c d = append_assoc (a ++ b) c d ∙ append_assoc a b (c ++ d)
 
-pub record_written : (g : Geometry) (s : Contents) (old o3 o4 seen digest : List ℕ) (start : ℕ) → o3 ≡ old ++ signed_bytes g s → seen ≡ o3 → start ≡ length old →
+pub record_written : (g : Geometry) (s : Contents) (old o3 o4 seen digest : List ℕ) (start : ℕ) → o3 ≡ old ++ record_body g s → seen ≡ o3 → start ≡ length old →
     digest ≡ sha256 (take (length seen - start) (drop start seen)) → o4 ≡ o3 ++ digest → o4 ≡ old ++ record_bytes g s
 record_written g s old o3 o4 seen digest start h3 hs hl hd h4 =
-    h4 ∙ ap (λ t. t ++ digest) h3 ∙ append_assoc old (signed_bytes g s) digest
-    ∙ ap (λ t. old ++ (signed_bytes g s ++ t)) (hd ∙ ap sha256 signed)
+    h4 ∙ ap (λ t. t ++ digest) h3 ∙ append_assoc old (record_body g s) digest
+    ∙ ap (λ t. old ++ (record_body g s ++ t)) (hd ∙ ap sha256 body)
   where
-    behind : drop start seen ≡ signed_bytes g s
-    behind = ap (drop start) (hs ∙ h3) ∙ drop_at old (signed_bytes g s) start (sym hl)
+    behind : drop start seen ≡ record_body g s
+    behind = ap (drop start) (hs ∙ h3) ∙ drop_at old (record_body g s) start (sym hl)
 
-    signed : take (length seen - start) (drop start seen) ≡ signed_bytes g s
-    signed = take_all (length seen - start) (drop start seen) (omega (arith, length-drop start seen)) ∙ behind
+    body : take (length seen - start) (drop start seen) ≡ record_body g s
+    body = take_all (length seen - start) (drop start seen) (omega (arith, length-drop start seen)) ∙ behind
 
 -- what was appended is read again, whatever follows it
 pub record_again : (g : Geometry) (s : Contents) (old new rest : List ℕ) (n : ℕ) → n ≡ length old → new ≡ old ++ record_bytes g s → s.generation < 2 ^ 64 →

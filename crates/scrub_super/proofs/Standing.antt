@@ -13,10 +13,10 @@ use Rattle.sha2.proofs.Facts256.{length-sha256}
 use Rattle.scrub_disk.specs.Image.{Image, byte, extent_bytes}
 use Rattle.scrub_disk.proofs.HeldBytes.{byte-page, byte-unreadable}
 use Rattle.scrub_super.specs.Contents.{Contents}
-use Rattle.scrub_super.specs.Record.{signed_bytes, record_bytes, BeginsWithRecord}
+use Rattle.scrub_super.specs.Record.{record_body, record_bytes, BeginsWithRecord}
 use Rattle.scrub_disk.specs.Buffered.{IsBuffered}
-use Rattle.scrub_super.specs.Chosen.{StandsAt}
-use Rattle.scrub_super.specs.Found.{IsReadableUpTo}
+use Rattle.scrub_super.specs.Chosen.{RecordStandsAt}
+use Rattle.scrub_disk.specs.NextUnreadable.{IsNextUnreadable}
 
 -- where n pages end
 pages_rise : (P m n : ℕ) → m ≤ n → m * P ≤ n * P
@@ -79,17 +79,17 @@ byte_ends image bytes readable s h within ends = elim (cases_lt s (length readab
 abbrev pub readable_bytes : Image → List ℕ → ℕ → ℕ → List ℕ
 readable_bytes image bytes g s = between (g * image.geometry.page) (s * image.geometry.page) bytes
 
-length_readable : (image : Image) (bytes : List ℕ) (readable : List Bool) (g s : ℕ) → IsBuffered image 0 bytes readable → IsReadableUpTo readable g s →
+length_readable : (image : Image) (bytes : List ℕ) (readable : List Bool) (g s : ℕ) → IsBuffered image 0 bytes readable → IsNextUnreadable readable g s →
     length (readable_bytes image bytes g s) ≡ s * image.geometry.page - g * image.geometry.page
 length_readable image bytes readable g s h up =
     length-between bytes (g * image.geometry.page) (s * image.geometry.page)
     (omega (arith, h.size, h.count, up.within, pages_rise image.geometry.page s image.geometry.pages (omega (arith, up.within, h.count))))
 
 -- each of them is the image's
-held_at : (image : Image) (bytes : List ℕ) (readable : List Bool) (g s k : ℕ) → IsBuffered image 0 bytes readable → IsReadableUpTo readable g s →
+held_at : (image : Image) (bytes : List ℕ) (readable : List Bool) (g s k : ℕ) → IsBuffered image 0 bytes readable → IsNextUnreadable readable g s →
     k < s * image.geometry.page - g * image.geometry.page → byte image 0 (g * image.geometry.page + k) ≡ Some (get_or (readable_bytes image bytes g s) k 0)
 held_at image bytes readable g s k h up hk =
-    byte_held image bytes readable i h inside (up.marked (i / image.geometry.page) low high)
+    byte_held image bytes readable i h inside (up.readable_before (i / image.geometry.page) low high)
     ∙ ap Some (sym (get_or-between bytes (g * image.geometry.page) (s * image.geometry.page) k 0 below))
   where
     i : ℕ
@@ -111,10 +111,10 @@ held_at image bytes readable g s k h up hk =
     high = div_below i image.geometry.page s positive (omega (arith, below))
 
 pub some_bytes : (image : Image) (c : Contents) → 32 ≤ length (record_bytes image.geometry c)
-some_bytes image c = omega (arith, length-append (signed_bytes image.geometry c) (sha256 (signed_bytes image.geometry c)), length-sha256 (signed_bytes image.geometry c))
+some_bytes image c = omega (arith, length-append (record_body image.geometry c) (sha256 (record_body image.geometry c)), length-sha256 (record_body image.geometry c))
 
-pub stands_of_front : (image : Image) (bytes : List ℕ) (readable : List Bool) (g s : ℕ) (c : Contents) → IsBuffered image 0 bytes readable → IsReadableUpTo readable g s →
-    BeginsWithRecord image.geometry (readable_bytes image bytes g s) c → StandsAt image g c
+pub stands_of_front : (image : Image) (bytes : List ℕ) (readable : List Bool) (g s : ℕ) (c : Contents) → IsBuffered image 0 bytes readable → IsNextUnreadable readable g s →
+    BeginsWithRecord image.geometry (readable_bytes image bytes g s) c → RecordStandsAt image g c
 stands_of_front image bytes readable g s c h up b = record {
   within = omega (arith, before, up.within, h.count);
   contents = b.contents;
@@ -131,8 +131,8 @@ stands_of_front image bytes readable g s c h up b = record {
       | inr high ↦ absurd (omega (arith, enough, some_bytes image c, pages_rise image.geometry.page s g high))
     ]
 
-pub front_of_stands : (image : Image) (bytes : List ℕ) (readable : List Bool) (g s : ℕ) (c : Contents) → IsBuffered image 0 bytes readable → IsReadableUpTo readable g s →
-    StandsAt image g c → BeginsWithRecord image.geometry (readable_bytes image bytes g s) c
+pub front_of_stands : (image : Image) (bytes : List ℕ) (readable : List Bool) (g s : ℕ) (c : Contents) → IsBuffered image 0 bytes readable → IsNextUnreadable readable g s →
+    RecordStandsAt image g c → BeginsWithRecord image.geometry (readable_bytes image bytes g s) c
 front_of_stands image bytes readable g s c h up stands = record {
   contents = stands.contents;
   rest = drop (length (record_bytes image.geometry c)) (readable_bytes image bytes g s);
@@ -149,7 +149,7 @@ front_of_stands image bytes readable g s c h up stands = record {
     enough : length (record_bytes image.geometry c) ≤ s * image.geometry.page - g * image.geometry.page
     enough = elim (cases_lt (s * image.geometry.page - g * image.geometry.page) (length (record_bytes image.geometry c))) [
       | inl longer ↦ absurd (not_none _
-          (sym (byte_ends image bytes readable s h up.within up.ends)
+          (sym (byte_ends image bytes readable s h up.within up.unreadable)
           ∙ ap (byte image 0) (let e : s * image.geometry.page ≡ g * image.geometry.page + (s * image.geometry.page - g * image.geometry.page) = omega (arith, rises) in e)
           ∙ stands.stands (s * image.geometry.page - g * image.geometry.page) longer))
       | inr fits ↦ fits

@@ -4,33 +4,33 @@ use Rattle.std.specs.Prelude.{◌≡◌, ◌≢◌, ◌<◌, ◌≤◌, ◌*◌,
 use Rattle.std.specs.Prelude.{length as len}
 use Rattle.std.specs.List.Sorted.{IsStrictlyIncreasing}
 use Rattle.scrub_disk.specs.declared.geometry.Geometry.{Geometry}
-use Rattle.scrub_disk.specs.Image.{Image, byte, IsText}
+use Rattle.scrub_disk.specs.Image.{Image, byte, AreBytesAt}
 use Rattle.scrub_super.specs.Contents.{Contents}
 use Rattle.scrub_super.specs.Record.{AreContents, record_bytes}
 use Rattle.scrub_disk.specs.Image.{unreadable_pages}
 
--- a valid record: that of these contents stands at the bound of page g of extent 0, whole on readable pages
-pub record StandsAt (image : Image) (g : ℕ) (c : Contents) : Type 0 where
-  pub within : g < image.geometry.pages
+-- a valid record: that of these contents stands at the bound of page q of extent 0, whole on readable pages
+pub record RecordStandsAt (image : Image) (q : ℕ) (c : Contents) : Type 0 where
+  pub within : q < image.geometry.pages
   pub contents : AreContents image.geometry c
-  pub stands : IsText (byte image 0) (g * image.geometry.page) (record_bytes image.geometry c)
+  pub stands : AreBytesAt (byte image 0) (q * image.geometry.page) (record_bytes image.geometry c)
 
 -- no valid record has a greater generation
 abbrev pub IsGreatest : Image → ℕ → Type 0
-IsGreatest image n = (g : ℕ) (c : Contents) → StandsAt image g c → c.generation ≤ n
+IsGreatest image n = (q : ℕ) (c : Contents) → RecordStandsAt image q c → c.generation ≤ n
 
 -- the record that counts
-pub record IsNewest (image : Image) (g : ℕ) (c : Contents) : Type 0 where
-  pub stands : StandsAt image g c
+pub record IsNewestRecord (image : Image) (q : ℕ) (c : Contents) : Type 0 where
+  pub stands : RecordStandsAt image q c
   pub greatest : IsGreatest image c.generation
-  pub lowest : (h : ℕ) (d : Contents) → StandsAt image h d → d.generation ≡ c.generation → g ≤ h
+  pub lowest : (r : ℕ) (d : Contents) → RecordStandsAt image r d → d.generation ≡ c.generation → q ≤ r
 
 -- what counts, and on which page it stands; nothing only where no record is valid
 abbrev pub IsChosen : Image → Option Contents → Option ℕ → Type 0
-IsChosen image (Some c) (Some g) = IsNewest image g c
-IsChosen image None None = (g : ℕ) (c : Contents) → ¬ StandsAt image g c
+IsChosen image (Some c) (Some q) = IsNewestRecord image q c
+IsChosen image None None = (q : ℕ) (c : Contents) → ¬ RecordStandsAt image q c
 IsChosen image (Some c) None = ⊥
-IsChosen image None (Some g) = ⊥
+IsChosen image None (Some q) = ⊥
 
 -- the greatest generation stands on two pages
 pub record IsTie (image : Image) : Type 0 where
@@ -39,15 +39,15 @@ pub record IsTie (image : Image) : Type 0 where
   pub apart : one ≢ other
   pub contents : Contents
   pub contents_of_other : Contents
-  pub stands : StandsAt image one contents
-  pub other_stands : StandsAt image other contents_of_other
+  pub stands : RecordStandsAt image one contents
+  pub other_stands : RecordStandsAt image other contents_of_other
   pub same : contents_of_other.generation ≡ contents.generation
   pub greatest : IsGreatest image contents.generation
 
 -- the pages with a valid record, rising
 pub record AreRecordPages (image : Image) (pages : List ℕ) : Type 0 where
   pub rising : IsStrictlyIncreasing pages
-  pub exact : (g : ℕ) → Contains pages g ↔ ((c : Contents) × StandsAt image g c)
+  pub exact : (q : ℕ) → Contains pages q ↔ ((c : Contents) × RecordStandsAt image q c)
 
 -- what is told of the records of an image
 pub record Choice : Type 0 where

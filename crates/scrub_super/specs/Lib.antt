@@ -2,7 +2,7 @@
 pub mod Contents
 pub mod Record
 pub mod Chosen
-pub mod Found
+pub mod RecordsSeen
 pub mod Planned
 pub mod Plan
 pub use Rattle.scrub_disk.specs.Image

@@ -11,13 +11,13 @@ use Rattle.scrub_frame.specs.Locator.{locator_bytes, IsLocator}
 use Rattle.scrub_super.specs.Contents.{Contents}
 
 -- `SSB1`, what each record begins with
-abbrev pub magic : List ℕ
-magic = 0x53 ∷ 0x53 ∷ 0x42 ∷ 0x31 ∷ []
+abbrev pub record_magic : List ℕ
+record_magic = 0x53 ∷ 0x53 ∷ 0x42 ∷ 0x31 ∷ []
 
 -- what stands before the write pointers
 abbrev pub head_bytes : Geometry → ℕ → ℕ → List ℕ
 head_bytes g generation runs =
-    magic ++ (big_bytes 8 generation ++ (big_bytes 4 g.page ++ (big_bytes 4 g.pages ++ (big_bytes 4 g.extents ++ big_bytes 2 runs))))
+    record_magic ++ (big_bytes 8 generation ++ (big_bytes 4 g.page ++ (big_bytes 4 g.pages ++ (big_bytes 4 g.extents ++ big_bytes 2 runs))))
 
 -- the head of a record of this geometry that tells of so many index runs
 pub record IsHead (g : Geometry) (bytes : List ℕ) (generation runs : ℕ) : Type 0 where
@@ -26,12 +26,12 @@ pub record IsHead (g : Geometry) (bytes : List ℕ) (generation runs : ℕ) : Ty
   pub spelled : bytes ≡ head_bytes g generation runs
 
 -- what the digest is taken of
-abbrev pub signed_bytes : Geometry → Contents → List ℕ
-signed_bytes g c = head_bytes g c.generation (len c.runs) ++ (flat_map (big_bytes 4) c.pointers ++ flat_map locator_bytes c.runs)
+abbrev pub record_body : Geometry → Contents → List ℕ
+record_body g c = head_bytes g c.generation (len c.runs) ++ (flat_map (big_bytes 4) c.pointers ++ flat_map locator_bytes c.runs)
 
 -- the record of these contents
 abbrev pub record_bytes : Geometry → Contents → List ℕ
-record_bytes g c = signed_bytes g c ++ sha256 (signed_bytes g c)
+record_bytes g c = record_body g c ++ sha256 (record_body g c)
 
 -- one pointer for each extent but extent 0, none past the extent's end
 pub record ArePointers (g : Geometry) (pointers : List ℕ) : Type 0 where
@@ -39,7 +39,7 @@ pub record ArePointers (g : Geometry) (pointers : List ℕ) : Type 0 where
   pub within : All (λ pointer. pointer ≤ g.page * g.pages) pointers
 
 -- at most 32 locators
-pub record AreRuns (runs : List Locator) : Type 0 where
+pub record AreRunLocators (runs : List Locator) : Type 0 where
   pub count : len runs ≤ 32
   pub each : All IsLocator runs
 
@@ -47,7 +47,7 @@ pub record AreRuns (runs : List Locator) : Type 0 where
 pub record AreContents (g : Geometry) (c : Contents) : Type 0 where
   pub generation : c.generation < 2 ^ 64
   pub pointers : ArePointers g c.pointers
-  pub runs : AreRuns c.runs
+  pub runs : AreRunLocators c.runs
 
 -- a front of the bytes is the record of these contents
 pub record BeginsWithRecord (g : Geometry) (bytes : List ℕ) (c : Contents) : Type 0 where

@@ -2,13 +2,13 @@
 //! stands in the extents that are scanned is left to the crates above.
 #![tactic(auto)]
 
-mod choice;
+mod choosing;
 pub mod chosen;
 pub mod plan;
 pub mod record;
 pub mod superblock;
 
-pub use choice::{choose, one_choice};
+pub use choosing::{choose, one_choice};
 pub use chosen::Chosen;
 pub use plan::Plan;
 pub use record::{MAX_RUNS, one_record, read_record, write_record};

@@ -80,7 +80,7 @@ fn are_within(bytes: &[u8], most: u32) -> bool
 }
 
 /// Whether the digest of the bytes before the end stands there.
-fn is_signed(bytes: &[u8], end: usize) -> bool
+fn has_digest_at(bytes: &[u8], end: usize) -> bool
     requires { end + 32 ≤ length bytes.now }
     ensures { IsTrue result ↔ (take 32 (drop end bytes.now) ≡ sha256 (take end bytes.now)) }
 {
@@ -103,7 +103,7 @@ pub(crate) fn record_at(bytes: &[u8], geometry: Geometry) -> Option<Head>
     if !are_within(&bytes[HEAD_LEN..middle], geometry.extent_bytes()) {
         return None;
     }
-    if !is_signed(bytes, end) {
+    if !has_digest_at(bytes, end) {
         return None;
     }
     Some(head)

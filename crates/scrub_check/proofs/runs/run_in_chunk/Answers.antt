@@ -1,6 +1,6 @@
 use Rattle.std.proofs.Common.{ap, Result, Err}
 use Rattle.scrub_run.specs.declared.run.Run.{Run}
-use Rattle.scrub_run.specs.declared.read.RunFault.{RunFault}
+use Rattle.scrub_run.specs.declared.reading.RunFault.{RunFault}
 use Rattle.scrub_check.proofs.Payloads.{names_run, names_none}
 use Rattle.scrub_check.proofs.runs.run_in_chunk.Goals as goal
 

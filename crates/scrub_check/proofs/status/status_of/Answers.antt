@@ -8,8 +8,8 @@ use Rattle.scrub_scan.specs.Extent.{extent_of}
 use Rattle.scrub_scan.specs.Item.{start_of}
 use Rattle.scrub_scan.specs.declared.item.Item.{Item}
 use Rattle.scrub_scan.specs.declared.standing.Standing.{Standing}
-use Rattle.scrub_scan.specs.OneReader.{all_found}
-use Rattle.scrub_scan.specs.Standing.{StandsAt}
+use Rattle.scrub_scan.specs.AllFindings.{all_scanned}
+use Rattle.scrub_scan.specs.Standing.{IsStandingAt}
 use Rattle.scrub_check.specs.Status.{InRange, CanStand}
 use Rattle.scrub_check.proofs.Starts.{starts_rise, begins, begins_among}
 use Rattle.scrub_check.proofs.PlannedFindings.{each_listed}
@@ -21,7 +21,7 @@ pub findings_of-findings-requires-after_bounds : goal.findings_of-findings-requi
 findings_of-findings-requires-after_bounds g c κs within =
     let image = g.D.PageSource.image c.args.disk.now in
     let range : InRange c.geometry-geometry.result c.args.locator.now = c.lies_in_range.ensures.0 (search rules) in
-    each_listed image c.args.plan.now (all_found c.args.all.now) c.args.locator.now.extent image.geometry.extents c.requires.findings c.requires.planned range.from_one
+    each_listed image c.args.plan.now (all_scanned c.args.all.now) c.args.locator.now.extent image.geometry.extents c.requires.findings c.requires.planned range.from_one
     (let e : c.geometry-geometry.result.extents ≡ image.geometry.extents = ap (λ x. x.extents) (c.geometry-geometry.ensures ∙ c.requires.geometry) in omega (arith, range.in_disk, e))
 
 -- src/status.rt:146:8
@@ -41,8 +41,8 @@ returns-in-Some-mismatch g c =
       below = omega (arith, c.if-end_of-pointer.false, c.end_of.ensures, c.pointer-pointer.ensures.value);
       readable = λ gap. false≢true (sym c.if-is_unreadable.false ∙ c.is_unreadable.ensures.1 gap);
     } in
-    let there : IfSome (Some c.in-Some.standing) (StandsAt image c.pointer-pointer.result l.extent l.offset) = subst (λ (x : Option Standing). IfSome x (StandsAt image c.pointer-pointer.result l.extent l.offset)) c.in-Some.is c.in_ok-standing.ensures.found in
-    let stands : StandsAt image w l.extent l.offset c.in-Some.standing = subst (λ (n : ℕ). StandsAt image n l.extent l.offset c.in-Some.standing) c.pointer-pointer.ensures.value there in
+    let there : IfSome (Some c.in-Some.standing) (IsStandingAt image c.pointer-pointer.result l.extent l.offset) = subst (λ (x : Option Standing). IfSome x (IsStandingAt image c.pointer-pointer.result l.extent l.offset)) c.in-Some.is c.in_ok-standing.ensures.found in
+    let stands : IsStandingAt image w l.extent l.offset c.in-Some.standing = subst (λ (n : ℕ). IsStandingAt image n l.extent l.offset c.in-Some.standing) c.pointer-pointer.ensures.value there in
     mismatch_status image w l c.in-Some.standing c.in-Some-mismatch.status can stands c.in-Some-mismatch.ensures.other
 
 -- src/status.rt:156:8
@@ -64,8 +64,8 @@ returns-then-begins_at g c =
       below = omega (arith, c.if-end_of-pointer.false, c.end_of.ensures, c.pointer-pointer.ensures.value);
       readable = λ gap. false≢true (sym c.if-is_unreadable.false ∙ c.is_unreadable.ensures.1 gap);
     } in
-    let there : IfSome (Some c.in-Some.standing) (StandsAt image c.pointer-pointer.result l.extent l.offset) = subst (λ (x : Option Standing). IfSome x (StandsAt image c.pointer-pointer.result l.extent l.offset)) c.in-Some.is c.in_ok-standing.ensures.found in
-    let stands : StandsAt image w l.extent l.offset c.in-Some.standing = subst (λ (n : ℕ). StandsAt image n l.extent l.offset c.in-Some.standing) c.pointer-pointer.ensures.value there in
+    let there : IfSome (Some c.in-Some.standing) (IsStandingAt image c.pointer-pointer.result l.extent l.offset) = subst (λ (x : Option Standing). IfSome x (IsStandingAt image c.pointer-pointer.result l.extent l.offset)) c.in-Some.is c.in_ok-standing.ensures.found in
+    let stands : IsStandingAt image w l.extent l.offset c.in-Some.standing = subst (λ (n : ℕ). IsStandingAt image n l.extent l.offset c.in-Some.standing) c.pointer-pointer.ensures.value there in
     let found = c.findings_of-findings.ensures image c.args.plan.now c.requires.findings in (
       names_chunk image w l c.in-Some.standing can stands c.in_default-mismatch.ensures.same,
       begins (extent_of image l.extent w) c.findings_of-findings.result.now.items l.offset found.tiled
@@ -83,8 +83,8 @@ returns-else-begins_at g c =
       below = omega (arith, c.if-end_of-pointer.false, c.end_of.ensures, c.pointer-pointer.ensures.value);
       readable = λ gap. false≢true (sym c.if-is_unreadable.false ∙ c.is_unreadable.ensures.1 gap);
     } in
-    let there : IfSome (Some c.in-Some.standing) (StandsAt image c.pointer-pointer.result l.extent l.offset) = subst (λ (x : Option Standing). IfSome x (StandsAt image c.pointer-pointer.result l.extent l.offset)) c.in-Some.is c.in_ok-standing.ensures.found in
-    let stands : StandsAt image w l.extent l.offset c.in-Some.standing = subst (λ (n : ℕ). StandsAt image n l.extent l.offset c.in-Some.standing) c.pointer-pointer.ensures.value there in
+    let there : IfSome (Some c.in-Some.standing) (IsStandingAt image c.pointer-pointer.result l.extent l.offset) = subst (λ (x : Option Standing). IfSome x (IsStandingAt image c.pointer-pointer.result l.extent l.offset)) c.in-Some.is c.in_ok-standing.ensures.found in
+    let stands : IsStandingAt image w l.extent l.offset c.in-Some.standing = subst (λ (n : ℕ). IsStandingAt image n l.extent l.offset c.in-Some.standing) c.pointer-pointer.ensures.value there in
     let found = c.findings_of-findings.ensures image c.args.plan.now c.requires.findings in (
       names_chunk image w l c.in-Some.standing can stands c.in_default-mismatch.ensures.same,
       λ b. false≢true (sym c.if-begins_at.false ∙ c.begins_at.ensures.1 (subst (λ (is : List Item). Contains (map start_of is) l.offset) (sym c.items.ensures)

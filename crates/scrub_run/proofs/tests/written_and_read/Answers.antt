@@ -1,7 +1,7 @@
 -- The round trip, by the two contracts and the law that a payload is the run of one list of entries at most.
 use Rattle.std.proofs.Common.{◌≡◌, ℕ, List, Ok, Err, Result, IfOk}
 use Rattle.std.specs.Prelude.{Result}
-use Rattle.scrub_run.specs.declared.read.RunFault.{RunFault}
+use Rattle.scrub_run.specs.declared.reading.RunFault.{RunFault}
 use Rattle.scrub_run.specs.Entry.{EntryValue}
 use Rattle.scrub_run.specs.Run.{IsRun}
 use Rattle.scrub_run.proofs.Runs.{one_run_lem}

@@ -1,8 +1,8 @@
 use Rattle.std.proofs.Common.{arith, ◌≡◌, ◌+◌, length, sym, ◌∙◌, subst, List, ℕ}
-use Rattle.scrub_disk.specs.Image.{byte, IsText}
+use Rattle.scrub_disk.specs.Image.{byte, AreBytesAt}
 use Rattle.scrub_scan.specs.Extent.{extent_of, HasGap}
 use Rattle.scrub_scan.specs.Standing.{HasPayload}
-use Rattle.scrub_scan.proofs.FrameTexts.{no_gap, payload_read}
+use Rattle.scrub_scan.proofs.FrameBytes.{no_gap, payload_read}
 use Rattle.scrub_scan.proofs.standing.read_payload.Goals as goal
 
 pub unreachable-requires : goal.unreachable-requires
@@ -17,8 +17,8 @@ unreachable-requires g c =
 pub returns : goal.returns
 returns g c =
     let size : length c.in-Some.payload.items ≡ c.args.standing.now.length = rw c.in-Some.is at c.in_ok-payload.ensures.size in
-    let text : IsText (byte (g.D.PageSource.image c.args.disk.now) c.args.standing.now.extent) (c.args.standing.now.offset + 22) c.in-Some.payload.items = rw c.in-Some.is at c.in_ok-payload.ensures.text in
+    let bytes : AreBytesAt (byte (g.D.PageSource.image c.args.disk.now) c.args.standing.now.extent) (c.args.standing.now.offset + 22) c.in-Some.payload.items = rw c.in-Some.is at c.in_ok-payload.ensures.bytes in
     subst (λ (b : List ℕ). HasPayload (g.D.PageSource.image c.args.disk.now) c.args.standing.now b)
     (sym (payload_read (extent_of (g.D.PageSource.image c.args.disk.now) c.args.standing.now.extent c.requires.has.pointer) c.args.standing.now.offset c.args.standing.now.uuid c.requires.payload c.in-Some.payload.items
-    c.requires.has.frame.frame (size ∙ c.requires.has.frame.length) text))
+    c.requires.has.frame.frame (size ∙ c.requires.has.frame.length) bytes))
     c.requires.has

@@ -1,6 +1,6 @@
 use Rattle.std.proofs.Common.{refl, sym, ◌∙◌}
 use Rattle.std.proofs.lemmas.Bool.{false≢true}
-use Rattle.scrub_scan.proofs.HeldParts.{zero_part, not_zero_part, not_unreadable, magic_part, not_magic_part}
+use Rattle.scrub_scan.proofs.ViewParts.{zero_part, not_zero_part, not_unreadable, magic_part, not_magic_part}
 use Rattle.scrub_scan.proofs.tiling.unframed_at.Goals as goal
 
 pub returns-then-is_zero-clause-item : goal.returns-then-is_zero-clause-item

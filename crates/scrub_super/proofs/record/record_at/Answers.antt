@@ -17,14 +17,14 @@ returns-then-not-are_within-clause-none c = λ d b.
     over_limit c.args.geometry c.args.bytes.now _ d c.runs_start-middle.result c.extent_bytes.result c.are_within.result
     c.runs_start-middle.ensures refl c.extent_bytes.ensures c.are_within.ensures.1 c.if-not-are_within.true b
 
-pub returns-then-not-is_signed-clause-none : goal.returns-then-not-is_signed-clause-none
-returns-then-not-is_signed-clause-none c = λ d b.
-    not_signed c.args.geometry c.args.bytes.now c.in_ok-head.head.generation c.in_ok-head.head.runs c.runs_start-middle.result _ d c.is_signed.result
-    (rw c.in_ok-first_chunk.ensures.cases.same at c.in_ok-head.ensures.found) c.runs_start-middle.ensures refl c.is_signed.ensures.1 c.if-not-is_signed.true b
+pub returns-then-not-has_digest_at-clause-none : goal.returns-then-not-has_digest_at-clause-none
+returns-then-not-has_digest_at-clause-none c = λ d b.
+    not_signed c.args.geometry c.args.bytes.now c.in_ok-head.head.generation c.in_ok-head.head.runs c.runs_start-middle.result _ d c.has_digest_at.result
+    (rw c.in_ok-first_chunk.ensures.cases.same at c.in_ok-head.ensures.found) c.runs_start-middle.ensures refl c.has_digest_at.ensures.1 c.if-not-has_digest_at.true b
 
 pub returns-clause-found : goal.returns-clause-found
 returns-clause-found c =
     record_found c.args.geometry c.args.bytes.now _ c.in_ok-head.head.generation c.in_ok-head.head.runs c.runs_start-middle.result _ c.extent_bytes.result
     (λ i. omega (arith, c.type_inv.bytes i))
     (rw c.in_ok-first_chunk.ensures.cases.same at c.in_ok-head.ensures.found) c.runs_start-middle.ensures refl c.if-bytes-end.false
-    refl c.extent_bytes.ensures (c.are_within.ensures.0 c.if-not-are_within.false) (c.is_signed.ensures.0 c.if-not-is_signed.false)
+    refl c.extent_bytes.ensures (c.are_within.ensures.0 c.if-not-are_within.false) (c.has_digest_at.ensures.0 c.if-not-has_digest_at.false)

@@ -5,7 +5,7 @@ use Rattle.std.specs.List.{flat_map}
 use Rattle.scrub_frame.specs.Locator.{locator_bytes}
 use Rattle.scrub_frame.proofs.Parts.{length-flat_map_of}
 use Rattle.scrub_frame.proofs.Locators.{length-locators}
-use Rattle.scrub_super.proofs.Records.{signed_written, record_written, record_again}
+use Rattle.scrub_super.proofs.Records.{body_written, record_written, record_again}
 use Rattle.scrub_super.proofs.record.write_record.Goals as goal
 
 pub append_locators-requires : goal.append_locators-requires
@@ -46,7 +46,7 @@ append-requires-2 c =
 pub returns-clause-ok : goal.returns-clause-ok
 returns-clause-ok c =
     record_written c.args.geometry c.args.superblock.now c.args.out.now.items c.append_locators.new.out.items c.append-2.new.out.items c.deref.result.now c.digest_of-digest.result c.len-start.result
-    (signed_written c.args.geometry c.args.superblock.now c.args.out.now.items c.append.new.out.items c.append_pointers.new.out.items c.append_locators.new.out.items
+    (body_written c.args.geometry c.args.superblock.now c.args.out.now.items c.append.new.out.items c.append_pointers.new.out.items c.append_locators.new.out.items
     c.write_head.result c.pointers.result.now c.runs.result.now c.generation.result (length c.runs-count.result.now)
     c.write_head.ensures c.generation.ensures (ap length c.runs-count.ensures) c.pointers.ensures c.runs.ensures
     (c.append.ensures.items ∙ ap (λ t. t ++ c.write_head.result) c.in_ok-reserve.ensures.items) c.append_pointers.ensures.items c.append_locators.ensures.items)

@@ -1,0 +1,63 @@
+//! A run of the program: words in, an answer and a status out.
+
+ghost use Rattle.std.specs.Prelude.{◌≢◌, IfOk, IfErr};
+ghost use Rattle.scrub_cli.specs.Answer.{IsAnswer, RunWrites, WritesAnswer};
+ghost use Rattle.scrub_cli.specs.Fault.{status_of};
+
+use crate::answer::Answer;
+use crate::demo::demo;
+use crate::fault::Fault;
+use crate::images::Images;
+use crate::items::items;
+use crate::words::{Request, read_words};
+use crate::writing::{WriteFault, write_all_counted};
+use std::alloc::Global;
+use std::io::Write;
+
+/// The answer of the command that the words name, whole and in memory.
+fn answer<'a, I: Images>(
+    alloc: Global,
+    words: &'a [&'a str],
+    images: &mut I,
+) -> Result<Answer, Fault<'a>>
+    ensures answer { IfOk result (λ a. IsAnswer (I.bytes images.old) a.text.items a.status) }
+    ensures fault { IfErr result (λ f. status_of f ≢ 1) }
+{
+    match read_words(alloc, words)? {
+        Request::Demo => Ok(demo(alloc)?),
+        Request::Items(words) => items(alloc, &words, images),
+    }
+}
+
+/// Writes an answer, and gives the status of the run.
+fn give<O: Write, E: Write>(answer: &Answer, out: &mut O, err: &mut E) -> u8
+    ensures { WritesAnswer result (O.contents out.old) (O.contents out.new) answer.now.text.items answer.now.status }
+{
+    match write_all_counted(out, &answer.text) {
+        Ok(()) => answer.status,
+        Err(WriteFault { written }) => Fault::Output { written }.end(err),
+    }
+}
+
+/// Runs the command that the words name, which follow the program's name. The answer goes to `out`, once all of it stands
+/// in memory, and whatever else is to be said goes to `err`, whose faults are ignored.
+///
+/// The statuses: 0 clean, or help; 1 findings; 2 words refused; 3 file fault; 4 want of memory.
+pub fn run<R, I: Images, O: Write, E: Write>(
+    _rt: &R,
+    alloc: Global,
+    words: &[&str],
+    images: &mut I,
+    out: &mut O,
+    err: &mut E,
+) -> u8
+    ensures { RunWrites (I.bytes images.old) result (O.contents out.old) (O.contents out.new) }
+{
+    match answer(alloc, words, images) {
+        Ok(answer) => give(&answer, out, err),
+        Err(fault) => fault.end(err),
+    }
+}
+
+#[cfg(test)]
+mod tests;

@@ -1,0 +1,415 @@
+//! Whole runs: words and raw bytes in, and out come lines or the text of a refusal, and a status. What is expected
+//! stands in the descriptions of the format and of the program.
+
+use crate::fakes::{Narrow, OneImage};
+use crate::running::run;
+use scrub_frame::write_frame;
+use std::alloc::Global;
+use std::process::Abort;
+use std::test::Fail;
+use uuid::Uuid;
+
+const ONES: [u8; 16] = [0x11; 16];
+
+/// Fourteen bytes 33 and a magic.
+const ENDS_IN_MAGIC: [u8; 16] = [
+    0x33, 0x33, 0x33, 0x33, 0x33, 0x33, 0x33, 0x33, 0x33, 0x33, 0x33, 0x33, 0x33, 0x33, 0xC5, 0x5E,
+];
+
+/// The frame of `abc` under the UUID of sixteen bytes 11.
+const ABC_FRAME: [u8; 41] = [
+    0xC5, 0x5E, 0x11, 0x11, 0x11, 0x11, 0x11, 0x11, 0x11, 0x11, 0x11, 0x11, 0x11, 0x11, 0x11, 0x11,
+    0x11, 0x11, 0x00, 0x00, 0x00, 0x03, 0x61, 0x62, 0x63, 0x11, 0x11, 0x11, 0x11, 0x11, 0x11, 0x11,
+    0x11, 0x11, 0x11, 0x11, 0x11, 0x11, 0x11, 0x11, 0x11,
+];
+
+const ABC_LINE: &str = "chunk 0 41 11111111-1111-1111-1111-111111111111 3\n";
+
+/// The items of extent 1 of a disk with three extents of four pages of 64 bytes, up to byte 41 of it.
+const ITEMS_BELOW_41: &str =
+    "items --page 64 --pages 4 --extents 3 --extent 1 --pointer 41 disk.img";
+
+/// The bytes of a disk of 768 bytes in three extents, all zeros but for the frames of these payloads, each at a place of
+/// the disk. Extent 1 begins at 256, extent 2 at 512.
+fn disk_with(
+    rt: &impl Abort,
+    alloc: Global,
+    frames: &[(u16, [u8; 16], &[u8])],
+) -> Result<[u8; 768], Fail> {
+    let mut disk = [0; 768];
+    for (place, uuid, payload) in frames {
+        let mut frame = Vec::new(alloc);
+        write_frame(&mut frame, Uuid::from_bytes(*uuid), payload)?;
+        put(rt, &mut disk, *place, &frame);
+    }
+    Ok(disk)
+}
+
+/// Writes bytes to a place of a disk.
+fn put(rt: &impl Abort, disk: &mut [u8; 768], place: u16, bytes: &[u8]) {
+    let place = place as usize;
+    assert!(rt; place <= 768 && bytes.len() <= 768 - place);
+    disk[place..place + bytes.len()].copy_from_slice(bytes);
+}
+
+/// These bytes under the name `disk.img`, read without a fault.
+fn image(bytes: &[u8]) -> OneImage<'_> {
+    OneImage {
+        bytes,
+        most: 4096,
+        failing: None,
+    }
+}
+
+/// Runs words that are parted by blanks, and compares all that comes of it.
+fn check(
+    rt: &impl Abort,
+    alloc: Global,
+    words: &str,
+    mut images: OneImage<'_>,
+    wanted: (u8, &str, &str),
+) -> Result<(), Fail> {
+    let (mut out, mut err) = (Vec::new(alloc), Vec::new(alloc));
+    let split: Vec<&str> = words.split_whitespace().collect(alloc)?;
+    let status = run(rt, alloc, &split, &mut images, &mut out, &mut err);
+    let (out, err) = (str::from_utf8(&out)?, str::from_utf8(&err)?);
+    assert_eq!(rt; (status, out, err), wanted, "{words}");
+    Ok(())
+}
+
+#[test]
+fn the_demo_prints_the_line_of_the_chunk(rt: HostRuntime) -> Result<(), Fail> {
+    for words in ["", "demo"] {
+        check(&rt, rt.alloc(), words, image(&[]), (0, ABC_LINE, ""))?;
+    }
+    Ok(())
+}
+
+/// The bytes of `examples/one-chunk.img`: zeros, and the frame of `abc` at the start of extent 1.
+#[test]
+fn the_example_has_one_chunk_below_byte_41(rt: HostRuntime) -> Result<(), Fail> {
+    let mut disk = [0; 768];
+    put(&rt, &mut disk, 256, &ABC_FRAME);
+    check(
+        &rt,
+        rt.alloc(),
+        ITEMS_BELOW_41,
+        image(&disk),
+        (0, ABC_LINE, ""),
+    )
+}
+
+#[test]
+fn without_a_pointer_the_whole_extent_is_listed(rt: HostRuntime) -> Result<(), Fail> {
+    let disk = disk_with(&rt, rt.alloc(), &[(256, ONES, b"abc")])?;
+    let words = "items --page 64 --pages 4 --extents 3 --extent 1 disk.img";
+    let lines =
+        "chunk 0 41 11111111-1111-1111-1111-111111111111 3\npad 41 64\npad 64 128\npad 128 192\npad 192 256\n";
+    check(&rt, rt.alloc(), words, image(&disk), (0, lines, ""))?;
+    let words = "items --page 64 --pages 4 --extents 3 --extent 0 disk.img";
+    let lines = "pad 0 64\npad 64 128\npad 128 192\npad 192 256\n";
+    check(&rt, rt.alloc(), words, image(&disk), (0, lines, ""))
+}
+
+#[test]
+fn the_chunk_of_abc_under_smaller_pointers(rt: HostRuntime) -> Result<(), Fail> {
+    let disk = disk_with(&rt, rt.alloc(), &[(256, ONES, b"abc")])?;
+    for (pointer, status, line) in [
+        ("40", 1, "torn 0 40\n"),
+        ("1", 1, "noise 0 1\n"),
+        ("0", 0, ""),
+    ] {
+        let words = format!(in rt.alloc();
+            "items --page 64 --pages 4 --extents 3 --extent 1 --pointer {pointer} disk.img"
+        )?;
+        check(&rt, rt.alloc(), &words, image(&disk), (status, line, ""))?;
+    }
+    Ok(())
+}
+
+#[test]
+fn a_frame_over_an_unreadable_page(rt: HostRuntime) -> Result<(), Fail> {
+    let disk = disk_with(&rt, rt.alloc(), &[(256, ONES, &[0x78; 60])])?;
+    let words = "items --page 64 --pages 4 --extents 3 --extent 1 --pointer 98 disk.img 1:1";
+    let lines = "torn 0 64\nlost 64 98\n";
+    check(&rt, rt.alloc(), words, image(&disk), (1, lines, ""))
+}
+
+#[test]
+fn the_collision_hides_the_chunk_at_the_page_bound(rt: HostRuntime) -> Result<(), Fail> {
+    let frames = [
+        (256, ENDS_IN_MAGIC, [0x78; 28].as_slice()),
+        (320, ONES, b"abc"),
+    ];
+    let disk = disk_with(&rt, rt.alloc(), &frames)?;
+    let words = "items --page 64 --pages 4 --extents 3 --extent 1 --pointer 105 disk.img";
+    let lines = "chunk 0 66 33333333-3333-3333-3333-33333333c55e 28\nnoise 66 105\n";
+    check(&rt, rt.alloc(), words, image(&disk), (1, lines, ""))
+}
+
+#[test]
+fn two_frames_end_to_end(rt: HostRuntime) -> Result<(), Fail> {
+    let frames = [(256, ONES, [0x78; 12].as_slice()), (306, ONES, b"abc")];
+    let disk = disk_with(&rt, rt.alloc(), &frames)?;
+    let words = "items --page 64 --pages 4 --extents 3 --extent 1 --pointer 91 disk.img";
+    let lines =
+        "chunk 0 50 11111111-1111-1111-1111-111111111111 12\nchunk 50 91 11111111-1111-1111-1111-111111111111 3\n";
+    check(&rt, rt.alloc(), words, image(&disk), (0, lines, ""))
+}
+
+#[test]
+fn a_frame_of_no_payload(rt: HostRuntime) -> Result<(), Fail> {
+    let disk = disk_with(&rt, rt.alloc(), &[(256, ONES, b"")])?;
+    let words = "items --page 64 --pages 4 --extents 3 --extent 1 --pointer 38 disk.img";
+    let line = "chunk 0 38 11111111-1111-1111-1111-111111111111 0\n";
+    check(&rt, rt.alloc(), words, image(&disk), (0, line, ""))
+}
+
+#[test]
+fn a_head_that_claims_the_greatest_length(rt: HostRuntime) -> Result<(), Fail> {
+    let mut disk = [0; 768];
+    put(&rt, &mut disk, 256, &ABC_FRAME[..18]);
+    put(&rt, &mut disk, 274, &[0xFF; 4]);
+    let words = "items --page 64 --pages 4 --extents 3 --extent 1 --pointer 256 disk.img";
+    let lines = "torn 0 64\npad 64 128\npad 128 192\npad 192 256\n";
+    check(&rt, rt.alloc(), words, image(&disk), (1, lines, ""))
+}
+
+#[test]
+fn damage_between_frames_hides_the_one_before_the_page_bound(rt: HostRuntime) -> Result<(), Fail> {
+    let frames = [
+        (256, ONES, b"abc".as_slice()),
+        (300, [0x22; 16], b""),
+        (384, [0x33; 16], b"abc"),
+    ];
+    let disk = disk_with(&rt, rt.alloc(), &frames)?;
+    let words = "items --page 128 --pages 2 --extents 3 --extent 1 --pointer 169 disk.img";
+    let lines =
+        "chunk 0 41 11111111-1111-1111-1111-111111111111 3\nnoise 41 128\nchunk 128 169 33333333-3333-3333-3333-333333333333 3\n";
+    check(&rt, rt.alloc(), words, image(&disk), (1, lines, ""))
+}
+
+#[test]
+fn pages_behind_the_end_of_a_short_image_are_lost(rt: HostRuntime) -> Result<(), Fail> {
+    let disk = disk_with(&rt, rt.alloc(), &[(512, [0x22; 16], &[0x78; 117])])?;
+    let words = "items --page 64 --pages 4 --extents 3 --extent 2 --pointer 155 disk.img";
+    let lines = "torn 0 64\nnoise 64 128\nlost 128 155\n";
+    let (short, _) = disk.split_at(668);
+    let short = image(short);
+    check(&rt, rt.alloc(), words, short, (1, lines, ""))
+}
+
+#[test]
+fn a_page_whose_read_fails_is_lost(rt: HostRuntime) -> Result<(), Fail> {
+    let disk = disk_with(&rt, rt.alloc(), &[(256, ONES, b"abc")])?;
+    for (most, failing, status, line) in [
+        (4096, 3, 0, ABC_LINE),
+        (4096, 4, 1, "lost 0 41\n"),
+        (4096, 5, 0, ABC_LINE),
+        (1, 256, 1, "lost 0 41\n"),
+        (1, 319, 1, "lost 0 41\n"),
+        (1, 320, 0, ABC_LINE),
+    ] {
+        let images = OneImage {
+            bytes: &disk,
+            most,
+            failing: Some(failing),
+        };
+        check(&rt, rt.alloc(), ITEMS_BELOW_41, images, (status, line, ""))?;
+    }
+    Ok(())
+}
+
+#[test]
+fn an_image_one_byte_too_long_is_refused(rt: HostRuntime) -> Result<(), Fail> {
+    let told = "shardscrub: image too long\n";
+    let too_long = image(&[0; 769]);
+    check(&rt, rt.alloc(), ITEMS_BELOW_41, too_long, (3, "", told))
+}
+
+#[test]
+fn sizes_that_are_no_geometry_are_refused(rt: HostRuntime) -> Result<(), Fail> {
+    for (page, pages, extents, fault) in [
+        (60, 4, 3, "PageSize"),
+        (96, 4, 3, "PageSize"),
+        (64, 0, 3, "Pages"),
+        (64, 4, 1, "Extents"),
+        (65536, 65536, 2, "ExtentBytes"),
+        (65536, 1024, 65, "TotalBytes"),
+    ] {
+        let words = format!(in rt.alloc();
+            "items --page {page} --pages {pages} --extents {extents} --extent 1 disk.img"
+        )?;
+        let told = format!(in rt.alloc(); "shardscrub: geometry refused: {fault}\n")?;
+        check(&rt, rt.alloc(), &words, image(&[]), (2, "", &told))?;
+    }
+    Ok(())
+}
+
+#[test]
+fn places_outside_the_disk_are_refused(rt: HostRuntime) -> Result<(), Fail> {
+    for (words, told) in [
+        ("--extent 3 disk.img", "extent out of range"),
+        ("--extent 1 --pointer 257 disk.img", "pointer out of range"),
+        ("--extent 1 disk.img 1:4", "bad page refused: 1:4"),
+        ("--extent 1 disk.img 3:0", "bad page refused: 3:0"),
+        ("--extent 1 disk.img 1:x", "bad page refused: 1:x"),
+        ("--extent 1 disk.img 2:3 1:x 1:4", "bad page refused: 1:x"),
+    ] {
+        let words = format!(in rt.alloc(); "items --page 64 --pages 4 --extents 3 {words}")?;
+        let told = format!(in rt.alloc(); "shardscrub: {told}\n")?;
+        check(&rt, rt.alloc(), &words, image(&[0; 768]), (2, "", &told))?;
+    }
+    Ok(())
+}
+
+#[test]
+fn an_image_that_cannot_be_opened_is_named(rt: HostRuntime) -> Result<(), Fail> {
+    let words = "items --page 64 --pages 4 --extents 3 --extent 1 other.img";
+    let told = "shardscrub: image cannot be opened: other.img\n";
+    check(&rt, rt.alloc(), words, image(&[0; 768]), (3, "", told))
+}
+
+/// Each line of words has all the faults that the lines below it have.
+#[test]
+fn of_several_faults_the_first_is_told(rt: HostRuntime) -> Result<(), Fail> {
+    for (words, status, told) in [
+        (
+            "--page 60 --extent 3 --pointer 257 other.img 1:4",
+            2,
+            "geometry refused: PageSize",
+        ),
+        (
+            "--page 64 --extent 3 --pointer 257 other.img 1:4",
+            2,
+            "extent out of range",
+        ),
+        (
+            "--page 64 --extent 1 --pointer 257 other.img 1:4",
+            2,
+            "pointer out of range",
+        ),
+        (
+            "--page 64 --extent 1 --pointer 41 other.img 1:4",
+            2,
+            "bad page refused: 1:4",
+        ),
+        (
+            "--page 64 --extent 1 --pointer 41 other.img 1:3",
+            3,
+            "image cannot be opened: other.img",
+        ),
+        (
+            "--page 64 --extent 1 --pointer 41 disk.img 1:3",
+            3,
+            "image too long",
+        ),
+    ] {
+        let words = format!(in rt.alloc(); "items --pages 4 --extents 3 {words}")?;
+        let told = format!(in rt.alloc(); "shardscrub: {told}\n")?;
+        check(
+            &rt,
+            rt.alloc(),
+            &words,
+            image(&[0; 769]),
+            (status, "", &told),
+        )?;
+    }
+    Ok(())
+}
+
+#[test]
+fn an_output_that_fails_is_told_with_the_bytes_that_it_took(rt: HostRuntime) -> Result<(), Fail> {
+    for (room, fails) in [
+        (0, true),
+        (0, false),
+        (10, true),
+        (10, false),
+        (49, true),
+        (49, false),
+    ] {
+        let mut out = Narrow::new(rt.alloc(), room, fails);
+        let mut err = Vec::new(rt.alloc());
+        let status = run(
+            &rt,
+            rt.alloc(),
+            &["demo"],
+            &mut image(&[]),
+            &mut out,
+            &mut err,
+        );
+        let told = format!(in rt.alloc(); "shardscrub: output failed after {room} bytes\n")?;
+        assert_eq!(rt; status, 3);
+        assert_eq!(rt; str::from_utf8(&err)?, told.as_str());
+        assert_eq!(rt; out.taken.as_slice(), &ABC_LINE.as_bytes()[..room]);
+    }
+    Ok(())
+}
+
+#[test]
+fn an_output_with_room_for_the_last_byte_is_whole(rt: HostRuntime) -> Result<(), Fail> {
+    let mut out = Narrow::new(rt.alloc(), 50, true);
+    let mut err = Vec::new(rt.alloc());
+    let status = run(&rt, rt.alloc(), &[], &mut image(&[]), &mut out, &mut err);
+    assert_eq!(rt; (status, err.len()), (0, 0));
+    assert_eq!(rt; str::from_utf8(&out.taken)?, ABC_LINE);
+    Ok(())
+}
+
+#[test]
+fn a_fault_of_the_error_stream_is_ignored(rt: HostRuntime) -> Result<(), Fail> {
+    for fails in [true, false] {
+        let mut err = Narrow::new(rt.alloc(), 4, fails);
+        let mut full = Narrow::new(rt.alloc(), 0, fails);
+        let status = run(&rt, rt.alloc(), &[], &mut image(&[]), &mut full, &mut err);
+        assert_eq!(rt; status, 3);
+        assert_eq!(rt; str::from_utf8(&err.taken)?, "shar");
+        let mut out = Vec::new(rt.alloc());
+        let status = run(
+            &rt,
+            rt.alloc(),
+            &["repair"],
+            &mut image(&[]),
+            &mut out,
+            &mut full,
+        );
+        assert_eq!(rt; (status, out.len()), (2, 0));
+    }
+    Ok(())
+}
+
+/// The words come to this status and a text on the error stream alone, which begins like this.
+fn check_text(rt: &impl Abort, alloc: Global, words: &str, wanted: (u8, &str)) -> Result<(), Fail> {
+    let (mut out, mut err) = (Vec::new(alloc), Vec::new(alloc));
+    let split: Vec<&str> = words.split_whitespace().collect(alloc)?;
+    let status = run(rt, alloc, &split, &mut image(&[0; 768]), &mut out, &mut err);
+    let (wanted_status, beginning) = wanted;
+    assert_eq!(rt; (status, out.len()), (wanted_status, 0), "{words}");
+    assert!(rt; str::from_utf8(&err)?.starts_with(beginning), "{words}");
+    Ok(())
+}
+
+#[test]
+fn words_that_are_no_command_are_refused(rt: HostRuntime) -> Result<(), Fail> {
+    for words in [
+        "repair",
+        "demo 1",
+        "items",
+        "items --page 64 --pages 4 --extents 3 --extent 1",
+        "items --page 64 --pages 4 --extents 3 disk.img",
+        "items --page 64 --pages 4 --extents 3 --extent x disk.img",
+        "items --page 64 --pages 4 --extents 3 --extent 4294967296 disk.img",
+        "items --page 64 --pages 4 --extents 3 --extent 1 --workers 2 disk.img",
+    ] {
+        check_text(&rt, rt.alloc(), words, (2, "error: "))?;
+    }
+    Ok(())
+}
+
+#[test]
+fn help_is_told_on_the_error_stream(rt: HostRuntime) -> Result<(), Fail> {
+    for words in ["--help", "-h", "demo --help", "items --help"] {
+        check_text(&rt, rt.alloc(), words, (0, ""))?;
+    }
+    Ok(())
+}

@@ -1,0 +1,6 @@
+-- The law: two rising lists with the same bindings are one.
+use Rattle.scrub_merge.proofs.Maps.{one_shard_map_lem}
+use Rattle.scrub_merge.proofs.merging.one_shard_map.Goals as goal
+
+pub returns : goal.returns
+returns c = one_shard_map_lem

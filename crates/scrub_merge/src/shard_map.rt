@@ -1,0 +1,63 @@
+//! The shard map. How it is made is left to `newest`.
+
+ghost use Rattle.std.specs.Prelude.{◌≡◌, List, IfSome, IfNone, Contains};
+ghost use Rattle.scrub_merge.specs.Binding.{BindingValue};
+
+use crate::binding::Binding;
+use scrub_run::ShardId;
+use std::marker::Model;
+
+/// The newest binding of each shard that has a locator, in strictly rising order of identifier.
+#[derive(Debug, Drop)]
+pub struct ShardMap {
+    bindings: Vec<Binding>,
+}
+
+impl Model for ShardMap {
+    ghost use Rattle.std.specs.Prelude.{List};
+    ghost use Rattle.scrub_merge.specs.Binding.{BindingValue};
+    ghost use Rattle.scrub_merge.specs.ShardMap.{AreBindings};
+
+    ghost Value = { List BindingValue };
+
+    ghost view = { λ m. m.bindings.items };
+
+    ghost invariant = { λ m. AreBindings m.bindings.items };
+}
+
+impl ShardMap {
+    ghost use Rattle.scrub_merge.specs.ShardMap.{AreBindings};
+
+    /// The map of bindings that rise.
+    pub(crate) fn new(bindings: Vec<Binding>) -> ShardMap
+        requires { AreBindings bindings.items }
+        ensures { result ≡ bindings.items }
+    {
+        ShardMap { bindings }
+    }
+
+    /// The binding of an identifier. `None` where it was deleted last, or where no run that could be read has it. Takes no
+    /// memory.
+    pub fn get(&self, id: &ShardId) -> Option<&Binding>
+        ensures found { IfSome result (λ b. b.now.id ≡ id.now) }
+        ensures among { IfSome result (λ b. Contains self.now b.now) }
+        ensures none { IfNone result ((b : BindingValue) → Contains self.now b → ¬ (b.id ≡ id.now)) }
+    {
+        match self
+            .bindings
+            .binary_search_by_key(id, |binding| binding.id())
+        {
+            Ok(place) => Some(&self.bindings[place]),
+            Err(_) => None,
+        }
+    }
+
+    /// All bindings, in strictly rising order of identifier.
+    pub fn bindings(&self) -> &[Binding]
+        ensures bindings { result.now ≡ self.now }
+        // Every value of the type is such.
+        ensures rising { AreBindings self.now }
+    {
+        self.bindings.as_slice()
+    }
+}

@@ -1,0 +1,153 @@
+//! Index runs, read from payloads. Which payloads are read is left to the crates above.
+
+ghost use Rattle.std.specs.Prelude.{◌≡◌, ◌+◌, ◌*◌, ◌≤◌, ◌++◌, ◌↔◌, List, ℕ, All, IsTrue, IfOk, IfSome, IfNone, IsErrOf, length, take, slice_index};
+ghost use Rattle.std.specs.List.{flat_map};
+ghost use Rattle.byteorder.specs.Endian.{big_bytes};
+ghost use Rattle.sha2.specs.Sha256.{sha256};
+ghost use Rattle.scrub_run.specs.Entry.{EntryValue, entry_bytes, IsEntry, IsBelow};
+ghost use Rattle.scrub_run.specs.Run.{run_magic, RisesById, IsRun};
+
+use crate::OutOfMemory;
+use crate::entry::Entry;
+use crate::run::Run;
+use crate::shard_id::{ShardId, is_below};
+use byteorder::{BigEndian, ByteOrder};
+use scrub_frame::{LOCATOR_BYTES, digest_of, read_locators};
+use std::alloc::Global;
+use thiserror::Error;
+
+/// What each run begins with: `RUN1`.
+pub(crate) const MAGIC: [u8; 4] = [0x52, 0x55, 0x4E, 0x31];
+
+/// The most locators that an entry of a run has.
+const MAX_LOCATORS: usize = 64;
+
+/// The bytes of an entry without locators.
+const BARE_ENTRY_BYTES: usize = 17;
+
+/// Why no run was read.
+#[derive(Debug, Clone, Copy, PartialEq, Eq, Error)]
+pub enum RunFault {
+    /// The entries could not be held.
+    #[error("out of memory")]
+    OutOfMemory,
+    /// The payload isn't a run.
+    #[error("the payload isn't an index run")]
+    NotARun,
+}
+
+/// What the bytes are, if they are something with its own digest behind it.
+fn checked_body(payload: &[u8]) -> Option<&[u8]>
+    ensures found { IfSome result (λ body. payload.now ≡ body.now ++ sha256 body.now) }
+    ensures none { IfNone result ((body : List ℕ) → ¬ (payload.now ≡ body ++ sha256 body)) }
+{
+    let (body, digest) = payload.split_last_chunk::<32>()?;
+    if digest_of(body) != *digest {
+        return None;
+    }
+    Some(body)
+}
+
+/// The number of entries that a run's head claims. `None` where the bytes don't begin with such a head.
+fn claimed_count(body: &[u8]) -> Option<u32>
+    ensures found { IfSome result (λ count. take 8 body.now ≡ run_magic ++ big_bytes 4 count) }
+    ensures long { IfSome result (λ _. 8 ≤ length body.now) }
+    ensures none { IfNone result ((count : ℕ) (entries : List ℕ) → ¬ (body.now ≡ run_magic ++ (big_bytes 4 count ++ entries))) }
+{
+    let (first, behind) = body.split_first_chunk::<4>()?;
+    let count = behind.first_chunk::<4>()?;
+    if *first != MAGIC {
+        return None;
+    }
+    Some(BigEndian::read_u32(count))
+}
+
+/// The length in bytes of the entry that the bytes begin with, by the number of locators that it claims. `None` where
+/// they begin with no entry.
+fn entry_length(bytes: &[u8]) -> Option<usize>
+    ensures found { IfSome result (λ n. n ≡ 17 + 60 * slice_index bytes.now 16) }
+    ensures few { IfSome result (λ _. slice_index bytes.now 16 ≤ MAX_LOCATORS) }
+    ensures within { IfSome result (λ n. n ≤ length bytes.now) }
+    ensures none { IfNone result ((e : EntryValue) (rest : List ℕ) → IsEntry e → ¬ (bytes.now ≡ entry_bytes e ++ rest)) }
+{
+    let count = *bytes.get(16)? as usize;
+    let needed = BARE_ENTRY_BYTES + LOCATOR_BYTES * count;
+    if count > MAX_LOCATORS || needed > bytes.len() {
+        return None;
+    }
+    Some(needed)
+}
+
+/// The entry that the bytes are.
+fn read_entry(alloc: Global, bytes: &[u8]) -> Result<Entry, OutOfMemory>
+    requires long { length bytes.now ≡ 17 + 60 * slice_index bytes.now 16 }
+    requires few { slice_index bytes.now 16 ≤ MAX_LOCATORS }
+    ensures entry { IfOk result IsEntry }
+    ensures spelled { IfOk result (λ e. entry_bytes e ≡ bytes.now) }
+{
+    let mut id = [0u8; 16];
+    id.copy_from_slice(&bytes[..16]);
+    let locators = read_locators(alloc, &bytes[BARE_ENTRY_BYTES..], bytes[16] as usize)?;
+    Ok(Entry::new(ShardId(id), locators))
+}
+
+/// Whether an identifier is above those of all entries, which rise: the last one decides.
+fn is_above_all(entries: &[Entry], id: ShardId) -> bool
+    requires { RisesById entries.now }
+    ensures { IsTrue result ↔ All (λ e. IsBelow e.id id) entries.now }
+{
+    match entries.last() {
+        None => true,
+        Some(last) => is_below(last.id(), id),
+    }
+}
+
+/// The entries that the bytes are, if they are as many entries in strictly rising order. The list grows with the entries
+/// that are found, whatever number was claimed.
+fn read_entries(alloc: Global, bytes: &[u8], count: u32) -> Result<Option<Vec<Entry>>, OutOfMemory>
+    ensures found { IfOk result (λ found. IfSome found (λ v. bytes.now ≡ flat_map entry_bytes v.items)) }
+    ensures count { IfOk result (λ found. IfSome found (λ v. length v.items ≡ count)) }
+    ensures each { IfOk result (λ found. IfSome found (λ v. All IsEntry v.items)) }
+    ensures rising { IfOk result (λ found. IfSome found (λ v. RisesById v.items)) }
+    ensures none { IfOk result (λ found. IfNone found ((entries : List EntryValue) →
+        length entries ≡ count → All IsEntry entries → RisesById entries → ¬ (bytes.now ≡ flat_map entry_bytes entries))) }
+{
+    let mut entries = Vec::new(alloc);
+    let mut rest = bytes;
+    for _ in 0..count {
+        let Some(length) = entry_length(rest) else {
+            return Ok(None);
+        };
+        let (first, behind) = rest.split_at(length);
+        let entry = read_entry(alloc, first)?;
+        if !is_above_all(&entries, entry.id()) {
+            return Ok(None);
+        }
+        entries.push(entry)?;
+        rest = behind;
+    }
+    if !rest.is_empty() {
+        return Ok(None);
+    }
+    Ok(Some(entries))
+}
+
+/// The run that a payload is, whole. Its faults in their order: `OutOfMemory`, and `NotARun` where the payload isn't a run.
+/// The digest is looked at first, so what isn't a run seldom takes memory; what is taken grows with the payload's length,
+/// whatever numbers stand in it.
+pub fn read_run(alloc: Global, payload: &[u8]) -> Result<Run, RunFault>
+    ensures ok { IfOk result (IsRun payload.now) }
+    ensures not_a_run { IsErrOf result RunFault.NotARun → (entries : List EntryValue) → ¬ IsRun payload.now entries }
+{
+    let Some(body) = checked_body(payload) else {
+        return Err(RunFault::NotARun);
+    };
+    let Some(count) = claimed_count(body) else {
+        return Err(RunFault::NotARun);
+    };
+    match read_entries(alloc, &body[8..], count) {
+        Ok(Some(entries)) => Ok(Run::new(entries)),
+        Ok(None) => Err(RunFault::NotARun),
+        Err(_) => Err(RunFault::OutOfMemory),
+    }
+}

@@ -1,0 +1,20 @@
+-- What a result of a scan shows.
+use Rattle.std.specs.Prelude.{ℕ}
+use Rattle.scrub_disk.specs.Image.{Image}
+use Rattle.scrub_scan.specs.declared.findings.Findings.{Findings}
+use Rattle.scrub_scan.specs.declared.extent_result.ExtentResult.{ExtentResult}
+
+-- findings, and the extent and the write pointer that they are of
+pub record Scanned : Type 0 where
+  pub extent : ℕ
+  pub pointer : ℕ
+  pub findings : Findings
+
+module _ {D : Type 0} {s : _} where
+  -- the image that was scanned
+  abbrev pub result_image : ExtentResult D s → Image
+  result_image r = s.image r.source.now
+
+  -- what was found, and where
+  abbrev pub scanned : ExtentResult D s → Scanned
+  scanned r = record { extent = r.extent; pointer = r.pointer; findings = r.findings }

@@ -1,0 +1,77 @@
+//! Scanning planned extents: of each its items, its tail and its unreadable pages, from one reading.
+
+ghost use Rattle.std.specs.Prelude.{◌≡◌, ◌≤◌, ◌<◌, Contains, IfOk};
+ghost use Rattle.scrub_disk.specs.Image.{extent_bytes};
+ghost use Rattle.scrub_super.specs.Plan.{geometry_of, planned, pointer_of};
+ghost use Rattle.scrub_scan.specs.Scanned.{result_image, scanned};
+ghost use Rattle.scrub_scan.specs.AllFindings.{AreAllFindings, all_image, all_scanned};
+
+use crate::all_findings::AllFindings;
+use crate::buffer::ScanBuffer;
+use crate::extent_result::ExtentResult;
+use crate::findings::{Findings, PageNumbers};
+use crate::tail::tail_of;
+use crate::tiling::tile_buffer;
+use scrub_disk::{OutOfMemory, PageSource, unreadable_pages};
+use scrub_super::Plan;
+use std::alloc::Global;
+
+/// What an extent of a source's image holds under a write pointer.
+fn scan_under<'d, D: PageSource>(
+    alloc: Global,
+    disk: &'d D,
+    extent: u32,
+    pointer: u32,
+) -> Result<ExtentResult<'d, D>, OutOfMemory>
+    requires in_extents { extent < (D.image disk.now).geometry.extents }
+    requires in_extent { pointer ≤ extent_bytes (D.image disk.now).geometry }
+    ensures image { IfOk result (λ r. result_image r ≡ D.image disk.now) }
+    ensures extent { IfOk result (λ r. (scanned r).extent ≡ extent) }
+    ensures pointer { IfOk result (λ r. (scanned r).pointer ≡ pointer) }
+{
+    let buffer = ScanBuffer::read(alloc, disk, extent)?;
+    let view = buffer.under(pointer as usize);
+    let items = tile_buffer(alloc, &view)?;
+    let tail = tail_of(&view);
+    let bad_pages = unreadable_pages(alloc, view.readable)?;
+    let findings = Findings {
+        items,
+        tail_count: tail.count,
+        tail_first: tail.first,
+        bad_pages: PageNumbers::from_vec(bad_pages),
+    };
+    Ok(ExtentResult::new(disk, extent, pointer, findings))
+}
+
+/// What a planned extent of a source's image holds under the plan's write pointer. It reads each page of the extent once.
+pub fn scan_extent<'d, D: PageSource>(
+    alloc: Global,
+    disk: &'d D,
+    plan: &Plan,
+    extent: u32,
+) -> Result<ExtentResult<'d, D>, OutOfMemory>
+    requires geometry { geometry_of plan.now ≡ (D.image disk.now).geometry }
+    requires planned { Contains (planned plan.now) extent }
+    ensures image { IfOk result (λ r. result_image r ≡ D.image disk.now) }
+    ensures extent { IfOk result (λ r. (scanned r).extent ≡ extent) }
+    ensures pointer { IfOk result (λ r. (scanned r).pointer ≡ pointer_of plan.now extent) }
+{
+    scan_under(alloc, disk, extent, plan.pointer(extent))
+}
+
+/// The findings of one reader, who scans the planned extents one after another, by rising numbers.
+pub fn scan_in_order<'d, D: PageSource>(
+    alloc: Global,
+    disk: &'d D,
+    plan: &Plan,
+) -> Result<AllFindings<'d, D>, OutOfMemory>
+    requires { geometry_of plan.now ≡ (D.image disk.now).geometry }
+    ensures image { IfOk result (λ all. all_image all ≡ D.image disk.now) }
+    ensures findings { IfOk result (λ all. AreAllFindings (D.image disk.now) plan.now (all_scanned all)) }
+{
+    let mut results = Vec::new(alloc);
+    for extent in plan.planned() {
+        results.push(scan_extent(alloc, disk, plan, *extent)?)?;
+    }
+    Ok(AllFindings::of_results(disk, results))
+}

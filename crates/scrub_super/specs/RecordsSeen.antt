@@ -1,0 +1,41 @@
+-- What is known of the records on the pages that were looked at, from the last page down.
+use Rattle.std.specs.Prelude.{◌≡◌, ◌≢◌, ◌<◌, ◌≤◌, ◌+◌, ◌==◌, ◌↔◌, ℕ, List, Bool, true, false, Some, IsTrue, Contains, MatchOption, slice_index_or}
+use Rattle.std.specs.Prelude.{length as len}
+use Rattle.std.specs.List.Sorted.{IsStrictlyIncreasing}
+use Rattle.scrub_disk.specs.Image.{Image}
+use Rattle.scrub_super.specs.declared.choosing.Newest.{Newest}
+use Rattle.scrub_super.specs.declared.choosing.RecordsSeen.{RecordsSeen}
+use Rattle.scrub_super.specs.Contents.{Contents}
+use Rattle.scrub_super.specs.Chosen.{RecordStandsAt}
+
+-- a valid record of this generation stands on page q
+abbrev pub StandsFrom : Image → ℕ → ℕ → Type 0
+StandsFrom image q n = (c : Contents) × RecordStandsAt image q c × (c.generation ≡ n)
+
+-- of the pages from `low` on with a record of a generation, this is the newest, and of equally new ones the lowest
+pub record IsNewestFrom (stands : ℕ → ℕ → Type 0) (low : ℕ) (newest : Newest) : Type 0 where
+  pub from : low ≤ newest.page
+  pub there : stands newest.page newest.generation
+  pub greatest : (q n : ℕ) → low ≤ q → stands q n → n ≤ newest.generation
+  pub lowest : (q : ℕ) → low ≤ q → stands q newest.generation → newest.page ≤ q
+  pub tied : IsTrue newest.tie ↔ ((q : ℕ) × (q ≢ newest.page) × (low ≤ q) × stands q newest.generation)
+
+-- the pages from `low` on with a record, rising
+pub record ArePagesFrom (stands : ℕ → ℕ → Type 0) (low : ℕ) (pages : List ℕ) : Type 0 where
+  pub rising : IsStrictlyIncreasing pages
+  pub exact : (q : ℕ) → Contains pages q ↔ ((low ≤ q) × ((n : ℕ) × stands q n))
+
+-- what is found from `low` on
+pub record AreSeenFrom (stands : ℕ → ℕ → Type 0) (low : ℕ) (found : RecordsSeen) : Type 0 where
+  pub pages : List ℕ
+  pub are : ArePagesFrom stands low pages
+  pub records : found.records ≡ len pages
+  pub newest : MatchOption found.newest ((q n : ℕ) → low ≤ q → ¬ stands q n) (IsNewestFrom stands low)
+
+-- one more record, on a lower page than those before
+pub record AddsRecord (old new : RecordsSeen) (q n : ℕ) : Type 0 where
+  pub records : new.records ≡ old.records + 1
+  pub newest : MatchOption old.newest
+      (new.newest ≡ Some (record { page = q; generation = n; tie = false }))
+      (λ b. (n < b.generation → new.newest ≡ Some b)
+      × (b.generation ≤ n → new.newest ≡ Some (record { page = q; generation = n; tie = n == b.generation })))

@@ -1,0 +1,130 @@
+//! Choosing the superblock that counts, by reading extent 0.
+
+ghost use Rattle.std.specs.Prelude.{◌≡◌, ◌+◌, ◌*◌, ◌<◌, ◌≤◌, ◌^◌, ℕ, List, Option, IfOk, length, drop};
+ghost use Rattle.scrub_disk.specs.Buffered.{IsBuffered};
+ghost use Rattle.scrub_super.specs.Contents.{Contents};
+ghost use Rattle.scrub_super.specs.Record.{BeginsWithRecord};
+ghost use Rattle.scrub_super.specs.Chosen.{Choice, IsChoice, RecordStandsAt};
+ghost use Rattle.scrub_disk.specs.Image.{Image};
+
+use crate::chosen::Chosen;
+use crate::record::{read_record, record_at};
+use crate::superblock::Superblock;
+use scrub_disk::{Geometry, OutOfMemory, PageSource, read_extent, unreadable_pages};
+use std::alloc::Global;
+
+/// The newest record so far.
+#[derive(Clone, Copy)]
+pub(crate) struct Newest {
+    pub page: u32,
+    pub generation: u64,
+    /// Whether its generation stands on another page too.
+    pub tie: bool,
+}
+
+/// What was found so far: the newest record, and on how many pages there is one.
+#[derive(Clone, Copy)]
+pub(crate) struct RecordsSeen {
+    pub newest: Option<Newest>,
+    pub records: u32,
+}
+
+ghost use Rattle.scrub_super.specs.RecordsSeen.{AddsRecord, AreSeenFrom, StandsFrom};
+
+/// What is found with one more record, on a lower page than those before.
+fn with_record(found: RecordsSeen, page: u32, generation: u64) -> RecordsSeen
+    requires { found.records + 1 < 2 ^ 32 }
+    ensures { AddsRecord found result page generation }
+{
+    let newest = match found.newest {
+        Some(newest) if generation < newest.generation => newest,
+        Some(newest) => Newest {
+            page,
+            generation,
+            tie: generation == newest.generation,
+        },
+        None => Newest {
+            page,
+            generation,
+            tie: false,
+        },
+    };
+    RecordsSeen {
+        newest: Some(newest),
+        records: found.records + 1,
+    }
+}
+
+/// The records in the bytes of extent 0, each page bound judged by itself.
+fn find_records(bytes: &[u8], readable: &[bool], geometry: Geometry) -> RecordsSeen
+    requires bytes { length bytes.now ≡ geometry.page * geometry.pages }
+    requires pages { length readable.now ≡ geometry.pages }
+    ensures { (page : ℕ → ℕ → Option (List ℕ)) → IsBuffered (record { geometry = geometry; page = page }) 0 bytes.now readable.now →
+        AreSeenFrom (StandsFrom (record { geometry = geometry; page = page })) 0 result }
+{
+    let size = geometry.page() as usize;
+    let mut found = RecordsSeen {
+        newest: None,
+        records: 0,
+    };
+    // Where the readable pages from this one on end.
+    let mut end = readable.len();
+    for page in (0..readable.len()).rev() {
+        if !readable[page] {
+            end = page;
+        }
+        if let Some(head) = record_at(&bytes[page * size..end * size], geometry) {
+            found = with_record(found, page as u32, head.generation);
+        }
+    }
+    found
+}
+
+/// What the record tells that stands at a page.
+fn superblock_at(
+    alloc: Global,
+    bytes: &[u8],
+    page: u32,
+    geometry: Geometry,
+) -> Result<Superblock, OutOfMemory>
+    requires within { page * geometry.page ≤ length bytes.now }
+    requires stands { (c : Contents) × BeginsWithRecord geometry (drop (page * geometry.page) bytes.now) c }
+    ensures { IfOk result (BeginsWithRecord geometry (drop (page * geometry.page) bytes.now)) }
+{
+    let start = page as usize * geometry.page() as usize;
+    match read_record(alloc, &bytes[start..], geometry)? {
+        Some(superblock) => Ok(superblock),
+        None => unreachable!(),
+    }
+}
+
+/// The superblock that counts on a disk: of the valid records in extent 0 the one of the greatest generation, and of
+/// equally new ones the one on the lowest page. Each page of extent 0 is read once, into one buffer; beside it memory is
+/// taken for a mark of each page, the list of the unreadable ones and the one superblock.
+pub fn choose<D: PageSource>(alloc: Global, disk: &D) -> Result<Chosen, OutOfMemory>
+    ensures { IfOk result (IsChoice (D.image disk.now)) }
+{
+    let geometry = disk.geometry();
+    let extent = read_extent(alloc, disk, 0)?;
+    let bad_pages = unreadable_pages(alloc, &extent.readable)?;
+    let found = find_records(&extent.bytes, &extent.readable, geometry);
+    let Some(newest) = found.newest else {
+        return Ok(Chosen::without(geometry, bad_pages));
+    };
+    let superblock = superblock_at(alloc, &extent.bytes, newest.page, geometry)?;
+    Ok(Chosen::by(
+        geometry,
+        superblock,
+        newest.page,
+        found.records,
+        newest.tie,
+        bad_pages,
+    ))
+}
+
+/// A law: on a page of extent 0 stands one record at most, so an image has one choice.
+pub fn one_choice()
+    ensures on_a_page { (image : Image) (page : ℕ) (c d : Contents) →
+        RecordStandsAt image page c → RecordStandsAt image page d → c ≡ d }
+    ensures choice { (image : Image) (a b : Choice) → IsChoice image a → IsChoice image b → a ≡ b }
+{}
