@@ -1,56 +1,55 @@
 -- What a plan says, and what it follows from.
-use Rattle.std.specs.Prelude.{◌≡◌, ◌-◌, ◌*◌, ℕ, List, [], Bool, true, false, MatchOption, replicate, slice_index}
+use Rattle.std.specs.Prelude.{◌≡◌, ◌<◌, ◌-◌, ◌*◌, ◌==◌, ℕ, List, [], Bool, true, false, Option, None, MatchOption, if◌then◌else◌, length, replicate, slice_get}
 use Rattle.std.specs.List.{range_with_len}
 use Rattle.scrub_disk.specs.declared.geometry.Geometry.{Geometry}
 use Rattle.scrub_frame.specs.declared.locator.Locator.{Locator}
-use Rattle.scrub_super.specs.declared.plan.Plan.{Plan}
+use Rattle.scrub_super.specs.Planned.{ArePlanned}
+use Rattle.scrub_super.specs.Record.{ArePointers, AreRunLocators}
 use Rattle.scrub_super.specs.Contents.{Contents}
 use Rattle.scrub_super.specs.Chosen.{Choice}
 
-abbrev pub geometry_of : Plan → Geometry
-geometry_of p = p.geometry
+-- the disk's sizes, the extents to scan, the write pointers of extents 1, 2 and so on, the locators of the index runs,
+-- newest first, and whether a superblock told the pointers and the runs
+pub record PlanValue : Type 0 where
+  pub geometry : Geometry
+  pub planned : List ℕ
+  pub pointers : List ℕ
+  pub runs : List Locator
+  pub has_superblock : Bool
 
--- the extents to scan
-abbrev pub planned : Plan → List ℕ
-planned p = p.planned.items
+-- what each plan keeps
+pub record IsPlan (plan : PlanValue) : Type 0 where
+  pub extents : ArePlanned plan.geometry.extents plan.planned
+  pub any : 0 < length plan.planned
+  pub within : ArePointers plan.geometry plan.pointers
+  pub located : AreRunLocators plan.runs
 
--- the write pointers of extents 1, 2 and so on
-abbrev pub pointers_of : Plan → List ℕ
-pointers_of p = p.pointers.items
-
--- the write pointer of an extent from 1 on
-abbrev pub pointer_of : Plan → ℕ → ℕ
-pointer_of p e = slice_index (pointers_of p) (e - 1)
-
--- the locators of the index runs, newest first
-abbrev pub runs_of : Plan → List Locator
-runs_of p = p.runs.items
-
-abbrev pub has_superblock : Plan → Bool
-has_superblock p = p.has_superblock
+-- the write pointer of an extent: none for extent 0 and for what is no extent of the disk
+abbrev pub pointer_of : PlanValue → ℕ → Option ℕ
+pointer_of plan e = if e == 0 then None else slice_get plan.pointers (e - 1)
 
 -- a plan by a superblock
-pub record IsPlanBy (plan : Plan) (c : Contents) : Type 0 where
-  pub has : has_superblock plan ≡ true
-  pub pointers : pointers_of plan ≡ c.pointers
-  pub runs : runs_of plan ≡ c.runs
+pub record IsPlanBy (plan : PlanValue) (c : Contents) : Type 0 where
+  pub has : plan.has_superblock ≡ true
+  pub pointers : plan.pointers ≡ c.pointers
+  pub runs : plan.runs ≡ c.runs
 
 -- a plan without one: each extent is taken for full
-pub record IsPlanWithout (plan : Plan) (g : Geometry) : Type 0 where
-  pub has : has_superblock plan ≡ false
-  pub pointers : pointers_of plan ≡ replicate (g.extents - 1) (g.page * g.pages)
-  pub runs : runs_of plan ≡ []
+pub record IsPlanWithout (plan : PlanValue) (g : Geometry) : Type 0 where
+  pub has : plan.has_superblock ≡ false
+  pub pointers : plan.pointers ≡ replicate (g.extents - 1) (g.page * g.pages)
+  pub runs : plan.runs ≡ []
 
 -- the plan of all extents but extent 0, by what was chosen
-pub record IsPlanOf (choice : Choice) (plan : Plan) : Type 0 where
-  pub geometry : geometry_of plan ≡ choice.geometry
-  pub all : planned plan ≡ range_with_len 1 (choice.geometry.extents - 1)
+pub record IsPlanOf (choice : Choice) (plan : PlanValue) : Type 0 where
+  pub geometry : plan.geometry ≡ choice.geometry
+  pub all : plan.planned ≡ range_with_len 1 (choice.geometry.extents - 1)
   pub by : MatchOption choice.superblock (IsPlanWithout plan choice.geometry) (IsPlanBy plan)
 
 -- the same plan, but of these extents alone
-pub record IsRestricted (old : Plan) (extents : List ℕ) (new : Plan) : Type 0 where
-  pub planned_are : planned new ≡ extents
-  pub geometry : geometry_of new ≡ geometry_of old
-  pub pointers : pointers_of new ≡ pointers_of old
-  pub runs : runs_of new ≡ runs_of old
-  pub has : has_superblock new ≡ has_superblock old
+pub record IsRestricted (old : PlanValue) (extents : List ℕ) (new : PlanValue) : Type 0 where
+  pub planned : new.planned ≡ extents
+  pub geometry : new.geometry ≡ old.geometry
+  pub pointers : new.pointers ≡ old.pointers
+  pub runs : new.runs ≡ old.runs
+  pub has : new.has_superblock ≡ old.has_superblock

@@ -1,15 +1,14 @@
 //! What is to be scanned, and what is known of it before. What stands in the extents is left to the crates above.
 
-ghost use Rattle.std.specs.Prelude.{◌≡◌, ◌<◌, ◌≤◌, ◌-◌, ◌*◌, All, Contains, IfOk, length};
+ghost use Rattle.std.specs.Prelude.{◌≡◌, ◌<◌, ◌≤◌, ◌-◌, ◌*◌, All, Contains, IfOk, Some, length};
 ghost use Rattle.std.specs.List.{range_with_len};
 ghost use Rattle.std.specs.List.Sorted.{IsStrictlyIncreasing};
-ghost use Rattle.scrub_super.specs.Planned.{ArePlanned};
-ghost use Rattle.scrub_super.specs.Record.{ArePointers, AreRuns};
 
 use crate::chosen::Chosen;
 use scrub_disk::{Geometry, OutOfMemory};
 use scrub_frame::Locator;
 use std::alloc::Global;
+use std::marker::Model;
 
 /// The extents to scan, the write pointer of each extent, and where the index runs stand.
 #[derive(Drop)]
@@ -19,14 +18,34 @@ pub struct Plan {
     pointers: Vec<u32>,
     runs: Vec<Locator>,
     has_superblock: bool,
-    pub ghost extents: { ArePlanned geometry.extents planned.items },
-    pub ghost any: { 0 < length planned.items },
-    pub ghost within: { ArePointers geometry pointers.items },
-    pub ghost located: { AreRuns runs.items },
+}
+
+impl Model for Plan {
+    ghost use Rattle.scrub_super.specs.Plan.{PlanValue, IsPlan};
+
+    ghost Value = { PlanValue };
+
+    ghost view = { λ p. record {
+      geometry = p.geometry;
+      planned = p.planned.items;
+      pointers = p.pointers.items;
+      runs = p.runs.items;
+      has_superblock = p.has_superblock;
+    } };
+
+    ghost invariant = { λ p. IsPlan (record {
+      geometry = p.geometry;
+      planned = p.planned.items;
+      pointers = p.pointers.items;
+      runs = p.runs.items;
+      has_superblock = p.has_superblock;
+    }) };
 }
 
 impl Plan {
-    ghost use Rattle.scrub_super.specs.Plan.{geometry_of, planned, pointer_of, runs_of, has_superblock, IsPlanOf, IsRestricted};
+    ghost use Rattle.scrub_super.specs.Planned.{ArePlanned};
+    ghost use Rattle.scrub_super.specs.Record.{AreRunLocators};
+    ghost use Rattle.scrub_super.specs.Plan.{pointer_of, IsPlanOf, IsRestricted};
 
     /// The plan of all extents but extent 0, by the superblock that was chosen. Without one each extent is taken for
     /// full, and no index run is known.
@@ -56,7 +75,7 @@ impl Plan {
     /// The same plan with these extents alone planned.
     pub fn restrict(&self, alloc: Global, extents: &[u32]) -> Result<Plan, OutOfMemory>
         requires rising { IsStrictlyIncreasing extents.now }
-        requires each_planned { All (Contains (planned self.now)) extents.now }
+        requires each_planned { All (Contains self.now.planned) extents.now }
         requires any { 0 < length extents.now }
         ensures { IfOk result (IsRestricted self.now extents.now) }
     {
@@ -71,14 +90,16 @@ impl Plan {
 
     /// The disk's sizes.
     pub fn geometry(&self) -> Geometry
-        ensures { result ≡ geometry_of self.now }
+        ensures { result ≡ self.now.geometry }
     {
         self.geometry
     }
 
     /// The extents to scan, rising.
     pub fn planned(&self) -> &[u32]
-        ensures { result.now ≡ planned self.now }
+        ensures planned { result.now ≡ self.now.planned }
+        // Every value of the type is such.
+        ensures extents { ArePlanned self.now.geometry.extents self.now.planned }
     {
         self.planned.as_slice()
     }
@@ -86,23 +107,25 @@ impl Plan {
     /// The write pointer of an extent, in bytes from the extent's start.
     pub fn pointer(&self, extent: u32) -> u32
         requires from_one { 1 ≤ extent }
-        requires in_extents { extent < (geometry_of self.now).extents }
-        ensures value { result ≡ pointer_of self.now extent }
-        ensures within { result ≤ (geometry_of self.now).page * (geometry_of self.now).pages }
+        requires in_extents { extent < self.now.geometry.extents }
+        ensures value { pointer_of self.now extent ≡ Some result }
+        ensures within { result ≤ self.now.geometry.page * self.now.geometry.pages }
     {
         self.pointers[extent as usize - 1]
     }
 
     /// The locators of the index runs, newest first.
     pub fn runs(&self) -> &[Locator]
-        ensures { result.now ≡ runs_of self.now }
+        ensures runs { result.now ≡ self.now.runs }
+        // Every value of the type is such.
+        ensures located { AreRunLocators self.now.runs }
     {
         self.runs.as_slice()
     }
 
     /// Whether the pointers and the runs are those of a superblock.
     pub fn has_superblock(&self) -> bool
-        ensures { result ≡ has_superblock self.now }
+        ensures { result ≡ self.now.has_superblock }
     {
         self.has_superblock
     }
