@@ -2,7 +2,7 @@
 use Rattle.std.proofs.Common.{◌≡◌, ◌≢◌, ◌<◌, ◌≤◌, ◌+◌, ◌*◌, ◌/◌, ◌%◌, ◌-◌, ℕ, List, [], Bool, true, false, cond, length, drop, get_or, arith, refl, sym, ◌∙◌, ap, Option, Some, None, inl, inr, ◌⊎◌, IsTrue, filter, not, is_none, length-drop, option_and_then, slice_get}
 use Rattle.std.specs.List.{between, range_with_len}
 use Rattle.std.proofs.lemmas.Bool.{cases_lt, le-ltb, false≢true}
-use Rattle.std.proofs.lemmas.Option.{same_Some}
+use Rattle.std.proofs.lemmas.Option.{same_Some, none-some}
 use Rattle.std.proofs.lemmas.List.{get_or-drop}
 use Rattle.std.proofs.lemmas.List.Prefix.{front_from_reads}
 use Rattle.std.proofs.lemmas.Nat.{div_below}
@@ -22,22 +22,19 @@ use Rattle.scrub_super.proofs.Records.{one_record_lem}
 use Rattle.scrub_super.proofs.Standing.{byte_held, some_bytes}
 use Rattle.scrub_disk.proofs.Filters.{filter_same}
 
-not_none : {A : Type 0} (x : A) → None ≡ Some x → ⊥
-not_none x e = cc
-
 -- a readable byte is held
 byte_there : (image : Image) (bytes : List ℕ) (readable : List Bool) (i x : ℕ) → IsBuffered image 0 bytes readable → byte image 0 i ≡ Some x →
     (i < extent_bytes image.geometry) × (get_or bytes i 0 ≡ x)
 byte_there image bytes readable i x h e = elim (cases_lt i (extent_bytes image.geometry)) [
   | inl inside ↦ (inside, by_mark (get_or readable (i / image.geometry.page) false) refl inside)
-  | inr outside ↦ absurd (not_none x
+  | inr outside ↦ absurd (none-some x
       (sym (ap (λ b. cond b (option_and_then (λ t. slice_get t (i % image.geometry.page)) (image.page 0 (i / image.geometry.page))) None)
       (le-ltb i (extent_bytes image.geometry) outside)) ∙ e))
 ]
   where
     by_mark : (b : Bool) → get_or readable (i / image.geometry.page) false ≡ b → i < extent_bytes image.geometry → get_or bytes i 0 ≡ x
     by_mark true marked inside = same_Some _ _ (sym (byte_held image bytes readable i h inside marked) ∙ e)
-    by_mark false marked inside = absurd (not_none x (sym (byte-unreadable image 0 i
+    by_mark false marked inside = absurd (none-some x (sym (byte-unreadable image 0 i
         (h.pages (i / image.geometry.page) (div_below i image.geometry.page image.geometry.pages (omega (arith, image.geometry.page_size.least)) (omega (arith, inside)))
         ∙ ap (λ b. cond b (Some (between (i / image.geometry.page * image.geometry.page) (i / image.geometry.page * image.geometry.page + image.geometry.page) bytes)) None) marked)) ∙ e))
 

@@ -7,6 +7,7 @@ use Rattle.std.proofs.lemmas.Option.{same_Some}
 use Rattle.std.proofs.lemmas.List.{append-nil, get_or_default}
 use Rattle.std.proofs.lemmas.List.Prefix.{front_from_reads}
 use Rattle.scrub_disk.specs.declared.geometry.Geometry.{Geometry}
+use Rattle.std.proofs.lemmas.Map.Made.{Contains-tail}
 use Rattle.scrub_disk.specs.Image.{Image}
 use Rattle.scrub_super.specs.Contents.{Contents}
 use Rattle.scrub_super.specs.Record.{record_bytes}
@@ -72,10 +73,6 @@ rest_above : (x q : ℕ) (xs : List ℕ) → IsStrictlyIncreasing (x ∷ xs) →
 rest_above x q [] up there = absurd (let e : ⊥ = omega (arith, there.1) in e)
 rest_above x q (y ∷ ys) up there = omega (arith, up 0 (omega arith), contains_least y q ys (rest_rises x (y ∷ ys) up) there)
 
-contains_rest : (x q : ℕ) (xs : List ℕ) → x < q → Contains (x ∷ xs) q → Contains xs q
-contains_rest x q xs above (zero, here, is) = absurd (let e : ⊥ = omega (arith, above, is) in e)
-contains_rest x q xs above (suc k, here, is) = (k, omega (arith, here), is)
-
 -- rising lists with the same numbers are one list
 one_rising : (xs ys : List ℕ) → IsStrictlyIncreasing xs → IsStrictlyIncreasing ys → ((q : ℕ) → Contains xs q → Contains ys q) → ((q : ℕ) → Contains ys q → Contains xs q) → xs ≡ ys
 one_rising [] [] ux uy there back = refl
@@ -85,8 +82,8 @@ one_rising (x ∷ xs) (y ∷ ys) ux uy there back =
     let same : x ≡ y = omega (arith, contains_least x y xs ux (back y (0, omega arith, refl)), contains_least y x ys uy (there x (0, omega arith, refl))) in
     ap (λ z. z ∷ xs) same
     ∙ ap (λ zs. y ∷ zs) (one_rising xs ys (rest_rises x xs ux) (rest_rises y ys uy)
-    (λ q c. contains_rest y q ys (omega (arith, rest_above x q xs ux c, same)) (there q (suc c.0, omega (arith, c.1), c.2)))
-    (λ q c. contains_rest x q xs (omega (arith, rest_above y q ys uy c, same)) (back q (suc c.0, omega (arith, c.1), c.2))))
+    (λ q c. Contains-tail y ys q (λ e. absurd (let no : ⊥ = omega (arith, rest_above x q xs ux c, same, e) in no)) (there q (suc c.0, omega (arith, c.1), c.2)))
+    (λ q c. Contains-tail x xs q (λ e. absurd (let no : ⊥ = omega (arith, rest_above y q ys uy c, same, e) in no)) (back q (suc c.0, omega (arith, c.1), c.2))))
 
 one_bool : (P : Type 0) (a b : Bool) → (IsTrue a ↔ P) → (IsTrue b ↔ P) → a ≡ b
 one_bool P true true x y = refl

@@ -132,9 +132,9 @@ over_limit g x part c m most answer hm is limit all over b = false≢true (sym o
         omega (arith, value, limit, b.contents.pointers.within k 0 here)
 
 -- nor where another digest stands
-pub not_signed : (g : Geometry) (x : List ℕ) (n r m e : ℕ) (c : Contents) (answer : Bool) → IsHead g (take 26 x) n r → m ≡ 26 + 4 * (g.extents - 1) → e ≡ m + 60 * r →
+pub other_digest : (g : Geometry) (x : List ℕ) (n r m e : ℕ) (c : Contents) (answer : Bool) → IsHead g (take 26 x) n r → m ≡ 26 + 4 * (g.extents - 1) → e ≡ m + 60 * r →
     (take 32 (drop e x) ≡ sha256 (take e x) → IsTrue answer) → answer ≡ false → BeginsWithRecord g x c → ⊥
-not_signed g x n r m e c answer h hm he body wrong b =
+other_digest g x n r m e c answer h hm he body wrong b =
     false≢true (sym wrong ∙ body (rw ends (body_of_record g x c b)))
   where
     ends : e ≡ 26 + 4 * (g.extents - 1) + 60 * length c.runs

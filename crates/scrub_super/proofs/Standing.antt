@@ -2,12 +2,12 @@
 use Rattle.std.proofs.Common.{◌≡◌, ◌<◌, ◌≤◌, ◌+◌, ◌*◌, ◌/◌, ◌%◌, ◌-◌, ℕ, List, Bool, true, false, cond, length, drop, get_or, arith, sym, ◌∙◌, ap, Some, None, inl, inr, length-append, option_and_then, slice_get}
 use Rattle.std.specs.List.{between}
 use Rattle.std.proofs.lemmas.Bool.{cases_lt, le-ltb}
-use Rattle.std.proofs.lemmas.Option.{same_Some}
+use Rattle.std.proofs.lemmas.Option.{same_Some, none-some}
 use Rattle.std.proofs.lemmas.List.Edits.{length-between, get_or-between}
 use Rattle.std.proofs.lemmas.List.{get_or_append_left}
 use Rattle.std.proofs.lemmas.List.Prefix.{front_from_reads}
 use Rattle.std.proofs.lemmas.Nat.{div-add-mod', div_below, le-div, div-mul-add}
-use Rattle.std.proofs.Math.Nat.{mul-le-mul_left, mod-lt}
+use Rattle.std.proofs.Math.Nat.{mul-le-mul_right, mod-lt}
 use Rattle.sha2.specs.Sha256.{sha256}
 use Rattle.sha2.proofs.Facts256.{length-sha256}
 use Rattle.scrub_disk.specs.Image.{Image, byte, extent_bytes}
@@ -17,10 +17,6 @@ use Rattle.scrub_super.specs.Record.{record_body, record_bytes, BeginsWithRecord
 use Rattle.scrub_disk.specs.Buffered.{IsBuffered}
 use Rattle.scrub_super.specs.Chosen.{RecordStandsAt}
 use Rattle.scrub_disk.specs.NextUnreadable.{IsNextUnreadable}
-
--- where n pages end
-pages_rise : (P m n : ℕ) → m ≤ n → m * P ≤ n * P
-pages_rise P m n h = let r : P * m ≤ P * n = mul-le-mul_left P h in omega (arith, r)
 
 -- a byte of a readable page is held at its place
 pub byte_held : (image : Image) (bytes : List ℕ) (readable : List Bool) (i : ℕ) → IsBuffered image 0 bytes readable → i < extent_bytes image.geometry →
@@ -54,7 +50,7 @@ byte_held image bytes readable i h here marked =
     length_page : length page ≡ image.geometry.page
     length_page =
         length-between bytes (q * image.geometry.page) (q * image.geometry.page + image.geometry.page)
-        (omega (arith, h.size, pages_rise image.geometry.page (q + 1) image.geometry.pages (omega (arith, below))))
+        (omega (arith, h.size, mul-le-mul_right {m = q + 1} {n = image.geometry.pages} image.geometry.page (omega (arith, below))))
         ∙ (let e : q * image.geometry.page + image.geometry.page - q * image.geometry.page ≡ image.geometry.page = omega arith in e)
 
 -- no byte stands where the readable pages end
@@ -83,7 +79,7 @@ length_readable : (image : Image) (bytes : List ℕ) (readable : List Bool) (g s
     length (readable_bytes image bytes g s) ≡ s * image.geometry.page - g * image.geometry.page
 length_readable image bytes readable g s h up =
     length-between bytes (g * image.geometry.page) (s * image.geometry.page)
-    (omega (arith, h.size, h.count, up.within, pages_rise image.geometry.page s image.geometry.pages (omega (arith, up.within, h.count))))
+    (omega (arith, h.size, h.count, up.within, mul-le-mul_right {m = s} {n = image.geometry.pages} image.geometry.page (omega (arith, up.within, h.count))))
 
 -- each of them is the image's
 held_at : (image : Image) (bytes : List ℕ) (readable : List Bool) (g s k : ℕ) → IsBuffered image 0 bytes readable → IsNextUnreadable readable g s →
@@ -102,7 +98,7 @@ held_at image bytes readable g s k h up hk =
     below = omega (arith, hk)
 
     inside : i < extent_bytes image.geometry
-    inside = omega (arith, below, pages_rise image.geometry.page s image.geometry.pages (omega (arith, up.within, h.count)))
+    inside = omega (arith, below, mul-le-mul_right {m = s} {n = image.geometry.pages} image.geometry.page (omega (arith, up.within, h.count)))
 
     low : g ≤ i / image.geometry.page
     low = le-div g i image.geometry.page positive (omega arith)
@@ -128,7 +124,7 @@ stands_of_front image bytes readable g s c h up b = record {
     before : g < s
     before = elim (cases_lt g s) [
       | inl low ↦ low
-      | inr high ↦ absurd (omega (arith, enough, some_bytes image c, pages_rise image.geometry.page s g high))
+      | inr high ↦ absurd (omega (arith, enough, some_bytes image c, mul-le-mul_right {m = s} {n = g} image.geometry.page high))
     ]
 
 pub front_of_stands : (image : Image) (bytes : List ℕ) (readable : List Bool) (g s : ℕ) (c : Contents) → IsBuffered image 0 bytes readable → IsNextUnreadable readable g s →
@@ -141,14 +137,11 @@ front_of_stands image bytes readable g s c h up stands = record {
 }
   where
     rises : g * image.geometry.page ≤ s * image.geometry.page
-    rises = pages_rise image.geometry.page g s up.above
-
-    not_none : {A : Type 0} (x : A) → None ≡ Some x → ⊥
-    not_none x e = cc
+    rises = mul-le-mul_right image.geometry.page up.above
 
     enough : length (record_bytes image.geometry c) ≤ s * image.geometry.page - g * image.geometry.page
     enough = elim (cases_lt (s * image.geometry.page - g * image.geometry.page) (length (record_bytes image.geometry c))) [
-      | inl longer ↦ absurd (not_none _
+      | inl longer ↦ absurd (none-some _
           (sym (byte_ends image bytes readable s h up.within up.unreadable)
           ∙ ap (byte image 0) (let e : s * image.geometry.page ≡ g * image.geometry.page + (s * image.geometry.page - g * image.geometry.page) = omega (arith, rises) in e)
           ∙ stands.stands (s * image.geometry.page - g * image.geometry.page) longer))

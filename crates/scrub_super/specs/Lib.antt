@@ -1,9 +1,13 @@
--- The words of this crate's contracts, and those of the crates below that they cite.
+-- The words of this crate's public contracts.
 pub mod Contents
 pub mod Record
 pub mod Chosen
-pub mod RecordsSeen
 pub mod Planned
 pub mod Plan
+
+-- A step of the choice, which no public clause speaks of.
+pub mod RecordsSeen
+
+-- Words of the crates below that public clauses cite.
 pub use Rattle.scrub_disk.specs.Image
 pub use Rattle.scrub_frame.specs.Locator

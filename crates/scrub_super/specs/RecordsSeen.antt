@@ -1,5 +1,5 @@
 -- What is known of the records on the pages that were looked at, from the last page down.
-use Rattle.std.specs.Prelude.{◌≡◌, ◌≢◌, ◌<◌, ◌≤◌, ◌+◌, ◌==◌, ◌↔◌, ℕ, List, Bool, true, false, Some, IsTrue, Contains, MatchOption, slice_index_or}
+use Rattle.std.specs.Prelude.{◌≡◌, ◌≢◌, ◌<◌, ◌≤◌, ◌+◌, ◌==◌, ◌↔◌, ℕ, List, false, Some, IsTrue, Contains, MatchOption}
 use Rattle.std.specs.Prelude.{length as len}
 use Rattle.std.specs.List.Sorted.{IsStrictlyIncreasing}
 use Rattle.scrub_disk.specs.Image.{Image}

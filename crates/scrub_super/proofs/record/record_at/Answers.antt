@@ -1,6 +1,6 @@
 -- Why no record stands where a test fails, and that one stands where none does.
 use Rattle.std.proofs.Common.{arith, refl}
-use Rattle.scrub_super.proofs.Records.{no_head, too_short, over_limit, not_signed, record_found}
+use Rattle.scrub_super.proofs.Records.{no_head, too_short, over_limit, other_digest, record_found}
 use Rattle.scrub_super.proofs.record.record_at.Goals as goal
 
 pub returns-in_err-head-clause-none : goal.returns-in_err-head-clause-none
@@ -19,7 +19,7 @@ returns-then-not-are_within-clause-none c = λ d b.
 
 pub returns-then-not-has_digest_at-clause-none : goal.returns-then-not-has_digest_at-clause-none
 returns-then-not-has_digest_at-clause-none c = λ d b.
-    not_signed c.args.geometry c.args.bytes.now c.in_ok-head.head.generation c.in_ok-head.head.runs c.runs_start-middle.result _ d c.has_digest_at.result
+    other_digest c.args.geometry c.args.bytes.now c.in_ok-head.head.generation c.in_ok-head.head.runs c.runs_start-middle.result _ d c.has_digest_at.result
     (rw c.in_ok-first_chunk.ensures.cases.same at c.in_ok-head.ensures.found) c.runs_start-middle.ensures refl c.has_digest_at.ensures.1 c.if-not-has_digest_at.true b
 
 pub returns-clause-found : goal.returns-clause-found
