@@ -4,10 +4,8 @@ pub mod Record
 pub mod Chosen
 pub mod Planned
 pub mod Plan
-
 -- A step of the choice, which no public clause speaks of.
 pub mod RecordsSeen
-
 -- Words of the crates below that public clauses cite.
 pub use Rattle.scrub_disk.specs.Image
 pub use Rattle.scrub_frame.specs.Locator

@@ -25,12 +25,12 @@ pub record ArePagesFrom (stands : ℕ → ℕ → Type 0) (low : ℕ) (pages : L
   pub rising : IsStrictlyIncreasing pages
   pub exact : (q : ℕ) → Contains pages q ↔ ((low ≤ q) × ((n : ℕ) × stands q n))
 
--- what is found from `low` on
-pub record AreSeenFrom (stands : ℕ → ℕ → Type 0) (low : ℕ) (found : RecordsSeen) : Type 0 where
+-- what is seen from `low` on
+pub record AreSeenFrom (stands : ℕ → ℕ → Type 0) (low : ℕ) (seen : RecordsSeen) : Type 0 where
   pub pages : List ℕ
   pub are : ArePagesFrom stands low pages
-  pub records : found.records ≡ len pages
-  pub newest : MatchOption found.newest ((q n : ℕ) → low ≤ q → ¬ stands q n) (IsNewestFrom stands low)
+  pub records : seen.records ≡ len pages
+  pub newest : MatchOption seen.newest ((q n : ℕ) → low ≤ q → ¬ stands q n) (IsNewestFrom stands low)
 
 -- one more record, on a lower page than those before
 pub record AddsRecord (old new : RecordsSeen) (q n : ℕ) : Type 0 where

@@ -10,7 +10,9 @@ ghost use Rattle.scrub_disk.specs.Image.{Image};
 use crate::chosen::Chosen;
 use crate::record::{read_record, record_at};
 use crate::superblock::Superblock;
-use scrub_disk::{Geometry, OutOfMemory, PageSource, read_extent, unreadable_pages};
+use scrub_disk::{
+    BufferedExtent, Geometry, OutOfMemory, PageSource, read_extent, unreadable_pages,
+};
 use std::alloc::Global;
 
 /// The newest record so far.
@@ -22,7 +24,7 @@ pub(crate) struct Newest {
     pub tie: bool,
 }
 
-/// What was found so far: the newest record, and on how many pages there is one.
+/// What was seen so far: the newest record, and on how many pages there is one.
 #[derive(Clone, Copy)]
 pub(crate) struct RecordsSeen {
     pub newest: Option<Newest>,
@@ -31,12 +33,12 @@ pub(crate) struct RecordsSeen {
 
 ghost use Rattle.scrub_super.specs.RecordsSeen.{AddsRecord, AreSeenFrom, StandsFrom};
 
-/// What is found with one more record, on a lower page than those before.
-fn with_record(found: RecordsSeen, page: u32, generation: u64) -> RecordsSeen
-    requires { found.records + 1 < 2 ^ 32 }
-    ensures { AddsRecord found result page generation }
+/// What was seen with one more record, on a lower page than those before.
+fn with_record(seen: RecordsSeen, page: u32, generation: u64) -> RecordsSeen
+    requires { seen.records + 1 < 2 ^ 32 }
+    ensures { AddsRecord seen result page generation }
 {
-    let newest = match found.newest {
+    let newest = match seen.newest {
         Some(newest) if generation < newest.generation => newest,
         Some(newest) => Newest {
             page,
@@ -51,7 +53,7 @@ fn with_record(found: RecordsSeen, page: u32, generation: u64) -> RecordsSeen
     };
     RecordsSeen {
         newest: Some(newest),
-        records: found.records + 1,
+        records: seen.records + 1,
     }
 }
 
@@ -63,7 +65,7 @@ fn find_records(bytes: &[u8], readable: &[bool], geometry: Geometry) -> RecordsS
         AreSeenFrom (StandsFrom (record { geometry = geometry; page = page })) 0 result }
 {
     let size = geometry.page() as usize;
-    let mut found = RecordsSeen {
+    let mut seen = RecordsSeen {
         newest: None,
         records: 0,
     };
@@ -74,10 +76,23 @@ fn find_records(bytes: &[u8], readable: &[bool], geometry: Geometry) -> RecordsS
             end = page;
         }
         if let Some(head) = record_at(&bytes[page * size..end * size], geometry) {
-            found = with_record(found, page as u32, head.generation);
+            seen = with_record(seen, page as u32, head.generation);
         }
     }
-    found
+    seen
+}
+
+/// Extent 0 in memory, and the records that stand in it.
+fn search<D: PageSource>(
+    alloc: Global,
+    disk: &D,
+) -> Result<(BufferedExtent, RecordsSeen), OutOfMemory>
+    ensures buffered { IfOk result (λ s. IsBuffered (D.image disk.now) 0 s.0.bytes.items s.0.readable.items) }
+    ensures seen { IfOk result (λ s. AreSeenFrom (StandsFrom (D.image disk.now)) 0 s.1) }
+{
+    let extent = read_extent(alloc, disk, 0)?;
+    let seen = find_records(&extent.bytes, &extent.readable, disk.geometry());
+    Ok((extent, seen))
 }
 
 /// What the record tells that stands at a page.
@@ -105,10 +120,9 @@ pub fn choose<D: PageSource>(alloc: Global, disk: &D) -> Result<Chosen, OutOfMem
     ensures { IfOk result (IsChoice (D.image disk.now)) }
 {
     let geometry = disk.geometry();
-    let extent = read_extent(alloc, disk, 0)?;
+    let (extent, seen) = search(alloc, disk)?;
     let bad_pages = unreadable_pages(alloc, &extent.readable)?;
-    let found = find_records(&extent.bytes, &extent.readable, geometry);
-    let Some(newest) = found.newest else {
+    let Some(newest) = seen.newest else {
         return Ok(Chosen::without(geometry, bad_pages));
     };
     let superblock = superblock_at(alloc, &extent.bytes, newest.page, geometry)?;
@@ -116,7 +130,7 @@ pub fn choose<D: PageSource>(alloc: Global, disk: &D) -> Result<Chosen, OutOfMem
         geometry,
         superblock,
         newest.page,
-        found.records,
+        seen.records,
         newest.tie,
         bad_pages,
     ))

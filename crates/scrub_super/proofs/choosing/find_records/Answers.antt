@@ -15,10 +15,10 @@ loop-page-preserved-in-Some c =
     ] in
     record {
       up_to = up_to;
-      few = omega (arith, c.loop-page.invariant.few, c.with_record-found.ensures.records, next);
-      found = λ page h. step_more (record { geometry = c.args.geometry; page = page }) c.args.bytes.now _ c.args.readable.now c.loop-page.page (c.loop-page.page - 1) c.if-not-readable-page.end
-          c.page-size.result c.in-Some.head.generation c.in-Some.head.runs c.loop-page.found c.with_record-found.result next c.page-size.ensures refl h up_to c.in-Some.ensures.found
-          c.with_record-found.ensures (c.loop-page.invariant.found page h);
+      few = omega (arith, c.loop-page.invariant.few, c.with_record-seen.ensures.records, next);
+      seen = λ page h. step_more (record { geometry = c.args.geometry; page = page }) c.args.bytes.now _ c.args.readable.now c.loop-page.page (c.loop-page.page - 1) c.if-not-readable-page.end
+          c.page-size.result c.in-Some.head.generation c.in-Some.head.runs c.loop-page.seen c.with_record-seen.result next c.page-size.ensures refl h up_to c.in-Some.ensures.found
+          c.with_record-seen.ensures (c.loop-page.invariant.seen page h);
     }
 
 pub loop-page-preserved : goal.loop-page-preserved
@@ -32,9 +32,9 @@ loop-page-preserved c =
     record {
       up_to = up_to;
       few = omega (arith, c.loop-page.invariant.few, next);
-      found = λ page h. step_none (record { geometry = c.args.geometry; page = page }) c.args.bytes.now _ c.args.readable.now c.loop-page.page (c.loop-page.page - 1) c.if-not-readable-page.end
-          c.page-size.result c.loop-page.found next c.page-size.ensures refl h up_to c.in_default.ensures.none (c.loop-page.invariant.found page h);
+      seen = λ page h. step_none (record { geometry = c.args.geometry; page = page }) c.args.bytes.now _ c.args.readable.now c.loop-page.page (c.loop-page.page - 1) c.if-not-readable-page.end
+          c.page-size.result c.loop-page.seen next c.page-size.ensures refl h up_to c.in_default.ensures.none (c.loop-page.invariant.seen page h);
     }
 
 pub returns : goal.returns
-returns c = λ page h. let e : c.loop-page.page ≡ 0 = omega (arith, c.loop-page-test.false) in rw e at (c.loop-page.invariant.found page h)
+returns c = λ page h. let e : c.loop-page.page ≡ 0 = omega (arith, c.loop-page-test.false) in rw e at (c.loop-page.invariant.seen page h)

@@ -1,4 +1,4 @@
--- What is found from a page on, and where the readable pages from it on end.
+-- What is seen from a page on, and where the readable pages from it on end.
 use Rattle.std.proofs.Common.{◌+◌, ◌≤◌, ℕ, List, Option, length}
 use Rattle.scrub_disk.specs.Buffered.{IsBuffered}
 use Rattle.scrub_disk.specs.NextUnreadable.{IsNextUnreadable}
@@ -8,7 +8,7 @@ use Rattle.scrub_super.proofs.choosing.find_records.Given as goal
 abbrev pub invariant-loop-page : goal.invariant-loop-page
 invariant-loop-page l = record {
   up_to : IsNextUnreadable l.readable l.page l.end;
-  few : l.found.records + l.page ≤ length l.readable;
-  found : (page : ℕ → ℕ → Option (List ℕ)) → IsBuffered (record { geometry = l.geometry; page = page }) 0 l.bytes l.readable →
-      AreSeenFrom (StandsFrom (record { geometry = l.geometry; page = page })) l.page l.found;
+  few : l.seen.records + l.page ≤ length l.readable;
+  seen : (page : ℕ → ℕ → Option (List ℕ)) → IsBuffered (record { geometry = l.geometry; page = page }) 0 l.bytes l.readable →
+      AreSeenFrom (StandsFrom (record { geometry = l.geometry; page = page })) l.page l.seen;
 }
