@@ -1,8 +1,8 @@
 //! Scanning planned extents: of each its items, its tail and its unreadable pages, from one reading.
 
-ghost use Rattle.std.specs.Prelude.{◌≡◌, ◌≤◌, ◌<◌, Contains, IfOk};
+ghost use Rattle.std.specs.Prelude.{◌≡◌, ◌≤◌, ◌<◌, Contains, IfOk, Some};
 ghost use Rattle.scrub_disk.specs.Image.{extent_bytes};
-ghost use Rattle.scrub_super.specs.Plan.{geometry_of, planned, pointer_of};
+ghost use Rattle.scrub_super.specs.Plan.{pointer_of};
 ghost use Rattle.scrub_scan.specs.Scanned.{result_image, scanned};
 ghost use Rattle.scrub_scan.specs.AllFindings.{AreAllFindings, all_image, all_scanned};
 
@@ -50,12 +50,13 @@ pub fn scan_extent<'d, D: PageSource>(
     plan: &Plan,
     extent: u32,
 ) -> Result<ExtentResult<'d, D>, OutOfMemory>
-    requires geometry { geometry_of plan.now ≡ (D.image disk.now).geometry }
-    requires planned { Contains (planned plan.now) extent }
+    requires geometry { plan.now.geometry ≡ (D.image disk.now).geometry }
+    requires planned { Contains plan.now.planned extent }
     ensures image { IfOk result (λ r. result_image r ≡ D.image disk.now) }
     ensures extent { IfOk result (λ r. (scanned r).extent ≡ extent) }
-    ensures pointer { IfOk result (λ r. (scanned r).pointer ≡ pointer_of plan.now extent) }
+    ensures pointer { IfOk result (λ r. pointer_of plan.now extent ≡ Some (scanned r).pointer) }
 {
+    let _ = plan.planned();
     scan_under(alloc, disk, extent, plan.pointer(extent))
 }
 
@@ -65,7 +66,7 @@ pub fn scan_in_order<'d, D: PageSource>(
     disk: &'d D,
     plan: &Plan,
 ) -> Result<AllFindings<'d, D>, OutOfMemory>
-    requires { geometry_of plan.now ≡ (D.image disk.now).geometry }
+    requires { plan.now.geometry ≡ (D.image disk.now).geometry }
     ensures image { IfOk result (λ all. all_image all ≡ D.image disk.now) }
     ensures findings { IfOk result (λ all. AreAllFindings (D.image disk.now) plan.now (all_scanned all)) }
 {

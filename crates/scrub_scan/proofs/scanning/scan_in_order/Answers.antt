@@ -1,4 +1,4 @@
-use Rattle.std.proofs.Common.{arith, sym, ◌∙◌, ap, subst, take, get_or, ◌≡◌, ◌++◌, ◌∷◌, []}
+use Rattle.std.proofs.Common.{arith, sym, ◌∙◌, ap, subst, take, get_or, ◌≡◌, ◌++◌, ◌∷◌, [], Some}
 use Rattle.std.proofs.lemmas.List.{take_more, map_push, take_all}
 use Rattle.std.proofs.lemmas.List.Elements.{All-push, All-map}
 use Rattle.scrub_disk.specs.Image.{Image}
@@ -18,17 +18,17 @@ loop-extent-preserved g c =
           ∙ ap (λ xs. xs ++ c.in_ok-scan_extent.field-0.extent ∷ []) c.loop-extent.invariant.extents
           ∙ ap (λ n. take c.loop-extent.extent-index c.planned-extent-items.result.now ++ n ∷ []) c.in_ok-scan_extent.ensures.extent
           ∙ sym (take_more c.planned-extent-items.result.now c.loop-extent.extent-index 0 c.loop-extent-test.true);
-      pointers = All-push (λ (r : ExtentResult g.row.D.Denot g.D.PageSource). r.pointer ≡ pointer_of c.args.plan.now r.extent) c.loop-extent.results.items c.in_ok-scan_extent.field-0
+      pointers = All-push (λ (r : ExtentResult g.row.D.Denot g.D.PageSource). pointer_of c.args.plan.now r.extent ≡ Some r.pointer) c.loop-extent.results.items c.in_ok-scan_extent.field-0
           c.loop-extent.invariant.pointers
-          (c.in_ok-scan_extent.ensures.pointer ∙ ap (pointer_of c.args.plan.now) (sym c.in_ok-scan_extent.ensures.extent));
+          (ap (pointer_of c.args.plan.now) c.in_ok-scan_extent.ensures.extent ∙ c.in_ok-scan_extent.ensures.pointer);
     })
 
 pub returns-clause-findings : goal.returns-clause-findings
 returns-clause-findings g c =
     rw c.of_results.ensures.found (record {
       extents = map-map (λ f. f.extent) (λ (r : ExtentResult g.row.D.Denot g.D.PageSource). scanned r) c.loop-extent.results.items
-          ∙ c.loop-extent.invariant.extents ∙ take_all c.loop-extent.extent-index c.planned-extent-items.result.now (omega arith) ∙ c.planned-extent-items.ensures;
-      pointers = All-map (λ (f : Scanned). f.pointer ≡ pointer_of c.args.plan.now f.extent) (λ (r : ExtentResult g.row.D.Denot g.D.PageSource). scanned r) c.loop-extent.results.items
+          ∙ c.loop-extent.invariant.extents ∙ take_all c.loop-extent.extent-index c.planned-extent-items.result.now (omega arith) ∙ c.planned-extent-items.ensures.planned;
+      pointers = All-map (λ (f : Scanned). pointer_of c.args.plan.now f.extent ≡ Some f.pointer) (λ (r : ExtentResult g.row.D.Denot g.D.PageSource). scanned r) c.loop-extent.results.items
           (λ k x hk. c.loop-extent.invariant.pointers k x hk);
       findings = All-map (λ (f : Scanned). IsFindings (g.D.PageSource.image c.args.disk.now) f.extent f.pointer f.findings) (λ (r : ExtentResult g.row.D.Denot g.D.PageSource). scanned r) c.loop-extent.results.items
           (λ k x hk. subst (λ (i : Image). IsFindings i (get_or c.loop-extent.results.items k x).extent (get_or c.loop-extent.results.items k x).pointer (get_or c.loop-extent.results.items k x).findings)
