@@ -1,5 +1,5 @@
 -- What stands in bytes that begin with a record, and when they do.
-use Rattle.std.proofs.Common.{◌≡◌, ◌<◌, ◌≤◌, ◌+◌, ◌*◌, ◌-◌, ◌^◌, ℕ, List, [], ◌++◌, length, take, drop, get_or, arith, refl, sym, ◌∙◌, ap, append_assoc, length-drop, All, Bool, false, IsTrue}
+use Rattle.std.proofs.Common.{◌≡◌, ◌<◌, ◌≤◌, ◌+◌, ◌*◌, ◌-◌, ◌^◌, ℕ, List, [], ◌++◌, length, take, drop, get_or, arith, refl, sym, ◌∙◌, ap, append_assoc, length-drop, All, Bool, false, IsTrue, length-append}
 use Rattle.std.specs.List.{flat_map}
 use Rattle.std.specs.Array.{IsFirstChunk}
 use Rattle.std.proofs.lemmas.List.{take_all, length-take-le, drop_at}
@@ -300,6 +300,11 @@ pub head_again : (g : Geometry) (x y : List ℕ) (generation runs n r : ℕ) →
 head_again g x y generation runs n r hg hr h hy =
     let read : (generation ≡ n) × (runs ≡ r) = head_read g x generation runs n r hg hr h in
     h.spelled ∙ ap (λ m. head_bytes g m r) (sym read.0) ∙ ap (head_bytes g generation) (sym read.1) ∙ sym hy
+
+-- how long the list is behind the write pointers
+pub pointers_appended : (old o1 o2 h ws : List ℕ) → o1 ≡ old ++ h → o2 ≡ o1 ++ flat_map (big_bytes 4) ws → length o2 ≡ length old + length h + 4 * length ws
+pointers_appended old o1 o2 h ws h1 h2 =
+    omega (arith, ap length h1, length-append old h, ap length h2, length-append o1 (flat_map (big_bytes 4) ws), length-flat_map_of (big_bytes 4) 4 ws (λ k d hk. refl))
 
 -- what is appended before the digest, and with it
 pub body_written : (g : Geometry) (s : Contents) (old o1 o2 o3 h ps : List ℕ) (rs : List Locator) (n r : ℕ) → h ≡ head_bytes g n r → n ≡ s.generation → r ≡ length s.runs →

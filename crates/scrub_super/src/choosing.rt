@@ -2,6 +2,7 @@
 
 ghost use Rattle.std.specs.Prelude.{◌≡◌, ◌+◌, ◌*◌, ◌<◌, ◌≤◌, ◌^◌, ℕ, List, Option, IfOk, length, drop};
 ghost use Rattle.scrub_disk.specs.Buffered.{IsBuffered};
+ghost use Rattle.scrub_disk.specs.NextUnreadable.{IsNextUnreadable};
 ghost use Rattle.scrub_super.specs.Contents.{Contents};
 ghost use Rattle.scrub_super.specs.Record.{BeginsWithRecord};
 ghost use Rattle.scrub_super.specs.Chosen.{Choice, IsChoice, RecordStandsAt};
@@ -57,6 +58,18 @@ fn with_record(seen: RecordsSeen, page: u32, generation: u64) -> RecordsSeen
     }
 }
 
+/// Where the readable pages from a page on end, by where those from the next page on do.
+fn readable_end(readable: &[bool], page: usize, next_end: usize) -> usize
+    requires in_pages { page < length readable.now }
+    requires next { IsNextUnreadable readable.now (page + 1) next_end }
+    ensures { IsNextUnreadable readable.now page result }
+{
+    if !readable[page] {
+        return page;
+    }
+    next_end
+}
+
 /// The records in the bytes of extent 0, each page bound judged by itself.
 fn find_records(bytes: &[u8], readable: &[bool], geometry: Geometry) -> RecordsSeen
     requires bytes { length bytes.now ≡ geometry.page * geometry.pages }
@@ -72,9 +85,7 @@ fn find_records(bytes: &[u8], readable: &[bool], geometry: Geometry) -> RecordsS
     // Where the readable pages from this one on end.
     let mut end = readable.len();
     for page in (0..readable.len()).rev() {
-        if !readable[page] {
-            end = page;
-        }
+        end = readable_end(readable, page, end);
         if let Some(head) = record_at(&bytes[page * size..end * size], geometry) {
             seen = with_record(seen, page as u32, head.generation);
         }

@@ -4,9 +4,10 @@ ghost use Rattle.std.specs.Prelude.{◌≡◌, ◌+◌, ◌*◌, ◌-◌, ◌≤
 ghost use Rattle.std.specs.List.{flat_map};
 ghost use Rattle.byteorder.specs.Endian.{big_bytes, big_number};
 ghost use Rattle.sha2.specs.Sha256.{sha256};
+ghost use Rattle.scrub_frame.specs.Locator.{IsLocator};
 ghost use Rattle.scrub_disk.specs.declared.geometry.Geometry.{Geometry};
 ghost use Rattle.scrub_super.specs.Contents.{Contents};
-ghost use Rattle.scrub_super.specs.Record.{ArePointers, IsHead, BeginsWithRecord, BeginsWithSome, head_bytes, record_bytes};
+ghost use Rattle.scrub_super.specs.Record.{ArePointers, IsHead, BeginsWithRecord, BeginsWithSome, head_bytes, record_body, record_bytes};
 
 use crate::superblock::Superblock;
 use byteorder::{BigEndian, ByteOrder};
@@ -156,6 +157,25 @@ fn append_pointers(out: &mut Vec<u8>, pointers: &[u32])
     }
 }
 
+/// Appends all of a record that stands before its digest, where the list has room for it. Takes no memory.
+fn append_body(out: &mut Vec<u8>, geometry: Geometry, superblock: &Superblock)
+    requires few { length superblock.now.runs ≤ MAX_RUNS }
+    requires room { vec_len out.old + 26 + 4 * length superblock.now.pointers + 60 * length superblock.now.runs ≤ vec_capacity out.old }
+    ensures generation { superblock.now.generation < 2 ^ 64 }
+    ensures fit { All IsLocator superblock.now.runs }
+    ensures items { out.new.items ≡ out.old.items ++ record_body geometry superblock.now }
+    ensures size { vec_len out.new ≡ vec_len out.old + 26 + 4 * length superblock.now.pointers + 60 * length superblock.now.runs }
+    ensures capacity { vec_capacity out.old ≤ vec_capacity out.new }
+{
+    let runs = superblock.runs();
+    append(
+        out,
+        &write_head(geometry, superblock.generation(), runs.len() as u16),
+    );
+    append_pointers(out, superblock.pointers());
+    append_locators(out, runs);
+}
+
 /// Appends the record of a superblock for a disk of this geometry: 58 bytes, 4 for each pointer and 60 for each run. A
 /// refusal leaves `out` as it was.
 pub fn write_record(
@@ -173,14 +193,8 @@ pub fn write_record(
         BeginsWithRecord geometry (drop (vec_len out.old) out.new.items ++ rest) superblock.now) }
 {
     let start = out.len();
-    let count = superblock.runs().len();
-    out.reserve(runs_start(geometry) + LOCATOR_BYTES * count + 32)?;
-    append(
-        out,
-        &write_head(geometry, superblock.generation(), count as u16),
-    );
-    append_pointers(out, superblock.pointers());
-    append_locators(out, superblock.runs());
+    out.reserve(runs_start(geometry) + LOCATOR_BYTES * superblock.runs().len() + 32)?;
+    append_body(out, geometry, superblock);
     let digest = digest_of(&out[start..]);
     append(out, &digest);
     Ok(())
