@@ -4,9 +4,11 @@ use Rattle.std.specs.List.{between, Contains}
 use Rattle.std.proofs.lemmas.Nat.{row_fits}
 use Rattle.std.proofs.lemmas.Option.{slice_get_within, none-some}
 use Rattle.scrub_disk.specs.declared.geometry.Geometry.{Geometry}
-use Rattle.scrub_disk.specs.Image.{Image}
+use Rattle.std.specs.Bool.{OnFalse}
+use Rattle.std.proofs.lemmas.Bool.{false≢true}
+use Rattle.scrub_disk.specs.Image.{Image, HasWholePages, disk_bytes}
 use Rattle.scrub_disk.specs.Held.{held}
-use Rattle.scrub_disk.specs.Raw.{IsPageAt, HoldsRaw, MarksAll, MarksOnly, LosesOnly}
+use Rattle.scrub_disk.specs.Raw.{IsPageAt, raw_place, HoldsRaw, MarksAll, MarksOnly, LosesOnly, HoldsTold, IsLoadedWith}
 
 -- a page that is whole at its place isn't cut
 uncut : (told : List ℕ) (place size : ℕ) (page : Option (List ℕ)) → 0 < size → length told < place + size → IfSome page (IsPageAt told place size) → page ≡ None
@@ -63,8 +65,58 @@ loses_marked told g named before after old new is le l m = record {
     changed : (e p : ℕ) → e < g.extents → p < g.pages → (new.page e p ≡ old.page e p) ⊎ ((new.page e p ≡ None) × Contains named (e, p))
     changed e p he hp = m.others e p (subst (λ (h : Geometry). e < h.extents) (sym is) he) (subst (λ (h : Geometry). p < h.pages) (sym is) hp)
 
--- the same by counts of failures, where the raw image may not tell its bytes
-pub loses_named : (raw : Option (List ℕ)) (g : Geometry) (named : List (ℕ × ℕ)) (first before after : ℕ) (old new : Image) → old.geometry ≡ g → before ≤ after →
-    IfSome raw (λ told. LosesOnly told g [] (before - first) old) → MarksAll old new named → IfSome raw (λ told. LosesOnly told g named (after - first) new)
-loses_named None g named first before after old new is le l m = tt
-loses_named (Some told) g named first before after old new is le l m = loses_marked told g named (before - first) (after - first) old new is (omega (arith, le)) l m
+-- marks take no bytes away from pages that stay readable
+holds_marked : (told : List ℕ) (named : List (ℕ × ℕ)) (old new : Image) → HoldsRaw told old → MarksAll old new named → HoldsRaw told new
+holds_marked told named old new h m e q he hq =
+    let he' : e < old.geometry.extents = subst (λ (g : Geometry). e < g.extents) m.geometry he in
+    let hq' : q < old.geometry.pages = subst (λ (g : Geometry). q < g.pages) m.geometry hq in
+    elim (m.others e q he' hq') [
+      | inl same ↦
+          subst (λ (g : Geometry). IfSome (new.page e q) (IsPageAt told (raw_place g e q) g.page)) (sym m.geometry)
+          (subst (λ (page : Option (List ℕ)). IfSome page (IsPageAt told (raw_place old.geometry e q) old.geometry.page)) (sym same) (h e q he' hq'))
+      | inr gone ↦ subst (λ (page : Option (List ℕ)). IfSome page (IsPageAt told (raw_place new.geometry e q) new.geometry.page)) (sym gone.0) tt
+    ]
+
+-- A disk that was read from raw bytes, and behind whose last page no byte was found, is loaded once its named pages are
+-- marked. The failures are counted before the reads, before the last one and behind it.
+pub loaded_with : (raw was : Option (List ℕ)) (g : Geometry) (named : List (ℕ × ℕ)) (first before after end : ℕ) (there : Bool) (old new : Image) →
+    was ≡ raw → end ≡ disk_bytes g → there ≡ false → old.geometry ≡ g → first ≤ before → before ≤ after → HasWholePages new →
+    IfSome raw (λ told. HoldsRaw told old) → IfSome raw (λ told. LosesOnly told g [] (before - first) old) →
+    IfSome was (λ told. OnFalse there ((length told ≤ end) ⊎ (before < after))) → MarksAll old new named → IsLoadedWith raw (after - first) g named new
+loaded_with raw was g named first before after end there old new same at absent is least le whole holds lost short m = record {
+  geometry = m.geometry ∙ is;
+  whole = whole;
+  unreadable = m.marked;
+  told = of_told raw holds lost (subst (λ (r : Option (List ℕ)). IfSome r (λ told. OnFalse there ((length told ≤ end) ⊎ (before < after)))) same short);
+}
+  where
+    not_found : (b : Bool) {P : Type 0} → b ≡ false → OnFalse b P → P
+    not_found false e p = p
+    not_found true e p = absurd (false≢true (sym e))
+
+    of_told : (r : Option (List ℕ)) → IfSome r (λ told. HoldsRaw told old) → IfSome r (λ told. LosesOnly told g [] (before - first) old) →
+        IfSome r (λ told. OnFalse there ((length told ≤ end) ⊎ (before < after))) → IfSome r (λ told. HoldsTold told (after - first) g named new)
+    of_told None holds lost short = tt
+    of_told (Some told) holds lost short = record {
+      pages = holds_marked told named old new holds m;
+      lost = loses_marked told g named (before - first) (after - first) old new is (omega (arith, le)) lost m;
+      not_too_long = λ none. elim (not_found there absent short) [ inl fits ↦ omega (arith, fits, at) | inr more ↦ absurd (let no : ⊥ = omega (arith, none, more, least) in no) ];
+    }
+
+-- What was loaded while few reads failed was loaded while at most many did: for a caller that knows only a bound.
+pub loaded_with_more : (raw : Option (List ℕ)) (few many : ℕ) (g : Geometry) (named : List (ℕ × ℕ)) (image : Image) → few ≤ many →
+    IsLoadedWith raw few g named image → IsLoadedWith raw many g named image
+loaded_with_more raw few many g named image le l = record {
+  geometry = l.geometry;
+  whole = l.whole;
+  unreadable = l.unreadable;
+  told = of_told raw l.told;
+}
+  where
+    of_told : (r : Option (List ℕ)) → IfSome r (λ told. HoldsTold told few g named image) → IfSome r (λ told. HoldsTold told many g named image)
+    of_told None t = tt
+    of_told (Some told) t = record {
+      pages = t.pages;
+      lost = record { cut = t.lost.cut; failed = t.lost.failed; few = omega (arith, t.lost.few, le); only = t.lost.only };
+      not_too_long = λ none. t.not_too_long (omega (arith, none, le));
+    }

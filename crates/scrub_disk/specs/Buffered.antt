@@ -1,5 +1,6 @@
 -- An extent in memory.
-use Rattle.std.specs.Prelude.{◌≡◌, ◌<◌, ◌+◌, ◌*◌, ℕ, List, Bool, false, Some, None, length, slice_index_or, slice_range, if◌then◌else◌}
+use Rattle.std.specs.Prelude.{◌≡◌, ◌<◌, ◌+◌, ◌*◌, ℕ, List, Bool, false, Some, None, length, slice_index_or, slice_range, if◌then◌else◌, filter, not}
+use Rattle.std.specs.List.{range_with_len}
 use Rattle.scrub_disk.specs.Image.{Image, extent_bytes}
 
 -- the bytes hold each readable page of extent e at its place, and the marks tell which pages are readable
@@ -11,3 +12,7 @@ pub record IsBuffered (image : Image) (e : ℕ) (bytes : List ℕ) (readable : L
       ≡ (if slice_index_or readable q false
       then Some (slice_range bytes (q * image.geometry.page) (q * image.geometry.page + image.geometry.page))
       else None)
+
+-- the pages that aren't among the readable ones, rising
+abbrev pub pages_without : List Bool → List ℕ
+pages_without readable = filter (λ q. not (slice_index_or readable q false)) (range_with_len 0 (length readable))

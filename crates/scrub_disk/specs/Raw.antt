@@ -1,7 +1,7 @@
 -- Raw bytes: what one read of them gives, and what an image that was loaded from them holds.
 use Rattle.std.specs.Prelude.{◌≡◌, ◌<◌, ◌≤◌, ◌+◌, ◌*◌, ◌/◌, ℕ, Bool, true, false, List, length, take, slice_get, slice_index, slice_index_or, Option, Some, None, IfSome, ◌⊎◌, All, Contains}
 use Rattle.scrub_disk.specs.declared.geometry.Geometry.{Geometry}
-use Rattle.scrub_disk.specs.Image.{Image, AreBytesAt}
+use Rattle.scrub_disk.specs.Image.{Image, AreBytesAt, HasWholePages, disk_bytes}
 use Rattle.scrub_disk.specs.Held.{page_number}
 
 -- the first n bytes of `out` stand at the offset, and there are none only at the end or where `out` has no room
@@ -36,13 +36,6 @@ pub record MarksAll (old new : Image) (named : List (ℕ × ℕ)) : Type 0 where
   pub others : (e q : ℕ) → e < old.geometry.extents → q < old.geometry.pages →
       (new.page e q ≡ old.page e q) ⊎ ((new.page e q ≡ None) × Contains named (e, q))
 
--- An image that was loaded: each readable page has the raw bytes of its place, where these are told, and each page that
--- was named is unreadable.
-pub record IsLoaded (raw : Option (List ℕ)) (g : Geometry) (named : List (ℕ × ℕ)) (image : Image) : Type 0 where
-  pub geometry : image.geometry ≡ g
-  pub pages : IfSome raw (λ bytes. HoldsRaw bytes image)
-  pub unreadable : All (λ at. image.page at.0 at.1 ≡ None) named
-
 -- page q of extent e isn't whole before the bytes end
 abbrev pub IsCut : List ℕ → Geometry → ℕ → ℕ → Type 0
 IsCut bytes g e q = length bytes < raw_place g e q + g.page
@@ -55,6 +48,21 @@ pub record LosesOnly (bytes : List ℕ) (g : Geometry) (named : List (ℕ × ℕ
   pub few : length failed ≤ failures
   pub only : (e q : ℕ) → e < g.extents → q < g.pages → image.page e q ≡ None →
       Contains named (e, q) ⊎ (IsCut bytes g e q ⊎ Contains failed (page_number g e q))
+
+-- What an image that was loaded holds of the raw bytes, where these are told: each readable page has the bytes of its
+-- place; pages are lost only as `LosesOnly` says; and where no read failed, no byte stands behind the last page.
+pub record HoldsTold (bytes : List ℕ) (failures : ℕ) (g : Geometry) (named : List (ℕ × ℕ)) (image : Image) : Type 0 where
+  pub pages : HoldsRaw bytes image
+  pub lost : LosesOnly bytes g named failures image
+  pub not_too_long : failures ≡ 0 → length bytes ≤ disk_bytes g
+
+-- An image of these sizes that was loaded from raw bytes while at most `failures` reads failed: each page of it is
+-- unreadable or whole, each page that was named is unreadable, and of the raw bytes it holds what `HoldsTold` says.
+pub record IsLoadedWith (raw : Option (List ℕ)) (failures : ℕ) (g : Geometry) (named : List (ℕ × ℕ)) (image : Image) : Type 0 where
+  pub geometry : image.geometry ≡ g
+  pub whole : HasWholePages image
+  pub unreadable : All (λ at. image.page at.0 at.1 ≡ None) named
+  pub told : IfSome raw (λ bytes. HoldsTold bytes failures g named image)
 
 -- The same of the marks on the first pages, of which none was named.
 pub record MarksOnly (bytes : List ℕ) (page : ℕ) (count : ℕ) (failures : ℕ) (marks : List Bool) : Type 0 where

@@ -1,8 +1,7 @@
 //! An extent that is read whole into memory. What its bytes mean is left to the crates above.
 
-ghost use Rattle.std.specs.Prelude.{◌≡◌, ◌≤◌, ◌<◌, IfOk, filter, length, not, slice_index_or, false};
-ghost use Rattle.std.specs.List.{range_with_len};
-ghost use Rattle.scrub_disk.specs.Buffered.{IsBuffered};
+ghost use Rattle.std.specs.Prelude.{◌≡◌, ◌≤◌, ◌<◌, IfOk, length};
+ghost use Rattle.scrub_disk.specs.Buffered.{IsBuffered, pages_without};
 
 use crate::OutOfMemory;
 use crate::source::PageSource;
@@ -41,7 +40,7 @@ pub fn read_extent<D: PageSource>(
 /// The numbers of the pages of an extent that could not be read, rising. An extent has 65,536 pages at most.
 pub fn unreadable_pages(alloc: Global, readable: &[bool]) -> Result<Vec<u32>, OutOfMemory>
     requires { length readable.now ≤ 65536 }
-    ensures { IfOk result (λ v. v.items ≡ filter (λ g. not (slice_index_or readable.now g false)) (range_with_len 0 (length readable.now))) }
+    ensures { IfOk result (λ v. v.items ≡ pages_without readable.now) }
 {
     let mut unreadable = Vec::new(alloc);
     for page in 0..readable.len() {

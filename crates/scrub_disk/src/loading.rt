@@ -2,8 +2,8 @@
 
 ghost use Rattle.std.specs.Prelude.{◌≡◌, ◌≢◌, ◌≤◌, ◌+◌, ◌-◌, ◌*◌, ◌<◌, ◌^◌, ◌/◌, ◌⊎◌, [], All, false, true, IfOk, IfSome, length, slice_get, Err, Some};
 ghost use Rattle.std.specs.Bool.{OnTrue, OnFalse};
-ghost use Rattle.scrub_disk.specs.Image.{AreBytesAt};
-ghost use Rattle.scrub_disk.specs.Raw.{HoldsUnmarked, HoldsRaw, MarksAll, MarksOnly, LosesOnly, IsLoaded};
+ghost use Rattle.scrub_disk.specs.Image.{AreBytesAt, disk_bytes};
+ghost use Rattle.scrub_disk.specs.Raw.{HoldsUnmarked, HoldsRaw, MarksAll, MarksOnly, LosesOnly, IsLoadedWith};
 ghost use Rattle.scrub_disk.specs.Memory.{image_of};
 
 use crate::geometry::Geometry;
@@ -33,6 +33,7 @@ fn read_whole<R: RawImage>(raw: &mut R, offset: u64, out: &mut [u8]) -> bool
         ((length bytes < offset + length out.new) ⊎ (R.failures raw.old < R.failures raw.new))) }
     ensures failures { R.failures raw.old ≤ R.failures raw.new }
     ensures same_bytes { R.bytes raw.new ≡ R.bytes raw.old }
+    ensures same_bound { R.most_failures raw.new ≡ R.most_failures raw.old }
     ensures reads { R.reads raw.new ≤ R.reads raw.old + length out.old }
 {
     let mut done = 0;
@@ -55,6 +56,7 @@ fn read_pages<R: RawImage>(raw: &mut R, page: usize, bytes: &mut [u8], unreadabl
         MarksOnly told page (length unreadable.new) (R.failures raw.new - R.failures raw.old) unreadable.new) }
     ensures failures { R.failures raw.old ≤ R.failures raw.new }
     ensures same_bytes { R.bytes raw.new ≡ R.bytes raw.old }
+    ensures same_bound { R.most_failures raw.new ≡ R.most_failures raw.old }
     ensures reads { R.reads raw.new ≤ R.reads raw.old + length bytes.old }
 {
     for (number, mark) in unreadable.iter_mut().enumerate() {
@@ -71,6 +73,7 @@ fn has_byte_at<R: RawImage>(raw: &mut R, offset: u64) -> bool
         ((length told ≤ offset) ⊎ (R.failures raw.old < R.failures raw.new))) }
     ensures failures { R.failures raw.old ≤ R.failures raw.new }
     ensures same_bytes { R.bytes raw.new ≡ R.bytes raw.old }
+    ensures same_bound { R.most_failures raw.new ≡ R.most_failures raw.old }
     ensures reads { R.reads raw.new ≡ R.reads raw.old + 1 }
 {
     match raw.read_at(offset, &mut [0u8]) {
@@ -93,6 +96,7 @@ fn read_disk<R: RawImage>(
     ensures failures { R.failures raw.old ≤ R.failures raw.new }
     ensures fault { result ≢ Err LoadFault.TooLong }
     ensures same_bytes { R.bytes raw.new ≡ R.bytes raw.old }
+    ensures same_bound { R.most_failures raw.new ≡ R.most_failures raw.old }
     ensures reads { R.reads raw.new ≤ R.reads raw.old + geometry.page * (geometry.pages * geometry.extents) }
 {
     let pages = geometry.pages() as usize * geometry.extents() as usize;
@@ -116,7 +120,8 @@ fn mark_all(disk: &mut MemDisk, named: &[(u32, u32)])
 /// Loads an image of this geometry from raw bytes, in which page p of extent e stands at byte (e × N + p) × P, for N
 /// pages an extent of P bytes each. A page is unreadable where a read of it failed, where the bytes end before it does,
 /// or where it is named in `bad`, which lists pairs of an extent and a page of it. It makes at most P + 1 reads for each
-/// page and one more, and a failed read costs one page at most.
+/// page and one more, and a failed read costs one page at most. The bytes are found to be no longer than the disk, unless
+/// a read failed.
 ///
 /// Faults, in this order: `OutOfMemory`; `TooLong`, where a byte stands behind the last page (a failure of that last
 /// read is no fault). After a fault the raw image has been read.
@@ -128,14 +133,12 @@ pub fn load<R: RawImage>(
 ) -> Result<MemDisk, LoadFault>
     requires few_reads { R.reads raw.old < 2 ^ 62 }
     requires in_range { All (λ at. (at.0 < geometry.extents) × (at.1 < geometry.pages)) bad.now }
-    ensures loaded { IfOk result (λ disk. IsLoaded (R.bytes raw.old) geometry bad.now (image_of disk)) }
-    ensures lost { IfOk result (λ disk. IfSome (R.bytes raw.old) (λ told.
-        LosesOnly told geometry bad.now (R.failures raw.new - R.failures raw.old) (image_of disk))) }
-    ensures not_too_long { IfOk result (λ _. IfSome (R.bytes raw.old) (λ told.
-        R.failures raw.new ≡ R.failures raw.old → length told ≤ geometry.page * geometry.pages * geometry.extents)) }
-    ensures too_long { result ≡ Err LoadFault.TooLong →
-        IfSome (R.bytes raw.old) (λ told. geometry.page * geometry.pages * geometry.extents < length told) }
+    ensures loaded { IfOk result (λ disk.
+        IsLoadedWith (R.bytes raw.old) (R.failures raw.new - R.failures raw.old) geometry bad.now (image_of disk)) }
+    ensures too_long { result ≡ Err LoadFault.TooLong → IfSome (R.bytes raw.old) (λ told. disk_bytes geometry < length told) }
+    ensures failures { R.failures raw.old ≤ R.failures raw.new }
     ensures same_bytes { R.bytes raw.new ≡ R.bytes raw.old }
+    ensures same_bound { R.most_failures raw.new ≡ R.most_failures raw.old }
     ensures reads { R.reads raw.new ≤ R.reads raw.old + (geometry.page + 1) * (geometry.pages * geometry.extents) + 1 }
 {
     let mut disk = read_disk(alloc, raw, geometry)?;

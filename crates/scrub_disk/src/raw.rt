@@ -11,8 +11,8 @@ use thiserror::Error;
 #[error("the raw image could not be read")]
 pub struct RawFault;
 
-/// The bytes of a whole disk, which never change. A read may give fewer than were asked for, and it may fail. The two
-/// counts are for contracts alone.
+/// The bytes of a whole disk, which never change. A read may give fewer than were asked for, and it may fail. The counts
+/// are for contracts alone.
 pub trait RawImage {
     /// Its bytes, or None where it doesn't tell them, as a file doesn't.
     ghost bytes: { Self → Option (List ℕ) };
@@ -20,6 +20,8 @@ pub trait RawImage {
     ghost reads: { Self → ℕ };
     /// How many of them failed.
     ghost failures: { Self → ℕ };
+    /// At most so many of its reads ever fail. No read changes this number, so that a caller knows it beforehand.
+    ghost most_failures: { Self → ℕ };
 
     /// Reads bytes from an offset on, in bytes, into the front of `out`, and says how many: none only where `out` is
     /// empty, or where the offset is at the end or past it. What the rest of `out` then holds is open, and so is all of
@@ -27,10 +29,14 @@ pub trait RawImage {
     fn read_at(&mut self, offset: u64, out: &mut [u8]) -> Result<usize, RawFault>
         requires { reads self.old < 2 ^ 63 }
         ensures same_bytes { bytes self.new ≡ bytes self.old }
+        ensures same_bound { most_failures self.new ≡ most_failures self.old }
         ensures one_read { reads self.new ≡ reads self.old + 1 }
         ensures one_failure { failures self.new ≡ (if is_ok result then failures self.old else failures self.old + 1) }
         ensures read { IfOk result (λ n. IsRead (bytes self.old) offset out.new n) };
 
     /// A failure is a failed read.
     ghost failures_are_reads: { (image : Self) → failures image ≤ reads image };
+
+    /// No more reads fail than its bound says.
+    ghost failures_are_bounded: { (image : Self) → failures image ≤ most_failures image };
 }

@@ -1,6 +1,7 @@
 //! A small disk, written, marked and read back.
 
 ghost use Rattle.std.specs.Prelude.{◌≡◌, IfOk, length};
+ghost use Rattle.scrub_disk.specs.Faults.{HasSizes};
 ghost use Rattle.scrub_disk.specs.Memory.{image_of};
 
 use super::*;
@@ -8,7 +9,7 @@ use std::test::Fail;
 
 /// A blank disk of three extents of four pages of 64 bytes.
 fn small_disk(alloc: Global) -> Result<MemDisk, Fail>
-    ensures { IfOk result (λ d. ((image_of d).geometry.page ≡ 64) × ((image_of d).geometry.pages ≡ 4) × ((image_of d).geometry.extents ≡ 3)) }
+    ensures { IfOk result (λ d. HasSizes (image_of d).geometry 64 4 3) }
 {
     Ok(MemDisk::blank(alloc, Geometry::new(64, 4, 3)?)?)
 }

@@ -12,6 +12,7 @@ loop-number-preserved g c =
     let piece : length c.read_whole.new.out ≡ c.args.page = search rules in
     record {
       same_bytes = cc;
+      same_bound = cc;
       reads = omega (arith, piece);
       failures = omega arith;
       lost = lost_more (g.R.RawImage.bytes c.args.raw.now) (g.R.RawImage.bytes c.loop-number.raw) c.args.page c.loop-number.number

@@ -6,6 +6,7 @@ use Rattle.scrub_disk.proofs.loading.read_pages.Given as goal
 abbrev pub invariant-loop-number : goal.invariant-loop-number
 invariant-loop-number g l = record {
   same_bytes : g.R.RawImage.bytes l.raw ≡ g.R.RawImage.bytes l.initial.raw;
+  same_bound : g.R.RawImage.most_failures l.raw ≡ g.R.RawImage.most_failures l.initial.raw;
   reads : g.R.RawImage.reads l.raw ≤ g.R.RawImage.reads l.initial.raw + l.number * l.page;
   failures : g.R.RawImage.failures l.initial.raw ≤ g.R.RawImage.failures l.raw;
   lost : IfSome (g.R.RawImage.bytes l.initial.raw) (λ told. MarksOnly told l.page l.number (g.R.RawImage.failures l.raw - g.R.RawImage.failures l.initial.raw) l.unreadable);

@@ -12,6 +12,7 @@ loop-done-preserved g c =
     length-put c.loop-done.out c.read_at.new.out c.loop-done.done (length c.loop-done.out - c.loop-done.done) (omega arith) piece in
     record {
       same_bytes = cc;
+      same_bound = cc;
       failures = search rules;
       reads = omega arith;
       within = omega (arith, c.in-Ok.ensures.read.within, kept, piece);
