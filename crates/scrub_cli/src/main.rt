@@ -2,7 +2,7 @@
 //! and the streams of the system are handed to it.
 #![tactic(auto)]
 
-ghost use Rattle.std.specs.Prelude.{None};
+ghost use Rattle.std.specs.Prelude.{None, map};
 ghost use Rattle.scrub_cli.specs.Answer.{RunWrites};
 
 mod answer;
@@ -54,7 +54,7 @@ fn run_words<R: Files<File = File> + AllocGlobal, O: Write, E: Write>(
     out: &mut O,
     err: &mut E,
 ) -> u8
-    ensures { RunWrites (λ _. None) result (O.contents out.old) (O.contents out.new) }
+    ensures { RunWrites (λ _. None) (map (λ word. word.bytes.items) words.now) result (O.contents out.old) (O.contents out.new) }
 {
     let words: Result<Vec<&str>, OutOfMemory> = words
         .iter()

@@ -1,8 +1,7 @@
 //! A run of the program: words in, an answer and a status out.
 
-ghost use Rattle.std.specs.Prelude.{◌≢◌, IfOk, IfErr};
-ghost use Rattle.scrub_cli.specs.Answer.{IsAnswer, RunWrites, WritesAnswer};
-ghost use Rattle.scrub_cli.specs.Fault.{status_of};
+ghost use Rattle.std.specs.Prelude.{MatchResult, map};
+ghost use Rattle.scrub_cli.specs.Answer.{IsAnswer, IsFault, RunWrites, WritesAnswer};
 
 use crate::answer::Answer;
 use crate::demo::demo;
@@ -20,8 +19,9 @@ fn answer<'a, I: Images>(
     words: &'a [&'a str],
     images: &mut I,
 ) -> Result<Answer, Fault<'a>>
-    ensures answer { IfOk result (λ a. IsAnswer (I.bytes images.old) a.text.items a.status) }
-    ensures fault { IfErr result (λ f. status_of f ≢ 1) }
+    ensures { MatchResult result
+        (λ a. IsAnswer (I.bytes images.old) (map (λ word. word.now) words.entry.now) a.text.items a.status)
+        (IsFault (I.bytes images.old) (map (λ word. word.now) words.entry.now)) }
 {
     match read_words(alloc, words)? {
         Request::Demo => Ok(demo(alloc)?),
@@ -51,7 +51,7 @@ pub fn run<R, I: Images, O: Write, E: Write>(
     out: &mut O,
     err: &mut E,
 ) -> u8
-    ensures { RunWrites (I.bytes images.old) result (O.contents out.old) (O.contents out.new) }
+    ensures { RunWrites (I.bytes images.old) (map (λ word. word.now) words.entry.now) result (O.contents out.old) (O.contents out.new) }
 {
     match answer(alloc, words, images) {
         Ok(answer) => give(&answer, out, err),
