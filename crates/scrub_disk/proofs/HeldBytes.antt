@@ -14,6 +14,8 @@ use Rattle.scrub_disk.specs.Memory.{IsBlank, Puts, Marks}
 use Rattle.scrub_disk.specs.declared.geometry.Geometry.{Geometry}
 use Rattle.scrub_disk.specs.Image.{Image, byte}
 use Rattle.scrub_disk.specs.Held.{held}
+use Rattle.scrub_disk.specs.WholePages.{page_room}
+use Rattle.scrub_disk.proofs.Writes.{put_within, put_outside, length-put}
 
 -- the place of byte i of extent e among all bytes, for P bytes a page and N pages an extent
 pub place : (P N e i : ℕ) → (e * N + i / P) * P + i % P ≡ e * (P * N) + i
@@ -21,12 +23,7 @@ place P N e i = omega (arith, div-add-mod' i P)
 
 -- the page of byte i lies within all pages
 pub page_within : (P N E e i : ℕ) → 0 < P → e < E → i < P * N → (e * N + i / P) * P + P ≤ P * N * E
-page_within P N E e i pos he hi =
-    let q : i / P < N = div_below i P N pos (omega arith) in
-    let r : e * N + N ≤ E * N = row_fits e N E N he (omega arith) in
-    let s : e * N + i / P + 1 ≤ N * E = omega (arith, q, r) in
-    let t : P * (e * N + i / P + 1) ≤ P * (N * E) = mul-le-mul_left P s in
-    omega (arith, t)
+page_within P N E e i pos he hi = (page_room P N E e (i / P) he (div_below i P N pos (omega arith))).1
 
 -- byte k of page n of all pages, which have P bytes each
 pub in_page : (bytes : List ℕ) (n P k : ℕ) → k < P → n * P + P ≤ length bytes →
@@ -154,15 +151,6 @@ read_marked g bytes bad e p n b l he hp same reads set' =
     let at : b ≡ get_or bad (e * g.pages + p) b = reads ∙ ap (λ m. get_or bad (e * m + p) b) same in
     marked_page g bytes bad e p (sym (get_or_read bad (e * g.pages + p) b i at false) ∙ set')
 
--- A write of n bytes ys at place a of a list xs: within it stand ys,
-pub put_within : (xs ys : List ℕ) (a n k : ℕ) → n ≡ length ys → a + n ≤ length xs → k < n → get_or (put_mid a n xs ys) (a + k) 0 ≡ get_or ys k 0
-put_within xs ys a n k e fits hk = search (rules, places)
-
--- and outside it what stood there.
-pub put_outside : (xs ys : List ℕ) (a n i : ℕ) → n ≡ length ys → a + n ≤ length xs → (i < a) ⊎ (a + n ≤ i) → i < length xs → get_or (put_mid a n xs ys) i 0 ≡ get_or xs i 0
-put_outside xs ys a n i e fits (inl h) hi = search (rules, places)
-put_outside xs ys a n i e fits (inr h) hi = search (rules, places)
-
 -- the same write through a slice of the vector that has the bytes, as the code makes it
 pub put_all : (g : Geometry) (v : Vec ℕ Global) (ys xs zs : List ℕ) (bad : List Bool) (e offset size : ℕ) →
     length v.items ≡ g.page * g.pages * g.extents → e < g.extents → offset + length ys ≤ g.page * g.pages → size ≡ g.page * g.pages →
@@ -171,15 +159,12 @@ pub put_all : (g : Geometry) (v : Vec ℕ Global) (ys xs zs : List ℕ) (bad : L
 put_all g v ys xs zs bad e offset size l he fits hs hx hz =
     let r : e * (g.page * g.pages) + g.page * g.pages ≤ g.extents * (g.page * g.pages) = row_fits e (g.page * g.pages) g.extents (g.page * g.pages) he (omega arith) in
     let n : e * size + offset + length ys - (e * size + offset) ≡ length ys = omega arith in
-    let m : length (put_mid (e * (g.page * g.pages) + offset) (length ys) v.items ys) ≡ length v.items = length-put_mid v.items ys (e * (g.page * g.pages) + offset) (omega (arith, l, r)) in
+    let m : length (put_mid (e * (g.page * g.pages) + offset) (length ys) v.items ys) ≡ length v.items = length-put v.items ys (e * (g.page * g.pages) + offset) (length ys) (omega (arith, l, r)) refl in
     let same : (with_items v (put_mid (e * (g.page * g.pages) + offset) (length ys) v.items ys)).items ≡ put_mid (e * (g.page * g.pages) + offset) (length ys) v.items ys = with_items_is v (put_mid (e * (g.page * g.pages) + offset) (length ys) v.items ys) (m ∙ sym v.ok.0) in
     rw (n, hs, hx, hz, same)
     (puts g v.items ys (put_mid (e * (g.page * g.pages) + offset) (length ys) v.items ys) bad e offset l m he fits
     (λ k hk. put_within v.items ys (e * (g.page * g.pages) + offset) (length ys) k refl (omega (arith, l, r)) hk)
     (λ i hi away. put_outside v.items ys (e * (g.page * g.pages) + offset) (length ys) i refl (omega (arith, l, r)) away hi))
-  where
-    length-put_mid : (xs ys : List ℕ) (a : ℕ) → a + length ys ≤ length xs → length (put_mid a (length ys) xs ys) ≡ length xs
-    length-put_mid xs ys a h = search (rules, places)
 
 -- the bytes of a page that was read, whoever's image it is of: what a scanner by pages goes by
 pub byte-page : (d : Image) (e p k : ℕ) (page : List ℕ) → d.page e p ≡ Some page → length page ≡ d.geometry.page → p < d.geometry.pages → k < d.geometry.page →

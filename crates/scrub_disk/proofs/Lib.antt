@@ -1,4 +1,5 @@
 -- Lemmas on the bytes and marks of a disk, and on raw bytes that are read into them.
+pub mod Writes
 pub mod HeldBytes
 pub mod RawBytes
 pub mod RawImages

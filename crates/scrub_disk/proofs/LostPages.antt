@@ -8,7 +8,8 @@ use Rattle.std.specs.Bool.{OnFalse}
 use Rattle.std.proofs.lemmas.Bool.{false≢true}
 use Rattle.scrub_disk.specs.Image.{Image, HasWholePages, disk_bytes}
 use Rattle.scrub_disk.specs.Held.{held}
-use Rattle.scrub_disk.specs.Raw.{IsPageAt, raw_place, HoldsRaw, MarksAll, MarksOnly, LosesOnly, HoldsTold, IsLoadedWith}
+use Rattle.scrub_disk.specs.Raw.{IsPageAt, raw_place, HoldsRaw, LosesOnly, HoldsTold, IsLoadedWith}
+use Rattle.scrub_disk.specs.Marked.{MarksAll, MarksOnly}
 
 -- a page that is whole at its place isn't cut
 uncut : (told : List ℕ) (place size : ℕ) (page : Option (List ℕ)) → 0 < size → length told < place + size → IfSome page (IsPageAt told place size) → page ≡ None

@@ -8,6 +8,7 @@ use Rattle.std.proofs.lemmas.List.Edits.{length-between, get_or-between}
 use Rattle.std.proofs.Math.Nat.{mul-le-mul_left}
 use borrow.Rule.Slice.PartMut.{put_mid}
 use Rattle.std.proofs.lemmas.Slice.{between-put_mid}
+use Rattle.scrub_disk.proofs.Writes.{length-put}
 use Rattle.scrub_disk.specs.Image.{Image, extent_bytes}
 use Rattle.scrub_disk.specs.Buffered.{IsBuffered}
 
@@ -42,7 +43,7 @@ length-page_bytes page a size xs ys part e same l fits =
 -- a part below a write is as it was
 part_below_write : (xs ys : List ℕ) (i j a n : ℕ) → j ≤ a → a + n ≤ length xs → length ys ≡ n → between i j (put_mid a n xs ys) ≡ between i j xs
 part_below_write xs ys i j a n below fits l =
-    let m : length (put_mid a n xs ys) ≡ length xs = search (rules, places) in
+    let m : length (put_mid a n xs ys) ≡ length xs = length-put xs ys a n fits l in
     let lj : length (between i j (put_mid a n xs ys)) ≡ j - i = length-between (put_mid a n xs ys) i j (omega (arith, m, below, fits)) in
     let lk : length (between i j xs) ≡ j - i = length-between xs i j (omega (arith, below, fits)) in
     same_lists _ _ (lj ∙ sym lk)
@@ -82,12 +83,9 @@ pub one_more_page_in_vec : (page_at : ℕ → Option (List ℕ)) (page n size : 
     (length ((with_items v (put_mid (n * page) (n * page + page - n * page) xs part)).items) ≡ size) × PagesRead page_at page (n + 1) ((with_items v (put_mid (n * page) (n * page + page - n * page) xs part)).items) after
 one_more_page_in_vec page_at page n size v xs part readable after b l h fits hx lz answered pushed' =
     let k : n * page + page - n * page ≡ page = omega arith in
-    let m : length (put_mid (n * page) page v.items part) ≡ length v.items = length_written v.items part (n * page) page (omega (arith, fits, l)) lz in
+    let m : length (put_mid (n * page) page v.items part) ≡ length v.items = length-put v.items part (n * page) page (omega (arith, fits, l)) lz in
     let same : (with_items v (put_mid (n * page) page v.items part)).items ≡ put_mid (n * page) page v.items part = with_items_is v (put_mid (n * page) page v.items part) (m ∙ sym v.ok.0) in
     rw (k, hx, same, pushed') (m ∙ l, one_more_page page_at page n v.items part readable b h (omega (arith, fits, l)) lz answered)
-  where
-    length_written : (xs ys : List ℕ) (a n : ℕ) → a + n ≤ length xs → length ys ≡ n → length (put_mid a n xs ys) ≡ length xs
-    length_written xs ys a n fits l = search (rules, places)
 
 -- ---- all pages
 

@@ -1,14 +1,16 @@
 -- Raw bytes that are read piece by piece into a list.
-use Rattle.std.proofs.Common.{rules, ◌≡◌, ◌<◌, ◌≤◌, ◌+◌, ◌-◌, ◌*◌, ◌/◌, ℕ, Bool, true, false, not, List, [], ◌∷◌, ◌++◌, ◌⊎◌, length, length-append, take, get_or, set, slice_get, arith, refl, sym, ◌∙◌, ap, inl, inr, Option, Some, None, IfSome, subst, get_or-set_same, get_or-set_other, ◌≢◌}
+use Rattle.std.proofs.Common.{◌≡◌, ◌<◌, ◌≤◌, ◌+◌, ◌-◌, ◌*◌, ◌/◌, ℕ, Bool, true, false, not, List, [], ◌∷◌, ◌++◌, ◌⊎◌, length, length-append, take, get_or, set, slice_get, arith, refl, sym, ◌∙◌, ap, inl, inr, Option, Some, None, IfSome, subst, get_or-set_same, get_or-set_other, ◌≢◌}
 use Rattle.std.proofs.lemmas.Nat.{div_below, div-mul-add}
 use Rattle.std.specs.Bool.{OnTrue, OnFalse}
 use Rattle.std.proofs.lemmas.Bool.{cases_lt, cases_eq, false≢true}
 use Rattle.std.proofs.lemmas.List.Elements.{Contains-push, Contains-append_left}
 use Rattle.std.specs.List.{Contains}
-use Rattle.std.proofs.lemmas.List.{places, get_or-take, length-take-le}
+use Rattle.std.proofs.lemmas.List.{get_or-take, length-take-le}
 use borrow.Rule.Slice.PartMut.{put_mid}
+use Rattle.scrub_disk.proofs.Writes.{put_within, put_outside}
 use Rattle.scrub_disk.specs.Image.{AreBytesAt}
-use Rattle.scrub_disk.specs.Raw.{ReadFrom, IsRead, MarksOnly}
+use Rattle.scrub_disk.specs.Raw.{ReadFrom, IsRead}
+use Rattle.scrub_disk.specs.Marked.{MarksOnly}
 
 -- the first `done` bytes of the list stand at the offset
 abbrev pub StandsSoFar : List ℕ → ℕ → ℕ → List ℕ → Type 0
@@ -18,26 +20,18 @@ StandsSoFar bytes offset done out = (k : ℕ) → k < done → slice_get bytes (
 abbrev pub ReadSoFar : Option (List ℕ) → ℕ → ℕ → List ℕ → Type 0
 ReadSoFar raw offset done out = IfSome raw (λ bytes. StandsSoFar bytes offset done out)
 
--- a write behind a place keeps what stands before it,
-kept_before : (out piece : List ℕ) (done n k : ℕ) → done + n ≤ length out → length piece ≡ n → k < done → get_or (put_mid done n out piece) k 0 ≡ get_or out k 0
-kept_before out piece done n k fits l h = search (rules, places)
-
--- and what was written stands there
-brought : (out piece : List ℕ) (done n j : ℕ) → done + n ≤ length out → length piece ≡ n → j < n → get_or (put_mid done n out piece) (done + j) 0 ≡ get_or piece j 0
-brought out piece done n j fits l h = search (rules, places)
-
 -- what stands after one more read
 stands_more : (bytes : List ℕ) (offset done n : ℕ) (out piece : List ℕ) → done ≤ length out → length piece ≡ length out - done → n ≤ length piece →
     StandsSoFar bytes offset done out → ReadFrom bytes (offset + done) piece n → StandsSoFar bytes offset (done + n) (put_mid done (length out - done) out piece)
 stands_more bytes offset done n out piece within l few before read k hk = elim (cases_lt k done) [
-  | inl below ↦ before k below ∙ ap Some (sym (kept_before out piece done (length out - done) k (omega arith) l below))
+  | inl below ↦ before k below ∙ ap Some (sym (put_outside out piece done (length out - done) k (sym l) (omega arith) (inl below) (omega (arith, below, within))))
   | inr past ↦
       let j : done + (k - done) ≡ k = omega (arith, past) in
       let here : k - done < n = omega (arith, past, hk) in
       let taken : length (take n piece) ≡ n = length-take-le n piece few in
       let place : offset + done + (k - done) ≡ offset + k = omega (arith, past) in
       ap (slice_get bytes) (sym place) ∙ read.given (k - done) (omega (arith, taken, here))
-      ∙ ap Some (get_or-take n piece (k - done) 0 here ∙ sym (brought out piece done (length out - done) (k - done) (omega arith) l (omega (arith, here, few, l)))
+      ∙ ap Some (get_or-take n piece (k - done) 0 here ∙ sym (put_within out piece done (length out - done) (k - done) (sym l) (omega arith) (omega (arith, here, few, l)))
       ∙ ap (λ i. get_or (put_mid done (length out - done) out piece) i 0) j)
 ]
 
@@ -48,10 +42,6 @@ read_more None was offset done n out piece e within l before read = tt
 read_more (Some bytes) was offset done n out piece e within l before read =
     let told : IsRead (Some bytes) (offset + done) piece n = subst (λ (r : Option (List ℕ)). IsRead r (offset + done) piece n) e read in
     stands_more bytes offset done n out piece within l told.within before told.told
-
--- a write in the middle keeps the length
-pub length-put : (out piece : List ℕ) (done n : ℕ) → done + n ≤ length out → length piece ≡ n → length (put_mid done n out piece) ≡ length out
-length-put out piece done n fits l = search (rules, places)
 
 -- the bytes below page n stand at their places, where their pages aren't marked
 abbrev pub HeldBelow : List ℕ → ℕ → ℕ → List Bool → List ℕ → Type 0
@@ -65,7 +55,7 @@ held_more told page n marks bytes piece whole pos below fits l before read i hi 
       let q : i / page < n = div_below i page n pos (omega (arith, less)) in
       let ne : i / page ≢ n = omega (arith, q) in
       before i less (sym (get_or-set_other marks n (i / page) (not whole) true ne) ∙ unmarked)
-      ∙ ap Some (sym (kept_before bytes piece (n * page) page i fits l less))
+      ∙ ap Some (sym (put_outside bytes piece (n * page) page i (sym l) fits (inl less) (omega (arith, less, fits))))
   | inr past ↦
       let k : n * page + (i - n * page) ≡ i = omega (arith, past) in
       let small : i - n * page < page = omega (arith, past, hi) in
@@ -73,7 +63,7 @@ held_more told page n marks bytes piece whole pos below fits l before read i hi 
       let is_whole : whole ≡ true = not_false whole (sym (get_or-set_same marks n (not whole) true below) ∙ ap (λ m. get_or (set marks n (not whole)) m true) (sym q) ∙ unmarked) in
       let text : AreBytesAt (slice_get told) (n * page) piece = given whole is_whole read in
       ap (slice_get told) (sym k) ∙ text (i - n * page) (omega (arith, small, l))
-      ∙ ap Some (sym (brought bytes piece (n * page) page (i - n * page) fits l small) ∙ ap (λ m. get_or (put_mid (n * page) page bytes piece) m 0) k)
+      ∙ ap Some (sym (put_within bytes piece (n * page) page (i - n * page) (sym l) fits small) ∙ ap (λ m. get_or (put_mid (n * page) page bytes piece) m 0) k)
 ]
   where
     not_false : (b : Bool) → not b ≡ false → b ≡ true

@@ -13,16 +13,10 @@ use Rattle.std.proofs.lemmas.List.{with_items_is}
 use Rattle.scrub_disk.specs.declared.geometry.Geometry.{Geometry}
 use Rattle.scrub_disk.specs.Image.{Image}
 use Rattle.scrub_disk.specs.Held.{held}
+use Rattle.scrub_disk.specs.WholePages.{page_room}
 use Rattle.scrub_disk.specs.Memory.{Marks}
-use Rattle.scrub_disk.specs.Raw.{IsPageAt, HoldsRaw, HoldsUnmarked, MarksAll}
-
--- page n of all pages lies within all bytes
-page_room : (g : Geometry) (e p : ℕ) → e < g.extents → p < g.pages → (e * g.pages + p < g.pages * g.extents) × ((e * g.pages + p) * g.page + g.page ≤ g.page * g.pages * g.extents)
-page_room g e p he hp =
-    let r : e * g.pages + g.pages ≤ g.extents * g.pages = row_fits e g.pages g.extents g.pages he (omega arith) in
-    let below : e * g.pages + p + 1 ≤ g.pages * g.extents = omega (arith, r, hp) in
-    let t : g.page * (e * g.pages + p + 1) ≤ g.page * (g.pages * g.extents) = mul-le-mul_left g.page below in
-    (omega (arith, below), omega (arith, t))
+use Rattle.scrub_disk.specs.Raw.{IsPageAt, HoldsRaw}
+use Rattle.scrub_disk.specs.Marked.{HoldsUnmarked, MarksAll}
 
 -- a disk whose unmarked bytes are the raw ones has the raw pages
 pub holds_raw : (g : Geometry) (told bytes : List ℕ) (marks : List Bool) → length bytes ≡ g.page * g.pages * g.extents → length marks ≡ g.pages * g.extents →
@@ -36,7 +30,7 @@ holds_raw g told bytes marks lb lm h e p he hp = by_mark (get_or marks (e * g.pa
         IfSome (cond b None (Some (between ((e * g.pages + p) * g.page) ((e * g.pages + p) * g.page + g.page) bytes))) (IsPageAt told ((e * g.pages + p) * g.page) g.page)
     by_mark true f = tt
     by_mark false f =
-        let room = page_room g e p he hp in
+        let room = page_room g.page g.pages g.extents e p he hp in
         let from : ℕ = (e * g.pages + p) * g.page in
         let l : length (between ((e * g.pages + p) * g.page) ((e * g.pages + p) * g.page + g.page) bytes) ≡ g.page =
         length-between bytes ((e * g.pages + p) * g.page) ((e * g.pages + p) * g.page + g.page) (omega (arith, room.1, lb)) ∙ (let z : (e * g.pages + p) * g.page + g.page - (e * g.pages + p) * g.page ≡ g.page = omega arith in z) in

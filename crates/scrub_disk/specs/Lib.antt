@@ -1,11 +1,14 @@
--- The words of this crate's contracts, and of the crates above for images and their bytes.
+-- The words of this crate's public clauses, and of the crates above for images and their bytes.
 pub mod Limits
 pub mod Faults
 pub mod Image
 pub mod Buffered
-pub mod NextUnreadable
 pub mod Held
-pub mod WholePages
 pub mod Memory
 pub mod Raw
+-- The steps of the code: marks while an image is loaded, and the search for the next unreadable page.
+pub mod Marked
+pub mod NextUnreadable
+-- Lemmas that types need: pages are whole, and images are equal in one way.
+pub mod WholePages
 pub mod Sets

@@ -1,5 +1,5 @@
 -- Raw bytes: what one read of them gives, and what an image that was loaded from them holds.
-use Rattle.std.specs.Prelude.{◌≡◌, ◌<◌, ◌≤◌, ◌+◌, ◌*◌, ◌/◌, ℕ, Bool, true, false, List, length, take, slice_get, slice_index, slice_index_or, Option, Some, None, IfSome, ◌⊎◌, All, Contains}
+use Rattle.std.specs.Prelude.{◌≡◌, ◌<◌, ◌≤◌, ◌+◌, ◌*◌, ℕ, List, length, take, slice_get, slice_index, Option, Some, None, IfSome, ◌⊎◌, All, Contains}
 use Rattle.scrub_disk.specs.declared.geometry.Geometry.{Geometry}
 use Rattle.scrub_disk.specs.Image.{Image, AreBytesAt, HasWholePages, disk_bytes}
 use Rattle.scrub_disk.specs.Held.{page_number}
@@ -29,13 +29,6 @@ HoldsRaw bytes image =
     (e q : ℕ) → e < image.geometry.extents → q < image.geometry.pages →
     IfSome (image.page e q) (IsPageAt bytes (raw_place image.geometry e q) image.geometry.page)
 
--- the pages that were named are unreadable, and each page is one of these or as it was
-pub record MarksAll (old new : Image) (named : List (ℕ × ℕ)) : Type 0 where
-  pub geometry : new.geometry ≡ old.geometry
-  pub marked : All (λ at. new.page at.0 at.1 ≡ None) named
-  pub others : (e q : ℕ) → e < old.geometry.extents → q < old.geometry.pages →
-      (new.page e q ≡ old.page e q) ⊎ ((new.page e q ≡ None) × Contains named (e, q))
-
 -- page q of extent e isn't whole before the bytes end
 abbrev pub IsCut : List ℕ → Geometry → ℕ → ℕ → Type 0
 IsCut bytes g e q = length bytes < raw_place g e q + g.page
@@ -63,14 +56,3 @@ pub record IsLoadedWith (raw : Option (List ℕ)) (failures : ℕ) (g : Geometry
   pub whole : HasWholePages image
   pub unreadable : All (λ at. image.page at.0 at.1 ≡ None) named
   pub told : IfSome raw (λ bytes. HoldsTold bytes failures g named image)
-
--- The same of the marks on the first pages, of which none was named.
-pub record MarksOnly (bytes : List ℕ) (page : ℕ) (count : ℕ) (failures : ℕ) (marks : List Bool) : Type 0 where
-  pub failed : List ℕ
-  pub few : length failed ≤ failures
-  pub only : (n : ℕ) → n < count → slice_index_or marks n false ≡ true → (length bytes < n * page + page) ⊎ Contains failed n
-
--- byte i of a list is byte i of the raw bytes, where its page isn't marked
-abbrev pub HoldsUnmarked : List ℕ → ℕ → List Bool → List ℕ → Type 0
-HoldsUnmarked told page unreadable bytes =
-    (i : ℕ) → i < length bytes → slice_index_or unreadable (i / page) true ≡ false → slice_get told i ≡ Some (slice_index bytes i)

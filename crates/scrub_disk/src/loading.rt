@@ -3,7 +3,8 @@
 ghost use Rattle.std.specs.Prelude.{◌≡◌, ◌≢◌, ◌≤◌, ◌+◌, ◌-◌, ◌*◌, ◌<◌, ◌^◌, ◌/◌, ◌⊎◌, [], All, false, true, IfOk, IfSome, length, slice_get, Err, Some};
 ghost use Rattle.std.specs.Bool.{OnTrue, OnFalse};
 ghost use Rattle.scrub_disk.specs.Image.{AreBytesAt, disk_bytes};
-ghost use Rattle.scrub_disk.specs.Raw.{HoldsUnmarked, HoldsRaw, MarksAll, MarksOnly, LosesOnly, IsLoadedWith};
+ghost use Rattle.scrub_disk.specs.Raw.{HoldsRaw, LosesOnly, IsLoadedWith};
+ghost use Rattle.scrub_disk.specs.Marked.{HoldsUnmarked, MarksAll, MarksOnly};
 ghost use Rattle.scrub_disk.specs.Memory.{image_of};
 
 use crate::geometry::Geometry;

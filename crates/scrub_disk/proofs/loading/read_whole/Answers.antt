@@ -1,7 +1,8 @@
 -- One more read brought the bytes behind those so far.
 use Rattle.std.proofs.Common.{rules, arith, length, ◌≡◌, ◌-◌, ◌≤◌}
 use borrow.Rule.Slice.PartMut.{put_mid}
-use Rattle.scrub_disk.proofs.RawBytes.{read_more, length-put}
+use Rattle.scrub_disk.proofs.RawBytes.{read_more}
+use Rattle.scrub_disk.proofs.Writes.{length-put}
 use Rattle.scrub_disk.proofs.loading.read_whole.Goals as goal
 
 pub loop-done-preserved : goal.loop-done-preserved
