@@ -1,8 +1,8 @@
 -- What is read of a run's bytes, and that nothing else could be.
-use Rattle.std.proofs.Common.{◌≡◌, ◌<◌, ◌≤◌, ◌-◌, ◌^◌, ℕ, List, [], ◌∷◌, ◌++◌, length, take, drop, get_or, All, arith, refl, sym, ◌∙◌, ap, length-append}
+use Rattle.std.proofs.Common.{◌≡◌, ◌<◌, ◌≤◌, ◌-◌, ◌^◌, ℕ, List, [], ◌++◌, length, take, drop, get_or, All, arith, refl, sym, ◌∙◌, ap, length-append}
 use Rattle.std.specs.List.{flat_map}
 use Rattle.std.proofs.Math.Seq.{take-add}
-use Rattle.std.proofs.lemmas.List.{append-nil, drop_at, take_at}
+use Rattle.std.proofs.lemmas.List.{append-nil, drop_at, nil_from_length, take_at}
 use Rattle.byteorder.specs.Endian.{big_bytes, big_number}
 use Rattle.sha2.specs.Sha256.{sha256}
 use Rattle.sha2.proofs.Facts256.{length-sha256}
@@ -14,17 +14,13 @@ use Rattle.scrub_run.proofs.Entries.{Continues, continues}
 
 -- as many entries that are spelled alike are the same
 same_entries : (xs ys : List EntryValue) → All IsEntry xs → All IsEntry ys → length xs ≡ length ys → flat_map entry_bytes xs ≡ flat_map entry_bytes ys → xs ≡ ys
-same_entries xs ys hx hy count e = sym (go.whole ∙ ap (λ t. xs ++ t) (none go.more nothing) ∙ append-nil xs)
+same_entries xs ys hx hy count e = sym (go.whole ∙ ap (λ t. xs ++ t) (nil_from_length go.more nothing) ∙ append-nil xs)
   where
     go : Continues xs ys []
     go = continues xs ys [] hx hy (omega (arith, count)) (append-nil (flat_map entry_bytes xs) ∙ e)
 
     nothing : length go.more ≡ 0
     nothing = omega (arith, count, ap length go.whole, length-append xs go.more)
-
-    none : (zs : List EntryValue) → length zs ≡ 0 → zs ≡ []
-    none [] l = refl
-    none (z ∷ zs) l = absurd (let f : ⊥ = omega (arith, l) in f)
 
 -- what stands before its own digest is told by the whole
 pub same_body : (a b : List ℕ) → a ++ sha256 a ≡ b ++ sha256 b → a ≡ b

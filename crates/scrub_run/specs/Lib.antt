@@ -1,4 +1,4 @@
--- The words of this crate's contracts, and those of the crate below that they cite.
+-- The words that public clauses say, and those of the crate below that they cite.
 pub mod Entry
 pub mod Run
 pub use Rattle.scrub_frame.specs.Locator

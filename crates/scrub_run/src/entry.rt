@@ -1,4 +1,4 @@
-//! An entry of an index run. How it stands in a payload is left to `read` and `write`.
+//! An entry of an index run. How it stands in a payload is left to `reading` and `writing`.
 
 ghost use Rattle.std.specs.Prelude.{◌≡◌};
 

@@ -1,5 +1,5 @@
-//! What an index run tells, and the law that a payload is one run at most. Reading and writing are left to `read` and
-//! `write`.
+//! What an index run tells, and the law that a payload is one run at most. Reading and writing are left to `reading`
+//! and `writing`.
 
 ghost use Rattle.std.specs.Prelude.{◌≡◌, List, ℕ};
 

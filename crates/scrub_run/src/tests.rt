@@ -54,11 +54,19 @@ fn body(mut bytes: Vec<u8>) -> Result<Vec<u8>, OutOfMemory> {
     Ok(bytes)
 }
 
-/// An entry as a test writes it: the last byte of its identifier, the number of locators that it claims, and the number
-/// of locators that follow, each the one of `abc`.
+/// The identifier of fourteen bytes 7F and these two.
+fn behind_equal_bytes(last: [u8; 2]) -> ShardId {
+    let mut bytes = [0x7F; 16];
+    bytes[14] = last[0];
+    bytes[15] = last[1];
+    ShardId(bytes)
+}
+
+/// An entry as a test writes it: its identifier, the number of locators that it claims, and the number of locators that
+/// follow, each the one of `abc`.
 #[derive(Clone, Copy)]
 struct Written {
-    last: u8,
+    id: ShardId,
     claimed: u8,
     present: usize,
 }
@@ -66,7 +74,7 @@ struct Written {
 /// An entry that has as many locators as it claims.
 fn sound(last: u8, locators: u8) -> Written {
     Written {
-        last,
+        id: shard(last),
         claimed: locators,
         present: locators as usize,
     }
@@ -83,7 +91,7 @@ fn payload(alloc: Global, claimed: u32, entries: &[Written]) -> Result<Vec<u8>, 
 }
 
 fn append(bytes: &mut Vec<u8>, entry: &Written) -> Result<(), OutOfMemory> {
-    bytes.extend_from_slice(&shard(entry.last).0)?;
+    bytes.extend_from_slice(&entry.id.0)?;
     bytes.push(entry.claimed)?;
     for _ in 0..entry.present {
         bytes.extend_from_slice(&ABC_LOCATOR)?;
@@ -174,13 +182,42 @@ fn identifiers_are_ordered_as_bytes(rt: HostRuntime) {
     assert!(rt; shard(0xFF) < ShardId(first));
 }
 
+/// Three identifiers that differ behind their first fourteen bytes alone. The last byte falls where the one before it
+/// rises.
+#[test]
+fn identifiers_that_begin_alike_are_told_apart(rt: HostRuntime) -> Result<(), Fail> {
+    let [low, middle, high] = [[0, 2], [1, 1], [1, 2]].map(|last| Written {
+        id: behind_equal_bytes(last),
+        claimed: 0,
+        present: 0,
+    });
+    let run = read_run(rt.alloc(), &payload(rt.alloc(), 3, &[low, middle, high])?)?;
+    assert_eq!(rt; run.entries().len(), 3);
+    for (entry, written) in run.entries().iter().zip([low, middle, high]) {
+        assert_eq!(rt; entry.id(), written.id);
+    }
+    for (what, entries) in [
+        ("the first two exchanged", [middle, low, high]),
+        ("the last two exchanged", [low, high, middle]),
+        ("the last one twice", [low, high, high]),
+    ] {
+        let broken = payload(rt.alloc(), 3, &entries)?;
+        assert_eq!(rt;
+            fault(rt.alloc(), &broken),
+            Some(RunFault::NotARun),
+            "{what}"
+        );
+    }
+    Ok(())
+}
+
 #[test]
 fn a_run_with_one_byte_changed_is_none(rt: HostRuntime) -> Result<(), Fail> {
     let bytes = payload(rt.alloc(), 2, &[sound(1, 1), sound(2, 1)])?;
     assert_eq!(rt; bytes.len(), 194);
     assert_eq!(rt; fault(rt.alloc(), &bytes), None);
     for (what, place, byte) in [
-        ("another run_magic", 3, b'2'),
+        ("another magic", 3, b'2'),
         ("a count one less", 7, 1),
         ("a count one more", 7, 3),
         ("a count far too great", 4, 0xFF),
@@ -255,7 +292,7 @@ fn an_entry_has_at_most_64_locators(rt: HostRuntime) -> Result<(), Fail> {
     let more = payload(rt.alloc(), 1, &[sound(1, 65)])?;
     assert_eq!(rt; fault(rt.alloc(), &more), Some(RunFault::NotARun));
     let missing = Written {
-        last: 1,
+        id: shard(1),
         claimed: 64,
         present: 63,
     };
