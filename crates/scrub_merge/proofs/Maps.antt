@@ -1,5 +1,5 @@
 -- The shard map that is made of the newest bindings.
-use Rattle.std.proofs.Common.{◌⊎◌, ◌≡◌, ◌<◌, ◌+◌, ℕ, zero, suc, Bool, true, false, cond, not, Option, Some, None, List, [], ◌∷◌, length, get_or, map, All, AllPairs, Contains, arith, refl, sym, ◌∙◌, ap, inl, inr}
+use Rattle.std.proofs.Common.{◌≡◌, ◌<◌, ◌+◌, ℕ, zero, suc, Bool, true, false, not, Option, Some, None, List, [], ◌∷◌, length, get_or, All, AllPairs, Contains, arith, refl, sym, ◌∙◌, ap, inl, inr}
 use Rattle.std.specs.Prelude.{filter, ◌==◌, slice_get, unwrap_or}
 use Rattle.std.specs.BTreeMap as tree
 use Rattle.std.specs.BTreeMap.{BTreeMap}
@@ -15,6 +15,7 @@ use Rattle.std.specs.declared.cmp.Ordering.{Ordering}
 use Rattle.std.specs.declared.cmp.Ordering.TheVariants.{Less, Greater}
 use Rattle.std.proofs.lemmas.Map.Keys.{Less-from_sorted}
 use Rattle.std.proofs.lemmas.Map.Views.{All-found, btree_map_get_iff}
+use Rattle.std.proofs.lemmas.Map.Made.{Contains-values_of}
 use Rattle.std.proofs.lemmas.Map.Entries.{length-keys_of, length-values_of}
 use Rattle.scrub_frame.specs.declared.locator.Locator.{Locator}
 use Rattle.scrub_run.specs.declared.shard_id.ShardId.{ShardId}
@@ -22,25 +23,8 @@ use Rattle.scrub_run.specs.Entry.{EntryValue, IsBelow}
 use Rattle.scrub_merge.specs.Binding.{BindingValue, Runs, IsNewestBinding}
 use Rattle.scrub_merge.specs.ShardMap.{AreRuns, AreBindings, IsShardMap}
 use Rattle.scrub_merge.specs.NewestMap.{id_cmp, value_at, has_locator, HoldsNewest}
+use Rattle.scrub_merge.proofs.Elements.{Contains-cases, Contains-behind, Contains-filter}
 use Rattle.scrub_merge.proofs.Identifiers.{id_cmp_total, id_cmp_exact, itself, not_below_itself, same_entry}
-
--- ---- lists
-
-Contains-map : {X Y : Type 0} (f : X → Y) (xs : List X) (x : X) → Contains xs x → Contains (map f xs) (f x)
-Contains-map f [] x (k, here, is) = absurd (let e : ⊥ = omega (arith, here) in e)
-Contains-map f (y ∷ xs) x (zero, here, is) = (zero, omega arith, ap f is)
-Contains-map f (y ∷ xs) x (suc k, here, is) = let c : Contains (map f xs) (f x) = Contains-map f xs x (k, omega (arith, here), is) in
-    (suc c.0, omega (arith, c.1), c.2)
-
-Contains-filter : {X : Type 0} (p : X → Bool) (xs : List X) (x : X) → p x ≡ true → Contains xs x → Contains (filter p xs) x
-Contains-filter p [] x passes c = c
-Contains-filter {X} p (y ∷ xs) x passes c = by (p y) refl c.0 c.1 c.2 (Contains-filter p xs x passes)
-  where
-    by : (t : Bool) → p y ≡ t → (k : ℕ) → k < length (y ∷ xs) → get_or (y ∷ xs) k x ≡ x → (Contains xs x → Contains (filter p xs) x) → Contains (cond t (y ∷ filter p xs) (filter p xs)) x
-    by true t zero here is later = (zero, omega arith, is)
-    by true t (suc k) here is later = let l : Contains (filter p xs) x = later (k, omega (arith, here), is) in (suc l.0, omega (arith, l.1), l.2)
-    by false t zero here is later = absurd (false≢true (sym t ∙ ap p is ∙ passes))
-    by false t (suc k) here is later = later (k, omega (arith, here), is)
 
 -- ---- newest bindings
 
@@ -134,8 +118,7 @@ shard_map_made runs m bindings h made = record {
     among b is None was = absurd (h.none b.id was b.run (entry_of b) is.entry refl)
     among b is (Some x) was =
         let same : x ≡ b = one_newest runs x b h.runs_rise (h.newest b.id x was) is (h.own b.id x was) in
-        Contains-map (λ (e : ShardId × BindingValue). e.1) m.entries (b.id, b)
-        ((btree_map_get_iff id_cmp_total id_cmp_exact m h.ordered b.id b).0 (was ∙ ap Some same))
+        Contains-values_of m.entries b.id b ((btree_map_get_iff id_cmp_total id_cmp_exact m h.ordered b.id b).0 (was ∙ ap Some same))
 
 -- a search that ends between the lesser and the greater identifiers finds none
 pub none_found : (bindings : List BindingValue) (id : ShardId) (i : ℕ) (b : BindingValue) → AreBindings bindings →
@@ -165,14 +148,6 @@ above x xs b rising (k, here, is) = let pair : IsBelow x.id (get_or xs k x).id =
 tail_rises : (x : BindingValue) (xs : List BindingValue) → AllPairs (λ v w. IsBelow v.id w.id) (x ∷ xs) → AllPairs (λ v w. IsBelow v.id w.id) xs
 tail_rises x xs rising i j d order here = rising (suc i) (suc j) d (omega (arith, order)) (omega (arith, here))
 
--- where it stands: first, or behind
-stands : (x : BindingValue) (xs : List BindingValue) (b : BindingValue) → Contains (x ∷ xs) b → (x ≡ b) ⊎ Contains xs b
-stands x xs b (zero, here, is) = inl is
-stands x xs b (suc k, here, is) = inr (k, omega (arith, here), is)
-
-behind : (x : BindingValue) (xs : List BindingValue) (b : BindingValue) → Contains xs b → Contains (x ∷ xs) b
-behind x xs b c = (suc c.0, omega (arith, c.1), c.2)
-
 -- two rising lists with the same bindings are one
 same_bindings : (xs ys : List BindingValue) → AllPairs (λ v w. IsBelow v.id w.id) xs → AllPairs (λ v w. IsBelow v.id w.id) ys →
     ((b : BindingValue) → Contains xs b → Contains ys b) → ((b : BindingValue) → Contains ys b → Contains xs b) → xs ≡ ys
@@ -182,13 +157,13 @@ same_bindings (x ∷ xs) [] hx hy f g = absurd (let e : ⊥ = omega (arith, (f x
 same_bindings (x ∷ xs) (y ∷ ys) hx hy f g =
     ap (λ v. v ∷ xs) first
     ∙ ap (λ vs. y ∷ vs) (same_bindings xs ys (tail_rises x xs hx) (tail_rises y ys hy)
-    (λ b c. elim (stands y ys b (f b (behind x xs b c))) [ inl is ↦ absurd (not_below_itself b.id (rw (first ∙ is) at (above x xs b hx c))) | inr later ↦ later ])
-    (λ b c. elim (stands x xs b (g b (behind y ys b c))) [ inl is ↦ absurd (not_below_itself b.id (rw (sym first ∙ is) at (above y ys b hy c))) | inr later ↦ later ]))
+    (λ b c. elim (Contains-cases y ys b (f b (Contains-behind x xs b c))) [ inl is ↦ absurd (not_below_itself b.id (rw (first ∙ is) at (above x xs b hx c))) | inr later ↦ later ])
+    (λ b c. elim (Contains-cases x xs b (g b (Contains-behind y ys b c))) [ inl is ↦ absurd (not_below_itself b.id (rw (sym first ∙ is) at (above y ys b hy c))) | inr later ↦ later ]))
   where
     first : x ≡ y
-    first = elim (stands y ys x (f x (zero, omega arith, refl))) [
+    first = elim (Contains-cases y ys x (f x (zero, omega arith, refl))) [
       | inl is ↦ sym is
-      | inr c ↦ elim (stands x xs y (g y (zero, omega arith, refl))) [
+      | inr c ↦ elim (Contains-cases x xs y (g y (zero, omega arith, refl))) [
         | inl is ↦ is
         | inr d ↦ absurd (not_below_itself x.id (id_cmp_total.trans x.id y.id x.id (above x xs y hx d) (above y ys x hy c)))
       ]

@@ -1,10 +1,10 @@
 -- Newest bindings, as one more run is looked at. The runs so far are rs.
-use Rattle.std.proofs.Common.{◌≡◌, ◌<◌, ◌≤◌, ◌⊎◌, ◌↔◌, ℕ, zero, suc, Bool, true, IsTrue, Option, Some, None, List, [], ◌∷◌, ◌++◌, length, arith, refl, sym, ◌∙◌, ap, inl, inr, length-append, is_some}
-use Rattle.std.specs.Prelude.{slice_get, unwrap_or}
+use Rattle.std.proofs.Common.{◌≡◌, ◌<◌, ◌≤◌, ◌⊎◌, ◌↔◌, ℕ, zero, suc, Bool, true, IsTrue, Option, Some, None, List, [], ◌∷◌, ◌++◌, length, arith, refl, sym, ◌∙◌, ap, inl, inr, length-append}
+use Rattle.std.specs.Prelude.{slice_get}
 use Rattle.std.specs.Option.{option_or}
 use Rattle.std.specs.BTreeMap.{BTreeMap, IsOrdered}
-use Rattle.std.proofs.lemmas.Bool.{cases_lt, false≢true}
-use Rattle.std.proofs.lemmas.Option.{slice_get_within}
+use Rattle.std.proofs.lemmas.Bool.{cases_lt}
+use Rattle.std.proofs.lemmas.Option.{none-some, same_Some, slice_get_within}
 use Rattle.scrub_run.specs.declared.shard_id.ShardId.{ShardId}
 use Rattle.scrub_run.specs.Entry.{EntryValue}
 use Rattle.scrub_run.specs.Run.{AreEntries}
@@ -29,7 +29,7 @@ which xs y x k h = elim (cases_lt k (length xs)) [
   | inl before ↦ inl (before, sym (slice_front xs (y ∷ []) k before) ∙ h)
   | inr past ↦
       let at : k ≡ length xs = omega (arith, past, slice_get_within (xs ++ y ∷ []) k x h, length-append xs (y ∷ [])) in
-      inr (at, ap (λ o. unwrap_or o y) (sym (slice_end xs y) ∙ ap (slice_get (xs ++ y ∷ [])) (sym at) ∙ h))
+      inr (at, same_Some y x (sym (slice_end xs y) ∙ ap (slice_get (xs ++ y ∷ [])) (sym at) ∙ h))
 ]
 
 -- ---- entries and newest bindings, with one more run
@@ -72,21 +72,18 @@ lost_step rs m doubtful h = record {
   holds = record {
     runs_rise = λ k entries is. elim (which rs None (Some entries) k is) [
       | inl before ↦ h.holds.runs_rise k entries before.1
-      | inr last ↦ absurd (no_run entries last.1)
+      | inr last ↦ absurd (none-some entries last.1)
     ];
     ordered = h.holds.ordered;
     own = h.holds.own;
     newest = λ id b has. newest_front rs (None ∷ []) b (h.holds.newest id b has);
     none = λ id has k e at same. elim (which rs None (Some at.entries) k at.is_read) [
       | inl before ↦ h.holds.none id has k e (entry_back rs (None ∷ []) k e before.0 at) same
-      | inr last ↦ no_run at.entries last.1
+      | inr last ↦ none-some at.entries last.1
     ];
   };
   lost = (λ _. (length rs, omega (arith, length-append rs (None ∷ [])), slice_end rs None), λ _. refl);
 }
-  where
-    no_run : (entries : List EntryValue) → None ≡ Some entries → ⊥
-    no_run entries e = false≢true (ap is_some e)
 
 -- a run that was read binds what isn't bound yet
 pub read_step : (rs : Runs) (m n : BTreeMap ShardId BindingValue) (doubtful : Bool) (number : ℕ) (entries : List EntryValue) → HasLooked rs m doubtful → number ≡ length rs →
@@ -95,7 +92,7 @@ read_step rs m n doubtful number entries h count are ordered binds = record {
   holds = record {
     runs_rise = λ k others is. elim (which rs (Some entries) (Some others) k is) [
       | inl before ↦ h.holds.runs_rise k others before.1
-      | inr last ↦ let same : entries ≡ others = inner entries others last.1 in rw (← same) are
+      | inr last ↦ let same : entries ≡ others = same_Some entries others last.1 in rw (← same) are
     ];
     ordered = ordered;
     own = λ id b has. own id b (value_at m id) refl (sym (binds id) ∙ has);
@@ -108,16 +105,13 @@ read_step rs m n doubtful number entries h count are ordered binds = record {
     all : Runs
     all = rs ++ Some entries ∷ []
 
-    inner : (xs ys : List EntryValue) → Some xs ≡ Some ys → xs ≡ ys
-    inner xs ys e = ap (λ o. unwrap_or o xs) e
-
     further : LostBefore rs (length rs) → LostBefore (rs ++ Some entries ∷ []) (length (rs ++ Some entries ∷ []))
     further l = (l.0, omega (arith, l.1, length-append rs (Some entries ∷ [])), slice_front rs (Some entries ∷ []) l.0 l.1 ∙ l.2)
 
     nearer : LostBefore (rs ++ Some entries ∷ []) (length (rs ++ Some entries ∷ [])) → LostBefore rs (length rs)
     nearer l = elim (which rs (Some entries) None l.0 l.2) [
       | inl before ↦ (l.0, before.0, before.1)
-      | inr last ↦ absurd (false≢true (sym (ap is_some last.1)))
+      | inr last ↦ absurd (none-some entries (sym last.1))
     ]
 
     own : (id : ShardId) (b : BindingValue) (o : Option BindingValue) → value_at m id ≡ o → option_or o (binding_in number doubtful id entries) ≡ Some b → b.id ≡ id
@@ -140,8 +134,8 @@ read_step rs m n doubtful number entries h count are ordered binds = record {
     newest id b (Some x) was is = newest_front rs (Some entries ∷ []) b (h.holds.newest id b (was ∙ is))
 
     none : (id : ShardId) (k : ℕ) (e : EntryValue) (o : Option BindingValue) → value_at m id ≡ o → option_or o (binding_in number doubtful id entries) ≡ None → IsEntryOf (rs ++ Some entries ∷ []) k e → e.id ≡ id → ⊥
-    none id k e (Some x) was is at same = false≢true (sym (ap is_some is))
+    none id k e (Some x) was is at same = none-some x (sym is)
     none id k e None was is at same = elim (which rs (Some entries) (Some at.entries) k at.is_read) [
       | inl before ↦ h.holds.none id was k e (entry_back rs (Some entries ∷ []) k e before.0 at) same
-      | inr last ↦ not_bound number doubtful id entries e is (rw (inner entries at.entries last.1) at.among) same
+      | inr last ↦ not_bound number doubtful id entries e is (rw (same_Some entries at.entries last.1) at.among) same
     ]

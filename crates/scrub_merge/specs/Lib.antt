@@ -1,6 +1,7 @@
--- The words of this crate's contracts, and those of the crate below that they cite.
+-- The words that public clauses say, and those of the crate below that they cite.
 pub mod Binding
 pub mod ShardMap
-pub mod NewestMap
 pub use Rattle.scrub_run.specs.Entry
 pub use Rattle.scrub_run.specs.Run
+-- The steps of the code: the map as it is filled, run by run.
+pub mod NewestMap

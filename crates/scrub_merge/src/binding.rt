@@ -1,4 +1,4 @@
-//! A binding of an identifier. Which of its bindings is the newest is left to `newest`.
+//! A binding of an identifier. Which of its bindings is the newest is left to `merging`.
 
 ghost use Rattle.std.specs.Prelude.{◌≡◌};
 ghost use Rattle.scrub_merge.specs.Binding.{BindingValue};

@@ -1,6 +1,6 @@
-//! The shard map. How it is made is left to `newest`.
+//! The shard map. How it is made is left to `merging`.
 
-ghost use Rattle.std.specs.Prelude.{◌≡◌, List, IfSome, IfNone, Contains};
+ghost use Rattle.std.specs.Prelude.{◌≡◌, ◌<◌, List, IfSome, IfNone, Contains, length};
 ghost use Rattle.scrub_merge.specs.Binding.{BindingValue};
 
 use crate::binding::Binding;
@@ -41,6 +41,7 @@ impl ShardMap {
     pub fn get(&self, id: &ShardId) -> Option<&Binding>
         ensures found { IfSome result (λ b. b.now.id ≡ id.now) }
         ensures among { IfSome result (λ b. Contains self.now b.now) }
+        ensures bound { IfSome result (λ b. 0 < length b.now.locators) }
         ensures none { IfNone result ((b : BindingValue) → Contains self.now b → ¬ (b.id ≡ id.now)) }
     {
         match self

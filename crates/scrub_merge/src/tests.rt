@@ -142,6 +142,51 @@ fn a_lost_run_behind_it_leaves_a_shard_undoubted(rt: HostRuntime) -> Result<(), 
     Ok(())
 }
 
+#[test]
+fn doubt_lasts_beyond_the_next_run_that_is_read(rt: HostRuntime) -> Result<(), Fail> {
+    let newer = read_run(rt.alloc(), &payload(rt.alloc(), &[bound(1, 0)])?)?;
+    let older = read_run(rt.alloc(), &payload(rt.alloc(), &[bound(2, 0)])?)?;
+    let runs = [None, Some(newer), Some(older)];
+    let map = merge(rt.alloc(), &runs)?;
+    assert_eq!(rt; map.bindings().len(), 2);
+    for (binding, run) in map.bindings().iter().zip([1, 2]) {
+        assert_eq!(rt; binding.run(), run);
+        assert!(rt; binding.doubtful(), "of run {run}");
+    }
+    Ok(())
+}
+
+/// Three identifiers that differ behind their first twelve bytes alone.
+#[test]
+fn identifiers_that_begin_alike_are_bound_each(rt: HostRuntime) -> Result<(), Fail> {
+    let [low, middle, high] = [0x7F00_0002, 0x7F00_0101, 0x7F01_0000];
+    let newer = read_run(
+        rt.alloc(),
+        &payload(rt.alloc(), &[bound(low, 0), bound(high, 0)])?,
+    )?;
+    let older = read_run(
+        rt.alloc(),
+        &payload(rt.alloc(), &[bound(low, 41), bound(middle, 41)])?,
+    )?;
+    let runs = [Some(newer), Some(older)];
+    let map = merge(rt.alloc(), &runs)?;
+    assert_eq!(rt; map.bindings().len(), 3);
+    for (binding, (number, run)) in map
+        .bindings()
+        .iter()
+        .zip([(low, 0), (middle, 1), (high, 0)])
+    {
+        assert_eq!(rt; binding.id(), shard(number));
+        assert_eq!(rt; binding.run(), run);
+    }
+    assert!(rt;
+        map.get(&shard(middle))
+            .is_some_and(|binding| binding.run() == 1)
+    );
+    assert!(rt; map.get(&shard(0x7F00_0001)).is_none());
+    Ok(())
+}
+
 /// The run of 2,000 shards from a number on.
 fn numbered(alloc: Global, first: u32) -> Result<Vec<u8>, OutOfMemory> {
     let mut entries = Vec::new(alloc);
