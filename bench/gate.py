@@ -1,0 +1,71 @@
+#!/usr/bin/env python3
+"""Counts, for the table of docs/GATE.md, what each crate has, and writes the counts there.
+
+usage: bench/gate.py [--print]      at the top of the repository
+
+It keeps the last three columns, the processor minutes, which a run of the gate tells and no count. With --print it
+prints the rows and writes nothing.
+"""
+import pathlib
+import re
+import sys
+
+PAGE = pathlib.Path("docs/GATE.md")
+KEPT = 3
+
+
+def crates():
+    lines = (line.split("#")[0] for line in pathlib.Path("crates.txt").read_text().splitlines())
+    return [line.split(":")[0].split()[0] for line in lines if ":" in line]
+
+
+def texts(folder, end):
+    return {path: path.read_text() for path in sorted(folder.rglob(f"*{end}"))} if folder.is_dir() else {}
+
+
+def split(path, text, modules):
+    """The code of a file and its tests, given the modules that are for tests alone."""
+    if modules.intersection([path.stem, *path.parts]):
+        return "", text
+    code, *tests = re.split(r"^(?=#\[cfg\(test\)\]\nmod \w+ \{)", text, maxsplit=1, flags=re.M)
+    return code, "".join(tests)
+
+
+def row(crate):
+    folder = pathlib.Path("crates", crate)
+    files = texts(folder / "src", ".rt")
+    modules = {name for text in files.values() for name in re.findall(r"^#\[cfg\(test\)\]\n(?:pub )?mod (\w+);", text, flags=re.M)}
+    parts = [split(path.relative_to(folder), text, modules) for path, text in files.items()]
+    code, tests = ("".join(part[i] for part in parts) for i in (0, 1))
+    lines = lambda text: text.count("\n")
+    counts = [
+        lines(code) + lines(tests),
+        lines(tests),
+        sum(map(lines, texts(folder / "specs", ".antt").values())),
+        sum(map(lines, texts(folder / "proofs", ".antt").values())),
+        len(re.findall(r"^\s*(?:pub(?:\(\w+\))? )?(?:const )?fn \w+", code, flags=re.M)),
+        len(re.findall(r"^\s*#\[test\]", code + tests, flags=re.M)),
+        len(list((folder / "must-fail").glob("*.edit"))),
+    ]
+    return [f"`{crate}`", *map(str, counts)]
+
+
+def main(words):
+    kept = {}
+    page = PAGE.read_text().splitlines()
+    for line in page:
+        cells = [cell.strip() for cell in line.strip("|").split("|")]
+        if line.startswith("| `"):
+            kept[cells[0]] = cells[-KEPT:]
+    rows = ["| " + " | ".join(cells + kept.get(cells[0], [""] * KEPT)) + " |" for cells in map(row, crates())]
+    if "--print" in words:
+        print("\n".join(rows))
+        return 0
+    first = next(i for i, line in enumerate(page) if line.startswith("| Crate |")) + 2
+    last = next((i for i in range(first, len(page)) if not page[i].startswith("|")), len(page))
+    PAGE.write_text("\n".join(page[:first] + rows + page[last:]) + "\n")
+    return 0
+
+
+if __name__ == "__main__":
+    sys.exit(main(sys.argv[1:]))
