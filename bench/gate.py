@@ -43,11 +43,16 @@ def row(crate):
         lines(tests),
         sum(map(lines, texts(folder / "specs", ".antt").values())),
         sum(map(lines, texts(folder / "proofs", ".antt").values())),
-        len(re.findall(r"^\s*(?:pub(?:\(\w+\))? )?(?:const )?fn \w+", code, flags=re.M)),
+        len(re.findall(r"^\s*(?:pub(?:\(\w+\))? )?(?:final )?(?:const )?fn \w+", code, flags=re.M)),
         len(re.findall(r"^\s*#\[test\]", code + tests, flags=re.M)),
         len(list((folder / "must-fail").glob("*.edit"))),
     ]
     return [f"`{crate}`", *map(str, counts)]
+
+
+def total(cells):
+    """The sum of a column, or nothing where a cell is open."""
+    return f"{sum(map(float, cells)):.10g}" if all(cells) else ""
 
 
 def main(words):
@@ -57,7 +62,9 @@ def main(words):
         cells = [cell.strip() for cell in line.strip("|").split("|")]
         if line.startswith("| `"):
             kept[cells[0]] = cells[-KEPT:]
-    rows = ["| " + " | ".join(cells + kept.get(cells[0], [""] * KEPT)) + " |" for cells in map(row, crates())]
+    table = [cells + kept.get(cells[0], [""] * KEPT) for cells in map(row, crates())]
+    table.append(["all", *(total(cells) for cells in list(zip(*table))[1:])])
+    rows = ["| " + " | ".join(cells) + " |" for cells in table]
     if "--print" in words:
         print("\n".join(rows))
         return 0
