@@ -8,5 +8,6 @@ pub mod Unreadable
 pub mod ScannedExtents
 pub mod Tails
 pub mod Search
+pub mod Entries
 pub mod BytesAt
 pub mod FrameBytes

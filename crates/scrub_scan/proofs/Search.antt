@@ -1,5 +1,5 @@
 -- A search for a number among values that have rising numbers.
-use Rattle.std.proofs.Common.{◌≡◌, ◌<◌, ◌≤◌, ℕ, List, [], ◌∷◌, length, get_or, map, arith, refl, sym, ◌∙◌, ap, inl, inr, Result, Ok, Err, IfSome, IfNone}
+use Rattle.std.proofs.Common.{◌≡◌, ◌<◌, ◌≤◌, ℕ, List, [], ◌∷◌, length, get_or, map, arith, sym, ◌∙◌, ap, inl, inr, Result, Ok, Err, IfSome, IfNone}
 use Rattle.std.specs.List.{Contains}
 use Rattle.std.specs.List.Sorted.{IsSearchInRange, IsBinarySearchResult, IsNonDecreasingBy, IsStrictlyIncreasing}
 use Rattle.std.specs.Ordering.{nat_cmp, ordering_index}
@@ -52,8 +52,3 @@ module _ {X : Type 0} (number : X → ℕ) (xs : List X) (rising : IsStrictlyInc
             | inl less ↦ let smaller : number (get_or xs j d) < k = ranked (number (get_or xs j d)) k Less (sym (point.0 j d (omega arith) less)) in omega (arith, smaller, same)
             | inr more ↦ let greater : k < number (get_or xs j d) = ranked (number (get_or xs j d)) k Greater (sym (point.1 j d more in_xs)) in omega (arith, greater, same)
           ]
-
--- numbers of values that are seen by a view
-pub map-map : {X Y Z : Type 0} (f : Y → Z) (g : X → Y) (xs : List X) → map f (map g xs) ≡ map (λ x. f (g x)) xs
-map-map f g [] = refl
-map-map f g (x ∷ xs) = ap (λ ys. f (g x) ∷ ys) (map-map f g xs)

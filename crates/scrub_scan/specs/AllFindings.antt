@@ -1,22 +1,41 @@
 -- The findings of one reader, who goes through the planned extents in the order of their numbers.
-use Rattle.std.specs.Prelude.{◌≡◌, List, All, map, Some}
+use Rattle.std.specs.Prelude.{◌≡◌, ◌==◌, ℕ, List, All, map, Some, Option, option_map}
+use Rattle.std.specs.List.{find}
+use Rattle.std.specs.List.Sorted.{IsStrictlyIncreasing}
 use Rattle.scrub_disk.specs.Image.{Image}
 use Rattle.scrub_super.specs.Plan.{PlanValue, pointer_of}
-use Rattle.scrub_scan.specs.declared.all_findings.AllFindings.{AllFindings}
+use Rattle.scrub_scan.specs.declared.findings.Findings.{Findings}
 use Rattle.scrub_scan.specs.Findings.{IsFindings}
-use Rattle.scrub_scan.specs.Scanned.{Scanned, scanned}
+use Rattle.scrub_scan.specs.Scanned.{Scanned}
+
+-- what was found on a disk: the source of its pages, and the extents that were scanned
+pub record ScannedDisk (D : Type 0) : Type 0 where
+  pub source : D
+  pub extents : List Scanned
+
+-- the numbers of the extents
+abbrev pub extent_numbers : List Scanned → List ℕ
+extent_numbers all = map (λ f. f.extent) all
+
+-- what was found in extent e, where it was scanned
+abbrev pub entry_of : List Scanned → ℕ → Option Scanned
+entry_of all e = find (λ f. f.extent == e) all
+
+-- the findings there
+abbrev pub findings_in : List Scanned → ℕ → Option Findings
+findings_in all e = option_map (λ f. f.findings) (entry_of all e)
+
+-- each has what the image holds in its extent under its pointer
+abbrev pub HaveFindings : Image → List Scanned → Type 0
+HaveFindings image all = All (λ f. IsFindings image f.extent f.pointer f.findings) all
+
+-- the extents rise, and each has what the image holds there
+pub record AreScanned (image : Image) (all : List Scanned) : Type 0 where
+  pub rising : IsStrictlyIncreasing (extent_numbers all)
+  pub findings : HaveFindings image all
 
 -- the planned extents, rising, each with what its image holds under the plan's write pointer
 pub record AreAllFindings (image : Image) (plan : PlanValue) (all : List Scanned) : Type 0 where
-  pub extents : map (λ f. f.extent) all ≡ plan.planned
+  pub extents : extent_numbers all ≡ plan.planned
   pub pointers : All (λ f. pointer_of plan f.extent ≡ Some f.pointer) all
-  pub findings : All (λ f. IsFindings image f.extent f.pointer f.findings) all
-
-module _ {D : Type 0} {s : _} where
-  -- the image that was scanned
-  abbrev pub all_image : AllFindings D s → Image
-  all_image a = s.image a.source.now
-
-  -- what was found, extent by extent
-  abbrev pub all_scanned : AllFindings D s → List Scanned
-  all_scanned a = map scanned a.results.items
+  pub findings : HaveFindings image all

@@ -4,7 +4,7 @@ ghost use Rattle.std.specs.Prelude.{◌≡◌, ◌≤◌, ◌<◌, Contains, IfO
 ghost use Rattle.scrub_disk.specs.Image.{extent_bytes};
 ghost use Rattle.scrub_super.specs.Plan.{pointer_of};
 ghost use Rattle.scrub_scan.specs.Scanned.{result_image, scanned};
-ghost use Rattle.scrub_scan.specs.AllFindings.{AreAllFindings, all_image, all_scanned};
+ghost use Rattle.scrub_scan.specs.AllFindings.{AreAllFindings};
 
 use crate::all_findings::AllFindings;
 use crate::buffer::ScanBuffer;
@@ -67,8 +67,8 @@ pub fn scan_in_order<'d, D: PageSource>(
     plan: &Plan,
 ) -> Result<AllFindings<'d, D>, OutOfMemory>
     requires { plan.now.geometry ≡ (D.image disk.now).geometry }
-    ensures image { IfOk result (λ all. all_image all ≡ D.image disk.now) }
-    ensures findings { IfOk result (λ all. AreAllFindings (D.image disk.now) plan.now (all_scanned all)) }
+    ensures source { IfOk result (λ all. all.source ≡ disk.now) }
+    ensures findings { IfOk result (λ all. AreAllFindings (D.image disk.now) plan.now all.extents) }
 {
     let mut results = Vec::new(alloc);
     for extent in plan.planned() {

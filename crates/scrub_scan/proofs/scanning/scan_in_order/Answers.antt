@@ -6,7 +6,7 @@ use Rattle.scrub_super.specs.Plan.{pointer_of}
 use Rattle.scrub_scan.specs.declared.extent_result.ExtentResult.{ExtentResult}
 use Rattle.scrub_scan.specs.Findings.{IsFindings}
 use Rattle.scrub_scan.specs.Scanned.{Scanned, result_image, scanned}
-use Rattle.scrub_scan.proofs.Search.{map-map}
+use Rattle.std.proofs.lemmas.Simd.{map-map}
 use Rattle.scrub_scan.proofs.scanning.scan_in_order.Goals as goal
 
 pub loop-extent-preserved : goal.loop-extent-preserved
@@ -25,7 +25,7 @@ loop-extent-preserved g c =
 
 pub returns-clause-findings : goal.returns-clause-findings
 returns-clause-findings g c =
-    rw c.of_results.ensures.found (record {
+    rw c.of_results.ensures.extents (record {
       extents = map-map (λ f. f.extent) (λ (r : ExtentResult g.row.D.Denot g.D.PageSource). scanned r) c.loop-extent.results.items
           ∙ c.loop-extent.invariant.extents ∙ take_all c.loop-extent.extent-index c.planned-extent-items.result.now (omega arith) ∙ c.planned-extent-items.ensures.planned;
       pointers = All-map (λ (f : Scanned). pointer_of c.args.plan.now f.extent ≡ Some f.pointer) (λ (r : ExtentResult g.row.D.Denot g.D.PageSource). scanned r) c.loop-extent.results.items
