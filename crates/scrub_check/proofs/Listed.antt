@@ -1,26 +1,37 @@
 -- Lists that tell one thing of each locator, as they grow.
-use Rattle.std.proofs.Common.{◌≡◌, ◌<◌, ◌+◌, ℕ, List, [], ◌∷◌, ◌++◌, Option, length, take, get_or}
+use Rattle.std.proofs.Common.{◌≡◌, ◌<◌, ◌≤◌, ◌+◌, ℕ, List, [], ◌∷◌, ◌++◌, Option, length, take, get_or, arith, sym, ◌∙◌, subst}
 use Rattle.std.specs.List.{AllZip}
+use Rattle.std.proofs.lemmas.List.{take_all}
+use Rattle.std.proofs.lemmas.Slice.Zip.{AllZip-long}
 use Rattle.scrub_disk.proofs.Zips.{AllZip-take_more}
 use Rattle.scrub_disk.specs.Image.{Image}
 use Rattle.scrub_frame.specs.declared.locator.Locator.{Locator}
-use Rattle.scrub_super.specs.declared.plan.Plan.{Plan}
-use Rattle.scrub_super.specs.Plan.{pointer_of}
+use Rattle.scrub_super.specs.Plan.{PlanValue}
 use Rattle.scrub_run.specs.Entry.{EntryValue}
+use Rattle.scrub_merge.specs.Binding.{Runs}
 use Rattle.scrub_check.specs.declared.runs.RunState.{RunState}
-use Rattle.scrub_check.specs.Runs.{IsRunOf, HasRunState}
+use Rattle.scrub_check.specs.Runs.{IsRunIn, HasRunStateIn, AreCounted}
 
 -- what is told of the locators so far
-pub record AreToldOf (image : Image) (plan : Plan) (locators : List Locator) (read : List (Option (List EntryValue))) (told : List RunState) : Type 0 where
-  pub runs : AllZip (λ l run. IsRunOf image (pointer_of plan l.extent) l run) locators read
-  pub states : AllZip (λ l state. HasRunState image (pointer_of plan l.extent) l state) locators told
+pub record AreToldOf (image : Image) (plan : PlanValue) (locators : List Locator) (read : Runs) (told : List RunState) : Type 0 where
+  pub runs : AllZip (IsRunIn image plan) locators read
+  pub states : AllZip (HasRunStateIn image plan) locators told
 
-pub told_more : (image : Image) (plan : Plan) (locators : List Locator) (runs more_runs : List (Option (List EntryValue))) (states more_states : List RunState)
+pub told_more : (image : Image) (plan : PlanValue) (locators : List Locator) (runs more_runs : Runs) (states more_states : List RunState)
     (i : ℕ) (d : Locator) (run : Option (List EntryValue)) (state : RunState) → i < length locators → AreToldOf image plan (take i locators) runs states →
-    IsRunOf image (pointer_of plan (get_or locators i d).extent) (get_or locators i d) run →
-    HasRunState image (pointer_of plan (get_or locators i d).extent) (get_or locators i d) state →
+    IsRunIn image plan (get_or locators i d) run → HasRunStateIn image plan (get_or locators i d) state →
     more_runs ≡ runs ++ run ∷ [] → more_states ≡ states ++ state ∷ [] → AreToldOf image plan (take (i + 1) locators) more_runs more_states
 told_more image plan locators runs more_runs states more_states i d run state below told is has run_grown state_grown = record {
-  runs = AllZip-take_more (λ l x. IsRunOf image (pointer_of plan l.extent) l x) locators runs more_runs i d run below told.runs is run_grown;
-  states = AllZip-take_more (λ l x. HasRunState image (pointer_of plan l.extent) l x) locators states more_states i d state below told.states has state_grown;
+  runs = AllZip-take_more (IsRunIn image plan) locators runs more_runs i d run below told.runs is run_grown;
+  states = AllZip-take_more (HasRunStateIn image plan) locators states more_states i d state below told.states has state_grown;
 }
+
+-- in the end all are told of
+pub all_told : (image : Image) (plan : PlanValue) (locators : List Locator) (i : ℕ) (runs : Runs) (states : List RunState) → length locators ≤ i → locators ≡ plan.runs →
+    AreToldOf image plan (take i locators) runs states → AreToldOf image plan plan.runs runs states
+all_told image plan locators i runs states end is told = subst (λ (ls : List Locator). AreToldOf image plan ls runs states) (take_all i locators end ∙ is) told
+
+pub counted : (image : Image) (plan : PlanValue) (runs : Runs) (states : List RunState) → length plan.runs ≤ 32 → AreToldOf image plan plan.runs runs states → AreCounted (record { runs = runs; states = states })
+counted image plan runs states few told =
+    let r : length runs ≡ length plan.runs = AllZip-long (IsRunIn image plan) plan.runs runs told.runs in
+    record { same = AllZip-long (HasRunStateIn image plan) plan.runs states told.states ∙ sym r; few = omega (arith, r, few) }

@@ -1,13 +1,14 @@
 -- Exactly one status applies to a locator. Each is that of the first test that the locator fails, and the tests are the
 -- same for all.
-use Rattle.std.proofs.Common.{◌≡◌, ◌⊎◌, ℕ, List, length, inl, inr, sym, ◌∙◌, ap, subst, refl}
+use Rattle.std.proofs.Common.{◌≡◌, ◌⊎◌, ℕ, List, Option, Some, None, MatchOption, length, inl, inr, sym, ◌∙◌, ap, subst, refl}
 use Rattle.scrub_disk.specs.Image.{Image}
 use Rattle.scrub_frame.specs.declared.locator.Locator.{Locator}
+use Rattle.scrub_super.specs.Plan.{PlanValue, pointer_of}
 use Rattle.scrub_scan.specs.Extent.{extent_of, FrameAt, NoFrameAt}
 use Rattle.scrub_scan.specs.OneFrame.{one_frame_at}
 use Rattle.scrub_check.specs.declared.status.Status.{Status}
 use Rattle.scrub_check.specs.declared.status.Status.TheVariants.{OutOfRange, PastPointer, Unreadable, NoFrame, WrongUuid, WrongLength, WrongDigest, Hidden, Sound}
-use Rattle.scrub_check.specs.Status.{InRange, BelowPointer, HasUnreadableByte, CanStand, FindsFrame, NamesChunk, BeginsAt, HasStatus}
+use Rattle.scrub_check.specs.Status.{InRange, BelowPointer, HasUnreadableByte, CanStand, FindsFrame, NamesChunk, BeginsAt, HasStatus, HasStatusIn, ExactlyOne}
 use Rattle.scrub_check.proofs.RunStates.{unnamed}
 
 -- a frame of the locator's UUID stands there
@@ -71,7 +72,7 @@ tested failed s t test P Q same (inl a) (inr b) = absurd (a.1 b.0)
 tested failed s t test P Q same (inr a) (inl b) = absurd (b.1 a.0)
 tested failed s t test P Q same (inr a) (inr b) = same a.1 b.1
 
-pub one_status_lem : (image : Image) (w : ℕ) (l : Locator) (s t : Status) → HasStatus image w l s → HasStatus image w l t → s ≡ t
+one_status_lem : (image : Image) (w : ℕ) (l : Locator) (s t : Status) → HasStatus image w l s → HasStatus image w l t → s ≡ t
 one_status_lem image w l s t h k =
     tested OutOfRange s t _ _ _ (
     tested PastPointer s t _ _ _ (
@@ -118,10 +119,21 @@ place_judged image w l none can =
       ),
     )
 
-pub some_status_lem : (image : Image) (w : ℕ) (l : Locator) → ¬ NoStatus image w l
+some_status_lem : (image : Image) (w : ℕ) (l : Locator) → ¬ NoStatus image w l
 some_status_lem image w l none =
     none OutOfRange (λ in_range. none PastPointer (
       in_range,
       λ below.
           place_judged image w l none (record { in_range = in_range; below = below; readable = λ gap. none Unreadable (in_range, below, gap) }),
     ))
+
+-- exactly one, under a pointer and by a plan
+pub one_under_pointer : (image : Image) (w : ℕ) (l : Locator) → ExactlyOne (HasStatus image w l)
+one_under_pointer image w l = record { one = one_status_lem image w l; some = some_status_lem image w l }
+
+pub one_in_plan : (image : Image) (plan : PlanValue) (l : Locator) → ExactlyOne (HasStatusIn image plan l)
+one_in_plan image plan l = by (pointer_of plan l.extent)
+  where
+    by : (o : Option ℕ) → ExactlyOne (λ s. MatchOption o (s ≡ OutOfRange) (λ w. HasStatus image w l s))
+    by None = record { one = λ s t h k. h ∙ sym k; some = λ none. none OutOfRange refl }
+    by (Some w) = one_under_pointer image w l

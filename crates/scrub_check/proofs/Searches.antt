@@ -4,8 +4,7 @@ use Rattle.std.specs.List.{Contains}
 use Rattle.std.specs.List.Sorted.{IsSearchInRange, IsBinarySearchResult, IsStrictlyIncreasing, IsPartitionPoint, IsPartitionedBy}
 use Rattle.std.specs.Ordering.{nat_cmp}
 use Rattle.std.proofs.lemmas.List.{length-map, get_or_default}
-use Rattle.std.proofs.lemmas.Bool.{cases_lt, cases_eq, lt-ltb}
-use Rattle.std.proofs.lemmas.Bool.Decides.{nat_tests}
+use Rattle.std.proofs.lemmas.Bool.{cases_lt, cases_eq, lt-ltb, ltb-true, ltb-false}
 use Rattle.std.proofs.lemmas.List.Kept.{AllPairs-from_increasing}
 use Rattle.scrub_scan.specs.declared.item.Item.{Item}
 use Rattle.scrub_scan.specs.Item.{start_of}
@@ -21,22 +20,13 @@ found_or_absent items k (Err i) b rising within result e =
     let none = (searched start_of items rising k (Err i) within result).1 in
     (λ t. absurd (let no_such : ⊥ = cc in no_such), λ h. absurd (none h))
 
-pub below_true : (a b : ℕ) → nat_lt a b ≡ true → a < b
-below_true a b h = grind (arith, nat_tests)
-
-below_false : (a b : ℕ) → nat_lt a b ≡ false → b ≤ a
-below_false a b h = grind (arith, nat_tests)
-
-true_below : (a b : ℕ) → a < b → nat_lt a b ≡ true
-true_below a b h = lt-ltb a b h
-
 -- pages that rise are parted by any page
 pub parted : (pages : List ℕ) (first : ℕ) → IsStrictlyIncreasing pages → IsPartitionedBy (λ p. nat_lt p first) pages
 parted pages first rising i j d le below later = elim (cases_eq i j) [
   | inl same ↦ ap (λ n. nat_lt (get_or pages n d) first) same ∙ later
   | inr differ ↦
       let less : get_or pages i d < get_or pages j d = AllPairs-from_increasing pages rising i j d (omega (arith, le)) below in
-      true_below (get_or pages i d) first (omega (arith, less, below_true (get_or pages j d) first later))
+      lt-ltb (get_or pages i d) first (omega (arith, less, ltb-true (get_or pages j d) first later))
 ]
 
 -- where pages that rise are parted by a page
@@ -51,7 +41,7 @@ pub page_between : (pages : List ℕ) (i first last : ℕ) → IsStrictlyIncreas
 page_between pages i first last rising point (q, there, low, high) =
     let at : get_or pages there.0 0 ≡ q = get_or_default pages there.0 0 q there.1 ∙ there.2 in
     elim (cases_lt there.0 i) [
-      | inl less ↦ let below : get_or pages there.0 0 < first = below_true (get_or pages there.0 0) first (point.0 there.0 0 (omega arith) less) in absurd (omega (arith, below, at, low))
+      | inl less ↦ let below : get_or pages there.0 0 < first = ltb-true (get_or pages there.0 0) first (point.0 there.0 0 (omega arith) less) in absurd (omega (arith, below, at, low))
       | inr more ↦ elim (cases_eq i there.0) [
         | inl same ↦ let e : get_or pages i 0 ≡ get_or pages there.0 0 = ap (λ n. get_or pages n 0) same in (omega (arith, same, there.1), omega (arith, e, at, high))
         | inr differ ↦ let less : get_or pages i 0 < get_or pages there.0 0 = AllPairs-from_increasing pages rising i there.0 0 (omega (arith, more)) there.1 in (omega (arith, more, there.1), omega (arith, less, at, high))
@@ -60,4 +50,4 @@ page_between pages i first last rising point (q, there, low, high) =
 
 pub between_page : (pages : List ℕ) (i first last : ℕ) → PartedAt pages first i → i < length pages → get_or pages i 0 ≤ last → LiesBetween pages first last
 between_page pages i first last point below high =
-    (get_or pages i 0, (i, below, get_or_default pages i (get_or pages i 0) 0 below), below_false (get_or pages i 0) first (point.1 i 0 (omega arith) below), high)
+    (get_or pages i 0, (i, below, get_or_default pages i (get_or pages i 0) 0 below), ltb-false (get_or pages i 0) first (point.1 i 0 (omega arith) below), high)

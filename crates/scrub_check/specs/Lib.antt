@@ -1,4 +1,13 @@
--- The words of this crate's contracts.
+-- The words that public clauses say, and those of the crates below that they cite.
+pub mod WholeScan
 pub mod Status
 pub mod Runs
 pub mod Named
+pub use Rattle.scrub_disk.specs.Image
+pub use Rattle.scrub_super.specs.Plan
+pub use Rattle.scrub_scan.specs.Scanned
+pub use Rattle.scrub_scan.specs.AllFindings
+pub use Rattle.scrub_merge.specs.Binding
+-- The steps of the code.
+pub mod Judged
+pub mod ChunkRun

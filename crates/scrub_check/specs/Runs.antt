@@ -1,15 +1,16 @@
 -- Which index runs are read, and what becomes of the others.
-use Rattle.std.specs.Prelude.{ℕ, List, Option, Some, None}
+use Rattle.std.specs.Prelude.{◌≡◌, ◌≤◌, ℕ, List, Option, Some, None, MatchOption}
+use Rattle.std.specs.Prelude.{length as len}
 use Rattle.std.specs.List.{AllZip}
 use Rattle.scrub_disk.specs.Image.{Image}
 use Rattle.scrub_frame.specs.declared.locator.Locator.{Locator}
-use Rattle.scrub_super.specs.declared.plan.Plan.{Plan}
-use Rattle.scrub_super.specs.Plan.{pointer_of, runs_of}
+use Rattle.scrub_super.specs.Plan.{PlanValue, pointer_of}
 use Rattle.scrub_run.specs.Entry.{EntryValue}
 use Rattle.scrub_run.specs.Run.{IsRun}
+use Rattle.scrub_merge.specs.Binding.{Runs}
+use Rattle.scrub_check.specs.declared.status.Status.TheVariants.{OutOfRange}
 use Rattle.scrub_check.specs.declared.runs.RunState.{RunState}
 use Rattle.scrub_check.specs.declared.runs.RunState.TheVariants.{Read, BadChunk, NotARun}
-use Rattle.scrub_check.specs.declared.runs.ReadRuns.{ReadRuns}
 use Rattle.scrub_check.specs.Status.{NamesChunk, HasStatus}
 
 -- the chunk that a locator names stands, be it hidden or sound, and its payload is the run of these entries
@@ -28,15 +29,25 @@ HasRunState image w l Read = (entries : List EntryValue) × NamesRun image w l e
 HasRunState image w l (BadChunk status) = HasStatus image w l status × ¬ NamesChunk image w l
 HasRunState image w l NotARun = NamesChunk image w l × ((entries : List EntryValue) → ¬ NamesRun image w l entries)
 
--- the runs that were read, newest first, none for each that is lost
-abbrev pub runs_read : ReadRuns → List (Option (List EntryValue))
-runs_read r = r.runs.items
+-- the same by a plan: under the write pointer of its extent, and lost where it has none
+abbrev pub IsRunIn : Image → PlanValue → Locator → Option (List EntryValue) → Type 0
+IsRunIn image plan l run = MatchOption (pointer_of plan l.extent) (run ≡ None) (λ w. IsRunOf image w l run)
 
--- what became of each run
-abbrev pub states_of : ReadRuns → List RunState
-states_of r = r.states.items
+abbrev pub HasRunStateIn : Image → PlanValue → Locator → RunState → Type 0
+HasRunStateIn image plan l state = MatchOption (pointer_of plan l.extent) (state ≡ BadChunk OutOfRange) (λ w. HasRunState image w l state)
 
--- the runs that a plan names, in its order
-pub record AreReadRuns (image : Image) (plan : Plan) (r : ReadRuns) : Type 0 where
-  pub runs : AllZip (λ l run. IsRunOf image (pointer_of plan l.extent) l run) (runs_of plan) (runs_read r)
-  pub states : AllZip (λ l state. HasRunState image (pointer_of plan l.extent) l state) (runs_of plan) (states_of r)
+-- index runs, newest first: the entries of each, none where it is lost, and what became of each
+pub record ReadRunsValue : Type 0 where
+  pub runs : Runs
+  pub states : List RunState
+
+-- as many runs as states, at most 32
+pub record AreCounted (r : ReadRunsValue) : Type 0 where
+  pub same : len r.states ≡ len r.runs
+  pub few : len r.runs ≤ 32
+
+-- the runs that a plan names, in its order, and what became of each
+pub record AreReadRuns (image : Image) (plan : PlanValue) (r : ReadRunsValue) : Type 0 where
+  pub count : len r.runs ≡ len plan.runs
+  pub runs : AllZip (IsRunIn image plan) plan.runs r.runs
+  pub states : AllZip (HasRunStateIn image plan) plan.runs r.states

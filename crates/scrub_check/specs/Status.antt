@@ -1,22 +1,23 @@
 -- What a locator is worth: the first line of the table that applies to it. It is judged at its own place; only the step
 -- from hidden to sound asks the tiling.
-use Rattle.std.specs.Prelude.{◌≡◌, ◌≢◌, ◌<◌, ◌≤◌, ◌+◌, ℕ, List, map, Contains}
+use Rattle.std.specs.Prelude.{◌≡◌, ◌≢◌, ◌<◌, ◌≤◌, ◌+◌, ℕ, List, MatchOption, map, Contains}
 use Rattle.std.specs.Prelude.{length as len}
 use Rattle.sha2.specs.Sha256.{sha256}
 use Rattle.scrub_disk.specs.declared.geometry.Geometry.{Geometry}
 use Rattle.scrub_disk.specs.Image.{Image, byte, extent_bytes}
+use Rattle.scrub_frame.specs.Frame.{frame_overhead}
 use Rattle.scrub_frame.specs.declared.locator.Locator.{Locator}
+use Rattle.scrub_super.specs.Plan.{PlanValue, pointer_of}
 use Rattle.scrub_scan.specs.declared.item.Item.{Item}
 use Rattle.scrub_scan.specs.Extent.{Extent, extent_of, FrameAt, NoFrameAt, HasGap}
 use Rattle.scrub_scan.specs.Item.{start_of}
 use Rattle.scrub_scan.specs.Tiling.{IsTiling}
-use Rattle.scrub_scan.specs.declared.standing.Standing.{Standing}
 use Rattle.scrub_check.specs.declared.status.Status.{Status}
 use Rattle.scrub_check.specs.declared.status.Status.TheVariants.{OutOfRange, PastPointer, Unreadable, NoFrame, WrongUuid, WrongLength, WrongDigest, Hidden, Sound}
 
 -- where the frame that a locator names would end
 abbrev pub end_of : Locator → ℕ
-end_of l = l.offset + l.length + 38
+end_of l = l.offset + l.length + frame_overhead
 
 -- it would lie in one of the extents that chunks are written to
 pub record InRange (g : Geometry) (l : Locator) : Type 0 where
@@ -30,7 +31,7 @@ BelowPointer w l = end_of l ≤ w
 
 -- one of its bytes can't be read
 abbrev pub HasUnreadableByte : Image → Locator → Type 0
-HasUnreadableByte image l = HasGap (byte image l.extent) l.offset (l.length + 38)
+HasUnreadableByte image l = HasGap (byte image l.extent) l.offset (l.length + frame_overhead)
 
 -- it would lie where it can be read, in range and below the pointer
 pub record CanStand (image : Image) (w : ℕ) (l : Locator) : Type 0 where
@@ -68,15 +69,11 @@ HasStatus image w l WrongDigest = (b : List ℕ) × FindsFrame image w l l.uuid 
 HasStatus image w l Hidden = NamesChunk image w l × ¬ BeginsAt (extent_of image l.extent w) l.offset
 HasStatus image w l Sound = NamesChunk image w l × BeginsAt (extent_of image l.extent w) l.offset
 
--- the frame that stands at its place isn't the one that it names, for the first reason that applies
-abbrev pub IsMismatch : Locator → Standing → Status → Type 0
-IsMismatch l s WrongUuid = s.uuid ≢ l.uuid
-IsMismatch l s WrongLength = (s.uuid ≡ l.uuid) × (s.length ≢ l.length)
-IsMismatch l s WrongDigest = (s.uuid ≡ l.uuid) × (s.length ≡ l.length) × (s.digest ≢ l.digest)
-IsMismatch l s _ = ⊥
+-- the status of a locator by a plan: under the write pointer of its extent, and out of range where it has none
+abbrev pub HasStatusIn : Image → PlanValue → Locator → Status → Type 0
+HasStatusIn image plan l status = MatchOption (pointer_of plan l.extent) (status ≡ OutOfRange) (λ w. HasStatus image w l status)
 
--- it is the one that it names
-pub record Agrees (l : Locator) (s : Standing) : Type 0 where
-  pub uuid : s.uuid ≡ l.uuid
-  pub length : s.length ≡ l.length
-  pub digest : s.digest ≡ l.digest
+-- exactly one status applies: two that do are one, and it can't be that none does
+pub record ExactlyOne (Applies : Status → Type 0) : Type 0 where
+  pub one : (s t : Status) → Applies s → Applies t → s ≡ t
+  pub some : ¬ ((s : Status) → ¬ Applies s)

@@ -1,7 +1,6 @@
 //! The locators that a disk names, and who names them. What they are worth is left to `status`.
 
 ghost use Rattle.std.specs.Prelude.{◌≡◌, ◌<◌, ◌^◌, ◌++◌, IfOk, OnOk, length};
-ghost use Rattle.scrub_super.specs.Plan.{runs_of};
 ghost use Rattle.scrub_check.specs.Named.{named_by_runs, named_by_shard, named};
 
 use scrub_disk::OutOfMemory;
@@ -60,7 +59,7 @@ fn name_shard(named: &mut Vec<Named>, binding: &Binding) -> Result<(), OutOfMemo
 /// The locators of the index runs in their order, lost runs included, and then those of the shard map, by identifier and
 /// in the binding's order.
 pub fn named_locators(alloc: Global, plan: &Plan, map: &ShardMap) -> Result<Vec<Named>, OutOfMemory>
-    ensures { IfOk result (λ v. v.items ≡ named (runs_of plan.now) map.now) }
+    ensures { IfOk result (λ v. v.items ≡ named plan.now.runs map.now) }
 {
     let mut named = name_runs(alloc, plan.runs())?;
     for binding in map.bindings() {

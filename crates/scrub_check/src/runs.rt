@@ -1,12 +1,12 @@
 //! Which index runs can be read, and why the others are lost. What the entries of several runs come to is left to the
 //! crates above.
 
-ghost use Rattle.std.specs.Prelude.{◌≡◌, ◌-◌, ℕ, IfOk};
-ghost use Rattle.std.specs.List.{range_with_len};
-ghost use Rattle.scrub_super.specs.Plan.{geometry_of, planned, pointer_of};
-ghost use Rattle.scrub_scan.specs.AllFindings.{AreAllFindings, all_scanned};
-ghost use Rattle.scrub_check.specs.Status.{NamesChunk};
-ghost use Rattle.scrub_check.specs.Runs.{IsRunOf, HasRunState, AreReadRuns};
+ghost use Rattle.std.specs.Prelude.{◌≡◌, IfOk};
+ghost use Rattle.scrub_scan.specs.Standing.{Stands, HasPayload};
+ghost use Rattle.scrub_scan.specs.AllFindings.{all_scanned};
+ghost use Rattle.scrub_check.specs.WholeScan.{IsWholeScan};
+ghost use Rattle.scrub_check.specs.ChunkRun.{standing_of, IsToldOf};
+ghost use Rattle.scrub_check.specs.Runs.{IsRunIn, HasRunStateIn, AreReadRuns};
 
 use crate::status::{Status, status_of};
 use scrub_disk::{OutOfMemory, PageSource};
@@ -15,6 +15,7 @@ use scrub_run::{Run, RunFault, read_run};
 use scrub_scan::{AllFindings, Standing, read_payload};
 use scrub_super::Plan;
 use std::alloc::Global;
+use std::marker::Model;
 
 /// What became of an index run.
 #[derive(Debug, Clone, Copy, PartialEq, Eq)]
@@ -34,32 +35,46 @@ pub struct ReadRuns {
     states: Vec<RunState>,
 }
 
-impl ReadRuns {
-    ghost use Rattle.scrub_check.specs.Runs.{runs_read, states_of};
+impl Model for ReadRuns {
+    ghost use Rattle.scrub_check.specs.Runs.{ReadRunsValue, AreCounted};
 
-    /// The runs, `None` for each that is lost.
+    ghost Value = { ReadRunsValue };
+
+    ghost view = { λ r. record { runs = r.runs.items; states = r.states.items } };
+
+    ghost invariant = { λ r. AreCounted (record { runs = r.runs.items; states = r.states.items }) };
+}
+
+impl ReadRuns {
+    ghost use Rattle.scrub_check.specs.Runs.{AreCounted};
+
+    /// The runs, `None` for each that is lost: at most 32.
     pub fn runs(&self) -> &[Option<Run>]
-        ensures { result.now ≡ runs_read self.now }
+        ensures runs { result.now ≡ self.now.runs }
+        // Every value of the type is such.
+        ensures counted { AreCounted self.now }
     {
         self.runs.as_slice()
     }
 
-    /// What became of each.
+    /// What became of each, as many as runs.
     pub fn states(&self) -> &[RunState]
-        ensures { result.now ≡ states_of self.now }
+        ensures states { result.now ≡ self.now.states }
+        // Every value of the type is such.
+        ensures counted { AreCounted self.now }
     {
         self.states.as_slice()
     }
 }
 
-/// The payload of the chunk that a locator names.
+/// The payload of the chunk that a locator names, where it stands.
 fn payload_of<D: PageSource>(
     alloc: Global,
     disk: &D,
     locator: &Locator,
 ) -> Result<Vec<u8>, OutOfMemory>
-    requires { (w : ℕ) × NamesChunk (D.image disk.now) w locator.now }
-    ensures { IfOk result (λ b. (w : ℕ) (names : NamesChunk (D.image disk.now) w locator.now) → names.payload ≡ b.items) }
+    requires { Stands (D.image disk.now) (standing_of locator.now) }
+    ensures { IfOk result (λ b. HasPayload (D.image disk.now) (standing_of locator.now) b.items) }
 {
     let standing = Standing {
         extent: locator.extent,
@@ -71,15 +86,14 @@ fn payload_of<D: PageSource>(
     read_payload(alloc, disk, &standing)
 }
 
-/// The run in the chunk that a locator names, or why it isn't one.
+/// The run in the chunk that a locator names, where it stands, or why it isn't one.
 fn run_in_chunk<D: PageSource>(
     alloc: Global,
     disk: &D,
     locator: &Locator,
 ) -> Result<(Option<Run>, RunState), OutOfMemory>
-    requires { (w : ℕ) × NamesChunk (D.image disk.now) w locator.now }
-    ensures run { IfOk result (λ r. (w : ℕ) → NamesChunk (D.image disk.now) w locator.now → IsRunOf (D.image disk.now) w locator.now r.0) }
-    ensures state { IfOk result (λ r. (w : ℕ) → NamesChunk (D.image disk.now) w locator.now → HasRunState (D.image disk.now) w locator.now r.1) }
+    requires { Stands (D.image disk.now) (standing_of locator.now) }
+    ensures { IfOk result (λ r. IsToldOf (D.image disk.now) locator.now r.0 r.1) }
 {
     let payload = payload_of(alloc, disk, locator)?;
     match read_run(alloc, &payload) {
@@ -97,11 +111,9 @@ fn run_of<D: PageSource>(
     all: &AllFindings<'_, D>,
     locator: &Locator,
 ) -> Result<(Option<Run>, RunState), OutOfMemory>
-    requires geometry { geometry_of plan.now ≡ (D.image disk.now).geometry }
-    requires planned { planned plan.now ≡ range_with_len 1 ((D.image disk.now).geometry.extents - 1) }
-    requires findings { AreAllFindings (D.image disk.now) plan.now (all_scanned all.now) }
-    ensures run { IfOk result (λ r. IsRunOf (D.image disk.now) (pointer_of plan.now locator.now.extent) locator.now r.0) }
-    ensures state { IfOk result (λ r. HasRunState (D.image disk.now) (pointer_of plan.now locator.now.extent) locator.now r.1) }
+    requires { IsWholeScan (D.image disk.now) plan.now (all_scanned all.now) }
+    ensures run { IfOk result (λ r. IsRunIn (D.image disk.now) plan.now locator.now r.0) }
+    ensures state { IfOk result (λ r. HasRunStateIn (D.image disk.now) plan.now locator.now r.1) }
 {
     match status_of(alloc, disk, plan, all, locator)? {
         Status::Sound | Status::Hidden => run_in_chunk(alloc, disk, locator),
@@ -116,9 +128,7 @@ pub fn read_runs<D: PageSource>(
     plan: &Plan,
     all: &AllFindings<'_, D>,
 ) -> Result<ReadRuns, OutOfMemory>
-    requires geometry { geometry_of plan.now ≡ (D.image disk.now).geometry }
-    requires planned { planned plan.now ≡ range_with_len 1 ((D.image disk.now).geometry.extents - 1) }
-    requires findings { AreAllFindings (D.image disk.now) plan.now (all_scanned all.now) }
+    requires { IsWholeScan (D.image disk.now) plan.now (all_scanned all.now) }
     ensures { IfOk result (AreReadRuns (D.image disk.now) plan.now) }
 {
     let locators = plan.runs();

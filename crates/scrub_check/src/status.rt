@@ -1,18 +1,17 @@
 //! What a locator is worth: whether the chunk that it names stands at its place.
 
-ghost use Rattle.std.specs.Prelude.{◌≡◌, ◌≤◌, ◌<◌, ◌+◌, ◌-◌, ◌/◌, ◌↔◌, ℕ, IfOk, IfSome, IfNone, IsTrue, Contains, map, length};
-ghost use Rattle.std.specs.List.{range_with_len};
+ghost use Rattle.std.specs.Prelude.{◌≡◌, ◌≤◌, ◌<◌, ◌+◌, ◌/◌, ◌↔◌, ℕ, Some, IfOk, IfSome, IfNone, IsTrue, Contains, map, length};
 ghost use Rattle.std.specs.List.Sorted.{IsStrictlyIncreasing};
 ghost use Rattle.scrub_disk.specs.Image.{Image, extent_bytes, unreadable_pages};
-ghost use Rattle.scrub_super.specs.Plan.{geometry_of, planned, pointer_of};
-ghost use Rattle.scrub_super.specs.declared.plan.Plan.{Plan};
-ghost use Rattle.scrub_scan.specs.Findings.{IsFindings};
+ghost use Rattle.scrub_super.specs.Plan.{PlanValue};
 ghost use Rattle.scrub_scan.specs.Item.{start_of};
-ghost use Rattle.scrub_check.specs.Status.{end_of, InRange, HasUnreadableByte, IsMismatch, Agrees, HasStatus};
-ghost use Rattle.scrub_scan.specs.AllFindings.{AreAllFindings, all_scanned};
+ghost use Rattle.scrub_check.specs.WholeScan.{IsWholeScan};
+ghost use Rattle.scrub_check.specs.Status.{end_of, InRange, HasUnreadableByte, HasStatus, HasStatusIn, ExactlyOne};
+ghost use Rattle.scrub_check.specs.Judged.{IsMismatch, Agrees, IsJudged};
+ghost use Rattle.scrub_scan.specs.AllFindings.{all_scanned};
 
 use scrub_disk::{Geometry, OutOfMemory, PageSource};
-use scrub_frame::Locator;
+use scrub_frame::{FRAME_OVERHEAD, Locator};
 use scrub_scan::{AllFindings, Findings, Item, Standing, frame_stands};
 use scrub_super::Plan;
 use std::alloc::Global;
@@ -40,14 +39,11 @@ pub enum Status {
     Sound,
 }
 
-/// The bytes of a frame round its payload.
-const FRAME_OVERHEAD: u64 = 38;
-
 /// Where the frame that a locator names would end, in bytes of the extent.
 fn end_of(locator: &Locator) -> u64
     ensures { result ≡ end_of locator.now }
 {
-    locator.offset as u64 + locator.length as u64 + FRAME_OVERHEAD
+    locator.offset as u64 + locator.length as u64 + FRAME_OVERHEAD as u64
 }
 
 /// Whether one of the pages from the first through the last is among some that rise.
@@ -95,10 +91,25 @@ fn mismatch(locator: &Locator, standing: &Standing) -> Option<Status>
     None
 }
 
-/// The findings of a planned extent.
+/// What a locator is worth where this frame stands at its place and these are the items of its extent.
+fn judged(locator: &Locator, standing: &Standing, items: &[Item]) -> Status
+    requires { IsStrictlyIncreasing (map start_of items.now) }
+    ensures { IsJudged locator.now standing.now items.now result }
+{
+    if let Some(status) = mismatch(locator, standing) {
+        return status;
+    }
+    if begins_at(items, locator.offset) {
+        Status::Sound
+    } else {
+        Status::Hidden
+    }
+}
+
+/// The findings of an extent that was scanned.
 fn findings_of<'a, D: PageSource>(all: &'a AllFindings<'_, D>, extent: u32) -> &'a Findings
     requires { Contains (map (λ f. f.extent) (all_scanned all.now)) extent }
-    ensures { (image : Image) (plan : Plan) → AreAllFindings image plan (all_scanned all.now) → IsFindings image extent (pointer_of plan extent) result.now }
+    ensures { (w : ℕ) × Contains (all_scanned all.now) (record { extent = extent; pointer = w; findings = result.now }) }
 {
     match all.of_extent(extent) {
         Some(findings) => findings,
@@ -127,10 +138,8 @@ pub fn status_of<D: PageSource>(
     all: &AllFindings<'_, D>,
     locator: &Locator,
 ) -> Result<Status, OutOfMemory>
-    requires geometry { geometry_of plan.now ≡ (D.image disk.now).geometry }
-    requires planned { planned plan.now ≡ range_with_len 1 ((D.image disk.now).geometry.extents - 1) }
-    requires findings { AreAllFindings (D.image disk.now) plan.now (all_scanned all.now) }
-    ensures { IfOk result (HasStatus (D.image disk.now) (pointer_of plan.now locator.now.extent) locator.now) }
+    requires { IsWholeScan (D.image disk.now) plan.now (all_scanned all.now) }
+    ensures { IfOk result (HasStatusIn (D.image disk.now) plan.now locator.now) }
 {
     let geometry = plan.geometry();
     if !lies_in_range(geometry, locator) {
@@ -148,20 +157,12 @@ pub fn status_of<D: PageSource>(
     let Some(standing) = standing else {
         return Ok(Status::NoFrame);
     };
-    if let Some(status) = mismatch(locator, &standing) {
-        return Ok(status);
-    }
-    if begins_at(findings.items(), locator.offset) {
-        Ok(Status::Sound)
-    } else {
-        Ok(Status::Hidden)
-    }
+    Ok(judged(locator, &standing, findings.items()))
 }
 
-/// A law: exactly one status applies to a locator. Two that do are one, and it can't be that none does. So what a locator
-/// is worth is told by the image, the pointer of its extent and its tiling, and by nothing else.
+/// A law: exactly one status applies to a locator, under a write pointer and by a plan. Two that do are one, and it can't
+/// be that none does. So what a locator is worth is told by the image and the pointer of its extent, and by nothing else.
 pub fn one_status()
-    ensures one { (image : Image) (pointer : ℕ) (locator : Locator) (status other : Status) →
-        HasStatus image pointer locator status → HasStatus image pointer locator other → status ≡ other }
-    ensures some { (image : Image) (pointer : ℕ) (locator : Locator) → ¬ ((status : Status) → ¬ HasStatus image pointer locator status) }
+    ensures under_pointer { (image : Image) (w : ℕ) (locator : Locator) → ExactlyOne (HasStatus image w locator) }
+    ensures in_plan { (image : Image) (plan : PlanValue) (locator : Locator) → ExactlyOne (HasStatusIn image plan locator) }
 {}

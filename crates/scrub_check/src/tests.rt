@@ -4,7 +4,6 @@
 ghost use Rattle.std.specs.Prelude.{◌≡◌, ◌-◌, IfOk};
 ghost use Rattle.std.specs.List.{range_with_len};
 ghost use Rattle.scrub_disk.specs.Memory.{image_of};
-ghost use Rattle.scrub_super.specs.Plan.{geometry_of, planned};
 
 use crate::*;
 use scrub_disk::{Geometry, MemDisk, PageSource};
@@ -147,8 +146,8 @@ fn mark_bad(rt: &impl Abort, disk: &mut MemDisk, extent: u32, page: u32) {
 
 /// The plan by what is chosen on a disk.
 fn plan_of(alloc: Global, disk: &MemDisk) -> Result<Plan, Fail>
-    ensures geometry { IfOk result (λ plan. geometry_of plan ≡ (image_of disk.now).geometry) }
-    ensures planned { IfOk result (λ plan. planned plan ≡ range_with_len 1 ((image_of disk.now).geometry.extents - 1)) }
+    ensures geometry { IfOk result (λ plan. plan.geometry ≡ (image_of disk.now).geometry) }
+    ensures planned { IfOk result (λ plan. plan.planned ≡ range_with_len 1 ((image_of disk.now).geometry.extents - 1)) }
 {
     let chosen = choose(alloc, disk)?;
     Ok(Plan::make(alloc, &chosen, disk.geometry())?)

@@ -125,6 +125,21 @@ fn a_frame_that_ends_with_its_page_is_read_without_the_next(rt: HostRuntime) -> 
 }
 
 #[test]
+fn a_frame_that_ends_with_the_last_byte_of_the_last_extent_is_sound(
+    rt: HostRuntime,
+) -> Result<(), Fail> {
+    let mut disk = blank_disk(rt.alloc())?;
+    put_frame(&rt, rt.alloc(), &mut disk, 2, 215, ONES, b"abc")?;
+    let last = abc_at(2, 215);
+    assert_eq!(rt; judge(rt.alloc(), &disk, &last)?, Status::Sound);
+    let longer = Locator { length: 4, ..last };
+    assert_eq!(rt; judge(rt.alloc(), &disk, &longer)?, Status::OutOfRange);
+    mark_bad(&rt, &mut disk, 2, 3);
+    assert_eq!(rt; judge(rt.alloc(), &disk, &last)?, Status::Unreadable);
+    Ok(())
+}
+
+#[test]
 fn no_frame_begins_one_byte_behind_the_start_of_one(rt: HostRuntime) -> Result<(), Fail> {
     let disk = abc_under(&rt, rt.alloc(), 256)?;
     assert_eq!(rt; judge(rt.alloc(), &disk, &abc_at(1, 0))?, Status::Sound);

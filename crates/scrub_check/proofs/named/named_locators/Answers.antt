@@ -18,4 +18,4 @@ pub returns : goal.returns
 returns c =
     c.loop-binding.invariant
     ∙ ap (λ bs. c.in_ok-named.named.items ++ flat_map named_by_shard bs) (take_all c.loop-binding.binding-index c.bindings-binding-items.result.now c.loop-binding-test.false ∙ c.bindings-binding-items.ensures.bindings)
-    ∙ ap (λ ns. ns ++ flat_map named_by_shard c.args.map.now) (c.in_ok-named.ensures ∙ ap (λ ls. named_by_runs 0 ls) c.runs.ensures)
+    ∙ ap (λ ns. ns ++ flat_map named_by_shard c.args.map.now) (c.in_ok-named.ensures ∙ ap (λ ls. named_by_runs 0 ls) c.runs.ensures.runs)
