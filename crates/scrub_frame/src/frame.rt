@@ -30,7 +30,7 @@ pub struct Head {
 pub struct Frame {
     /// The UUID that stands on both sides of the payload.
     pub uuid: Uuid,
-    /// The length of the payload, in bytes. The frame is 38 bytes longer.
+    /// The length of the payload, in bytes. The frame is `FRAME_OVERHEAD` bytes longer.
     pub length: u32,
 }
 
@@ -49,8 +49,9 @@ pub fn read_head(bytes: &[u8; HEAD_BYTES]) -> Option<Head>
     })
 }
 
-/// The frame that the bytes begin with; its payload is `bytes[22..22 + length]`. `None` where they begin with none,
-/// also where they end before the frame does. Only the head and the second UUID are looked at, never the payload.
+/// The frame that the bytes begin with; its payload is `bytes[HEAD_BYTES..HEAD_BYTES + length]`. `None` where they begin
+/// with none, also where they end before the frame does. Only the head and the second UUID are looked at, never the
+/// payload.
 pub fn read_frame(bytes: &[u8]) -> Option<Frame>
     ensures found { IfSome result (λ f.
         BeginsWithFrame bytes.now f.uuid (slice_range bytes.now head_size (head_size + f.length))) }

@@ -26,7 +26,7 @@ pub struct Locator {
     pub extent: u32,
     /// Where in the extent the frame begins, in bytes.
     pub offset: u32,
-    /// The length of the payload, in bytes. The frame is 38 bytes longer.
+    /// The length of the payload, in bytes. The frame is `FRAME_OVERHEAD` bytes longer.
     pub length: u32,
     /// The UUID of the frame.
     pub uuid: Uuid,

@@ -22,8 +22,8 @@ pub enum FrameFault {
     OutOfMemory,
 }
 
-/// Appends the frame of a UUID and a payload, 38 bytes more than the payload has. Its faults in their order: `TooLong`,
-/// then `OutOfMemory`. After either `out` is as it was.
+/// Appends the frame of a UUID and a payload, `FRAME_OVERHEAD` bytes more than the payload has. Its faults in their
+/// order: `TooLong`, then `OutOfMemory`. After either `out` is as it was.
 pub fn write_frame(out: &mut Vec<u8>, uuid: Uuid, payload: &[u8]) -> Result<(), FrameFault>
     ensures ok { OnOk result (out.new.items ≡ out.old.items ++ frame uuid payload.now) }
     ensures fits { OnOk result (length payload.now ≤ longest_payload) }

@@ -1,0 +1,2 @@
+-- Lemmas on what the builders put.
+pub mod Built

@@ -1,0 +1,22 @@
+//! For tests: raw images, writers and page sources that misbehave or count, and builders that put frames, records and
+//! runs on disks in memory. What is found on such disks is left to the tests.
+#![tactic(auto)]
+
+pub mod disk;
+pub mod raw;
+pub mod samples;
+pub mod source;
+pub mod writer;
+
+pub use disk::{
+    mark_bad, plan_of, put, put_chunk, put_frame, put_record, put_superblock, run_of, small_disk,
+    small_geometry,
+};
+pub use raw::RawBytes;
+pub use samples::{ABC_DIGEST, ENDS_IN_MAGIC, FOURS, ONES, SHARD, THREES, TWOS, abc_at, shard_of};
+pub use source::CountingSource;
+pub use std::alloc::AllocError as OutOfMemory;
+pub use writer::NarrowWriter;
+
+#[cfg(test)]
+mod tests;
