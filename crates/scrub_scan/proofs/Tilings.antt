@@ -3,6 +3,7 @@ use Rattle.std.proofs.Common.{◌≡◌, ◌<◌, ◌≤◌, ◌+◌, ◌*◌, �
 use Rattle.std.proofs.Math.Nat.{mod-lt}
 use Rattle.std.proofs.lemmas.Nat.{div-add-mod'}
 use Rattle.std.proofs.lemmas.List.Elements.{All-push, All-head, All-tail}
+use Rattle.scrub_frame.specs.Frame.{frame_overhead}
 use Rattle.scrub_scan.specs.declared.item.Item.{Item}
 use Rattle.scrub_scan.specs.declared.item.Item.TheVariants.{Chunk, Pad, Torn, Noise, Lost}
 use Rattle.sha2.specs.Sha256.{sha256}
@@ -54,7 +55,7 @@ same_chunk : (x : Extent) (p a b : ℕ) (u : List ℕ) (n : ℕ) (d : List ℕ) 
 same_chunk x p a b u n d a' b' v m f h k =
     let s : (u ≡ v) × (h.1.0 ≡ k.1.0) = one_frame_at x p u v h.1.0 k.1.0 h.1.1.frame k.1.1.frame in
     let e : n ≡ m = h.1.1.length ∙ ap length s.1 ∙ sym k.1.1.length in
-    let stop : b ≡ b' = h.1.1.stop ∙ ap (λ t. p + length t + 38) s.1 ∙ sym k.1.1.stop in
+    let stop : b ≡ b' = h.1.1.stop ∙ ap (λ t. p + length t + frame_overhead) s.1 ∙ sym k.1.1.stop in
     let sha : d ≡ f = h.1.1.digest_is ∙ ap sha256 s.1 ∙ sym k.1.1.digest_is in
     ap (λ z. Chunk z b u n d) (h.0 ∙ sym k.0) ∙ ap (λ z. Chunk a' z u n d) stop ∙ ap (λ z. Chunk a' b' z n d) s.0 ∙ ap (λ z. Chunk a' b' v z d) e ∙ ap (λ z. Chunk a' b' v m z) sha
 

@@ -4,7 +4,7 @@ use Rattle.std.proofs.lemmas.Nat.{div_below}
 use Rattle.std.proofs.lemmas.Option.{slice_get-get_or, get_or_from_slice_get}
 use Rattle.std.proofs.lemmas.List.Edits.{length-between, get_or-between}
 use Rattle.std.proofs.lemmas.List.Prefix.{front_from_reads, front_reads, front_fits}
-use Rattle.scrub_frame.specs.Frame.{frame, BeginsWithFrame}
+use Rattle.scrub_frame.specs.Frame.{frame, BeginsWithFrame, head_size, frame_overhead}
 use Rattle.scrub_frame.proofs.Frames.{one_frame_lem, length-frame}
 use Rattle.scrub_scan.specs.declared.buffer.ScanView.{ScanView}
 use Rattle.scrub_scan.specs.Extent.{FrameAt, NoFrameAt}
@@ -41,12 +41,12 @@ bytes_begin x p u b h = record {
     room : length (bytes_from x p) ≡ x.pointer - p
     room = length-between x.bytes.now p x.pointer x.within
 
-    size : length (frame u b) ≡ 38 + length b
+    size : length (frame u b) ≡ frame_overhead + length b
     size = length-frame u b h.has_frame.sixteen
 
 -- the bytes begin with a frame, and all of it is readable
 frame_stands : (x : ScanView) (p : ℕ) (u b : List ℕ) → p < x.pointer → BeginsWithFrame (bytes_from x p) u b →
-    ((i : ℕ) → p ≤ i → i < p + length b + 38 → get_or x.readable.now (i / x.page) false ≡ true) → FrameAt (viewed_extent x) p u b
+    ((i : ℕ) → p ≤ i → i < p + length b + frame_overhead → get_or x.readable.now (i / x.page) false ≡ true) → FrameAt (viewed_extent x) p u b
 frame_stands x p u b below h readable = record {
   has_frame = h.has_frame;
   fits = omega (arith, whole, size, room, below);
@@ -61,14 +61,14 @@ frame_stands x p u b below h readable = record {
     whole : length (frame u b) ≤ length (bytes_from x p)
     whole = front_fits (bytes_from x p) (frame u b) h.rest h.spelled
 
-    size : length (frame u b) ≡ 38 + length b
+    size : length (frame u b) ≡ frame_overhead + length b
     size = length-frame u b h.has_frame.sixteen
 
 -- where a frame stands its pages are readable
 frame_readable : (x : ScanView) (p : ℕ) (u b : List ℕ) → FrameAt (viewed_extent x) p u b →
-    (i : ℕ) → p ≤ i → i < p + length b + 38 → get_or x.readable.now (i / x.page) false ≡ true
+    (i : ℕ) → p ≤ i → i < p + length b + frame_overhead → get_or x.readable.now (i / x.page) false ≡ true
 frame_readable x p u b h i low high =
-    let size : length (frame u b) ≡ 38 + length b = length-frame u b h.has_frame.sixteen in
+    let size : length (frame u b) ≡ frame_overhead + length b = length-frame u b h.has_frame.sixteen in
     let place : p + (i - p) ≡ i = omega (arith, low) in
     rw (← place) ((byte_reads x (p + (i - p)) (get_or (frame u b) (i - p) 0) (h.stands (i - p) (omega (arith, high, low, size)))).0)
 
@@ -76,34 +76,34 @@ frame_readable x p u b h i low high =
 
 -- a frame that the bytes begin with, whose payload has n bytes
 abbrev pub FrameFound : ScanView → ℕ → List ℕ → ℕ → Type 0
-FrameFound x p u n = BeginsWithFrame (bytes_from x p) u (payload_from x p n) × (n + 38 ≤ length (bytes_from x p))
+FrameFound x p u n = BeginsWithFrame (bytes_from x p) u (payload_from x p n) × (n + frame_overhead ≤ length (bytes_from x p))
 
 length-payload : (x : ScanView) (p : ℕ) (u : List ℕ) (n : ℕ) → FrameFound x p u n → length (payload_from x p n) ≡ n
-length-payload x p u n h = length-between (bytes_from x p) 22 (22 + n) (omega (arith, h.1)) ∙ (let e : 22 + n - 22 ≡ n = omega arith in e)
+length-payload x p u n h = length-between (bytes_from x p) head_size (head_size + n) (omega (arith, h.1)) ∙ (let e : head_size + n - head_size ≡ n = omega arith in e)
 
 -- it ends at or before the pointer
-pub found_fits : (x : ScanView) (p : ℕ) (u : List ℕ) (n : ℕ) → p < x.pointer → FrameFound x p u n → p + n + 38 ≤ x.pointer
+pub found_fits : (x : ScanView) (p : ℕ) (u : List ℕ) (n : ℕ) → p < x.pointer → FrameFound x p u n → p + n + frame_overhead ≤ x.pointer
 found_fits x p u n below h = omega (arith, h.1, length-between x.bytes.now p x.pointer x.within, below)
 
 -- its last page is one of the extent's
-pub found_last_page : (x : ScanView) (p : ℕ) (u : List ℕ) (n : ℕ) → p < x.pointer → FrameFound x p u n → (p + n + 37) / x.page < length x.readable.now
+pub found_last_page : (x : ScanView) (p : ℕ) (u : List ℕ) (n : ℕ) → p < x.pointer → FrameFound x p u n → (p + n + frame_overhead - 1) / x.page < length x.readable.now
 found_last_page x p u n below h =
-    div_below (p + n + 37) x.page (length x.readable.now) x.positive (omega (arith, found_fits x p u n below h, x.whole, x.within))
+    div_below (p + n + frame_overhead - 1) x.page (length x.readable.now) x.positive (omega (arith, found_fits x p u n below h, x.whole, x.within))
 
 -- where its pages are readable it stands there
 pub found_stands : (x : ScanView) (p : ℕ) (u : List ℕ) (n : ℕ) → p < x.pointer → FrameFound x p u n →
-    AreReadable x (p / x.page) ((p + n + 37) / x.page) → FrameAt (viewed_extent x) p u (payload_from x p n)
+    AreReadable x (p / x.page) ((p + n + frame_overhead - 1) / x.page) → FrameAt (viewed_extent x) p u (payload_from x p n)
 found_stands x p u n below h readable =
     frame_stands x p u (payload_from x p n) below h.0
     (λ i low high. readable (i / x.page) (page_rises p i x.page x.positive low)
-    (page_rises i (p + n + 37) x.page x.positive (omega (arith, high, length-payload x p u n h))))
+    (page_rises i (p + n + frame_overhead - 1) x.page x.positive (omega (arith, high, length-payload x p u n h))))
 
 -- and else no frame stands there
 pub none_stands : (x : ScanView) (p : ℕ) (u : List ℕ) (n : ℕ) → p < x.pointer → FrameFound x p u n →
-    (AreReadable x (p / x.page) ((p + n + 37) / x.page) → ⊥) → NoFrameAt (viewed_extent x) p
+    (AreReadable x (p / x.page) ((p + n + frame_overhead - 1) / x.page) → ⊥) → NoFrameAt (viewed_extent x) p
 none_stands x p u n below h unreadable v c f =
     let same : length (payload_from x p n) ≡ length c = ap length (one_frame_lem (bytes_from x p) u (payload_from x p n) v c h.0 (bytes_begin x p v c f)).1 in
     unreadable (λ q low high.
-    let here : (i : ℕ) × (p ≤ i) × (i < p + n + 38) × (i / x.page ≡ q) =
-    place_in_page q p (p + n + 38) x.page x.positive (omega arith) low (let e : p + n + 38 - 1 ≡ p + n + 37 = omega arith in rw e high) in
+    let here : (i : ℕ) × (p ≤ i) × (i < p + n + frame_overhead) × (i / x.page ≡ q) =
+    place_in_page q p (p + n + frame_overhead) x.page x.positive (omega arith) low high in
     rw (← here.3) (frame_readable x p v c f here.0 here.1 (omega (arith, here.2, same, length-payload x p u n h))))

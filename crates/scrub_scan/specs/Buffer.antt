@@ -1,5 +1,6 @@
 -- An extent in memory: its bytes, which of its pages are readable, and for each page the next one that isn't.
-use Rattle.std.specs.Prelude.{◌≡◌, ◌<◌, ◌≤◌, ◌/◌, ℕ, List, Bool, true, false, Option, None, length, slice_get, slice_index, slice_index_or, if◌then◌else◌}
+use Rattle.std.specs.Prelude.{◌≡◌, ◌<◌, ◌≤◌, ◌/◌, ℕ, List, Bool, true, false, Option, None, length, slice_get, slice_index, slice_index_or, if◌then◌else◌, is_none, not}
+use Rattle.scrub_disk.specs.Image.{Image}
 use Rattle.scrub_disk.specs.NextUnreadable.{IsNextUnreadable}
 use Rattle.scrub_scan.specs.Extent.{Extent}
 
@@ -9,6 +10,10 @@ buffered_byte page bytes readable i = if slice_index_or readable (i / page) fals
 
 abbrev pub buffered_extent : ℕ → List ℕ → List Bool → ℕ → Extent
 buffered_extent page bytes readable pointer = record { byte = buffered_byte page bytes readable; page = page; pointer = pointer }
+
+-- the list says of each page of extent e whether it is readable
+abbrev pub AreMarks : Image → ℕ → List Bool → Type 0
+AreMarks image e readable = (q : ℕ) → q < image.geometry.pages → is_none (image.page e q) ≡ not (slice_index_or readable q false)
 
 -- the list says this of each page
 pub record AreNextUnreadable (readable : List Bool) (next : List ℕ) : Type 0 where

@@ -1,7 +1,7 @@
 -- One extent under its write pointer, and what stands at a place of it.
 use Rattle.std.specs.Prelude.{◌≡◌, ◌<◌, ◌≤◌, ◌+◌, ◌*◌, ◌/◌, ℕ, min, List, ◌++◌, length, Option, Some, None}
 use Rattle.scrub_disk.specs.Image.{Image, byte, AreBytesAt}
-use Rattle.scrub_frame.specs.Frame.{frame, frame_magic, HasFrame}
+use Rattle.scrub_frame.specs.Frame.{frame, frame_magic, frame_overhead, HasFrame}
 
 -- an extent: each byte of it, None where its page is unreadable; the bytes of a page; the write pointer, in bytes
 pub record Extent : Type 0 where
@@ -16,7 +16,7 @@ extent_of image e w = record { byte = byte image e; page = image.geometry.page; 
 -- the frame of u and b stands at p, all of it readable, and ends at or before the pointer
 pub record FrameAt (x : Extent) (p : ℕ) (u b : List ℕ) : Type 0 where
   pub has_frame : HasFrame u b
-  pub fits : p + length b + 38 ≤ x.pointer
+  pub fits : p + length b + frame_overhead ≤ x.pointer
   pub stands : AreBytesAt x.byte p (frame u b)
 
 -- the least of the pointer and the next page bound above p

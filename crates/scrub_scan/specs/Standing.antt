@@ -1,8 +1,9 @@
 -- A frame that stands at a place of an extent, and its payload.
-use Rattle.std.specs.Prelude.{◌≡◌, ◌<◌, ◌≤◌, ℕ, List}
+use Rattle.std.specs.Prelude.{◌≡◌, ◌<◌, ◌+◌, ℕ, List}
 use Rattle.std.specs.Prelude.{length as len}
 use Rattle.sha2.specs.Sha256.{sha256}
 use Rattle.scrub_disk.specs.Image.{Image, extent_bytes}
+use Rattle.scrub_frame.specs.Frame.{frame_overhead}
 use Rattle.scrub_scan.specs.declared.standing.Standing.{Standing}
 use Rattle.scrub_scan.specs.Extent.{extent_of, FrameAt}
 
@@ -19,14 +20,16 @@ pub record IsStandingAt (image : Image) (pointer extent offset : ℕ) (s : Stand
   pub payload : List ℕ
   pub frame : IsFrameOf image pointer s payload
 
--- it has this payload in the image, under some pointer of the extent
+-- it has this payload in the image, and ends in its extent
 pub record HasPayload (image : Image) (s : Standing) (payload : List ℕ) : Type 0 where
   pub in_disk : s.extent < image.geometry.extents
-  pub pointer : ℕ
-  pub in_extent : pointer ≤ extent_bytes image.geometry
-  pub frame : IsFrameOf image pointer s payload
+  pub frame : IsFrameOf image (extent_bytes image.geometry) s payload
 
 -- it stands in the image
 pub record Stands (image : Image) (s : Standing) : Type 0 where
   pub payload : List ℕ
   pub has : HasPayload image s payload
+
+-- so many bytes has whatever frame stands at this place, under whichever pointer
+abbrev pub IsClaimedSize : Image → ℕ → ℕ → ℕ → Type 0
+IsClaimedSize image e offset n = (w : ℕ) (u b : List ℕ) → FrameAt (extent_of image e w) offset u b → n ≡ len b + frame_overhead

@@ -1,5 +1,6 @@
 -- An extent in memory, as an extent, and the parts of it that its reader looks at.
 use Rattle.std.specs.Prelude.{◌≡◌, ◌≤◌, ◌+◌, ℕ, List, true, false, slice_range, slice_index_or}
+use Rattle.scrub_frame.specs.Frame.{head_size}
 use Rattle.scrub_scan.specs.declared.buffer.ScanView.{ScanView}
 use Rattle.scrub_scan.specs.Buffer.{buffered_extent}
 use Rattle.scrub_scan.specs.Extent.{Extent}
@@ -14,7 +15,7 @@ bytes_from b p = slice_range b.bytes.now p b.pointer
 
 -- of these, the payload of n bytes behind a frame's head
 abbrev pub payload_from : ScanView → ℕ → ℕ → List ℕ
-payload_from b p n = slice_range (bytes_from b p) 22 (22 + n)
+payload_from b p n = slice_range (bytes_from b p) head_size (head_size + n)
 
 -- the pages from the first through the last could be read
 abbrev pub AreReadable : ScanView → ℕ → ℕ → Type 0

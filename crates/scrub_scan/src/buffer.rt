@@ -1,13 +1,14 @@
 //! An extent that is read whole into memory, and what stands at a place of it. Which item that makes is left to the
 //! tiling.
 
-ghost use Rattle.std.specs.Prelude.{◌≡◌, ℕ, ◌+◌, ◌*◌, ◌/◌, ◌^◌, ◌<◌, ◌≤◌, ◌↔◌, not, false, is_none, length, IsTrue, IfSome, IfNone, IfOk, slice_index, slice_index_or};
+ghost use Rattle.std.specs.Prelude.{◌≡◌, ◌+◌, ◌*◌, ◌^◌, ◌<◌, ◌≤◌, ◌↔◌, length, IsTrue, IfSome, IfNone, IfOk};
 ghost use Rattle.scrub_disk.specs.Image.{byte, extent_bytes};
+ghost use Rattle.scrub_frame.specs.Frame.{frame_overhead};
 ghost use Rattle.scrub_scan.specs.Extent.{FrameAt, NoFrameAt, bound};
-ghost use Rattle.scrub_scan.specs.Buffer.{buffered_byte, AreNextUnreadable};
+ghost use Rattle.scrub_scan.specs.Buffer.{buffered_byte, AreMarks, AreNextUnreadable};
 
 use scrub_disk::{BufferedExtent, OutOfMemory, PageSource, read_extent};
-use scrub_frame::{Frame, read_frame};
+use scrub_frame::{FRAME_OVERHEAD, Frame, read_frame};
 use std::alloc::Global;
 
 /// The bytes of an extent, and which of its pages could be read. The bytes of a page that could not are zeros and mean
@@ -72,8 +73,7 @@ impl ScanBuffer {
         ensures page { IfOk result (λ b. b.page ≡ (D.image disk.now).geometry.page) }
         ensures bytes { IfOk result (λ b. length b.bytes.items ≡ extent_bytes (D.image disk.now).geometry) }
         ensures pages { IfOk result (λ b. length b.readable.items ≡ (D.image disk.now).geometry.pages) }
-        ensures readable { IfOk result (λ b. (q : ℕ) → q < (D.image disk.now).geometry.pages →
-            is_none ((D.image disk.now).page extent q) ≡ not (slice_index_or b.readable.items q false)) }
+        ensures readable { IfOk result (λ b. AreMarks (D.image disk.now) extent b.readable.items) }
         ensures image { IfOk result (λ b. buffered_byte (D.image disk.now).geometry.page b.bytes.items b.readable.items ≡ byte (D.image disk.now) extent) }
     {
         let page = disk.geometry().page() as usize;
@@ -121,11 +121,11 @@ impl ScanView<'_> {
     pub fn frame_at(&self, start: usize) -> Option<Frame>
         requires { start < self.now.pointer }
         ensures found { IfSome result (λ f. FrameAt (viewed_extent self.now) start f.uuid (payload_from self.now start f.length)) }
-        ensures fits { IfSome result (λ f. start + f.length + 38 ≤ self.now.pointer) }
+        ensures fits { IfSome result (λ f. start + f.length + frame_overhead ≤ self.now.pointer) }
         ensures none { IfNone result (NoFrameAt (viewed_extent self.now) start) }
     {
         let frame = read_frame(&self.bytes[start..self.pointer])?;
-        let last = (start + frame.length as usize + 37) / self.page;
+        let last = (start + frame.length as usize + FRAME_OVERHEAD - 1) / self.page;
         if !self.are_readable(start / self.page, last) {
             return None;
         }

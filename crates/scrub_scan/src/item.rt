@@ -12,8 +12,8 @@ use uuid::Uuid;
 /// but a chunk stop at the next page bound above their start, or at the write pointer where that comes first.
 #[derive(Debug, Clone, Copy, PartialEq, Eq)]
 pub enum Item {
-    /// A whole frame on readable pages, with its UUID, the length of its payload in bytes (`stop` is 38 bytes further than
-    /// that), and the SHA-256 of its payload. Nothing says that the payload is what its writer meant.
+    /// A whole frame on readable pages, with its UUID, the length of its payload in bytes (`stop` is
+    /// `FRAME_OVERHEAD` bytes further than that), and the SHA-256 of its payload. Nothing says that the payload is what its writer meant.
     Chunk {
         start: u32,
         stop: u32,

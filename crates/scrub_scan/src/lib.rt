@@ -18,7 +18,7 @@ pub use extent_result::ExtentResult;
 pub use findings::{Findings, PageNumbers};
 pub use item::{Item, Items, item_line};
 pub use scanning::{scan_extent, scan_in_order};
-pub use standing::{Standing, frame_stands, read_payload};
+pub use standing::{Standing, frame_stands, one_frame_stands, read_payload};
 pub use tiling::{one_tiling, tile};
 
 #[cfg(test)]

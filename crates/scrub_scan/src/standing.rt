@@ -1,13 +1,14 @@
 //! The frame at a given place of an extent, without the tiling. Whether an item begins there is left to the crates above.
 
-ghost use Rattle.std.specs.Prelude.{◌≡◌, ◌+◌, ◌<◌, ◌≤◌, ◌^◌, ℕ, List, length, IfOk, IfSome, IfNone};
-ghost use Rattle.scrub_disk.specs.Image.{extent_bytes};
+ghost use Rattle.std.specs.Prelude.{◌≡◌, ◌+◌, ◌<◌, ◌≤◌, ◌^◌, ℕ, List, IfOk, IfSome, IfNone};
+ghost use Rattle.scrub_disk.specs.Image.{Image, extent_bytes};
+ghost use Rattle.scrub_frame.specs.Frame.{head_size, frame_overhead};
 ghost use Rattle.scrub_scan.specs.Extent.{extent_of, FrameAt, NoFrameAt};
-ghost use Rattle.scrub_scan.specs.Standing.{IsStandingAt, Stands, HasPayload};
+ghost use Rattle.scrub_scan.specs.Standing.{IsStandingAt, IsClaimedSize, Stands, HasPayload};
 
 use crate::reading::read_bytes;
 use scrub_disk::{OutOfMemory, PageSource};
-use scrub_frame::{digest_of, read_frame, read_head};
+use scrub_frame::{FRAME_OVERHEAD, HEAD_BYTES, digest_of, read_frame, read_head};
 use std::alloc::Global;
 use uuid::Uuid;
 
@@ -34,20 +35,20 @@ fn claimed_size<D: PageSource>(
     offset: u32,
 ) -> Result<Option<usize>, OutOfMemory>
     requires in_extents { extent < (D.image disk.now).geometry.extents }
-    requires in_extent { offset + 22 ≤ extent_bytes (D.image disk.now).geometry }
-    ensures claimed { IfOk result (λ size. IfSome size (λ n. (w : ℕ) (u b : List ℕ) → FrameAt (extent_of (D.image disk.now) extent w) offset u b → n ≡ length b + 38)) }
+    requires in_extent { offset + head_size ≤ extent_bytes (D.image disk.now).geometry }
+    ensures claimed { IfOk result (λ size. IfSome size (IsClaimedSize (D.image disk.now) extent offset)) }
     ensures none { IfOk result (λ size. IfNone size ((w : ℕ) → NoFrameAt (extent_of (D.image disk.now) extent w) offset)) }
-    ensures some { IfOk result (λ size. IfSome size (λ n. 38 ≤ n)) }
+    ensures some { IfOk result (λ size. IfSome size (λ n. frame_overhead ≤ n)) }
     ensures small { IfOk result (λ size. IfSome size (λ n. n < 2 ^ 33)) }
 {
-    let Some(bytes) = read_bytes(alloc, disk, extent, offset as usize, 22)? else {
+    let Some(bytes) = read_bytes(alloc, disk, extent, offset as usize, HEAD_BYTES)? else {
         return Ok(None);
     };
-    let Some(head) = bytes.first_chunk::<22>() else {
+    let Some(head) = bytes.first_chunk::<HEAD_BYTES>() else {
         return Ok(None);
     };
     match read_head(head) {
-        Some(head) => Ok(Some(head.length as usize + 38)),
+        Some(head) => Ok(Some(head.length as usize + FRAME_OVERHEAD)),
         None => Ok(None),
     }
 }
@@ -67,7 +68,7 @@ pub fn frame_stands<D: PageSource>(
     ensures found { IfOk result (λ found. IfSome found (IsStandingAt (D.image disk.now) pointer extent offset)) }
     ensures none { IfOk result (λ found. IfNone found (NoFrameAt (extent_of (D.image disk.now) extent pointer) offset)) }
 {
-    if (offset as usize) + 38 > pointer as usize {
+    if (offset as usize) + FRAME_OVERHEAD > pointer as usize {
         return Ok(None);
     }
     let Some(size) = claimed_size(alloc, disk, extent, offset)? else {
@@ -85,7 +86,7 @@ pub fn frame_stands<D: PageSource>(
             offset,
             uuid: frame.uuid,
             length: frame.length,
-            digest: digest_of(&bytes[22..22 + frame.length as usize]),
+            digest: digest_of(&bytes[HEAD_BYTES..HEAD_BYTES + frame.length as usize]),
         })),
         None => Ok(None),
     }
@@ -100,7 +101,7 @@ pub fn read_payload<D: PageSource>(
     requires { Stands (D.image disk.now) standing.now }
     ensures { IfOk result (λ payload. HasPayload (D.image disk.now) standing.now payload.items) }
 {
-    let start = standing.offset as usize + 22;
+    let start = standing.offset as usize + HEAD_BYTES;
     match read_bytes(
         alloc,
         disk,
@@ -112,3 +113,10 @@ pub fn read_payload<D: PageSource>(
         None => unreachable!(),
     }
 }
+
+/// A law: at a place of an extent one frame stands at most, under whichever pointers it is judged. So what `frame_stands`
+/// finds and what `read_payload` gives is the frame that stands there.
+pub fn one_frame_stands()
+    ensures { (image : Image) (e v w place : ℕ) (t u b c : List ℕ) →
+        FrameAt (extent_of image e v) place t b → FrameAt (extent_of image e w) place u c → (t ≡ u) × (b ≡ c) }
+{}

@@ -2,6 +2,7 @@
 
 ghost use Rattle.std.specs.Prelude.{◌≡◌, ◌+◌, ◌<◌, ◌≤◌, ◌↔◌, ℕ, List, length, IsTrue, IfOk, slice_index};
 ghost use Rattle.scrub_disk.specs.Image.{extent_bytes};
+ghost use Rattle.scrub_frame.specs.Frame.{frame_overhead};
 ghost use Rattle.scrub_scan.specs.declared.item.Item.{Item};
 ghost use Rattle.scrub_scan.specs.Extent.{Extent, extent_of, FrameAt, NoFrameAt};
 ghost use Rattle.scrub_scan.specs.View.{viewed_extent, payload_from};
@@ -11,7 +12,7 @@ ghost use Rattle.scrub_scan.specs.Tiling.{IsTiling};
 use crate::buffer::{ScanBuffer, ScanView};
 use crate::item::{Item, Items};
 use scrub_disk::{OutOfMemory, PageSource};
-use scrub_frame::{Frame, MAGIC, digest_of};
+use scrub_frame::{FRAME_OVERHEAD, Frame, HEAD_BYTES, MAGIC, digest_of};
 use std::alloc::Global;
 
 /// Whether all bytes of a part are zero.
@@ -32,15 +33,15 @@ fn has_magic(part: &[u8]) -> bool
 fn chunk_at(extent: &ScanView, start: usize, frame: Frame) -> Item
     requires below { start < extent.now.pointer }
     requires stands { FrameAt (viewed_extent extent.now) start frame.uuid (payload_from extent.now start frame.length) }
-    requires fits { start + frame.length + 38 ≤ extent.now.pointer }
+    requires fits { start + frame.length + frame_overhead ≤ extent.now.pointer }
     ensures start { start_of result ≡ start }
     ensures item { IsItem (viewed_extent extent.now) result }
 {
     let size = frame.length as usize;
-    let digest = digest_of(&extent.bytes[start..extent.pointer][22..22 + size]);
+    let digest = digest_of(&extent.bytes[start..extent.pointer][HEAD_BYTES..HEAD_BYTES + size]);
     Item::Chunk {
         start: start as u32,
-        stop: (start + size + 38) as u32,
+        stop: (start + size + FRAME_OVERHEAD) as u32,
         uuid: frame.uuid,
         length: frame.length,
         digest,

@@ -1,5 +1,6 @@
-use Rattle.std.proofs.Common.{arith, sym, ◌∙◌, ◌+◌}
+use Rattle.std.proofs.Common.{arith, sym, ◌∙◌, ◌+◌, ◌-◌}
 use Rattle.std.proofs.lemmas.Bool.{false≢true}
+use Rattle.scrub_frame.specs.Frame.{frame_overhead}
 use Rattle.scrub_scan.proofs.PlacePages.{page_rises}
 use Rattle.scrub_scan.proofs.ViewFrames.{bytes_begin, found_fits, found_last_page, found_stands, none_stands}
 use Rattle.scrub_scan.proofs.buffer.ScanView.frame_at.Goals as goal
@@ -10,7 +11,7 @@ returns-in_err-frame-clause-none c =
 
 pub are_readable-requires-clause-order : goal.are_readable-requires-clause-order
 are_readable-requires-clause-order c =
-    page_rises c.args.start (c.args.start + c.in_ok-frame.frame.length + 37) c.args.self.now.page c.args.self.now.positive (omega arith)
+    page_rises c.args.start (c.args.start + c.in_ok-frame.frame.length + frame_overhead - 1) c.args.self.now.page c.args.self.now.positive (omega arith)
 
 pub are_readable-requires-clause-within : goal.are_readable-requires-clause-within
 are_readable-requires-clause-within c =
