@@ -1,22 +1,17 @@
 -- Bytes of an extent that were read, and the frame that stands at their place.
-use Rattle.std.proofs.Common.{◌≡◌, ◌<◌, ◌≤◌, ◌+◌, ◌-◌, ◌^◌, ℕ, List, [], ◌++◌, length, take, get_or, arith, sym, ◌∙◌, ap, subst, Option, Some, None, length-append}
+use Rattle.std.proofs.Common.{◌≡◌, ◌<◌, ◌≤◌, ◌+◌, ◌-◌, ◌^◌, ℕ, List, [], ◌++◌, length, take, get_or, arith, sym, ◌∙◌, ap, subst, Option, Some, length-append}
 use Rattle.std.proofs.Math.Seq.{get_or-append_right}
+use Rattle.std.proofs.lemmas.Option.{none-some, same_Some}
 use Rattle.std.proofs.lemmas.List.{get_or_append_left, get_or_default, same_lists, append-nil}
 use Rattle.scrub_disk.specs.Image.{AreBytesAt}
 use Rattle.scrub_frame.specs.Frame.{frame, head, frame_magic, BeginsWithFrame, head_size, frame_overhead}
 use Rattle.scrub_frame.proofs.Frames.{frame-head, length-frame, length-head, head-injective}
 use Rattle.scrub_scan.specs.Extent.{Extent, FrameAt, HasGap}
 
-some_injective : (a b : ℕ) → Some a ≡ Some b → a ≡ b
-some_injective a b e = cc
-
-some_not_none : (a : ℕ) (o : Option ℕ) → o ≡ Some a → o ≡ None → ⊥
-some_not_none a o e f = let none : Some a ≡ None = sym e ∙ f in absurd (let no_such : ⊥ = cc in no_such)
-
--- two texts of one length at a place are one
+-- bytes of one length at a place are one
 pub same_bytes : (at : ℕ → Option ℕ) (p : ℕ) (xs ys : List ℕ) → length xs ≡ length ys → AreBytesAt at p xs → AreBytesAt at p ys → xs ≡ ys
 same_bytes at p xs ys l hx hy = same_lists xs ys l (λ k d hk.
-    get_or_default xs k d 0 hk ∙ some_injective (get_or xs k 0) (get_or ys k 0) (sym (hx k hk) ∙ hy k (omega (arith, hk, l))) ∙ get_or_default ys k 0 d (omega (arith, hk, l)))
+    get_or_default xs k d 0 hk ∙ same_Some (get_or xs k 0) (get_or ys k 0) (sym (hx k hk) ∙ hy k (omega (arith, hk, l))) ∙ get_or_default ys k 0 d (omega (arith, hk, l)))
 
 bytes_front : (at : ℕ → Option ℕ) (p : ℕ) (xs ys : List ℕ) → AreBytesAt at p (xs ++ ys) → AreBytesAt at p xs
 bytes_front at p xs ys h k hk = h k (omega (arith, hk, length-append xs ys)) ∙ ap Some (get_or_append_left xs ys 0 k hk)
@@ -35,7 +30,7 @@ pub no_gap : (x : Extent) (p n : ℕ) (u b : List ℕ) → FrameAt x p u b → n
 no_gap x p n u b f within gap =
     let lf : length (frame u b) ≡ frame_overhead + length b = length-frame u b f.has_frame.sixteen in
     let k : p + (gap.place - p) ≡ gap.place = omega (arith, gap.low) in
-    some_not_none (get_or (frame u b) (gap.place - p) 0) (x.byte gap.place) (ap x.byte (sym k) ∙ f.stands (gap.place - p) (omega (arith, gap.low, gap.high, within, lf))) gap.unreadable
+    none-some (get_or (frame u b) (gap.place - p) 0) (sym gap.unreadable ∙ ap x.byte (sym k) ∙ f.stands (gap.place - p) (omega (arith, gap.low, gap.high, within, lf)))
 
 -- what was read as a head is the frame's
 pub head_read : (x : Extent) (p : ℕ) (u b bytes : List ℕ) → FrameAt x p u b → length bytes ≡ head_size → AreBytesAt x.byte p bytes → bytes ≡ head u (length b)

@@ -1,5 +1,5 @@
 -- An extent in memory: its bytes, which of its pages are readable, and for each page the next one that isn't.
-use Rattle.std.specs.Prelude.{◌≡◌, ◌<◌, ◌≤◌, ◌/◌, ℕ, List, Bool, true, false, Option, None, length, slice_get, slice_index, slice_index_or, if◌then◌else◌, is_none, not}
+use Rattle.std.specs.Prelude.{◌≡◌, ◌<◌, ◌/◌, ℕ, List, Bool, false, Option, None, length, slice_get, slice_index, slice_index_or, if◌then◌else◌, is_none, not}
 use Rattle.scrub_disk.specs.Image.{Image}
 use Rattle.scrub_disk.specs.NextUnreadable.{IsNextUnreadable}
 use Rattle.scrub_scan.specs.Extent.{Extent}

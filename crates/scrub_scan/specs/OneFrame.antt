@@ -1,6 +1,7 @@
 -- One frame at most stands at a place.
-use Rattle.std.proofs.Common.{◌≡◌, ◌≤◌, ◌+◌, ℕ, List, [], length, get_or, drop, arith, sym, ◌∙◌, inl, inr, Some}
+use Rattle.std.proofs.Common.{◌≡◌, ◌≤◌, ◌+◌, ℕ, List, [], length, get_or, drop, arith, sym, ◌∙◌, inl, inr}
 use Rattle.std.proofs.lemmas.Bool.{cases_lt}
+use Rattle.std.proofs.lemmas.Option.{same_Some}
 use Rattle.std.proofs.lemmas.List.{append-nil}
 use Rattle.std.proofs.lemmas.List.Prefix.{front_from_reads}
 use Rattle.scrub_frame.specs.Frame.{frame, frame_overhead}
@@ -18,12 +19,9 @@ shorter_frame x p u v b c le h k =
       has_frame = h.has_frame;
       rest = drop (length (frame u b)) (frame v c);
       spelled = front_from_reads 0 (frame v c) (frame u b) (omega (arith, lu, lv, le))
-          (λ i hi. some_same (get_or (frame v c) i 0) (get_or (frame u b) i 0) (sym (k.stands i (omega (arith, hi, lu, lv, le))) ∙ h.stands i hi));
+          (λ i hi. same_Some (get_or (frame v c) i 0) (get_or (frame u b) i 0) (sym (k.stands i (omega (arith, hi, lu, lv, le))) ∙ h.stands i hi));
     })
     (record { has_frame = k.has_frame; rest = []; spelled = sym (append-nil (frame v c)) })
-  where
-    some_same : (a b : ℕ) → Some a ≡ Some b → a ≡ b
-    some_same a b e = cc
 
 pub one_frame_at : (x : Extent) (p : ℕ) (u v b c : List ℕ) → FrameAt x p u b → FrameAt x p v c → (u ≡ v) × (b ≡ c)
 one_frame_at x p u v b c h k = elim (cases_lt (length c) (length b)) [

@@ -16,7 +16,8 @@ pub struct ExtentResult<'d, D: PageSource> {
     extent: u32,
     pointer: u32,
     findings: Findings,
-    ghost found: { IsFindings (D.image source.now) extent pointer findings } by { IsFindings-prop (D.image source.now) extent pointer findings },
+    ghost found: { IsFindings (D.image source.now) extent pointer findings } by { IsFindings-prop
+        (D.image source.now) extent pointer findings },
 }
 
 impl<'d, D: PageSource> ExtentResult<'d, D> {
