@@ -1,11 +1,12 @@
 -- What a writer holds after several writes.
-use Rattle.std.proofs.Common.{◌≡◌, List, ◌++◌, ℕ, ◌+◌, ◌-◌, ◌≤◌, length, take, drop, Option, None, Some, append_assoc, ap, ◌∙◌, sym, arith, length-take, length-drop}
-use Rattle.std.proofs.lemmas.List.{take-take}
-use Rattle.std.proofs.Math.Seq.{take-add}
+use Rattle.std.proofs.Common.{◌≡◌, List, ◌++◌, ℕ, ◌+◌, ◌-◌, ◌≤◌, length, take, drop, Option, None, Some, append_assoc, ap, subst, refl, ◌∙◌, sym, OnOk, Result, Ok, Err, arith, length-take, length-drop}
+use Rattle.std.proofs.lemmas.List.{take-take, take-append-drop}
+use Rattle.std.proofs.Math.Seq.{take-add, take-append_seam, take-append-add, take-length}
 use Rattle.std.specs.Io.KnownBytes.{Appends}
+use Rattle.scrub_cli.specs.Writing.{AppendsFront}
 
 -- where one part was appended and then another, both were
-appends_twice : (old mid new : Option (List ℕ)) (first second both : List ℕ) →
+pub appends_twice : (old mid new : Option (List ℕ)) (first second both : List ℕ) →
     Appends old mid first → Appends mid new second → both ≡ first ++ second → Appends old new both
 appends_twice None mid new first second both before now joined = tt
 appends_twice (Some xs) None new first second both before now joined = absurd before
@@ -24,3 +25,28 @@ appends_next old mid new bytes n k within bound before now =
     let left = take-take k (length bytes - n) (drop n bytes) room in
     let joined = take-add n k bytes ∙ ap (λ u. take n bytes ++ u) (sym left) in
     (omega (arith, room, within), appends_twice old mid new (take n bytes) _ _ before now joined)
+
+-- a front of the first part is one of both
+pub front_stays : (old new : Option (List ℕ)) (first second : List ℕ) → AppendsFront old new first → AppendsFront old new (first ++ second)
+front_stays old new first second front =
+    let part = take front.0 first in
+    let rest = drop front.0 first ++ second in
+    let parted : first ++ second ≡ part ++ rest = ap (λ u. u ++ second) (sym (take-append-drop front.0 first)) ∙ append_assoc part (drop front.0 first) second in
+    let same : take (length part) (first ++ second) ≡ part = ap (take (length part)) parted ∙ take-append_seam part rest in
+    (length part, subst (Appends old new) (sym same) front.1)
+
+-- the first part, and then a front of the second
+pub front_then : (old mid new : Option (List ℕ)) (first second : List ℕ) → Appends old mid first → AppendsFront mid new second →
+    AppendsFront old new (first ++ second)
+front_then old mid new first second before front =
+    (length first + front.0, appends_twice old mid new first (take front.0 second) _ before front.1 (take-append-add first second front.0))
+
+-- all of it
+pub front_all : (old new : Option (List ℕ)) (text : List ℕ) → Appends old new text → AppendsFront old new text
+front_all old new text all = (length text, subst (Appends old new) (sym (take-length text)) all)
+
+-- the same of a write that went well
+pub ok_then : {T E : Type 0} (r : Result T E) (old mid new : Option (List ℕ)) (first second : List ℕ) → Appends old mid first →
+    OnOk r (Appends mid new second) → OnOk r (Appends old new (first ++ second))
+ok_then (Ok x) old mid new first second before now = appends_twice old mid new first second _ before now refl
+ok_then (Err e) old mid new first second before now = tt

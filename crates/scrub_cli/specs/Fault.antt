@@ -1,11 +1,15 @@
--- Which fault comes of a fault below, and the status of each.
-use Rattle.std.specs.Prelude.{ℕ}
+-- Which fault comes of a fault below; the status of each, and its text.
+use Rattle.std.specs.Prelude.{◌≡◌, ◌++◌, ◌∷◌, [], ℕ, List, codes}
+use Rattle.std.specs.Fmt.{decimal}
+use Rattle.scrub_disk.specs.declared.geometry.GeometryFault.{GeometryFault}
+use Rattle.scrub_disk.specs.declared.geometry.GeometryFault.TheVariants.{PageSize, Pages, Extents, ExtentBytes, TotalBytes}
 use Rattle.scrub_disk.specs.declared.loading.LoadFault.{LoadFault}
 use Rattle.scrub_disk.specs.declared.loading.LoadFault.TheVariants.{TooLong as too_long, OutOfMemory as no_memory_to_load}
 use Rattle.scrub_cli.specs.declared.words.WordsFault.{WordsFault}
 use Rattle.scrub_cli.specs.declared.words.WordsFault.TheVariants.{Refused, Help as help, OutOfMemory as no_memory_to_read}
 use Rattle.scrub_cli.specs.declared.fault.Fault.{Fault}
 use Rattle.scrub_cli.specs.declared.fault.Fault.TheVariants.{NotUtf8, Help, Words, Geometry, Extent, Pointer, BadPage, NoImage, TooLong, Output, OutOfMemory}
+use Rattle.scrub_cli.specs.Writing.{AppendsFront, Held}
 
 abbrev pub fault_of_load : LoadFault → Fault
 fault_of_load no_memory_to_load = OutOfMemory
@@ -28,3 +32,33 @@ status_of (NoImage name) = 3
 status_of TooLong = 3
 status_of (Output written) = 3
 status_of OutOfMemory = 4
+
+-- a line of the program's own, with its line feed
+abbrev pub line : List ℕ → List ℕ
+line told = codes "shardscrub: " ++ told ++ 10 ∷ []
+
+abbrev pub limit_of : GeometryFault → List ℕ
+limit_of PageSize = codes "PageSize"
+limit_of Pages = codes "Pages"
+limit_of Extents = codes "Extents"
+limit_of ExtentBytes = codes "ExtentBytes"
+limit_of TotalBytes = codes "TotalBytes"
+
+-- what a fault is told with, up to its line feed; a text of `clap` has its own
+abbrev pub text_of : Fault → List ℕ
+text_of NotUtf8 = line (codes "a word is not UTF-8")
+text_of (Help text) = text.bytes.items
+text_of (Words text) = text.bytes.items
+text_of (Geometry fault) = line (codes "geometry refused: " ++ limit_of fault)
+text_of Extent = line (codes "extent out of range")
+text_of Pointer = line (codes "pointer out of range")
+text_of (BadPage word) = line (codes "bad page refused: " ++ word.now)
+text_of (NoImage name) = line (codes "image cannot be opened: " ++ name.now)
+text_of TooLong = line (codes "image too long")
+text_of (Output written) = line (codes "output failed after " ++ decimal written ++ codes " bytes")
+text_of OutOfMemory = line (codes "out of memory")
+
+-- the run ended with the fault's status, and its error stream was given the fault's text, or a front of it where it failed
+pub record IsTold (fault : Fault) (ended : ℕ) (err : Held) : Type 0 where
+  pub status : ended ≡ status_of fault
+  pub text : AppendsFront err.0 err.1 (text_of fault)

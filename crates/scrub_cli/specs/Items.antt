@@ -1,15 +1,16 @@
 -- What the command `items` answers, and why it doesn't.
-use Rattle.std.specs.Prelude.{◌≡◌, ◌<◌, ◌≤◌, ◌*◌, ℕ, List, length, take, Option, unwrap_or, slice_index_or, IfSome}
+use Rattle.std.specs.Prelude.{◌≡◌, ◌<◌, ◌≤◌, ℕ, List, length, take, unwrap_or, slice_index_or, IfSome}
 use Rattle.std.specs.Borrow.{Bor}
 use Rattle.std.specs.List.{AllZip}
 use Rattle.scrub_disk.specs.declared.geometry.Geometry.{Geometry as Sizes}
 use Rattle.scrub_disk.specs.Faults.{HasSizes, IsFirstBroken}
-use Rattle.scrub_disk.specs.Image.{Image, extent_bytes}
-use Rattle.scrub_disk.specs.Raw.{IsLoaded}
+use Rattle.scrub_disk.specs.Image.{Image, disk_bytes, extent_bytes}
+use Rattle.scrub_disk.specs.Raw.{IsLoadedWith}
 use Rattle.scrub_scan.specs.Extent.{extent_of}
 use Rattle.scrub_cli.specs.declared.fault.Fault.{Fault}
 use Rattle.scrub_cli.specs.declared.fault.Fault.TheVariants.{NotUtf8, Help, Words, Geometry, Extent, Pointer, BadPage, NoImage, TooLong, Output, OutOfMemory}
 use Rattle.scrub_cli.specs.declared.words.ItemsWords.{ItemsWords}
+use Rattle.scrub_cli.specs.Known.{KnownRaw}
 use Rattle.scrub_cli.specs.Lines.{IsListing}
 use Rattle.scrub_cli.specs.Pair.{IsPair}
 
@@ -61,25 +62,25 @@ pub record AreAccepted (words : ItemsWords) (g : Sizes) (unreadable : List (ℕ 
   pub places : AreInDisk words g
   pub named : NamePages g words.image.bad_pages.items unreadable
 
--- the listing of the extent under the pointer, in an image that was loaded from these raw bytes
-pub record IsItemsAnswer (raw : Option (List ℕ)) (words : ItemsWords) (text : List ℕ) (status : ℕ) : Type 0 where
+-- the listing of the extent under the pointer, in an image that was loaded from this raw image
+pub record IsItemsAnswer (known : KnownRaw) (words : ItemsWords) (text : List ℕ) (status : ℕ) : Type 0 where
   pub geometry : Sizes
   pub unreadable : List (ℕ × ℕ)
   pub accepted : AreAccepted words geometry unreadable
   pub image : Image
-  pub loaded : IsLoaded raw geometry unreadable image
+  pub loaded : IsLoadedWith known.bytes known.most_failures geometry unreadable image
   pub listed : IsListing (extent_of image words.extent (given_pointer words geometry)) text status
 
 -- Why there is no listing: each fault comes only where none before it does, and want of memory comes anywhere.
-abbrev pub IsItemsFault : Option (List ℕ) → ItemsWords → Fault → Type 0
-IsItemsFault raw words (Geometry fault) = IsFirstBroken words.image.page words.image.pages words.image.extents fault
-IsItemsFault raw words Extent = (g : Sizes) × HasSizes g words.image.page words.image.pages words.image.extents × (g.extents ≤ words.extent)
-IsItemsFault raw words Pointer = (g : Sizes) × HasSizes g words.image.page words.image.pages words.image.extents × (words.extent < g.extents) × (extent_bytes g < given_pointer words g)
-IsItemsFault raw words (BadPage word) = (g : Sizes) × AreInDisk words g × IsFirstBadPage g words.image.bad_pages.items word
-IsItemsFault raw words (NoImage name) = (g : Sizes) × (pages : List (ℕ × ℕ)) × AreAccepted words g pages × (name ≡ words.image.name)
-IsItemsFault raw words TooLong = (g : Sizes) × (pages : List (ℕ × ℕ)) × AreAccepted words g pages × IfSome raw (λ told. g.page * g.pages * g.extents < length told)
-IsItemsFault raw words OutOfMemory = Unit {0}
-IsItemsFault raw words NotUtf8 = ⊥
-IsItemsFault raw words (Help text) = ⊥
-IsItemsFault raw words (Words text) = ⊥
-IsItemsFault raw words (Output written) = ⊥
+abbrev pub IsItemsFault : KnownRaw → ItemsWords → Fault → Type 0
+IsItemsFault known words (Geometry fault) = IsFirstBroken words.image.page words.image.pages words.image.extents fault
+IsItemsFault known words Extent = (g : Sizes) × HasSizes g words.image.page words.image.pages words.image.extents × (g.extents ≤ words.extent)
+IsItemsFault known words Pointer = (g : Sizes) × HasSizes g words.image.page words.image.pages words.image.extents × (words.extent < g.extents) × (extent_bytes g < given_pointer words g)
+IsItemsFault known words (BadPage word) = (g : Sizes) × AreInDisk words g × IsFirstBadPage g words.image.bad_pages.items word
+IsItemsFault known words (NoImage name) = (g : Sizes) × (pages : List (ℕ × ℕ)) × AreAccepted words g pages × (name ≡ words.image.name)
+IsItemsFault known words TooLong = (g : Sizes) × (pages : List (ℕ × ℕ)) × AreAccepted words g pages × IfSome known.bytes (λ told. disk_bytes g < length told)
+IsItemsFault known words OutOfMemory = Unit {0}
+IsItemsFault known words NotUtf8 = ⊥
+IsItemsFault known words (Help text) = ⊥
+IsItemsFault known words (Words text) = ⊥
+IsItemsFault known words (Output written) = ⊥

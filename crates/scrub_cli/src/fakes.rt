@@ -9,16 +9,18 @@ use std::alloc::Global;
 use std::io;
 use std::io::{ErrorKind, Write};
 
-/// A raw image over bytes that are lent to it. One read gives few bytes, and one may fail.
+/// A raw image over bytes that are lent to it. One read gives few bytes, and some may fail.
 #[derive(Drop)]
 pub struct Bytes<'a> {
     bytes: &'a [u8],
     most: usize,
-    failing: Option<u64>,
+    failing: u64,
+    faults: u64,
     reads: u64,
     failures: u64,
     ghost gives: { 1 ≤ most },
     ghost counted: { failures ≤ reads },
+    ghost bounded: { failures ≤ faults },
 }
 
 impl RawImage for Bytes<'_> {
@@ -28,12 +30,16 @@ impl RawImage for Bytes<'_> {
 
     ghost failures = { λ image. image.failures };
 
+    ghost most_failures = { λ image. image.faults };
+
     ghost failures_are_reads = { λ image. image.counted };
+
+    ghost failures_are_bounded = { λ image. image.bounded };
 
     fn read_at(&mut self, offset: u64, out: &mut [u8]) -> Result<usize, RawFault> {
         let number = self.reads;
         self.reads += 1;
-        if self.failing == Some(number) {
+        if number >= self.failing && self.failures < self.faults {
             self.failures += 1;
             return Err(RawFault);
         }
@@ -44,30 +50,33 @@ impl RawImage for Bytes<'_> {
     }
 }
 
-/// One raw image, under the name `disk.img`.
+/// One raw image, under each name that ends in `disk.img`.
 #[derive(Drop)]
 pub struct OneImage<'a> {
     pub bytes: &'a [u8],
     /// How many bytes one read gives at most.
     pub most: usize,
-    /// Which read fails, counted from 0.
-    pub failing: Option<u64>,
+    /// The first read that fails, counted from 0, where any may fail.
+    pub failing: u64,
+    /// How many reads fail, one behind the other.
+    pub faults: u64,
     pub ghost gives: { 1 ≤ most },
 }
 
 impl<'a> Images for OneImage<'a> {
     type Image = Bytes<'a>;
 
-    ghost bytes = { λ images _. Some images.bytes.now };
+    ghost known = { λ images _. record { bytes = Some images.bytes.now; most_failures = images.faults } };
 
     fn image(&mut self, name: &str) -> Option<Bytes<'a>> {
-        if name != "disk.img" {
+        if !name.ends_with("disk.img") {
             return None;
         }
         Some(Bytes {
             bytes: self.bytes,
             most: self.most,
             failing: self.failing,
+            faults: self.faults,
             reads: 0,
             failures: 0,
         })

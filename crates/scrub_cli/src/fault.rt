@@ -1,9 +1,12 @@
 //! Why a run ends without an answer: for each reason its status and its line on the error stream, in one place.
 
-ghost use Rattle.std.specs.Prelude.{◌≡◌};
-ghost use Rattle.scrub_cli.specs.declared.fault.Fault.TheVariants.{Geometry, OutOfMemory};
+ghost use Rattle.std.specs.Prelude.{◌≡◌, ◌++◌};
+ghost use Rattle.scrub_cli.specs.declared.fault.Fault.TheVariants.{Geometry, Output, OutOfMemory};
+ghost use Rattle.scrub_cli.specs.Fault.{limit_of, line, text_of};
+ghost use Rattle.scrub_cli.specs.Writing.{AppendsFront};
 
 use crate::words::WordsFault;
+use crate::writing::{WriteFault, write_all_counted, write_decimal};
 use scrub_disk::{GeometryFault, LoadFault, OutOfMemory};
 use std::alloc::AllocFailed;
 use std::io::Write;
@@ -88,7 +91,8 @@ impl From<WordsFault> for Fault<'_> {
 }
 
 impl Fault<'_> {
-    ghost use Rattle.scrub_cli.specs.Fault.{status_of};
+    ghost use Rattle.scrub_cli.specs.Fault.{status_of, text_of, IsTold};
+    ghost use Rattle.scrub_cli.specs.Writing.{AppendsFront};
 
     /// The status that the program ends with.
     pub fn status(&self) -> u8
@@ -107,30 +111,62 @@ impl Fault<'_> {
         }
     }
 
-    /// Writes what happened to the error stream, with a line feed. It takes no memory, and a fault of the stream is
-    /// ignored, as nothing is left to tell it to.
-    fn tell<E: Write>(&self, err: &mut E) {
+    /// Writes what happened to the error stream, up to its line feed or to the first failure of the stream, as nothing is
+    /// left to tell that to. It takes no memory.
+    fn tell<E: Write>(&self, err: &mut E)
+        ensures { AppendsFront (E.contents err.old) (E.contents err.new) (text_of self.now) }
+    {
         let _ = match self {
-            Fault::Help(text) | Fault::Words(text) => err.write_all(text.as_bytes()),
-            Fault::NotUtf8 => writeln!(err, "shardscrub: a word is not UTF-8"),
-            Fault::Geometry(fault) => writeln!(err, "shardscrub: geometry refused: {fault}"),
-            Fault::Extent => writeln!(err, "shardscrub: extent out of range"),
-            Fault::Pointer => writeln!(err, "shardscrub: pointer out of range"),
-            Fault::BadPage(word) => writeln!(err, "shardscrub: bad page refused: {word}"),
-            Fault::NoImage(name) => writeln!(err, "shardscrub: image cannot be opened: {name}"),
-            Fault::TooLong => writeln!(err, "shardscrub: image too long"),
-            Fault::Output { written } => {
-                writeln!(err, "shardscrub: output failed after {written} bytes")
-            }
-            Fault::OutOfMemory => writeln!(err, "shardscrub: out of memory"),
+            Fault::Help(text) | Fault::Words(text) => write_all_counted(err, text.as_bytes()),
+            Fault::NotUtf8 => write_line(err, "a word is not UTF-8", ""),
+            Fault::Geometry(fault) => write_line(err, "geometry refused: ", limit(*fault)),
+            Fault::Extent => write_line(err, "extent out of range", ""),
+            Fault::Pointer => write_line(err, "pointer out of range", ""),
+            Fault::BadPage(word) => write_line(err, "bad page refused: ", word),
+            Fault::NoImage(name) => write_line(err, "image cannot be opened: ", name),
+            Fault::TooLong => write_line(err, "image too long", ""),
+            Fault::Output { written } => write_count(err, *written),
+            Fault::OutOfMemory => write_line(err, "out of memory", ""),
         };
     }
 
     /// Tells it on the error stream, and gives the status that the program ends with.
     pub fn end<E: Write>(&self, err: &mut E) -> u8
-        ensures { result ≡ status_of self.now }
+        ensures { IsTold self.now result (E.contents err.old, E.contents err.new) }
     {
         self.tell(err);
         self.status()
     }
+}
+
+/// The limit that sizes break, by its name.
+fn limit(fault: GeometryFault) -> &'static str
+    ensures { result.now ≡ limit_of fault }
+{
+    match fault {
+        GeometryFault::PageSize => "PageSize",
+        GeometryFault::Pages => "Pages",
+        GeometryFault::Extents => "Extents",
+        GeometryFault::ExtentBytes => "ExtentBytes",
+        GeometryFault::TotalBytes => "TotalBytes",
+    }
+}
+
+/// Writes a line in two parts, behind the program's name.
+fn write_line<E: Write>(err: &mut E, what: &str, which: &str) -> Result<(), WriteFault>
+    ensures { AppendsFront (E.contents err.old) (E.contents err.new) (line (what.now ++ which.now)) }
+{
+    write_all_counted(err, b"shardscrub: ")?;
+    write_all_counted(err, what.as_bytes())?;
+    write_all_counted(err, which.as_bytes())?;
+    write_all_counted(err, b"\n")
+}
+
+/// Writes the line of an output that took so many bytes.
+fn write_count<E: Write>(err: &mut E, count: usize) -> Result<(), WriteFault>
+    ensures { AppendsFront (E.contents err.old) (E.contents err.new) (text_of (Output count)) }
+{
+    write_all_counted(err, b"shardscrub: output failed after ")?;
+    write_decimal(err, count)?;
+    write_all_counted(err, b" bytes\n")
 }

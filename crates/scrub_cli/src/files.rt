@@ -1,7 +1,8 @@
 //! Raw images in files of the system. No contract says what a file holds: all that is known of one is how often it was
 //! read, and how often that failed.
 
-ghost use Rattle.std.specs.Prelude.{◌≤◌, None};
+ghost use Rattle.std.specs.Prelude.{◌≤◌, ◌^◌, None};
+ghost use Rattle.scrub_cli.specs.Known.{file};
 
 use crate::images::Images;
 use scrub_disk::{RawFault, RawImage};
@@ -15,6 +16,7 @@ pub struct FileImage {
     reads: u64,
     failures: u64,
     ghost counted: { failures ≤ reads },
+    ghost bounded: { failures ≤ 2 ^ 64 },
 }
 
 impl RawImage for FileImage {
@@ -24,7 +26,11 @@ impl RawImage for FileImage {
 
     ghost failures = { λ image. image.failures };
 
+    ghost most_failures = { λ _. 2 ^ 64 };
+
     ghost failures_are_reads = { λ image. image.counted };
+
+    ghost failures_are_bounded = { λ image. image.bounded };
 
     fn read_at(&mut self, offset: u64, out: &mut [u8]) -> Result<usize, RawFault> {
         self.reads += 1;
@@ -47,7 +53,7 @@ pub struct NamedFiles<'a, R> {
 impl<R: Files<File = File>> Images for NamedFiles<'_, R> {
     type Image = FileImage;
 
-    ghost bytes = { λ _ _. None };
+    ghost known = { λ _ _. file };
 
     /// The file of this path. A directory can't be read as an image, so it isn't opened as one.
     fn image(&mut self, name: &str) -> Option<FileImage> {

@@ -2,8 +2,10 @@
 //! and the streams of the system are handed to it.
 #![tactic(auto)]
 
-ghost use Rattle.std.specs.Prelude.{None, map};
-ghost use Rattle.scrub_cli.specs.Answer.{RunWrites};
+ghost use Rattle.std.specs.Prelude.{◌≡◌, MatchResult, drop, map};
+ghost use Rattle.std.specs.Process.{exit_status};
+ghost use Rattle.scrub_cli.specs.Answer.{RunWrites, WritesNone};
+ghost use Rattle.scrub_cli.specs.Known.{file};
 
 mod answer;
 mod command;
@@ -29,22 +31,47 @@ use std::io::{ErrorKind, Write};
 use std::process::ExitCode;
 
 fn main(rt: HostRuntime) -> ExitCode {
-    let mut out = rt.stdout();
-    let mut err = rt.stderr();
-    let status = match given_words(&rt) {
-        Ok(words) => run_words(&rt, words.as_slice(), &mut out, &mut err),
-        Err(fault) => fault.end(&mut err),
-    };
-    ExitCode::from(status)
+    let (mut out, mut err) = (rt.stdout(), rt.stderr());
+    run_process(&rt, process_words(&rt), &mut out, &mut err)
 }
 
-/// The words that follow the program's name.
-fn given_words<R: Env + AllocGlobal>(rt: &R) -> Result<Vec<String>, Fault<'static>> {
+/// All words of the process, of which the first is the program's name.
+fn process_words<R: Env + AllocGlobal>(rt: &R) -> Result<Vec<String>, Fault<'static>> {
     match std::env::args(rt) {
-        Ok(words) => Ok(words.skip(1).collect(rt.alloc())?),
+        Ok(words) => Ok(words.collect(rt.alloc())?),
         Err(error) if error.kind() == ErrorKind::OutOfMemory => Err(Fault::OutOfMemory),
         Err(_) => Err(Fault::NotUtf8),
     }
+}
+
+/// The words that follow the program's name.
+fn behind_name(words: &[String]) -> &[String]
+    ensures { result.now ≡ drop 1 words.now }
+{
+    match words.split_first() {
+        Some((_, behind)) => behind,
+        None => &[],
+    }
+}
+
+/// Runs the program on the words of a process, or tells why there are none.
+fn run_process<R: Files<File = File> + AllocGlobal, O: Write, E: Write>(
+    rt: &R,
+    words: Result<Vec<String>, Fault<'static>>,
+    out: &mut O,
+    err: &mut E,
+) -> ExitCode
+    ensures { MatchResult words.entry
+        (λ all. RunWrites (λ _. file) (map (λ word. word.bytes.items) (drop 1 all.items)) (exit_status result)
+        (O.contents out.old, O.contents out.new) (E.contents err.old, E.contents err.new))
+        (λ fault. WritesNone fault (exit_status result)
+        (O.contents out.old, O.contents out.new) (E.contents err.old, E.contents err.new)) }
+{
+    let status = match words {
+        Ok(words) => run_words(rt, behind_name(&words), out, err),
+        Err(fault) => fault.end(err),
+    };
+    ExitCode::from(status)
 }
 
 /// Runs the program on the files of the system.
@@ -54,7 +81,8 @@ fn run_words<R: Files<File = File> + AllocGlobal, O: Write, E: Write>(
     out: &mut O,
     err: &mut E,
 ) -> u8
-    ensures { RunWrites (λ _. None) (map (λ word. word.bytes.items) words.now) result (O.contents out.old) (O.contents out.new) }
+    ensures { RunWrites (λ _. file) (map (λ word. word.bytes.items) words.now) result
+        (O.contents out.old, O.contents out.new) (E.contents err.old, E.contents err.new) }
 {
     let words: Result<Vec<&str>, OutOfMemory> = words
         .iter()

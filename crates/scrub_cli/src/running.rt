@@ -1,7 +1,8 @@
 //! A run of the program: words in, an answer and a status out.
 
-ghost use Rattle.std.specs.Prelude.{MatchResult, map};
+ghost use Rattle.std.specs.Prelude.{MatchResult};
 ghost use Rattle.scrub_cli.specs.Answer.{IsAnswer, IsFault, RunWrites, WritesAnswer};
+ghost use Rattle.scrub_cli.specs.Words.{texts};
 
 use crate::answer::Answer;
 use crate::demo::demo;
@@ -9,7 +10,7 @@ use crate::fault::Fault;
 use crate::images::Images;
 use crate::items::items;
 use crate::words::{Request, read_words};
-use crate::writing::{WriteFault, write_all_counted};
+use crate::writing::write_all_counted;
 use std::alloc::Global;
 use std::io::Write;
 
@@ -20,8 +21,8 @@ fn answer<'a, I: Images>(
     images: &mut I,
 ) -> Result<Answer, Fault<'a>>
     ensures { MatchResult result
-        (λ a. IsAnswer (I.bytes images.old) (map (λ word. word.now) words.entry.now) a.text.items a.status)
-        (IsFault (I.bytes images.old) (map (λ word. word.now) words.entry.now)) }
+        (λ a. IsAnswer (I.known images.old) (texts words.entry.now) a.text.items a.status)
+        (IsFault (I.known images.old) (texts words.entry.now)) }
 {
     match read_words(alloc, words)? {
         Request::Demo => Ok(demo(alloc)?),
@@ -31,11 +32,15 @@ fn answer<'a, I: Images>(
 
 /// Writes an answer, and gives the status of the run.
 fn give<O: Write, E: Write>(answer: &Answer, out: &mut O, err: &mut E) -> u8
-    ensures { WritesAnswer result (O.contents out.old) (O.contents out.new) answer.now.text.items answer.now.status }
+    ensures { WritesAnswer answer.now.text.items answer.now.status result
+        (O.contents out.old, O.contents out.new) (E.contents err.old, E.contents err.new) }
 {
     match write_all_counted(out, &answer.text) {
         Ok(()) => answer.status,
-        Err(WriteFault { written }) => Fault::Output { written }.end(err),
+        Err(fault) => Fault::Output {
+            written: fault.written,
+        }
+        .end(err),
     }
 }
 
@@ -51,7 +56,8 @@ pub fn run<R, I: Images, O: Write, E: Write>(
     out: &mut O,
     err: &mut E,
 ) -> u8
-    ensures { RunWrites (I.bytes images.old) (map (λ word. word.now) words.entry.now) result (O.contents out.old) (O.contents out.new) }
+    ensures { RunWrites (I.known images.old) (texts words.entry.now) result
+        (O.contents out.old, O.contents out.new) (E.contents err.old, E.contents err.new) }
 {
     match answer(alloc, words, images) {
         Ok(answer) => give(&answer, out, err),

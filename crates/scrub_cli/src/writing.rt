@@ -1,6 +1,8 @@
 //! Writing bytes whole, and telling after a fault how many of them were written.
 ghost use Rattle.std.specs.Prelude.{◌<◌, OnOk, IfErr, length, take};
+ghost use Rattle.std.specs.Fmt.{decimal};
 ghost use Rattle.std.specs.Io.KnownBytes.{Appends};
+ghost use Rattle.scrub_cli.specs.Writing.{AppendsFront};
 
 use std::io::Write;
 
@@ -20,6 +22,7 @@ pub fn write_all_counted<W: Write>(writer: &mut W, bytes: &[u8]) -> Result<(), W
     ensures part { IfErr result (λ fault. Appends (W.contents writer.old) (W.contents writer.new)
         (take fault.written bytes.now)) }
     ensures short { IfErr result (λ fault. fault.written < length bytes.now) }
+    ensures front { AppendsFront (W.contents writer.old) (W.contents writer.new) bytes.now }
 {
     let mut written = 0;
     while written < bytes.len() {
@@ -29,6 +32,18 @@ pub fn write_all_counted<W: Write>(writer: &mut W, bytes: &[u8]) -> Result<(), W
         }
     }
     Ok(())
+}
+
+/// Writes a number in decimal. No memory is taken.
+pub fn write_decimal<W: Write>(writer: &mut W, number: usize) -> Result<(), WriteFault>
+    ensures whole { OnOk result (Appends (W.contents writer.old) (W.contents writer.new) (decimal number)) }
+    ensures front { AppendsFront (W.contents writer.old) (W.contents writer.new) (decimal number) }
+{
+    if number < 10 {
+        return write_all_counted(writer, &[b'0' + number as u8]);
+    }
+    write_decimal(writer, number / 10)?;
+    write_all_counted(writer, &[b'0' + (number % 10) as u8])
 }
 
 #[cfg(test)]

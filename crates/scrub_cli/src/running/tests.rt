@@ -2,10 +2,14 @@
 //! stands in the descriptions of the format and of the program.
 
 use crate::fakes::{Narrow, OneImage};
+use crate::fault::Fault;
+use crate::run_process;
 use crate::running::run;
 use scrub_frame::write_frame;
 use std::alloc::Global;
-use std::process::Abort;
+use std::fs;
+use std::fs::{File, Files};
+use std::process::{Abort, ExitCode};
 use std::test::Fail;
 use uuid::Uuid;
 
@@ -57,7 +61,8 @@ fn image(bytes: &[u8]) -> OneImage<'_> {
     OneImage {
         bytes,
         most: 4096,
-        failing: None,
+        failing: 0,
+        faults: 0,
     }
 }
 
@@ -213,7 +218,8 @@ fn a_page_whose_read_fails_is_lost(rt: HostRuntime) -> Result<(), Fail> {
         let images = OneImage {
             bytes: &disk,
             most,
-            failing: Some(failing),
+            failing,
+            faults: 1,
         };
         check(&rt, rt.alloc(), ITEMS_BELOW_41, images, (status, line, ""))?;
     }
@@ -412,4 +418,78 @@ fn help_is_told_on_the_error_stream(rt: HostRuntime) -> Result<(), Fail> {
         check_text(&rt, rt.alloc(), words, (0, ""))?;
     }
     Ok(())
+}
+
+/// Eight pages are named; an extent has 130 items, on a disk whose name has 72 bytes.
+#[test]
+fn many_pages_many_items_and_a_long_name(rt: HostRuntime) -> Result<(), Fail> {
+    let words =
+        "items --page 64 --pages 4 --extents 3 --extent 1 disk.img 1:0 1:1 1:2 1:3 0:0 0:3 2:0 2:3";
+    let lines = "lost 0 64\nlost 64 128\nlost 128 192\nlost 192 256\n";
+    check(&rt, rt.alloc(), words, image(&[0; 768]), (1, lines, ""))?;
+    let mut lines = String::new(rt.alloc());
+    for page in 0u32..130 {
+        let line = format!(in rt.alloc(); "pad {} {}\n", page * 64, page * 64 + 64)?;
+        lines.push_str(&line)?;
+    }
+    let words =
+        "items --page 64 --pages 130 --extents 2 --extent 1 a-folder-whose-name-has-many-more-bytes-than-the-name-of-a-disk/disk.img";
+    check(&rt, rt.alloc(), words, image(&[0; 16640]), (0, &lines, ""))
+}
+
+/// The status and the text of each fault that takes no words.
+#[test]
+fn want_of_memory_has_a_status_and_a_text(rt: HostRuntime) -> Result<(), Fail> {
+    let mut err = Vec::new(rt.alloc());
+    assert_eq!(rt; Fault::OutOfMemory.end(&mut err), 4);
+    assert_eq!(rt; Fault::NotUtf8.end(&mut err), 2);
+    let told = "shardscrub: out of memory\nshardscrub: a word is not UTF-8\n";
+    assert_eq!(rt; str::from_utf8(&err)?, told);
+    Ok(())
+}
+
+const FILE: &str = "scrub_cli_test.img";
+
+/// Runs the program on words of a process, the first of which is its name, and compares all that comes of it.
+fn check_process<R: Files<File = File> + AllocGlobal + Abort>(
+    rt: &R,
+    words: &str,
+    wanted: (u8, &str, &str),
+) -> Result<(), Fail> {
+    let mut given = Vec::new(rt.alloc());
+    for word in words.split_whitespace() {
+        given.push(String::from_str(rt.alloc(), word)?)?;
+    }
+    let (mut out, mut err) = (Vec::new(rt.alloc()), Vec::new(rt.alloc()));
+    let code = run_process(rt, Ok(given), &mut out, &mut err);
+    let (status, wanted_out, wanted_err) = wanted;
+    assert!(rt; code == ExitCode::from(status), "{words}");
+    assert_eq!(rt; str::from_utf8(&out)?, wanted_out, "{words}");
+    assert_eq!(rt; str::from_utf8(&err)?, wanted_err, "{words}");
+    Ok(())
+}
+
+/// A file with one chunk, the same cut short and one byte too long, and a name without a file.
+#[test]
+fn a_file_is_read_as_an_image(rt: HostRuntime) -> Result<(), Fail> {
+    let mut disk = [0; 769];
+    disk[256..297].copy_from_slice(&ABC_FRAME);
+    for (length, extent, wanted) in [
+        (768, "1 --pointer 41", (0, ABC_LINE, "")),
+        (768, "0 --pointer 64", (0, "pad 0 64\n", "")),
+        (300, "1 --pointer 41", (1, "lost 0 41\n", "")),
+        (320, "1 --pointer 41", (0, ABC_LINE, "")),
+        (769, "1", (3, "", "shardscrub: image too long\n")),
+    ] {
+        fs::write(&rt, FILE, &disk[..length])?;
+        let words = format!(in rt.alloc();
+            "shardscrub items --page 64 --pages 4 --extents 3 --extent {extent} {FILE}"
+        )?;
+        check_process(&rt, &words, wanted)?;
+        fs::remove_file(&rt, FILE)?;
+    }
+    let words = "shardscrub items --page 64 --pages 4 --extents 3 --extent 1 scrub_cli_test.img";
+    let told = "shardscrub: image cannot be opened: scrub_cli_test.img\n";
+    check_process(&rt, words, (3, "", told))?;
+    check_process(&rt, "shardscrub demo", (0, ABC_LINE, ""))
 }

@@ -12,4 +12,4 @@ returns-in-Items g c =
     let items = c.in-Items.words in
     let asked : AskFor words (Items items) = rw c.in-Items.is at c.in_ok-read_words.ensures in
     MatchResult-weaker c.items.result c.items.ensures (λ a listed. (Items items, asked, listed))
-    (λ fault is. items_fault (g.I.Images.bytes c.args.images.now) words items fault asked is)
+    (λ fault is. items_fault (g.I.Images.known c.args.images.now) words items fault asked is)

@@ -4,4 +4,4 @@ use Rattle.scrub_cli.proofs.RunAnswers.{keeps}
 use Rattle.scrub_cli.proofs.running.run.Goals as goal
 
 pub returns-in-Err : goal.returns-in-Err
-returns-in-Err g c = inr (c.in-Err.fault, c.in-Err.ensures, c.end.ensures, keeps (g.O.Write.contents c.args.out.now))
+returns-in-Err g c = inr (c.in-Err.fault, c.in-Err.ensures, record { kept = keeps (g.O.Write.contents c.args.out.now); told = c.end.ensures })

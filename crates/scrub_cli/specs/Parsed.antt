@@ -1,0 +1,31 @@
+-- What a parse of the words leaves to be read, and what an error of `clap` comes to.
+use Rattle.std.specs.Prelude.{◌≡◌, ◌≢◌, ◌⊎◌, List, Option, None, Some, codes, IfSome, pos}
+use Rattle.clap.specs.Words.{IsSignedIn, without_minus, Row, Text, first_of, one_of}
+use Rattle.clap.specs.declared.error.kind.ErrorKind.{ErrorKind}
+use Rattle.clap.specs.declared.error.kind.ErrorKind.TheVariants.{DisplayHelp, OutOfMemory as no_memory}
+use Rattle.scrub_cli.specs.declared.words.WordsFault.{WordsFault}
+use Rattle.scrub_cli.specs.declared.words.WordsFault.TheVariants.{Refused, Help, OutOfMemory}
+
+-- help comes of a question for help alone, and a refusal of neither that nor want of memory;
+-- want of memory may come of any error, as its text takes memory
+abbrev pub StandsFor : WordsFault → ErrorKind → Type 0
+StandsFor (Refused text) kind = (kind ≢ DisplayHelp) × (kind ≢ no_memory)
+StandsFor (Help text) kind = kind ≡ DisplayHelp
+StandsFor OutOfMemory kind = Unit {0}
+
+-- a value was found for the option, and its parser took it as a number of 32 bits
+abbrev pub HasNumber : List Row → Text → Type 0
+HasNumber found name = (text : Text) × (one_of name found ≡ Some (without_minus text)) × IsSignedIn (pos 0) (pos 4294967295) text
+
+-- what `clap` found has all that `items` needs
+pub record HasItems (found : List Row) : Type 0 where
+  pub page : HasNumber found (codes "page")
+  pub pages : HasNumber found (codes "pages")
+  pub extents : HasNumber found (codes "extents")
+  pub extent : HasNumber found (codes "extent")
+  pub pointer : (one_of (codes "pointer") found ≡ None) ⊎ HasNumber found (codes "pointer")
+  pub image : (name : Text) × (first_of (codes "image") found ≡ Some name)
+
+-- the command is one of the program's, and has all that it needs
+abbrev pub IsWhole : Option (Text × List Row) → Type 0
+IsWhole command = IfSome command (λ met. (met.0 ≡ codes "demo") ⊎ ((met.0 ≡ codes "items") × HasItems met.1))
