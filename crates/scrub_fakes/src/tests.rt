@@ -55,12 +55,12 @@ fn calls_are_counted_for_each_extent(rt: HostRuntime) -> Result<(), Fail> {
 fn a_chunk_its_run_and_the_superblock_of_both_are_put(rt: HostRuntime) -> Result<(), Fail> {
     let alloc = rt.alloc();
     let mut disk = small_disk(alloc)?;
-    let chunk = put_chunk(&rt, alloc, &mut disk, 1, 0, ONES, b"abc")?;
+    let chunk = put_chunk(alloc, &mut disk, 1, 0, ONES, b"abc")?;
     assert_eq!(rt; chunk, abc_at(1, 0));
-    let payload = run_of(&rt, alloc, SHARD, slice::from_ref(&chunk))?;
+    let payload = run_of(alloc, SHARD, slice::from_ref(&chunk))?;
     assert_eq!(rt; payload.len(), 117);
-    let run = put_chunk(&rt, alloc, &mut disk, 2, 0, TWOS, &payload)?;
-    let size = put_superblock(&rt, alloc, &mut disk, &[41, 155], slice::from_ref(&run))?;
+    let run = put_chunk(alloc, &mut disk, 2, 0, TWOS, &payload)?;
+    let size = put_superblock(alloc, &mut disk, &[41, 155], slice::from_ref(&run))?;
     assert_eq!(rt; size, 126);
     let plan = plan_of(alloc, &disk)?;
     assert_eq!(rt; plan.planned(), [1, 2].as_slice());
@@ -73,7 +73,7 @@ fn a_chunk_its_run_and_the_superblock_of_both_are_put(rt: HostRuntime) -> Result
 #[test]
 fn a_marked_page_is_unreadable(rt: HostRuntime) -> Result<(), Fail> {
     let mut disk = small_disk(rt.alloc())?;
-    mark_bad(&rt, &mut disk, 2, 3);
+    mark_bad(&mut disk, 2, 3)?;
     let geometry = disk.geometry();
     assert!(rt; geometry.extents() == 3 && geometry.pages() == 4 && geometry.page() == 64);
     let mut out = [7; 64];
