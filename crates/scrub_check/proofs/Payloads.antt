@@ -26,8 +26,6 @@ under image e w p v u b h fits = record { has_frame = h.has_frame; fits = fits; 
 has_payload : (image : Image) (w : ℕ) (l : Locator) (n : NamesChunk image w l) → HasPayload image (standing_of l) n.payload
 has_payload image w l n = record {
   in_disk = n.found.can.in_range.in_disk;
-  pointer = extent_bytes image.geometry;
-  in_extent = omega arith;
   frame = record {
     frame = under image l.extent w l.offset (extent_bytes image.geometry) l.uuid n.payload n.found.frame (omega (arith, n.length, n.found.can.in_range.in_extent));
     length = sym n.length;
@@ -37,11 +35,7 @@ has_payload image w l n = record {
 
 -- and no other one
 pub one_payload : (image : Image) (l : Locator) (a b : List ℕ) → HasPayload image (standing_of l) a → HasPayload image (standing_of l) b → a ≡ b
-one_payload image l a b h k =
-    let v : ℕ = h.pointer + k.pointer in
-    (one_frame_at (extent_of image l.extent v) l.offset l.uuid l.uuid a b
-    (under image l.extent h.pointer l.offset v l.uuid a h.frame.frame (omega (arith, h.frame.frame.fits)))
-    (under image l.extent k.pointer l.offset v l.uuid b k.frame.frame (omega (arith, k.frame.frame.fits)))).1
+one_payload image l a b h k = (one_frame_at (extent_of image l.extent (extent_bytes image.geometry)) l.offset l.uuid l.uuid a b h.frame.frame k.frame.frame).1
 
 -- so where the payload that is read is no run, the chunk holds none
 pub holds_none : (image : Image) (l : Locator) (b c : List ℕ) → HasPayload image (standing_of l) b → c ≡ b → ((entries : List EntryValue) → ¬ IsRun c entries) → (entries : List EntryValue) → ¬ HoldsRun image l entries

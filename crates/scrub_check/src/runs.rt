@@ -3,7 +3,6 @@
 
 ghost use Rattle.std.specs.Prelude.{◌≡◌, IfOk};
 ghost use Rattle.scrub_scan.specs.Standing.{Stands, HasPayload};
-ghost use Rattle.scrub_scan.specs.AllFindings.{all_scanned};
 ghost use Rattle.scrub_check.specs.WholeScan.{IsWholeScan};
 ghost use Rattle.scrub_check.specs.ChunkRun.{standing_of, IsToldOf};
 ghost use Rattle.scrub_check.specs.Runs.{IsRunIn, HasRunStateIn, AreReadRuns};
@@ -111,7 +110,7 @@ fn run_of<D: PageSource>(
     all: &AllFindings<'_, D>,
     locator: &Locator,
 ) -> Result<(Option<Run>, RunState), OutOfMemory>
-    requires { IsWholeScan (D.image disk.now) plan.now (all_scanned all.now) }
+    requires { IsWholeScan (D.image disk.now) plan.now all.now.extents }
     ensures run { IfOk result (λ r. IsRunIn (D.image disk.now) plan.now locator.now r.0) }
     ensures state { IfOk result (λ r. HasRunStateIn (D.image disk.now) plan.now locator.now r.1) }
 {
@@ -128,7 +127,7 @@ pub fn read_runs<D: PageSource>(
     plan: &Plan,
     all: &AllFindings<'_, D>,
 ) -> Result<ReadRuns, OutOfMemory>
-    requires { IsWholeScan (D.image disk.now) plan.now (all_scanned all.now) }
+    requires { IsWholeScan (D.image disk.now) plan.now all.now.extents }
     ensures { IfOk result (AreReadRuns (D.image disk.now) plan.now) }
 {
     let locators = plan.runs();

@@ -8,7 +8,7 @@ ghost use Rattle.scrub_scan.specs.Item.{start_of};
 ghost use Rattle.scrub_check.specs.WholeScan.{IsWholeScan};
 ghost use Rattle.scrub_check.specs.Status.{end_of, InRange, HasUnreadableByte, HasStatus, HasStatusIn, ExactlyOne};
 ghost use Rattle.scrub_check.specs.Judged.{IsMismatch, Agrees, IsJudged};
-ghost use Rattle.scrub_scan.specs.AllFindings.{all_scanned};
+ghost use Rattle.scrub_scan.specs.AllFindings.{extent_numbers, findings_in};
 
 use scrub_disk::{Geometry, OutOfMemory, PageSource};
 use scrub_frame::{FRAME_OVERHEAD, Locator};
@@ -108,8 +108,8 @@ fn judged(locator: &Locator, standing: &Standing, items: &[Item]) -> Status
 
 /// The findings of an extent that was scanned.
 fn findings_of<'a, D: PageSource>(all: &'a AllFindings<'_, D>, extent: u32) -> &'a Findings
-    requires { Contains (map (λ f. f.extent) (all_scanned all.now)) extent }
-    ensures { (w : ℕ) × Contains (all_scanned all.now) (record { extent = extent; pointer = w; findings = result.now }) }
+    requires { Contains (extent_numbers all.now.extents) extent }
+    ensures { findings_in all.now.extents extent ≡ Some result.now }
 {
     match all.of_extent(extent) {
         Some(findings) => findings,
@@ -138,7 +138,7 @@ pub fn status_of<D: PageSource>(
     all: &AllFindings<'_, D>,
     locator: &Locator,
 ) -> Result<Status, OutOfMemory>
-    requires { IsWholeScan (D.image disk.now) plan.now (all_scanned all.now) }
+    requires { IsWholeScan (D.image disk.now) plan.now all.now.extents }
     ensures { IfOk result (HasStatusIn (D.image disk.now) plan.now locator.now) }
 {
     let geometry = plan.geometry();

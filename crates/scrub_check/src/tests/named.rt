@@ -5,10 +5,7 @@ use scrub_merge::{ShardMap, merge};
 
 /// The shard map of a disk, and the locators that it names. The runs that were read are few enough to be merged: their type
 /// says so.
-fn shards_and_named(
-    alloc: Global,
-    disk: &MemDisk,
-) -> Result<(ShardMap, Vec<Named>), Fail> {
+fn shards_and_named(alloc: Global, disk: &MemDisk) -> Result<(ShardMap, Vec<Named>), Fail> {
     let plan = plan_of(alloc, disk)?;
     let all = scan_in_order(alloc, disk, &plan)?;
     let read = read_runs(alloc, disk, &plan, &all)?;

@@ -1,4 +1,4 @@
-use Rattle.std.proofs.Common.{ap, subst, sym, Result, Err, List, ℕ}
+use Rattle.std.proofs.Common.{ap, subst, Result, Err, List, ℕ}
 use Rattle.scrub_run.specs.declared.run.Run.{Run}
 use Rattle.scrub_run.specs.declared.reading.RunFault.{RunFault}
 use Rattle.scrub_run.specs.Run.{IsRun}

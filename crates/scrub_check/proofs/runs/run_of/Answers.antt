@@ -1,4 +1,4 @@
-use Rattle.std.proofs.Common.{Option, inl, inr}
+use Rattle.std.proofs.Common.{Option}
 use Rattle.std.proofs.lemmas.Result.{IfOk-weaker}
 use Rattle.scrub_run.specs.declared.run.Run.{Run}
 use Rattle.scrub_check.specs.declared.runs.RunState.{RunState}
