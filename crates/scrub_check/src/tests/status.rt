@@ -129,10 +129,10 @@ fn a_frame_that_ends_with_the_last_byte_of_the_last_extent_is_sound(
     rt: HostRuntime,
 ) -> Result<(), Fail> {
     let mut disk = blank_disk(rt.alloc())?;
-    put_frame(&rt, rt.alloc(), &mut disk, 2, 215, ONES, b"abc")?;
-    let last = abc_at(2, 215);
+    put_frame(&rt, rt.alloc(), &mut disk, 2, 192, ONES, &[0x78; 26])?;
+    let last = locate(2, 192, Uuid::from_bytes(ONES), &[0x78; 26]);
     assert_eq!(rt; judge(rt.alloc(), &disk, &last)?, Status::Sound);
-    let longer = Locator { length: 4, ..last };
+    let longer = Locator { length: 27, ..last };
     assert_eq!(rt; judge(rt.alloc(), &disk, &longer)?, Status::OutOfRange);
     mark_bad(&rt, &mut disk, 2, 3);
     assert_eq!(rt; judge(rt.alloc(), &disk, &last)?, Status::Unreadable);
