@@ -49,7 +49,7 @@ pub fn write_decimal<W: Write>(writer: &mut W, number: usize) -> Result<(), Writ
 #[cfg(test)]
 mod tests {
     use super::{WriteFault, write_all_counted};
-    use crate::fakes::Narrow;
+    use scrub_fakes::NarrowWriter;
     use std::test::Fail;
 
     #[test]
@@ -63,7 +63,7 @@ mod tests {
 
     #[test]
     fn short_writes_go_on(rt: HostRuntime) -> Result<(), Fail> {
-        let mut narrow = Narrow::new(rt.alloc(), 11, true);
+        let mut narrow = NarrowWriter::new(rt.alloc(), 11, true);
         write_all_counted(&mut narrow, b"ten bytes.")?;
         assert_eq!(rt; narrow.taken.as_slice(), b"ten bytes.".as_slice());
         Ok(())
@@ -72,7 +72,7 @@ mod tests {
     #[test]
     fn a_writer_that_takes_ten_bytes_and_then_none(rt: HostRuntime) {
         for fails in [true, false] {
-            let mut narrow = Narrow::new(rt.alloc(), 10, fails);
+            let mut narrow = NarrowWriter::new(rt.alloc(), 10, fails);
             let outcome = write_all_counted(&mut narrow, b"more than ten bytes");
             assert_eq!(rt; outcome, Err(WriteFault { written: 10 }));
             assert_eq!(rt; narrow.taken.as_slice(), b"more than ".as_slice());

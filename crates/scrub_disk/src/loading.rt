@@ -150,6 +150,3 @@ pub fn load<R: RawImage>(
     mark_all(&mut disk, bad);
     Ok(disk)
 }
-
-#[cfg(test)]
-mod tests;

@@ -52,3 +52,7 @@ pub record AppendsBytesAt (at : ℕ → Option ℕ) (p n : ℕ) (old new : List 
   pub count : length part ≡ n
   pub bytes : AreBytesAt at p part
   pub appended : new ≡ old ++ part
+
+-- the same of n bytes that are at most as many as a size
+abbrev pub AppendsAtMost : (ℕ → Option ℕ) → ℕ → ℕ → List ℕ → List ℕ → ℕ → Type 0
+AppendsAtMost at p size old new n = (n ≤ size) × AppendsBytesAt at p n old new

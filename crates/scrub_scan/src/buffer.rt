@@ -2,10 +2,10 @@
 //! tiling.
 
 ghost use Rattle.std.specs.Prelude.{◌≡◌, ◌+◌, ◌*◌, ◌^◌, ◌<◌, ◌≤◌, ◌↔◌, length, IsTrue, IfSome, IfNone, IfOk};
-ghost use Rattle.scrub_disk.specs.Image.{byte, extent_bytes};
+ghost use Rattle.scrub_disk.specs.Image.{extent_bytes};
 ghost use Rattle.scrub_frame.specs.Frame.{frame_overhead};
 ghost use Rattle.scrub_scan.specs.Extent.{FrameAt, NoFrameAt, bound};
-ghost use Rattle.scrub_scan.specs.Buffer.{buffered_byte, AreMarks, AreNextUnreadable};
+ghost use Rattle.scrub_scan.specs.Buffer.{AreMarks, AreNextUnreadable, HoldBytes};
 
 use scrub_disk::{BufferedExtent, OutOfMemory, PageSource, read_extent};
 use scrub_frame::{FRAME_OVERHEAD, Frame, read_frame};
@@ -74,7 +74,7 @@ impl ScanBuffer {
         ensures bytes { IfOk result (λ b. length b.bytes.items ≡ extent_bytes (D.image disk.now).geometry) }
         ensures pages { IfOk result (λ b. length b.readable.items ≡ (D.image disk.now).geometry.pages) }
         ensures readable { IfOk result (λ b. AreMarks (D.image disk.now) extent b.readable.items) }
-        ensures image { IfOk result (λ b. buffered_byte (D.image disk.now).geometry.page b.bytes.items b.readable.items ≡ byte (D.image disk.now) extent) }
+        ensures image { IfOk result (λ b. HoldBytes (D.image disk.now) extent b.bytes.items b.readable.items) }
     {
         let page = disk.geometry().page() as usize;
         let BufferedExtent { bytes, readable } = read_extent(alloc, disk, extent)?;

@@ -2,7 +2,7 @@
 
 ghost use Rattle.std.specs.Prelude.{◌≡◌, ◌+◌, ◌<◌, ◌≤◌, IfOk, IfSome, IfNone, None, length};
 ghost use Rattle.scrub_disk.specs.Image.{byte, extent_bytes, AreBytesAt};
-ghost use Rattle.scrub_scan.specs.Extent.{HasGap, AppendsBytesAt};
+ghost use Rattle.scrub_scan.specs.Extent.{HasGap, AppendsAtMost};
 
 use scrub_disk::{OutOfMemory, PageSource};
 use std::alloc::Global;
@@ -21,7 +21,8 @@ fn append_part<D: PageSource>(
     requires in_extent { place + size ≤ extent_bytes (D.image disk.now).geometry }
     requires some { 0 < size }
     requires one_page { length buffer.old ≡ (D.image disk.now).geometry.page }
-    ensures part { IfOk result (λ part. IfSome part (λ n. (n ≤ size) × AppendsBytesAt (byte (D.image disk.now) extent) place n bytes.old.items bytes.new.items)) }
+    ensures part { IfOk result (λ part. IfSome part
+        (AppendsAtMost (byte (D.image disk.now) extent) place size bytes.old.items bytes.new.items)) }
     ensures gap { IfOk result (λ part. IfNone part (byte (D.image disk.now) extent place ≡ None)) }
 {
     let page = buffer.len();

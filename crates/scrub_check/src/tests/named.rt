@@ -32,7 +32,7 @@ fn of_run(number: u32, locator: Locator) -> Named {
 
 #[test]
 fn the_locator_of_a_run_is_named_before_those_of_its_shard(rt: HostRuntime) -> Result<(), Fail> {
-    let mut disk = blank_disk(rt.alloc())?;
+    let mut disk = small_disk(rt.alloc())?;
     let run = put_abc_and_its_run(&rt, rt.alloc(), &mut disk)?;
     let (map, named) = shards_and_named(rt.alloc(), &disk)?;
     assert_eq!(rt; map.bindings().len(), 1);
@@ -45,9 +45,9 @@ fn the_locator_of_a_run_is_named_before_those_of_its_shard(rt: HostRuntime) -> R
 
 #[test]
 fn the_locator_of_a_lost_run_is_named(rt: HostRuntime) -> Result<(), Fail> {
-    let mut disk = blank_disk(rt.alloc())?;
+    let mut disk = small_disk(rt.alloc())?;
     let run = put_abc_and_its_run(&rt, rt.alloc(), &mut disk)?;
-    mark_bad(&rt, &mut disk, 2, 0);
+    mark_bad(&mut disk, 2, 0)?;
     let (map, named) = shards_and_named(rt.alloc(), &disk)?;
     assert!(rt; map.bindings().is_empty());
     assert_eq!(rt; named.as_slice(), [of_run(0, run)].as_slice());

@@ -33,7 +33,7 @@ fn check_lost(rt: &impl Abort, alloc: Global, disk: &MemDisk, state: RunState) -
 
 #[test]
 fn a_run_of_one_shard_is_read(rt: HostRuntime) -> Result<(), Fail> {
-    let mut disk = blank_disk(rt.alloc())?;
+    let mut disk = small_disk(rt.alloc())?;
     put_abc_and_its_run(&rt, rt.alloc(), &mut disk)?;
     let read = read(rt.alloc(), &disk)?;
     assert_eq!(rt; read.states(), [RunState::Read].as_slice());
@@ -44,7 +44,7 @@ fn a_run_of_one_shard_is_read(rt: HostRuntime) -> Result<(), Fail> {
 
 #[test]
 fn no_runs_are_read_without_a_superblock(rt: HostRuntime) -> Result<(), Fail> {
-    let disk = blank_disk(rt.alloc())?;
+    let disk = small_disk(rt.alloc())?;
     let read = read(rt.alloc(), &disk)?;
     assert!(rt; read.states().is_empty());
     assert!(rt; read.runs().is_empty());
@@ -92,10 +92,10 @@ fn a_run_that_is_named_twice_is_read_twice(rt: HostRuntime) -> Result<(), Fail> 
 
 #[test]
 fn a_run_whose_last_pages_are_unreadable_is_lost(rt: HostRuntime) -> Result<(), Fail> {
-    let mut disk = blank_disk(rt.alloc())?;
+    let mut disk = small_disk(rt.alloc())?;
     put_abc_and_its_run(&rt, rt.alloc(), &mut disk)?;
-    mark_bad(&rt, &mut disk, 2, 2);
-    mark_bad(&rt, &mut disk, 2, 3);
+    mark_bad(&mut disk, 2, 2)?;
+    mark_bad(&mut disk, 2, 3)?;
     check_lost(
         &rt,
         rt.alloc(),
@@ -106,7 +106,7 @@ fn a_run_whose_last_pages_are_unreadable_is_lost(rt: HostRuntime) -> Result<(), 
 
 #[test]
 fn a_run_is_lost_for_the_reason_of_its_locator(rt: HostRuntime) -> Result<(), Fail> {
-    let mut disk = blank_disk(rt.alloc())?;
+    let mut disk = small_disk(rt.alloc())?;
     let run = put_abc_and_its_run(&rt, rt.alloc(), &mut disk)?;
     let uuid = Uuid::from_bytes(ONES);
     let mut digest = run.digest;
@@ -120,7 +120,7 @@ fn a_run_is_lost_for_the_reason_of_its_locator(rt: HostRuntime) -> Result<(), Fa
         (155, Locator { digest, ..run }, Status::WrongDigest),
     ];
     for (pointer, locator, status) in cases {
-        put_superblock(&rt, rt.alloc(), &mut disk, &[41, pointer], &[locator])?;
+        put_superblock(rt.alloc(), &mut disk, &[41, pointer], &[locator])?;
         check_lost(&rt, rt.alloc(), &disk, RunState::BadChunk(status))?;
     }
     Ok(())
@@ -128,11 +128,11 @@ fn a_run_is_lost_for_the_reason_of_its_locator(rt: HostRuntime) -> Result<(), Fa
 
 #[test]
 fn a_hidden_run_is_read(rt: HostRuntime) -> Result<(), Fail> {
-    let mut disk = blank_disk(rt.alloc())?;
-    put_frame(&rt, rt.alloc(), &mut disk, 1, 0, ENDS_IN_MAGIC, &[0x78; 28])?;
-    let payload = run_of(&rt, rt.alloc(), &[abc_at(1, 0)])?;
-    let run = put_chunk(&rt, rt.alloc(), &mut disk, 1, 64, TWOS, &payload)?;
-    put_superblock(&rt, rt.alloc(), &mut disk, &[219, 0], &[run])?;
+    let mut disk = small_disk(rt.alloc())?;
+    put_frame(rt.alloc(), &mut disk, 1, 0, ENDS_IN_MAGIC, &[0x78; 28])?;
+    let payload = run_of(rt.alloc(), SHARD, &[abc_at(1, 0)])?;
+    let run = put_chunk(rt.alloc(), &mut disk, 1, 64, TWOS, &payload)?;
+    put_superblock(rt.alloc(), &mut disk, &[219, 0], &[run])?;
     let plan = plan_of(rt.alloc(), &disk)?;
     let all = scan_in_order(rt.alloc(), &disk, &plan)?;
     assert_eq!(rt;
@@ -148,8 +148,8 @@ fn a_hidden_run_is_read(rt: HostRuntime) -> Result<(), Fail> {
 
 #[test]
 fn a_chunk_whose_payload_is_no_run_is_no_run(rt: HostRuntime) -> Result<(), Fail> {
-    let mut disk = blank_disk(rt.alloc())?;
-    put_frame(&rt, rt.alloc(), &mut disk, 1, 0, ONES, b"abc")?;
-    put_superblock(&rt, rt.alloc(), &mut disk, &[41, 0], &[abc_at(1, 0)])?;
+    let mut disk = small_disk(rt.alloc())?;
+    put_frame(rt.alloc(), &mut disk, 1, 0, ONES, b"abc")?;
+    put_superblock(rt.alloc(), &mut disk, &[41, 0], &[abc_at(1, 0)])?;
     check_lost(&rt, rt.alloc(), &disk, RunState::NotARun)
 }

@@ -12,16 +12,16 @@ fn judge(alloc: Global, disk: &MemDisk, locator: &Locator) -> Result<Status, Fai
 
 /// A disk of three extents with `abc` at the start of extent 1, under this pointer.
 fn abc_under(rt: &impl Abort, alloc: Global, pointer: u32) -> Result<MemDisk, Fail> {
-    let mut disk = blank_disk(alloc)?;
-    put_superblock(rt, alloc, &mut disk, &[pointer, 0], &[])?;
-    put_frame(rt, alloc, &mut disk, 1, 0, ONES, b"abc")?;
+    let mut disk = small_disk(alloc)?;
+    put_superblock(alloc, &mut disk, &[pointer, 0], &[])?;
+    put_frame(alloc, &mut disk, 1, 0, ONES, b"abc")?;
     Ok(disk)
 }
 
 /// A disk of three extents with the frame of a payload at a place of extent 1, without a superblock.
 fn long_at(rt: &impl Abort, alloc: Global, offset: u32, payload: &[u8]) -> Result<MemDisk, Fail> {
-    let mut disk = blank_disk(alloc)?;
-    put_frame(rt, alloc, &mut disk, 1, offset, ONES, payload)?;
+    let mut disk = small_disk(alloc)?;
+    put_frame(alloc, &mut disk, 1, offset, ONES, payload)?;
     Ok(disk)
 }
 
@@ -39,9 +39,9 @@ fn nine_locators_of_nine_statuses(rt: HostRuntime) -> Result<(), Fail> {
 fn a_chunk_in_extent_0_or_past_the_last_extent_is_out_of_range(
     rt: HostRuntime,
 ) -> Result<(), Fail> {
-    let mut disk = blank_disk(rt.alloc())?;
+    let mut disk = small_disk(rt.alloc())?;
     for extent in [0, 1, 2] {
-        put_frame(&rt, rt.alloc(), &mut disk, extent, 0, ONES, b"abc")?;
+        put_frame(rt.alloc(), &mut disk, extent, 0, ONES, b"abc")?;
     }
     let cases = [
         (0, Status::OutOfRange),
@@ -104,7 +104,7 @@ fn a_frame_is_unreadable_by_each_page_that_has_a_byte_of_it(rt: HostRuntime) -> 
     ];
     for (page, status) in cases {
         let mut disk = long_at(&rt, rt.alloc(), 0, &[0x78; 91])?;
-        mark_bad(&rt, &mut disk, 1, page);
+        mark_bad(&mut disk, 1, page)?;
         assert_eq!(rt; judge(rt.alloc(), &disk, &locator)?, status, "page {page}");
     }
     Ok(())
@@ -113,7 +113,7 @@ fn a_frame_is_unreadable_by_each_page_that_has_a_byte_of_it(rt: HostRuntime) -> 
 #[test]
 fn a_frame_that_ends_with_its_page_is_read_without_the_next(rt: HostRuntime) -> Result<(), Fail> {
     let mut disk = long_at(&rt, rt.alloc(), 0, &[0x78; 26])?;
-    mark_bad(&rt, &mut disk, 1, 1);
+    mark_bad(&mut disk, 1, 1)?;
     let whole = locate(1, 0, Uuid::from_bytes(ONES), &[0x78; 26]);
     assert_eq!(rt; judge(rt.alloc(), &disk, &whole)?, Status::Sound);
     let longer = Locator {
@@ -128,13 +128,13 @@ fn a_frame_that_ends_with_its_page_is_read_without_the_next(rt: HostRuntime) -> 
 fn a_frame_that_ends_with_the_last_byte_of_the_last_extent_is_sound(
     rt: HostRuntime,
 ) -> Result<(), Fail> {
-    let mut disk = blank_disk(rt.alloc())?;
-    put_frame(&rt, rt.alloc(), &mut disk, 2, 192, ONES, &[0x78; 26])?;
+    let mut disk = small_disk(rt.alloc())?;
+    put_frame(rt.alloc(), &mut disk, 2, 192, ONES, &[0x78; 26])?;
     let last = locate(2, 192, Uuid::from_bytes(ONES), &[0x78; 26]);
     assert_eq!(rt; judge(rt.alloc(), &disk, &last)?, Status::Sound);
     let longer = Locator { length: 27, ..last };
     assert_eq!(rt; judge(rt.alloc(), &disk, &longer)?, Status::OutOfRange);
-    mark_bad(&rt, &mut disk, 2, 3);
+    mark_bad(&mut disk, 2, 3)?;
     assert_eq!(rt; judge(rt.alloc(), &disk, &last)?, Status::Unreadable);
     Ok(())
 }
@@ -205,12 +205,12 @@ fn one_other_byte_makes_another_digest(rt: HostRuntime) -> Result<(), Fail> {
 /// A disk of three extents with a frame of 66 bytes under this UUID at the start of extent 1, and `abc` written at 64,
 /// over its last two bytes. Extent 2 has the run of one shard with this `abc`.
 fn overwritten_end(rt: &impl Abort, alloc: Global, uuid: [u8; 16]) -> Result<MemDisk, Fail> {
-    let mut disk = blank_disk(alloc)?;
-    put_frame(rt, alloc, &mut disk, 1, 0, uuid, &[0x78; 28])?;
-    put_frame(rt, alloc, &mut disk, 1, 64, ONES, b"abc")?;
-    let payload = run_of(rt, alloc, &[abc_at(1, 64)])?;
-    let run = put_chunk(rt, alloc, &mut disk, 2, 0, TWOS, &payload)?;
-    put_superblock(rt, alloc, &mut disk, &[105, 155], &[run])?;
+    let mut disk = small_disk(alloc)?;
+    put_frame(alloc, &mut disk, 1, 0, uuid, &[0x78; 28])?;
+    put_frame(alloc, &mut disk, 1, 64, ONES, b"abc")?;
+    let payload = run_of(alloc, SHARD, &[abc_at(1, 64)])?;
+    let run = put_chunk(alloc, &mut disk, 2, 0, TWOS, &payload)?;
+    put_superblock(alloc, &mut disk, &[105, 155], &[run])?;
     Ok(disk)
 }
 
@@ -237,8 +237,8 @@ fn a_chunk_is_sound_over_a_frame_whose_uuid_ends_otherwise(rt: HostRuntime) -> R
 #[test]
 fn of_several_reasons_the_first_counts(rt: HostRuntime) -> Result<(), Fail> {
     let mut disk = abc_under(&rt, rt.alloc(), 130)?;
-    mark_bad(&rt, &mut disk, 1, 1);
-    mark_bad(&rt, &mut disk, 1, 2);
+    mark_bad(&mut disk, 1, 1)?;
+    mark_bad(&mut disk, 1, 2)?;
     let none = Locator {
         extent: 1,
         offset: 0,

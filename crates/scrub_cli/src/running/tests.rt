@@ -1,10 +1,11 @@
 //! Whole runs: words and raw bytes in, and out come lines or the text of a refusal, and a status. What is expected
 //! stands in the descriptions of the format and of the program.
 
-use crate::fakes::{Narrow, OneImage};
+use crate::fakes::OneImage;
 use crate::fault::Fault;
 use crate::run_process;
 use crate::running::run;
+use scrub_fakes::{ENDS_IN_MAGIC, NarrowWriter, ONES};
 use scrub_frame::write_frame;
 use std::alloc::Global;
 use std::fs;
@@ -12,13 +13,6 @@ use std::fs::{File, Files};
 use std::process::{Abort, ExitCode};
 use std::test::Fail;
 use uuid::Uuid;
-
-const ONES: [u8; 16] = [0x11; 16];
-
-/// Fourteen bytes 33 and a magic.
-const ENDS_IN_MAGIC: [u8; 16] = [
-    0x33, 0x33, 0x33, 0x33, 0x33, 0x33, 0x33, 0x33, 0x33, 0x33, 0x33, 0x33, 0x33, 0x33, 0xC5, 0x5E,
-];
 
 /// The frame of `abc` under the UUID of sixteen bytes 11.
 const ABC_FRAME: [u8; 41] = [
@@ -334,7 +328,7 @@ fn an_output_that_fails_is_told_with_the_bytes_that_it_took(rt: HostRuntime) -> 
         (49, true),
         (49, false),
     ] {
-        let mut out = Narrow::new(rt.alloc(), room, fails);
+        let mut out = NarrowWriter::new(rt.alloc(), room, fails);
         let mut err = Vec::new(rt.alloc());
         let status = run(
             &rt,
@@ -354,7 +348,7 @@ fn an_output_that_fails_is_told_with_the_bytes_that_it_took(rt: HostRuntime) -> 
 
 #[test]
 fn an_output_with_room_for_the_last_byte_is_whole(rt: HostRuntime) -> Result<(), Fail> {
-    let mut out = Narrow::new(rt.alloc(), 50, true);
+    let mut out = NarrowWriter::new(rt.alloc(), 50, true);
     let mut err = Vec::new(rt.alloc());
     let status = run(&rt, rt.alloc(), &[], &mut image(&[]), &mut out, &mut err);
     assert_eq!(rt; (status, err.len()), (0, 0));
@@ -365,8 +359,8 @@ fn an_output_with_room_for_the_last_byte_is_whole(rt: HostRuntime) -> Result<(),
 #[test]
 fn a_fault_of_the_error_stream_is_ignored(rt: HostRuntime) -> Result<(), Fail> {
     for fails in [true, false] {
-        let mut err = Narrow::new(rt.alloc(), 4, fails);
-        let mut full = Narrow::new(rt.alloc(), 0, fails);
+        let mut err = NarrowWriter::new(rt.alloc(), 4, fails);
+        let mut full = NarrowWriter::new(rt.alloc(), 0, fails);
         let status = run(&rt, rt.alloc(), &[], &mut image(&[]), &mut full, &mut err);
         assert_eq!(rt; status, 3);
         assert_eq!(rt; str::from_utf8(&err.taken)?, "shar");

@@ -25,7 +25,7 @@ fn check_extents<D: PageSource>(rt: &impl Abort, all: &AllFindings<'_, D>, exten
 
 #[test]
 fn one_reader_of_a_blank_disk(rt: HostRuntime) -> Result<(), Fail> {
-    let disk = blank_disk(rt.alloc())?;
+    let disk = small_disk(rt.alloc())?;
     let plan = plan_of(rt.alloc(), &disk)?;
     let all = scan_in_order(rt.alloc(), &disk, &plan)?;
     check_extents(&rt, &all, &[1, 2]);
@@ -39,18 +39,18 @@ fn one_reader_of_a_blank_disk(rt: HostRuntime) -> Result<(), Fail> {
 }
 
 /// A disk with the chunk `abc` in extent 1, the run that names it in extent 2, and the superblock of both.
-fn chunk_and_its_run(rt: &impl Abort, alloc: Global) -> Result<MemDisk, Fail> {
-    let mut disk = blank_disk(alloc)?;
-    let run = locate(2, 0, Uuid::from_bytes([0x22; 16]), &RUN);
-    put_superblock(rt, alloc, &mut disk, &[41, 155], &[run])?;
-    put_frame(rt, alloc, &mut disk, 1, 0, [0x11; 16], b"abc")?;
-    put_frame(rt, alloc, &mut disk, 2, 0, [0x22; 16], &RUN)?;
+fn chunk_and_its_run(alloc: Global) -> Result<MemDisk, Fail> {
+    let mut disk = small_disk(alloc)?;
+    let chunk = put_chunk(alloc, &mut disk, 1, 0, ONES, b"abc")?;
+    let payload = run_of(alloc, SHARD, slice::from_ref(&chunk))?;
+    let run = put_chunk(alloc, &mut disk, 2, 0, TWOS, &payload)?;
+    put_superblock(alloc, &mut disk, &[41, 155], slice::from_ref(&run))?;
     Ok(disk)
 }
 
 #[test]
 fn one_reader_of_a_chunk_and_its_run(rt: HostRuntime) -> Result<(), Fail> {
-    let disk = chunk_and_its_run(&rt, rt.alloc())?;
+    let disk = chunk_and_its_run(rt.alloc())?;
     let plan = plan_of(rt.alloc(), &disk)?;
     let all = scan_in_order(rt.alloc(), &disk, &plan)?;
     check_extents(&rt, &all, &[1, 2]);
@@ -64,9 +64,9 @@ fn one_reader_of_a_chunk_and_its_run(rt: HostRuntime) -> Result<(), Fail> {
 
 #[test]
 fn one_reader_of_a_disk_whose_extent_0_is_unreadable(rt: HostRuntime) -> Result<(), Fail> {
-    let mut disk = chunk_and_its_run(&rt, rt.alloc())?;
+    let mut disk = chunk_and_its_run(rt.alloc())?;
     for page in 0..4 {
-        mark_bad(&rt, &mut disk, 0, page);
+        mark_bad(&mut disk, 0, page)?;
     }
     let plan = plan_of(rt.alloc(), &disk)?;
     let all = scan_in_order(rt.alloc(), &disk, &plan)?;

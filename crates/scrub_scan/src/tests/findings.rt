@@ -22,9 +22,9 @@ fn check_scan(
 
 #[test]
 fn under_pointer_0_a_frame_is_a_tail(rt: HostRuntime) -> Result<(), Fail> {
-    let mut disk = blank_disk(rt.alloc())?;
-    put_superblock(&rt, rt.alloc(), &mut disk, &[0, 0], &[])?;
-    put_frame(&rt, rt.alloc(), &mut disk, 1, 0, [0x11; 16], b"abc")?;
+    let mut disk = small_disk(rt.alloc())?;
+    put_superblock(rt.alloc(), &mut disk, &[0, 0], &[])?;
+    put_frame(rt.alloc(), &mut disk, 1, 0, ONES, b"abc")?;
     let tail = Expected {
         lines: &[],
         tail_count: 38,
@@ -43,8 +43,8 @@ fn under_pointer_0_a_frame_is_a_tail(rt: HostRuntime) -> Result<(), Fail> {
 
 #[test]
 fn the_tails_of_abc_under_pointers_41_40_and_1(rt: HostRuntime) -> Result<(), Fail> {
-    let mut disk = blank_disk(rt.alloc())?;
-    put_frame(&rt, rt.alloc(), &mut disk, 1, 0, [0x11; 16], b"abc")?;
+    let mut disk = small_disk(rt.alloc())?;
+    put_frame(rt.alloc(), &mut disk, 1, 0, ONES, b"abc")?;
     let whole = "chunk 0 41 11111111-1111-1111-1111-111111111111 3";
     let cases = [
         (41, whole, 0, None),
@@ -52,7 +52,7 @@ fn the_tails_of_abc_under_pointers_41_40_and_1(rt: HostRuntime) -> Result<(), Fa
         (1, "noise 0 1", 37, Some(1)),
     ];
     for (pointer, line, tail_count, tail_first) in cases {
-        put_superblock(&rt, rt.alloc(), &mut disk, &[pointer, 0], &[])?;
+        put_superblock(rt.alloc(), &mut disk, &[pointer, 0], &[])?;
         let expected = Expected {
             lines: &[line],
             tail_count,
@@ -66,14 +66,14 @@ fn the_tails_of_abc_under_pointers_41_40_and_1(rt: HostRuntime) -> Result<(), Fa
 
 #[test]
 fn a_tail_behind_an_unreadable_page(rt: HostRuntime) -> Result<(), Fail> {
-    let mut disk = blank_disk(rt.alloc())?;
-    put_superblock(&rt, rt.alloc(), &mut disk, &[41, 0], &[])?;
-    put_frame(&rt, rt.alloc(), &mut disk, 1, 0, [0x11; 16], b"abc")?;
+    let mut disk = small_disk(rt.alloc())?;
+    put_superblock(rt.alloc(), &mut disk, &[41, 0], &[])?;
+    put_frame(rt.alloc(), &mut disk, 1, 0, ONES, b"abc")?;
     // The bytes on page 1 can't be read, and of those on pages 2 and 3 three aren't zero.
-    put(&rt, &mut disk, 1, 64, &[7; 64]);
-    put(&rt, &mut disk, 1, 130, &[7, 0, 9]);
-    put(&rt, &mut disk, 1, 255, &[7]);
-    mark_bad(&rt, &mut disk, 1, 1);
+    put(&mut disk, 1, 64, &[7; 64])?;
+    put(&mut disk, 1, 130, &[7, 0, 9])?;
+    put(&mut disk, 1, 255, &[7])?;
+    mark_bad(&mut disk, 1, 1)?;
     let expected = Expected {
         lines: &["chunk 0 41 11111111-1111-1111-1111-111111111111 3"],
         tail_count: 3,
@@ -85,10 +85,10 @@ fn a_tail_behind_an_unreadable_page(rt: HostRuntime) -> Result<(), Fail> {
 
 #[test]
 fn unreadable_pages_on_both_sides_of_the_pointer(rt: HostRuntime) -> Result<(), Fail> {
-    let mut disk = blank_disk(rt.alloc())?;
-    put_superblock(&rt, rt.alloc(), &mut disk, &[98, 0], &[])?;
-    put_frame(&rt, rt.alloc(), &mut disk, 1, 0, [0x11; 16], &[0x78; 60])?;
-    mark_bad(&rt, &mut disk, 1, 1);
+    let mut disk = small_disk(rt.alloc())?;
+    put_superblock(rt.alloc(), &mut disk, &[98, 0], &[])?;
+    put_frame(rt.alloc(), &mut disk, 1, 0, ONES, &[0x78; 60])?;
+    mark_bad(&mut disk, 1, 1)?;
     let below = Expected {
         lines: &["torn 0 64", "lost 64 98"],
         tail_count: 0,
@@ -96,7 +96,7 @@ fn unreadable_pages_on_both_sides_of_the_pointer(rt: HostRuntime) -> Result<(), 
         bad_pages: &[1],
     };
     check_scan(&rt, rt.alloc(), &disk, 1, 98, &below)?;
-    mark_bad(&rt, &mut disk, 1, 3);
+    mark_bad(&mut disk, 1, 3)?;
     let both = Expected {
         bad_pages: &[1, 3],
         ..below

@@ -19,8 +19,8 @@ fn check_tiling(
 
 #[test]
 fn the_chunk_of_abc_under_pointers_41_40_and_1(rt: HostRuntime) -> Result<(), Fail> {
-    let mut disk = blank_disk(rt.alloc())?;
-    put_frame(&rt, rt.alloc(), &mut disk, 1, 0, [0x11; 16], b"abc")?;
+    let mut disk = small_disk(rt.alloc())?;
+    put_frame(rt.alloc(), &mut disk, 1, 0, ONES, b"abc")?;
     check_tiling(
         &rt,
         rt.alloc(),
@@ -36,8 +36,8 @@ fn the_chunk_of_abc_under_pointers_41_40_and_1(rt: HostRuntime) -> Result<(), Fa
 
 #[test]
 fn the_chunk_of_abc_and_zeros_behind_it(rt: HostRuntime) -> Result<(), Fail> {
-    let mut disk = blank_disk(rt.alloc())?;
-    put_frame(&rt, rt.alloc(), &mut disk, 1, 0, [0x11; 16], b"abc")?;
+    let mut disk = small_disk(rt.alloc())?;
+    put_frame(rt.alloc(), &mut disk, 1, 0, ONES, b"abc")?;
     check_tiling(
         &rt,
         rt.alloc(),
@@ -55,7 +55,7 @@ fn the_chunk_of_abc_and_zeros_behind_it(rt: HostRuntime) -> Result<(), Fail> {
 
 #[test]
 fn a_blank_extent_is_four_pads(rt: HostRuntime) -> Result<(), Fail> {
-    let disk = blank_disk(rt.alloc())?;
+    let disk = small_disk(rt.alloc())?;
     check_tiling(
         &rt,
         rt.alloc(),
@@ -67,18 +67,18 @@ fn a_blank_extent_is_four_pads(rt: HostRuntime) -> Result<(), Fail> {
 
 #[test]
 fn a_frame_over_an_unreadable_page(rt: HostRuntime) -> Result<(), Fail> {
-    let mut disk = blank_disk(rt.alloc())?;
-    put_frame(&rt, rt.alloc(), &mut disk, 1, 0, [0x11; 16], &[0x78; 60])?;
-    mark_bad(&rt, &mut disk, 1, 1);
+    let mut disk = small_disk(rt.alloc())?;
+    put_frame(rt.alloc(), &mut disk, 1, 0, ONES, &[0x78; 60])?;
+    mark_bad(&mut disk, 1, 1)?;
     check_tiling(&rt, rt.alloc(), &disk, 98, &["torn 0 64", "lost 64 98"])
 }
 
 #[test]
 fn a_frame_whose_last_page_is_unreadable(rt: HostRuntime) -> Result<(), Fail> {
-    let mut disk = blank_disk(rt.alloc())?;
-    put_frame(&rt, rt.alloc(), &mut disk, 1, 0, [0x22; 16], &[0x78; 117])?;
-    mark_bad(&rt, &mut disk, 1, 2);
-    mark_bad(&rt, &mut disk, 1, 3);
+    let mut disk = small_disk(rt.alloc())?;
+    put_frame(rt.alloc(), &mut disk, 1, 0, TWOS, &[0x78; 117])?;
+    mark_bad(&mut disk, 1, 2)?;
+    mark_bad(&mut disk, 1, 3)?;
     check_tiling(
         &rt,
         rt.alloc(),
@@ -90,9 +90,9 @@ fn a_frame_whose_last_page_is_unreadable(rt: HostRuntime) -> Result<(), Fail> {
 
 #[test]
 fn the_collision_hides_the_chunk_at_the_page_bound(rt: HostRuntime) -> Result<(), Fail> {
-    let mut disk = blank_disk(rt.alloc())?;
-    put_frame(&rt, rt.alloc(), &mut disk, 1, 0, ENDS_IN_MAGIC, &[0x78; 28])?;
-    put_frame(&rt, rt.alloc(), &mut disk, 1, 64, [0x11; 16], b"abc")?;
+    let mut disk = small_disk(rt.alloc())?;
+    put_frame(rt.alloc(), &mut disk, 1, 0, ENDS_IN_MAGIC, &[0x78; 28])?;
+    put_frame(rt.alloc(), &mut disk, 1, 64, ONES, b"abc")?;
     check_tiling(
         &rt,
         rt.alloc(),
@@ -107,9 +107,9 @@ fn the_collision_hides_the_chunk_at_the_page_bound(rt: HostRuntime) -> Result<()
 
 #[test]
 fn two_frames_end_to_end(rt: HostRuntime) -> Result<(), Fail> {
-    let mut disk = blank_disk(rt.alloc())?;
-    put_frame(&rt, rt.alloc(), &mut disk, 1, 0, [0x11; 16], &[0x78; 12])?;
-    put_frame(&rt, rt.alloc(), &mut disk, 1, 50, [0x11; 16], b"abc")?;
+    let mut disk = small_disk(rt.alloc())?;
+    put_frame(rt.alloc(), &mut disk, 1, 0, ONES, &[0x78; 12])?;
+    put_frame(rt.alloc(), &mut disk, 1, 50, ONES, b"abc")?;
     check_tiling(
         &rt,
         rt.alloc(),
@@ -124,8 +124,8 @@ fn two_frames_end_to_end(rt: HostRuntime) -> Result<(), Fail> {
 
 #[test]
 fn a_frame_of_no_payload(rt: HostRuntime) -> Result<(), Fail> {
-    let mut disk = blank_disk(rt.alloc())?;
-    put_frame(&rt, rt.alloc(), &mut disk, 1, 0, [0x11; 16], b"")?;
+    let mut disk = small_disk(rt.alloc())?;
+    put_frame(rt.alloc(), &mut disk, 1, 0, ONES, b"")?;
     check_tiling(
         &rt,
         rt.alloc(),
@@ -137,10 +137,10 @@ fn a_frame_of_no_payload(rt: HostRuntime) -> Result<(), Fail> {
 
 #[test]
 fn a_head_that_claims_the_greatest_length(rt: HostRuntime) -> Result<(), Fail> {
-    let mut disk = blank_disk(rt.alloc())?;
-    put(&rt, &mut disk, 1, 0, &[0xC5, 0x5E]);
-    put(&rt, &mut disk, 1, 2, &[0x11; 16]);
-    put(&rt, &mut disk, 1, 18, &[0xFF; 4]);
+    let mut disk = small_disk(rt.alloc())?;
+    put(&mut disk, 1, 0, &[0xC5, 0x5E])?;
+    put(&mut disk, 1, 2, &ONES)?;
+    put(&mut disk, 1, 18, &[0xFF; 4])?;
     check_tiling(
         &rt,
         rt.alloc(),
@@ -153,9 +153,9 @@ fn a_head_that_claims_the_greatest_length(rt: HostRuntime) -> Result<(), Fail> {
 #[test]
 fn damage_between_frames_ends_at_the_page_bound(rt: HostRuntime) -> Result<(), Fail> {
     let mut disk = MemDisk::blank(rt.alloc(), Geometry::new(128, 2, 3)?)?;
-    put_frame(&rt, rt.alloc(), &mut disk, 1, 0, [0x11; 16], b"abc")?;
-    put_frame(&rt, rt.alloc(), &mut disk, 1, 44, [0x22; 16], b"")?;
-    put_frame(&rt, rt.alloc(), &mut disk, 1, 128, [0x33; 16], b"abc")?;
+    put_frame(rt.alloc(), &mut disk, 1, 0, ONES, b"abc")?;
+    put_frame(rt.alloc(), &mut disk, 1, 44, TWOS, b"")?;
+    put_frame(rt.alloc(), &mut disk, 1, 128, THREES, b"abc")?;
     check_tiling(
         &rt,
         rt.alloc(),
@@ -174,7 +174,7 @@ fn an_item_of_each_kind_has_its_line(rt: HostRuntime) -> Result<(), Fail> {
     let chunk = Item::Chunk {
         start: 0,
         stop: 41,
-        uuid: Uuid::from_bytes([0x11; 16]),
+        uuid: Uuid::from_bytes(ONES),
         length: 3,
         digest: ABC_DIGEST,
     };
@@ -211,15 +211,15 @@ fn an_item_of_each_kind_has_its_line(rt: HostRuntime) -> Result<(), Fail> {
 
 #[test]
 fn a_chunk_has_the_digest_of_its_payload(rt: HostRuntime) -> Result<(), Fail> {
-    let mut disk = blank_disk(rt.alloc())?;
-    put_frame(&rt, rt.alloc(), &mut disk, 1, 0, [0x11; 16], b"abc")?;
+    let mut disk = small_disk(rt.alloc())?;
+    put_frame(rt.alloc(), &mut disk, 1, 0, ONES, b"abc")?;
     let geometry = disk.geometry();
     assert!(rt; geometry.extents() > 1 && geometry.extent_bytes() >= 41);
     let items = tile(rt.alloc(), &disk, 1, 41)?;
     let chunk = Item::Chunk {
         start: 0,
         stop: 41,
-        uuid: Uuid::from_bytes([0x11; 16]),
+        uuid: Uuid::from_bytes(ONES),
         length: 3,
         digest: ABC_DIGEST,
     };

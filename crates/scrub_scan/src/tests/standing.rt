@@ -10,12 +10,12 @@ const LONG_DIGEST: [u8; 32] = [
 
 /// A disk with pages of 256 bytes, eight pages an extent and four extents. Extent 1 has `abc` at 0, and its page 1 is
 /// unreadable. Extent 2 has a frame of 258 bytes at 0, whose last two bytes are the magic of the frame of `abc` at 256.
-fn two_extents(rt: &impl Abort, alloc: Global) -> Result<MemDisk, Fail> {
+fn two_extents(alloc: Global) -> Result<MemDisk, Fail> {
     let mut disk = MemDisk::blank(alloc, Geometry::new(256, 8, 4)?)?;
-    put_frame(rt, alloc, &mut disk, 1, 0, [0x11; 16], b"abc")?;
-    mark_bad(rt, &mut disk, 1, 1);
-    put_frame(rt, alloc, &mut disk, 2, 0, ENDS_IN_MAGIC, &[0x78; 220])?;
-    put_frame(rt, alloc, &mut disk, 2, 256, [0x11; 16], b"abc")?;
+    put_frame(alloc, &mut disk, 1, 0, ONES, b"abc")?;
+    mark_bad(&mut disk, 1, 1)?;
+    put_frame(alloc, &mut disk, 2, 0, ENDS_IN_MAGIC, &[0x78; 220])?;
+    put_frame(alloc, &mut disk, 2, 256, ONES, b"abc")?;
     Ok(disk)
 }
 
@@ -40,7 +40,7 @@ fn standing_abc(extent: u32, offset: u32) -> Standing {
     Standing {
         extent,
         offset,
-        uuid: Uuid::from_bytes([0x11; 16]),
+        uuid: Uuid::from_bytes(ONES),
         length: 3,
         digest: ABC_DIGEST,
     }
@@ -48,7 +48,7 @@ fn standing_abc(extent: u32, offset: u32) -> Standing {
 
 #[test]
 fn frames_stand_at_their_places(rt: HostRuntime) -> Result<(), Fail> {
-    let disk = two_extents(&rt, rt.alloc())?;
+    let disk = two_extents(rt.alloc())?;
     let long = Standing {
         extent: 2,
         offset: 0,
@@ -77,7 +77,7 @@ fn frames_stand_at_their_places(rt: HostRuntime) -> Result<(), Fail> {
 
 #[test]
 fn no_frame_stands_where_none_was_written(rt: HostRuntime) -> Result<(), Fail> {
-    let disk = two_extents(&rt, rt.alloc())?;
+    let disk = two_extents(rt.alloc())?;
     for (pointer, extent, offset) in [(512, 1, 41), (512, 1, 300), (512, 1, 2048), (0, 3, 0)] {
         let found = standing_at(&rt, rt.alloc(), &disk, pointer, extent, offset)?;
         assert!(rt; found.is_none(), "at {offset} of extent {extent}");
@@ -87,7 +87,7 @@ fn no_frame_stands_where_none_was_written(rt: HostRuntime) -> Result<(), Fail> {
 
 #[test]
 fn a_frame_that_ends_one_byte_past_the_pointer_does_not_stand(rt: HostRuntime) -> Result<(), Fail> {
-    let disk = two_extents(&rt, rt.alloc())?;
+    let disk = two_extents(rt.alloc())?;
     for (end, extent, offset) in [(41, 1, 0), (258, 2, 0), (297, 2, 256)] {
         let whole = standing_at(&rt, rt.alloc(), &disk, end, extent, offset)?;
         assert!(rt; whole.is_some(), "ends at {end}");
@@ -99,10 +99,10 @@ fn a_frame_that_ends_one_byte_past_the_pointer_does_not_stand(rt: HostRuntime) -
 
 #[test]
 fn a_frame_with_a_byte_on_an_unreadable_page_does_not_stand(rt: HostRuntime) -> Result<(), Fail> {
-    let mut disk = two_extents(&rt, rt.alloc())?;
+    let mut disk = two_extents(rt.alloc())?;
     // Frames of 41 bytes. The first ends with page 0; of the others the last byte, part of the head and all lie on page 1.
     for (offset, stands) in [(215, true), (216, false), (240, false), (300, false)] {
-        put_frame(&rt, rt.alloc(), &mut disk, 1, offset, [0x11; 16], b"abc")?;
+        put_frame(rt.alloc(), &mut disk, 1, offset, ONES, b"abc")?;
         let found = standing_at(&rt, rt.alloc(), &disk, 512, 1, offset)?;
         assert_eq!(rt; found.is_some(), stands, "at {offset}");
     }
@@ -111,7 +111,7 @@ fn a_frame_with_a_byte_on_an_unreadable_page_does_not_stand(rt: HostRuntime) -> 
 
 #[test]
 fn the_payload_of_a_frame_that_was_stepped_past(rt: HostRuntime) -> Result<(), Fail> {
-    let disk = two_extents(&rt, rt.alloc())?;
+    let disk = two_extents(rt.alloc())?;
     let geometry = disk.geometry();
     assert!(rt; geometry.extents() > 2 && geometry.extent_bytes() >= 297);
     let standing = frame_stands(rt.alloc(), &disk, 297, 2, 256)?.ok_or("a frame")?;

@@ -1,56 +1,12 @@
 //! Raw images that give few bytes at once or fail, and the disks that are loaded from them.
 
-ghost use Rattle.std.specs.Prelude.{◌≡◌, ◌≤◌, ◌<◌, ◌^◌, All, Some};
+ghost use Rattle.std.specs.Prelude.{◌<◌, ◌^◌, All};
 
-use super::*;
-use crate::raw::RawFault;
-use crate::source::{PageSource, Unreadable};
+use scrub_disk::{Geometry, LoadFault, PageSource, RawImage, Unreadable, load};
+use scrub_fakes::RawBytes;
+use std::alloc::Global;
 use std::process::Abort;
 use std::test::Fail;
-
-/// A raw image over bytes that are lent to it. One read gives few bytes, and some may fail.
-#[derive(Drop)]
-struct Bytes<'a> {
-    bytes: &'a [u8],
-    /// How many bytes one read gives at most.
-    most: usize,
-    /// The first read that fails, counted from 0, where any may fail.
-    failing: u64,
-    /// How many reads fail, one behind the other.
-    faults: u64,
-    reads: u64,
-    failures: u64,
-    ghost gives: { 1 ≤ most },
-    ghost counted: { failures ≤ reads },
-    ghost bounded: { failures ≤ faults },
-}
-
-impl RawImage for Bytes<'_> {
-    ghost bytes = { λ image. Some image.bytes.now };
-
-    ghost reads = { λ image. image.reads };
-
-    ghost failures = { λ image. image.failures };
-
-    ghost most_failures = { λ image. image.faults };
-
-    ghost failures_are_reads = { λ image. image.counted };
-
-    ghost failures_are_bounded = { λ image. image.bounded };
-
-    fn read_at(&mut self, offset: u64, out: &mut [u8]) -> Result<usize, RawFault> {
-        let number = self.reads;
-        self.reads += 1;
-        if number >= self.failing && self.failures < self.faults {
-            self.failures += 1;
-            return Err(RawFault);
-        }
-        let start = self.bytes.len().min(offset as usize);
-        let n = out.len().min(self.most).min(self.bytes.len() - start);
-        out[..n].copy_from_slice(&self.bytes[start..start + n]);
-        Ok(n)
-    }
-}
 
 /// Bytes of which no two pages of 64 have the same, and one more than twelve such pages have.
 fn numbered() -> [u8; 769] {
@@ -59,29 +15,6 @@ fn numbered() -> [u8; 769] {
         *byte = (place % 251) as u8;
     }
     bytes
-}
-
-/// A raw image whose reads give so many bytes at most and never fail.
-fn whole(bytes: &[u8], most: usize) -> Bytes<'_>
-    requires { 1 ≤ most }
-    ensures { result.reads ≡ 0 }
-{
-    failing(bytes, most, 0, 0)
-}
-
-/// A raw image of which some reads fail: from that number on, counted from 0, so many.
-fn failing(bytes: &[u8], most: usize, failing: u64, faults: u64) -> Bytes<'_>
-    requires { 1 ≤ most }
-    ensures { result.reads ≡ 0 }
-{
-    Bytes {
-        bytes,
-        most,
-        failing,
-        faults,
-        reads: 0,
-        failures: 0,
-    }
 }
 
 /// Loads three extents of four pages of 64 bytes, sees that each readable page has its own of these bytes, and tells
@@ -114,7 +47,7 @@ fn unreadable_pages<R: RawImage>(
 #[test]
 fn each_page_of_a_whole_image_is_readable(rt: HostRuntime) -> Result<(), Fail> {
     let bytes = numbered();
-    let mut raw = whole(&bytes[..768], 4096);
+    let mut raw = RawBytes::failing(&bytes[..768], 4096, 0, 0);
     let unreadable = unreadable_pages(&rt, rt.alloc(), &mut raw, &[], &bytes)?;
     assert_eq!(rt; unreadable.as_slice(), [].as_slice());
     assert_eq!(rt; raw.reads, 13);
@@ -124,7 +57,7 @@ fn each_page_of_a_whole_image_is_readable(rt: HostRuntime) -> Result<(), Fail> {
 #[test]
 fn pages_behind_the_end_of_a_short_image_are_unreadable(rt: HostRuntime) -> Result<(), Fail> {
     let bytes = numbered();
-    let mut raw = whole(&bytes[..668], 4096);
+    let mut raw = RawBytes::failing(&bytes[..668], 4096, 0, 0);
     let unreadable = unreadable_pages(&rt, rt.alloc(), &mut raw, &[], &bytes)?;
     assert_eq!(rt; unreadable.as_slice(), [(2, 2), (2, 3)].as_slice());
     Ok(())
@@ -132,7 +65,7 @@ fn pages_behind_the_end_of_a_short_image_are_unreadable(rt: HostRuntime) -> Resu
 
 #[test]
 fn no_bytes_leave_no_page_readable(rt: HostRuntime) -> Result<(), Fail> {
-    let mut raw = whole(&[], 4096);
+    let mut raw = RawBytes::failing(&[], 4096, 0, 0);
     let unreadable = unreadable_pages(&rt, rt.alloc(), &mut raw, &[], &numbered())?;
     assert_eq!(rt; unreadable.len(), 12);
     assert_eq!(rt; (raw.reads, raw.failures), (13, 0));
@@ -143,13 +76,13 @@ fn no_bytes_leave_no_page_readable(rt: HostRuntime) -> Result<(), Fail> {
 fn one_byte_behind_the_last_page_is_too_long(rt: HostRuntime) -> Result<(), Fail> {
     let bytes = numbered();
     let geometry = Geometry::new(64, 4, 3)?;
-    let mut raw = whole(&bytes, 4096);
+    let mut raw = RawBytes::failing(&bytes, 4096, 0, 0);
     let refused = load(rt.alloc(), &mut raw, geometry, &[]);
     assert_eq!(rt;
         refused.map(|disk| disk.geometry()),
         Err(LoadFault::TooLong)
     );
-    let mut cut_short = failing(&bytes, 4096, 12, 1);
+    let mut cut_short = RawBytes::failing(&bytes, 4096, 12, 1);
     let unreadable = unreadable_pages(&rt, rt.alloc(), &mut cut_short, &[], &bytes)?;
     assert_eq!(rt; unreadable.as_slice(), [].as_slice(), "the last read fails");
     assert_eq!(rt; (cut_short.reads, cut_short.failures), (13, 1));
@@ -161,7 +94,7 @@ fn one_byte_at_a_time_makes_as_many_reads_as_bytes_and_one_more(
     rt: HostRuntime,
 ) -> Result<(), Fail> {
     let bytes = numbered();
-    let mut raw = whole(&bytes[..768], 1);
+    let mut raw = RawBytes::failing(&bytes[..768], 1, 0, 0);
     let unreadable = unreadable_pages(&rt, rt.alloc(), &mut raw, &[], &bytes)?;
     assert_eq!(rt; unreadable.as_slice(), [].as_slice());
     assert_eq!(rt; raw.reads, 769);
@@ -171,11 +104,11 @@ fn one_byte_at_a_time_makes_as_many_reads_as_bytes_and_one_more(
 #[test]
 fn a_failed_read_makes_its_own_page_unreadable(rt: HostRuntime) -> Result<(), Fail> {
     let bytes = numbered();
-    let mut whole_pages = failing(&bytes[..768], 4096, 4, 1);
+    let mut whole_pages = RawBytes::failing(&bytes[..768], 4096, 4, 1);
     let unreadable = unreadable_pages(&rt, rt.alloc(), &mut whole_pages, &[], &bytes)?;
     assert_eq!(rt; unreadable.as_slice(), [(1, 0)].as_slice());
     assert_eq!(rt; (whole_pages.reads, whole_pages.failures), (13, 1));
-    let mut single_bytes = failing(&bytes[..768], 1, 4 * 64 + 63, 1);
+    let mut single_bytes = RawBytes::failing(&bytes[..768], 1, 4 * 64 + 63, 1);
     let unreadable = unreadable_pages(&rt, rt.alloc(), &mut single_bytes, &[], &bytes)?;
     assert_eq!(rt;
         unreadable.as_slice(),
@@ -189,7 +122,7 @@ fn a_failed_read_makes_its_own_page_unreadable(rt: HostRuntime) -> Result<(), Fa
 #[test]
 fn a_named_page_is_unreadable(rt: HostRuntime) -> Result<(), Fail> {
     let bytes = numbered();
-    let mut raw = whole(&bytes[..768], 4096);
+    let mut raw = RawBytes::failing(&bytes[..768], 4096, 0, 0);
     let bad = [(2, 3), (0, 0), (2, 3)];
     let unreadable = unreadable_pages(&rt, rt.alloc(), &mut raw, &bad, &bytes)?;
     assert_eq!(rt; unreadable.as_slice(), [(0, 0), (2, 3)].as_slice());
@@ -199,7 +132,7 @@ fn a_named_page_is_unreadable(rt: HostRuntime) -> Result<(), Fail> {
 #[test]
 fn an_image_that_always_fails_has_no_readable_page(rt: HostRuntime) -> Result<(), Fail> {
     let bytes = numbered();
-    let mut raw = failing(&bytes, 4096, 0, u64::MAX);
+    let mut raw = RawBytes::failing(&bytes, 4096, 0, u64::MAX);
     let unreadable = unreadable_pages(&rt, rt.alloc(), &mut raw, &[], &bytes)?;
     assert_eq!(rt; unreadable.len(), 12);
     assert_eq!(rt; raw.reads, 13);

@@ -1,0 +1,208 @@
+//! Which superblock counts on a disk, and the plan that follows from it.
+
+use scrub_disk::{Geometry, MemDisk, PageSource};
+use scrub_fakes::{abc_at, mark_bad, plan_of, put, put_record, small_disk};
+use scrub_frame::{Locator, read_locator};
+use scrub_super::{Plan, choose};
+use std::alloc::Global;
+use std::process::Abort;
+use std::test::Fail;
+
+/// What is to be told of a disk of three extents.
+#[derive(Clone, Copy)]
+struct Expected<'a> {
+    /// The page and the generation of the superblock that counts.
+    newest: Option<(u32, u64)>,
+    records: u32,
+    tie: bool,
+    bad_pages: &'a [u32],
+    pointers: [u32; 2],
+    runs: &'a [Locator],
+}
+
+/// Of nothing but zeros no record is told, and full extents.
+fn nothing<'a>() -> Expected<'a> {
+    Expected {
+        newest: None,
+        records: 0,
+        tie: false,
+        bad_pages: &[],
+        pointers: [256, 256],
+        runs: &[],
+    }
+}
+
+/// Compares the choice on a disk and its plan.
+fn check(rt: &impl Abort, alloc: Global, disk: &MemDisk, expected: &Expected) -> Result<(), Fail> {
+    let chosen = choose(alloc, disk)?;
+    let generation = chosen
+        .superblock()
+        .map(|superblock| superblock.generation());
+    assert_eq!(rt; chosen.page(), expected.newest.map(|newest| newest.0));
+    assert_eq!(rt; generation, expected.newest.map(|newest| newest.1));
+    assert_eq!(rt; chosen.records(), expected.records);
+    assert_eq!(rt; chosen.tie(), expected.tie);
+    assert_eq!(rt; chosen.bad_pages(), expected.bad_pages);
+    let plan = plan_of(alloc, disk)?;
+    assert_eq!(rt; plan.geometry().extents(), 3);
+    assert_eq!(rt; plan.planned(), [1, 2].as_slice());
+    assert_eq!(rt; plan.pointer(1), expected.pointers[0]);
+    assert_eq!(rt; plan.pointer(2), expected.pointers[1]);
+    assert_eq!(rt; plan.runs(), expected.runs);
+    assert_eq!(rt; plan.has_superblock(), expected.newest.is_some());
+    Ok(())
+}
+
+#[test]
+fn a_blank_disk_has_no_superblock_nor_one_whose_record_is_unreadable(
+    rt: HostRuntime,
+) -> Result<(), Fail> {
+    let mut disk = small_disk(rt.alloc())?;
+    check(&rt, rt.alloc(), &disk, &nothing())?;
+    put_record(rt.alloc(), &mut disk, 0, 1, &[41, 155], &[abc_at(1, 0)])?;
+    for page in 0..4 {
+        mark_bad(&mut disk, 0, page)?;
+    }
+    let bad_pages = [0, 1, 2, 3];
+    let lost = Expected {
+        bad_pages: &bad_pages,
+        ..nothing()
+    };
+    check(&rt, rt.alloc(), &disk, &lost)
+}
+
+#[test]
+fn a_record_tells_pointers_and_runs_also_none(rt: HostRuntime) -> Result<(), Fail> {
+    let runs = [abc_at(1, 0)];
+    for (pointers, runs, length) in [([41, 155], runs.as_slice(), 126), ([0, 0], &[], 66)] {
+        let mut disk = small_disk(rt.alloc())?;
+        let put = put_record(rt.alloc(), &mut disk, 0, 1, &pointers, runs)?;
+        assert_eq!(rt; put, length);
+        let told = Expected {
+            newest: Some((0, 1)),
+            records: 1,
+            pointers,
+            runs,
+            ..nothing()
+        };
+        check(&rt, rt.alloc(), &disk, &told)?;
+    }
+    Ok(())
+}
+
+#[test]
+fn two_records_of_one_generation_tie_and_the_lower_page_counts(
+    rt: HostRuntime,
+) -> Result<(), Fail> {
+    let mut disk = small_disk(rt.alloc())?;
+    put_record(rt.alloc(), &mut disk, 0, 7, &[41, 155], &[])?;
+    put_record(rt.alloc(), &mut disk, 2, 7, &[0, 155], &[])?;
+    let tied = Expected {
+        newest: Some((0, 7)),
+        records: 2,
+        tie: true,
+        pointers: [41, 155],
+        ..nothing()
+    };
+    check(&rt, rt.alloc(), &disk, &tied)
+}
+
+#[test]
+fn the_newer_record_counts_until_a_byte_of_it_is_changed(rt: HostRuntime) -> Result<(), Fail> {
+    let mut disk = small_disk(rt.alloc())?;
+    put_record(rt.alloc(), &mut disk, 0, 7, &[41, 155], &[])?;
+    put_record(rt.alloc(), &mut disk, 2, 8, &[0, 155], &[])?;
+    let newer = Expected {
+        newest: Some((2, 8)),
+        records: 2,
+        pointers: [0, 155],
+        ..nothing()
+    };
+    check(&rt, rt.alloc(), &disk, &newer)?;
+    // A byte of its generation.
+    put(&mut disk, 0, 128 + 4, &[1])?;
+    let older = Expected {
+        newest: Some((0, 7)),
+        records: 1,
+        pointers: [41, 155],
+        ..nothing()
+    };
+    check(&rt, rt.alloc(), &disk, &older)
+}
+
+#[test]
+fn a_record_spans_three_pages_that_are_all_readable(rt: HostRuntime) -> Result<(), Fail> {
+    let mut disk = small_disk(rt.alloc())?;
+    let runs = [abc_at(1, 0), abc_at(2, 0)];
+    let length = put_record(rt.alloc(), &mut disk, 1, 1, &[41, 155], &runs)?;
+    assert_eq!(rt; length, 186);
+    mark_bad(&mut disk, 0, 0)?;
+    let bad_pages = [0];
+    let whole = Expected {
+        newest: Some((1, 1)),
+        records: 1,
+        bad_pages: &bad_pages,
+        pointers: [41, 155],
+        runs: &runs,
+        ..nothing()
+    };
+    check(&rt, rt.alloc(), &disk, &whole)?;
+    mark_bad(&mut disk, 0, 3)?;
+    let bad_pages = [0, 3];
+    let cut = Expected {
+        bad_pages: &bad_pages,
+        ..nothing()
+    };
+    check(&rt, rt.alloc(), &disk, &cut)
+}
+
+#[test]
+fn a_record_stands_in_the_locators_of_another(rt: HostRuntime) -> Result<(), Fail> {
+    // A record of generation 9 without runs, 66 bytes, taken from a disk of its own.
+    let mut source = small_disk(rt.alloc())?;
+    put_record(rt.alloc(), &mut source, 0, 9, &[3, 4], &[])?;
+    let mut page = [0u8; 64];
+    let mut next = [0u8; 64];
+    let read = source.read_page(0, 0, &mut page);
+    assert!(rt; read.is_ok());
+    let read = source.read_page(0, 1, &mut next);
+    assert!(rt; read.is_ok());
+    // The locators of a record stand from 34 on, so that page 1 begins at the thirtieth of their bytes.
+    let mut locators = [0u8; 120];
+    locators[30..94].copy_from_slice(&page);
+    locators[94..96].copy_from_slice(&next[..2]);
+    let first = locators.first_chunk::<60>().ok_or("60 bytes")?;
+    let second = locators.last_chunk::<60>().ok_or("60 bytes")?;
+    let runs = [read_locator(first), read_locator(second)];
+    let mut disk = small_disk(rt.alloc())?;
+    put_record(rt.alloc(), &mut disk, 0, 5, &[41, 155], &runs)?;
+    let inner = Expected {
+        newest: Some((1, 9)),
+        records: 2,
+        pointers: [3, 4],
+        ..nothing()
+    };
+    check(&rt, rt.alloc(), &disk, &inner)
+}
+
+#[test]
+fn a_plan_of_three_extents_is_restricted_to_two(rt: HostRuntime) -> Result<(), Fail> {
+    let geometry = Geometry::new(64, 4, 4)?;
+    let mut disk = MemDisk::blank(rt.alloc(), geometry)?;
+    let runs = [abc_at(1, 0)];
+    put_record(rt.alloc(), &mut disk, 0, 1, &[41, 250, 155], &runs)?;
+    let chosen = choose(rt.alloc(), &disk)?;
+    let geometry = disk.geometry();
+    assert!(rt; geometry.extents() == 4);
+    let plan = Plan::make(rt.alloc(), &chosen, geometry)?;
+    assert_eq!(rt; plan.planned(), [1, 2, 3].as_slice());
+    let restricted = plan.restrict(rt.alloc(), &[1, 3])?;
+    assert_eq!(rt; restricted.planned(), [1, 3].as_slice());
+    assert!(rt; restricted.geometry() == geometry);
+    assert_eq!(rt; restricted.pointer(1), 41);
+    assert_eq!(rt; restricted.pointer(2), 250);
+    assert_eq!(rt; restricted.pointer(3), 155);
+    assert_eq!(rt; restricted.runs(), runs.as_slice());
+    assert!(rt; restricted.has_superblock());
+    Ok(())
+}
