@@ -12,3 +12,6 @@ pub restrict-requires-clause-each_planned : goal.restrict-requires-clause-each_p
 restrict-requires-clause-each_planned g c =
     let three : (image_of c.in_ok-disk.disk).geometry.extents - 1 ≡ 3 = omega (arith, ap (λ x. x.extents) c.in_ok-disk.ensures.geometry, c.in_ok-new.ensures.extents) in
     rw (c.in_ok-whole.ensures.planned ∙ ap (range_with_len 1) three) two_of_three
+
+pub scan_extent-requires-clause-planned : goal.scan_extent-requires-clause-planned
+scan_extent-requires-clause-planned g c = rw c.in_ok-plan.ensures.planned (λ κs. (1, omega arith, refl))
