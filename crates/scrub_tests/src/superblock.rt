@@ -3,7 +3,7 @@
 use scrub_disk::{Geometry, MemDisk, PageSource};
 use scrub_fakes::{abc_at, mark_bad, plan_of, put, put_record, small_disk};
 use scrub_frame::{Locator, read_locator};
-use scrub_super::{Plan, choose};
+use scrub_super::{Chosen, Plan, choose};
 use std::alloc::Global;
 use std::process::Abort;
 use std::test::Fail;
@@ -32,24 +32,56 @@ fn nothing<'a>() -> Expected<'a> {
     }
 }
 
-/// Compares the choice on a disk and its plan.
-fn check(rt: &impl Abort, alloc: Global, disk: &MemDisk, expected: &Expected) -> Result<(), Fail> {
-    let chosen = choose(alloc, disk)?;
+/// Compares what was chosen: the page and the generation of the superblock that counts, the number of records, whether
+/// there is a tie, and the unreadable pages.
+fn check_chosen(
+    rt: &impl Abort,
+    chosen: &Chosen,
+    newest: Option<(u32, u64)>,
+    records: u32,
+    tie: bool,
+    bad_pages: &[u32],
+) {
     let generation = chosen
         .superblock()
         .map(|superblock| superblock.generation());
-    assert_eq!(rt; chosen.page(), expected.newest.map(|newest| newest.0));
-    assert_eq!(rt; generation, expected.newest.map(|newest| newest.1));
-    assert_eq!(rt; chosen.records(), expected.records);
-    assert_eq!(rt; chosen.tie(), expected.tie);
-    assert_eq!(rt; chosen.bad_pages(), expected.bad_pages);
-    let plan = plan_of(alloc, disk)?;
+    assert_eq!(rt; chosen.page(), newest.map(|found| found.0));
+    assert_eq!(rt; generation, newest.map(|found| found.1));
+    assert_eq!(rt; chosen.records(), records);
+    assert_eq!(rt; chosen.tie(), tie);
+    assert_eq!(rt; chosen.bad_pages(), bad_pages);
+}
+
+/// Compares the plan of a disk of three extents.
+fn check_plan(
+    rt: &impl Abort,
+    plan: &Plan,
+    pointers: [u32; 2],
+    runs: &[Locator],
+    has_superblock: bool,
+) {
     assert_eq!(rt; plan.geometry().extents(), 3);
     assert_eq!(rt; plan.planned(), [1, 2].as_slice());
-    assert_eq!(rt; plan.pointer(1), expected.pointers[0]);
-    assert_eq!(rt; plan.pointer(2), expected.pointers[1]);
-    assert_eq!(rt; plan.runs(), expected.runs);
-    assert_eq!(rt; plan.has_superblock(), expected.newest.is_some());
+    assert_eq!(rt; plan.pointer(1), pointers[0]);
+    assert_eq!(rt; plan.pointer(2), pointers[1]);
+    assert_eq!(rt; plan.runs(), runs);
+    assert_eq!(rt; plan.has_superblock(), has_superblock);
+}
+
+/// Compares the choice on a disk and its plan.
+fn check(rt: &impl Abort, alloc: Global, disk: &MemDisk, expected: &Expected) -> Result<(), Fail> {
+    let chosen = choose(alloc, disk)?;
+    check_chosen(
+        rt,
+        &chosen,
+        expected.newest,
+        expected.records,
+        expected.tie,
+        expected.bad_pages,
+    );
+    let plan = plan_of(alloc, disk)?;
+    let has_superblock = expected.newest.is_some();
+    check_plan(rt, &plan, expected.pointers, expected.runs, has_superblock);
     Ok(())
 }
 
@@ -156,6 +188,17 @@ fn a_record_spans_three_pages_that_are_all_readable(rt: HostRuntime) -> Result<(
     check(&rt, rt.alloc(), &disk, &cut)
 }
 
+/// Two locators of which these bytes are a part, from their thirtieth byte on. The locators of a record stand from 34 on,
+/// so page 1 begins with that byte.
+fn locators_round(alloc: Global, bytes: &[u8]) -> Result<[Locator; 2], Fail> {
+    let mut both = Vec::from_slice(alloc, &[0; 30])?;
+    both.extend_from_slice(bytes)?;
+    both.extend_from_slice(&[0; 24])?;
+    let first = both.first_chunk::<60>().ok_or("60 bytes")?;
+    let second = both.last_chunk::<60>().ok_or("60 bytes")?;
+    Ok([read_locator(first), read_locator(second)])
+}
+
 #[test]
 fn a_record_stands_in_the_locators_of_another(rt: HostRuntime) -> Result<(), Fail> {
     // A record of generation 9 without runs, 66 bytes, taken from a disk of its own.
@@ -167,13 +210,9 @@ fn a_record_stands_in_the_locators_of_another(rt: HostRuntime) -> Result<(), Fai
     assert!(rt; read.is_ok());
     let read = source.read_page(0, 1, &mut next);
     assert!(rt; read.is_ok());
-    // The locators of a record stand from 34 on, so that page 1 begins at the thirtieth of their bytes.
-    let mut locators = [0u8; 120];
-    locators[30..94].copy_from_slice(&page);
-    locators[94..96].copy_from_slice(&next[..2]);
-    let first = locators.first_chunk::<60>().ok_or("60 bytes")?;
-    let second = locators.last_chunk::<60>().ok_or("60 bytes")?;
-    let runs = [read_locator(first), read_locator(second)];
+    let mut record = Vec::from_slice(rt.alloc(), &page)?;
+    record.extend_from_slice(&next[..2])?;
+    let runs = locators_round(rt.alloc(), &record)?;
     let mut disk = small_disk(rt.alloc())?;
     put_record(rt.alloc(), &mut disk, 0, 5, &[41, 155], &runs)?;
     let inner = Expected {
