@@ -3,6 +3,9 @@
 ghost use Rattle.std.specs.Prelude.{◌≡◌};
 
 use crate::*;
+use std::alloc::Global;
+use std::fmt::Debug;
+use std::process::Abort;
 use std::test::Fail;
 use uuid::Uuid;
 
@@ -33,24 +36,42 @@ const ABC_LOCATOR: [u8; 60] = [
     0x96, 0x17, 0x7a, 0x9c, 0xb4, 0x10, 0xff, 0x61, 0xf2, 0x00, 0x15, 0xad,
 ];
 
+/// Requires that what was found is what was wanted, and else prints both. That it can be printed is proved here, once, and
+/// not in each test.
+fn same<T: PartialEq + Debug + Drop>(rt: &impl Abort, found: T, wanted: T) {
+    assert_eq!(rt; found, wanted);
+}
+
 /// The UUID of sixteen bytes 11.
 fn ones() -> Uuid {
     Uuid::from_bytes([0x11; 16])
 }
 
+/// The byte 7, and these parts behind it.
+fn behind_seven(alloc: Global, parts: &[&[u8]]) -> Result<Vec<u8>, Fail> {
+    let mut bytes = Vec::from_slice(alloc, &[7])?;
+    for part in parts {
+        bytes.extend_from_slice(part)?;
+    }
+    Ok(bytes)
+}
+
 #[test]
 fn digests_of_abc_and_of_no_bytes(rt: HostRuntime) {
-    assert_eq!(rt; digest_of(b"abc"), ABC_DIGEST);
-    assert_eq!(rt; digest_of(b""), EMPTY_DIGEST);
+    for (bytes, digest) in [
+        (b"abc".as_slice(), ABC_DIGEST),
+        (b"".as_slice(), EMPTY_DIGEST),
+    ] {
+        same(&rt, digest_of(bytes), digest);
+    }
 }
 
 #[test]
 fn the_frame_of_abc_is_appended(rt: HostRuntime) -> Result<(), Fail> {
-    let mut out = Vec::from_slice(rt.alloc(), &[7])?;
+    let mut out = behind_seven(rt.alloc(), &[])?;
     write_frame(&mut out, ones(), b"abc")?;
-    assert_eq!(rt; out.len(), 42);
-    assert_eq!(rt; out[0], 7);
-    assert_eq!(rt; &out[1..], ABC_FRAME.as_slice());
+    let wanted = behind_seven(rt.alloc(), &[&ABC_FRAME])?;
+    same(&rt, out.as_slice(), wanted.as_slice());
     Ok(())
 }
 
@@ -58,11 +79,12 @@ fn the_frame_of_abc_is_appended(rt: HostRuntime) -> Result<(), Fail> {
 fn a_payload_one_byte_too_long_is_refused(rt: HostRuntime) -> Result<(), Fail> {
     let mut out = Vec::from_slice(rt.alloc(), &[7])?;
     let payload = vec![in rt.alloc(); 0u8; 67_108_827]?;
-    assert_eq!(rt;
+    same(
+        &rt,
         write_frame(&mut out, ones(), &payload),
-        Err(FrameFault::TooLong)
+        Err(FrameFault::TooLong),
     );
-    assert_eq!(rt; out.as_slice(), [7].as_slice());
+    same(&rt, out.as_slice(), [7].as_slice());
     Ok(())
 }
 
@@ -72,15 +94,15 @@ fn the_frame_of_abc_is_read_whole_or_not_at_all(rt: HostRuntime) -> Result<(), F
         uuid: ones(),
         length: 3,
     });
-    assert_eq!(rt; read_frame(&ABC_FRAME), found);
+    same(&rt, read_frame(&ABC_FRAME), found);
     let mut longer = Vec::from_slice(rt.alloc(), &ABC_FRAME)?;
     longer.extend_from_slice(&[0xC5, 0x5E, 0])?;
-    assert_eq!(rt; read_frame(&longer), found, "bytes behind it");
-    assert_eq!(rt; read_frame(&ABC_FRAME[..40]), None, "without its last byte");
+    same(&rt, read_frame(&longer), read_frame(&ABC_FRAME));
     let mut changed = ABC_FRAME;
     changed[40] = 0x10;
-    assert_eq!(rt; read_frame(&changed), None, "its last byte changed");
-    assert_eq!(rt; read_frame(b""), None, "no bytes");
+    same(&rt, read_frame(&changed), None);
+    same(&rt, read_frame(&ABC_FRAME[..40]), None);
+    same(&rt, read_frame(b""), None);
     Ok(())
 }
 
@@ -93,8 +115,8 @@ fn a_frame_of_no_payload_has_38_bytes(rt: HostRuntime) {
         uuid: ones(),
         length: 0,
     });
-    assert_eq!(rt; read_frame(&bytes), found);
-    assert_eq!(rt; read_frame(&bytes[..37]), None);
+    same(&rt, read_frame(&bytes), found);
+    same(&rt, read_frame(&bytes[..37]), None);
 }
 
 #[test]
@@ -107,29 +129,27 @@ fn a_head_claims_the_greatest_length(rt: HostRuntime) {
         uuid: Uuid::from_bytes([0; 16]),
         length: 4_294_967_295,
     };
-    assert_eq!(rt;
+    same(
+        &rt,
         page.first_chunk::<22>().and_then(|first| read_head(first)),
-        Some(head)
+        Some(head),
     );
-    assert_eq!(rt;
-        read_frame(&page),
-        None,
-        "the page ends before that payload"
-    );
+    // The page ends before that payload.
+    same(&rt, read_frame(&page), None);
 }
 
 #[test]
 fn a_head_begins_with_the_magic(rt: HostRuntime) {
     let mut bytes = [0x11; 22];
-    assert_eq!(rt; read_head(&bytes), None);
+    same(&rt, read_head(&bytes), None);
     bytes[0] = 0xC5;
-    assert_eq!(rt; read_head(&bytes), None);
+    same(&rt, read_head(&bytes), None);
     bytes[1] = 0x5E;
     let head = Head {
         uuid: ones(),
         length: 0x1111_1111,
     };
-    assert_eq!(rt; read_head(&bytes), Some(head));
+    same(&rt, read_head(&bytes), Some(head));
 }
 
 #[test]
@@ -142,10 +162,10 @@ fn the_locator_of_abc_is_read_and_written(rt: HostRuntime) {
         uuid: ones(),
         digest: ABC_DIGEST,
     };
-    assert_eq!(rt; locator, fields);
-    assert_eq!(rt; write_locator(&locator), ABC_LOCATOR);
-    assert_eq!(rt; read_locator(&ABC_LOCATOR), locator);
-    assert_eq!(rt; written_and_read(&locator), locator);
+    same(&rt, locator, fields);
+    same(&rt, write_locator(&locator), ABC_LOCATOR);
+    same(&rt, read_locator(&ABC_LOCATOR), locator);
+    same(&rt, written_and_read(&locator), locator);
 }
 
 /// A locator that was written is read back, whatever it is: this follows from the contracts alone.
@@ -165,24 +185,38 @@ fn read_and_written(bytes: &[u8; 60]) -> [u8; 60]
 #[test]
 fn any_sixty_bytes_are_a_locator(rt: HostRuntime) {
     let bytes = [0xFF; 60];
-    assert_eq!(rt; read_and_written(&bytes), bytes);
+    same(&rt, read_and_written(&bytes), bytes);
+}
+
+/// The bytes of the locator of `abc` at offset 41.
+fn moved_locator() -> [u8; 60] {
+    let mut bytes = ABC_LOCATOR;
+    bytes[7] = 41;
+    bytes
 }
 
 #[test]
-fn two_locators_are_written_and_read_in_their_order(rt: HostRuntime) -> Result<(), Fail> {
-    let moved = Locator {
-        offset: 41,
-        ..read_locator(&ABC_LOCATOR)
-    };
-    let locators = [read_locator(&ABC_LOCATOR), moved];
-    let mut out = Vec::from_slice(rt.alloc(), &[7])?;
+fn two_locators_are_written_in_their_order(rt: HostRuntime) -> Result<(), Fail> {
+    let locators = [ABC_LOCATOR, moved_locator()].map(|bytes| read_locator(&bytes));
+    let mut out = behind_seven(rt.alloc(), &[])?;
     out.reserve(2 * LOCATOR_BYTES)?;
     append_locators(&mut out, &locators);
-    assert_eq!(rt; out.len(), 121);
-    assert_eq!(rt; out[0], 7);
-    assert_eq!(rt; &out[1..61], ABC_LOCATOR.as_slice());
-    let read = read_locators(rt.alloc(), &out[1..], 2)?;
-    assert_eq!(rt; read.as_slice(), locators.as_slice());
+    let wanted = behind_seven(rt.alloc(), &[&ABC_LOCATOR, &moved_locator()])?;
+    same(&rt, out.as_slice(), wanted.as_slice());
+    Ok(())
+}
+
+#[test]
+fn two_locators_are_read_in_their_order(rt: HostRuntime) -> Result<(), Fail> {
+    let bytes = behind_seven(rt.alloc(), &[&ABC_LOCATOR, &moved_locator()])?;
+    assert!(rt; bytes.len() == 121);
+    let read = read_locators(rt.alloc(), &bytes[1..], 2)?;
+    let abc = read_locator(&ABC_LOCATOR);
+    same(
+        &rt,
+        read.as_slice(),
+        [abc, Locator { offset: 41, ..abc }].as_slice(),
+    );
     let none = read_locators(rt.alloc(), &[], 0)?;
     assert!(rt; none.is_empty());
     Ok(())
@@ -190,11 +224,11 @@ fn two_locators_are_written_and_read_in_their_order(rt: HostRuntime) -> Result<(
 
 #[test]
 fn bytes_are_appended_where_there_is_room(rt: HostRuntime) -> Result<(), Fail> {
-    let mut out = Vec::from_slice(rt.alloc(), &[7])?;
+    let mut out = behind_seven(rt.alloc(), &[])?;
     out.reserve(3)?;
     append(&mut out, b"abc");
-    assert_eq!(rt; out.as_slice(), [7, 0x61, 0x62, 0x63].as_slice());
     append(&mut out, b"");
-    assert_eq!(rt; out.len(), 4);
+    let wanted = behind_seven(rt.alloc(), &[b"abc"])?;
+    same(&rt, out.as_slice(), wanted.as_slice());
     Ok(())
 }

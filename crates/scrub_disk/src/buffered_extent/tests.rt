@@ -1,6 +1,7 @@
 //! A small extent that is read whole.
 
 use super::*;
+use crate::checks::same;
 use crate::{Geometry, MemDisk};
 use std::process::Abort;
 use std::test::Fail;
@@ -23,15 +24,16 @@ fn an_extent_is_read_but_for_its_unreadable_pages(rt: HostRuntime) -> Result<(),
     disk.mark_bad(1, 1);
     disk.mark_bad(1, 3);
     let extent = read_extent(rt.alloc(), &disk, 1)?;
-    assert_eq!(rt; extent.bytes.len(), 256);
-    assert_eq!(rt;
+    assert!(rt; extent.bytes.len() == 256);
+    same(
+        &rt,
         extent.readable.as_slice(),
-        [true, false, true, false].as_slice()
+        [true, false, true, false].as_slice(),
     );
     check_bytes(&rt, &extent.bytes, 0, 64, 0x11);
     check_bytes(&rt, &extent.bytes, 128, 64, 0x11);
     let unreadable = unreadable_pages(rt.alloc(), &extent.readable)?;
-    assert_eq!(rt; unreadable.as_slice(), [1, 3].as_slice());
+    same(&rt, unreadable.as_slice(), [1, 3].as_slice());
     Ok(())
 }
 
@@ -40,6 +42,6 @@ fn an_extent_of_readable_pages_has_no_unreadable_one(rt: HostRuntime) -> Result<
     assert!(rt; unreadable_pages(rt.alloc(), &[true; 4])?.is_empty());
     assert!(rt; unreadable_pages(rt.alloc(), &[])?.is_empty());
     let none = unreadable_pages(rt.alloc(), &[false; 3])?;
-    assert_eq!(rt; none.as_slice(), [0, 1, 2].as_slice());
+    same(&rt, none.as_slice(), [0, 1, 2].as_slice());
     Ok(())
 }

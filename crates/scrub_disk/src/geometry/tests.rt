@@ -1,15 +1,20 @@
 //! Sizes at the limits and past them.
 
 use super::*;
+use crate::checks::same;
 use std::test::Fail;
 
 #[test]
 fn sizes_within_the_limits(rt: HostRuntime) -> Result<(), Fail> {
     let small = Geometry::new(64, 4, 3)?;
-    assert_eq!(rt; (small.page(), small.pages(), small.extents()), (64, 4, 3));
-    assert_eq!(rt; small.extent_bytes(), 256);
+    same(
+        &rt,
+        (small.page(), small.pages(), small.extents()),
+        (64, 4, 3),
+    );
+    same(&rt, small.extent_bytes(), 256);
     let largest = Geometry::new(65536, 1024, 64)?;
-    assert_eq!(rt; largest.extent_bytes(), 67_108_864);
+    same(&rt, largest.extent_bytes(), 67_108_864);
     Ok(())
 }
 
@@ -23,7 +28,7 @@ fn the_first_broken_limit_is_told(rt: HostRuntime) {
         (65536, 1024, 65, GeometryFault::TotalBytes),
     ];
     for (page, pages, extents, fault) in refused {
-        assert_eq!(rt; Geometry::new(page, pages, extents), Err(fault));
+        same(&rt, Geometry::new(page, pages, extents), Err(fault));
     }
 }
 
@@ -37,7 +42,7 @@ fn a_fault_is_told_by_the_name_of_its_limit(rt: HostRuntime) -> Result<(), Fail>
         (GeometryFault::TotalBytes, "TotalBytes"),
     ];
     for (fault, text) in texts {
-        assert_eq!(rt; format!(in rt.alloc(); "{fault}")?.as_str(), text);
+        same(&rt, format!(in rt.alloc(); "{fault}")?.as_str(), text);
     }
     Ok(())
 }

@@ -1,10 +1,11 @@
 //! A small disk, written, marked and read back.
 
-ghost use Rattle.std.specs.Prelude.{◌≡◌, IfOk, length};
+ghost use Rattle.std.specs.Prelude.{◌≡◌, ◌<◌, IfOk, length};
 ghost use Rattle.scrub_disk.specs.Faults.{HasSizes};
 ghost use Rattle.scrub_disk.specs.Memory.{image_of};
 
 use super::*;
+use crate::checks::same;
 use std::test::Fail;
 
 /// A blank disk of three extents of four pages of 64 bytes.
@@ -12,6 +13,15 @@ fn small_disk(alloc: Global) -> Result<MemDisk, Fail>
     ensures { IfOk result (λ d. HasSizes (image_of d).geometry 64 4 3) }
 {
     Ok(MemDisk::blank(alloc, Geometry::new(64, 4, 3)?)?)
+}
+
+/// The bytes of a page of a small disk.
+fn page_of(disk: &MemDisk, extent: u32, page: u32) -> Result<[u8; 64], Unreadable>
+    requires { HasSizes (image_of disk.now).geometry 64 4 3 × (extent < 3) × (page < 4) }
+{
+    let mut out = [7; 64];
+    disk.read_page(extent, page, &mut out)?;
+    Ok(out)
 }
 
 /// Reads the last page of a source through its bound.
@@ -27,9 +37,7 @@ fn a_blank_disk_is_zero(rt: HostRuntime) -> Result<(), Fail> {
     let disk = small_disk(rt.alloc())?;
     for extent in 0..3 {
         for page in 0..4 {
-            let mut out = [7; 64];
-            assert_eq!(rt; disk.read_page(extent, page, &mut out), Ok(()));
-            assert_eq!(rt; out, [0; 64], "page {page} of extent {extent}");
+            same(&rt, page_of(&disk, extent, page), Ok([0; 64]));
         }
     }
     Ok(())
@@ -38,25 +46,20 @@ fn a_blank_disk_is_zero(rt: HostRuntime) -> Result<(), Fail> {
 #[test]
 fn a_page_is_put_and_read_back(rt: HostRuntime) -> Result<(), Fail> {
     let mut disk = small_disk(rt.alloc())?;
-    let mut out = [0; 64];
     disk.put(1, 64, &[0x78; 64]);
-    assert_eq!(rt; disk.read_page(1, 1, &mut out), Ok(()));
-    assert_eq!(rt; out, [0x78; 64]);
-    disk.read_page(1, 0, &mut out)?;
-    assert_eq!(rt; out, [0; 64], "the page before");
-    disk.read_page(1, 2, &mut out)?;
-    assert_eq!(rt; out, [0; 64], "the page behind");
+    same(&rt, page_of(&disk, 1, 0), Ok([0; 64]));
+    same(&rt, page_of(&disk, 1, 1), Ok([0x78; 64]));
+    same(&rt, page_of(&disk, 1, 2), Ok([0; 64]));
     Ok(())
 }
 
 #[test]
 fn the_last_byte_of_the_disk_is_put(rt: HostRuntime) -> Result<(), Fail> {
     let mut disk = small_disk(rt.alloc())?;
-    let mut out = [7; 64];
     disk.put(2, 255, &[9]);
     disk.put(2, 256, &[]);
-    disk.read_page(2, 3, &mut out)?;
-    assert_eq!(rt; (out[62], out[63]), (0, 9));
+    let last = page_of(&disk, 2, 3)?;
+    same(&rt, (last[62], last[63]), (0, 9));
     Ok(())
 }
 
@@ -66,10 +69,9 @@ fn an_unreadable_page_stays_so_and_leaves_the_buffer(rt: HostRuntime) -> Result<
     disk.mark_bad(2, 3);
     disk.put(2, 128, &[5; 128]);
     let mut out = [7; 64];
-    assert_eq!(rt; disk.read_page(2, 3, &mut out), Err(Unreadable));
-    assert_eq!(rt; out, [7; 64]);
-    assert_eq!(rt; disk.read_page(2, 2, &mut out), Ok(()), "the page before");
-    assert_eq!(rt; out, [5; 64]);
+    same(&rt, disk.read_page(2, 3, &mut out), Err(Unreadable));
+    same(&rt, out, [7; 64]);
+    same(&rt, page_of(&disk, 2, 2), Ok([5; 64]));
     Ok(())
 }
 
@@ -78,7 +80,7 @@ fn a_disk_in_memory_is_a_page_source(rt: HostRuntime) -> Result<(), Fail> {
     let mut disk = small_disk(rt.alloc())?;
     disk.put(2, 192, &[1; 64]);
     let mut out = [0; 64];
-    assert_eq!(rt; read_last_page(&disk, &mut out), Ok(()));
-    assert_eq!(rt; out, [1; 64]);
+    same(&rt, read_last_page(&disk, &mut out), Ok(()));
+    same(&rt, out, [1; 64]);
     Ok(())
 }
