@@ -6,6 +6,8 @@ ghost use Rattle.std.specs.Prelude.{◌≡◌, ◌≢◌, IfOk, Err};
 use crate::*;
 use scrub_frame::{Locator, digest_of, read_locator};
 use std::alloc::Global;
+use std::fmt::Debug;
+use std::process::Abort;
 use std::test::Fail;
 
 /// The run of one shard, which has the chunk of `abc` at extent 1, offset 0.
@@ -34,6 +36,12 @@ const ABC_LOCATOR: [u8; 60] = [
     0x8f, 0x01, 0xcf, 0xea, 0x41, 0x41, 0x40, 0xde, 0x5d, 0xae, 0x22, 0x23, 0xb0, 0x03, 0x61, 0xa3,
     0x96, 0x17, 0x7a, 0x9c, 0xb4, 0x10, 0xff, 0x61, 0xf2, 0x00, 0x15, 0xad,
 ];
+
+/// Requires that what was found is what was wanted, and else prints both. That it can be printed is proved here, once, and
+/// not in each test.
+fn same<T: PartialEq + Debug + Drop>(rt: &impl Abort, found: T, wanted: T) {
+    assert_eq!(rt; found, wanted);
+}
 
 /// That locator.
 fn abc() -> Locator {
@@ -114,30 +122,44 @@ fn fault(alloc: Global, payload: &[u8]) -> Option<RunFault> {
     read_run(alloc, payload).err()
 }
 
+/// Why no run is read from the payload that claims so many entries and has these, if none is.
+fn fault_of(
+    alloc: Global,
+    claimed: u32,
+    entries: &[Written],
+) -> Result<Option<RunFault>, OutOfMemory> {
+    Ok(fault(alloc, &payload(alloc, claimed, entries)?))
+}
+
+/// Compares entries with their identifiers and locators.
+fn check_entries(rt: &impl Abort, entries: &[Entry], wanted: &[(ShardId, &[Locator])]) {
+    assert!(rt; entries.len() == wanted.len());
+    for (entry, (id, locators)) in entries.iter().zip(wanted) {
+        same(rt, entry.id(), *id);
+        same(rt, entry.locators(), *locators);
+    }
+}
+
 #[test]
 fn the_run_of_one_shard_is_written(rt: HostRuntime) -> Result<(), Fail> {
     let locators = Vec::from_slice(rt.alloc(), &[abc()])?;
     let entries = [Entry::new(shard(1), locators)];
     let bytes = write_run(rt.alloc(), &entries)?;
-    assert_eq!(rt; bytes.as_slice(), ONE_SHARD.as_slice());
+    same(&rt, bytes.as_slice(), ONE_SHARD.as_slice());
     Ok(())
 }
 
 #[test]
 fn the_run_of_one_shard_is_read(rt: HostRuntime) -> Result<(), Fail> {
     let run = read_run(rt.alloc(), &ONE_SHARD)?;
-    assert_eq!(rt; run.entries().len(), 1);
-    for entry in run.entries() {
-        assert_eq!(rt; entry.id(), shard(1));
-        assert_eq!(rt; entry.locators(), [abc()].as_slice());
-    }
+    check_entries(&rt, run.entries(), &[(shard(1), &[abc()])]);
     Ok(())
 }
 
 #[test]
 fn a_run_of_no_entries_has_40_bytes(rt: HostRuntime) -> Result<(), Fail> {
     let bytes = write_run(rt.alloc(), &[])?;
-    assert_eq!(rt; bytes.as_slice(), NO_ENTRIES.as_slice());
+    same(&rt, bytes.as_slice(), NO_ENTRIES.as_slice());
     let run = read_run(rt.alloc(), &NO_ENTRIES)?;
     assert!(rt; run.entries().is_empty());
     Ok(())
@@ -146,14 +168,9 @@ fn a_run_of_no_entries_has_40_bytes(rt: HostRuntime) -> Result<(), Fail> {
 #[test]
 fn a_deleted_shard_has_no_locators(rt: HostRuntime) -> Result<(), Fail> {
     let bytes = payload(rt.alloc(), 1, &[sound(1, 0)])?;
-    assert_eq!(rt; bytes.len(), 57);
+    assert!(rt; bytes.len() == 57);
     let run = read_run(rt.alloc(), &bytes)?;
-    assert_eq!(rt; run.entries().len(), 1);
-    assert!(rt;
-        run.entries()
-            .iter()
-            .all(|entry| entry.locators().is_empty())
-    );
+    check_entries(&rt, run.entries(), &[(shard(1), &[])]);
     Ok(())
 }
 
@@ -165,8 +182,8 @@ fn an_entry_keeps_its_locators_in_order(rt: HostRuntime) -> Result<(), Fail> {
     };
     let kept = [moved, abc(), moved];
     let entry = Entry::new(shard(2), Vec::from_slice(rt.alloc(), &kept)?);
-    assert_eq!(rt; entry.id(), shard(2));
-    assert_eq!(rt; entry.locators(), kept.as_slice());
+    same(&rt, entry.id(), shard(2));
+    same(&rt, entry.locators(), kept.as_slice());
     Ok(())
 }
 
@@ -182,40 +199,67 @@ fn identifiers_are_ordered_as_bytes(rt: HostRuntime) {
     assert!(rt; shard(0xFF) < ShardId(first));
 }
 
+/// The entry of a shard that was deleted. Its identifier is told apart by these last two bytes.
+fn deleted_behind_equal_bytes(last: [u8; 2]) -> Written {
+    Written {
+        id: behind_equal_bytes(last),
+        claimed: 0,
+        present: 0,
+    }
+}
+
 /// Three identifiers that differ behind their first fourteen bytes alone. The last byte falls where the one before it
 /// rises.
 #[test]
 fn identifiers_that_begin_alike_are_told_apart(rt: HostRuntime) -> Result<(), Fail> {
-    let [low, middle, high] = [[0, 2], [1, 1], [1, 2]].map(|last| Written {
-        id: behind_equal_bytes(last),
-        claimed: 0,
-        present: 0,
-    });
-    let run = read_run(rt.alloc(), &payload(rt.alloc(), 3, &[low, middle, high])?)?;
-    assert_eq!(rt; run.entries().len(), 3);
-    for (entry, written) in run.entries().iter().zip([low, middle, high]) {
-        assert_eq!(rt; entry.id(), written.id);
-    }
-    for (what, entries) in [
-        ("the first two exchanged", [middle, low, high]),
-        ("the last two exchanged", [low, high, middle]),
-        ("the last one twice", [low, high, high]),
-    ] {
-        let broken = payload(rt.alloc(), 3, &entries)?;
-        assert_eq!(rt;
-            fault(rt.alloc(), &broken),
+    let low = deleted_behind_equal_bytes([0, 2]);
+    let middle = deleted_behind_equal_bytes([1, 1]);
+    let high = deleted_behind_equal_bytes([1, 2]);
+    let bytes = payload(rt.alloc(), 3, &[low, middle, high])?;
+    let run = read_run(rt.alloc(), &bytes)?;
+    check_entries(
+        &rt,
+        run.entries(),
+        &[(low.id, &[]), (middle.id, &[]), (high.id, &[])],
+    );
+    Ok(())
+}
+
+/// The first two entries exchanged, the last two exchanged, and the last one twice.
+#[test]
+fn identifiers_that_begin_alike_have_to_rise(rt: HostRuntime) -> Result<(), Fail> {
+    let low = deleted_behind_equal_bytes([0, 2]);
+    let middle = deleted_behind_equal_bytes([1, 1]);
+    let high = deleted_behind_equal_bytes([1, 2]);
+    for entries in [[middle, low, high], [low, high, middle], [low, high, high]] {
+        same(
+            &rt,
+            fault_of(rt.alloc(), 3, &entries)?,
             Some(RunFault::NotARun),
-            "{what}"
         );
     }
+    Ok(())
+}
+
+/// Requires that this payload is no run, if one byte of it is changed and its digest made anew.
+fn check_changed(
+    rt: &impl Abort,
+    alloc: Global,
+    payload: &[u8],
+    what: &str,
+    place: usize,
+    byte: u8,
+) -> Result<(), Fail> {
+    let broken = changed(alloc, payload, place, byte)?;
+    assert!(rt; fault(alloc, &broken) == Some(RunFault::NotARun), "{what}");
     Ok(())
 }
 
 #[test]
 fn a_run_with_one_byte_changed_is_none(rt: HostRuntime) -> Result<(), Fail> {
     let bytes = payload(rt.alloc(), 2, &[sound(1, 1), sound(2, 1)])?;
-    assert_eq!(rt; bytes.len(), 194);
-    assert_eq!(rt; fault(rt.alloc(), &bytes), None);
+    assert!(rt; bytes.len() == 194);
+    same(&rt, fault(rt.alloc(), &bytes), None);
     for (what, place, byte) in [
         ("another magic", 3, b'2'),
         ("a count one less", 7, 1),
@@ -228,76 +272,57 @@ fn a_run_with_one_byte_changed_is_none(rt: HostRuntime) -> Result<(), Fail> {
         ("a last entry that claims no locator", 101, 0),
         ("a last entry that claims two", 101, 2),
     ] {
-        let broken = changed(rt.alloc(), &bytes, place, byte)?;
-        assert_eq!(rt;
-            fault(rt.alloc(), &broken),
-            Some(RunFault::NotARun),
-            "{what}"
-        );
+        check_changed(&rt, rt.alloc(), &bytes, what, place, byte)?;
     }
-    let same = changed(rt.alloc(), &bytes, 3, b'1')?;
-    assert_eq!(rt; fault(rt.alloc(), &same), None, "no byte changed");
+    let unchanged = changed(rt.alloc(), &bytes, 3, b'1')?;
+    same(&rt, fault(rt.alloc(), &unchanged), None);
     Ok(())
 }
 
 #[test]
 fn a_run_with_another_digest_is_none(rt: HostRuntime) {
     let mut bytes = ONE_SHARD;
-    assert_eq!(rt; fault(rt.alloc(), &bytes), None);
+    same(&rt, fault(rt.alloc(), &bytes), None);
     bytes[116] ^= 1;
-    assert_eq!(rt;
-        fault(rt.alloc(), &bytes),
-        Some(RunFault::NotARun),
-        "its last bit changed"
-    );
+    same(&rt, fault(rt.alloc(), &bytes), Some(RunFault::NotARun));
     bytes[116] ^= 1;
     bytes[40] ^= 1;
-    assert_eq!(rt;
-        fault(rt.alloc(), &bytes),
-        Some(RunFault::NotARun),
-        "a locator changed"
-    );
+    same(&rt, fault(rt.alloc(), &bytes), Some(RunFault::NotARun));
 }
 
 #[test]
 fn a_run_ends_with_its_digest(rt: HostRuntime) -> Result<(), Fail> {
     let mut longer = Vec::from_slice(rt.alloc(), &ONE_SHARD)?;
     longer.push(0)?;
-    assert_eq!(rt;
-        fault(rt.alloc(), &longer),
-        Some(RunFault::NotARun),
-        "one byte behind it"
-    );
-    assert_eq!(rt;
+    same(&rt, fault(rt.alloc(), &longer), Some(RunFault::NotARun));
+    same(
+        &rt,
         fault(rt.alloc(), &ONE_SHARD[..116]),
         Some(RunFault::NotARun),
-        "its last byte cut off"
     );
-    assert_eq!(rt; fault(rt.alloc(), &[]), Some(RunFault::NotARun), "no bytes");
+    same(&rt, fault(rt.alloc(), &[]), Some(RunFault::NotARun));
     let mut inner = Vec::from_slice(rt.alloc(), &ONE_SHARD[..85])?;
     inner.push(0)?;
     let inner = body(inner)?;
-    assert_eq!(rt;
-        fault(rt.alloc(), &inner),
-        Some(RunFault::NotARun),
-        "one byte before it"
-    );
+    same(&rt, fault(rt.alloc(), &inner), Some(RunFault::NotARun));
     Ok(())
 }
 
 #[test]
 fn an_entry_has_at_most_64_locators(rt: HostRuntime) -> Result<(), Fail> {
-    let most = payload(rt.alloc(), 1, &[sound(1, 64)])?;
-    assert_eq!(rt; fault(rt.alloc(), &most), None);
-    let more = payload(rt.alloc(), 1, &[sound(1, 65)])?;
-    assert_eq!(rt; fault(rt.alloc(), &more), Some(RunFault::NotARun));
+    same(&rt, fault_of(rt.alloc(), 1, &[sound(1, 64)])?, None);
     let missing = Written {
         id: shard(1),
         claimed: 64,
         present: 63,
     };
-    let fewer = payload(rt.alloc(), 1, &[missing])?;
-    assert_eq!(rt; fault(rt.alloc(), &fewer), Some(RunFault::NotARun));
+    for entry in [sound(1, 65), missing] {
+        same(
+            &rt,
+            fault_of(rt.alloc(), 1, &[entry])?,
+            Some(RunFault::NotARun),
+        );
+    }
     Ok(())
 }
 
@@ -305,8 +330,8 @@ fn an_entry_has_at_most_64_locators(rt: HostRuntime) -> Result<(), Fail> {
 #[test]
 fn forty_bytes_claim_the_greatest_count(rt: HostRuntime) -> Result<(), Fail> {
     let bytes = payload(rt.alloc(), 4_294_967_295, &[])?;
-    assert_eq!(rt; bytes.len(), 40);
-    assert_eq!(rt; fault(rt.alloc(), &bytes), Some(RunFault::NotARun));
+    assert!(rt; bytes.len() == 40);
+    same(&rt, fault(rt.alloc(), &bytes), Some(RunFault::NotARun));
     Ok(())
 }
 
@@ -337,16 +362,14 @@ fn written_and_read(alloc: Global, entries: &[Entry]) -> Result<Run, RunFault>
 
 #[test]
 fn two_shards_are_written_and_read(rt: HostRuntime) -> Result<(), Fail> {
-    let first = read_run(
-        rt.alloc(),
-        &payload(rt.alloc(), 2, &[sound(1, 0), sound(2, 1)])?,
-    )?;
+    let bytes = payload(rt.alloc(), 2, &[sound(1, 0), sound(2, 1)])?;
+    let first = read_run(rt.alloc(), &bytes)?;
     let again = written_and_read(rt.alloc(), first.entries())?;
-    assert_eq!(rt; again.entries().len(), 2);
-    assert_eq!(rt; again.entries()[0].id(), shard(1));
-    assert!(rt; again.entries()[0].locators().is_empty());
-    assert_eq!(rt; again.entries()[1].id(), shard(2));
-    assert_eq!(rt; again.entries()[1].locators(), [abc()].as_slice());
+    check_entries(
+        &rt,
+        again.entries(),
+        &[(shard(1), &[]), (shard(2), &[abc()])],
+    );
     Ok(())
 }
 
@@ -366,8 +389,8 @@ fn many(alloc: Global, count: u32) -> Result<Vec<u8>, OutOfMemory> {
 #[test]
 fn twenty_thousand_entries_are_read_and_written(rt: HostRuntime) -> Result<(), Fail> {
     let bytes = many(rt.alloc(), 20_000)?;
-    assert_eq!(rt; bytes.len(), 1_540_040);
+    assert!(rt; bytes.len() == 1_540_040);
     let written = read_and_written(rt.alloc(), &bytes)?;
-    assert_eq!(rt; written.as_slice(), bytes.as_slice());
+    same(&rt, written.as_slice(), bytes.as_slice());
     Ok(())
 }
