@@ -5,6 +5,7 @@ use crate::*;
 use scrub_disk::Geometry;
 use scrub_frame::{Locator, digest_of};
 use std::alloc::Global;
+use std::fmt::Debug;
 use std::process::Abort;
 use std::test::Fail;
 use uuid::Uuid;
@@ -28,6 +29,12 @@ const RUN_DIGEST: [u8; 32] = [
     0x7e, 0xd8, 0x13, 0x3c, 0xf8, 0x2f, 0xd7, 0x8e, 0x2e, 0x6a, 0x56, 0xda, 0x6b, 0xd6, 0x7a, 0x06,
 ];
 
+/// Requires that what was found is what was wanted, and else prints both. That it can be printed is proved here, once, and
+/// not in each test.
+fn same<T: PartialEq + Debug + Drop>(rt: &impl Abort, found: T, wanted: T) {
+    assert_eq!(rt; found, wanted);
+}
+
 /// The locator of that run.
 fn run_locator() -> Locator {
     Locator {
@@ -48,7 +55,7 @@ fn record_of(
     pointers: &[u32],
     runs: &[Locator],
 ) -> Result<Vec<u8>, Fail> {
-    assert_eq!(rt; pointers.len() + 1, geometry.extents() as usize);
+    assert!(rt; pointers.len() + 1 == geometry.extents() as usize);
     assert!(rt;
         pointers
             .iter()
@@ -77,11 +84,11 @@ fn end_with_digest(rt: &impl Abort, record: &mut [u8]) {
 fn a_record_of_one_run_is_written_and_read(rt: HostRuntime) -> Result<(), Fail> {
     let geometry = Geometry::new(64, 4, 3)?;
     let record = record_of(&rt, rt.alloc(), geometry, 1, &[41, 155], &[run_locator()])?;
-    assert_eq!(rt; record.as_slice(), RECORD.as_slice());
+    same(&rt, record.as_slice(), RECORD.as_slice());
     let superblock = read_record(rt.alloc(), &RECORD, geometry)?.ok_or("a record")?;
-    assert_eq!(rt; superblock.generation(), 1);
-    assert_eq!(rt; superblock.pointers(), [41, 155].as_slice());
-    assert_eq!(rt; superblock.runs(), [run_locator()].as_slice());
+    same(&rt, superblock.generation(), 1);
+    same(&rt, superblock.pointers(), [41, 155].as_slice());
+    same(&rt, superblock.runs(), [run_locator()].as_slice());
     Ok(())
 }
 
@@ -92,7 +99,7 @@ fn a_record_is_appended_and_read_whatever_follows_it(rt: HostRuntime) -> Result<
     out.extend_from_slice(&RECORD)?;
     out.extend_from_slice(b"SSB1")?;
     let found = read_record(rt.alloc(), &out[1..], geometry)?.ok_or("a record")?;
-    assert_eq!(rt; found.pointers(), [41, 155].as_slice());
+    same(&rt, found.pointers(), [41, 155].as_slice());
     assert!(rt; read_record(rt.alloc(), &out, geometry)?.is_none());
     Ok(())
 }
@@ -136,14 +143,14 @@ fn a_record_names_32_runs_at_most(rt: HostRuntime) -> Result<(), Fail> {
     let geometry = Geometry::new(64, 64, 3)?;
     let runs = [run_locator(); 32];
     let most = record_of(&rt, rt.alloc(), geometry, 1, &[41, 155], &runs)?;
-    assert_eq!(rt; most.len(), 1986);
+    assert!(rt; most.len() == 1986);
     let found = read_record(rt.alloc(), &most, geometry)?.ok_or("a record")?;
-    assert_eq!(rt; found.runs(), runs.as_slice());
+    same(&rt, found.runs(), runs.as_slice());
     let front = most.get(..1954).ok_or("1954 bytes")?;
     let mut more = Vec::from_slice(rt.alloc(), front)?;
     more.extend_from_slice(&RECORD[34..94])?;
     more.extend_from_slice(&[0; 32])?;
-    assert_eq!(rt; more.len(), 2046);
+    assert!(rt; more.len() == 2046);
     more[25] = 33;
     end_with_digest(&rt, &mut more);
     assert!(rt; read_record(rt.alloc(), &more, geometry)?.is_none());
@@ -155,8 +162,8 @@ fn a_record_of_65535_pointers_is_read(rt: HostRuntime) -> Result<(), Fail> {
     let geometry = Geometry::new(64, 1, 65536)?;
     let pointers = vec![in rt.alloc(); 64u32; 65535]?;
     let record = record_of(&rt, rt.alloc(), geometry, 1, &pointers, &[])?;
-    assert_eq!(rt; record.len(), 262_198);
+    assert!(rt; record.len() == 262_198);
     let found = read_record(rt.alloc(), &record, geometry)?.ok_or("a record")?;
-    assert_eq!(rt; found.pointers(), pointers.as_slice());
+    same(&rt, found.pointers(), pointers.as_slice());
     Ok(())
 }
