@@ -2,33 +2,41 @@
 
 use crate::*;
 use scrub_disk::{PageSource, RawFault, RawImage, Unreadable};
+use std::fmt::Debug;
 use std::io::Write;
+use std::process::Abort;
 use std::slice;
 use std::test::Fail;
+
+/// Requires that what was found is what was wanted, and else prints both. That it can be printed is proved here, once, and
+/// not in each test.
+fn same<T: PartialEq + Debug + Drop>(rt: &impl Abort, found: T, wanted: T) {
+    assert_eq!(rt; found, wanted);
+}
 
 #[test]
 fn a_raw_image_gives_short_reads_and_fails_where_it_is_told(rt: HostRuntime) {
     let bytes = [1, 2, 3, 4, 5];
     let mut out = [0; 4];
     let mut raw = RawBytes::failing(&bytes, 2, 1, 1);
-    assert_eq!(rt; raw.read_at(1, &mut out), Ok(2));
-    assert_eq!(rt; out, [2, 3, 0, 0]);
-    assert_eq!(rt; raw.read_at(1, &mut out), Err(RawFault));
-    assert_eq!(rt; raw.read_at(4, &mut out), Ok(1));
-    assert_eq!(rt; raw.read_at(5, &mut out), Ok(0));
-    assert_eq!(rt; (raw.reads, raw.failures), (4, 1));
+    same(&rt, raw.read_at(1, &mut out), Ok(2));
+    same(&rt, out, [2, 3, 0, 0]);
+    same(&rt, raw.read_at(1, &mut out), Err(RawFault));
+    same(&rt, raw.read_at(4, &mut out), Ok(1));
+    same(&rt, raw.read_at(5, &mut out), Ok(0));
+    same(&rt, (raw.reads, raw.failures), (4, 1));
     let mut whole = RawBytes::new(&bytes);
-    assert_eq!(rt; whole.read_at(1, &mut out), Ok(4));
-    assert_eq!(rt; out, [2, 3, 4, 5]);
+    same(&rt, whole.read_at(1, &mut out), Ok(4));
+    same(&rt, out, [2, 3, 4, 5]);
 }
 
 #[test]
 fn a_writer_takes_three_bytes_a_call_until_it_is_full(rt: HostRuntime) -> Result<(), Fail> {
     let mut writer = NarrowWriter::new(rt.alloc(), 5, false);
-    assert_eq!(rt; writer.write(b"abcd")?, 3);
-    assert_eq!(rt; writer.write(b"def")?, 2);
-    assert_eq!(rt; writer.write(b"f")?, 0);
-    assert_eq!(rt; writer.taken.as_slice(), b"abcde".as_slice());
+    same(&rt, writer.write(b"abcd")?, 3);
+    same(&rt, writer.write(b"def")?, 2);
+    same(&rt, writer.write(b"f")?, 0);
+    same(&rt, writer.taken.as_slice(), b"abcde".as_slice());
     let mut full = NarrowWriter::new(rt.alloc(), 0, true);
     assert!(rt; full.write(b"a").is_err());
     Ok(())
@@ -42,12 +50,12 @@ fn calls_are_counted_for_each_extent(rt: HostRuntime) -> Result<(), Fail> {
     assert!(rt; geometry.extents() == 3 && geometry.pages() == 4 && geometry.page() == 64);
     let mut out = [7; 64];
     for page in 0..4 {
-        assert_eq!(rt; source.read_page(1, page, &mut out), Ok(()));
+        same(&rt, source.read_page(1, page, &mut out), Ok(()));
     }
-    assert_eq!(rt; source.read_page(2, 0, &mut out), Ok(()));
-    assert_eq!(rt; out, [0; 64]);
+    same(&rt, source.read_page(2, 0, &mut out), Ok(()));
+    same(&rt, out, [0; 64]);
     let asked = (source.asked(0), source.asked(1), source.asked(2));
-    assert_eq!(rt; asked, (0, 4, 1));
+    same(&rt, asked, (0, 4, 1));
     Ok(())
 }
 
@@ -56,15 +64,15 @@ fn a_chunk_its_run_and_the_superblock_of_both_are_put(rt: HostRuntime) -> Result
     let alloc = rt.alloc();
     let mut disk = small_disk(alloc)?;
     let chunk = put_chunk(alloc, &mut disk, 1, 0, ONES, b"abc")?;
-    assert_eq!(rt; chunk, abc_at(1, 0));
+    same(&rt, chunk, abc_at(1, 0));
     let payload = run_of(alloc, SHARD, slice::from_ref(&chunk))?;
-    assert_eq!(rt; payload.len(), 117);
+    assert!(rt; payload.len() == 117);
     let run = put_chunk(alloc, &mut disk, 2, 0, TWOS, &payload)?;
     let size = put_superblock(alloc, &mut disk, &[41, 155], slice::from_ref(&run))?;
-    assert_eq!(rt; size, 126);
+    same(&rt, size, 126);
     let plan = plan_of(alloc, &disk)?;
-    assert_eq!(rt; plan.planned(), [1, 2].as_slice());
-    assert_eq!(rt; plan.runs(), slice::from_ref(&run));
+    same(&rt, plan.planned(), [1, 2].as_slice());
+    same(&rt, plan.runs(), slice::from_ref(&run));
     assert!(rt; plan.has_superblock());
     assert!(rt; shard_of(1) == SHARD);
     Ok(())
@@ -77,7 +85,7 @@ fn a_marked_page_is_unreadable(rt: HostRuntime) -> Result<(), Fail> {
     let geometry = disk.geometry();
     assert!(rt; geometry.extents() == 3 && geometry.pages() == 4 && geometry.page() == 64);
     let mut out = [7; 64];
-    assert_eq!(rt; disk.read_page(2, 3, &mut out), Err(Unreadable));
-    assert_eq!(rt; disk.read_page(2, 2, &mut out), Ok(()));
+    same(&rt, disk.read_page(2, 3, &mut out), Err(Unreadable));
+    same(&rt, disk.read_page(2, 2, &mut out), Ok(()));
     Ok(())
 }
