@@ -1,13 +1,18 @@
 //! Worked examples: what is written to a disk in memory, and what is found there. Lines, numbers and digests are those of
 //! the format's description.
 
+ghost use Rattle.std.specs.Prelude.{◌≡◌};
+ghost use Rattle.scrub_disk.specs.Memory.{image_of};
+
 use crate::*;
 use scrub_disk::{Geometry, MemDisk, PageSource};
 use scrub_fakes::{
     ABC_DIGEST, ENDS_IN_MAGIC, ONES, SHARD, THREES, TWOS, mark_bad, plan_of, put, put_chunk,
     put_frame, put_superblock, run_of, small_disk,
 };
+use scrub_super::Plan;
 use std::alloc::Global;
+use std::fmt::Debug;
 use std::process::Abort;
 use std::slice;
 use std::test::Fail;
@@ -18,11 +23,52 @@ mod findings;
 mod items;
 mod standing;
 
+/// Requires that what was found is what was wanted, and else prints both. That it can be printed is proved here, once, and
+/// not in each test.
+fn same<T: PartialEq + Debug + Drop>(rt: &impl Abort, found: T, wanted: T) {
+    assert_eq!(rt; found, wanted);
+}
+
+/// A frame to put: its offset in extent 1, its UUID and its payload.
+type Written<'a> = (u32, [u8; 16], &'a [u8]);
+
+/// Puts frames into extent 1.
+fn put_frames(alloc: Global, disk: &mut MemDisk, frames: &[Written]) -> Result<(), Fail> {
+    for (offset, uuid, payload) in frames {
+        put_frame(alloc, disk, 1, *offset, *uuid, payload)?;
+    }
+    Ok(())
+}
+
+/// Puts bytes into extent 1, each at an offset.
+fn put_all(disk: &mut MemDisk, parts: &[(u32, &[u8])]) -> Result<(), Fail> {
+    for (offset, bytes) in parts {
+        put(disk, 1, *offset, bytes)?;
+    }
+    Ok(())
+}
+
+/// Makes pages of an extent unreadable.
+fn mark_all(disk: &mut MemDisk, extent: u32, pages: &[u32]) -> Result<(), Fail> {
+    for page in pages {
+        mark_bad(disk, extent, *page)?;
+    }
+    Ok(())
+}
+
+/// A disk of three extents without a superblock. Extent 1 has these frames, and pages that are unreadable.
+fn disk_with(alloc: Global, frames: &[Written], bad_pages: &[u32]) -> Result<MemDisk, Fail> {
+    let mut disk = small_disk(alloc)?;
+    put_frames(alloc, &mut disk, frames)?;
+    mark_all(&mut disk, 1, bad_pages)?;
+    Ok(disk)
+}
+
 /// Compares items by their lines.
 fn check_lines(rt: &impl Abort, alloc: Global, items: &[Item], lines: &[&str]) -> Result<(), Fail> {
-    assert_eq!(rt; items.len(), lines.len());
+    same(rt, items.len(), lines.len());
     for (item, line) in items.iter().zip(lines) {
-        assert_eq!(rt; item_line(alloc, item)?.as_str(), *line);
+        same(rt, item_line(alloc, item)?.as_str(), *line);
     }
     Ok(())
 }
@@ -36,6 +82,16 @@ struct Expected<'a> {
     bad_pages: &'a [u32],
 }
 
+/// What is to be found in a readable extent that has nothing past its pointer.
+fn full<'a>(lines: &'a [&'a str]) -> Expected<'a> {
+    Expected {
+        lines,
+        tail_count: 0,
+        tail_first: None,
+        bad_pages: &[],
+    }
+}
+
 /// Compares what was found in an extent.
 fn check_findings(
     rt: &impl Abort,
@@ -44,8 +100,29 @@ fn check_findings(
     expected: &Expected,
 ) -> Result<(), Fail> {
     check_lines(rt, alloc, findings.items(), expected.lines)?;
-    assert_eq!(rt; findings.tail_count(), expected.tail_count);
-    assert_eq!(rt; findings.tail_first(), expected.tail_first);
-    assert_eq!(rt; findings.bad_pages(), expected.bad_pages);
+    same(
+        rt,
+        (findings.tail_count(), findings.tail_first()),
+        (expected.tail_count, expected.tail_first),
+    );
+    same(rt, findings.bad_pages(), expected.bad_pages);
     Ok(())
+}
+
+/// Compares what a scan of an extent finds under the write pointer of a plan.
+fn check_extent(
+    rt: &impl Abort,
+    alloc: Global,
+    disk: &MemDisk,
+    plan: &Plan,
+    extent: u32,
+    pointer: u32,
+    expected: &Expected,
+) -> Result<(), Fail>
+    requires { plan.now.geometry ≡ (image_of disk.now).geometry }
+{
+    assert!(rt; plan.planned().contains(&extent));
+    let scanned = scan_extent(alloc, disk, plan, extent)?;
+    same(rt, (scanned.extent(), scanned.pointer()), (extent, pointer));
+    check_findings(rt, alloc, scanned.findings(), expected)
 }
