@@ -30,27 +30,48 @@ fn of_run(number: u32, locator: Locator) -> Named {
     }
 }
 
+/// Requires that the shard alone is bound, by this run.
+fn check_bound(rt: &impl Abort, map: &ShardMap, run: u32, doubtful: bool) {
+    assert!(rt; map.bindings().len() == 1);
+    assert!(rt;
+        map.get(&SHARD).is_some_and(|binding| binding.run() == run
+            && binding.doubtful() == doubtful)
+    );
+}
+
+/// Requires that no shard is bound.
+fn check_unbound(rt: &impl Abort, map: &ShardMap) {
+    assert!(rt; map.bindings().is_empty());
+    assert!(rt; map.get(&SHARD).is_none());
+}
+
+/// Compares who has the locators that are named.
+fn check_owners(rt: &impl Abort, named: &[Named], owners: &[Owner]) {
+    assert!(rt; named.len() == owners.len());
+    for (named, owner) in named.iter().zip(owners) {
+        same(rt, named.owner, *owner);
+    }
+}
+
 #[test]
 fn the_locator_of_a_run_is_named_before_those_of_its_shard(rt: HostRuntime) -> Result<(), Fail> {
     let mut disk = small_disk(rt.alloc())?;
-    let run = put_abc_and_its_run(&rt, rt.alloc(), &mut disk)?;
+    let run = put_abc_and_its_run(rt.alloc(), &mut disk)?;
     let (map, named) = shards_and_named(rt.alloc(), &disk)?;
-    assert_eq!(rt; map.bindings().len(), 1);
-    assert_eq!(rt;
-        named.as_slice(),
-        [of_run(0, run), of_shard(abc_at(1, 0))].as_slice()
-    );
+    check_bound(&rt, &map, 0, false);
+    let wanted = [of_run(0, run), of_shard(abc_at(1, 0))];
+    same(&rt, named.as_slice(), wanted.as_slice());
     Ok(())
 }
 
 #[test]
 fn the_locator_of_a_lost_run_is_named(rt: HostRuntime) -> Result<(), Fail> {
     let mut disk = small_disk(rt.alloc())?;
-    let run = put_abc_and_its_run(&rt, rt.alloc(), &mut disk)?;
+    let run = put_abc_and_its_run(rt.alloc(), &mut disk)?;
     mark_bad(&mut disk, 2, 0)?;
     let (map, named) = shards_and_named(rt.alloc(), &disk)?;
-    assert!(rt; map.bindings().is_empty());
-    assert_eq!(rt; named.as_slice(), [of_run(0, run)].as_slice());
+    check_unbound(&rt, &map);
+    same(&rt, named.as_slice(), [of_run(0, run)].as_slice());
     Ok(())
 }
 
@@ -60,10 +81,10 @@ fn a_run_and_nine_locators_of_a_shard_are_named_in_their_order(
 ) -> Result<(), Fail> {
     let (disk, run) = nine_locators(&rt, rt.alloc())?;
     let (_, named) = shards_and_named(rt.alloc(), &disk)?;
-    assert_eq!(rt; named.len(), 10);
-    assert_eq!(rt; named[0], of_run(0, run));
+    assert!(rt; named.len() == 10);
+    same(&rt, named[0], of_run(0, run));
     for (found, (locator, _)) in named[1..].iter().zip(judged_locators()) {
-        assert_eq!(rt; *found, of_shard(locator));
+        same(&rt, *found, of_shard(locator));
     }
     Ok(())
 }
@@ -72,28 +93,22 @@ fn a_run_and_nine_locators_of_a_shard_are_named_in_their_order(
 fn a_shard_that_the_newest_run_deletes_is_not_bound(rt: HostRuntime) -> Result<(), Fail> {
     let disk = deleted_in_the_newest_run(&rt, rt.alloc())?;
     let (map, named) = shards_and_named(rt.alloc(), &disk)?;
-    assert!(rt; map.bindings().is_empty());
-    assert!(rt; map.get(&SHARD).is_none());
-    assert_eq!(rt; named.len(), 3, "the runs alone");
-    for (number, found) in (0..3).zip(named.as_slice()) {
-        assert_eq!(rt; found.owner, Owner::Run(number));
-    }
+    check_unbound(&rt, &map);
+    check_owners(&rt, &named, &[0, 1, 2].map(Owner::Run));
     Ok(())
 }
+
+/// The owners of two runs' locators and one shard's.
+const TWO_RUNS_AND_A_SHARD: [Owner; 3] = [Owner::Run(0), Owner::Run(1), Owner::Shard(SHARD)];
 
 #[test]
 fn a_shard_behind_a_broken_run_is_bound_and_doubtful(rt: HostRuntime) -> Result<(), Fail> {
     let disk = broken_newest_run(&rt, rt.alloc())?;
     let (map, named) = shards_and_named(rt.alloc(), &disk)?;
-    assert_eq!(rt; map.bindings().len(), 1);
-    assert!(rt;
-        map.get(&SHARD)
-            .is_some_and(|binding| binding.run() == 1 && binding.doubtful())
-    );
-    assert_eq!(rt; named.len(), 3);
-    assert_eq!(rt; named[0].owner, Owner::Run(0));
-    assert_eq!(rt; named[1].owner, Owner::Run(1));
-    assert_eq!(rt; named[2], of_shard(abc_at(1, 0)));
+    check_bound(&rt, &map, 1, true);
+    check_owners(&rt, &named, &TWO_RUNS_AND_A_SHARD);
+    assert!(rt; named.len() == 3);
+    same(&rt, named[2].locator, abc_at(1, 0));
     Ok(())
 }
 
@@ -101,20 +116,10 @@ fn a_shard_behind_a_broken_run_is_bound_and_doubtful(rt: HostRuntime) -> Result<
 fn a_run_that_is_named_twice_binds_its_shard_once(rt: HostRuntime) -> Result<(), Fail> {
     let disk = run_named_twice(&rt, rt.alloc())?;
     let (map, named) = shards_and_named(rt.alloc(), &disk)?;
-    assert_eq!(rt; map.bindings().len(), 1);
-    assert!(rt;
-        map.get(&SHARD)
-            .is_some_and(|binding| binding.run() == 0 && !binding.doubtful())
-    );
-    assert_eq!(rt; named.len(), 3);
-    assert_eq!(rt; named[0].owner, Owner::Run(0));
-    assert_eq!(rt;
-        named[1],
-        Named {
-            owner: Owner::Run(1),
-            ..named[0]
-        }
-    );
-    assert_eq!(rt; named[2], of_shard(abc_at(1, 0)));
+    check_bound(&rt, &map, 0, false);
+    check_owners(&rt, &named, &TWO_RUNS_AND_A_SHARD);
+    assert!(rt; named.len() == 3);
+    same(&rt, named[1].locator, named[0].locator);
+    same(&rt, named[2].locator, abc_at(1, 0));
     Ok(())
 }

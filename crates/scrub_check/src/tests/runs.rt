@@ -10,57 +10,68 @@ fn read(alloc: Global, disk: &MemDisk) -> Result<ReadRuns, Fail> {
     Ok(read_runs(alloc, disk, &plan, &all)?)
 }
 
-/// Requires that a run was read, and that it has one shard, with these locators.
-fn check_run(rt: &impl Abort, run: &Option<Run>, locators: &[Locator]) {
-    match run {
-        Some(run) => {
-            assert_eq!(rt; run.entries().len(), 1);
-            assert_eq!(rt; run.entries()[0].id(), SHARD);
-            assert_eq!(rt; run.entries()[0].locators(), locators);
+/// Requires that a run was read and has one shard, with these locators; or that it was lost, where none are given.
+fn check_run(rt: &impl Abort, run: &Option<Run>, locators: Option<&[Locator]>) {
+    match (run, locators) {
+        (Some(run), Some(locators)) => {
+            assert!(rt; run.entries().len() == 1);
+            same(rt, run.entries()[0].id(), SHARD);
+            same(rt, run.entries()[0].locators(), locators);
         }
-        None => panic!(rt; "the run is read"),
+        (None, None) => {}
+        (Some(_), None) => panic!(rt; "the run is lost"),
+        (None, Some(_)) => panic!(rt; "the run is read"),
     }
+}
+
+/// Compares what became of the runs of a disk, and the locators of those that were read.
+fn check_runs(
+    rt: &impl Abort,
+    alloc: Global,
+    disk: &MemDisk,
+    states: &[RunState],
+    runs: &[Option<&[Locator]>],
+) -> Result<(), Fail> {
+    let read = read(alloc, disk)?;
+    same(rt, read.states(), states);
+    assert!(rt; read.runs().len() == runs.len());
+    for (run, locators) in read.runs().iter().zip(runs) {
+        check_run(rt, run, *locators);
+    }
+    Ok(())
 }
 
 /// Requires that of the runs of a disk just one is told, and that it is lost in this way.
 fn check_lost(rt: &impl Abort, alloc: Global, disk: &MemDisk, state: RunState) -> Result<(), Fail> {
-    let read = read(alloc, disk)?;
-    assert_eq!(rt; read.states(), [state].as_slice());
-    assert_eq!(rt; read.runs().len(), 1);
-    assert!(rt; read.runs().iter().all(|run| run.is_none()));
-    Ok(())
+    check_runs(rt, alloc, disk, slice::from_ref(&state), &[None])
 }
 
 #[test]
 fn a_run_of_one_shard_is_read(rt: HostRuntime) -> Result<(), Fail> {
     let mut disk = small_disk(rt.alloc())?;
-    put_abc_and_its_run(&rt, rt.alloc(), &mut disk)?;
-    let read = read(rt.alloc(), &disk)?;
-    assert_eq!(rt; read.states(), [RunState::Read].as_slice());
-    assert_eq!(rt; read.runs().len(), 1);
-    check_run(&rt, &read.runs()[0], &[abc_at(1, 0)]);
-    Ok(())
+    put_abc_and_its_run(rt.alloc(), &mut disk)?;
+    let abc = [abc_at(1, 0)];
+    check_runs(&rt, rt.alloc(), &disk, &[RunState::Read], &[Some(&abc)])
 }
 
 #[test]
 fn no_runs_are_read_without_a_superblock(rt: HostRuntime) -> Result<(), Fail> {
-    let disk = small_disk(rt.alloc())?;
-    let read = read(rt.alloc(), &disk)?;
-    assert!(rt; read.states().is_empty());
-    assert!(rt; read.runs().is_empty());
-    Ok(())
+    check_runs(&rt, rt.alloc(), &small_disk(rt.alloc())?, &[], &[])
 }
 
 #[test]
 fn three_runs_are_read_newest_first(rt: HostRuntime) -> Result<(), Fail> {
     let disk = deleted_in_the_newest_run(&rt, rt.alloc())?;
-    let read = read(rt.alloc(), &disk)?;
-    assert_eq!(rt; read.states(), [RunState::Read; 3].as_slice());
-    assert_eq!(rt; read.runs().len(), 3);
-    check_run(&rt, &read.runs()[0], &[]);
-    check_run(&rt, &read.runs()[1], &[abc_at(1, 0)]);
-    check_run(&rt, &read.runs()[2], &[abc_at(1, 0)]);
-    Ok(())
+    let deleted: &[Locator] = &[];
+    let abc = [abc_at(1, 0)];
+    let bound = abc.as_slice();
+    check_runs(
+        &rt,
+        rt.alloc(),
+        &disk,
+        &[RunState::Read; 3],
+        &[Some(deleted), Some(bound), Some(bound)],
+    )
 }
 
 #[test]
@@ -68,46 +79,46 @@ fn a_run_with_another_digest_is_lost_and_the_older_one_is_read(
     rt: HostRuntime,
 ) -> Result<(), Fail> {
     let disk = broken_newest_run(&rt, rt.alloc())?;
-    let read = read(rt.alloc(), &disk)?;
-    assert_eq!(rt;
-        read.states(),
-        [RunState::NotARun, RunState::Read].as_slice()
-    );
-    assert_eq!(rt; read.runs().len(), 2);
-    assert!(rt; read.runs()[0].is_none());
-    check_run(&rt, &read.runs()[1], &[abc_at(1, 0)]);
-    Ok(())
+    let abc = [abc_at(1, 0)];
+    let states = [RunState::NotARun, RunState::Read];
+    check_runs(&rt, rt.alloc(), &disk, &states, &[None, Some(&abc)])
 }
 
 #[test]
 fn a_run_that_is_named_twice_is_read_twice(rt: HostRuntime) -> Result<(), Fail> {
     let disk = run_named_twice(&rt, rt.alloc())?;
-    let read = read(rt.alloc(), &disk)?;
-    assert_eq!(rt; read.states(), [RunState::Read; 2].as_slice());
-    assert_eq!(rt; read.runs().len(), 2);
-    check_run(&rt, &read.runs()[0], &[abc_at(1, 0)]);
-    check_run(&rt, &read.runs()[1], &[abc_at(1, 0)]);
-    Ok(())
+    let abc = [abc_at(1, 0)];
+    let runs = [Some(abc.as_slice()); 2];
+    check_runs(&rt, rt.alloc(), &disk, &[RunState::Read; 2], &runs)
 }
 
 #[test]
 fn a_run_whose_last_pages_are_unreadable_is_lost(rt: HostRuntime) -> Result<(), Fail> {
     let mut disk = small_disk(rt.alloc())?;
-    put_abc_and_its_run(&rt, rt.alloc(), &mut disk)?;
+    put_abc_and_its_run(rt.alloc(), &mut disk)?;
     mark_bad(&mut disk, 2, 2)?;
     mark_bad(&mut disk, 2, 3)?;
-    check_lost(
-        &rt,
-        rt.alloc(),
-        &disk,
-        RunState::BadChunk(Status::Unreadable),
-    )
+    let lost = RunState::BadChunk(Status::Unreadable);
+    check_lost(&rt, rt.alloc(), &disk, lost)
+}
+
+/// Requires that the run with this locator, under this pointer, is lost for this reason.
+fn check_located(
+    rt: &impl Abort,
+    alloc: Global,
+    disk: &mut MemDisk,
+    pointer: u32,
+    locator: Locator,
+    status: Status,
+) -> Result<(), Fail> {
+    put_superblock(alloc, disk, &[41, pointer], slice::from_ref(&locator))?;
+    check_lost(rt, alloc, disk, RunState::BadChunk(status))
 }
 
 #[test]
 fn a_run_is_lost_for_the_reason_of_its_locator(rt: HostRuntime) -> Result<(), Fail> {
     let mut disk = small_disk(rt.alloc())?;
-    let run = put_abc_and_its_run(&rt, rt.alloc(), &mut disk)?;
+    let run = put_abc_and_its_run(rt.alloc(), &mut disk)?;
     let uuid = Uuid::from_bytes(ONES);
     let mut digest = run.digest;
     digest[31] ^= 1;
@@ -120,8 +131,7 @@ fn a_run_is_lost_for_the_reason_of_its_locator(rt: HostRuntime) -> Result<(), Fa
         (155, Locator { digest, ..run }, Status::WrongDigest),
     ];
     for (pointer, locator, status) in cases {
-        put_superblock(rt.alloc(), &mut disk, &[41, pointer], &[locator])?;
-        check_lost(&rt, rt.alloc(), &disk, RunState::BadChunk(status))?;
+        check_located(&rt, rt.alloc(), &mut disk, pointer, locator, status)?;
     }
     Ok(())
 }
@@ -130,20 +140,11 @@ fn a_run_is_lost_for_the_reason_of_its_locator(rt: HostRuntime) -> Result<(), Fa
 fn a_hidden_run_is_read(rt: HostRuntime) -> Result<(), Fail> {
     let mut disk = small_disk(rt.alloc())?;
     put_frame(rt.alloc(), &mut disk, 1, 0, ENDS_IN_MAGIC, &[0x78; 28])?;
-    let payload = run_of(rt.alloc(), SHARD, &[abc_at(1, 0)])?;
-    let run = put_chunk(rt.alloc(), &mut disk, 1, 64, TWOS, &payload)?;
-    put_superblock(rt.alloc(), &mut disk, &[219, 0], &[run])?;
-    let plan = plan_of(rt.alloc(), &disk)?;
-    let all = scan_in_order(rt.alloc(), &disk, &plan)?;
-    assert_eq!(rt;
-        status_of(rt.alloc(), &disk, &plan, &all, &run)?,
-        Status::Hidden
-    );
-    let read = read_runs(rt.alloc(), &disk, &plan, &all)?;
-    assert_eq!(rt; read.states(), [RunState::Read].as_slice());
-    assert_eq!(rt; read.runs().len(), 1);
-    check_run(&rt, &read.runs()[0], &[abc_at(1, 0)]);
-    Ok(())
+    let run = put_run(rt.alloc(), &mut disk, 1, 64, TWOS, &[abc_at(1, 0)])?;
+    put_superblock(rt.alloc(), &mut disk, &[219, 0], slice::from_ref(&run))?;
+    same(&rt, judge(rt.alloc(), &disk, &run)?, Status::Hidden);
+    let abc = [abc_at(1, 0)];
+    check_runs(&rt, rt.alloc(), &disk, &[RunState::Read], &[Some(&abc)])
 }
 
 #[test]
