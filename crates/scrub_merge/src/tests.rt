@@ -4,6 +4,8 @@ use crate::*;
 use scrub_frame::{Locator, digest_of, read_locator, write_locator};
 use scrub_run::{Run, ShardId, read_run};
 use std::alloc::Global;
+use std::fmt::Debug;
+use std::process::Abort;
 use std::test::Fail;
 
 /// The locator of the chunk of `abc` at extent 1, offset 0.
@@ -13,6 +15,12 @@ const ABC_LOCATOR: [u8; 60] = [
     0x8f, 0x01, 0xcf, 0xea, 0x41, 0x41, 0x40, 0xde, 0x5d, 0xae, 0x22, 0x23, 0xb0, 0x03, 0x61, 0xa3,
     0x96, 0x17, 0x7a, 0x9c, 0xb4, 0x10, 0xff, 0x61, 0xf2, 0x00, 0x15, 0xad,
 ];
+
+/// Requires that what was found is what was wanted, and else prints both. That it can be printed is proved here, once, and
+/// not in each test.
+fn same<T: PartialEq + Debug + Drop>(rt: &impl Abort, found: T, wanted: T) {
+    assert_eq!(rt; found, wanted);
+}
 
 /// The locator of `abc` at an offset of extent 1.
 fn abc_at(offset: u32) -> Locator {
@@ -75,84 +83,125 @@ fn append(bytes: &mut Vec<u8>, entry: &Written) -> Result<(), OutOfMemory> {
     Ok(())
 }
 
+/// The run of these entries, or a lost one.
+fn run_of(alloc: Global, entries: Option<&[Written]>) -> Result<Option<Run>, Fail> {
+    match entries {
+        None => Ok(None),
+        Some(entries) => {
+            let bytes = payload(alloc, entries)?;
+            Ok(Some(read_run(alloc, &bytes)?))
+        }
+    }
+}
+
+/// What comes of runs, newest first, each of which is lost or has its entries.
+fn merged(rt: &impl Abort, alloc: Global, runs: &[Option<&[Written]>]) -> Result<ShardMap, Fail> {
+    let mut read = Vec::new(alloc);
+    for entries in runs {
+        read.push(run_of(alloc, *entries)?)?;
+    }
+    assert!(rt; read.len() <= 32);
+    Ok(merge(alloc, &read)?)
+}
+
+/// A binding that is wanted: of which run, whether doubtful, and of which shard with `abc` at which offset.
+#[derive(Clone, Copy)]
+struct Wanted {
+    run: u32,
+    doubtful: bool,
+    number: u32,
+    offset: u32,
+}
+
+/// Compares a binding, and requires that it is the one that is found for its shard.
+fn check_binding(rt: &impl Abort, map: &ShardMap, binding: &Binding, wanted: &Wanted) {
+    same(rt, binding.id(), shard(wanted.number));
+    same(
+        rt,
+        (binding.run(), binding.doubtful()),
+        (wanted.run, wanted.doubtful),
+    );
+    same(rt, binding.locators(), [abc_at(wanted.offset)].as_slice());
+    assert!(rt;
+        map.get(&shard(wanted.number)).is_some_and(|found| found.run() == wanted.run
+            && found.doubtful() == wanted.doubtful)
+    );
+}
+
+/// Compares all bindings.
+fn check_map(rt: &impl Abort, map: &ShardMap, wanted: &[Wanted]) {
+    assert!(rt; map.bindings().len() == wanted.len());
+    for (binding, wanted) in map.bindings().iter().zip(wanted) {
+        check_binding(rt, map, binding, wanted);
+    }
+}
+
 #[test]
 fn a_deleted_shard_stays_deleted_behind_a_lost_run(rt: HostRuntime) -> Result<(), Fail> {
-    let newer = read_run(
-        rt.alloc(),
-        &payload(rt.alloc(), &[deleted(1), bound(2, 0)])?,
-    )?;
-    let older = read_run(
-        rt.alloc(),
-        &payload(rt.alloc(), &[bound(1, 0), bound(2, 41)])?,
-    )?;
-    let runs = [None, Some(newer), Some(older)];
-    let map = merge(rt.alloc(), &runs)?;
-    assert_eq!(rt; map.bindings().len(), 1);
-    for binding in map.bindings() {
-        assert_eq!(rt; binding.id(), shard(2));
-        assert_eq!(rt; binding.run(), 1);
-        assert_eq!(rt; binding.locators(), [abc_at(0)].as_slice());
-        assert!(rt; binding.doubtful());
-    }
+    let newer = [deleted(1), bound(2, 0)];
+    let older = [bound(1, 0), bound(2, 41)];
+    let map = merged(&rt, rt.alloc(), &[None, Some(&newer), Some(&older)])?;
+    let second = Wanted {
+        run: 1,
+        doubtful: true,
+        number: 2,
+        offset: 0,
+    };
+    check_map(&rt, &map, &[second]);
     assert!(rt; map.get(&shard(1)).is_none(), "deleted");
-    assert!(rt; map.get(&shard(2)).is_some_and(|binding| binding.run() == 1));
     assert!(rt; map.get(&shard(3)).is_none(), "in no run");
     Ok(())
 }
 
 #[test]
 fn no_runs_and_a_lost_run_bind_nothing(rt: HostRuntime) -> Result<(), Fail> {
-    assert!(rt; merge(rt.alloc(), &[])?.bindings().is_empty());
-    let lost: [Option<Run>; 1] = [None];
-    assert!(rt; merge(rt.alloc(), &lost)?.bindings().is_empty());
+    check_map(&rt, &merged(&rt, rt.alloc(), &[])?, &[]);
+    check_map(&rt, &merged(&rt, rt.alloc(), &[None])?, &[]);
     Ok(())
 }
 
 #[test]
 fn two_older_runs_do_not_bring_back_a_deleted_shard(rt: HostRuntime) -> Result<(), Fail> {
-    let newest = read_run(rt.alloc(), &payload(rt.alloc(), &[deleted(1)])?)?;
-    let older = read_run(rt.alloc(), &payload(rt.alloc(), &[bound(1, 0)])?)?;
-    let oldest = read_run(rt.alloc(), &payload(rt.alloc(), &[bound(1, 0)])?)?;
-    let runs = [Some(newest), Some(older), Some(oldest)];
-    assert!(rt; merge(rt.alloc(), &runs)?.bindings().is_empty());
+    let older = [bound(1, 0)];
+    let map = merged(
+        &rt,
+        rt.alloc(),
+        &[Some(&[deleted(1)]), Some(&older), Some(&older)],
+    )?;
+    check_map(&rt, &map, &[]);
     Ok(())
 }
 
+/// A lost run before it leaves a shard in doubt, one behind it doesn't.
 #[test]
 fn a_shard_is_doubtful_where_a_newer_run_is_lost(rt: HostRuntime) -> Result<(), Fail> {
-    let older = read_run(rt.alloc(), &payload(rt.alloc(), &[bound(1, 0)])?)?;
-    let runs = [None, Some(older)];
-    let map = merge(rt.alloc(), &runs)?;
-    assert!(rt;
-        map.get(&shard(1))
-            .is_some_and(|binding| binding.doubtful() && binding.run() == 1)
-    );
-    Ok(())
-}
-
-#[test]
-fn a_lost_run_behind_it_leaves_a_shard_undoubted(rt: HostRuntime) -> Result<(), Fail> {
-    let newer = read_run(rt.alloc(), &payload(rt.alloc(), &[bound(1, 0)])?)?;
-    let runs = [Some(newer), None];
-    let map = merge(rt.alloc(), &runs)?;
-    assert!(rt;
-        map.get(&shard(1))
-            .is_some_and(|binding| !binding.doubtful() && binding.run() == 0)
-    );
+    let first = [bound(1, 0)];
+    for (runs, run, doubtful) in [
+        ([None, Some(first.as_slice())], 1, true),
+        ([Some(first.as_slice()), None], 0, false),
+    ] {
+        let wanted = Wanted {
+            run,
+            doubtful,
+            number: 1,
+            offset: 0,
+        };
+        check_map(&rt, &merged(&rt, rt.alloc(), &runs)?, &[wanted]);
+    }
     Ok(())
 }
 
 #[test]
 fn doubt_lasts_beyond_the_next_run_that_is_read(rt: HostRuntime) -> Result<(), Fail> {
-    let newer = read_run(rt.alloc(), &payload(rt.alloc(), &[bound(1, 0)])?)?;
-    let older = read_run(rt.alloc(), &payload(rt.alloc(), &[bound(2, 0)])?)?;
-    let runs = [None, Some(newer), Some(older)];
-    let map = merge(rt.alloc(), &runs)?;
-    assert_eq!(rt; map.bindings().len(), 2);
-    for (binding, run) in map.bindings().iter().zip([1, 2]) {
-        assert_eq!(rt; binding.run(), run);
-        assert!(rt; binding.doubtful(), "of run {run}");
-    }
+    let (newer, older) = ([bound(1, 0)], [bound(2, 0)]);
+    let map = merged(&rt, rt.alloc(), &[None, Some(&newer), Some(&older)])?;
+    let wanted = [(1, 1), (2, 2)].map(|(run, number)| Wanted {
+        run,
+        doubtful: true,
+        number,
+        offset: 0,
+    });
+    check_map(&rt, &map, &wanted);
     Ok(())
 }
 
@@ -160,29 +209,16 @@ fn doubt_lasts_beyond_the_next_run_that_is_read(rt: HostRuntime) -> Result<(), F
 #[test]
 fn identifiers_that_begin_alike_are_bound_each(rt: HostRuntime) -> Result<(), Fail> {
     let [low, middle, high] = [0x7F00_0002, 0x7F00_0101, 0x7F01_0000];
-    let newer = read_run(
-        rt.alloc(),
-        &payload(rt.alloc(), &[bound(low, 0), bound(high, 0)])?,
-    )?;
-    let older = read_run(
-        rt.alloc(),
-        &payload(rt.alloc(), &[bound(low, 41), bound(middle, 41)])?,
-    )?;
-    let runs = [Some(newer), Some(older)];
-    let map = merge(rt.alloc(), &runs)?;
-    assert_eq!(rt; map.bindings().len(), 3);
-    for (binding, (number, run)) in map
-        .bindings()
-        .iter()
-        .zip([(low, 0), (middle, 1), (high, 0)])
-    {
-        assert_eq!(rt; binding.id(), shard(number));
-        assert_eq!(rt; binding.run(), run);
-    }
-    assert!(rt;
-        map.get(&shard(middle))
-            .is_some_and(|binding| binding.run() == 1)
-    );
+    let newer = [bound(low, 0), bound(high, 0)];
+    let older = [bound(low, 41), bound(middle, 41)];
+    let map = merged(&rt, rt.alloc(), &[Some(&newer), Some(&older)])?;
+    let wanted = [(0, low, 0), (1, middle, 41), (0, high, 0)].map(|(run, number, offset)| Wanted {
+        run,
+        doubtful: false,
+        number,
+        offset,
+    });
+    check_map(&rt, &map, &wanted);
     assert!(rt; map.get(&shard(0x7F00_0001)).is_none());
     Ok(())
 }
@@ -204,11 +240,11 @@ fn thirty_two_runs_of_two_thousand_entries(rt: HostRuntime) -> Result<(), Fail> 
     }
     assert!(rt; runs.len() == 32);
     let map = merge(rt.alloc(), &runs)?;
-    assert_eq!(rt; map.bindings().len(), 33_000);
+    assert!(rt; map.bindings().len() == 33_000);
     for (number, binding) in (0..33_000).zip(map.bindings()) {
         let run = if number < 2000 { 0 } else { number / 1000 - 1 };
-        assert_eq!(rt; binding.id(), shard(number));
-        assert_eq!(rt; binding.run(), run, "shard {number}");
+        same(&rt, binding.id(), shard(number));
+        same(&rt, (number, binding.run()), (number, run));
     }
     assert!(rt; map.get(&shard(32_999)).is_some());
     assert!(rt; map.get(&shard(33_000)).is_none());
