@@ -1,4 +1,8 @@
 pub mod Searches
+pub mod SortedStarts
+pub mod Sizes
+pub mod StartSearch
+pub mod CheckedLists
 pub mod Filtered
 pub mod Starts
 pub mod Gaps

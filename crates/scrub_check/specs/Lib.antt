@@ -3,6 +3,11 @@ pub mod WholeScan
 pub mod Status
 pub mod Runs
 pub mod Named
+pub mod Checked
+pub mod Live
+pub mod Chunks
+pub mod Shared
+pub mod Candidates
 pub use Rattle.scrub_disk.specs.Image
 pub use Rattle.scrub_super.specs.Plan
 pub use Rattle.scrub_scan.specs.Scanned
@@ -11,3 +16,4 @@ pub use Rattle.scrub_merge.specs.Binding
 -- The steps of the code.
 pub mod Judged
 pub mod ChunkRun
+pub mod SoundStarts

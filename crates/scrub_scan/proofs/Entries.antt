@@ -33,19 +33,17 @@ module _ {X : Type 0} (number : X → ℕ) where
       ap (λ b. cond b (Some x) (find (λ y. number y == number (get_or xs i d)) xs)) other
       ∙ find_paired xs (λ j k e lt within. pairs (suc j) (suc k) e (omega arith) (omega arith)) i d (omega arith)
 
--- the findings of the i-th extent are those that are kept of it
-pub findings_at : {X : Type 0} (view : X → Scanned) (xs : List X) → IsStrictlyIncreasing (extent_numbers (map view xs)) → (i : ℕ) (x : X) (e : ℕ) →
-    i < length xs → get_or xs i x ≡ x → (view x).extent ≡ e → findings_in (map view xs) e ≡ Some (view x).findings
-findings_at view xs rising i x e below is number =
+-- what is kept of the i-th extent is found by its number
+pub entry_at : {X : Type 0} (view : X → Scanned) (xs : List X) → IsStrictlyIncreasing (extent_numbers (map view xs)) → (i : ℕ) (x : X) (e : ℕ) →
+    i < length xs → get_or xs i x ≡ x → (view x).extent ≡ e → entry_of (map view xs) e ≡ Some (view x)
+entry_at view xs rising i x e below is number =
     let there : get_or (map view xs) i (view x) ≡ view x = get_or-map view xs i x (view x) below ∙ ap view is in
     let found : find (λ f. f.extent == (get_or (map view xs) i (view x)).extent) (map view xs) ≡ Some (get_or (map view xs) i (view x)) =
     find_paired (λ f. f.extent) (map view xs) (pairs_rise (λ f. f.extent) (map view xs) rising) i (view x) (omega (arith, below, length-map xs view)) in
-    let entry : entry_of (map view xs) e ≡ Some (view x) =
-    subst (λ (n : ℕ). entry_of (map view xs) n ≡ Some (view x)) (ap (λ f. f.extent) there ∙ number) (found ∙ ap Some there) in
-    ap (option_map (λ f. f.findings)) entry
+    subst (λ (n : ℕ). entry_of (map view xs) n ≡ Some (view x)) (ap (λ f. f.extent) there ∙ number) (found ∙ ap Some there)
 
 -- what a search finds passes its test, and is in the list
-find_passes : {X : Type 0} (p : X → Bool) (xs : List X) (y : X) → find p xs ≡ Some y → (p y ≡ true) × Contains xs y
+pub find_passes : {X : Type 0} (p : X → Bool) (xs : List X) (y : X) → find p xs ≡ Some y → (p y ≡ true) × Contains xs y
 find_passes p [] y found = absurd (none-some y found)
 find_passes p (x ∷ xs) y found = by (p x) refl found (find_passes p xs y)
   where

@@ -40,7 +40,7 @@ fn position_of<D: PageSource>(results: &[ExtentResult<'_, D>], extent: u32) -> O
 
 impl<'d, D: PageSource> AllFindings<'d, D> {
     ghost use Rattle.scrub_scan.specs.Scanned.{result_image, scanned};
-    ghost use Rattle.scrub_scan.specs.AllFindings.{extent_numbers, findings_in, AreScanned};
+    ghost use Rattle.scrub_scan.specs.AllFindings.{extent_numbers, entry_of, findings_in, AreScanned};
 
     /// The results of one source, by rising numbers of extents.
     pub(crate) fn of_results(source: &'d D, results: Vec<ExtentResult<'d, D>>) -> AllFindings<'d, D>
@@ -69,6 +69,26 @@ impl<'d, D: PageSource> AllFindings<'d, D> {
         self.results[i].extent()
     }
 
+    /// The results of these extents, in their order.
+    pub fn results(&self) -> &[ExtentResult<'d, D>]
+        ensures results { map scanned result.now ≡ self.now.extents }
+        // Every value of the type is such.
+        ensures scanned { AreScanned (D.image self.now.source) self.now.extents }
+    {
+        self.results.as_slice()
+    }
+
+    /// The result of an extent, if it was scanned.
+    pub fn result_of(&self, extent: u32) -> Option<&ExtentResult<'d, D>>
+        ensures found { IfSome result (λ r. entry_of self.now.extents extent ≡ Some (scanned r.now)) }
+        ensures none { IfNone result (¬ Contains (extent_numbers self.now.extents) extent) }
+        // Every value of the type is such.
+        ensures scanned { AreScanned (D.image self.now.source) self.now.extents }
+    {
+        let i = position_of(&self.results, extent)?;
+        Some(&self.results[i])
+    }
+
     /// The findings of an extent, if it was scanned.
     pub fn of_extent(&self, extent: u32) -> Option<&Findings>
         ensures found { IfSome result (λ f. findings_in self.now.extents extent ≡ Some f.now) }
@@ -76,7 +96,6 @@ impl<'d, D: PageSource> AllFindings<'d, D> {
         // Every value of the type is such.
         ensures scanned { AreScanned (D.image self.now.source) self.now.extents }
     {
-        let i = position_of(&self.results, extent)?;
-        Some(self.results[i].findings())
+        Some(self.result_of(extent)?.findings())
     }
 }

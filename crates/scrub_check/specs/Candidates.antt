@@ -1,0 +1,53 @@
+-- Which extents may be reclaimed, what that frees, and what has to be kept.
+use Rattle.std.specs.Prelude.{◌*◌, ◌-◌, ◌==◌, ◌&&◌, ◌||◌, ℕ, Bool, not, nat_lt, List, [], map, if◌then◌else◌}
+use Rattle.std.specs.declared.cmp.Ordering.{Ordering}
+use Rattle.std.specs.Ordering.{nat_cmp, ordering_then}
+use Rattle.std.specs.List.{filter, list_all}
+use Rattle.std.specs.List.Sorted.{IsPermutation, IsStrictlySortedBy}
+use Rattle.scrub_disk.specs.declared.geometry.Geometry.{Geometry}
+use Rattle.scrub_super.specs.Plan.{PlanValue}
+use Rattle.scrub_scan.specs.Item.{start_of}
+use Rattle.scrub_scan.specs.Scanned.{Scanned}
+use Rattle.scrub_check.specs.declared.checked.Checked.{Checked}
+use Rattle.scrub_check.specs.Checked.{is_sound}
+use Rattle.scrub_check.specs.Live.{live_chunks, live_bytes}
+
+-- an extent to reclaim, how many bytes that frees, and the starts of the chunks to keep, rising
+pub record CandidateValue : Type 0 where
+  pub extent : ℕ
+  pub free : ℕ
+  pub keep : List ℕ
+
+-- no unreadable page has a byte below the write pointer
+abbrev pub is_readable : Geometry → Scanned → Bool
+is_readable g f = list_all (λ q. not (nat_lt (q * g.page) f.pointer)) f.findings.bad_pages
+
+-- each named locator of that extent number is sound
+abbrev pub has_sound_alone : List Checked → Scanned → Bool
+has_sound_alone checked f = list_all (λ c. not (c.locator.extent == f.extent) || is_sound c.status) checked
+
+-- live chunks take at most half of what was written
+abbrev pub is_half_garbage : List Checked → Scanned → Bool
+is_half_garbage checked f = not (nat_lt f.pointer (2 * live_bytes checked f))
+
+-- the extent may be reclaimed: something was written to it, all of which can be read, each locator to it is sound, and
+-- at least half of it is garbage
+abbrev pub is_reclaimable : Geometry → List Checked → Scanned → Bool
+is_reclaimable g checked f = nat_lt 0 f.pointer && is_readable g f && has_sound_alone checked f && is_half_garbage checked f
+
+-- it as a candidate
+abbrev pub candidate_of : List Checked → Scanned → CandidateValue
+candidate_of checked f = record { extent = f.extent; free = f.pointer - live_bytes checked f; keep = map start_of (live_chunks checked f) }
+
+-- by what is freed, falling, and then by number
+abbrev pub by_free : CandidateValue → CandidateValue → Ordering
+by_free a b = ordering_then (nat_cmp b.free a.free) (nat_cmp a.extent b.extent)
+
+-- the extents that may be reclaimed
+abbrev pub reclaimable : Geometry → List Scanned → List Checked → List CandidateValue
+reclaimable g all checked = map (candidate_of checked) (filter (is_reclaimable g checked) all)
+
+-- the candidates, in their order: none without a superblock or in doubt, and else the extents that may be reclaimed
+pub record AreCandidates (plan : PlanValue) (all : List Scanned) (checked : List Checked) (in_doubt : Bool) (candidates : List CandidateValue) : Type 0 where
+  pub filtered : IsPermutation (if plan.has_superblock && not in_doubt then reclaimable plan.geometry all checked else []) candidates
+  pub ordered : IsStrictlySortedBy by_free candidates

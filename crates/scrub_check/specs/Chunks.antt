@@ -1,0 +1,34 @@
+-- The chunks of a disk at their places, and which of them are garbage or stand twice.
+use Rattle.std.specs.Prelude.{ℕ, not, nat_lt, Option, Some, None, List}
+use Rattle.std.specs.Str.{bytes_eq}
+use Rattle.std.specs.List.{filter, filter_map, flat_map, count_by}
+use Rattle.scrub_scan.specs.declared.item.Item.{Item}
+use Rattle.scrub_scan.specs.declared.item.Item.TheVariants.{Chunk}
+use Rattle.scrub_scan.specs.Scanned.{Scanned}
+use Rattle.scrub_check.specs.declared.place.Place.{Place}
+use Rattle.scrub_check.specs.declared.checked.Checked.{Checked}
+use Rattle.scrub_check.specs.Live.{has_sound_at}
+
+-- an item of extent e as a place, where it is a chunk
+abbrev pub place_of : ℕ → Item → Option Place
+place_of e (Chunk start stop uuid length digest) = Some (record { extent = e; offset = start; length = length; uuid = uuid })
+place_of e _ = None
+
+-- the places of the chunks of an extent, and of all extents, by extent and then start
+abbrev pub chunks_in : Scanned → List Place
+chunks_in f = filter_map (place_of f.extent) f.findings.items
+
+abbrev pub chunks : List Scanned → List Place
+chunks all = flat_map chunks_in all
+
+-- those to whose place no sound locator points
+abbrev pub orphans : List Scanned → List Checked → List Place
+orphans all checked = filter (λ p. not (has_sound_at checked p.extent p.offset)) (chunks all)
+
+-- how many chunks have this UUID
+abbrev pub chunks_with : List Scanned → List ℕ → ℕ
+chunks_with all uuid = count_by (λ p. bytes_eq p.uuid uuid) (chunks all)
+
+-- those whose UUID stands on another chunk, too
+abbrev pub twins : List Scanned → List Place
+twins all = filter (λ p. nat_lt 1 (chunks_with all p.uuid)) (chunks all)

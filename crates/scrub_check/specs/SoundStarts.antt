@@ -1,0 +1,37 @@
+-- The places that sound locators point to, sorted by the code.
+use Rattle.std.specs.Prelude.{◌&&◌, ℕ, Bool, nat_lt, List, map}
+use Rattle.std.specs.declared.cmp.Ordering.{Ordering}
+use Rattle.std.specs.Ordering.{nat_cmp, ordering_then, is_eq}
+use Rattle.std.specs.List.{filter, count_by}
+use Rattle.std.specs.List.Sorted.{IsPermutation}
+use Rattle.scrub_scan.specs.declared.item.Item.{Item}
+use Rattle.scrub_scan.specs.Item.{start_of}
+use Rattle.scrub_check.specs.declared.place.Place.{Place}
+use Rattle.scrub_check.specs.declared.checked.Checked.{Checked}
+use Rattle.scrub_check.specs.declared.sound_starts.Start.{Start}
+use Rattle.scrub_check.specs.Checked.{is_sound}
+use Rattle.scrub_check.specs.Live.{is_chunk}
+
+-- by extent, and then by byte
+abbrev pub start_cmp : Start → Start → Ordering
+start_cmp a b = ordering_then (nat_cmp a.extent b.extent) (nat_cmp a.offset b.offset)
+
+-- b is a
+abbrev pub is_start : Start → Start → Bool
+is_start a b = is_eq (start_cmp b a)
+
+-- where the locator points
+abbrev pub start_named : Checked → Start
+start_named c = record { extent = c.locator.extent; offset = c.locator.offset }
+
+-- the places that the sound ones point to, in some order
+abbrev pub AreSoundStarts : List Checked → List Start → Type 0
+AreSoundStarts checked starts = IsPermutation (map start_named (filter (λ c. is_sound c.status) checked)) starts
+
+-- one of these places is that of an item of extent e, which is a chunk
+abbrev pub is_live_by : List Start → ℕ → Item → Bool
+is_live_by starts e item = is_chunk item && nat_lt 0 (count_by (is_start (record { extent = e; offset = start_of item })) starts)
+
+-- one of these places is that of a chunk
+abbrev pub is_named_by : List Start → Place → Bool
+is_named_by starts p = nat_lt 0 (count_by (is_start (record { extent = p.extent; offset = p.offset })) starts)

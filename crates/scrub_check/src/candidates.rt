@@ -1,0 +1,44 @@
+//! Which extents may be reclaimed, what that frees and what has to be kept.
+
+ghost use Rattle.std.specs.Prelude.{◌≡◌};
+
+use std::marker::Model;
+
+/// An extent that may be reclaimed once the chunks to keep are moved.
+#[derive(Drop)]
+pub struct Candidate {
+    extent: u32,
+    free: u32,
+    keep: Vec<u32>,
+}
+
+impl Model for Candidate {
+    ghost use Rattle.scrub_check.specs.Candidates.{CandidateValue};
+
+    ghost Value = { CandidateValue };
+
+    ghost view = { λ c. record { extent = c.extent; free = c.free; keep = c.keep.items } };
+}
+
+impl Candidate {
+    /// The number of the extent.
+    pub fn extent(&self) -> u32
+        ensures { result ≡ self.now.extent }
+    {
+        self.extent
+    }
+
+    /// How many bytes are freed: those below the write pointer that no live chunk takes.
+    pub fn free(&self) -> u32
+        ensures { result ≡ self.now.free }
+    {
+        self.free
+    }
+
+    /// The bytes of the extent that the live chunks begin at, rising.
+    pub fn keep(&self) -> &[u32]
+        ensures { result.now ≡ self.now.keep }
+    {
+        self.keep.as_slice()
+    }
+}

@@ -1,0 +1,91 @@
+//! The places that sound named locators point to, sorted, so that whether one points to a place is found by search.
+
+ghost use Rattle.std.specs.Prelude.{◌≡◌, ℕ, nat_lt, IfOk, List, map};
+ghost use Rattle.std.specs.List.{count_by, filter};
+ghost use Rattle.std.specs.List.Sorted.{IsSorted};
+ghost use Rattle.scrub_check.specs.declared.checked.Checked.{Checked};
+ghost use Rattle.scrub_check.specs.Checked.{is_sound};
+ghost use Rattle.scrub_check.specs.Live.{has_sound_at};
+ghost use Rattle.scrub_check.specs.SoundStarts.{start_cmp, is_start, start_named, AreSoundStarts};
+
+use crate::checked::Checked;
+use crate::status::Status;
+use scrub_disk::OutOfMemory;
+use std::alloc::Global;
+use std::marker::Model;
+
+/// A place that a locator points to: an extent, and the byte of it that a chunk begins at.
+#[derive(Debug, Clone, Copy, PartialEq, Eq, PartialOrd, Ord)]
+pub struct Start {
+    pub extent: u32,
+    pub offset: u32,
+}
+
+/// The places that sound locators point to, by extent and then byte; one that several point to stands there as often.
+#[derive(Drop)]
+pub struct SoundStarts {
+    starts: Vec<Start>,
+}
+
+impl Model for SoundStarts {
+    ghost use Rattle.std.specs.Prelude.{List};
+    ghost use Rattle.std.specs.List.Sorted.{IsSorted};
+    ghost use Rattle.scrub_check.specs.declared.sound_starts.Start.{Start};
+    ghost use Rattle.scrub_check.specs.SoundStarts.{start_cmp};
+
+    ghost Value = { List Start };
+
+    ghost view = { λ s. s.starts.items };
+
+    ghost invariant = { λ s. IsSorted start_cmp s.starts.items };
+}
+
+/// How often a place stands among sorted ones.
+fn count_of(starts: &[Start], start: Start) -> usize
+    requires { IsSorted start_cmp starts.now }
+    ensures { result ≡ count_by (is_start start) starts.now }
+{
+    let below = starts.partition_point(|other| *other < start);
+    let through = starts.partition_point(|other| *other <= start);
+    through - below
+}
+
+/// The places that the sound ones of these locators point to, in their order.
+fn starts_of(alloc: Global, checked: &[Checked]) -> Result<Vec<Start>, OutOfMemory>
+    ensures { IfOk result (λ v. v.items ≡ map start_named (filter (λ c. is_sound c.status) checked.now)) }
+{
+    checked
+        .iter()
+        .filter(|one| one.status == Status::Sound)
+        .map(|one| Start {
+            extent: one.locator.extent,
+            offset: one.locator.offset,
+        })
+        .collect(alloc)
+}
+
+impl SoundStarts {
+    /// The places that the sound ones of these locators point to.
+    pub(crate) fn of(alloc: Global, checked: &[Checked]) -> Result<SoundStarts, OutOfMemory>
+        ensures { IfOk result (AreSoundStarts checked.now) }
+    {
+        let mut starts = starts_of(alloc, checked)?;
+        starts.sort()?;
+        Ok(SoundStarts { starts })
+    }
+
+    /// How often a place stands there.
+    pub(crate) fn count(&self, start: Start) -> usize
+        ensures { result ≡ count_by (is_start start) self.now }
+    {
+        count_of(&self.starts, start)
+    }
+
+    /// Whether a place stands there.
+    pub(crate) fn has(&self, start: Start) -> bool
+        ensures stands { result ≡ nat_lt 0 (count_by (is_start start) self.now) }
+        ensures sound { (checked : List Checked) → AreSoundStarts checked self.now → result ≡ has_sound_at checked start.extent start.offset }
+    {
+        self.starts.binary_search(&start).is_ok()
+    }
+}
