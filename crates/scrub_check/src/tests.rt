@@ -16,6 +16,7 @@ use std::slice;
 use std::test::Fail;
 use uuid::Uuid;
 
+mod lists;
 mod named;
 mod runs;
 mod status;

@@ -1,0 +1,152 @@
+//! The lists that are drawn from what the named locators are worth, and which chunks are live by them.
+
+use super::*;
+use scrub_merge::merge;
+use scrub_scan::Item;
+
+/// What is told of the locators that a disk names, and of its chunks.
+#[derive(Drop)]
+struct Told {
+    checked: Vec<Checked>,
+    live: Vec<u32>,
+    orphans: Vec<Place>,
+}
+
+fn told_of<R>(rt: &R, alloc: Global, disk: &MemDisk) -> Result<Told, Fail> {
+    let plan = plan_of(alloc, disk)?;
+    let all = scan_in_order(alloc, disk, &plan)?;
+    let read = read_runs(alloc, disk, &plan, &all)?;
+    let map = merge(alloc, read.runs())?;
+    let named = named_locators(alloc, &plan, &map)?;
+    let checked = check_all(rt, alloc, disk, &plan, &all, &named)?;
+    let live = all_live_bytes(alloc, &all, &checked)?;
+    let orphans = orphans(alloc, &all, &checked)?;
+    Ok(Told {
+        checked,
+        live,
+        orphans,
+    })
+}
+
+/// The live bytes of extents 0 to 3, each asked for by itself.
+fn live_one_by_one(alloc: Global, disk: &MemDisk, checked: &[Checked]) -> Result<[u32; 4], Fail> {
+    let plan = plan_of(alloc, disk)?;
+    let all = scan_in_order(alloc, disk, &plan)?;
+    Ok([0, 1, 2, 3].map(|extent| live_bytes(&all, checked, extent)))
+}
+
+/// Where an item begins at a place, among those that begin at 0, 41, 64 and 128, and how many were looked at.
+fn found_at(start: u32) -> Found {
+    let items = [
+        Item::Noise { start: 0, stop: 41 },
+        Item::Noise {
+            start: 41,
+            stop: 64,
+        },
+        Item::Pad {
+            start: 64,
+            stop: 128,
+        },
+        Item::Lost {
+            start: 128,
+            stop: 169,
+        },
+    ];
+    find_start(&items, start)
+}
+
+#[test]
+fn an_item_is_found_at_its_start_and_nowhere_else(rt: HostRuntime) {
+    let found = [0, 41, 64, 128].map(|start| found_at(start).at);
+    same(&rt, found, [Some(0), Some(1), Some(2), Some(3)]);
+    let missed = [1, 40, 63, 129].map(|start| found_at(start).at);
+    same(&rt, missed, [None; 4]);
+}
+
+#[test]
+fn no_more_items_are_looked_at_than_their_number_has_digits(rt: HostRuntime) {
+    for start in [0, 41, 64, 128, 129] {
+        assert!(rt; found_at(start).probes <= 3);
+    }
+    same(
+        &rt,
+        find_start(&[], 0),
+        Found {
+            at: None,
+            probes: 0,
+        },
+    );
+}
+
+#[test]
+fn named_locators_are_checked_in_their_order(rt: HostRuntime) -> Result<(), Fail> {
+    let (disk, run) = nine_locators(&rt, rt.alloc())?;
+    let told = told_of(&rt, rt.alloc(), &disk)?;
+    assert!(rt; told.checked.len() == 10);
+    same(&rt, told.checked[0].owner, Owner::Run(0));
+    same(&rt, told.checked[0].locator, run);
+    same(&rt, told.checked[0].status, Status::Sound);
+    for (checked, judged) in told.checked[1..].iter().zip(&judged_locators()) {
+        same(&rt, (checked.locator, checked.status), *judged);
+    }
+    Ok(())
+}
+
+#[test]
+fn of_nine_locators_seven_dangle_and_one_is_hidden(rt: HostRuntime) -> Result<(), Fail> {
+    let (disk, _) = nine_locators(&rt, rt.alloc())?;
+    let told = told_of(&rt, rt.alloc(), &disk)?;
+    let dangling = dangling(rt.alloc(), &told.checked)?;
+    assert!(rt; dangling.len() == 7);
+    same(&rt, dangling[0].status, Status::OutOfRange);
+    same(&rt, dangling[6].status, Status::WrongDigest);
+    let hidden = hidden(rt.alloc(), &told.checked)?;
+    assert!(rt; hidden.len() == 1);
+    same(&rt, hidden[0].locator, abc_at(2, 256));
+    Ok(())
+}
+
+#[test]
+fn a_chunk_that_a_hidden_locator_names_is_not_live(rt: HostRuntime) -> Result<(), Fail> {
+    let (disk, _) = nine_locators(&rt, rt.alloc())?;
+    let told = told_of(&rt, rt.alloc(), &disk)?;
+    same(&rt, told.live.as_slice(), [41, 0, 635].as_slice());
+    let orphan = Place {
+        extent: 2,
+        offset: 0,
+        length: 220,
+        uuid: Uuid::from_bytes(ENDS_IN_MAGIC),
+    };
+    same(&rt, told.orphans.as_slice(), [orphan].as_slice());
+    same(
+        &rt,
+        live_one_by_one(rt.alloc(), &disk, &told.checked)?,
+        [0, 41, 0, 635],
+    );
+    Ok(())
+}
+
+#[test]
+fn what_a_deleted_shard_had_is_an_orphan(rt: HostRuntime) -> Result<(), Fail> {
+    let disk = deleted_in_the_newest_run(&rt, rt.alloc())?;
+    let told = told_of(&rt, rt.alloc(), &disk)?;
+    same(&rt, told.live.as_slice(), [0, 250, 155].as_slice());
+    let orphan = Place {
+        extent: 1,
+        offset: 0,
+        length: 3,
+        uuid: Uuid::from_bytes(ONES),
+    };
+    same(&rt, told.orphans.as_slice(), [orphan].as_slice());
+    Ok(())
+}
+
+#[test]
+fn a_chunk_that_two_locators_name_is_live_once(rt: HostRuntime) -> Result<(), Fail> {
+    let disk = run_named_twice(&rt, rt.alloc())?;
+    let told = told_of(&rt, rt.alloc(), &disk)?;
+    assert!(rt; told.checked.len() == 3);
+    same(&rt, told.live.as_slice(), [41, 155].as_slice());
+    assert!(rt; told.orphans.is_empty());
+    Ok(())
+}
