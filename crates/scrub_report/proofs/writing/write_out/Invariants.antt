@@ -1,0 +1,14 @@
+-- So far the first bytes have been written.
+use Rattle.std.proofs.Common.{length, ◌-◌, take, ◌≤◌}
+use Rattle.std.specs.Io.KnownBytes.{Appends}
+use Rattle.scrub_report.proofs.writing.write_out.Given as goal
+
+-- the first bytes have been written, and nothing else
+abbrev pub invariant-loop-written : goal.invariant-loop-written
+invariant-loop-written g l = record {
+  within : l.written ≤ length l.bytes;
+  so_far : Appends (g.W.Write.contents l.fn.writer) (g.W.Write.contents l.writer) (take l.written l.bytes);
+}
+
+abbrev pub decreases-loop-written : goal.decreases-loop-written
+decreases-loop-written g l = length l.bytes - l.written

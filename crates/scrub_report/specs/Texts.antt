@@ -1,0 +1,44 @@
+-- The texts of the report that name things: shards, owners of locators, UUIDs, what is wrong with a locator, and what
+-- became of a run.
+use Rattle.std.specs.Prelude.{ℕ, List, ◌++◌, codes}
+use Rattle.std.specs.Fmt.{decimal}
+use Rattle.hex.specs.Hex.{encode_lower}
+use Rattle.uuid.specs.Text.{hyphenated_text, lower}
+use Rattle.scrub_run.specs.declared.shard_id.ShardId.{ShardId}
+use Rattle.scrub_check.specs.declared.named.Owner.{Owner}
+use Rattle.scrub_check.specs.declared.named.Owner.TheVariants.{Run, Shard}
+use Rattle.scrub_check.specs.declared.status.Status.{Status}
+use Rattle.scrub_check.specs.declared.status.Status.TheVariants.{OutOfRange, PastPointer, Unreadable, NoFrame, WrongUuid, WrongLength, WrongDigest, Hidden, Sound}
+use Rattle.scrub_check.specs.declared.runs.RunState.{RunState}
+use Rattle.scrub_check.specs.declared.runs.RunState.TheVariants.{Read, BadChunk, NotARun}
+
+-- a shard's identifier: 32 lower-case hexadecimal digits
+abbrev pub id_text : ShardId → List ℕ
+id_text id = encode_lower id.0
+
+-- a UUID, as RFC 9562 writes it, in lower case
+abbrev pub uuid_text : List ℕ → List ℕ
+uuid_text uuid = hyphenated_text lower uuid
+
+-- who names a locator
+abbrev pub owner_text : Owner → List ℕ
+owner_text (Run number) = codes "run " ++ decimal number
+owner_text (Shard id) = codes "shard " ++ id_text id
+
+-- what a locator is worth; only that of the first seven is ever a reason
+abbrev pub status_text : Status → List ℕ
+status_text OutOfRange = codes "out_of_range"
+status_text PastPointer = codes "past_pointer"
+status_text Unreadable = codes "unreadable"
+status_text NoFrame = codes "no_frame"
+status_text WrongUuid = codes "wrong_uuid"
+status_text WrongLength = codes "wrong_length"
+status_text WrongDigest = codes "wrong_digest"
+status_text Hidden = codes "hidden"
+status_text Sound = codes "sound"
+
+-- what became of an index run
+abbrev pub state_text : RunState → List ℕ
+state_text Read = codes "read"
+state_text (BadChunk status) = status_text status
+state_text NotARun = codes "not_a_run"

@@ -1,0 +1,65 @@
+//! Texts of the report: of identifiers, of owners of locators, of what is wrong with one and what became of a run.
+
+ghost use Rattle.std.specs.Prelude.{◌≡◌, IfOk, string_bytes};
+ghost use Rattle.scrub_report.specs.Texts.{id_text, owner_text, state_text, status_text, uuid_text};
+
+use scrub_check::{Owner, RunState, Status};
+use scrub_disk::OutOfMemory;
+use scrub_run::ShardId;
+use std::alloc::Global;
+use uuid::Uuid;
+
+/// A shard's identifier, as 32 lower-case hexadecimal digits.
+pub(crate) fn id_text(alloc: Global, id: ShardId) -> Result<String, OutOfMemory>
+    ensures { IfOk result (λ text. string_bytes text ≡ id_text id) }
+{
+    hex::encode(alloc, id.0)
+}
+
+/// A UUID as RFC 9562 writes it, in lower case.
+pub(crate) fn uuid_text(alloc: Global, uuid: Uuid) -> Result<String, OutOfMemory>
+    ensures { IfOk result (λ text. string_bytes text ≡ uuid_text uuid) }
+{
+    format!(in alloc; "{uuid}")
+}
+
+/// Who names a locator: `run K` or `shard IDENTIFIER`.
+pub(crate) fn owner_text(alloc: Global, owner: Owner) -> Result<String, OutOfMemory>
+    ensures { IfOk result (λ text. string_bytes text ≡ owner_text owner) }
+{
+    match owner {
+        Owner::Run(number) => format!(in alloc; "run {number}"),
+        Owner::Shard(id) => {
+            let id = id_text(alloc, id)?;
+            format!(in alloc; "shard {id}")
+        }
+    }
+}
+
+/// What a locator is worth. The report says it of a dangling locator and of a lost run.
+pub(crate) fn status_text(status: Status) -> &'static str
+    ensures { result.now ≡ status_text status }
+{
+    match status {
+        Status::OutOfRange => "out_of_range",
+        Status::PastPointer => "past_pointer",
+        Status::Unreadable => "unreadable",
+        Status::NoFrame => "no_frame",
+        Status::WrongUuid => "wrong_uuid",
+        Status::WrongLength => "wrong_length",
+        Status::WrongDigest => "wrong_digest",
+        Status::Hidden => "hidden",
+        Status::Sound => "sound",
+    }
+}
+
+/// What became of an index run.
+pub(crate) fn state_text(state: RunState) -> &'static str
+    ensures { result.now ≡ state_text state }
+{
+    match state {
+        RunState::Read => "read",
+        RunState::BadChunk(status) => status_text(status),
+        RunState::NotARun => "not_a_run",
+    }
+}
