@@ -4,7 +4,7 @@ use Rattle.std.specs.Io.KnownBytes.{Appends}
 use Rattle.std.specs.Fmt.{decimal}
 use Rattle.scrub_cli.specs.declared.fault.Fault.TheVariants.{Output}
 use Rattle.scrub_cli.specs.Fault.{line, text_of}
-use Rattle.scrub_cli.specs.Writing.{AppendsFront}
+use Rattle.scrub_report.specs.Writing.{AppendsFront}
 use Rattle.scrub_cli.proofs.Appending.{front_stays, front_then}
 
 abbrev before : List ℕ

@@ -9,7 +9,8 @@ use Rattle.scrub_cli.specs.declared.words.WordsFault.{WordsFault}
 use Rattle.scrub_cli.specs.declared.words.WordsFault.TheVariants.{Refused, Help as help, OutOfMemory as no_memory_to_read}
 use Rattle.scrub_cli.specs.declared.fault.Fault.{Fault}
 use Rattle.scrub_cli.specs.declared.fault.Fault.TheVariants.{NotUtf8, Help, Words, Geometry, Extent, Pointer, BadPage, NoImage, TooLong, Output, OutOfMemory}
-use Rattle.scrub_cli.specs.Writing.{AppendsFront, Held}
+use Rattle.scrub_report.specs.Writing.{AppendsFront}
+use Rattle.scrub_cli.specs.Writing.{Held}
 
 abbrev pub fault_of_load : LoadFault → Fault
 fault_of_load no_memory_to_load = OutOfMemory

@@ -3,11 +3,12 @@
 ghost use Rattle.std.specs.Prelude.{◌≡◌, ◌++◌};
 ghost use Rattle.scrub_cli.specs.declared.fault.Fault.TheVariants.{Geometry, Output, OutOfMemory};
 ghost use Rattle.scrub_cli.specs.Fault.{limit_of, line, text_of};
-ghost use Rattle.scrub_cli.specs.Writing.{AppendsFront};
+ghost use Rattle.scrub_report.specs.Writing.{AppendsFront};
 
 use crate::words::WordsFault;
-use crate::writing::{WriteFault, write_all_counted, write_decimal};
+use crate::writing::write_decimal;
 use scrub_disk::{GeometryFault, LoadFault, OutOfMemory};
+use scrub_report::{WriteFault, write_out};
 use std::alloc::AllocFailed;
 use std::io::Write;
 
@@ -92,7 +93,7 @@ impl From<WordsFault> for Fault<'_> {
 
 impl Fault<'_> {
     ghost use Rattle.scrub_cli.specs.Fault.{status_of, text_of, IsTold};
-    ghost use Rattle.scrub_cli.specs.Writing.{AppendsFront};
+    ghost use Rattle.scrub_report.specs.Writing.{AppendsFront};
 
     /// The status that the program ends with.
     pub fn status(&self) -> u8
@@ -117,7 +118,7 @@ impl Fault<'_> {
         ensures { AppendsFront (E.contents err.old) (E.contents err.new) (text_of self.now) }
     {
         let _ = match self {
-            Fault::Help(text) | Fault::Words(text) => write_all_counted(err, text.as_bytes()),
+            Fault::Help(text) | Fault::Words(text) => write_out(err, text.as_bytes()),
             Fault::NotUtf8 => write_line(err, "a word is not UTF-8", ""),
             Fault::Geometry(fault) => write_line(err, "geometry refused: ", limit(*fault)),
             Fault::Extent => write_line(err, "extent out of range", ""),
@@ -156,17 +157,17 @@ fn limit(fault: GeometryFault) -> &'static str
 fn write_line<E: Write>(err: &mut E, what: &str, which: &str) -> Result<(), WriteFault>
     ensures { AppendsFront (E.contents err.old) (E.contents err.new) (line (what.now ++ which.now)) }
 {
-    write_all_counted(err, b"shardscrub: ")?;
-    write_all_counted(err, what.as_bytes())?;
-    write_all_counted(err, which.as_bytes())?;
-    write_all_counted(err, b"\n")
+    write_out(err, b"shardscrub: ")?;
+    write_out(err, what.as_bytes())?;
+    write_out(err, which.as_bytes())?;
+    write_out(err, b"\n")
 }
 
 /// Writes the line of an output that took so many bytes.
 fn write_count<E: Write>(err: &mut E, count: usize) -> Result<(), WriteFault>
     ensures { AppendsFront (E.contents err.old) (E.contents err.new) (text_of (Output count)) }
 {
-    write_all_counted(err, b"shardscrub: output failed after ")?;
+    write_out(err, b"shardscrub: output failed after ")?;
     write_decimal(err, count)?;
-    write_all_counted(err, b" bytes\n")
+    write_out(err, b" bytes\n")
 }

@@ -10,7 +10,7 @@ use crate::fault::Fault;
 use crate::images::Images;
 use crate::items::items;
 use crate::words::{Request, read_words};
-use crate::writing::write_all_counted;
+use scrub_report::write_out;
 use std::alloc::Global;
 use std::io::Write;
 
@@ -35,7 +35,7 @@ fn give<O: Write, E: Write>(answer: &Answer, out: &mut O, err: &mut E) -> u8
     ensures { WritesAnswer answer.now.text.items answer.now.status result
         (O.contents out.old, O.contents out.new) (E.contents err.old, E.contents err.new) }
 {
-    match write_all_counted(out, &answer.text) {
+    match write_out(out, &answer.text) {
         Ok(()) => answer.status,
         Err(fault) => Fault::Output {
             written: fault.written,

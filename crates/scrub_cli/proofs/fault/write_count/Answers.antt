@@ -2,12 +2,12 @@
 use Rattle.scrub_cli.proofs.Telling.{count_first, count_second, count_last}
 use Rattle.scrub_cli.proofs.fault.write_count.Goals as goal
 
-pub returns-in_err-write_all_counted : goal.returns-in_err-write_all_counted
-returns-in_err-write_all_counted g c = count_first c.args.count _ _ c.write_all_counted.ensures.front
+pub returns-in_err-write_out : goal.returns-in_err-write_out
+returns-in_err-write_out g c = count_first c.args.count _ _ c.write_out.ensures.front
 
 pub returns-in_err-write_decimal : goal.returns-in_err-write_decimal
-returns-in_err-write_decimal g c = count_second c.args.count _ _ _ c.in_ok-write_all_counted.ensures.whole c.write_decimal.ensures.front
+returns-in_err-write_decimal g c = count_second c.args.count _ _ _ c.in_ok-write_out.ensures.whole c.write_decimal.ensures.front
 
 pub returns : goal.returns
 returns g c =
-    count_last c.args.count _ _ _ _ c.in_ok-write_all_counted.ensures.whole c.in_ok-write_decimal.ensures.whole c.write_all_counted-2.ensures.front
+    count_last c.args.count _ _ _ _ c.in_ok-write_out.ensures.whole c.in_ok-write_decimal.ensures.whole c.write_out-2.ensures.front

@@ -2,20 +2,20 @@
 use Rattle.scrub_cli.proofs.Telling.{line_first, line_second, line_third, line_last}
 use Rattle.scrub_cli.proofs.fault.write_line.Goals as goal
 
-pub returns-in_err-write_all_counted : goal.returns-in_err-write_all_counted
-returns-in_err-write_all_counted g c = line_first c.args.what.now c.args.which.now _ _ c.write_all_counted.ensures.front
+pub returns-in_err-write_out : goal.returns-in_err-write_out
+returns-in_err-write_out g c = line_first c.args.what.now c.args.which.now _ _ c.write_out.ensures.front
 
-pub returns-in_err-write_all_counted-2 : goal.returns-in_err-write_all_counted-2
-returns-in_err-write_all_counted-2 g c =
+pub returns-in_err-write_out-2 : goal.returns-in_err-write_out-2
+returns-in_err-write_out-2 g c =
     line_second c.args.what.now c.args.which.now _ _ _ c.as_bytes.result.now c.as_bytes.ensures.value
-    c.in_ok-write_all_counted.ensures.whole c.write_all_counted-2.ensures.front
+    c.in_ok-write_out.ensures.whole c.write_out-2.ensures.front
 
-pub returns-in_err-write_all_counted-3 : goal.returns-in_err-write_all_counted-3
-returns-in_err-write_all_counted-3 g c =
+pub returns-in_err-write_out-3 : goal.returns-in_err-write_out-3
+returns-in_err-write_out-3 g c =
     line_third c.args.what.now c.args.which.now _ _ _ _ c.as_bytes.result.now c.as_bytes-2.result.now c.as_bytes.ensures.value c.as_bytes-2.ensures.value
-    c.in_ok-write_all_counted.ensures.whole c.in_ok-write_all_counted-2.ensures.whole c.write_all_counted-3.ensures.front
+    c.in_ok-write_out.ensures.whole c.in_ok-write_out-2.ensures.whole c.write_out-3.ensures.front
 
 pub returns : goal.returns
 returns g c =
     line_last c.args.what.now c.args.which.now _ _ _ _ _ c.as_bytes.result.now c.as_bytes-2.result.now c.as_bytes.ensures.value c.as_bytes-2.ensures.value
-    c.in_ok-write_all_counted.ensures.whole c.in_ok-write_all_counted-2.ensures.whole c.in_ok-write_all_counted-3.ensures.whole c.write_all_counted-4.ensures.front
+    c.in_ok-write_out.ensures.whole c.in_ok-write_out-2.ensures.whole c.in_ok-write_out-3.ensures.whole c.write_out-4.ensures.front

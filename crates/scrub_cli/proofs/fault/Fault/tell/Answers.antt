@@ -1,7 +1,7 @@
 -- The limit's name is that of the fault.
 use Rattle.std.proofs.Common.{◌++◌, codes, subst}
 use Rattle.scrub_cli.specs.Fault.{line}
-use Rattle.scrub_cli.specs.Writing.{AppendsFront}
+use Rattle.scrub_report.specs.Writing.{AppendsFront}
 use Rattle.scrub_cli.proofs.fault.Fault.tell.Goals as goal
 
 pub returns-in-Geometry : goal.returns-in-Geometry
