@@ -1,3 +1,6 @@
--- Lemmas on what a writer holds, and on lists of values.
+-- Lemmas on what a writer holds, on lists of values, and on the report as a value.
 pub mod Appending
 pub mod Shown
+pub mod ScannedLive
+pub mod NoFloats
+pub mod KeyValues

@@ -1,5 +1,5 @@
 -- Lists of values that show one thing of each element, as they grow.
-use Rattle.std.proofs.Common.{◌≡◌, ◌<◌, ◌≤◌, ◌+◌, ℕ, List, [], ◌∷◌, ◌++◌, length, map, take, get_or, min, arith, sym, ◌∙◌, ap, ap₂}
+use Rattle.std.proofs.Common.{◌≡◌, ◌<◌, ◌≤◌, ◌+◌, ℕ, List, [], ◌∷◌, ◌++◌, length, map, take, get_or, min, arith, refl, sym, ◌∙◌, ap, ap₂}
 use Rattle.std.specs.List.{zip}
 use Rattle.std.proofs.lemmas.List.{map_more, map-append, take_all}
 use Rattle.std.proofs.lemmas.Slice.Zip.{get_or-zip, length-zip}
@@ -34,3 +34,9 @@ module _ {A B C : Type 0} (xs : List A) (ys : List B) (zs : List C) (second : le
       ∙ ap₂ (λ (a : A) (p : B × C). let t : A × (B × C) = (a, p) in t) x_is
       (get_or-zip ys zs i (y, z) (omega (arith, second, below)) (omega (arith, second, third, below))
       ∙ ap₂ (λ (b : B) (c : C). let p : B × C = (b, c) in p) y_is z_is)
+
+-- two lists of one length, side by side
+pub two_at : {A B : Type 0} (xs : List A) (ys : List B) (i : ℕ) (x : A) (y : B) → i < length xs → length ys ≡ length xs → get_or xs i x ≡ x → get_or ys i y ≡ y →
+    get_or (zip xs ys) i (x, y) ≡ (x, y)
+two_at {A} {B} xs ys i x y below long x_is y_is =
+    get_or-zip xs ys i (x, y) below (omega (arith, long, below)) ∙ ap₂ (λ (a : A) (b : B). let p : A × B = (a, b) in p) x_is y_is

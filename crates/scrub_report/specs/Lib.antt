@@ -1,5 +1,9 @@
 -- The words that public clauses say, and those of the crates below that they cite.
 pub mod Writing
+pub mod Scrubbed
 pub mod Json
 pub mod Texts
 pub mod Report
+pub mod Index
+-- The steps of the code.
+pub mod Keys

@@ -1,8 +1,10 @@
 -- The report, key by key: the JSON value of each part of what was found.
-use Rattle.std.specs.Prelude.{ℕ, List, [], ◌∷◌, Option, Bool, codes, filter, length, map, option_map}
+use Rattle.std.specs.Prelude.{◌≡◌, ℕ, List, [], ◌∷◌, ◌++◌, Option, Bool, codes, filter, length, map, option_map}
 use Rattle.std.specs.List.{zip}
 use Rattle.serde_json.specs.Data.{Data, boolean, string}
+use Rattle.serde_json.specs.Written.{compact_text}
 use Rattle.scrub_disk.specs.declared.geometry.Geometry.{Geometry}
+use Rattle.scrub_disk.specs.Image.{Image}
 use Rattle.scrub_frame.specs.declared.locator.Locator.{Locator}
 use Rattle.scrub_super.specs.Chosen.{Choice}
 use Rattle.scrub_scan.specs.declared.item.Item.{Item}
@@ -11,10 +13,18 @@ use Rattle.scrub_scan.specs.Scanned.{Scanned}
 use Rattle.scrub_run.specs.declared.shard_id.ShardId.{ShardId}
 use Rattle.scrub_run.specs.Entry.{EntryValue}
 use Rattle.scrub_merge.specs.Binding.{BindingValue}
+use Rattle.scrub_check.specs.declared.checked.Checked.{Checked}
+use Rattle.scrub_check.specs.declared.place.Place.{Place}
+use Rattle.scrub_check.specs.declared.place.SharedPlace.{SharedPlace}
 use Rattle.scrub_check.specs.declared.runs.RunState.{RunState}
+use Rattle.scrub_check.specs.Candidates.{CandidateValue}
+use Rattle.scrub_check.specs.Checked.{dangling, hidden}
+use Rattle.scrub_check.specs.Chunks.{orphans, twins}
+use Rattle.scrub_check.specs.Live.{live_bytes}
 use Rattle.scrub_check.specs.Runs.{ReadRunsValue}
 use Rattle.scrub_report.specs.Json.{natural, natural_or_null, list, with_keys}
-use Rattle.scrub_report.specs.Texts.{id_text, state_text}
+use Rattle.scrub_report.specs.Scrubbed.{Scrubbed, IsScrubbed, is_clean}
+use Rattle.scrub_report.specs.Texts.{id_text, owner_text, state_text, status_text, uuid_text}
 
 -- numbers of extents or pages, or places
 abbrev pub numbers_data : List ℕ → Data
@@ -71,3 +81,77 @@ runs_data locators read = list (map (λ r. run_data r.0 r.1.0 r.1.1) (zip locato
 -- the shards whose binding is doubtful
 abbrev pub doubtful_ids : List BindingValue → List ShardId
 doubtful_ids bindings = map (λ b. b.id) (filter (λ b. b.doubtful) bindings)
+
+-- one of `dangling`: a locator, who names it, and what is wrong with it
+abbrev pub dangling_data : Checked → Data
+dangling_data c = with_keys (
+    (codes "extent", natural c.locator.extent) ∷
+    (codes "length", natural c.locator.length) ∷
+    (codes "offset", natural c.locator.offset) ∷
+    (codes "owner", string (owner_text c.owner)) ∷
+    (codes "reason", string (status_text c.status)) ∷
+    (codes "uuid", string (uuid_text c.locator.uuid)) ∷ [])
+
+-- one of `hidden`: the same without a reason
+abbrev pub hidden_data : Checked → Data
+hidden_data c = with_keys (
+    (codes "extent", natural c.locator.extent) ∷
+    (codes "length", natural c.locator.length) ∷
+    (codes "offset", natural c.locator.offset) ∷
+    (codes "owner", string (owner_text c.owner)) ∷
+    (codes "uuid", string (uuid_text c.locator.uuid)) ∷ [])
+
+-- one of `orphans` and `twins`: a chunk, by its place; the length is that of its payload
+abbrev pub place_data : Place → Data
+place_data p = with_keys (
+    (codes "extent", natural p.extent) ∷
+    (codes "length", natural p.length) ∷
+    (codes "offset", natural p.offset) ∷
+    (codes "uuid", string (uuid_text p.uuid)) ∷ [])
+
+-- one of `shared`: a place, and how many point to it
+abbrev pub shared_data : SharedPlace → Data
+shared_data s = with_keys (
+    (codes "count", natural s.count) ∷
+    (codes "extent", natural s.extent) ∷
+    (codes "offset", natural s.offset) ∷ [])
+
+-- one of `candidates`
+abbrev pub candidate_data : CandidateValue → Data
+candidate_data c = with_keys (
+    (codes "extent", natural c.extent) ∷
+    (codes "free", natural c.free) ∷
+    (codes "keep", numbers_data c.keep) ∷ [])
+
+-- `extents`, each with its live bytes
+abbrev pub extents_data : List Checked → List Scanned → Data
+extents_data checked all = list (map (λ f. extent_data (live_bytes checked f) f) all)
+
+-- the report: one object, whose keys stand in rising order of their bytes
+abbrev pub report_data : Scrubbed → Data
+report_data s = with_keys (
+    (codes "broken", ids_data s.broken) ∷
+    (codes "candidates", list (map candidate_data s.candidates)) ∷
+    (codes "clean", boolean (is_clean s)) ∷
+    (codes "dangling", list (map dangling_data (dangling s.checked))) ∷
+    (codes "doubtful", ids_data (doubtful_ids s.bindings)) ∷
+    (codes "extents", extents_data s.checked s.all) ∷
+    (codes "geometry", geometry_data s.plan.geometry) ∷
+    (codes "hidden", list (map hidden_data (hidden s.checked))) ∷
+    (codes "orphans", list (map place_data (orphans s.all s.checked))) ∷
+    (codes "retired", list []) ∷
+    (codes "runs", runs_data s.plan.runs s.read) ∷
+    (codes "shards", natural (length s.bindings)) ∷
+    (codes "shared", list (map shared_data s.shared)) ∷
+    (codes "super", super_data s.choice) ∷
+    (codes "twins", list (map place_data (twins s.all))) ∷ [])
+
+-- its text: compact JSON and a line feed
+abbrev pub report_text : Scrubbed → List ℕ
+report_text s = compact_text (report_data s) ++ 10 ∷ []
+
+-- a text is the report of what an image holds
+pub record IsReport (image : Image) (text : List ℕ) : Type 0 where
+  pub found : Scrubbed
+  pub scrubbed : IsScrubbed image found
+  pub text_is : text ≡ report_text found

@@ -1,12 +1,15 @@
 //! The report's values of the extents that were scanned.
 
-ghost use Rattle.std.specs.Prelude.{◌≡◌, IfOk};
+ghost use Rattle.std.specs.Prelude.{◌≡◌, IfOk, List, length, map};
 ghost use Rattle.serde_json.specs.View.{view};
-ghost use Rattle.scrub_report.specs.Report.{extent_data, items_data};
+ghost use Rattle.scrub_scan.specs.Scanned.{scanned};
+ghost use Rattle.scrub_check.specs.declared.checked.Checked.{Checked};
+ghost use Rattle.scrub_check.specs.Live.{live_bytes};
+ghost use Rattle.scrub_report.specs.Report.{extent_data, extents_data, items_data};
 
 use crate::values::numbers_value;
-use scrub_disk::OutOfMemory;
-use scrub_scan::{Findings, Item, item_line};
+use scrub_disk::{OutOfMemory, PageSource};
+use scrub_scan::{ExtentResult, Item, item_line};
 use serde_json::{Value, json};
 use std::alloc::Global;
 
@@ -21,26 +24,41 @@ fn items_value(alloc: Global, items: &[Item]) -> Result<Value, OutOfMemory>
     Ok(Value::Array(values))
 }
 
-/// The value of one extent, with its write pointer and its live bytes.
-fn extent_value(
+/// The value of one extent, with its live bytes.
+fn extent_value<D: PageSource>(
     alloc: Global,
-    extent: u32,
-    pointer: u32,
+    found: &ExtentResult<'_, D>,
     live: u32,
-    findings: &Findings,
 ) -> Result<Value, OutOfMemory>
-    ensures { IfOk result (λ v. view v ≡ extent_data live
-        (record { extent = extent; pointer = pointer; findings = findings.now })) }
+    ensures { IfOk result (λ v. view v ≡ extent_data live (scanned found.now)) }
 {
+    let findings = found.findings();
     let bad = numbers_value(alloc, findings.bad_pages())?;
     let items = items_value(alloc, findings.items())?;
     json!(in alloc; {
         "bad": bad,
-        "extent": extent,
+        "extent": found.extent(),
         "items": items,
         "live": live,
-        "pointer": pointer,
+        "pointer": found.pointer(),
         "tail": findings.tail_count(),
         "tail_at": findings.tail_first(),
     })
+}
+
+/// The value of `extents`: of each result, and of its live bytes.
+pub(crate) fn extents_value<D: PageSource>(
+    alloc: Global,
+    results: &[ExtentResult<'_, D>],
+    live: &[u32],
+) -> Result<Value, OutOfMemory>
+    requires { length live.now ≡ length results.now }
+    ensures { (checked : List Checked) → live.now ≡ map (live_bytes checked) (map scanned results.now) →
+        IfOk result (λ v. view v ≡ extents_data checked (map scanned results.now)) }
+{
+    let mut values = Vec::with_capacity(alloc, results.len())?;
+    for i in 0..results.len() {
+        values.push(extent_value(alloc, &results[i], live[i])?)?;
+    }
+    Ok(Value::Array(values))
 }

@@ -1,7 +1,10 @@
 //! The report.
 #![tactic(auto)]
 
+mod chunks;
 mod extents;
+mod locators;
+mod report;
 mod runs;
 mod sizes;
 mod texts;

@@ -1,0 +1,71 @@
+-- What is found on a whole disk, each part as it is in the image, and whether all of it is in good order.
+use Rattle.std.specs.Prelude.{◌==◌, ◌&&◌, ◌||◌, ℕ, Bool, true, false, not, List, length, map, is_none, is_some}
+use Rattle.std.specs.List.{filter, list_all, list_any}
+use Rattle.scrub_disk.specs.Image.{Image}
+use Rattle.scrub_super.specs.Chosen.{Choice, IsChoice}
+use Rattle.scrub_super.specs.Plan.{PlanValue, IsPlanOf}
+use Rattle.scrub_scan.specs.declared.item.Item.{Item}
+use Rattle.scrub_scan.specs.declared.item.Item.TheVariants.{Chunk, Pad, Torn, Noise, Lost}
+use Rattle.scrub_scan.specs.Scanned.{Scanned}
+use Rattle.scrub_scan.specs.AllFindings.{AreAllFindings}
+use Rattle.scrub_run.specs.declared.shard_id.ShardId.{ShardId}
+use Rattle.scrub_merge.specs.Binding.{BindingValue}
+use Rattle.scrub_merge.specs.ShardMap.{IsShardMap}
+use Rattle.scrub_check.specs.declared.checked.Checked.{Checked}
+use Rattle.scrub_check.specs.declared.place.SharedPlace.{SharedPlace}
+use Rattle.scrub_check.specs.Runs.{ReadRunsValue, AreReadRuns}
+use Rattle.scrub_check.specs.Named.{named}
+use Rattle.scrub_check.specs.Checked.{AreChecked, AreBrokenShards, dangling, hidden}
+use Rattle.scrub_check.specs.Shared.{AreShared}
+use Rattle.scrub_check.specs.Candidates.{CandidateValue, AreCandidates}
+
+-- the choice of a superblock, the plan that follows from it, what one reader finds, the index runs, the shard map, the
+-- named locators with what they are worth, and the lists that are drawn from them by a search
+pub record Scrubbed : Type 0 where
+  pub choice : Choice
+  pub plan : PlanValue
+  pub all : List Scanned
+  pub read : ReadRunsValue
+  pub bindings : List BindingValue
+  pub checked : List Checked
+  pub shared : List SharedPlace
+  pub broken : List ShardId
+  pub candidates : List CandidateValue
+
+-- no extent may be reclaimed: a newer superblock, or a newer binding, may have been lost
+abbrev pub is_in_doubt : Choice → ReadRunsValue → Bool
+is_in_doubt choice read = choice.tie || not (length choice.bad_pages == 0) || list_any is_none read.runs
+
+-- each part is as it is in the image
+pub record IsScrubbed (image : Image) (s : Scrubbed) : Type 0 where
+  pub choice : IsChoice image s.choice
+  pub plan : IsPlanOf s.choice s.plan
+  pub all : AreAllFindings image s.plan s.all
+  pub read : AreReadRuns image s.plan s.read
+  pub bindings : IsShardMap s.read.runs s.bindings
+  pub checked : AreChecked image s.plan (named s.plan.runs s.bindings) s.checked
+  pub shared : AreShared s.checked s.shared
+  pub broken : AreBrokenShards s.checked s.broken
+  pub candidates : AreCandidates s.plan s.all s.checked (is_in_doubt s.choice s.read) s.candidates
+
+-- neither torn nor noise nor lost
+abbrev pub is_clean_item : Item → Bool
+is_clean_item (Chunk start stop uuid n digest) = true
+is_clean_item (Pad start stop) = true
+is_clean_item _ = false
+
+-- every page of the extent can be read, and each item is such
+abbrev pub is_clean_extent : Scanned → Bool
+is_clean_extent f = length f.findings.bad_pages == 0 && list_all is_clean_item f.findings.items
+
+-- one superblock counts, and every page of its extent can be read
+abbrev pub is_clean_choice : Choice → Bool
+is_clean_choice choice = is_some choice.superblock && not choice.tie && length choice.bad_pages == 0
+
+-- each locator is sound, and each place is named once at most
+abbrev pub is_clean_list : List Checked → List SharedPlace → Bool
+is_clean_list checked shared = length (dangling checked) == 0 && length (hidden checked) == 0 && length shared == 0
+
+-- all is in good order; orphans, twins, tails and candidates don't count against it
+abbrev pub is_clean : Scrubbed → Bool
+is_clean s = is_clean_choice s.choice && list_all is_clean_extent s.all && list_all is_some s.read.runs && is_clean_list s.checked s.shared
