@@ -4,3 +4,5 @@ pub mod Shown
 pub mod ScannedLive
 pub mod NoFloats
 pub mod KeyValues
+pub mod KeptEntries
+pub mod RunEntries

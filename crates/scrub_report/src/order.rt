@@ -1,0 +1,50 @@
+//! Whether what was found is in good order, part by part.
+
+ghost use Rattle.std.specs.Prelude.{◌≡◌, map};
+ghost use Rattle.std.specs.List.{list_all};
+ghost use Rattle.scrub_scan.specs.Scanned.{scanned};
+ghost use Rattle.scrub_report.specs.Scrubbed.{is_clean_choice, is_clean_extent, is_clean_item};
+
+use scrub_disk::PageSource;
+use scrub_scan::{ExtentResult, Item};
+use scrub_super::Chosen;
+
+/// Whether an item is neither torn nor noise nor lost.
+fn is_clean_item(item: &Item) -> bool
+    ensures { result ≡ is_clean_item item.now }
+{
+    matches!(item, Item::Chunk { .. } | Item::Pad { .. })
+}
+
+/// Whether each of these items is such.
+fn are_clean_items(items: &[Item]) -> bool
+    ensures { result ≡ list_all is_clean_item items.now }
+{
+    items.iter().all(|item| is_clean_item(item))
+}
+
+/// Whether every page of an extent can be read, and each item is such.
+fn is_clean_extent<D: PageSource>(found: &ExtentResult<'_, D>) -> bool
+    ensures { result ≡ is_clean_extent (scanned found.now) }
+{
+    let findings = found.findings();
+    findings.bad_pages().is_empty() && are_clean_items(findings.items())
+}
+
+/// Whether each of the extents is such.
+pub(crate) fn are_clean_extents<D: PageSource>(results: &[ExtentResult<'_, D>]) -> bool
+    ensures { result ≡ list_all is_clean_extent (map scanned results.now) }
+{
+    let mut clean = true;
+    for found in results {
+        clean &= is_clean_extent(found);
+    }
+    clean
+}
+
+/// Whether one superblock counts, and every page of its extent can be read.
+pub(crate) fn is_clean_choice(chosen: &Chosen) -> bool
+    ensures { result ≡ is_clean_choice chosen.now }
+{
+    chosen.superblock().is_some() && !chosen.tie() && chosen.bad_pages().is_empty()
+}
