@@ -19,7 +19,7 @@ use Rattle.scrub_check.specs.Live.{live_bytes}
 use Rattle.scrub_report.specs.Json.{natural, natural_or_null, list}
 use Rattle.scrub_report.specs.Scrubbed.{Scrubbed}
 use Rattle.scrub_report.specs.Texts.{id_text}
-use Rattle.scrub_report.specs.Report.{candidate_data, dangling_data, doubtful_ids, extent_data, extents_data, hidden_data, ids_data, items_data, numbers_data, place_data, report_data, run_data, runs_data, shared_data, super_data}
+use Rattle.scrub_report.specs.Report.{candidate_data, dangling_data, doubtful_ids, extent_data, extents_data, hidden_data, ids_data, numbers_data, place_data, report_data, run_data, runs_data, shared_data, super_data}
 
 -- a list whose values are none is none
 list_no_float : {A : Type 0} (show : A → Data) → ((a : A) → has_float (show a) ≡ false) → (xs : List A) → has_float (list (map show xs)) ≡ false

@@ -1,5 +1,5 @@
 -- Lists of values that show one thing of each element, as they grow.
-use Rattle.std.proofs.Common.{◌≡◌, ◌<◌, ◌≤◌, ◌+◌, ℕ, List, [], ◌∷◌, ◌++◌, length, map, take, get_or, min, arith, refl, sym, ◌∙◌, ap, ap₂}
+use Rattle.std.proofs.Common.{◌≡◌, ◌<◌, ◌≤◌, ◌+◌, ℕ, List, [], ◌∷◌, ◌++◌, length, map, take, get_or, arith, sym, ◌∙◌, ap, ap₂}
 use Rattle.std.specs.List.{zip}
 use Rattle.std.proofs.lemmas.List.{map_more, map-append, take_all}
 use Rattle.std.proofs.lemmas.Slice.Zip.{get_or-zip, length-zip}

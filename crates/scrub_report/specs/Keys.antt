@@ -1,5 +1,5 @@
 -- The steps of the code: the values of the report's keys, before they are one object.
-use Rattle.std.specs.Prelude.{◌≡◌, ◌∷◌, [], List, codes, length, map}
+use Rattle.std.specs.Prelude.{◌≡◌, ◌∷◌, [], codes, length, map}
 use Rattle.serde_json.specs.Data.{Data, Members, boolean, put}
 use Rattle.serde_json.specs.View.{view}
 use Rattle.scrub_check.specs.Checked.{dangling, hidden}

@@ -1,11 +1,11 @@
 -- What is found on a whole disk, each part as it is in the image, and whether all of it is in good order.
-use Rattle.std.specs.Prelude.{◌==◌, ◌&&◌, ◌||◌, ℕ, Bool, true, false, not, List, length, map, is_none, is_some}
-use Rattle.std.specs.List.{filter, list_all, list_any}
+use Rattle.std.specs.Prelude.{◌==◌, ◌&&◌, ◌||◌, Bool, true, false, not, List, length, is_none, is_some}
+use Rattle.std.specs.List.{list_all, list_any}
 use Rattle.scrub_disk.specs.Image.{Image}
 use Rattle.scrub_super.specs.Chosen.{Choice, IsChoice}
 use Rattle.scrub_super.specs.Plan.{PlanValue, IsPlanOf}
 use Rattle.scrub_scan.specs.declared.item.Item.{Item}
-use Rattle.scrub_scan.specs.declared.item.Item.TheVariants.{Chunk, Pad, Torn, Noise, Lost}
+use Rattle.scrub_scan.specs.declared.item.Item.TheVariants.{Chunk, Pad}
 use Rattle.scrub_scan.specs.Scanned.{Scanned}
 use Rattle.scrub_scan.specs.AllFindings.{AreAllFindings}
 use Rattle.scrub_run.specs.declared.shard_id.ShardId.{ShardId}

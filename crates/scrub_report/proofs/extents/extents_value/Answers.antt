@@ -1,12 +1,11 @@
 -- One more extent, and in the end all.
-use Rattle.std.proofs.Common.{rules, ◌≡◌, ◌<◌, ◌≤◌, ℕ, List, length, get_or, map, min, arith, sym, ◌∙◌, ap}
+use Rattle.std.proofs.Common.{rules, ◌≡◌, ℕ, length, get_or, arith, sym, ◌∙◌}
 use Rattle.std.specs.List.{zip}
-use Rattle.std.proofs.lemmas.List.{get_or_default, length-map}
+use Rattle.std.proofs.lemmas.List.{get_or_default}
 use Rattle.std.proofs.lemmas.Slice.Zip.{length-zip}
 use Rattle.serde_json.specs.declared.value.Value.{the_lemmas}
 use Rattle.scrub_scan.specs.declared.extent_result.ExtentResult.{ExtentResult}
-use Rattle.scrub_scan.specs.Scanned.{Scanned, scanned}
-use Rattle.scrub_check.specs.Live.{live_bytes}
+use Rattle.scrub_scan.specs.Scanned.{scanned}
 use Rattle.scrub_report.specs.Report.{extent_data}
 use Rattle.scrub_report.proofs.ScannedLive.{beside_scanned}
 use Rattle.scrub_report.proofs.Shown.{shown_more, all_shown, two_at}

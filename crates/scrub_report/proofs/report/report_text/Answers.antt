@@ -2,8 +2,6 @@
 use Rattle.std.proofs.Common.{◌≡◌, ◌++◌, [], ◌∷◌, ap, sym, subst, false, ◌∙◌}
 use Rattle.serde_json.specs.Data.{Data}
 use Rattle.serde_json.specs.Written.{compact_text, has_float}
-use Rattle.scrub_report.specs.Report.{report_data}
-use Rattle.scrub_report.specs.Keys.{keys_data}
 use Rattle.scrub_report.proofs.NoFloats.{report_no_float}
 use Rattle.scrub_report.proofs.KeyValues.{keys_are}
 use Rattle.scrub_report.proofs.report.report_text.Goals as goal
