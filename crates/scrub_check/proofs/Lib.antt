@@ -3,6 +3,9 @@ pub mod SortedStarts
 pub mod Sizes
 pub mod StartSearch
 pub mod CheckedLists
+pub mod Reclaimable
+pub mod KeptChunks
+pub mod OneList
 pub mod Filtered
 pub mod Starts
 pub mod Gaps

@@ -1,22 +1,22 @@
 -- How many bytes the items of a tiling take: what was written, and those of them that pass a test no more than that.
-use Rattle.std.proofs.Common.{◌≡◌, ◌<◌, ◌≤◌, ◌+◌, ◌==◌, ℕ, Bool, true, false, cond, List, [], ◌∷◌, Option, Some, None, arith, refl, ◌∙◌, ap, subst}
+use Rattle.std.proofs.Common.{◌≡◌, ◌<◌, ◌≤◌, ◌+◌, ℕ, Bool, true, false, cond, List, [], ◌∷◌, arith, ◌==◌, Option, Some, None, refl, ◌∙◌, ap, subst}
 use Rattle.std.specs.List.{filter, sum_by, All, Contains}
-use Rattle.std.proofs.lemmas.Bool.Decides.{nat_tests}
-use Rattle.std.proofs.lemmas.List.{get_or-map, length-map}
 use Rattle.std.proofs.lemmas.List.Sums.{sum_by-cons}
 use Rattle.std.proofs.lemmas.List.Elements.{All-head, All-tail}
-use Rattle.scrub_disk.specs.Image.{Image}
 use Rattle.scrub_scan.specs.declared.item.Item.{Item}
+use Rattle.scrub_disk.specs.Image.{Image}
 use Rattle.scrub_scan.specs.declared.findings.Findings.{Findings}
+use Rattle.scrub_scan.specs.Findings.{IsFindings}
 use Rattle.scrub_scan.specs.Extent.{Extent, extent_of}
 use Rattle.scrub_scan.specs.Item.{stop_of, IsItem}
 use Rattle.scrub_scan.specs.Tiling.{Joins, IsTiling}
-use Rattle.scrub_scan.specs.Findings.{IsFindings}
+use Rattle.scrub_scan.proofs.Tilings.{advances}
+use Rattle.scrub_check.specs.Live.{size_of}
+use Rattle.std.proofs.lemmas.Bool.Decides.{nat_tests}
+use Rattle.std.proofs.lemmas.List.{get_or-map, length-map}
 use Rattle.scrub_scan.specs.Scanned.{Scanned}
 use Rattle.scrub_scan.specs.AllFindings.{extent_numbers, entry_of}
-use Rattle.scrub_scan.proofs.Tilings.{advances}
 use Rattle.scrub_scan.proofs.Entries.{find_passes}
-use Rattle.scrub_check.specs.Live.{size_of}
 
 -- items that join from one place to the pointer take what lies between
 joined_sizes : (x : Extent) (a : ℕ) (items : List Item) → 0 < x.page → Joins a x.pointer items → All (IsItem x) items → a + sum_by size_of items ≡ x.pointer
@@ -31,6 +31,10 @@ joined_sizes x a (i ∷ is) pos joined each =
 pub sizes_of_tiling : (x : Extent) (items : List Item) → 0 < x.page → IsTiling x items → sum_by size_of items ≡ x.pointer
 sizes_of_tiling x items pos h = let all : 0 + sum_by size_of items ≡ x.pointer = joined_sizes x 0 items pos h.joined h.each in omega (arith, all)
 
+-- so do those of what was found under the pointer
+pub sizes_found : (image : Image) (e w : ℕ) (found : Findings) → IsFindings image e w found → sum_by size_of found.items ≡ w
+sizes_found image e w found h = sizes_of_tiling (extent_of image e w) found.items (omega (arith, image.geometry.page_size.least)) h.tiled
+
 -- what passes a test sums to no more
 pub sum_of_kept : {X : Type 0} (f : X → ℕ) (p : X → Bool) (xs : List X) → sum_by f (filter p xs) ≤ sum_by f xs
 sum_of_kept f p [] = omega arith
@@ -40,9 +44,9 @@ sum_of_kept f p (x ∷ xs) = by (p x) (sum_of_kept f p xs)
     by true less = omega (arith, sum_by-cons f x (filter p xs), sum_by-cons f x xs, less)
     by false less = omega (arith, sum_by-cons f x xs, less)
 
--- the items that were found under a pointer take what was written
-pub sizes_found : (image : Image) (e w : ℕ) (found : Findings) (items : List Item) → IsFindings image e w found → items ≡ found.items → sum_by size_of items ≡ w
-sizes_found image e w found items h is = ap (sum_by size_of) is ∙ sizes_of_tiling (extent_of image e w) found.items (omega (arith, image.geometry.page_size.least)) h.tiled
+-- so what passes of what was found takes no more than was written
+pub kept_sizes : (image : Image) (e w : ℕ) (found : Findings) (p : Item → Bool) → IsFindings image e w found → sum_by size_of (filter p found.items) ≤ w
+kept_sizes image e w found p h = omega (arith, sizes_found image e w found h, sum_of_kept size_of p found.items)
 
 -- what wasn't scanned isn't found
 pub not_scanned : (all : List Scanned) (e : ℕ) → ¬ Contains (extent_numbers all) e → entry_of all e ≡ None

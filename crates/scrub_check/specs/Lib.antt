@@ -8,6 +8,7 @@ pub mod Live
 pub mod Chunks
 pub mod Shared
 pub mod Candidates
+pub mod Kept
 pub use Rattle.scrub_disk.specs.Image
 pub use Rattle.scrub_super.specs.Plan
 pub use Rattle.scrub_scan.specs.Scanned
@@ -17,3 +18,4 @@ pub use Rattle.scrub_merge.specs.Binding
 pub mod Judged
 pub mod ChunkRun
 pub mod SoundStarts
+pub mod Verdicts

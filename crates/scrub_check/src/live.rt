@@ -75,7 +75,7 @@ fn sum_of_live(items: &[Item], checked: &[Checked], extent: u32) -> u32
 }
 
 /// The same by searches.
-fn sum_of_live_in(items: &[Item], sound: &SoundStarts, extent: u32) -> u32
+pub(crate) fn sum_of_live_in(items: &[Item], sound: &SoundStarts, extent: u32) -> u32
     requires { sum_by size_of items.now < 2 ^ 32 }
     ensures { result ≡ sum_by size_of (filter (is_live_by sound.now extent) items.now) }
 {

@@ -11,7 +11,8 @@ use Rattle.scrub_check.proofs.live.live_bytes_in.Goals as goal
 pub sum_of_live_in-requires : goal.sum_of_live_in-requires
 sum_of_live_in-requires g c =
     let image = result_image {s = g.D.PageSource} c.args.one.now in
-    let sizes = sizes_found image (scanned {s = g.D.PageSource} c.args.one.now).extent (scanned {s = g.D.PageSource} c.args.one.now).pointer c.findings.result.now c.items-items.result.now c.findings.ensures.found c.items-items.ensures in
+    let found = sizes_found image (scanned {s = g.D.PageSource} c.args.one.now).extent (scanned {s = g.D.PageSource} c.args.one.now).pointer c.findings.result.now c.findings.ensures.found in
+    let sizes : sum_by size_of c.items-items.result.now ≡ (scanned {s = g.D.PageSource} c.args.one.now).pointer = ap (sum_by size_of) c.items-items.ensures ∙ found in
     let pointer : c.pointer-pointer.result ≡ (scanned {s = g.D.PageSource} c.args.one.now).pointer = c.pointer-pointer.ensures in
     omega (arith, sizes, pointer, c.pointer-pointer.type_inv)
 

@@ -1,4 +1,4 @@
-//! Which extents may be reclaimed, what that frees and what has to be kept.
+//! An extent that may be reclaimed. Which ones may is left to reclaiming.
 
 ghost use Rattle.std.specs.Prelude.{◌≡◌};
 
@@ -21,6 +21,13 @@ impl Model for Candidate {
 }
 
 impl Candidate {
+    /// A candidate of these parts.
+    pub(crate) fn new(extent: u32, free: u32, keep: Vec<u32>) -> Candidate
+        ensures { result ≡ record { extent = extent; free = free; keep = keep.items } }
+    {
+        Candidate { extent, free, keep }
+    }
+
     /// The number of the extent.
     pub fn extent(&self) -> u32
         ensures { result ≡ self.now.extent }

@@ -1,0 +1,17 @@
+-- What the named locators say of places and extents, sorted by the code.
+use Rattle.std.specs.Prelude.{ℕ, not, List, map}
+use Rattle.std.specs.List.{filter}
+use Rattle.std.specs.List.Sorted.{IsPermutation}
+use Rattle.scrub_check.specs.declared.checked.Checked.{Checked}
+use Rattle.scrub_check.specs.declared.verdicts.Verdicts.{Verdicts}
+use Rattle.scrub_check.specs.Checked.{is_sound}
+use Rattle.scrub_check.specs.SoundStarts.{AreSoundStarts}
+
+-- the extents that those name that aren't sound, in some order
+abbrev pub AreUnsoundExtents : List Checked → List ℕ → Type 0
+AreUnsoundExtents checked extents = IsPermutation (map (λ c. c.locator.extent) (filter (λ c. not (is_sound c.status)) checked)) extents
+
+-- both of these locators
+pub record AreVerdicts (checked : List Checked) (v : Verdicts) : Type 0 where
+  pub sound : AreSoundStarts checked v.sound
+  pub unsound : AreUnsoundExtents checked v.unsound
