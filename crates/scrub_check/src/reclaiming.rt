@@ -141,12 +141,19 @@ fn all_reclaimable<D: PageSource>(
     Ok(candidates)
 }
 
+/// What candidates are sorted by: what is freed, falling, and then the number.
+fn rank_of(one: &Candidate) -> (Reverse<u32>, u32)
+    ensures { result ≡ (record { 0 = one.now.free }, one.now.extent) }
+{
+    (Reverse(one.free()), one.extent())
+}
+
 /// Sorts candidates by what is freed, falling, and then by number.
 fn sort_by_free(candidates: &mut Vec<Candidate>) -> Result<(), OutOfMemory>
     ensures same { IsPermutation candidates.old.items candidates.new.items }
     ensures sorted { OnOk result (IsSorted by_free candidates.new.items) }
 {
-    candidates.sort_by_key(|one| (Reverse(one.free()), one.extent()))?;
+    candidates.sort_by_key(|one| rank_of(one))?;
     Ok(())
 }
 
