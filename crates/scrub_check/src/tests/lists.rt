@@ -10,6 +10,8 @@ struct Told {
     checked: Vec<Checked>,
     live: Vec<u32>,
     orphans: Vec<Place>,
+    candidates: Vec<Candidate>,
+    candidates_in_doubt: Vec<Candidate>,
 }
 
 fn told_of<R>(rt: &R, alloc: Global, disk: &MemDisk) -> Result<Told, Fail> {
@@ -19,12 +21,12 @@ fn told_of<R>(rt: &R, alloc: Global, disk: &MemDisk) -> Result<Told, Fail> {
     let map = merge(alloc, read.runs())?;
     let named = named_locators(alloc, &plan, &map)?;
     let checked = check_all(rt, alloc, disk, &plan, &all, &named)?;
-    let live = all_live_bytes(alloc, &all, &checked)?;
-    let orphans = orphans(alloc, &all, &checked)?;
     Ok(Told {
+        live: all_live_bytes(alloc, &all, &checked)?,
+        orphans: orphans(alloc, &all, &checked)?,
+        candidates: candidates(alloc, &plan, &all, &checked, false)?,
+        candidates_in_doubt: candidates(alloc, &plan, &all, &checked, true)?,
         checked,
-        live,
-        orphans,
     })
 }
 
@@ -148,5 +150,56 @@ fn a_chunk_that_two_locators_name_is_live_once(rt: HostRuntime) -> Result<(), Fa
     assert!(rt; told.checked.len() == 3);
     same(&rt, told.live.as_slice(), [41, 155].as_slice());
     assert!(rt; told.orphans.is_empty());
+    Ok(())
+}
+
+/// Requires that one extent may be reclaimed, and what that frees and keeps.
+fn check_candidate(
+    rt: &impl Abort,
+    candidates: &[Candidate],
+    extent: u32,
+    free: u32,
+    keep: &[u32],
+) {
+    assert!(rt; candidates.len() == 1);
+    let first = &candidates[0];
+    same(rt, (first.extent(), first.free()), (extent, free));
+    same(rt, first.keep(), keep);
+}
+
+#[test]
+fn an_extent_that_no_locator_names_may_be_reclaimed(rt: HostRuntime) -> Result<(), Fail> {
+    let disk = deleted_in_the_newest_run(&rt, rt.alloc())?;
+    let told = told_of(&rt, rt.alloc(), &disk)?;
+    check_candidate(&rt, &told.candidates, 1, 41, &[]);
+    assert!(rt; told.candidates_in_doubt.is_empty());
+    Ok(())
+}
+
+/// A disk of three extents with `abc` at 0 and 41 of extent 1, and a run that names the second alone.
+fn half_garbage(alloc: Global) -> Result<MemDisk, Fail> {
+    let mut disk = small_disk(alloc)?;
+    put_frame(alloc, &mut disk, 1, 0, ONES, b"abc")?;
+    put_frame(alloc, &mut disk, 1, 41, ONES, b"abc")?;
+    let run = put_run(alloc, &mut disk, 2, 0, TWOS, &[abc_at(1, 41)])?;
+    put_superblock(alloc, &mut disk, &[82, 155], slice::from_ref(&run))?;
+    Ok(disk)
+}
+
+#[test]
+fn an_extent_that_is_half_live_may_be_reclaimed_but_for_what_lives(
+    rt: HostRuntime,
+) -> Result<(), Fail> {
+    let disk = half_garbage(rt.alloc())?;
+    let told = told_of(&rt, rt.alloc(), &disk)?;
+    check_candidate(&rt, &told.candidates, 1, 41, &[41]);
+    Ok(())
+}
+
+#[test]
+fn what_a_locator_dangles_into_or_hides_in_is_not_reclaimed(rt: HostRuntime) -> Result<(), Fail> {
+    let (disk, _) = nine_locators(&rt, rt.alloc())?;
+    let told = told_of(&rt, rt.alloc(), &disk)?;
+    assert!(rt; told.candidates.is_empty());
     Ok(())
 }
