@@ -16,7 +16,7 @@ use Rattle.scrub_merge.specs.NewestMap.{id_cmp}
 use Rattle.scrub_merge.proofs.Identifiers.{id_cmp_total, id_cmp_exact, itself}
 use Rattle.scrub_check.specs.declared.checked.Checked.{Checked}
 use Rattle.scrub_check.specs.Checked.{AreBrokenShards, is_broken}
-use Rattle.scrub_report.specs.Index.{entry_of, index_entries}
+use Rattle.scrub_report.specs.Index.{indexed, index_entries}
 
 -- a search that ends between the lesser and the greater identifiers finds none
 absent : (ids : List ShardId) (id : ShardId) (i : ℕ) → AllPairs IsBelow ids →
@@ -45,14 +45,14 @@ found_among ids id (Err i) b rising within result e = (λ t. absurd (let no_such
 pub broken_entry : (checked : List Checked) (ids : List ShardId) (b : BindingValue) → AreBrokenShards checked ids → Contains ids b.id → index_entries checked (b ∷ []) ≡ []
 broken_entry checked ids b are among =
     let broken : is_broken checked b.id ≡ true = All-contains (λ id. is_broken checked id ≡ true) ids b.id are.each among in
-    ap (λ t. map entry_of (cond (not t) (b ∷ []) [])) broken
+    ap (λ t. map indexed (cond (not t) (b ∷ []) [])) broken
 
-pub whole_entry : (checked : List Checked) (ids : List ShardId) (b : BindingValue) → AreBrokenShards checked ids → ¬ Contains ids b.id → index_entries checked (b ∷ []) ≡ entry_of b ∷ []
+pub whole_entry : (checked : List Checked) (ids : List ShardId) (b : BindingValue) → AreBrokenShards checked ids → ¬ Contains ids b.id → index_entries checked (b ∷ []) ≡ indexed b ∷ []
 whole_entry checked ids b are absent_id = by (is_broken checked b.id) refl
   where
-    by : (t : Bool) → is_broken checked b.id ≡ t → index_entries checked (b ∷ []) ≡ entry_of b ∷ []
+    by : (t : Bool) → is_broken checked b.id ≡ t → index_entries checked (b ∷ []) ≡ indexed b ∷ []
     by true h = absurd (absent_id (are.all b.id h))
-    by false h = ap (λ t. map entry_of (cond (not t) (b ∷ []) [])) h
+    by false h = ap (λ t. map indexed (cond (not t) (b ∷ []) [])) h
 
 -- the entries of one more binding
 pub entries_more : (checked : List Checked) (bindings : List BindingValue) (i : ℕ) (d b : BindingValue) (old new : List EntryValue) → i < length bindings → get_or bindings i d ≡ b →
@@ -60,8 +60,8 @@ pub entries_more : (checked : List Checked) (bindings : List BindingValue) (i : 
 entries_more checked bindings i d b old new below is so_far grown =
     let keep : BindingValue → Bool = λ x. not (is_broken checked x.id) in
     grown ∙ ap (λ es. es ++ index_entries checked (b ∷ [])) so_far
-    ∙ sym (ap (map entry_of) (filter_more keep bindings i d below) ∙ map-append entry_of (filter keep (take i bindings)) _
-    ∙ ap (λ x. map entry_of (filter keep (take i bindings)) ++ map entry_of (cond (keep x) (x ∷ []) [])) is)
+    ∙ sym (ap (map indexed) (filter_more keep bindings i d below) ∙ map-append indexed (filter keep (take i bindings)) _
+    ∙ ap (λ x. map indexed (filter keep (take i bindings)) ++ map indexed (cond (keep x) (x ∷ []) [])) is)
 
 pub entries_of_all : (checked : List Checked) (bindings : List BindingValue) (i : ℕ) (entries : List EntryValue) → length bindings ≤ i →
     entries ≡ index_entries checked (take i bindings) → entries ≡ index_entries checked bindings

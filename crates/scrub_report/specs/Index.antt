@@ -10,12 +10,12 @@ use Rattle.scrub_check.specs.Checked.{is_broken}
 use Rattle.scrub_report.specs.Scrubbed.{Scrubbed, IsScrubbed}
 
 -- a binding as an entry, with its locators as they are
-abbrev pub entry_of : BindingValue → EntryValue
-entry_of b = record { id = b.id; locators = b.locators }
+abbrev pub indexed : BindingValue → EntryValue
+indexed b = record { id = b.id; locators = b.locators }
 
 -- those of the shards that aren't broken, in their order
 abbrev pub index_entries : List Checked → List BindingValue → List EntryValue
-index_entries checked bindings = map entry_of (filter (λ b. not (is_broken checked b.id)) bindings)
+index_entries checked bindings = map indexed (filter (λ b. not (is_broken checked b.id)) bindings)
 
 -- bytes are the index that is recovered from an image
 pub record IsIndex (image : Image) (bytes : List ℕ) : Type 0 where
