@@ -8,15 +8,15 @@ The disks, each of SIZE MiB:
 
 large chunks   frames of 64 KiB to 1 MiB in extents of 4 MiB, a superblock, and four runs that name each chunk once;
 small chunks   frames of 138 bytes in extents of 8 MiB, and as many runs, of one extent each, as name each chunk once. A
-               locator takes 60 bytes for each chunk of 138, so 512 MiB have 2.6 million chunks, each of them named. (With
-               --mib 704 there are 3.6 million. Extents of 4 MiB would need more than the 32 runs of a superblock.) Half
-               and a quarter of the size are measured too, to see how time grows;
+               locator takes 60 bytes for each chunk of 138, so 512 MiB have 2.6 million chunks, each of them named.
+               (With --mib 704 there are 3.6 million. Extents of 4 MiB would need more than the 32 runs of a
+               superblock.) Half and a quarter of the size are measured too, to see how time grows;
 damage         frames of 64 KiB to 1 MiB that fill pages of 64 KiB, no superblock, every tenth frame spoilt in its last
                byte, every 50th page named as unreadable.
 
 Both programs read the same file by turns. sha256sum hashes all of it, and the scan what it has to: the payload of each
-chunk, and of the superblock and of each run once more the bytes that its own digest is for. Exit status: 0 where all is within what is wanted,
-1 where something is beyond it or an answer is wrong, 2 where nothing can be measured.
+chunk, and of the superblock and of each run once more the bytes that its own digest is for. Exit status: 0 where all
+is within what is wanted, 1 where something is beyond it or an answer is wrong, 2 where nothing can be measured.
 """
 import argparse
 import json
@@ -235,8 +235,8 @@ def compare(program, room, kind, mib, turns):
     print(f"{name}, {mib} MiB: {items} items, {told['chunk']} of them chunks; {hashed:.0f} MiB to be hashed")
     print(f"    medians of {turns}: shardscrub {our:.3f} s, sha256sum {their:.3f} s")
     print(f"    time   {our / their:.2f} of sha256sum's, {ratio:.2f} of it per hashed byte")
-    print(f"    memory {peak / MIB:.0f} MiB, {peak / MIB / size:.2f} of the image's size, wanted at most {most / MIB:.0f} MiB",
-          flush=True)
+    print(f"    memory {peak / MIB:.0f} MiB, {peak / MIB / size:.2f} of the image's size; "
+          f"wanted at most {most / MIB:.0f} MiB", flush=True)
     return our, items, ratio, peak <= most
 
 

@@ -94,7 +94,7 @@ def no_superblock():
 
 
 def collision():
-    """A chunk of 66 bytes, whose last two a crash lost, and a new chunk that was written from the page bound before them.
+    """A chunk of 66 bytes, and a new one that was written from the page bound after a crash had lost its last two bytes.
 
     The UUID of the first ends with the two bytes of the magic, with which the second begins.
     """
@@ -126,12 +126,12 @@ def twins():
 
 
 def several_findings():
-    """Four shards: one was written anew, one lies on page 1 of extent 3, one lost its end in a crash, one was deleted."""
+    """Four shards: one written anew, one on page 1 of extent 3, one that lost its end in a crash, and one deleted."""
     disk = Disk(16, 5)
     before = disk.chunk(1, 0, uuid(0xA0), b"the first shard, before it was written anew" * 2)
     page_1 = disk.chunk(3, 58, uuid(0xB0), b"the second shard" * 6)
     torn = disk.chunk(3, 192, uuid(0xC0), b"the third shard" * 5)
-    deleted = [disk.chunk(2, 0, uuid(0xD0), b"the fourth shard"), disk.chunk(2, 54, uuid(0xD1), b"and its second chunk")]
+    deleted = disk.chunk(2, 0, uuid(0xD0), b"the fourth shard"), disk.chunk(2, 54, uuid(0xD1), b"and its second chunk")
     older = run((shard(1), [before]), (shard(2), [page_1]), (shard(3), [torn]), (shard(4), deleted))
     older = disk.chunk(4, 0, uuid(0xE0), older)
     disk.superblock(0, 6, older)
