@@ -94,7 +94,7 @@ def no_superblock():
 
 
 def collision():
-    """A chunk of 66 bytes, and a new one that was written from the page bound after a crash had lost its last two bytes.
+    """A chunk of 66 bytes, whose last two a crash lost, and a new one that was written from the page bound on.
 
     The UUID of the first ends with the two bytes of the magic, with which the second begins.
     """
