@@ -1,19 +1,22 @@
 -- What a locator is worth, from what was found at its place.
-use Rattle.std.proofs.Common.{◌≡◌, ◌+◌, ◌-◌, ◌/◌, ◌≤◌, ◌↔◌, ℕ, List, Option, Some, None, MatchOption, IfSome, arith, refl, sym, ◌∙◌, ap, subst}
+use Rattle.std.proofs.Common.{◌≡◌, ◌<◌, ◌+◌, ◌-◌, ◌/◌, ◌↔◌, ℕ, List, map, length, get_or, slice_index, Option, Some, None, MatchOption, IfSome, IfNone, inl, inr, arith, refl, sym, ◌∙◌, ap, subst}
+use Rattle.std.specs.List.{Contains}
+use Rattle.std.proofs.lemmas.List.{get_or-map}
+use Rattle.std.proofs.lemmas.List.Elements.{All-get_or}
 use Rattle.scrub_disk.specs.Image.{Image, unreadable_pages, HasWholePages}
-use Rattle.scrub_disk.specs.declared.geometry.Geometry.{Geometry}
 use Rattle.scrub_frame.specs.Frame.{frame_overhead}
 use Rattle.scrub_frame.specs.declared.locator.Locator.{Locator}
-use Rattle.scrub_super.specs.Plan.{PlanValue, pointer_of}
 use Rattle.scrub_scan.specs.declared.standing.Standing.{Standing}
-use Rattle.scrub_scan.specs.Extent.{extent_of, FrameAt}
+use Rattle.scrub_scan.specs.Extent.{extent_of, FrameAt, NoFrameAt}
 use Rattle.scrub_scan.specs.declared.item.Item.{Item}
+use Rattle.scrub_scan.specs.declared.item.Item.TheVariants.{Chunk, Pad, Torn, Noise, Lost}
+use Rattle.scrub_scan.specs.Item.{start_of, IsChunk, IsItem}
 use Rattle.scrub_scan.specs.Standing.{IsStandingAt}
 use Rattle.scrub_scan.specs.Tiling.{IsTiling}
 use Rattle.scrub_check.specs.declared.status.Status.{Status}
 use Rattle.scrub_check.specs.declared.status.Status.TheVariants.{OutOfRange, PastPointer, Unreadable, NoFrame, WrongUuid, WrongLength, WrongDigest, Hidden, Sound}
-use Rattle.scrub_check.specs.Status.{end_of, InRange, HasUnreadableByte, CanStand, FindsFrame, NamesChunk, HasStatus, HasStatusIn}
-use Rattle.scrub_check.specs.Judged.{Agrees, IsJudged}
+use Rattle.scrub_check.specs.Status.{end_of, InRange, HasUnreadableByte, CanStand, FindsFrame, NamesChunk, HasStatus}
+use Rattle.scrub_check.specs.Judged.{IsMismatch, Agrees, frame_of_item, IsJudged}
 use Rattle.scrub_check.proofs.Searches.{LiesBetween}
 use Rattle.scrub_check.proofs.Starts.{begins, begins_among}
 use Rattle.scrub_check.proofs.Gaps.{gap_pages, pages_gap}
@@ -35,17 +38,13 @@ unreadable image l page first last whole in_range on =
       λ gap. pages_gap image l.extent l.offset (l.length + frame_overhead) page first last whole in_range.in_disk (omega (arith, in_range.in_extent)) (omega arith) on.size on.from upto gap,
     )
 
--- a frame can stand where the tests of range, pointer and pages are passed
-pub can_stand : (image : Image) (w reach : ℕ) (l : Locator) (g : Geometry) → g ≡ image.geometry → InRange g l → reach ≡ end_of l → reach ≤ w → ¬ HasUnreadableByte image l → CanStand image w l
-can_stand image w reach l g same range is below readable = record {
-  in_range = subst (λ (x : Geometry). InRange x l) same range;
-  below = omega (arith, below, is);
-  readable = readable;
-}
-
 -- what a clause says of the value that there is
 pub at_some : {A : Type 0} (P : A → Type 0) (o : Option A) (x : A) → o ≡ Some x → IfSome o P → P x
 at_some P o x is h = subst (λ r. IfSome r P) is h
+
+-- and of there being none
+pub at_none : {A : Type 0} (P : Type 0) (o : Option A) → o ≡ None → IfNone o P → P
+at_none P o is h = subst (λ r. IfNone r P) is h
 
 -- the frame that was found stands at the locator's place
 finds : (image : Image) (w : ℕ) (l : Locator) (s : Standing) (u : List ℕ) → CanStand image w l → (h : IsStandingAt image w l.extent l.offset s) → s.uuid ≡ u → FindsFrame image w l u h.payload
@@ -64,27 +63,61 @@ names_chunk image w l s can h a = record {
   digest = sym h.frame.digest ∙ a.digest;
 }
 
--- what the frame and the items tell is the status
-pub judged_status : (image : Image) (w : ℕ) (l : Locator) (s : Standing) (items : List Item) (status : Status) → CanStand image w l → IsStandingAt image w l.extent l.offset s →
-    IsTiling (extent_of image l.extent w) items → IsJudged l s items status → HasStatus image w l status
-judged_status image w l s items WrongUuid can h tiled m = (s.uuid, (h.payload, finds image w l s s.uuid can h (λ i. s.uuid), m))
-judged_status image w l s items WrongLength can h tiled m = (h.payload, finds image w l s l.uuid can h m.0, λ e. m.1 (h.frame.length ∙ e))
-judged_status image w l s items WrongDigest can h tiled m = (h.payload, finds image w l s l.uuid can h m.0, sym h.frame.length ∙ m.1, λ e. m.2 (h.frame.digest ∙ e))
-judged_status image w l s items Hidden can h tiled m =
-    (names_chunk image w l s can h m.0, λ b. m.1 (begins_among (extent_of image l.extent w) items l.offset (omega (arith, image.geometry.page_size.least)) tiled b))
-judged_status image w l s items Sound can h tiled m = (names_chunk image w l s can h m.0, begins (extent_of image l.extent w) items l.offset tiled m.1)
-judged_status image w l s items OutOfRange can h tiled m = absurd m
-judged_status image w l s items PastPointer can h tiled m = absurd m
-judged_status image w l s items Unreadable can h tiled m = absurd m
-judged_status image w l s items NoFrame can h tiled m = absurd m
+-- what isn't the chunk that it names is told by the first reason
+mismatched : (image : Image) (w : ℕ) (l : Locator) (s : Standing) (status : Status) → CanStand image w l → IsStandingAt image w l.extent l.offset s → IsMismatch l s status → HasStatus image w l status
+mismatched image w l s WrongUuid can h m = (s.uuid, (h.payload, finds image w l s s.uuid can h (λ i. s.uuid), m))
+mismatched image w l s WrongLength can h m = (h.payload, finds image w l s l.uuid can h m.0, λ e. m.1 (h.frame.length ∙ e))
+mismatched image w l s WrongDigest can h m = (h.payload, finds image w l s l.uuid can h m.0, sym h.frame.length ∙ m.1, λ e. m.2 (h.frame.digest ∙ e))
+mismatched image w l s OutOfRange can h m = absurd m
+mismatched image w l s PastPointer can h m = absurd m
+mismatched image w l s Unreadable can h m = absurd m
+mismatched image w l s NoFrame can h m = absurd m
+mismatched image w l s Hidden can h m = absurd m
+mismatched image w l s Sound can h m = absurd m
 
--- ---- by a plan
+-- what was found at the locator's place: a frame that stands there, or none, and then none stands there
+abbrev pub IsFoundThere : Image → ℕ → Locator → Option Standing → Type 0
+IsFoundThere image w l found = MatchOption found (NoFrameAt (extent_of image l.extent w) l.offset) (IsStandingAt image w l.extent l.offset)
 
--- out of range is the status, whatever the pointer is
-pub out_of_range : (image : Image) (o : Option ℕ) (l : Locator) → ¬ InRange image.geometry l → MatchOption o (OutOfRange ≡ OutOfRange) (λ w. HasStatus image w l OutOfRange)
-out_of_range image None l outside = refl
-out_of_range image (Some w) l outside = outside
+-- it tells the status, where the chunk that the locator names has the status that is given for it
+judged_status : (image : Image) (w : ℕ) (l : Locator) (found : Option Standing) (agreeing status : Status) → CanStand image w l → IsFoundThere image w l found →
+    (NamesChunk image w l → HasStatus image w l agreeing) → IsJudged l found agreeing status → HasStatus image w l status
+judged_status image w l None agreeing status can none chunk judged = subst (λ (s : Status). HasStatus image w l s) (sym judged) (can, none)
+judged_status image w l (Some s) agreeing status can there chunk (inl mismatch) = mismatched image w l s status can there mismatch
+judged_status image w l (Some s) agreeing status can there chunk (inr judged) = subst (λ (t : Status). HasStatus image w l t) (sym judged.1) (chunk (names_chunk image w l s can there judged.0))
 
--- the status under the plan's pointer is that by the plan
-pub in_plan : (image : Image) (plan : PlanValue) (l : Locator) (w : ℕ) (s : Status) → pointer_of plan l.extent ≡ Some w → HasStatus image w l s → HasStatusIn image plan l s
-in_plan image plan l w s is h = subst (λ (o : Option ℕ). MatchOption o (s ≡ OutOfRange) (λ v. HasStatus image v l s)) (sym is) h
+-- what a look at the place comes to
+pub looked_there : (image : Image) (w : ℕ) (l : Locator) (found : Option Standing) → IfSome found (IsStandingAt image w l.extent l.offset) → IfNone found (NoFrameAt (extent_of image l.extent w) l.offset) →
+    IsFoundThere image w l found
+looked_there image w l None some none = none
+looked_there image w l (Some s) some none = some
+
+-- what an item that begins there tells
+item_there : (image : Image) (w : ℕ) (l : Locator) (item : Item) → IsItem (extent_of image l.extent w) item → start_of item ≡ l.offset → IsFoundThere image w l (frame_of_item l.extent item)
+item_there image w l (Chunk start stop u n digest) h at =
+    let chunk : IsChunk (extent_of image l.extent w) start stop n u digest h.fits.1.0 = h.fits.1.1 in
+    record { in_extent = refl; at_offset = at; payload = h.fits.1.0; frame = record { frame = chunk.frame; length = chunk.length; digest = chunk.digest_is } }
+item_there image w l (Pad start stop) h at = subst (λ (p : ℕ). NoFrameAt (extent_of image l.extent w) p) at h.fits.1
+item_there image w l (Torn start stop) h at = subst (λ (p : ℕ). NoFrameAt (extent_of image l.extent w) p) at h.fits.1
+item_there image w l (Noise start stop) h at = subst (λ (p : ℕ). NoFrameAt (extent_of image l.extent w) p) at h.fits.1
+item_there image w l (Lost start stop) h at = subst (λ (p : ℕ). NoFrameAt (extent_of image l.extent w) p) at h.fits.1
+
+-- the i-th item begins at p
+abbrev pub StartsAt : List Item → ℕ → ℕ → Type 0
+StartsAt items p i = (i < length items) × (slice_index (map start_of items) i ≡ p)
+
+-- so the i-th item, where it begins there, tells the status
+pub judged_by_item : (image : Image) (w : ℕ) (l : Locator) (items : List Item) (i : ℕ) (item : Item) (status : Status) → CanStand image w l → IsTiling (extent_of image l.extent w) items →
+    StartsAt items l.offset i → item ≡ get_or items i item → IsJudged l (frame_of_item l.extent item) Sound status → HasStatus image w l status
+judged_by_item image w l items i item status can tiled at is judged =
+    let x = extent_of image l.extent w in
+    let fits : IsItem x item = subst (λ (j : Item). IsItem x j) (sym is) (All-get_or (IsItem x) items i item at.0 tiled.each) in
+    let start : start_of item ≡ l.offset = ap start_of is ∙ sym (get_or-map start_of items i item 0 at.0) ∙ at.1 in
+    judged_status image w l (frame_of_item l.extent item) Sound status can (item_there image w l item fits start) (λ chunk. (chunk, begins x items i l.offset tiled at.0 at.1)) judged
+
+-- and what was found by a look, where no item begins
+pub judged_by_look : (image : Image) (w : ℕ) (l : Locator) (items : List Item) (found : Option Standing) (status : Status) → CanStand image w l → IsTiling (extent_of image l.extent w) items →
+    ¬ Contains (map start_of items) l.offset → IsFoundThere image w l found → IsJudged l found Hidden status → HasStatus image w l status
+judged_by_look image w l items found status can tiled apart there judged =
+    judged_status image w l found Hidden status can there
+    (λ chunk. (chunk, λ b. apart (begins_among (extent_of image l.extent w) items l.offset (omega (arith, image.geometry.page_size.least)) tiled b))) judged

@@ -1,4 +1,9 @@
 pub mod Searches
+pub mod Counts
+pub mod Distinct
+pub mod SharedPlaces
+pub mod BrokenShards
+pub mod SameUuids
 pub mod SortedStarts
 pub mod Sizes
 pub mod StartSearch

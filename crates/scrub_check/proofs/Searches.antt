@@ -1,24 +1,10 @@
 -- Searches among what rises.
-use Rattle.std.proofs.Common.{◌≡◌, ◌<◌, ◌≤◌, ℕ, List, Bool, true, false, length, get_or, map, arith, ◌∙◌, ap, inl, inr, Result, Ok, Err, is_ok, IsTrue, ◌↔◌, nat_lt}
+use Rattle.std.proofs.Common.{◌≡◌, ◌<◌, ◌≤◌, ℕ, List, true, false, length, get_or, arith, ◌∙◌, ap, inl, inr, nat_lt}
 use Rattle.std.specs.List.{Contains}
-use Rattle.std.specs.List.Sorted.{IsSearchInRange, IsBinarySearchResult, IsStrictlyIncreasing, IsPartitionPoint, IsPartitionedBy}
-use Rattle.std.specs.Ordering.{nat_cmp}
-use Rattle.std.proofs.lemmas.List.{length-map, get_or_default}
+use Rattle.std.specs.List.Sorted.{IsStrictlyIncreasing, IsPartitionPoint, IsPartitionedBy}
+use Rattle.std.proofs.lemmas.List.{get_or_default}
 use Rattle.std.proofs.lemmas.Bool.{cases_lt, cases_eq, lt-ltb, ltb-true, ltb-false}
 use Rattle.std.proofs.lemmas.List.Kept.{AllPairs-from_increasing}
-use Rattle.scrub_scan.specs.declared.item.Item.{Item}
-use Rattle.scrub_scan.specs.Item.{start_of}
-use Rattle.scrub_scan.proofs.Search.{searched}
-
--- a search among the starts of items
-pub found_or_absent : (items : List Item) (k : ℕ) (r : Result ℕ ℕ) (b : Bool) → IsStrictlyIncreasing (map start_of items) → IsSearchInRange r (length items) → IsBinarySearchResult (λ x. nat_cmp (start_of x) k) items r →
-    b ≡ is_ok r → IsTrue b ↔ Contains (map start_of items) k
-found_or_absent items k (Ok i) b rising within result e =
-    let at = (searched start_of items rising k (Ok i) within result).0 in
-    (λ t. (i, omega (arith, at.0, length-map items start_of), get_or_default (map start_of items) i k 0 (omega (arith, at.0, length-map items start_of)) ∙ at.1), λ h. e)
-found_or_absent items k (Err i) b rising within result e =
-    let none = (searched start_of items rising k (Err i) within result).1 in
-    (λ t. absurd (let no_such : ⊥ = cc in no_such), λ h. absurd (none h))
 
 -- pages that rise are parted by any page
 pub parted : (pages : List ℕ) (first : ℕ) → IsStrictlyIncreasing pages → IsPartitionedBy (λ p. nat_lt p first) pages

@@ -1,7 +1,8 @@
 -- The starts of the items of a tiling.
-use Rattle.std.proofs.Common.{◌<◌, ◌+◌, ℕ, zero, suc, List, [], ◌∷◌, map, get_or, arith, subst, All}
+use Rattle.std.proofs.Common.{◌≡◌, ◌<◌, ◌+◌, ℕ, zero, suc, List, [], ◌∷◌, map, length, get_or, slice_index, arith, ◌∙◌, subst, All}
 use Rattle.std.specs.List.{Contains}
 use Rattle.std.specs.List.Sorted.{IsStrictlyIncreasing}
+use Rattle.std.proofs.lemmas.List.{length-map, get_or_default}
 use Rattle.std.proofs.lemmas.List.Elements.{All-head, All-tail}
 use Rattle.scrub_scan.specs.declared.item.Item.{Item}
 use Rattle.scrub_scan.specs.Extent.{Extent}
@@ -23,8 +24,11 @@ starts_rise x items pos h = go 0 items h.joined h.each
         let more : get_or (map start_of (next ∷ is)) k 0 < get_or (map start_of (next ∷ is)) (k + 1) 0 = go (stop_of i) (next ∷ is) j.1 (All-tail (IsItem x) i (next ∷ is) each) k (omega (arith, hk)) in
         subst (λ (n : ℕ). get_or (map start_of (next ∷ is)) k 0 < get_or (map start_of (i ∷ next ∷ is)) n 0) {x = suc (k + 1)} (omega arith) more
 
-pub begins : (x : Extent) (items : List Item) (p : ℕ) → IsTiling x items → Contains (map start_of items) p → BeginsAt x p
-begins x items p tiled there = record { items = items; tiled = tiled; begins = there }
+-- an item of the tiling begins where the i-th one does, and one that begins there is among them
+pub begins : (x : Extent) (items : List Item) (i p : ℕ) → IsTiling x items → i < length items → slice_index (map start_of items) i ≡ p → BeginsAt x p
+begins x items i p tiled below at =
+    let inside : i < length (map start_of items) = omega (arith, below, length-map items start_of) in
+    record { items = items; tiled = tiled; begins = (i, inside, get_or_default (map start_of items) i p 0 inside ∙ at) }
 
 pub begins_among : (x : Extent) (items : List Item) (p : ℕ) → 0 < x.page → IsTiling x items → BeginsAt x p → Contains (map start_of items) p
 begins_among x items p pos tiled b = subst (λ (is : List Item). Contains (map start_of is) p) (one_tiling x b.items items pos b.tiled tiled) b.begins

@@ -1,11 +1,11 @@
 -- How the frame that stands at a locator's place is held against the locator.
-use Rattle.std.specs.Prelude.{◌≡◌, ◌≢◌, List, map, Contains}
+use Rattle.std.specs.Prelude.{◌≡◌, ◌≢◌, ◌⊎◌, ℕ, Option, Some, None}
 use Rattle.scrub_frame.specs.declared.locator.Locator.{Locator}
 use Rattle.scrub_scan.specs.declared.item.Item.{Item}
+use Rattle.scrub_scan.specs.declared.item.Item.TheVariants.{Chunk}
 use Rattle.scrub_scan.specs.declared.standing.Standing.{Standing}
-use Rattle.scrub_scan.specs.Item.{start_of}
 use Rattle.scrub_check.specs.declared.status.Status.{Status}
-use Rattle.scrub_check.specs.declared.status.Status.TheVariants.{WrongUuid, WrongLength, WrongDigest, Hidden, Sound}
+use Rattle.scrub_check.specs.declared.status.Status.TheVariants.{NoFrame, WrongUuid, WrongLength, WrongDigest}
 
 -- the frame isn't the one that the locator names, for the first reason that applies
 abbrev pub IsMismatch : Locator → Standing → Status → Type 0
@@ -20,8 +20,12 @@ pub record Agrees (l : Locator) (s : Standing) : Type 0 where
   pub length : s.length ≡ l.length
   pub digest : s.digest ≡ l.digest
 
--- what the locator is worth where that frame stands and these are the items of the tiling
-abbrev pub IsJudged : Locator → Standing → List Item → Status → Type 0
-IsJudged l s items Hidden = Agrees l s × ¬ Contains (map start_of items) l.offset
-IsJudged l s items Sound = Agrees l s × Contains (map start_of items) l.offset
-IsJudged l s items status = IsMismatch l s status
+-- an item of extent e as the frame that stands at its start, where it is a chunk
+abbrev pub frame_of_item : ℕ → Item → Option Standing
+frame_of_item e (Chunk start stop uuid length digest) = Some (record { extent = e; offset = start; uuid = uuid; length = length; digest = digest })
+frame_of_item e _ = None
+
+-- what the locator is worth where this frame stands at its place, or none: `agreeing` where it is the one that it names
+abbrev pub IsJudged : Locator → Option Standing → Status → Status → Type 0
+IsJudged l None agreeing status = status ≡ NoFrame
+IsJudged l (Some s) agreeing status = IsMismatch l s status ⊎ (Agrees l s × (status ≡ agreeing))

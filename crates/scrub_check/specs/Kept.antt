@@ -1,8 +1,13 @@
 -- What reclaiming the candidates leaves to the named locators: each chunk that one of them points to.
-use Rattle.std.specs.Prelude.{◌≡◌, List, All, Contains}
+use Rattle.std.specs.Prelude.{◌≡◌, Bool, List, All, Contains}
+use Rattle.scrub_disk.specs.Image.{Image}
+use Rattle.scrub_super.specs.Plan.{PlanValue}
+use Rattle.scrub_scan.specs.Scanned.{Scanned}
 use Rattle.scrub_check.specs.declared.checked.Checked.{Checked}
 use Rattle.scrub_check.specs.declared.status.Status.TheVariants.{Sound}
-use Rattle.scrub_check.specs.Candidates.{CandidateValue}
+use Rattle.scrub_check.specs.Checked.{HaveStatuses}
+use Rattle.scrub_check.specs.WholeScan.{IsWholeScan}
+use Rattle.scrub_check.specs.Candidates.{CandidateValue, AreCandidates}
 
 -- the locator is sound, and the candidate keeps the chunk that it points to
 pub record IsKept (a : CandidateValue) (c : Checked) : Type 0 where
@@ -12,3 +17,8 @@ pub record IsKept (a : CandidateValue) (c : Checked) : Type 0 where
 -- each locator into the extent of a candidate is kept
 abbrev pub AreSafe : List Checked → List CandidateValue → Type 0
 AreSafe checked candidates = All (λ a. All (λ c. c.locator.extent ≡ a.extent → IsKept a c) checked) candidates
+
+-- the candidates are safe, where the statuses are those of a whole scan
+abbrev pub CandidatesAreSafe : Image → PlanValue → List Scanned → List Checked → Type 0
+CandidatesAreSafe image plan all checked = (in_doubt : Bool) (candidates : List CandidateValue) →
+    IsWholeScan image plan all → HaveStatuses image plan checked → AreCandidates plan all checked in_doubt candidates → AreSafe checked candidates

@@ -18,4 +18,7 @@ pub use Rattle.scrub_merge.specs.Binding
 pub mod Judged
 pub mod ChunkRun
 pub mod SoundStarts
+pub mod Distinct
+pub mod ChunkUuids
+pub mod BrokenShards
 pub mod Verdicts

@@ -7,10 +7,11 @@ use Rattle.std.specs.List.Sorted.{IsPermutation}
 use Rattle.scrub_scan.specs.declared.item.Item.{Item}
 use Rattle.scrub_scan.specs.Item.{start_of}
 use Rattle.scrub_check.specs.declared.place.Place.{Place}
+use Rattle.scrub_check.specs.declared.place.SharedPlace.{SharedPlace}
 use Rattle.scrub_check.specs.declared.checked.Checked.{Checked}
 use Rattle.scrub_check.specs.declared.sound_starts.Start.{Start}
 use Rattle.scrub_check.specs.Checked.{is_sound}
-use Rattle.scrub_check.specs.Live.{is_chunk}
+use Rattle.scrub_check.specs.Live.{is_chunk, has_sound_at}
 
 -- by extent, and then by byte
 abbrev pub start_cmp : Start → Start → Ordering
@@ -28,6 +29,10 @@ start_named c = record { extent = c.locator.extent; offset = c.locator.offset }
 abbrev pub AreSoundStarts : List Checked → List Start → Type 0
 AreSoundStarts checked starts = IsPermutation (map start_named (filter (λ c. is_sound c.status) checked)) starts
 
+-- a sound locator points there
+abbrev pub has_sound_to : List Checked → Start → Bool
+has_sound_to checked s = has_sound_at checked s.extent s.offset
+
 -- one of these places is that of an item of extent e, which is a chunk
 abbrev pub is_live_by : List Start → ℕ → Item → Bool
 is_live_by starts e item = is_chunk item && nat_lt 0 (count_by (is_start (record { extent = e; offset = start_of item })) starts)
@@ -35,3 +40,11 @@ is_live_by starts e item = is_chunk item && nat_lt 0 (count_by (is_start (record
 -- one of these places is that of a chunk
 abbrev pub is_named_by : List Start → Place → Bool
 is_named_by starts p = nat_lt 0 (count_by (is_start (record { extent = p.extent; offset = p.offset })) starts)
+
+-- a place, and how often it stands there
+abbrev pub place_counted : List Start → Start → SharedPlace
+place_counted starts s = record { extent = s.extent; offset = s.offset; count = count_by (is_start s) starts }
+
+-- those of some places that stand there twice or more
+abbrev pub shared_by : List Start → List Start → List SharedPlace
+shared_by starts places = filter (λ p. nat_lt 1 p.count) (map (place_counted starts) places)

@@ -66,7 +66,7 @@ pub fn check_all<R, D: PageSource>(
 }
 
 /// Neither sound nor hidden.
-fn is_dangling(status: Status) -> bool
+pub(crate) fn is_dangling(status: Status) -> bool
     ensures { result ≡ is_dangling status }
 {
     !matches!(status, Status::Sound | Status::Hidden)

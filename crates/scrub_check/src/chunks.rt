@@ -1,11 +1,13 @@
-//! The chunks of a disk at their places, and which of them no sound locator names.
+//! The chunks of a disk at their places, which of them no sound locator names, and which have one UUID.
 
 ghost use Rattle.std.specs.Prelude.{◌≡◌, not, IfOk};
 ghost use Rattle.std.specs.List.{filter, filter_map};
 ghost use Rattle.scrub_check.specs.SoundStarts.{is_named_by};
-ghost use Rattle.scrub_check.specs.Chunks.{place_of, orphans};
+ghost use Rattle.scrub_check.specs.ChunkUuids.{is_twin_by};
+ghost use Rattle.scrub_check.specs.Chunks.{place_of, chunks, orphans, twins};
 
 use crate::checked::Checked;
+use crate::chunk_uuids::ChunkUuids;
 use crate::place::Place;
 use crate::sound_starts::{SoundStarts, Start};
 use scrub_disk::{OutOfMemory, PageSource};
@@ -42,18 +44,42 @@ fn names(sound: &SoundStarts, chunk: &Place) -> bool
     })
 }
 
-/// Those of the chunks among items of an extent that none of these places is of.
-fn orphans_in(
-    alloc: Global,
-    extent: u32,
-    items: &[Item],
-    sound: &SoundStarts,
-) -> Result<Vec<Place>, OutOfMemory>
-    ensures { IfOk result (λ v. v.items ≡ filter (λ p. not (is_named_by sound.now p)) (filter_map (place_of extent) items.now)) }
+/// The chunks among items of an extent, at their places.
+fn chunks_in(alloc: Global, extent: u32, items: &[Item]) -> Result<Vec<Place>, OutOfMemory>
+    ensures { IfOk result (λ v. v.items ≡ filter_map (place_of extent) items.now) }
 {
     items
         .iter()
         .filter_map(|item| place_of(extent, item))
+        .collect(alloc)
+}
+
+/// The chunks of all extents, by extent and then start.
+fn all_chunks<D: PageSource>(
+    alloc: Global,
+    all: &AllFindings<'_, D>,
+) -> Result<Vec<Place>, OutOfMemory>
+    ensures { IfOk result (λ v. v.items ≡ chunks all.now.extents) }
+{
+    let mut chunks = Vec::new(alloc);
+    for one in all.results() {
+        let found = chunks_in(alloc, one.extent(), one.findings().items())?;
+        chunks.extend_from_slice(&found)?;
+    }
+    Ok(chunks)
+}
+
+/// Those of these chunks that none of these places is of.
+fn orphans_among(
+    alloc: Global,
+    chunks: &[Place],
+    sound: &SoundStarts,
+) -> Result<Vec<Place>, OutOfMemory>
+    ensures { IfOk result (λ v. v.items ≡ filter (λ p. not (is_named_by sound.now p)) chunks.now) }
+{
+    chunks
+        .iter()
+        .copied()
         .filter(|chunk| !names(sound, chunk))
         .collect(alloc)
 }
@@ -67,10 +93,33 @@ pub fn orphans<D: PageSource>(
     ensures { IfOk result (λ v. v.items ≡ orphans all.now.extents checked.now) }
 {
     let sound = SoundStarts::of(alloc, checked)?;
-    let mut orphans = Vec::new(alloc);
-    for one in all.results() {
-        let found = orphans_in(alloc, one.extent(), one.findings().items(), &sound)?;
-        orphans.extend_from_slice(&found)?;
-    }
-    Ok(orphans)
+    let chunks = all_chunks(alloc, all)?;
+    orphans_among(alloc, &chunks, &sound)
+}
+
+/// Those of these chunks whose UUID is twice or more among these.
+fn twins_among(
+    alloc: Global,
+    chunks: &[Place],
+    uuids: &ChunkUuids,
+) -> Result<Vec<Place>, OutOfMemory>
+    ensures { IfOk result (λ v. v.items ≡ filter (is_twin_by uuids.now) chunks.now) }
+{
+    chunks
+        .iter()
+        .copied()
+        .filter(|chunk| uuids.has_twin(chunk))
+        .collect(alloc)
+}
+
+/// The chunks whose UUID stands on another chunk too, by extent and then start.
+pub fn twins<D: PageSource>(
+    alloc: Global,
+    all: &AllFindings<'_, D>,
+) -> Result<Vec<Place>, OutOfMemory>
+    ensures { IfOk result (λ v. v.items ≡ twins all.now.extents) }
+{
+    let chunks = all_chunks(alloc, all)?;
+    let uuids = ChunkUuids::of(alloc, &chunks)?;
+    twins_among(alloc, &chunks, &uuids)
 }

@@ -23,5 +23,5 @@ pub struct SharedPlace {
     /// Its byte in the extent.
     pub offset: u32,
     /// How many locators point to it: two or more.
-    pub count: u32,
+    pub count: usize,
 }

@@ -1,7 +1,7 @@
 //! Which extents may be reclaimed: those that hold garbage by half or more, and nothing that a locator might still need.
 //! What a locator is worth, and which chunks are live, is left to the modules beside it.
 
-ghost use Rattle.std.specs.Prelude.{◌≡◌, ◌≤◌, ◌&&◌, ◌*◌, ◌-◌, ◌++◌, ◌∷◌, [], ℕ, Bool, not, nat_lt, IfOk, OnOk, List, map};
+ghost use Rattle.std.specs.Prelude.{◌≡◌, ◌≤◌, ◌&&◌, ◌*◌, ℕ, Bool, not, nat_lt, IfOk, OnOk, List, map};
 ghost use Rattle.std.specs.List.{filter, list_all};
 ghost use Rattle.std.specs.List.Sorted.{IsPermutation, IsSorted};
 ghost use Rattle.scrub_disk.specs.Image.{Image};
@@ -9,13 +9,11 @@ ghost use Rattle.scrub_super.specs.Plan.{PlanValue};
 ghost use Rattle.scrub_scan.specs.Item.{start_of};
 ghost use Rattle.scrub_scan.specs.Scanned.{Scanned, scanned};
 ghost use Rattle.scrub_check.specs.declared.checked.Checked.{Checked};
-ghost use Rattle.scrub_check.specs.Checked.{HaveStatuses};
-ghost use Rattle.scrub_check.specs.WholeScan.{IsWholeScan};
 ghost use Rattle.scrub_check.specs.Live.{live_bytes};
 ghost use Rattle.scrub_check.specs.SoundStarts.{is_live_by};
-ghost use Rattle.scrub_check.specs.Verdicts.{AreVerdicts};
+ghost use Rattle.scrub_check.specs.Verdicts.{AreVerdicts, free_bytes, with_reclaimable};
 ghost use Rattle.scrub_check.specs.Candidates.{CandidateValue, is_readable, has_sound_alone, is_half_garbage, is_reclaimable, candidate_of, by_free, reclaimable, AreCandidates};
-ghost use Rattle.scrub_check.specs.Kept.{AreSafe};
+ghost use Rattle.scrub_check.specs.Kept.{CandidatesAreSafe};
 
 use crate::candidate::Candidate;
 use crate::checked::Checked;
@@ -39,7 +37,7 @@ fn are_past(pages: &[u32], page: u32, pointer: u32) -> bool
 
 /// How many bytes below the write pointer of an extent no live chunk takes.
 fn free_bytes<D: PageSource>(verdicts: &Verdicts, found: &ExtentResult<'_, D>) -> u32
-    ensures free { (checked : List Checked) → AreVerdicts checked verdicts.now → result ≡ (scanned found.now).pointer - live_bytes checked (scanned found.now) }
+    ensures free { (checked : List Checked) → AreVerdicts checked verdicts.now → result ≡ free_bytes checked (scanned found.now) }
     ensures within { (checked : List Checked) → live_bytes checked (scanned found.now) ≤ (scanned found.now).pointer }
 {
     found.pointer() - sum_of_live_in(found.findings().items(), &verdicts.sound, found.extent())
@@ -115,7 +113,7 @@ fn add_reclaimable<D: PageSource>(
     candidates: &mut Vec<Candidate>,
 ) -> Result<(), OutOfMemory>
     ensures { (checked : List Checked) → AreVerdicts checked verdicts.now →
-        OnOk result (candidates.new.items ≡ candidates.old.items ++ reclaimable geometry (scanned found.now ∷ []) checked) }
+        OnOk result (candidates.new.items ≡ with_reclaimable geometry checked candidates.old.items (scanned found.now)) }
 {
     if !is_reclaimable(geometry, verdicts, found) {
         return Ok(());
@@ -194,6 +192,5 @@ pub fn one_list_of_candidates()
 /// A law: reclaiming candidates loses nothing that is named. Where the statuses are those of a whole scan, each locator
 /// into the extent of a candidate is sound, and the candidate keeps the chunk that it points to.
 pub fn candidates_are_safe()
-    ensures { (image : Image) (plan : PlanValue) (all : List Scanned) (checked : List Checked) (in_doubt : Bool) (candidates : List CandidateValue) →
-        IsWholeScan image plan all → HaveStatuses image plan checked → AreCandidates plan all checked in_doubt candidates → AreSafe checked candidates }
+    ensures { (image : Image) (plan : PlanValue) (all : List Scanned) (checked : List Checked) → CandidatesAreSafe image plan all checked }
 {}

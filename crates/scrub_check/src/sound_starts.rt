@@ -2,13 +2,13 @@
 
 ghost use Rattle.std.specs.Prelude.{◌≡◌, ℕ, nat_lt, IfOk, List, map};
 ghost use Rattle.std.specs.List.{count_by, filter};
-ghost use Rattle.std.specs.List.Sorted.{IsSorted};
 ghost use Rattle.scrub_check.specs.declared.checked.Checked.{Checked};
 ghost use Rattle.scrub_check.specs.Checked.{is_sound};
-ghost use Rattle.scrub_check.specs.Live.{has_sound_at};
-ghost use Rattle.scrub_check.specs.SoundStarts.{start_cmp, is_start, start_named, AreSoundStarts};
+ghost use Rattle.scrub_check.specs.Distinct.{AreDistinct};
+ghost use Rattle.scrub_check.specs.SoundStarts.{start_cmp, is_start, start_named, AreSoundStarts, has_sound_to};
 
 use crate::checked::Checked;
+use crate::counting::count_of;
 use crate::status::Status;
 use scrub_disk::OutOfMemory;
 use std::alloc::Global;
@@ -40,16 +40,6 @@ impl Model for SoundStarts {
     ghost invariant = { λ s. IsSorted start_cmp s.starts.items };
 }
 
-/// How often a place stands among sorted ones.
-fn count_of(starts: &[Start], start: Start) -> usize
-    requires { IsSorted start_cmp starts.now }
-    ensures { result ≡ count_by (is_start start) starts.now }
-{
-    let below = starts.partition_point(|other| *other < start);
-    let through = starts.partition_point(|other| *other <= start);
-    through - below
-}
-
 /// The places that the sound ones of these locators point to, in their order.
 fn starts_of(alloc: Global, checked: &[Checked]) -> Result<Vec<Start>, OutOfMemory>
     ensures { IfOk result (λ v. v.items ≡ map start_named (filter (λ c. is_sound c.status) checked.now)) }
@@ -74,17 +64,26 @@ impl SoundStarts {
         Ok(SoundStarts { starts })
     }
 
+    /// The places, each once, by extent and then byte.
+    pub(crate) fn distinct(&self, alloc: Global) -> Result<Vec<Start>, OutOfMemory>
+        ensures { IfOk result (λ v. AreDistinct start_cmp self.now v.items) }
+    {
+        let mut starts = self.starts.to_vec(alloc)?;
+        starts.dedup();
+        Ok(starts)
+    }
+
     /// How often a place stands there.
     pub(crate) fn count(&self, start: Start) -> usize
         ensures { result ≡ count_by (is_start start) self.now }
     {
-        count_of(&self.starts, start)
+        count_of(&self.starts, &start)
     }
 
     /// Whether a place stands there.
     pub(crate) fn has(&self, start: Start) -> bool
         ensures stands { result ≡ nat_lt 0 (count_by (is_start start) self.now) }
-        ensures sound { (checked : List Checked) → AreSoundStarts checked self.now → result ≡ has_sound_at checked start.extent start.offset }
+        ensures sound { (checked : List Checked) → AreSoundStarts checked self.now → result ≡ has_sound_to checked start }
     {
         self.starts.binary_search(&start).is_ok()
     }

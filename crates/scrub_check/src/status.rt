@@ -1,15 +1,16 @@
 //! What a locator is worth: whether the chunk that it names stands at its place.
 
-ghost use Rattle.std.specs.Prelude.{◌≡◌, ◌≤◌, ◌<◌, ◌+◌, ◌/◌, ◌↔◌, ℕ, Some, IfOk, IfSome, IfNone, IsTrue, Contains, map, length};
+ghost use Rattle.std.specs.Prelude.{◌≡◌, ◌≤◌, ◌<◌, ◌+◌, ◌/◌, ◌↔◌, ℕ, Some, IfOk, IfSome, IfNone, IsTrue, Contains};
 ghost use Rattle.std.specs.List.Sorted.{IsStrictlyIncreasing};
 ghost use Rattle.scrub_disk.specs.Image.{Image, extent_bytes, unreadable_pages};
 ghost use Rattle.scrub_super.specs.Plan.{PlanValue};
-ghost use Rattle.scrub_scan.specs.Item.{start_of};
+ghost use Rattle.scrub_scan.specs.Findings.{IsFindings};
 ghost use Rattle.scrub_check.specs.WholeScan.{IsWholeScan};
-ghost use Rattle.scrub_check.specs.Status.{end_of, InRange, HasUnreadableByte, HasStatus, HasStatusIn, ExactlyOne};
-ghost use Rattle.scrub_check.specs.Judged.{IsMismatch, Agrees, IsJudged};
+ghost use Rattle.scrub_check.specs.Status.{end_of, InRange, HasUnreadableByte, CanStand, HasStatus, HasStatusIn, ExactlyOne};
+ghost use Rattle.scrub_check.specs.Judged.{IsMismatch, Agrees, frame_of_item, IsJudged};
 ghost use Rattle.scrub_scan.specs.AllFindings.{extent_numbers, findings_in};
 
+use crate::searching::find_start;
 use scrub_disk::{Geometry, OutOfMemory, PageSource};
 use scrub_frame::{FRAME_OVERHEAD, Locator};
 use scrub_scan::{AllFindings, Findings, Item, Standing, frame_stands};
@@ -55,16 +56,6 @@ fn has_page_between(pages: &[u32], first: u32, last: u32) -> bool
     i < pages.len() && pages[i] <= last
 }
 
-/// Whether an item begins at a place.
-fn begins_at(items: &[Item], place: u32) -> bool
-    requires { IsStrictlyIncreasing (map start_of items.now) }
-    ensures { IsTrue result ↔ Contains (map start_of items.now) place }
-{
-    items
-        .binary_search_by_key(&place, |item| item.start())
-        .is_ok()
-}
-
 /// Whether the frame that a locator names would lie in one of the extents that chunks are written to.
 fn lies_in_range(geometry: Geometry, locator: &Locator) -> bool
     ensures { IsTrue result ↔ InRange geometry locator.now }
@@ -91,18 +82,38 @@ fn mismatch(locator: &Locator, standing: &Standing) -> Option<Status>
     None
 }
 
-/// What a locator is worth where this frame stands at its place and these are the items of its extent.
-fn judged(locator: &Locator, standing: &Standing, items: &[Item]) -> Status
-    requires { IsStrictlyIncreasing (map start_of items.now) }
-    ensures { IsJudged locator.now standing.now items.now result }
+/// An item of an extent as the frame that stands at its start, or `None` where it is no chunk.
+fn frame_of_item(extent: u32, item: &Item) -> Option<Standing>
+    ensures { result ≡ frame_of_item extent item.now }
 {
-    if let Some(status) = mismatch(locator, standing) {
-        return status;
+    match item {
+        Item::Chunk {
+            start,
+            uuid,
+            length,
+            digest,
+            ..
+        } => Some(Standing {
+            extent,
+            offset: *start,
+            uuid: *uuid,
+            length: *length,
+            digest: *digest,
+        }),
+        _ => None,
     }
-    if begins_at(items, locator.offset) {
-        Status::Sound
-    } else {
-        Status::Hidden
+}
+
+/// What a locator is worth where this frame stands at its place, or none: `agreeing` where it is the one that it names.
+fn judged(locator: &Locator, standing: Option<Standing>, agreeing: Status) -> Status
+    ensures { IsJudged locator.now standing agreeing result }
+{
+    let Some(standing) = standing else {
+        return Status::NoFrame;
+    };
+    match mismatch(locator, &standing) {
+        Some(status) => status,
+        None => agreeing,
     }
 }
 
@@ -129,8 +140,31 @@ fn is_unreadable<D: PageSource>(disk: &D, bad_pages: &[u32], locator: &Locator) 
     has_page_between(bad_pages, first, last as u32)
 }
 
-/// What a locator is worth in the image of a disk: the first status of the table that applies. Its place is looked at
-/// itself; the tiling is asked only whether an item begins there.
+/// What a locator is worth whose frame would lie where it can be read, by what was found in its extent: where an item begins
+/// at its place, that tells which frame stands there; anywhere else the place itself is looked at.
+fn status_where_readable<D: PageSource>(
+    alloc: Global,
+    disk: &D,
+    pointer: u32,
+    findings: &Findings,
+    locator: &Locator,
+) -> Result<Status, OutOfMemory>
+    requires readable { CanStand (D.image disk.now) pointer locator.now }
+    requires pointer { pointer ≤ extent_bytes (D.image disk.now).geometry }
+    requires findings { IsFindings (D.image disk.now) locator.now.extent pointer findings.now }
+    ensures { IfOk result (HasStatus (D.image disk.now) pointer locator.now) }
+{
+    let items = findings.items();
+    if let Some(i) = find_start(items, locator.offset).at {
+        let standing = frame_of_item(locator.extent, &items[i]);
+        return Ok(judged(locator, standing, Status::Sound));
+    }
+    let standing = frame_stands(alloc, disk, pointer, locator.extent, locator.offset)?;
+    Ok(judged(locator, standing, Status::Hidden))
+}
+
+/// What a locator is worth in the image of a disk: the first status of the table that applies. The disk is looked at only
+/// where no item that was found begins at the locator's place.
 pub fn status_of<D: PageSource>(
     alloc: Global,
     disk: &D,
@@ -153,11 +187,7 @@ pub fn status_of<D: PageSource>(
     if is_unreadable(disk, findings.bad_pages(), locator) {
         return Ok(Status::Unreadable);
     }
-    let standing = frame_stands(alloc, disk, pointer, locator.extent, locator.offset)?;
-    let Some(standing) = standing else {
-        return Ok(Status::NoFrame);
-    };
-    Ok(judged(locator, &standing, findings.items()))
+    status_where_readable(alloc, disk, pointer, findings, locator)
 }
 
 /// A law: exactly one status applies to a locator, under a write pointer and by a plan. Two that do are one, and it can't

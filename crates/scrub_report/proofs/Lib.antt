@@ -6,3 +6,8 @@ pub mod NoFloats
 pub mod KeyValues
 pub mod KeptEntries
 pub mod RunEntries
+pub mod OneReader
+pub mod OneIndex
+pub mod OneReport
+pub mod Indexable
+pub mod CleanLists

@@ -5,5 +5,7 @@ pub mod Json
 pub mod Texts
 pub mod Report
 pub mod Index
+pub mod Answer
 -- The steps of the code.
+pub mod Parts
 pub mod Keys

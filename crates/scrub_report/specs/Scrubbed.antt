@@ -1,5 +1,5 @@
 -- What is found on a whole disk, each part as it is in the image, and whether all of it is in good order.
-use Rattle.std.specs.Prelude.{◌==◌, ◌&&◌, ◌||◌, Bool, true, false, not, List, length, is_none, is_some}
+use Rattle.std.specs.Prelude.{◌≡◌, ◌==◌, ◌&&◌, ◌||◌, Bool, true, false, not, List, length, is_none, is_some}
 use Rattle.std.specs.List.{list_all, list_any}
 use Rattle.scrub_disk.specs.Image.{Image}
 use Rattle.scrub_super.specs.Chosen.{Choice, IsChoice}
@@ -69,3 +69,9 @@ is_clean_list checked shared = length (dangling checked) == 0 && length (hidden 
 -- all is in good order; orphans, twins, tails and candidates don't count against it
 abbrev pub is_clean : Scrubbed → Bool
 is_clean s = is_clean_choice s.choice && list_all is_clean_extent s.all && list_all is_some s.read.runs && is_clean_list s.checked s.shared
+
+-- whether all is in good order in an image is told as it is
+pub record IsCleanImage (image : Image) (clean : Bool) : Type 0 where
+  pub found : Scrubbed
+  pub scrubbed : IsScrubbed image found
+  pub told : clean ≡ is_clean found

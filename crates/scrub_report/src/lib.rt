@@ -1,20 +1,24 @@
-//! The report of a whole disk as JSON text, the recovered index as the bytes of a run, and bytes written out whole. What
-//! is found on a disk, and what the words of the program are, is left to the crates around.
+//! The whole scrub of a disk: its report as JSON text, the recovered index as the bytes of a run, and whether it is clean;
+//! and bytes written out whole. What the words of the program are is left to the crate above.
 #![tactic(auto)]
 
+pub mod answer;
 mod chunks;
 mod extents;
 mod index;
+mod keys;
 mod locators;
 mod order;
 mod report;
 mod runs;
+mod scrubbing;
 mod shards;
 mod sizes;
 mod texts;
 mod values;
 pub mod writing;
 
+pub use answer::{ScrubAnswer, ScrubFault, one_report, scrub_in_order};
 pub use writing::{WriteFault, write_out};
 
 #[cfg(test)]

@@ -1,0 +1,69 @@
+-- Places that several sound locators point to, found among the sorted ones.
+use Rattle.std.proofs.Common.{◌≡◌, ◌<◌, Bool, List, [], ◌∷◌, map, nat_lt, arith, refl, sym, ◌∙◌, ap, subst, Ordering, Less}
+use Rattle.std.specs.Cmp.{IsTotalOrder, nat_cmp_total}
+use Rattle.std.specs.List.{All, Contains, count_by}
+use Rattle.std.specs.List.Sorted.{IsStrictlySortedBy}
+use Rattle.std.proofs.lemmas.Bool.{lt-ltb, ltb-true}
+use Rattle.std.proofs.lemmas.Cmp.{then_total, on_total}
+use Rattle.std.proofs.lemmas.List.{get_or-map, length-map}
+use Rattle.std.proofs.lemmas.List.Elements.{All-filter, All-from_recursion, All-map, filter_passes, recursion_from_All}
+use Rattle.std.proofs.lemmas.List.Folds.{Any-from_list_any}
+use Rattle.std.proofs.lemmas.List.Kept.{IsStrictlySortedBy-filter}
+use Rattle.std.proofs.lemmas.Map.Views.{tells_apart}
+use Rattle.scrub_merge.proofs.Elements.{Contains-filter}
+use Rattle.scrub_check.specs.declared.place.SharedPlace.{SharedPlace}
+use Rattle.scrub_check.specs.declared.checked.Checked.{Checked}
+use Rattle.scrub_check.specs.declared.sound_starts.Start.{Start}
+use Rattle.scrub_check.specs.Distinct.{AreDistinct}
+use Rattle.scrub_check.specs.Live.{sound_at}
+use Rattle.scrub_check.specs.Shared.{by_place, IsShared, AreShared}
+use Rattle.scrub_check.specs.SoundStarts.{start_cmp, is_start, AreSoundStarts, place_counted, shared_by}
+use Rattle.scrub_check.proofs.Counts.{any_counts}
+use Rattle.scrub_check.proofs.SortedStarts.{start_exact, count_sound}
+
+pub by_place_total : IsTotalOrder by_place
+by_place_total = then_total (on_total (λ p. p.extent) nat_cmp_total) (on_total (λ p. p.offset) nat_cmp_total)
+
+-- what rises still does once each element is mapped to one that is ordered alike
+rising_map : {X Y : Type 0} (R : X → X → Ordering) (S : Y → Y → Ordering) (f : X → Y) (xs : List X) → ((x y : X) → S (f x) (f y) ≡ R x y) → IsStrictlySortedBy R xs → IsStrictlySortedBy S (map f xs)
+unfolding IsStrictlySortedBy
+rising_map R S f [] alike rising = tt
+rising_map R S f (x ∷ xs) alike rising =
+    let below : All (λ y. S (f x) (f y) ≡ Less) xs = λ k d lt. alike x _ ∙ All-from_recursion (λ y. R x y ≡ Less) xs rising.0 k d lt in
+    (recursion_from_All (λ y. S (f x) y ≡ Less) (map f xs) (All-map (λ y. S (f x) y ≡ Less) f xs below), rising_map R S f xs alike rising.1)
+
+-- an element is among what is mapped as what it is mapped to
+mapped_there : {X Y : Type 0} (f : X → Y) (xs : List X) (x : X) → Contains xs x → Contains (map f xs) (f x)
+mapped_there f xs x (i, inside, is) = (i, omega (arith, inside, length-map xs f), get_or-map f xs i x (f x) inside ∙ ap f is)
+
+-- a place that is counted stands there
+counted_there : (starts : List Start) (s : Start) → 0 < count_by (is_start s) starts → Contains starts s
+counted_there starts s some =
+    let found = Any-from_list_any (is_start s) starts (any_counts (is_start s) starts ∙ lt-ltb 0 (count_by (is_start s) starts) some) in
+    subst (λ (t : Start). Contains starts t) (tells_apart start_exact found.1 s found.4) (found.0, found.2, found.3)
+
+-- those of the places that stand twice or more are the shared ones
+pub shared_found : (checked : List Checked) (starts once : List Start) (places : List SharedPlace) → AreSoundStarts checked starts → AreDistinct start_cmp starts once →
+    places ≡ shared_by starts once → AreShared checked places
+shared_found checked starts once places are distinct is = subst (λ (ps : List SharedPlace). AreShared checked ps) (sym is) (record {
+  rising = IsStrictlySortedBy-filter by_place several (map (place_counted starts) once) (rising_map start_cmp by_place (place_counted starts) once (λ s t. refl) distinct.rising);
+  each = λ k d lt. record {
+    counted = All-filter several (λ (p : SharedPlace). p.count ≡ sound_at checked p.extent p.offset) (map (place_counted starts) once) counted k d lt;
+    several = ltb-true 1 _ (filter_passes several (map (place_counted starts) once) k d lt);
+  };
+  all = λ s shared. Contains-filter several (map (place_counted starts) once) s (lt-ltb 1 s.count (omega (arith, shared.several))) (there s shared);
+})
+  where
+    several : SharedPlace → Bool
+    several p = nat_lt 1 p.count
+
+    counted : All (λ (p : SharedPlace). p.count ≡ sound_at checked p.extent p.offset) (map (place_counted starts) once)
+    counted = All-map (λ (p : SharedPlace). p.count ≡ sound_at checked p.extent p.offset) (place_counted starts) once (λ k d lt. count_sound checked starts _ _ are)
+
+    there : (s : SharedPlace) → IsShared checked s → Contains (map (place_counted starts) once) s
+    there s shared =
+        let start : Start = record { extent = s.extent; offset = s.offset } in
+        let so_often : count_by (is_start start) starts ≡ s.count = count_sound checked starts s.extent s.offset are ∙ sym shared.counted in
+        let among : Contains once start = (distinct.same start).1 (counted_there starts start (omega (arith, so_often, shared.several))) in
+        let itself : place_counted starts start ≡ s = λ i. record { extent = s.extent; offset = s.offset; count = so_often i } in
+        subst (λ (p : SharedPlace). Contains (map (place_counted starts) once) p) itself (mapped_there (place_counted starts) once start among)

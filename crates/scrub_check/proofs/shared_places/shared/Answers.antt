@@ -1,0 +1,15 @@
+use Rattle.std.proofs.Common.{◌≡◌, ◌∙◌, ap, rules}
+use Rattle.std.proofs.lemmas.Result.{IfOk-weaker}
+use Rattle.scrub_check.specs.SoundStarts.{shared_by}
+use Rattle.scrub_check.proofs.SharedPlaces.{shared_found}
+use Rattle.scrub_check.proofs.shared_places.shared.Goals as goal
+
+pub returns : goal.returns
+returns c =
+    let checked = c.args.checked.now in
+    let starts = c.in_ok-sound.sound in
+    let once = c.in_ok-places.places.items in
+    let read : c.deref.result.now ≡ once = search rules in
+    IfOk-weaker c.shared_among.result _ _
+    (λ v is. shared_found checked starts once v.items c.in_ok-sound.ensures c.in_ok-places.ensures (is ∙ ap (shared_by starts) read))
+    c.shared_among.ensures

@@ -1,0 +1,34 @@
+-- The bindings fit into one run, and each part of the answer is told of what was found.
+use Rattle.std.proofs.Common.{◌<◌, ◌≤◌, ◌^◌, List, All, length, sym, ◌∙◌, subst}
+use Rattle.std.proofs.Math.Path.{ap₂}
+use Rattle.scrub_run.specs.Run.{run_bytes}
+use Rattle.scrub_merge.specs.Binding.{BindingValue}
+use Rattle.scrub_report.proofs.Indexable.{countable, entries_fit}
+use Rattle.scrub_report.specs.Index.{index_entries}
+use Rattle.scrub_report.specs.Scrubbed.{Scrubbed}
+use Rattle.scrub_report.specs.Parts.{found_in}
+use Rattle.scrub_report.proofs.answer.answer_of.Goals as goal
+
+pub index_bytes-requires-clause-few : goal.index_bytes-requires-clause-few
+index_bytes-requires-clause-few g c =
+    subst (λ (bs : List BindingValue). All (λ b. length b.locators ≤ 64) bs) (sym c.bindings.ensures.bindings)
+    (entries_fit (g.D.PageSource.image c.args.disk.now) (found_in c.in_ok-parts.parts) c.in_ok-parts.ensures)
+
+pub index_bytes-requires-clause-count : goal.index_bytes-requires-clause-count
+index_bytes-requires-clause-count g c =
+    subst (λ (bs : List BindingValue). length bs < 2 ^ 32) (sym c.bindings.ensures.bindings)
+    (countable (g.D.PageSource.image c.args.disk.now) (found_in c.in_ok-parts.parts) c.in_ok-parts.ensures)
+
+pub returns : goal.returns
+returns g c = record {
+  report = record { found = found; scrubbed = c.in_ok-parts.ensures; text_is = c.in_ok-report.ensures found c.in_ok-keys.ensures };
+  index = record {
+    found = found;
+    scrubbed = c.in_ok-parts.ensures;
+    bytes_are = c.in_ok-index.ensures ∙ ap₂ (λ checked bindings. run_bytes (index_entries checked bindings)) c.deref.ensures.value c.bindings.ensures.bindings;
+  };
+  clean = record { found = found; scrubbed = c.in_ok-parts.ensures; told = c.in_ok-keys.ensures.clean };
+}
+  where
+    found : Scrubbed
+    found = found_in c.in_ok-parts.parts

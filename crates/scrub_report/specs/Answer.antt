@@ -1,0 +1,18 @@
+-- What a scrub answers of a disk.
+use Rattle.std.specs.Prelude.{ℕ, List, Bool}
+use Rattle.scrub_disk.specs.Image.{Image}
+use Rattle.scrub_report.specs.Scrubbed.{IsCleanImage}
+use Rattle.scrub_report.specs.Report.{IsReport}
+use Rattle.scrub_report.specs.Index.{IsIndex}
+
+-- the text of the report, the bytes of the index, and whether all is in good order
+pub record AnswerValue : Type 0 where
+  pub report : List ℕ
+  pub index : List ℕ
+  pub is_clean : Bool
+
+-- each is that of the image
+pub record IsScrubAnswer (image : Image) (a : AnswerValue) : Type 0 where
+  pub report : IsReport image a.report
+  pub index : IsIndex image a.index
+  pub clean : IsCleanImage image a.is_clean

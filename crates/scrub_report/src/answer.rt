@@ -1,0 +1,132 @@
+//! What a scrub answers, and the whole scrub of a disk by one reader.
+
+ghost use Rattle.std.specs.Prelude.{◌≡◌, IfOk};
+ghost use Rattle.scrub_disk.specs.Image.{Image};
+ghost use Rattle.scrub_scan.specs.AllFindings.{AreAllFindings};
+ghost use Rattle.scrub_super.specs.Chosen.{IsChoice};
+ghost use Rattle.scrub_super.specs.Plan.{IsPlanOf};
+ghost use Rattle.scrub_report.specs.Answer.{AnswerValue, IsScrubAnswer};
+
+use crate::index::index_bytes;
+use crate::keys::keys_of;
+use crate::report::report_text;
+use crate::scrubbing::parts_of;
+use scrub_disk::{OutOfMemory, PageSource};
+use scrub_scan::{AllFindings, scan_in_order};
+use scrub_super::{Chosen, Plan, choose};
+use std::alloc::Global;
+use std::marker::Model;
+
+/// Why a scrub has no answer.
+#[derive(Debug, Clone, Copy, PartialEq, Eq)]
+pub enum ScrubFault {
+    /// A growth was refused.
+    OutOfMemory,
+}
+
+impl From<OutOfMemory> for ScrubFault {
+    fn from(_fault: OutOfMemory) -> ScrubFault {
+        ScrubFault::OutOfMemory
+    }
+}
+
+/// What a scrub of a disk answers.
+#[derive(Drop)]
+pub struct ScrubAnswer {
+    report: Vec<u8>,
+    index: Vec<u8>,
+    is_clean: bool,
+}
+
+impl Model for ScrubAnswer {
+    ghost use Rattle.scrub_report.specs.Answer.{AnswerValue};
+
+    ghost Value = { AnswerValue };
+
+    ghost view = { λ a. record { report = a.report.items; index = a.index.items; is_clean = a.is_clean } };
+}
+
+impl ScrubAnswer {
+    /// The report: one line of compact JSON (RFC 8259), with its line feed.
+    pub fn report(&self) -> &[u8]
+        ensures { result.now ≡ self.now.report }
+    {
+        self.report.as_slice()
+    }
+
+    /// The recovered index: the bytes of an index run.
+    pub fn index(&self) -> &[u8]
+        ensures { result.now ≡ self.now.index }
+    {
+        self.index.as_slice()
+    }
+
+    /// The report, handed out.
+    pub fn into_report(self) -> Vec<u8>
+        ensures { result.items ≡ self.report }
+    {
+        self.report
+    }
+
+    /// The recovered index, handed out.
+    pub fn into_index(self) -> Vec<u8>
+        ensures { result.items ≡ self.index }
+    {
+        self.index
+    }
+
+    /// Whether all on the disk is in good order.
+    pub fn is_clean(&self) -> bool
+        ensures { result ≡ self.now.is_clean }
+    {
+        self.is_clean
+    }
+}
+
+/// The answer of a scrub, from what was chosen, planned and scanned.
+fn answer_of<'d, R, D: PageSource>(
+    rt: &R,
+    alloc: Global,
+    disk: &'d D,
+    chosen: Chosen,
+    plan: Plan,
+    all: AllFindings<'d, D>,
+) -> Result<ScrubAnswer, OutOfMemory>
+    requires chosen { IsChoice (D.image disk.now) chosen }
+    requires planned { IsPlanOf chosen plan }
+    requires scanned { AreAllFindings (D.image disk.now) plan all.extents }
+    ensures { IfOk result (IsScrubAnswer (D.image disk.now)) }
+{
+    let parts = parts_of(rt, alloc, disk, chosen, plan, all)?;
+    let index = index_bytes(alloc, parts.map.bindings(), &parts.checked, &parts.broken)?;
+    let keys = keys_of(alloc, &parts)?;
+    drop(parts);
+    let is_clean = keys.clean;
+    let report = report_text(alloc, keys)?;
+    Ok(ScrubAnswer {
+        report,
+        index,
+        is_clean,
+    })
+}
+
+/// Scrubs a disk: which superblock counts, what lies in each planned extent, in the order of their numbers, and what the
+/// index that the superblock names is worth. `rt` is for calls that wait, of which there is none yet.
+pub fn scrub_in_order<R, D: PageSource>(
+    rt: &R,
+    alloc: Global,
+    disk: &D,
+) -> Result<ScrubAnswer, ScrubFault>
+    ensures { IfOk result (IsScrubAnswer (D.image disk.now)) }
+{
+    let chosen = choose(alloc, disk)?;
+    let plan = Plan::make(alloc, &chosen, disk.geometry())?;
+    let all = scan_in_order(alloc, disk, &plan)?;
+    Ok(answer_of(rt, alloc, disk, chosen, plan, all)?)
+}
+
+/// A law: an image has one report, one index and one verdict whether it is clean. So whoever scrubs it, with however many
+/// workers, has to answer the same.
+pub fn one_report()
+    ensures { (image : Image) (a b : AnswerValue) → IsScrubAnswer image a → IsScrubAnswer image b → a ≡ b }
+{}

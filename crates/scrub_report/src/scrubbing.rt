@@ -1,0 +1,128 @@
+//! What is found on a whole disk, part by part. How it is told is left to the report and the index.
+
+ghost use Rattle.std.specs.Prelude.{◌≡◌, IfOk, is_none, is_some};
+ghost use Rattle.std.specs.List.{list_all, list_any};
+ghost use Rattle.scrub_scan.specs.AllFindings.{AreAllFindings};
+ghost use Rattle.scrub_super.specs.Chosen.{IsChoice};
+ghost use Rattle.scrub_super.specs.Plan.{IsPlanOf};
+ghost use Rattle.scrub_check.specs.Checked.{is_sound};
+ghost use Rattle.scrub_report.specs.Parts.{found_in};
+ghost use Rattle.scrub_report.specs.Scrubbed.{IsScrubbed, is_clean, is_clean_list, is_in_doubt};
+
+use crate::order::{are_clean_extents, is_clean_choice};
+use scrub_check::{
+    Candidate, Checked, ReadRuns, SharedPlace, Status, broken_shards, candidates, check_all,
+    named_locators, read_runs, shared,
+};
+use scrub_disk::{OutOfMemory, PageSource};
+use scrub_merge::{ShardMap, merge};
+use scrub_run::ShardId;
+use scrub_scan::AllFindings;
+use scrub_super::{Chosen, Plan};
+use std::alloc::Global;
+
+/// What was found on a disk.
+#[derive(Drop)]
+pub(crate) struct Parts<'d, D: PageSource> {
+    /// Which superblock counts.
+    pub chosen: Chosen,
+    /// The plan that follows from it.
+    pub plan: Plan,
+    /// What lies in each planned extent.
+    pub all: AllFindings<'d, D>,
+    /// The index runs.
+    pub read: ReadRuns,
+    /// The shards that they bind.
+    pub map: ShardMap,
+    /// The named locators, and what they are worth.
+    pub checked: Vec<Checked>,
+    /// The places that several sound ones point to.
+    pub shared: Vec<SharedPlace>,
+    /// The shards of which a locator dangles.
+    pub broken: Vec<ShardId>,
+    /// The extents that may be reclaimed.
+    pub candidates: Vec<Candidate>,
+}
+
+/// Whether an index run is lost.
+fn has_lost_run(read: &ReadRuns) -> bool
+    ensures { result ≡ list_any is_none read.now.runs }
+{
+    read.runs().iter().any(|run| run.is_none())
+}
+
+/// Whether a newer superblock, or a newer binding, may have been lost.
+fn is_in_doubt(chosen: &Chosen, read: &ReadRuns) -> bool
+    ensures { result ≡ is_in_doubt chosen.now read.now }
+{
+    chosen.tie() || !chosen.bad_pages().is_empty() || has_lost_run(read)
+}
+
+/// What is found on a disk, from what was chosen, planned and scanned.
+pub(crate) fn parts_of<'d, R, D: PageSource>(
+    rt: &R,
+    alloc: Global,
+    disk: &'d D,
+    chosen: Chosen,
+    plan: Plan,
+    all: AllFindings<'d, D>,
+) -> Result<Parts<'d, D>, OutOfMemory>
+    requires chosen { IsChoice (D.image disk.now) chosen }
+    requires planned { IsPlanOf chosen plan }
+    requires scanned { AreAllFindings (D.image disk.now) plan all.extents }
+    ensures { IfOk result (λ p. IsScrubbed (D.image disk.now) (found_in p)) }
+{
+    let read = read_runs(alloc, disk, &plan, &all)?;
+    let map = merge(alloc, read.runs())?;
+    let named = named_locators(alloc, &plan, &map)?;
+    let checked = check_all(rt, alloc, disk, &plan, &all, &named)?;
+    let in_doubt = is_in_doubt(&chosen, &read);
+    Ok(Parts {
+        shared: shared(alloc, &checked)?,
+        broken: broken_shards(alloc, &checked)?,
+        candidates: candidates(alloc, &plan, &all, &checked, in_doubt)?,
+        chosen,
+        plan,
+        all,
+        read,
+        map,
+        checked,
+    })
+}
+
+fn is_sound(status: Status) -> bool
+    ensures { result ≡ is_sound status }
+{
+    matches!(status, Status::Sound)
+}
+
+/// Whether each locator is sound.
+fn are_sound(checked: &[Checked]) -> bool
+    ensures { result ≡ list_all (λ c. is_sound c.status) checked.now }
+{
+    checked.iter().all(|one| is_sound(one.status))
+}
+
+/// Whether each locator is sound, and each place is named once at most.
+fn is_clean_list(checked: &[Checked], shared: &[SharedPlace]) -> bool
+    ensures { result ≡ is_clean_list checked.now shared.now }
+{
+    are_sound(checked) && shared.is_empty()
+}
+
+/// Whether each index run is read.
+fn are_read(read: &ReadRuns) -> bool
+    ensures { result ≡ list_all is_some read.now.runs }
+{
+    read.runs().iter().all(|run| run.is_some())
+}
+
+/// Whether all is in good order.
+pub(crate) fn is_clean<D: PageSource>(parts: &Parts<'_, D>) -> bool
+    ensures { result ≡ is_clean (found_in parts.now) }
+{
+    is_clean_choice(&parts.chosen)
+        && are_clean_extents(parts.all.results())
+        && are_read(&parts.read)
+        && is_clean_list(&parts.checked, &parts.shared)
+}
