@@ -1,6 +1,5 @@
 #!/usr/bin/env python3
-"""Measures `shardscrub scan`, once the program has it, beside `sha256sum` on three kinds of disk. It is no part of the
-gate.
+"""Measures `shardscrub scan` beside `sha256sum` on three kinds of disk. It is no part of the gate.
 
 usage: bench/scan.py [--mib SIZE] [--turns COUNT] [PROGRAM]    (default: 512, 5, crates/scrub_cli/out/scrub_cli)
        bench/scan.py [--mib SIZE] --make FOLDER                makes the images alone, and prints the words for each

@@ -45,5 +45,6 @@ pub fn broken_shards(alloc: Global, checked: &[Checked]) -> Result<Vec<ShardId>,
 
 /// A law: there is one list of broken shards at most.
 pub fn one_list_of_broken_shards()
-    ensures { (checked : List Checked) (ids others : List ShardId) → AreBrokenShards checked ids → AreBrokenShards checked others → ids ≡ others }
+    ensures { (checked : List Checked) (ids others : List ShardId) →
+        AreBrokenShards checked ids → AreBrokenShards checked others → ids ≡ others }
 {}

@@ -31,6 +31,3 @@ pub use runs::{ReadRuns, RunState, read_runs};
 pub use searching::{Found, find_start};
 pub use shared_places::{one_list_of_shared_places, shared};
 pub use status::{Status, status_of};
-
-#[cfg(test)]
-mod tests;

@@ -97,7 +97,8 @@ fn candidate_of<D: PageSource>(
     verdicts: &Verdicts,
     found: &ExtentResult<'_, D>,
 ) -> Result<Candidate, OutOfMemory>
-    ensures { (checked : List Checked) → AreVerdicts checked verdicts.now → IfOk result (λ c. c ≡ candidate_of checked (scanned found.now)) }
+    ensures { (checked : List Checked) → AreVerdicts checked verdicts.now →
+        IfOk result (λ c. c ≡ candidate_of checked (scanned found.now)) }
 {
     let extent = found.extent();
     let keep = starts_to_keep(alloc, &verdicts.sound, extent, found.findings().items())?;

@@ -1,7 +1,7 @@
 -- What a writer holds after several writes.
-use Rattle.std.proofs.Common.{◌≡◌, List, ◌++◌, ℕ, ◌+◌, ◌-◌, ◌≤◌, length, take, drop, Option, None, Some, append_assoc, ap, subst, refl, ◌∙◌, sym, OnOk, Result, Ok, Err, arith, length-take, length-drop}
-use Rattle.std.proofs.lemmas.List.{take-take, take-append-drop}
-use Rattle.std.proofs.Math.Seq.{take-add, take-append_seam, take-append-add, take-length}
+use Rattle.std.proofs.Common.{◌≡◌, List, ◌++◌, ℕ, ◌+◌, length, take, drop, Option, append_assoc, ap, subst, refl, ◌∙◌, sym, OnOk, Result, Ok, Err}
+use Rattle.std.proofs.lemmas.List.{take-append-drop}
+use Rattle.std.proofs.Math.Seq.{take-append_seam, take-append-add, take-length}
 use Rattle.std.specs.Io.KnownBytes.{Appends}
 use Rattle.scrub_report.proofs.Appending.{appends_twice}
 use Rattle.scrub_report.specs.Writing.{AppendsFront}

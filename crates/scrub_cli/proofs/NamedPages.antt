@@ -4,7 +4,7 @@ use Rattle.std.specs.Borrow.{Bor}
 use Rattle.std.proofs.lemmas.List.Elements.{All-nil, All-cons}
 use Rattle.scrub_disk.specs.declared.geometry.Geometry.{Geometry}
 use Rattle.scrub_disk.proofs.Zips.{AllZip-take_more}
-use Rattle.scrub_cli.specs.Items.{NamesPage, NamePages}
+use Rattle.scrub_cli.specs.DiskImage.{NamesPage, NamePages}
 
 -- one more word, and the page that it names
 pub named_more : (g : Geometry) (words : List (Bor (List ℕ))) (pages more : List (ℕ × ℕ)) (i : ℕ) (d : Bor (List ℕ)) (at : ℕ × ℕ) →

@@ -17,15 +17,25 @@ StandsFor OutOfMemory kind = Unit {0}
 abbrev pub HasNumber : List Row → Text → Type 0
 HasNumber found name = (text : Text) × (one_of name found ≡ Some (without_minus text)) × IsSignedIn (pos 0) (pos 4294967295) text
 
--- what `clap` found has all that `items` needs
-pub record HasItems (found : List Row) : Type 0 where
+-- what `clap` found has all that a command on an image file needs
+pub record HasImage (found : List Row) : Type 0 where
   pub page : HasNumber found (codes "page")
   pub pages : HasNumber found (codes "pages")
   pub extents : HasNumber found (codes "extents")
-  pub extent : HasNumber found (codes "extent")
-  pub pointer : (one_of (codes "pointer") found ≡ None) ⊎ HasNumber found (codes "pointer")
   pub image : (name : Text) × (first_of (codes "image") found ≡ Some name)
 
+-- and all that `items` needs
+pub record HasItems (found : List Row) : Type 0 where
+  pub disk : HasImage found
+  pub extent : HasNumber found (codes "extent")
+  pub pointer : (one_of (codes "pointer") found ≡ None) ⊎ HasNumber found (codes "pointer")
+
 -- the command is one of the program's, and has all that it needs
+abbrev pub IsWholeCommand : Text → List Row → Type 0
+IsWholeCommand name found =
+    (name ≡ codes "demo")
+    ⊎ ((name ≡ codes "items") × HasItems found)
+    ⊎ (((name ≡ codes "scan") ⊎ (name ≡ codes "index")) × HasImage found)
+
 abbrev pub IsWhole : Option (Text × List Row) → Type 0
-IsWhole command = IfSome command (λ met. (met.0 ≡ codes "demo") ⊎ ((met.0 ≡ codes "items") × HasItems met.1))
+IsWhole command = IfSome command (λ met. IsWholeCommand met.0 met.1)

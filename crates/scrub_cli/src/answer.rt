@@ -1,27 +1,40 @@
-//! What a command answers: the lines of an extent, and the status that they end with. How the disk came to be read is
-//! left to the commands, and where the answer goes to the run.
+//! What a command answers: the lines of an extent, or the report or the index of a disk, and the status that it ends with.
+//! How the disk came to be read is left to the commands, and where the answer goes to the run.
 
-ghost use Rattle.std.specs.Prelude.{◌≡◌, ◌≤◌, ◌<◌, ◌↔◌, IfOk, IsTrue};
+ghost use Rattle.std.specs.Prelude.{◌≡◌, ◌≤◌, ◌<◌, IfOk};
 ghost use Rattle.scrub_disk.specs.Image.{extent_bytes};
 ghost use Rattle.scrub_scan.specs.Extent.{extent_of};
-ghost use Rattle.scrub_cli.specs.Lines.{lines_of, IsClean, IsListing};
+ghost use Rattle.scrub_cli.specs.Lines.{lines_of, status_of_clean, IsListing};
+ghost use Rattle.scrub_cli.specs.Scan.{IsDiskAnswer};
 
 use scrub_disk::{OutOfMemory, PageSource};
+use scrub_report::{ScrubFault, are_clean_items, scrub_in_order};
 use scrub_scan::{Item, item_line, tile};
 use std::alloc::Global;
-
-/// The status of a clean answer.
-const CLEAN: u8 = 0;
-/// The status of an answer with findings.
-const FINDINGS: u8 = 1;
 
 /// The whole answer of a command, in memory.
 #[derive(Drop)]
 pub struct Answer {
-    /// The lines for the output, each with its line feed.
+    /// The bytes for the output: lines, each with its line feed, or an index.
     pub text: Vec<u8>,
     /// The status that the run ends with once all of it is written: 0 clean, 1 findings.
     pub status: u8,
+}
+
+/// What is told of a whole disk.
+#[derive(Debug, Clone, Copy)]
+pub enum Told {
+    /// What was found on it.
+    Report,
+    /// The index that is recovered from it.
+    Index,
+}
+
+/// The status of an answer.
+fn status_of(clean: bool) -> u8
+    ensures { result ≡ status_of_clean clean }
+{
+    if clean { 0 } else { 1 }
 }
 
 /// The lines of some items, each with a line feed.
@@ -37,16 +50,6 @@ fn lines(alloc: Global, items: &[Item]) -> Result<Vec<u8>, OutOfMemory>
     Ok(text)
 }
 
-/// Whether an item is what a writer leaves: a chunk, or zeros.
-fn is_clean(item: &Item) -> bool
-    ensures { IsTrue result ↔ IsClean item.now }
-{
-    match item {
-        Item::Chunk { .. } | Item::Pad { .. } => true,
-        Item::Torn { .. } | Item::Noise { .. } | Item::Lost { .. } => false,
-    }
-}
-
 /// The lines of the items of an extent under a write pointer, in bytes. It is clean where no item is torn, noise or lost.
 pub fn extent_answer<D: PageSource>(
     alloc: Global,
@@ -60,11 +63,25 @@ pub fn extent_answer<D: PageSource>(
 {
     let items = tile(alloc, disk, extent, pointer)?;
     let items = items.as_slice();
-    let status = if items.iter().all(is_clean) {
-        CLEAN
-    } else {
-        FINDINGS
-    };
+    let status = status_of(are_clean_items(items));
     let text = lines(alloc, items)?;
+    Ok(Answer { text, status })
+}
+
+/// What is told of a disk, with the status of its report.
+pub fn disk_answer<R, D: PageSource>(
+    rt: &R,
+    alloc: Global,
+    disk: &D,
+    told: Told,
+) -> Result<Answer, ScrubFault>
+    ensures { IfOk result (λ a. IsDiskAnswer told (D.image disk.now) a.text.items a.status) }
+{
+    let found = scrub_in_order(rt, alloc, disk)?;
+    let status = status_of(found.is_clean());
+    let text = match told {
+        Told::Report => found.into_report(),
+        Told::Index => found.into_index(),
+    };
     Ok(Answer { text, status })
 }

@@ -8,7 +8,7 @@ ghost use Rattle.scrub_report.specs.Writing.{AppendsFront};
 use crate::words::WordsFault;
 use crate::writing::write_decimal;
 use scrub_disk::{GeometryFault, LoadFault, OutOfMemory};
-use scrub_report::{WriteFault, write_out};
+use scrub_report::{ScrubFault, WriteFault, write_out};
 use std::alloc::AllocFailed;
 use std::io::Write;
 
@@ -53,6 +53,16 @@ impl<T: Drop> From<AllocFailed<T>> for Fault<'_> {
 
     fn from(_fault: AllocFailed<T>) -> Self {
         Fault::OutOfMemory
+    }
+}
+
+impl From<ScrubFault> for Fault<'_> {
+    ghost from_gives = { λ _ fault. fault ≡ OutOfMemory };
+
+    fn from(fault: ScrubFault) -> Self {
+        match fault {
+            ScrubFault::OutOfMemory => Fault::OutOfMemory,
+        }
     }
 }
 

@@ -10,6 +10,7 @@ ghost use Rattle.scrub_cli.specs.Known.{file};
 mod answer;
 mod command;
 mod demo;
+mod disk_image;
 #[cfg(test)]
 mod fakes;
 mod fault;
@@ -18,6 +19,7 @@ mod images;
 mod items;
 mod pair;
 mod running;
+mod scan;
 mod words;
 mod writing;
 

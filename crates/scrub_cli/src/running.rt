@@ -4,18 +4,20 @@ ghost use Rattle.std.specs.Prelude.{MatchResult};
 ghost use Rattle.scrub_cli.specs.Answer.{IsAnswer, IsFault, RunWrites, WritesAnswer};
 ghost use Rattle.scrub_cli.specs.Words.{texts};
 
-use crate::answer::Answer;
+use crate::answer::{Answer, Told};
 use crate::demo::demo;
 use crate::fault::Fault;
 use crate::images::Images;
 use crate::items::items;
+use crate::scan::scan;
 use crate::words::{Request, read_words};
 use scrub_report::write_out;
 use std::alloc::Global;
 use std::io::Write;
 
 /// The answer of the command that the words name, whole and in memory.
-fn answer<'a, I: Images>(
+fn answer<'a, R, I: Images>(
+    rt: &R,
     alloc: Global,
     words: &'a [&'a str],
     images: &mut I,
@@ -25,8 +27,10 @@ fn answer<'a, I: Images>(
         (IsFault (I.known images.old) (texts words.entry.now)) }
 {
     match read_words(alloc, words)? {
-        Request::Demo => Ok(demo(alloc)?),
+        Request::Demo => Ok(demo(rt, alloc)?),
         Request::Items(words) => items(alloc, &words, images),
+        Request::Scan(words) => scan(rt, alloc, &words, images, Told::Report),
+        Request::Index(words) => scan(rt, alloc, &words, images, Told::Index),
     }
 }
 
@@ -49,7 +53,7 @@ fn give<O: Write, E: Write>(answer: &Answer, out: &mut O, err: &mut E) -> u8
 ///
 /// The statuses: 0 clean, or help; 1 findings; 2 words refused; 3 file fault; 4 want of memory.
 pub fn run<R, I: Images, O: Write, E: Write>(
-    _rt: &R,
+    rt: &R,
     alloc: Global,
     words: &[&str],
     images: &mut I,
@@ -59,7 +63,7 @@ pub fn run<R, I: Images, O: Write, E: Write>(
     ensures { RunWrites (I.known images.old) (texts words.entry.now) result
         (O.contents out.old, O.contents out.new) (E.contents err.old, E.contents err.new) }
 {
-    match answer(alloc, words, images) {
+    match answer(rt, alloc, words, images) {
         Ok(answer) => give(&answer, out, err),
         Err(fault) => fault.end(err),
     }

@@ -92,7 +92,6 @@ pub(crate) fn keys_of<D: PageSource>(
         clean: is_clean(parts),
         dangling: dangling_key(alloc, &parts.checked)?,
         doubtful: doubtful_key(alloc, bindings)?,
-        extents: extents_key(alloc, &parts.all, &parts.checked)?,
         geometry: geometry_value(alloc, parts.plan.geometry())?,
         hidden: hidden_key(alloc, &parts.checked)?,
         orphans: orphans_key(alloc, &parts.all, &parts.checked)?,
@@ -101,5 +100,7 @@ pub(crate) fn keys_of<D: PageSource>(
         shared: shared_value(alloc, &parts.shared)?,
         superblock: super_value(alloc, &parts.chosen)?,
         twins: twins_key(alloc, &parts.all)?,
+        // Its value is by far the greatest: by now the others need no lists any more.
+        extents: extents_key(alloc, &parts.all, &parts.checked)?,
     })
 }

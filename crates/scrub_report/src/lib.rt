@@ -8,7 +8,7 @@ mod extents;
 mod index;
 mod keys;
 mod locators;
-mod order;
+pub mod order;
 mod report;
 mod runs;
 mod scrubbing;
@@ -19,6 +19,7 @@ mod values;
 pub mod writing;
 
 pub use answer::{ScrubAnswer, ScrubFault, one_report, scrub_in_order};
+pub use order::are_clean_items;
 pub use writing::{WriteFault, write_out};
 
 #[cfg(test)]

@@ -16,8 +16,8 @@ fn is_clean_item(item: &Item) -> bool
     matches!(item, Item::Chunk { .. } | Item::Pad { .. })
 }
 
-/// Whether each of these items is such.
-fn are_clean_items(items: &[Item]) -> bool
+/// Whether each of these items is what a writer leaves: a chunk, or zeros.
+pub fn are_clean_items(items: &[Item]) -> bool
     ensures { result ≡ list_all is_clean_item items.now }
 {
     items.iter().all(|item| is_clean_item(item))

@@ -1,8 +1,30 @@
-//! Tests that cross crates: worked examples on whole images, and what stands on disks that the builders made. It has
-//! nothing that another crate could use.
+//! Tests that cross crates: worked examples on whole images, whole scrubs beside their published reports, searches beside
+//! plain walks, and lists of a size that no example has. It has nothing that another crate could use.
 #![tactic(auto)]
 
 #[cfg(test)]
+mod compare;
+#[cfg(test)]
+mod disks;
+#[cfg(test)]
+mod index_runs;
+#[cfg(test)]
+mod lists;
+#[cfg(test)]
 mod loading;
 #[cfg(test)]
+mod named;
+#[cfg(test)]
+mod published;
+#[cfg(test)]
+mod scrub;
+#[cfg(test)]
+mod sizes;
+#[cfg(test)]
+mod status;
+#[cfg(test)]
 mod superblock;
+#[cfg(test)]
+mod told;
+#[cfg(test)]
+mod walks;

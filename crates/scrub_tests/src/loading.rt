@@ -2,6 +2,7 @@
 
 ghost use Rattle.std.specs.Prelude.{◌<◌, ◌^◌, All};
 
+use crate::compare::same;
 use scrub_disk::{Geometry, LoadFault, PageSource, RawImage, Unreadable, load};
 use scrub_fakes::RawBytes;
 use std::alloc::Global;
@@ -36,7 +37,7 @@ fn unreadable_pages<R: RawImage>(
         match disk.read_page(number / 4, number % 4, &mut out) {
             Ok(()) => {
                 let place = number as usize * 64;
-                assert_eq!(rt; out.as_slice(), &bytes[place..place + 64], "page {number}");
+                same(rt, out.as_slice(), &bytes[place..place + 64]);
             }
             Err(Unreadable) => unreadable.push((number / 4, number % 4))?,
         }
@@ -49,8 +50,8 @@ fn each_page_of_a_whole_image_is_readable(rt: HostRuntime) -> Result<(), Fail> {
     let bytes = numbered();
     let mut raw = RawBytes::failing(&bytes[..768], 4096, 0, 0);
     let unreadable = unreadable_pages(&rt, rt.alloc(), &mut raw, &[], &bytes)?;
-    assert_eq!(rt; unreadable.as_slice(), [].as_slice());
-    assert_eq!(rt; raw.reads, 13);
+    same(&rt, unreadable.as_slice(), [].as_slice());
+    same(&rt, raw.reads, 13);
     Ok(())
 }
 
@@ -59,7 +60,7 @@ fn pages_behind_the_end_of_a_short_image_are_unreadable(rt: HostRuntime) -> Resu
     let bytes = numbered();
     let mut raw = RawBytes::failing(&bytes[..668], 4096, 0, 0);
     let unreadable = unreadable_pages(&rt, rt.alloc(), &mut raw, &[], &bytes)?;
-    assert_eq!(rt; unreadable.as_slice(), [(2, 2), (2, 3)].as_slice());
+    same(&rt, unreadable.as_slice(), [(2, 2), (2, 3)].as_slice());
     Ok(())
 }
 
@@ -67,8 +68,8 @@ fn pages_behind_the_end_of_a_short_image_are_unreadable(rt: HostRuntime) -> Resu
 fn no_bytes_leave_no_page_readable(rt: HostRuntime) -> Result<(), Fail> {
     let mut raw = RawBytes::failing(&[], 4096, 0, 0);
     let unreadable = unreadable_pages(&rt, rt.alloc(), &mut raw, &[], &numbered())?;
-    assert_eq!(rt; unreadable.len(), 12);
-    assert_eq!(rt; (raw.reads, raw.failures), (13, 0));
+    same(&rt, unreadable.len(), 12);
+    same(&rt, (raw.reads, raw.failures), (13, 0));
     Ok(())
 }
 
@@ -78,14 +79,15 @@ fn one_byte_behind_the_last_page_is_too_long(rt: HostRuntime) -> Result<(), Fail
     let geometry = Geometry::new(64, 4, 3)?;
     let mut raw = RawBytes::failing(&bytes, 4096, 0, 0);
     let refused = load(rt.alloc(), &mut raw, geometry, &[]);
-    assert_eq!(rt;
+    same(
+        &rt,
         refused.map(|disk| disk.geometry()),
-        Err(LoadFault::TooLong)
+        Err(LoadFault::TooLong),
     );
     let mut cut_short = RawBytes::failing(&bytes, 4096, 12, 1);
     let unreadable = unreadable_pages(&rt, rt.alloc(), &mut cut_short, &[], &bytes)?;
-    assert_eq!(rt; unreadable.as_slice(), [].as_slice(), "the last read fails");
-    assert_eq!(rt; (cut_short.reads, cut_short.failures), (13, 1));
+    same(&rt, unreadable.as_slice(), [].as_slice());
+    same(&rt, (cut_short.reads, cut_short.failures), (13, 1));
     Ok(())
 }
 
@@ -96,8 +98,8 @@ fn one_byte_at_a_time_makes_as_many_reads_as_bytes_and_one_more(
     let bytes = numbered();
     let mut raw = RawBytes::failing(&bytes[..768], 1, 0, 0);
     let unreadable = unreadable_pages(&rt, rt.alloc(), &mut raw, &[], &bytes)?;
-    assert_eq!(rt; unreadable.as_slice(), [].as_slice());
-    assert_eq!(rt; raw.reads, 769);
+    same(&rt, unreadable.as_slice(), [].as_slice());
+    same(&rt, raw.reads, 769);
     Ok(())
 }
 
@@ -106,16 +108,12 @@ fn a_failed_read_makes_its_own_page_unreadable(rt: HostRuntime) -> Result<(), Fa
     let bytes = numbered();
     let mut whole_pages = RawBytes::failing(&bytes[..768], 4096, 4, 1);
     let unreadable = unreadable_pages(&rt, rt.alloc(), &mut whole_pages, &[], &bytes)?;
-    assert_eq!(rt; unreadable.as_slice(), [(1, 0)].as_slice());
-    assert_eq!(rt; (whole_pages.reads, whole_pages.failures), (13, 1));
+    same(&rt, unreadable.as_slice(), [(1, 0)].as_slice());
+    same(&rt, (whole_pages.reads, whole_pages.failures), (13, 1));
     let mut single_bytes = RawBytes::failing(&bytes[..768], 1, 4 * 64 + 63, 1);
     let unreadable = unreadable_pages(&rt, rt.alloc(), &mut single_bytes, &[], &bytes)?;
-    assert_eq!(rt;
-        unreadable.as_slice(),
-        [(1, 0)].as_slice(),
-        "at its last byte"
-    );
-    assert_eq!(rt; (single_bytes.reads, single_bytes.failures), (769, 1));
+    same(&rt, unreadable.as_slice(), [(1, 0)].as_slice());
+    same(&rt, (single_bytes.reads, single_bytes.failures), (769, 1));
     Ok(())
 }
 
@@ -125,7 +123,7 @@ fn a_named_page_is_unreadable(rt: HostRuntime) -> Result<(), Fail> {
     let mut raw = RawBytes::failing(&bytes[..768], 4096, 0, 0);
     let bad = [(2, 3), (0, 0), (2, 3)];
     let unreadable = unreadable_pages(&rt, rt.alloc(), &mut raw, &bad, &bytes)?;
-    assert_eq!(rt; unreadable.as_slice(), [(0, 0), (2, 3)].as_slice());
+    same(&rt, unreadable.as_slice(), [(0, 0), (2, 3)].as_slice());
     Ok(())
 }
 
@@ -134,7 +132,7 @@ fn an_image_that_always_fails_has_no_readable_page(rt: HostRuntime) -> Result<()
     let bytes = numbered();
     let mut raw = RawBytes::failing(&bytes, 4096, 0, u64::MAX);
     let unreadable = unreadable_pages(&rt, rt.alloc(), &mut raw, &[], &bytes)?;
-    assert_eq!(rt; unreadable.len(), 12);
-    assert_eq!(rt; raw.reads, 13);
+    same(&rt, unreadable.len(), 12);
+    same(&rt, raw.reads, 13);
     Ok(())
 }

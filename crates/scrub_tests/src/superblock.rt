@@ -1,5 +1,6 @@
 //! Which superblock counts on a disk, and the plan that follows from it.
 
+use crate::compare::same;
 use scrub_disk::{Geometry, MemDisk, PageSource};
 use scrub_fakes::{abc_at, mark_bad, plan_of, put, put_record, small_disk};
 use scrub_frame::{Locator, read_locator};
@@ -45,11 +46,11 @@ fn check_chosen(
     let generation = chosen
         .superblock()
         .map(|superblock| superblock.generation());
-    assert_eq!(rt; chosen.page(), newest.map(|found| found.0));
-    assert_eq!(rt; generation, newest.map(|found| found.1));
-    assert_eq!(rt; chosen.records(), records);
-    assert_eq!(rt; chosen.tie(), tie);
-    assert_eq!(rt; chosen.bad_pages(), bad_pages);
+    same(rt, chosen.page(), newest.map(|found| found.0));
+    same(rt, generation, newest.map(|found| found.1));
+    same(rt, chosen.records(), records);
+    same(rt, chosen.tie(), tie);
+    same(rt, chosen.bad_pages(), bad_pages);
 }
 
 /// Compares the plan of a disk of three extents.
@@ -60,12 +61,12 @@ fn check_plan(
     runs: &[Locator],
     has_superblock: bool,
 ) {
-    assert_eq!(rt; plan.geometry().extents(), 3);
-    assert_eq!(rt; plan.planned(), [1, 2].as_slice());
-    assert_eq!(rt; plan.pointer(1), pointers[0]);
-    assert_eq!(rt; plan.pointer(2), pointers[1]);
-    assert_eq!(rt; plan.runs(), runs);
-    assert_eq!(rt; plan.has_superblock(), has_superblock);
+    assert!(rt; plan.geometry().extents() == 3);
+    same(rt, plan.planned(), [1, 2].as_slice());
+    same(rt, plan.pointer(1), pointers[0]);
+    same(rt, plan.pointer(2), pointers[1]);
+    same(rt, plan.runs(), runs);
+    same(rt, plan.has_superblock(), has_superblock);
 }
 
 /// Compares the choice on a disk and its plan.
@@ -109,7 +110,7 @@ fn a_record_tells_pointers_and_runs_also_none(rt: HostRuntime) -> Result<(), Fai
     for (pointers, runs, length) in [([41, 155], runs.as_slice(), 126), ([0, 0], &[], 66)] {
         let mut disk = small_disk(rt.alloc())?;
         let put = put_record(rt.alloc(), &mut disk, 0, 1, &pointers, runs)?;
-        assert_eq!(rt; put, length);
+        same(&rt, put, length);
         let told = Expected {
             newest: Some((0, 1)),
             records: 1,
@@ -167,7 +168,7 @@ fn a_record_spans_three_pages_that_are_all_readable(rt: HostRuntime) -> Result<(
     let mut disk = small_disk(rt.alloc())?;
     let runs = [abc_at(1, 0), abc_at(2, 0)];
     let length = put_record(rt.alloc(), &mut disk, 1, 1, &[41, 155], &runs)?;
-    assert_eq!(rt; length, 186);
+    same(&rt, length, 186);
     mark_bad(&mut disk, 0, 0)?;
     let bad_pages = [0];
     let whole = Expected {
@@ -234,14 +235,14 @@ fn a_plan_of_three_extents_is_restricted_to_two(rt: HostRuntime) -> Result<(), F
     let geometry = disk.geometry();
     assert!(rt; geometry.extents() == 4);
     let plan = Plan::make(rt.alloc(), &chosen, geometry)?;
-    assert_eq!(rt; plan.planned(), [1, 2, 3].as_slice());
+    same(&rt, plan.planned(), [1, 2, 3].as_slice());
     let restricted = plan.restrict(rt.alloc(), &[1, 3])?;
-    assert_eq!(rt; restricted.planned(), [1, 3].as_slice());
+    same(&rt, restricted.planned(), [1, 3].as_slice());
     assert!(rt; restricted.geometry() == geometry);
-    assert_eq!(rt; restricted.pointer(1), 41);
-    assert_eq!(rt; restricted.pointer(2), 250);
-    assert_eq!(rt; restricted.pointer(3), 155);
-    assert_eq!(rt; restricted.runs(), runs.as_slice());
+    same(&rt, restricted.pointer(1), 41);
+    same(&rt, restricted.pointer(2), 250);
+    same(&rt, restricted.pointer(3), 155);
+    same(&rt, restricted.runs(), runs.as_slice());
     assert!(rt; restricted.has_superblock());
     Ok(())
 }

@@ -14,6 +14,8 @@ use std::process::{Abort, ExitCode};
 use std::test::Fail;
 use uuid::Uuid;
 
+mod scans;
+
 /// The frame of `abc` under the UUID of sixteen bytes 11.
 const ABC_FRAME: [u8; 41] = [
     0xC5, 0x5E, 0x11, 0x11, 0x11, 0x11, 0x11, 0x11, 0x11, 0x11, 0x11, 0x11, 0x11, 0x11, 0x11, 0x11,
@@ -73,14 +75,6 @@ fn check(
     let status = run(rt, alloc, &split, &mut images, &mut out, &mut err);
     let (out, err) = (str::from_utf8(&out)?, str::from_utf8(&err)?);
     assert_eq!(rt; (status, out, err), wanted, "{words}");
-    Ok(())
-}
-
-#[test]
-fn the_demo_prints_the_line_of_the_chunk(rt: HostRuntime) -> Result<(), Fail> {
-    for words in ["", "demo"] {
-        check(&rt, rt.alloc(), words, image(&[]), (0, ABC_LINE, ""))?;
-    }
     Ok(())
 }
 
@@ -319,44 +313,6 @@ fn of_several_faults_the_first_is_told(rt: HostRuntime) -> Result<(), Fail> {
 }
 
 #[test]
-fn an_output_that_fails_is_told_with_the_bytes_that_it_took(rt: HostRuntime) -> Result<(), Fail> {
-    for (room, fails) in [
-        (0, true),
-        (0, false),
-        (10, true),
-        (10, false),
-        (49, true),
-        (49, false),
-    ] {
-        let mut out = NarrowWriter::new(rt.alloc(), room, fails);
-        let mut err = Vec::new(rt.alloc());
-        let status = run(
-            &rt,
-            rt.alloc(),
-            &["demo"],
-            &mut image(&[]),
-            &mut out,
-            &mut err,
-        );
-        let told = format!(in rt.alloc(); "shardscrub: output failed after {room} bytes\n")?;
-        assert_eq!(rt; status, 3);
-        assert_eq!(rt; str::from_utf8(&err)?, told.as_str());
-        assert_eq!(rt; out.taken.as_slice(), &ABC_LINE.as_bytes()[..room]);
-    }
-    Ok(())
-}
-
-#[test]
-fn an_output_with_room_for_the_last_byte_is_whole(rt: HostRuntime) -> Result<(), Fail> {
-    let mut out = NarrowWriter::new(rt.alloc(), 50, true);
-    let mut err = Vec::new(rt.alloc());
-    let status = run(&rt, rt.alloc(), &[], &mut image(&[]), &mut out, &mut err);
-    assert_eq!(rt; (status, err.len()), (0, 0));
-    assert_eq!(rt; str::from_utf8(&out.taken)?, ABC_LINE);
-    Ok(())
-}
-
-#[test]
 fn a_fault_of_the_error_stream_is_ignored(rt: HostRuntime) -> Result<(), Fail> {
     for fails in [true, false] {
         let mut err = NarrowWriter::new(rt.alloc(), 4, fails);
@@ -399,7 +355,8 @@ fn words_that_are_no_command_are_refused(rt: HostRuntime) -> Result<(), Fail> {
         "items --page 64 --pages 4 --extents 3 disk.img",
         "items --page 64 --pages 4 --extents 3 --extent x disk.img",
         "items --page 64 --pages 4 --extents 3 --extent 4294967296 disk.img",
-        "items --page 64 --pages 4 --extents 3 --extent 1 --workers 2 disk.img",
+        "scan --page 64 --pages 4 --extents 3 --workers 2 disk.img",
+        "index --page 64 --pages 4 --extents 3",
     ] {
         check_text(&rt, rt.alloc(), words, (2, "error: "))?;
     }
@@ -408,7 +365,14 @@ fn words_that_are_no_command_are_refused(rt: HostRuntime) -> Result<(), Fail> {
 
 #[test]
 fn help_is_told_on_the_error_stream(rt: HostRuntime) -> Result<(), Fail> {
-    for words in ["--help", "-h", "demo --help", "items --help"] {
+    for words in [
+        "--help",
+        "-h",
+        "demo --help",
+        "items --help",
+        "scan --help",
+        "index --help",
+    ] {
         check_text(&rt, rt.alloc(), words, (0, ""))?;
     }
     Ok(())
@@ -484,6 +448,5 @@ fn a_file_is_read_as_an_image(rt: HostRuntime) -> Result<(), Fail> {
     }
     let words = "shardscrub items --page 64 --pages 4 --extents 3 --extent 1 scrub_cli_test.img";
     let told = "shardscrub: image cannot be opened: scrub_cli_test.img\n";
-    check_process(&rt, words, (3, "", told))?;
-    check_process(&rt, "shardscrub demo", (0, ABC_LINE, ""))
+    check_process(&rt, words, (3, "", told))
 }

@@ -1,11 +1,15 @@
 //! Which words ask for what, what is refused, and that the help has what its reader looks for.
 
-use crate::words::{Request, WordsFault, read_words};
+use crate::words::{ImageWords, Request, WordsFault, read_words};
 use std::process::Abort;
 use std::test::Fail;
 
-const EXAMPLE: &str =
-    "shardscrub items --page 64 --pages 4 --extents 3 --extent 1 --pointer 41 examples/one-chunk.img";
+/// The words of the disk that the tests name, which each command on an image has.
+fn check_image(rt: &impl Abort, image: &ImageWords<'_>) {
+    assert_eq!(rt; (image.page, image.pages, image.extents), (64, 4, 3));
+    assert_eq!(rt; image.name, "disk.img");
+    assert_eq!(rt; image.bad_pages.as_slice(), ["1:3", "x", "2:0"].as_slice());
+}
 
 /// The text with which words that are parted by blanks are refused.
 fn refusal<R: AllocGlobal + Abort>(rt: &R, words: &str) -> Result<String, Fail> {
@@ -46,10 +50,24 @@ fn items_with_all_options(rt: HostRuntime) -> Result<(), Fail> {
     };
     assert_eq!(rt; items.extent, 1);
     assert_eq!(rt; items.pointer, Some(41));
-    let image = items.image;
-    assert_eq!(rt; (image.page, image.pages, image.extents), (64, 4, 3));
-    assert_eq!(rt; image.name, "disk.img");
-    assert_eq!(rt; image.bad_pages.as_slice(), ["1:3", "x", "2:0"].as_slice());
+    check_image(&rt, &items.image);
+    Ok(())
+}
+
+#[test]
+fn scan_and_index_with_their_words(rt: HostRuntime) -> Result<(), Fail> {
+    let words = "scan --page 64 --pages 4 --extents 3 disk.img 1:3 x 2:0";
+    let split: Vec<&str> = words.split_whitespace().collect(rt.alloc())?;
+    let Request::Scan(image) = read_words(rt.alloc(), &split)? else {
+        panic!(rt; "not scan");
+    };
+    check_image(&rt, &image);
+    let words = "index --extents 3 --pages 4 --page 64 disk.img 1:3 x 2:0";
+    let split: Vec<&str> = words.split_whitespace().collect(rt.alloc())?;
+    let Request::Index(image) = read_words(rt.alloc(), &split)? else {
+        panic!(rt; "not index");
+    };
+    check_image(&rt, &image);
     Ok(())
 }
 
@@ -91,6 +109,11 @@ fn a_refusal_says_what_is_wrong(rt: HostRuntime) -> Result<(), Fail> {
             "items --page 64 --pages 4 --extents 3 --extent 1 --workers 2 x",
             "--workers",
         ),
+        ("scan --page 64 --pages 4 --extents 3", "<IMAGE>"),
+        (
+            "scan --page 64 --pages 4 --extents 3 --workers 1 x",
+            "--workers",
+        ),
     ] {
         let text = refusal(&rt, words)?;
         assert!(rt; text.as_str().contains(part), "{words}");
@@ -105,10 +128,13 @@ fn the_help_of_the_program_and_of_each_command(rt: HostRuntime) -> Result<(), Fa
         "--help",
         &[
             "Usage: shardscrub [COMMAND]",
-            "demo",
-            "items",
+            "\n  scan ",
+            "\n  index ",
+            "\n  items ",
+            "\n  demo ",
             "Exit status",
-            EXAMPLE,
+            "shardscrub scan --page 64 --pages 4 --extents 3 examples/one-shard.img",
+            "--extent 1 --pointer 41 examples/one-shard.img",
         ],
     )?;
     check_help(
@@ -134,7 +160,41 @@ fn the_help_of_the_program_and_of_each_command(rt: HostRuntime) -> Result<(), Fa
             "--pointer <BYTES>",
             "[EXTENT:PAGE]...",
             "Exit status",
-            EXAMPLE,
+            "--extent 1 --pointer 41 examples/one-chunk.img",
+        ],
+    )
+}
+
+#[test]
+fn the_help_of_the_commands_on_a_disk(rt: HostRuntime) -> Result<(), Fail> {
+    check_help(
+        &rt,
+        "scan --help",
+        &[
+            "Usage: shardscrub scan",
+            "--extents <COUNT>",
+            "[EXTENT:PAGE]...",
+            "\n  candidates ",
+            "\n  orphans ",
+            "\n  doubtful ",
+            "not clean",
+            "\n  super ",
+            "\n  dangling ",
+            "torn, noise or lost",
+            "Exit status",
+            "\n  shardscrub scan --page 64 --pages 4 --extents 3 examples/one-shard.img",
+        ],
+    )?;
+    check_help(
+        &rt,
+        "index --help",
+        &[
+            "Usage: shardscrub index",
+            "--extents <COUNT>",
+            "[EXTENT:PAGE]...",
+            "hidden",
+            "Exit status",
+            "\n  shardscrub index --page 64 --pages 4 --extents 3 examples/one-shard.img",
         ],
     )
 }

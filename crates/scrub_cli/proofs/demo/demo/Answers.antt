@@ -1,7 +1,8 @@
--- The listing of the demo's extent is the demo's answer.
+-- The report is that of the demo's disk.
+use Rattle.std.proofs.lemmas.Result.{IfOk-weaker}
 use Rattle.scrub_disk.specs.Memory.{image_of}
-use Rattle.scrub_cli.proofs.DemoAnswers.{demo_answer}
 use Rattle.scrub_cli.proofs.demo.demo.Goals as goal
 
 pub returns : goal.returns
-returns c = demo_answer (image_of c.in_ok-disk.disk) c.extent_answer.result (λ a. a.text.items) (λ a. a.status) c.in_ok-disk.ensures c.extent_answer.ensures
+returns g c =
+    IfOk-weaker c.disk_answer.result _ _ (λ a told. record { image = image_of c.in_ok-disk.disk; disk = c.in_ok-disk.ensures; told = told }) c.disk_answer.ensures

@@ -1,15 +1,27 @@
--- What `items` comes to is what the words that ask for it come to.
+-- What a request comes to is what the words that ask for it come to.
 use Rattle.std.proofs.Common.{map}
-use Rattle.std.proofs.lemmas.Result.{MatchResult-weaker}
 use Rattle.scrub_cli.specs.Words.{AskFor}
-use Rattle.scrub_cli.specs.declared.words.Request.TheVariants.{Items}
-use Rattle.scrub_cli.proofs.RunAnswers.{items_fault}
+use Rattle.scrub_cli.specs.declared.words.Request.TheVariants.{Items, Scan, Index}
+use Rattle.scrub_cli.proofs.RunAnswers.{answered}
 use Rattle.scrub_cli.proofs.running.answer.Goals as goal
 
 pub returns-in-Items : goal.returns-in-Items
 returns-in-Items g c =
     let words = map (λ word. word.now) c.args.words.now in
-    let items = c.in-Items.words in
-    let asked : AskFor words (Items items) = rw c.in-Items.is at c.in_ok-read_words.ensures in
-    MatchResult-weaker c.items.result c.items.ensures (λ a listed. (Items items, asked, listed))
-    (λ fault is. items_fault (g.I.Images.known c.args.images.now) words items fault asked is)
+    let request = Items c.in-Items.words in
+    let asked : AskFor words request = rw c.in-Items.is at c.in_ok-read_words.ensures in
+    answered (g.I.Images.known c.args.images.now) words request c.items.result asked c.items.ensures
+
+pub returns-in-Scan : goal.returns-in-Scan
+returns-in-Scan g c =
+    let words = map (λ word. word.now) c.args.words.now in
+    let request = Scan c.in-Scan.words in
+    let asked : AskFor words request = rw c.in-Scan.is at c.in_ok-read_words.ensures in
+    answered (g.I.Images.known c.args.images.now) words request c.scan.result asked c.scan.ensures
+
+pub returns-in-Index : goal.returns-in-Index
+returns-in-Index g c =
+    let words = map (λ word. word.now) c.args.words.now in
+    let request = Index c.in-Index.words in
+    let asked : AskFor words request = rw c.in-Index.is at c.in_ok-read_words.ensures in
+    answered (g.I.Images.known c.args.images.now) words request c.scan-in-Index.result asked c.scan-in-Index.ensures

@@ -1,6 +1,18 @@
 //! What locators are worth: each status once, and what parts it from a sound locator.
 
-use super::*;
+use crate::compare::same;
+use crate::disks::{judged_locators, nine_locators, overwritten_end};
+use crate::told::judge;
+use scrub_check::Status;
+use scrub_disk::MemDisk;
+use scrub_fakes::{
+    ABC_DIGEST, ENDS_IN_MAGIC, ONES, TWOS, abc_at, mark_bad, put_frame, put_superblock, small_disk,
+};
+use scrub_frame::{Locator, locate};
+use std::alloc::Global;
+use std::process::Abort;
+use std::test::Fail;
+use uuid::Uuid;
 
 /// Compares what locators are worth on a disk.
 fn check(
@@ -185,18 +197,7 @@ fn one_other_byte_makes_another_digest(rt: HostRuntime) -> Result<(), Fail> {
     Ok(())
 }
 
-/// A disk of three extents with a frame of 66 bytes under this UUID at the start of extent 1, and `abc` written at 64,
-/// over its last two bytes. Extent 2 has the run of one shard with this `abc`.
-fn overwritten_end(alloc: Global, uuid: [u8; 16]) -> Result<MemDisk, Fail> {
-    let mut disk = small_disk(alloc)?;
-    put_frame(alloc, &mut disk, 1, 0, uuid, &[0x78; 28])?;
-    put_frame(alloc, &mut disk, 1, 64, ONES, b"abc")?;
-    let run = put_run(alloc, &mut disk, 2, 0, TWOS, &[abc_at(1, 64)])?;
-    put_superblock(alloc, &mut disk, &[105, 155], slice::from_ref(&run))?;
-    Ok(disk)
-}
-
-/// The locator of that frame.
+/// The locator of the frame that `overwritten_end` has at the start of extent 1.
 fn overwritten(uuid: [u8; 16]) -> Locator {
     locate(1, 0, Uuid::from_bytes(uuid), &[0x78; 28])
 }

@@ -1,34 +1,20 @@
 //! The lists that are drawn from what the named locators are worth, and which chunks are live by them.
 
-use super::*;
-use scrub_merge::merge;
-use scrub_scan::Item;
-
-/// What is told of the locators that a disk names, and of its chunks.
-#[derive(Drop)]
-struct Told {
-    checked: Vec<Checked>,
-    live: Vec<u32>,
-    orphans: Vec<Place>,
-    candidates: Vec<Candidate>,
-    candidates_in_doubt: Vec<Candidate>,
-}
-
-fn told_of<R>(rt: &R, alloc: Global, disk: &MemDisk) -> Result<Told, Fail> {
-    let plan = plan_of(alloc, disk)?;
-    let all = scan_in_order(alloc, disk, &plan)?;
-    let read = read_runs(alloc, disk, &plan, &all)?;
-    let map = merge(alloc, read.runs())?;
-    let named = named_locators(alloc, &plan, &map)?;
-    let checked = check_all(rt, alloc, disk, &plan, &all, &named)?;
-    Ok(Told {
-        live: all_live_bytes(alloc, &all, &checked)?,
-        orphans: orphans(alloc, &all, &checked)?,
-        candidates: candidates(alloc, &plan, &all, &checked, false)?,
-        candidates_in_doubt: candidates(alloc, &plan, &all, &checked, true)?,
-        checked,
-    })
-}
+use crate::compare::same;
+use crate::disks::{
+    deleted_in_the_newest_run, half_garbage, judged_locators, nine_locators, run_named_twice,
+};
+use crate::told::told_of;
+use scrub_check::{
+    Candidate, Checked, Found, Owner, Place, Status, dangling, find_start, hidden, live_bytes,
+};
+use scrub_disk::MemDisk;
+use scrub_fakes::{ENDS_IN_MAGIC, ONES, abc_at, plan_of};
+use scrub_scan::{Item, scan_in_order};
+use std::alloc::Global;
+use std::process::Abort;
+use std::test::Fail;
+use uuid::Uuid;
 
 /// The live bytes of extents 0 to 3, each asked for by itself.
 fn live_one_by_one(alloc: Global, disk: &MemDisk, checked: &[Checked]) -> Result<[u32; 4], Fail> {
@@ -174,16 +160,6 @@ fn an_extent_that_no_locator_names_may_be_reclaimed(rt: HostRuntime) -> Result<(
     check_candidate(&rt, &told.candidates, 1, 41, &[]);
     assert!(rt; told.candidates_in_doubt.is_empty());
     Ok(())
-}
-
-/// A disk of three extents with `abc` at 0 and 41 of extent 1, and a run that names the second alone.
-fn half_garbage(alloc: Global) -> Result<MemDisk, Fail> {
-    let mut disk = small_disk(alloc)?;
-    put_frame(alloc, &mut disk, 1, 0, ONES, b"abc")?;
-    put_frame(alloc, &mut disk, 1, 41, ONES, b"abc")?;
-    let run = put_run(alloc, &mut disk, 2, 0, TWOS, &[abc_at(1, 41)])?;
-    put_superblock(alloc, &mut disk, &[82, 155], slice::from_ref(&run))?;
-    Ok(disk)
 }
 
 #[test]

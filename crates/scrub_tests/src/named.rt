@@ -1,7 +1,19 @@
 //! Which locators a disk names, and what its shards are bound to.
 
-use super::*;
+use crate::compare::same;
+use crate::disks::{
+    broken_newest_run, deleted_in_the_newest_run, judged_locators, nine_locators,
+    put_abc_and_its_run, run_named_twice,
+};
+use scrub_check::{Named, Owner, named_locators, read_runs};
+use scrub_disk::MemDisk;
+use scrub_fakes::{SHARD, abc_at, mark_bad, plan_of, small_disk};
+use scrub_frame::Locator;
 use scrub_merge::{ShardMap, merge};
+use scrub_scan::scan_in_order;
+use std::alloc::Global;
+use std::process::Abort;
+use std::test::Fail;
 
 /// The shard map of a disk, and the locators that it names. The runs that were read are few enough to be merged: their type
 /// says so.

@@ -1,6 +1,6 @@
 -- One more word, which names a page.
 use Rattle.scrub_cli.proofs.NamedPages.{named_more}
-use Rattle.scrub_cli.proofs.items.bad_pages.Goals as goal
+use Rattle.scrub_cli.proofs.disk_image.bad_pages.Goals as goal
 
 pub loop-word-preserved : goal.loop-word-preserved
 loop-word-preserved c =

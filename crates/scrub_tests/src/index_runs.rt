@@ -1,7 +1,24 @@
 //! Which index runs of a disk are read, and what becomes of the others.
 
-use super::*;
+use crate::compare::same;
+use crate::disks::{
+    broken_newest_run, deleted_in_the_newest_run, put_abc_and_its_run, put_run, run_named_twice,
+};
+use crate::told::judge;
+use scrub_check::{ReadRuns, RunState, Status, read_runs};
+use scrub_disk::MemDisk;
+use scrub_fakes::{
+    ENDS_IN_MAGIC, ONES, SHARD, TWOS, abc_at, mark_bad, plan_of, put_frame, put_superblock,
+    small_disk,
+};
+use scrub_frame::Locator;
 use scrub_run::Run;
+use scrub_scan::scan_in_order;
+use std::alloc::Global;
+use std::process::Abort;
+use std::slice;
+use std::test::Fail;
+use uuid::Uuid;
 
 /// What became of the runs of a disk.
 fn read(alloc: Global, disk: &MemDisk) -> Result<ReadRuns, Fail> {

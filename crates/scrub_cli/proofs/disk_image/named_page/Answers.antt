@@ -1,7 +1,7 @@
 -- A word is one pair at most, and that pair may lie outside the disk.
 use Rattle.std.proofs.Common.{arith}
-use Rattle.scrub_cli.proofs.items.named_page.Goals.{else-extent-geometry-via-then-extent-geometry+else-page-geometry, else-extent-geometry-via-else-extent-geometry}
-use Rattle.scrub_cli.proofs.items.named_page.Goals as goal
+use Rattle.scrub_cli.proofs.disk_image.named_page.Goals.{else-extent-geometry-via-then-extent-geometry+else-page-geometry, else-extent-geometry-via-else-extent-geometry}
+use Rattle.scrub_cli.proofs.disk_image.named_page.Goals as goal
 
 -- no pair, and so no page
 pub returns-in_err-extent : goal.returns-in_err-extent

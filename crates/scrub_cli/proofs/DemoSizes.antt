@@ -1,0 +1,44 @@
+-- How many bytes the parts of the demo's disk have.
+use Rattle.std.proofs.Common.{◌≡◌, ℕ, List, [], ◌∷◌, ◌++◌, length, arith, refl, ap, length-append}
+use Rattle.std.specs.List.{flat_map}
+use Rattle.std.proofs.lemmas.List.Elements.{All-head}
+use Rattle.byteorder.specs.Endian.{big_bytes}
+use Rattle.sha2.specs.Sha256.{sha256}
+use Rattle.sha2.proofs.Facts256.{length-sha256}
+use Rattle.scrub_disk.specs.declared.geometry.Geometry.{Geometry}
+use Rattle.scrub_frame.specs.Locator.{locator_bytes}
+use Rattle.scrub_frame.proofs.Locators.{length-locators}
+use Rattle.scrub_frame.proofs.Parts.{length-flat_map_of}
+use Rattle.scrub_run.specs.Entry.{EntryValue, entry_bytes, IsEntry}
+use Rattle.scrub_run.specs.Run.{run_body, IsRun}
+use Rattle.scrub_super.specs.Contents.{Contents}
+use Rattle.scrub_super.specs.Record.{record_body, record_bytes, AreContents}
+
+-- a run of one shard with one chunk
+pub run_size : (e : EntryValue) (payload : List ℕ) → length e.locators ≡ 1 → IsRun payload (e ∷ []) → length payload ≡ 117
+run_size e payload one is =
+    omega (arith, ap length is.spelled, length-append (run_body (e ∷ [])) (sha256 (run_body (e ∷ []))), length-sha256 (run_body (e ∷ [])), body)
+  where
+    entry : IsEntry e
+    entry = All-head IsEntry e [] is.entries_of_run.each
+
+    spelled : length (flat_map entry_bytes (e ∷ [])) ≡ 77
+    spelled = omega (arith, length-append (entry_bytes e) [], length-append e.id.0 (length e.locators ∷ flat_map locator_bytes e.locators), length-locators e.locators entry.each, entry.sixteen, one)
+
+    body : length (run_body (e ∷ [])) ≡ 85
+    body = omega (arith, spelled)
+
+-- a record of two pointers and one run
+pub record_size : (g : Geometry) (c : Contents) (bytes before : List ℕ) → bytes ≡ before ++ record_bytes g c → before ≡ [] →
+    length c.pointers ≡ 2 → length c.runs ≡ 1 → AreContents g c → length bytes ≡ 126
+record_size g c bytes before written none two one is =
+    omega (arith, ap length written, length-append before (record_bytes g c), ap length none, length-append (record_body g c) (sha256 (record_body g c)), length-sha256 (record_body g c), body)
+  where
+    pointers : length (flat_map (big_bytes 4) c.pointers) ≡ 8
+    pointers = omega (arith, length-flat_map_of (big_bytes 4) 4 c.pointers (λ k d hk. refl), two)
+
+    runs : length (flat_map locator_bytes c.runs) ≡ 60
+    runs = omega (arith, length-locators c.runs is.runs.each, one)
+
+    body : length (record_body g c) ≡ 94
+    body = omega (arith, length-append (flat_map (big_bytes 4) c.pointers) (flat_map locator_bytes c.runs), pointers, runs)

@@ -1,0 +1,49 @@
+-- What the words on an image file come to: the pages that they name, the image that is loaded, and why none is.
+use Rattle.std.specs.Prelude.{◌≡◌, ◌<◌, ℕ, List, length, take, slice_index_or, IfSome}
+use Rattle.std.specs.Borrow.{Bor}
+use Rattle.std.specs.List.{AllZip}
+use Rattle.scrub_disk.specs.declared.geometry.Geometry.{Geometry as Sizes}
+use Rattle.scrub_disk.specs.Image.{Image, disk_bytes}
+use Rattle.scrub_disk.specs.Raw.{IsLoadedWith}
+use Rattle.scrub_cli.specs.declared.fault.Fault.{Fault}
+use Rattle.scrub_cli.specs.declared.fault.Fault.TheVariants.{BadPage, NoImage, TooLong, OutOfMemory}
+use Rattle.scrub_cli.specs.declared.words.ImageWords.{ImageWords}
+use Rattle.scrub_cli.specs.Known.{KnownRaw}
+use Rattle.scrub_cli.specs.Pair.{IsPair}
+
+-- the word is a pair of an extent of a disk of these sizes and a page of that extent
+pub record NamesPage (g : Sizes) (word : List ℕ) (at : ℕ × ℕ) : Type 0 where
+  pub pair : IsPair word at.0 at.1
+  pub in_extents : at.0 < g.extents
+  pub in_pages : at.1 < g.pages
+
+-- the words name these pages, in order
+abbrev pub NamePages : Sizes → List (Bor (List ℕ)) → List (ℕ × ℕ) → Type 0
+NamePages g words pages = AllZip (λ word at. NamesPage g word.now at) words pages
+
+-- the first of the words that names no page
+pub record IsFirstBadPage (g : Sizes) (words : List (Bor (List ℕ))) (word : Bor (List ℕ)) : Type 0 where
+  pub place : ℕ
+  pub within : place < length words
+  pub stands : word ≡ slice_index_or words place word
+  pub pages : List (ℕ × ℕ)
+  pub before : NamePages g (take place words) pages
+  pub names_none : (at : ℕ × ℕ) → ¬ NamesPage g word.now at
+
+-- why words name no pages
+abbrev pub IsBadPageFault : Sizes → List (Bor (List ℕ)) → Fault → Type 0
+IsBadPageFault g words (BadPage word) = IsFirstBadPage g words word
+IsBadPageFault g words OutOfMemory = Unit {0}
+IsBadPageFault g words fault = ⊥
+
+-- an image of these sizes that was loaded from this raw image, with the pages unreadable that the words name
+pub record IsLoadedDisk (known : KnownRaw) (words : ImageWords) (g : Sizes) (image : Image) : Type 0 where
+  pub unreadable : List (ℕ × ℕ)
+  pub named : NamePages g words.bad_pages.items unreadable
+  pub loaded : IsLoadedWith known.bytes known.most_failures g unreadable image
+
+-- Why no disk of these sizes is loaded: each fault comes only where none before it does, and want of memory comes anywhere.
+abbrev pub IsDiskFault : KnownRaw → ImageWords → Sizes → Fault → Type 0
+IsDiskFault known words g (NoImage name) = (pages : List (ℕ × ℕ)) × NamePages g words.bad_pages.items pages × (name ≡ words.name)
+IsDiskFault known words g TooLong = (pages : List (ℕ × ℕ)) × NamePages g words.bad_pages.items pages × IfSome known.bytes (λ told. disk_bytes g < length told)
+IsDiskFault known words g fault = IsBadPageFault g words.bad_pages.items fault

@@ -1,0 +1,258 @@
+//! Whole runs of `scan`, `index` and the demo: the published reports byte for byte, the index beside them, and what is told
+//! where a page is lost, the output fails or the words are wrong.
+
+use super::{check, image};
+use crate::running::run;
+use scrub_disk::{MemDisk, PageSource};
+use scrub_fakes::{
+    ENDS_IN_MAGIC, NarrowWriter, ONES, SHARD, TWOS, abc_at, put_chunk, put_frame, put_superblock,
+    run_of, shard_of, small_disk,
+};
+use scrub_frame::{digest_of, write_locator};
+use std::alloc::Global;
+use std::process::Abort;
+use std::slice;
+use std::test::Fail;
+
+/// The report of the disk with one shard.
+const ONE_SHARD: &str = concat!(
+    r#"{"broken":[],"candidates":[],"clean":true,"dangling":[],"doubtful":[],"extents":[{"bad":[],"extent":1,"#,
+    r#""items":["chunk 0 41 11111111-1111-1111-1111-111111111111 3"],"live":41,"pointer":41,"tail":0,"tail_at":null},"#,
+    r#"{"bad":[],"extent":2,"#,
+    r#""items":["chunk 0 155 22222222-2222-2222-2222-222222222222 117"],"live":155,"pointer":155,"tail":0,"#,
+    r#""tail_at":null}],"#,
+    r#""geometry":{"extents":3,"page":64,"pages":4},"hidden":[],"orphans":[],"retired":[],"#,
+    r#""runs":[{"entries":1,"extent":2,"offset":0,"state":"read"}],"shards":1,"shared":[],"#,
+    r#""super":{"bad":[],"generation":1,"page":0,"records":1,"tie":false},"twins":[]}"#,
+    "\n"
+);
+
+/// The report of a disk of zeros.
+const ZEROS: &str = concat!(
+    r#"{"broken":[],"candidates":[],"clean":false,"dangling":[],"doubtful":[],"extents":[{"bad":[],"extent":1,"#,
+    r#""items":["pad 0 64","pad 64 128","pad 128 192","pad 192 256"],"live":0,"pointer":256,"tail":0,"tail_at":null},"#,
+    r#"{"bad":[],"extent":2,"#,
+    r#""items":["pad 0 64","pad 64 128","pad 128 192","pad 192 256"],"live":0,"pointer":256,"tail":0,"#,
+    r#""tail_at":null}],"#,
+    r#""geometry":{"extents":3,"page":64,"pages":4},"hidden":[],"orphans":[],"retired":[],"runs":[],"shards":0,"#,
+    r#""shared":[],"super":{"bad":[],"generation":null,"page":null,"records":0,"tie":false},"twins":[]}"#,
+    "\n"
+);
+
+/// The report of the disk with a chunk whose last two bytes are the magic of the next one.
+const COLLISION: &str = concat!(
+    r#"{"broken":[],"candidates":[],"clean":false,"dangling":[],"doubtful":[],"extents":[{"bad":[],"extent":1,"#,
+    r#""items":["chunk 0 66 33333333-3333-3333-3333-33333333c55e 28","noise 66 105"],"live":0,"pointer":105,"#,
+    r#""tail":0,"tail_at":null},"#,
+    r#"{"bad":[],"extent":2,"#,
+    r#""items":["chunk 0 155 22222222-2222-2222-2222-222222222222 117"],"live":155,"pointer":155,"tail":0,"#,
+    r#""tail_at":null}],"#,
+    r#""geometry":{"extents":3,"page":64,"pages":4},"#,
+    r#""hidden":[{"extent":1,"length":3,"offset":64,"owner":"shard 00000000000000000000000000000001","#,
+    r#""uuid":"11111111-1111-1111-1111-111111111111"}],"#,
+    r#""orphans":[{"extent":1,"length":28,"offset":0,"uuid":"33333333-3333-3333-3333-33333333c55e"}],"#,
+    r#""retired":[],"runs":[{"entries":1,"extent":2,"offset":0,"state":"read"}],"shards":1,"shared":[],"#,
+    r#""super":{"bad":[],"generation":1,"page":0,"records":1,"tie":false},"twins":[]}"#,
+    "\n"
+);
+
+/// The report of the disk with twins and a shared place.
+const TWINS: &str = concat!(
+    r#"{"broken":[],"candidates":[{"extent":1,"free":41,"keep":[41]}],"clean":false,"dangling":[],"doubtful":[],"#,
+    r#""extents":[{"bad":[],"extent":1,"#,
+    r#""items":["chunk 0 41 11111111-1111-1111-1111-111111111111 3","#,
+    r#""chunk 41 82 11111111-1111-1111-1111-111111111111 3"],"live":41,"pointer":82,"tail":0,"tail_at":null},"#,
+    r#"{"bad":[],"extent":2,"#,
+    r#""items":["chunk 0 232 22222222-2222-2222-2222-222222222222 194"],"live":232,"pointer":232,"tail":0,"#,
+    r#""tail_at":null}],"#,
+    r#""geometry":{"extents":3,"page":64,"pages":4},"hidden":[],"#,
+    r#""orphans":[{"extent":1,"length":3,"offset":0,"uuid":"11111111-1111-1111-1111-111111111111"}],"#,
+    r#""retired":[],"runs":[{"entries":2,"extent":2,"offset":0,"state":"read"}],"shards":2,"#,
+    r#""shared":[{"count":2,"extent":1,"offset":41}],"#,
+    r#""super":{"bad":[],"generation":1,"page":0,"records":1,"tie":false},"#,
+    r#""twins":[{"extent":1,"length":3,"offset":0,"uuid":"11111111-1111-1111-1111-111111111111"},"#,
+    r#"{"extent":1,"length":3,"offset":41,"uuid":"11111111-1111-1111-1111-111111111111"}]}"#,
+    "\n"
+);
+
+/// The words of a command on a disk with three extents of four pages of 64 bytes.
+const SCAN: &str = "scan --page 64 --pages 4 --extents 3 disk.img";
+
+const INDEX: &str = "index --page 64 --pages 4 --extents 3 disk.img";
+
+/// The bytes of a disk of pages of 64 bytes, extent by extent.
+fn raw_bytes(alloc: Global, disk: &MemDisk) -> Result<Vec<u8>, Fail> {
+    let geometry = disk.geometry();
+    let mut raw = Vec::new(alloc);
+    for extent in 0..geometry.extents() {
+        for page in 0..geometry.pages() {
+            let mut bytes = Vec::from_elem(alloc, 0, geometry.page() as usize)?;
+            disk.read_page(extent, page, &mut bytes)?;
+            raw.extend_from_slice(&bytes)?;
+        }
+    }
+    Ok(raw)
+}
+
+/// The bytes of a disk of three extents with these frames in extent 1, the payload of a run in a chunk at the start of
+/// extent 2, and the superblock of both.
+fn disk_with_run(
+    alloc: Global,
+    frames: &[(u32, [u8; 16], &[u8])],
+    payload: &[u8],
+    pointers: [u32; 2],
+) -> Result<Vec<u8>, Fail> {
+    let mut disk = small_disk(alloc)?;
+    for (offset, uuid, payload) in frames {
+        put_frame(alloc, &mut disk, 1, *offset, *uuid, payload)?;
+    }
+    let run = put_chunk(alloc, &mut disk, 2, 0, TWOS, payload)?;
+    put_superblock(alloc, &mut disk, &pointers, slice::from_ref(&run))?;
+    raw_bytes(alloc, &disk)
+}
+
+/// The disk with one shard, and the payload of its run.
+fn one_shard(alloc: Global) -> Result<(Vec<u8>, Vec<u8>), Fail> {
+    let payload = run_of(alloc, SHARD, &[abc_at(1, 0)])?;
+    let disk = disk_with_run(alloc, &[(0, ONES, b"abc")], &payload, [41, 155])?;
+    Ok((disk, payload))
+}
+
+/// The payload of the run of two shards that both name the chunk at 41 of extent 1.
+fn run_of_two(alloc: Global) -> Result<Vec<u8>, Fail> {
+    let mut run = Vec::from_slice(alloc, b"RUN1")?;
+    run.extend_from_slice(&[0, 0, 0, 2])?;
+    for id in [SHARD, shard_of(2)] {
+        run.extend_from_slice(&id.0)?;
+        run.push(1)?;
+        run.extend_from_slice(&write_locator(&abc_at(1, 41)))?;
+    }
+    let digest = digest_of(&run);
+    run.extend_from_slice(&digest)?;
+    Ok(run)
+}
+
+/// Runs the command `index` on a disk, and compares the bytes and the status.
+fn check_index(
+    rt: &impl Abort,
+    alloc: Global,
+    disk: &[u8],
+    wanted: (u8, &[u8]),
+) -> Result<(), Fail> {
+    let words: Vec<&str> = INDEX.split_whitespace().collect(alloc)?;
+    let (mut out, mut err) = (Vec::new(alloc), Vec::new(alloc));
+    let status = run(rt, alloc, &words, &mut image(disk), &mut out, &mut err);
+    let (wanted_status, index) = wanted;
+    assert!(rt; status == wanted_status && err.is_empty());
+    assert!(rt; out.as_slice() == index);
+    Ok(())
+}
+
+#[test]
+fn the_demo_is_the_report_of_a_disk_with_one_shard(rt: HostRuntime) -> Result<(), Fail> {
+    for words in ["", "demo"] {
+        check(&rt, rt.alloc(), words, image(&[]), (0, ONE_SHARD, ""))?;
+    }
+    Ok(())
+}
+
+#[test]
+fn a_disk_with_one_shard_is_clean(rt: HostRuntime) -> Result<(), Fail> {
+    let (disk, payload) = one_shard(rt.alloc())?;
+    check(&rt, rt.alloc(), SCAN, image(&disk), (0, ONE_SHARD, ""))?;
+    assert!(rt; payload.len() == 117);
+    check_index(&rt, rt.alloc(), &disk, (0, &payload))
+}
+
+#[test]
+fn a_disk_of_zeros_has_findings(rt: HostRuntime) -> Result<(), Fail> {
+    check(&rt, rt.alloc(), SCAN, image(&[0; 768]), (1, ZEROS, ""))?;
+    let index = [
+        0x52, 0x55, 0x4E, 0x31, 0x00, 0x00, 0x00, 0x00, 0x9A, 0x61, 0x1D, 0x9F, 0xB7, 0x17, 0x61,
+        0xFB, 0x2E, 0x22, 0x99, 0xE2, 0xF7, 0xE3, 0x46, 0xC4, 0xEA, 0x61, 0xD8, 0xE2, 0x52, 0x97,
+        0x40, 0x4A, 0xEB, 0x68, 0xD5, 0x4D, 0x2E, 0xEF, 0xB7, 0x96,
+    ];
+    check_index(&rt, rt.alloc(), &[0; 768], (1, &index))
+}
+
+/// The index keeps the shard whose chunk is hidden.
+#[test]
+fn a_chunk_that_was_stepped_past_is_hidden(rt: HostRuntime) -> Result<(), Fail> {
+    let payload = run_of(rt.alloc(), SHARD, &[abc_at(1, 64)])?;
+    let frames = [
+        (0, ENDS_IN_MAGIC, [0x78; 28].as_slice()),
+        (64, ONES, b"abc"),
+    ];
+    let disk = disk_with_run(rt.alloc(), &frames, &payload, [105, 155])?;
+    check(&rt, rt.alloc(), SCAN, image(&disk), (1, COLLISION, ""))?;
+    check_index(&rt, rt.alloc(), &disk, (1, &payload))
+}
+
+#[test]
+fn twins_and_a_shared_place_are_told(rt: HostRuntime) -> Result<(), Fail> {
+    let payload = run_of_two(rt.alloc())?;
+    let frames = [(0, ONES, b"abc".as_slice()), (41, ONES, b"abc")];
+    let disk = disk_with_run(rt.alloc(), &frames, &payload, [82, 232])?;
+    check(&rt, rt.alloc(), SCAN, image(&disk), (1, TWINS, ""))?;
+    check_index(&rt, rt.alloc(), &disk, (1, &payload))
+}
+
+/// The output takes so many bytes of the report of the demo, and fails or takes none.
+fn check_narrow(rt: &impl Abort, alloc: Global, room: usize, fails: bool) -> Result<(), Fail> {
+    let mut out = NarrowWriter::new(alloc, room, fails);
+    let mut err = Vec::new(alloc);
+    let status = run(rt, alloc, &["demo"], &mut image(&[]), &mut out, &mut err);
+    let told = format!(in alloc; "shardscrub: output failed after {room} bytes\n")?;
+    assert!(rt; status == 3 && err.as_slice() == told.as_bytes());
+    assert!(rt; room <= ONE_SHARD.len() && out.taken.as_slice() == &ONE_SHARD.as_bytes()[..room]);
+    Ok(())
+}
+
+#[test]
+fn an_output_that_fails_is_told_with_the_bytes_that_it_took(rt: HostRuntime) -> Result<(), Fail> {
+    for room in 0..ONE_SHARD.len() {
+        check_narrow(&rt, rt.alloc(), room, true)?;
+        check_narrow(&rt, rt.alloc(), room, false)?;
+    }
+    Ok(())
+}
+
+#[test]
+fn an_output_with_room_for_the_last_byte_is_whole(rt: HostRuntime) -> Result<(), Fail> {
+    let mut out = NarrowWriter::new(rt.alloc(), ONE_SHARD.len(), true);
+    let mut err = Vec::new(rt.alloc());
+    let status = run(&rt, rt.alloc(), &[], &mut image(&[]), &mut out, &mut err);
+    assert!(rt; status == 0 && err.is_empty());
+    assert!(rt; out.taken.as_slice() == ONE_SHARD.as_bytes());
+    Ok(())
+}
+
+/// Each line of words has all the faults that the lines below it have.
+#[test]
+fn of_several_faults_the_first_is_told(rt: HostRuntime) -> Result<(), Fail> {
+    for (words, status, told) in [
+        (
+            "scan --page 60 --pages 4 --extents 3 other.img 1:x 3:0",
+            2,
+            "shardscrub: geometry refused: PageSize\n",
+        ),
+        (
+            "index --page 64 --pages 4 --extents 3 other.img 1:0 3:0",
+            2,
+            "shardscrub: bad page refused: 3:0\n",
+        ),
+        (
+            "scan --page 64 --pages 4 --extents 3 other.img 1:0",
+            3,
+            "shardscrub: image cannot be opened: other.img\n",
+        ),
+        (
+            "index --page 64 --pages 4 --extents 3 disk.img 1:0",
+            3,
+            "shardscrub: image too long\n",
+        ),
+    ] {
+        check(&rt, rt.alloc(), words, image(&[0; 769]), (status, "", told))?;
+    }
+    Ok(())
+}

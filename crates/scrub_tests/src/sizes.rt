@@ -1,0 +1,210 @@
+//! Sizes that no example has. No clause refuses a body that answers want of memory where a list is long, so each call
+//! that makes a list is called with a long one here. No clock is read.
+
+ghost use Rattle.std.specs.Prelude.{◌<◌, All, IsTrue};
+
+use crate::compare::same;
+use crate::disks::{payload_of, put_abc_and_its_run};
+use crate::told::{scrubbed, told_of};
+use scrub_check::{
+    Checked, Owner, SharedPlace, Status, broken_shards, dangling, hidden, named_locators, shared,
+    twins,
+};
+use scrub_disk::{Geometry, MemDisk, PageSource, load};
+use scrub_fakes::{
+    ONES, RawBytes, TWOS, abc_at, plan_of, put_chunk, put_frame, put_superblock, small_disk,
+};
+use scrub_merge::merge;
+use scrub_run::{Entry, ShardId, read_run};
+use scrub_scan::{scan_in_order, tile};
+use std::alloc::Global;
+use std::slice;
+use std::test::Fail;
+
+/// The identifier of twelve zero bytes and a number.
+fn shard(number: u32) -> ShardId {
+    let mut bytes = [0; 16];
+    bytes[12..].copy_from_slice(&number.to_be_bytes());
+    ShardId(bytes)
+}
+
+/// The entry of a shard of 64 chunks of `abc`, which stand in extent 1 one behind another.
+fn entry_of_64(alloc: Global, number: u32) -> Result<Entry, Fail> {
+    let mut locators = Vec::with_capacity(alloc, 64)?;
+    for i in 0..64 {
+        let chunk = number.saturating_mul(64).saturating_add(i);
+        locators.push(abc_at(1, chunk.saturating_mul(41)))?;
+    }
+    Ok(Entry::new(shard(number), locators))
+}
+
+/// The payload of a run of so many shards, each of 64 chunks.
+fn run_of_shards(alloc: Global, shards: u32) -> Result<Vec<u8>, Fail> {
+    let mut entries = Vec::new(alloc);
+    for number in 0..shards {
+        entries.push(entry_of_64(alloc, number)?)?;
+    }
+    payload_of(alloc, &entries)
+}
+
+/// A disk of three extents with so many chunks of `abc` under one UUID in extent 1, and in extent 2 the run of so many
+/// shards, which name the first of the chunks, 64 each.
+fn filled(alloc: Global, geometry: Geometry, chunks: u32, shards: u32) -> Result<MemDisk, Fail> {
+    let mut disk = MemDisk::blank(alloc, geometry)?;
+    for number in 0..chunks {
+        put_frame(alloc, &mut disk, 1, number.saturating_mul(41), ONES, b"abc")?;
+    }
+    let payload = run_of_shards(alloc, shards)?;
+    let run = put_chunk(alloc, &mut disk, 2, 0, TWOS, &payload)?;
+    let pointers = [chunks.saturating_mul(41), run.length.saturating_add(38)];
+    put_superblock(alloc, &mut disk, &pointers, slice::from_ref(&run))?;
+    Ok(disk)
+}
+
+#[test]
+fn two_hundred_thousand_named_twins_are_scrubbed(rt: HostRuntime) -> Result<(), Fail> {
+    let geometry = Geometry::new(256, 65_536, 3)?;
+    let disk = filled(rt.alloc(), geometry, 200_000, 3_125)?;
+    let answer = scrubbed(&rt, rt.alloc(), &disk)?;
+    assert!(rt; answer.is_clean());
+    assert!(rt; answer.index().len() == 40 + 3_125 * 17 + 200_000 * 60);
+    let report = str::from_utf8(answer.report())?;
+    assert!(rt; report.contains(r#""shards":3125,"#));
+    assert!(rt; report.contains(r#""live":8200000,"pointer":8200000,"#));
+    assert!(rt; report.contains(r#""orphans":[]"#));
+    let told = report.matches(r#"{"extent":1,"length":3,"offset":"#);
+    assert!(rt; told.count() == 200_000, "each chunk is a twin");
+    Ok(())
+}
+
+#[test]
+fn of_many_chunks_half_are_garbage(rt: HostRuntime) -> Result<(), Fail> {
+    let geometry = Geometry::new(64, 16_384, 3)?;
+    let disk = filled(rt.alloc(), geometry, 25_000, 195)?;
+    let plan = plan_of(rt.alloc(), &disk)?;
+    let all = scan_in_order(rt.alloc(), &disk, &plan)?;
+    let told = told_of(&rt, rt.alloc(), &disk)?;
+    assert!(rt; told.checked.len() == 12_481);
+    assert!(rt; told.orphans.len() == 12_520);
+    assert!(rt; told.candidates.len() == 1);
+    assert!(rt; told.candidates[0].keep().len() == 12_480);
+    let twins = twins(rt.alloc(), &all)?;
+    assert!(rt; twins.len() == 25_000);
+    Ok(())
+}
+
+#[test]
+fn many_extents_may_be_reclaimed(rt: HostRuntime) -> Result<(), Fail> {
+    let mut disk = MemDisk::blank(rt.alloc(), Geometry::new(64, 128, 2_001)?)?;
+    let pointers = [64; 2_000];
+    put_superblock(rt.alloc(), &mut disk, &pointers, &[])?;
+    let told = told_of(&rt, rt.alloc(), &disk)?;
+    assert!(rt; told.live.len() == 2_000);
+    assert!(rt; told.candidates.len() == 2_000);
+    same(&rt, told.candidates[1_999].extent(), 2_000);
+    Ok(())
+}
+
+/// Many locators of this status, each of its own shard; two after another point to one place.
+fn many_checked(alloc: Global, status: Status) -> Result<Vec<Checked>, Fail> {
+    let mut checked = Vec::new(alloc);
+    for number in 0..200_000 {
+        checked.push(Checked {
+            owner: Owner::Shard(shard(number)),
+            locator: abc_at(1, number / 2),
+            status,
+        })?;
+    }
+    Ok(checked)
+}
+
+#[test]
+fn each_of_many_locators_is_told(rt: HostRuntime) -> Result<(), Fail> {
+    let lost = many_checked(rt.alloc(), Status::NoFrame)?;
+    assert!(rt; dangling(rt.alloc(), &lost)?.len() == 200_000);
+    assert!(rt; broken_shards(rt.alloc(), &lost)?.len() == 200_000);
+    let passed = many_checked(rt.alloc(), Status::Hidden)?;
+    assert!(rt; hidden(rt.alloc(), &passed)?.len() == 200_000);
+    let sound = many_checked(rt.alloc(), Status::Sound)?;
+    let shared = shared(rt.alloc(), &sound)?;
+    assert!(rt; shared.len() == 100_000);
+    let last = SharedPlace {
+        extent: 1,
+        offset: 99_999,
+        count: 2,
+    };
+    same(&rt, shared[99_999], last);
+    Ok(())
+}
+
+/// The payload of the run of many shards, each of one chunk.
+fn many_shards(alloc: Global) -> Result<Vec<u8>, Fail> {
+    let mut entries = Vec::new(alloc);
+    for number in 0..40_000 {
+        let locators = Vec::from_slice(alloc, &[abc_at(1, 0)])?;
+        entries.push(Entry::new(shard(number), locators))?;
+    }
+    payload_of(alloc, &entries)
+}
+
+#[test]
+fn many_shards_are_bound_and_named(rt: HostRuntime) -> Result<(), Fail> {
+    let payload = many_shards(rt.alloc())?;
+    let newer = read_run(rt.alloc(), &payload)?;
+    let older = read_run(rt.alloc(), &payload)?;
+    let runs = [Some(newer), None, Some(older)];
+    let map = merge(rt.alloc(), &runs)?;
+    assert!(rt; map.bindings().len() == 40_000);
+    let plan = plan_of(rt.alloc(), &small_disk(rt.alloc())?)?;
+    let named = named_locators(rt.alloc(), &plan, &map)?;
+    assert!(rt; named.len() == 40_000);
+    Ok(())
+}
+
+#[test]
+fn each_page_of_a_blank_extent_is_an_item(rt: HostRuntime) -> Result<(), Fail> {
+    let disk = MemDisk::blank(rt.alloc(), Geometry::new(64, 65_536, 2)?)?;
+    let geometry = disk.geometry();
+    assert!(rt; geometry.extents() == 2 && geometry.page() == 64 && geometry.pages() == 65_536);
+    let items = tile(rt.alloc(), &disk, 1, 4_194_304)?;
+    assert!(rt; items.as_slice().len() == 65_536);
+    Ok(())
+}
+
+/// Whether these are pages of a disk of these sizes.
+fn are_pages(geometry: Geometry, pages: &[(u32, u32)]) -> bool
+    ensures { IsTrue result → All (λ at. (at.0 < geometry.extents) × (at.1 < geometry.pages)) pages.now }
+{
+    pages
+        .iter()
+        .all(|at| at.0 < geometry.extents() && at.1 < geometry.pages())
+}
+
+#[test]
+fn many_named_pages_are_unreadable(rt: HostRuntime) -> Result<(), Fail> {
+    let geometry = Geometry::new(64, 4_096, 2)?;
+    let mut bad = Vec::new(rt.alloc());
+    for number in 0..100_000 {
+        bad.push((1, number % 4_096))?;
+    }
+    assert!(rt; are_pages(geometry, &bad));
+    let bytes = vec![in rt.alloc(); 0u8; 524_288]?;
+    let mut raw = RawBytes::new(&bytes);
+    let disk = load(rt.alloc(), &mut raw, geometry, &bad)?;
+    let plan = plan_of(rt.alloc(), &disk)?;
+    let all = scan_in_order(rt.alloc(), &disk, &plan)?;
+    let pages = all.of_extent(1).map(|findings| findings.bad_pages().len());
+    same(&rt, pages, Some(4_096));
+    Ok(())
+}
+
+#[test]
+fn as_many_runs_are_read_as_a_superblock_names(rt: HostRuntime) -> Result<(), Fail> {
+    let mut disk = MemDisk::blank(rt.alloc(), Geometry::new(1_024, 2, 3)?)?;
+    let run = put_abc_and_its_run(rt.alloc(), &mut disk)?;
+    put_superblock(rt.alloc(), &mut disk, &[41, 155], &[run; 32])?;
+    let answer = scrubbed(&rt, rt.alloc(), &disk)?;
+    let report = str::from_utf8(answer.report())?;
+    assert!(rt; report.contains(r#""shared":[{"count":32,"extent":2,"offset":0}]"#));
+    Ok(())
+}

@@ -1,0 +1,63 @@
+//! What the calls of the checks tell of a disk.
+
+use scrub_check::{
+    Candidate, Checked, Place, Status, all_live_bytes, candidates, check_all, named_locators,
+    orphans, read_runs, status_of,
+};
+use scrub_disk::MemDisk;
+use scrub_fakes::plan_of;
+use scrub_frame::Locator;
+use scrub_merge::merge;
+use scrub_report::{ScrubAnswer, ScrubFault, scrub_in_order};
+use scrub_scan::scan_in_order;
+use std::alloc::Global;
+use std::test::Fail;
+
+/// What a locator is worth on a disk.
+pub(crate) fn judge(alloc: Global, disk: &MemDisk, locator: &Locator) -> Result<Status, Fail> {
+    let plan = plan_of(alloc, disk)?;
+    let all = scan_in_order(alloc, disk, &plan)?;
+    Ok(status_of(alloc, disk, &plan, &all, locator)?)
+}
+
+/// What the scrub of a disk by one reader answers.
+pub(crate) fn scrubbed<R>(rt: &R, alloc: Global, disk: &MemDisk) -> Result<ScrubAnswer, Fail> {
+    match scrub_in_order(rt, alloc, disk) {
+        Ok(answer) => Ok(answer),
+        Err(ScrubFault::OutOfMemory) => Err(Fail::from("out of memory")),
+    }
+}
+
+/// What is told of the locators that a disk names, and of its chunks.
+#[derive(Drop)]
+pub(crate) struct Told {
+    pub(crate) checked: Vec<Checked>,
+    pub(crate) live: Vec<u32>,
+    pub(crate) orphans: Vec<Place>,
+    pub(crate) candidates: Vec<Candidate>,
+    pub(crate) candidates_in_doubt: Vec<Candidate>,
+}
+
+/// The locators that a disk names, with what they are worth.
+pub(crate) fn checked_of<R>(rt: &R, alloc: Global, disk: &MemDisk) -> Result<Vec<Checked>, Fail> {
+    let plan = plan_of(alloc, disk)?;
+    let all = scan_in_order(alloc, disk, &plan)?;
+    let read = read_runs(alloc, disk, &plan, &all)?;
+    let map = merge(alloc, read.runs())?;
+    let named = named_locators(alloc, &plan, &map)?;
+    Ok(check_all(rt, alloc, disk, &plan, &all, &named)?)
+}
+
+/// All that is told of a disk.
+pub(crate) fn told_of<R>(rt: &R, alloc: Global, disk: &MemDisk) -> Result<Told, Fail> {
+    let plan = plan_of(alloc, disk)?;
+    let all = scan_in_order(alloc, disk, &plan)?;
+    let checked = checked_of(rt, alloc, disk)?;
+    Ok(Told {
+        live: all_live_bytes(alloc, &all, &checked)?,
+        orphans: orphans(alloc, &all, &checked)?,
+        candidates: candidates(alloc, &plan, &all, &checked, false)?,
+        candidates_in_doubt: candidates(alloc, &plan, &all, &checked, true)?,
+        checked,
+    })
+}
