@@ -1,9 +1,9 @@
 -- What is kept of an extent in a list whose extents rise.
-use Rattle.std.proofs.Common.{◌≡◌, ◌<◌, ◌==◌, ℕ, List, [], ◌∷◌, Bool, true, false, length, get_or, map, cond, arith, refl, sym, ◌∙◌, ap, subst, Some, None, Option, option_map, zero, suc}
+use Rattle.std.proofs.Common.{◌≡◌, ◌<◌, ◌==◌, ℕ, List, [], ◌∷◌, Bool, true, false, length, get_or, map, cond, arith, refl, sym, ◌∙◌, ap, subst, Some, None, Option, option_map, zero, suc, slice_get}
 use Rattle.std.specs.List.{find, Contains, AllPairs}
 use Rattle.std.specs.List.Sorted.{IsStrictlyIncreasing}
 use Rattle.std.proofs.lemmas.Bool.Decides.{nat_tests}
-use Rattle.std.proofs.lemmas.Option.{none-some}
+use Rattle.std.proofs.lemmas.Option.{none-some, slice_get_within, get_or_from_slice_get}
 use Rattle.std.proofs.lemmas.List.{get_or-map, length-map}
 use Rattle.std.proofs.lemmas.List.Elements.{All-contains}
 use Rattle.std.proofs.lemmas.List.Kept.{AllPairs-from_increasing}
@@ -34,13 +34,11 @@ module _ {X : Type 0} (number : X → ℕ) where
       ∙ find_paired xs (λ j k e lt within. pairs (suc j) (suc k) e (omega arith) (omega arith)) i d (omega arith)
 
 -- what is kept of the i-th extent is found by its number
-pub entry_at : {X : Type 0} (view : X → Scanned) (xs : List X) → IsStrictlyIncreasing (extent_numbers (map view xs)) → (i : ℕ) (x : X) (e : ℕ) →
-    i < length xs → get_or xs i x ≡ x → (view x).extent ≡ e → entry_of (map view xs) e ≡ Some (view x)
-entry_at view xs rising i x e below is number =
-    let there : get_or (map view xs) i (view x) ≡ view x = get_or-map view xs i x (view x) below ∙ ap view is in
-    let found : find (λ f. f.extent == (get_or (map view xs) i (view x)).extent) (map view xs) ≡ Some (get_or (map view xs) i (view x)) =
-    find_paired (λ f. f.extent) (map view xs) (pairs_rise (λ f. f.extent) (map view xs) rising) i (view x) (omega (arith, below, length-map xs view)) in
-    subst (λ (n : ℕ). entry_of (map view xs) n ≡ Some (view x)) (ap (λ f. f.extent) there ∙ number) (found ∙ ap Some there)
+pub entry_at : (all : List Scanned) → IsStrictlyIncreasing (extent_numbers all) → (i : ℕ) (f : Scanned) (e : ℕ) → slice_get all i ≡ Some f → f.extent ≡ e → entry_of all e ≡ Some f
+entry_at all rising i f e is number =
+    let there : get_or all i f ≡ f = get_or_from_slice_get all i f f is in
+    let found : find (λ g. g.extent == (get_or all i f).extent) all ≡ Some (get_or all i f) = find_paired (λ g. g.extent) all (pairs_rise (λ g. g.extent) all rising) i f (slice_get_within all i f is) in
+    subst (λ (n : ℕ). entry_of all n ≡ Some f) (ap (λ g. g.extent) there ∙ number) (found ∙ ap Some there)
 
 -- what a search finds passes its test, and is in the list
 pub find_passes : {X : Type 0} (p : X → Bool) (xs : List X) (y : X) → find p xs ≡ Some y → (p y ≡ true) × Contains xs y

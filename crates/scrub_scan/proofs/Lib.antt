@@ -8,6 +8,7 @@ pub mod Unreadable
 pub mod ScannedExtents
 pub mod Tails
 pub mod Search
+pub mod Slots
 pub mod Entries
 pub mod BytesAt
 pub mod FrameBytes

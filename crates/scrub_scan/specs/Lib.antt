@@ -5,6 +5,7 @@ pub mod Line
 pub mod Tiling
 pub mod Findings
 pub mod Scanned
+pub mod Slots
 pub mod AllFindings
 pub mod Standing
 pub use Rattle.scrub_disk.specs.Image

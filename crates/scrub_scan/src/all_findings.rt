@@ -1,62 +1,97 @@
 //! The findings of all planned extents. How those of one extent come about is left to the scan.
 
-ghost use Rattle.std.specs.Prelude.{◌≡◌, ◌<◌, ℕ, map, length, IfSome, IfNone, Contains, All, Some, slice_index};
+ghost use Rattle.std.specs.Prelude.{◌≡◌, ◌<◌, ℕ, map, length, IfSome, IfNone, Contains, All, Some, slice_get, slice_index};
+ghost use Rattle.std.specs.Option.{option_map_or};
 ghost use Rattle.std.specs.List.Sorted.{IsStrictlyIncreasing};
+ghost use Rattle.scrub_disk.specs.Image.{Image};
+ghost use Rattle.scrub_scan.specs.Scanned.{result_image};
+ghost use Rattle.scrub_scan.specs.Slots.{AreFull, held_in, scanned_in};
+ghost use Rattle.scrub_scan.specs.AllFindings.{extent_numbers};
 
 use crate::extent_result::ExtentResult;
 use crate::findings::Findings;
 use scrub_disk::PageSource;
+use scrub_super::Plan;
 use std::marker::Model;
 
 /// What was found in the scanned extents of one source, by the rising numbers of the extents, each once.
 #[derive(Drop)]
 pub struct AllFindings<'d, D: PageSource> {
     source: &'d D,
-    results: Vec<ExtentResult<'d, D>>,
+    slots: Vec<Option<ExtentResult<'d, D>>>,
 }
 
 impl<'d, D: PageSource> Model for AllFindings<'d, D> {
-    ghost use Rattle.std.specs.Prelude.{map};
-    ghost use Rattle.scrub_scan.specs.Scanned.{scanned};
     ghost use Rattle.scrub_scan.specs.AllFindings.{ScannedDisk, AreScanned};
+    ghost use Rattle.scrub_scan.specs.Slots.{AreFull, scanned_in};
 
     ghost Value = { ScannedDisk D };
 
-    ghost view = { λ a. record { source = a.source.now; extents = map scanned a.results.items } };
+    ghost view = { λ a. record { source = a.source.now; extents = scanned_in a.slots.items } };
 
-    ghost invariant = { λ a. AreScanned (D.image a.source.now) (map scanned a.results.items) };
+    ghost invariant = { λ a. AreFull a.slots.items × AreScanned (D.image a.source.now) (scanned_in a.slots.items) };
 }
 
-/// Where among results with rising numbers of extents that of an extent is.
-fn position_of<D: PageSource>(results: &[ExtentResult<'_, D>], extent: u32) -> Option<usize>
-    requires { IsStrictlyIncreasing (map (λ r. r.extent) results.now) }
-    ensures found { IfSome result (λ i. (i < length results.now) × (slice_index (map (λ r. r.extent) results.now) i ≡ extent)) }
-    ensures none { IfNone result (¬ Contains (map (λ r. r.extent) results.now) extent) }
+/// The source of the results in places that each have one.
+fn source_of<'d, D: PageSource>(slots: &[Option<ExtentResult<'d, D>>]) -> &'d D
+    requires any { 0 < length slots.now }
+    requires full { AreFull slots.now }
+    ensures { (image : Image) → All (λ r. result_image r ≡ image) (held_in slots.now) → D.image result.now ≡ image }
 {
-    results
-        .binary_search_by_key(&extent, |scanned| scanned.extent())
+    match &slots[0] {
+        Some(result) => result.source(),
+        None => unreachable!(),
+    }
+}
+
+/// The number of the extent whose result stands in a place, 0 where there is none.
+fn number_in<D: PageSource>(slot: &Option<ExtentResult<'_, D>>) -> u32
+    ensures { result ≡ option_map_or (λ r. r.extent) slot.now 0 }
+{
+    match slot {
+        Some(result) => result.extent(),
+        None => 0,
+    }
+}
+
+/// Where among places that each have a result, by rising numbers of extents, that of an extent is.
+fn position_of<D: PageSource>(slots: &[Option<ExtentResult<'_, D>>], extent: u32) -> Option<usize>
+    requires full { AreFull slots.now }
+    requires rising { IsStrictlyIncreasing (extent_numbers (scanned_in slots.now)) }
+    ensures found { IfSome result (λ i. (i < length (scanned_in slots.now)) × (slice_index (extent_numbers (scanned_in slots.now)) i ≡ extent)) }
+    ensures none { IfNone result (¬ Contains (extent_numbers (scanned_in slots.now)) extent) }
+{
+    slots
+        .binary_search_by_key(&extent, |slot| number_in(slot))
         .ok()
 }
 
 impl<'d, D: PageSource> AllFindings<'d, D> {
-    ghost use Rattle.scrub_scan.specs.Scanned.{result_image, scanned};
-    ghost use Rattle.scrub_scan.specs.AllFindings.{extent_numbers, entry_of, findings_in, AreScanned};
+    ghost use Rattle.scrub_scan.specs.Scanned.{scanned};
+    ghost use Rattle.scrub_scan.specs.Slots.{AreSlots};
+    ghost use Rattle.scrub_scan.specs.AllFindings.{entry_of, findings_in, AreScanned, AreAllFindings};
 
-    /// The results of one source, by rising numbers of extents.
-    pub(crate) fn of_results(source: &'d D, results: Vec<ExtentResult<'d, D>>) -> AllFindings<'d, D>
-        requires images { All (λ r. result_image r ≡ D.image source.now) results.items }
-        requires rising { IsStrictlyIncreasing (map (λ r. r.extent) results.items) }
-        ensures source { result.source ≡ source.now }
-        ensures extents { result.extents ≡ map scanned results.entry.items }
+    /// The findings of one reader, of places that have the results of the planned extents, in their order, all there, of
+    /// one image and under the plan's pointers. It takes no memory: the places are kept as they are.
+    pub fn from_slots(plan: &Plan, slots: Vec<Option<ExtentResult<'d, D>>>) -> AllFindings<'d, D>
+        requires slots { (image : Image) × AreSlots image plan.now slots.items }
+        requires full { AreFull slots.items }
+        ensures extents { result.extents ≡ scanned_in slots.entry.items }
+        ensures image { (image : Image) → AreSlots image plan.now slots.entry.items → D.image result.source ≡ image }
+        ensures findings { AreAllFindings (D.image result.source) plan.now result.extents }
     {
-        AllFindings { source, results }
+        let _ = plan.planned();
+        AllFindings {
+            source: source_of(&slots),
+            slots,
+        }
     }
 
     /// How many extents were scanned.
     pub fn len(&self) -> usize
         ensures { result ≡ length self.now.extents }
     {
-        self.results.len()
+        self.slots.len()
     }
 
     /// The number of the i-th of these extents, counted from 0.
@@ -66,16 +101,20 @@ impl<'d, D: PageSource> AllFindings<'d, D> {
         // Every value of the type is such.
         ensures scanned { AreScanned (D.image self.now.source) self.now.extents }
     {
-        self.results[i].extent()
+        self.result_at(i).extent()
     }
 
-    /// The results of these extents, in their order.
-    pub fn results(&self) -> &[ExtentResult<'d, D>]
-        ensures results { map scanned result.now ≡ self.now.extents }
+    /// The result of the i-th of these extents, counted from 0.
+    pub fn result_at(&self, i: usize) -> &ExtentResult<'d, D>
+        requires { i < length self.now.extents }
+        ensures result { slice_get self.now.extents i ≡ Some (scanned result.now) }
         // Every value of the type is such.
         ensures scanned { AreScanned (D.image self.now.source) self.now.extents }
     {
-        self.results.as_slice()
+        match &self.slots[i] {
+            Some(result) => result,
+            None => unreachable!(),
+        }
     }
 
     /// The result of an extent, if it was scanned.
@@ -85,8 +124,8 @@ impl<'d, D: PageSource> AllFindings<'d, D> {
         // Every value of the type is such.
         ensures scanned { AreScanned (D.image self.now.source) self.now.extents }
     {
-        let i = position_of(&self.results, extent)?;
-        Some(&self.results[i])
+        let i = position_of(&self.slots, extent)?;
+        Some(self.result_at(i))
     }
 
     /// The findings of an extent, if it was scanned.

@@ -41,6 +41,13 @@ impl<'d, D: PageSource> ExtentResult<'d, D> {
         }
     }
 
+    /// The source that was scanned.
+    pub(crate) fn source(&self) -> &'d D
+        ensures { D.image result.now ≡ result_image self.now }
+    {
+        self.source
+    }
+
     /// The number of the extent that was scanned.
     pub fn extent(&self) -> u32
         ensures { result ≡ (scanned self.now).extent }

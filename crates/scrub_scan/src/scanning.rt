@@ -67,12 +67,12 @@ pub fn scan_in_order<'d, D: PageSource>(
     plan: &Plan,
 ) -> Result<AllFindings<'d, D>, OutOfMemory>
     requires { plan.now.geometry ≡ (D.image disk.now).geometry }
-    ensures source { IfOk result (λ all. all.source ≡ disk.now) }
+    ensures image { IfOk result (λ all. D.image all.source ≡ D.image disk.now) }
     ensures findings { IfOk result (λ all. AreAllFindings (D.image disk.now) plan.now all.extents) }
 {
-    let mut results = Vec::new(alloc);
+    let mut slots = Vec::new(alloc);
     for extent in plan.planned() {
-        results.push(scan_extent(alloc, disk, plan, *extent)?)?;
+        slots.push(Some(scan_extent(alloc, disk, plan, *extent)?))?;
     }
-    Ok(AllFindings::of_results(disk, results))
+    Ok(AllFindings::from_slots(plan, slots))
 }

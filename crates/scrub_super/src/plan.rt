@@ -95,11 +95,12 @@ impl Plan {
         self.geometry
     }
 
-    /// The extents to scan, rising.
+    /// The extents to scan, rising; there is at least one.
     pub fn planned(&self) -> &[u32]
         ensures planned { result.now ≡ self.now.planned }
         // Every value of the type is such.
         ensures extents { ArePlanned self.now.geometry.extents self.now.planned }
+        ensures any { 0 < length self.now.planned }
     {
         self.planned.as_slice()
     }

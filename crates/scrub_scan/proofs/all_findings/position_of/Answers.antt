@@ -1,17 +1,37 @@
-use Rattle.std.proofs.Common.{rules}
+use Rattle.std.proofs.Common.{Some, None, ℕ, List, Option, length, ◌≡◌, ◌<◌, arith, map, rules, subst, sym, ap, ◌∙◌, IfSome, IfNone, slice_index}
+use Rattle.std.specs.List.{Contains}
+use Rattle.std.specs.List.Sorted.{IsStrictlyIncreasing}
+use Rattle.std.specs.Option.{option_map_or}
 use Rattle.std.proofs.lemmas.List.Sorted.{answers_always}
 use Rattle.scrub_scan.specs.declared.extent_result.ExtentResult.{ExtentResult}
+use Rattle.scrub_scan.specs.AllFindings.{extent_numbers}
+use Rattle.scrub_scan.specs.Slots.{AreFull, scanned_in}
 use Rattle.scrub_scan.proofs.Search.{searched}
+use Rattle.scrub_scan.proofs.Slots.{slot_numbers, slot_count}
 use Rattle.scrub_scan.proofs.all_findings.position_of.Goals as goal
+
+-- what was found among the places was found among what stands in them
+moved_found : {D : Type 0} {s : _} (slots : List (Option (ExtentResult D s))) (e : ℕ) (o : Option ℕ) → AreFull slots → IfSome o (λ i. (i < length slots) × (slice_index (map (λ slot. option_map_or (λ r. r.extent) slot 0) slots) i ≡ e)) →
+    IfSome o (λ i. (i < length (scanned_in slots)) × (slice_index (extent_numbers (scanned_in slots)) i ≡ e))
+moved_found slots e None full h = tt
+moved_found slots e (Some i) full h = (omega (arith, h.0, slot_count slots full), ap (λ ns. slice_index ns i) (sym (slot_numbers slots full)) ∙ h.1)
 
 pub returns-clause-found : goal.returns-clause-found
 returns-clause-found g c =
     let facts = c.binary_search_by_key.ensures in
-    let by_key = facts.position (λ (r : ExtentResult g.row.D.Denot g.D.PageSource). r.extent) (answers_always _ _ _ (λ f a r h called. search rules)) in
-    rw c.ok.ensures.value (searched (λ (r : ExtentResult g.row.D.Denot g.D.PageSource). r.extent) c.args.results.now c.requires c.args.extent c.binary_search_by_key.result facts.bound by_key).0
+    let slots = c.args.slots.now in
+    let number = λ (slot : Option (ExtentResult g.row.D.Denot g.D.PageSource)). option_map_or (λ r. r.extent) slot 0 in
+    let by_key = facts.position number (answers_always _ _ _ (λ f a r h called. search rules)) in
+    let rising = subst (λ (ns : List ℕ). IsStrictlyIncreasing ns) (sym (slot_numbers slots c.requires.full)) c.requires.rising in
+    moved_found slots c.args.extent c.ok.result c.requires.full
+    (rw c.ok.ensures.value (searched number slots rising c.args.extent c.binary_search_by_key.result facts.bound by_key).0)
 
 pub returns-clause-none : goal.returns-clause-none
 returns-clause-none g c =
     let facts = c.binary_search_by_key.ensures in
-    let by_key = facts.position (λ (r : ExtentResult g.row.D.Denot g.D.PageSource). r.extent) (answers_always _ _ _ (λ f a r h called. search rules)) in
-    rw c.ok.ensures.value (searched (λ (r : ExtentResult g.row.D.Denot g.D.PageSource). r.extent) c.args.results.now c.requires c.args.extent c.binary_search_by_key.result facts.bound by_key).1
+    let slots = c.args.slots.now in
+    let number = λ (slot : Option (ExtentResult g.row.D.Denot g.D.PageSource)). option_map_or (λ r. r.extent) slot 0 in
+    let by_key = facts.position number (answers_always _ _ _ (λ f a r h called. search rules)) in
+    let rising = subst (λ (ns : List ℕ). IsStrictlyIncreasing ns) (sym (slot_numbers slots c.requires.full)) c.requires.rising in
+    subst (λ (ns : List ℕ). IfNone c.ok.result (¬ Contains ns c.args.extent)) (slot_numbers slots c.requires.full)
+    (rw c.ok.ensures.value (searched number slots rising c.args.extent c.binary_search_by_key.result facts.bound by_key).1)

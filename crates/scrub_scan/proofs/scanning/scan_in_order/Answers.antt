@@ -1,36 +1,43 @@
-use Rattle.std.proofs.Common.{arith, sym, ◌∙◌, ap, subst, take, get_or, ◌≡◌, ◌++◌, ◌∷◌, [], Some}
-use Rattle.std.proofs.lemmas.List.{take_more, map_push, take_all}
-use Rattle.std.proofs.lemmas.List.Elements.{All-push, All-map}
+use Rattle.std.proofs.Common.{arith, ◌∙◌, subst, get_or, ◌≡◌, List, ℕ, Option, IfSome, Some}
+use Rattle.std.specs.List.{AllZip}
+use Rattle.std.proofs.lemmas.List.{take_all}
+use Rattle.scrub_disk.proofs.Zips.{AllZip-take_more}
 use Rattle.scrub_disk.specs.Image.{Image}
-use Rattle.scrub_super.specs.Plan.{pointer_of}
+use Rattle.scrub_super.specs.Plan.{PlanValue}
 use Rattle.scrub_scan.specs.declared.extent_result.ExtentResult.{ExtentResult}
-use Rattle.scrub_scan.specs.Findings.{IsFindings}
-use Rattle.scrub_scan.specs.Scanned.{Scanned, result_image, scanned}
-use Rattle.std.proofs.lemmas.Simd.{map-map}
+use Rattle.scrub_scan.specs.AllFindings.{AreAllFindings}
+use Rattle.scrub_scan.specs.Slots.{AreSlots, IsPlannedResult}
+use Rattle.scrub_scan.proofs.Slots.{full_push}
 use Rattle.scrub_scan.proofs.scanning.scan_in_order.Goals as goal
+
+-- the places of all planned extents
+all_taken : {D : Type 0} {s : _} (image : Image) (plan : PlanValue) (taken : List ℕ) (slots : List (Option (ExtentResult D s))) → taken ≡ plan.planned →
+    AllZip (λ e slot. IfSome slot (λ r. IsPlannedResult image plan e r)) taken slots → AreSlots image plan slots
+all_taken image plan taken slots is are = subst (λ (es : List ℕ). AllZip (λ e slot. IfSome slot (λ r. IsPlannedResult image plan e r)) es slots) is are
 
 pub loop-extent-preserved : goal.loop-extent-preserved
 loop-extent-preserved g c =
-    rw c.in_ok-push.ensures.items (record {
-      images = All-push (λ (r : ExtentResult g.row.D.Denot g.D.PageSource). result_image r ≡ g.D.PageSource.image c.args.disk.now) c.loop-extent.results.items c.in_ok-scan_extent.field-0
-          c.loop-extent.invariant.images c.in_ok-scan_extent.ensures.image;
-      extents = map_push (λ (r : ExtentResult g.row.D.Denot g.D.PageSource). r.extent) c.loop-extent.results.items c.in_ok-scan_extent.field-0
-          ∙ ap (λ xs. xs ++ c.in_ok-scan_extent.field-0.extent ∷ []) c.loop-extent.invariant.extents
-          ∙ ap (λ n. take c.loop-extent.extent-index c.planned-extent-items.result.now ++ n ∷ []) c.in_ok-scan_extent.ensures.extent
-          ∙ sym (take_more c.planned-extent-items.result.now c.loop-extent.extent-index 0 c.loop-extent-test.true);
-      pointers = All-push (λ (r : ExtentResult g.row.D.Denot g.D.PageSource). pointer_of c.args.plan.now r.extent ≡ Some r.pointer) c.loop-extent.results.items c.in_ok-scan_extent.field-0
-          c.loop-extent.invariant.pointers
-          (ap (pointer_of c.args.plan.now) c.in_ok-scan_extent.ensures.extent ∙ c.in_ok-scan_extent.ensures.pointer);
-    })
+    let image = g.D.PageSource.image c.args.disk.now in
+    let plan = c.args.plan.now in
+    let found : ExtentResult g.row.D.Denot g.D.PageSource = c.in_ok-scan_extent.field-0 in
+    let planned = c.planned-extent-items.result.now in
+    let i = c.loop-extent.extent-index in
+    let is : IsPlannedResult image plan (get_or planned i 0) found = record {
+      image_is = c.in_ok-scan_extent.ensures.image;
+      extent_is = c.in_ok-scan_extent.ensures.extent;
+      pointer_is = c.in_ok-scan_extent.ensures.pointer;
+    } in record {
+      are = AllZip-take_more (λ e slot. IfSome slot (λ r. IsPlannedResult image plan e r)) planned c.loop-extent.slots.items _ i 0 (Some found) c.loop-extent-test.true c.loop-extent.invariant.are is c.in_ok-push.ensures.items;
+      full = full_push c.loop-extent.slots.items _ found c.loop-extent.invariant.full c.in_ok-push.ensures.items;
+    }
+
+pub from_slots-requires-clause-slots : goal.from_slots-requires-clause-slots
+from_slots-requires-clause-slots g c = λ κs h. (g.D.PageSource.image c.args.disk.now, all_taken (g.D.PageSource.image c.args.disk.now) c.args.plan.now _ c.loop-extent.slots.items (take_all c.loop-extent.extent-index c.planned-extent-items.result.now (omega arith) ∙ c.planned-extent-items.ensures.planned) c.loop-extent.invariant.are)
+
+pub returns-clause-image : goal.returns-clause-image
+returns-clause-image g c =
+    c.from_slots.ensures.image (g.D.PageSource.image c.args.disk.now)
+    (all_taken (g.D.PageSource.image c.args.disk.now) c.args.plan.now _ c.loop-extent.slots.items (take_all c.loop-extent.extent-index c.planned-extent-items.result.now (omega arith) ∙ c.planned-extent-items.ensures.planned) c.loop-extent.invariant.are)
 
 pub returns-clause-findings : goal.returns-clause-findings
-returns-clause-findings g c =
-    rw c.of_results.ensures.extents (record {
-      extents = map-map (λ f. f.extent) (λ (r : ExtentResult g.row.D.Denot g.D.PageSource). scanned r) c.loop-extent.results.items
-          ∙ c.loop-extent.invariant.extents ∙ take_all c.loop-extent.extent-index c.planned-extent-items.result.now (omega arith) ∙ c.planned-extent-items.ensures.planned;
-      pointers = All-map (λ (f : Scanned). pointer_of c.args.plan.now f.extent ≡ Some f.pointer) (λ (r : ExtentResult g.row.D.Denot g.D.PageSource). scanned r) c.loop-extent.results.items
-          (λ k x hk. c.loop-extent.invariant.pointers k x hk);
-      findings = All-map (λ (f : Scanned). IsFindings (g.D.PageSource.image c.args.disk.now) f.extent f.pointer f.findings) (λ (r : ExtentResult g.row.D.Denot g.D.PageSource). scanned r) c.loop-extent.results.items
-          (λ k x hk. subst (λ (i : Image). IsFindings i (get_or c.loop-extent.results.items k x).extent (get_or c.loop-extent.results.items k x).pointer (get_or c.loop-extent.results.items k x).findings)
-          (c.loop-extent.invariant.images k x hk) (get_or c.loop-extent.results.items k x).found);
-    })
+returns-clause-findings g c = subst (λ (i : Image). AreAllFindings i c.args.plan.now c.from_slots.result.extents) (returns-clause-image g c) c.from_slots.ensures.findings

@@ -1,11 +1,11 @@
-use Rattle.std.proofs.Common.{◌≡◌, map, take, All, Some}
-use Rattle.scrub_super.specs.Plan.{pointer_of}
-use Rattle.scrub_scan.specs.Scanned.{result_image}
+use Rattle.std.proofs.Common.{take, IfSome}
+use Rattle.std.specs.List.{AllZip}
+use Rattle.scrub_scan.specs.Slots.{AreFull, IsPlannedResult}
 use Rattle.scrub_scan.proofs.scanning.scan_in_order.Given as goal
 
+-- the places so far have the results of the planned extents so far
 abbrev pub invariant-loop-extent : goal.invariant-loop-extent
 invariant-loop-extent g l = record {
-  images : All (λ r. result_image r ≡ g.D.PageSource.image l.disk) l.results.items;
-  extents : map (λ r. r.extent) l.results.items ≡ take l.extent-index l.extent-items;
-  pointers : All (λ r. pointer_of l.plan r.extent ≡ Some r.pointer) l.results.items;
+  are : AllZip (λ e slot. IfSome slot (λ r. IsPlannedResult (g.D.PageSource.image l.disk) l.plan e r)) (take l.extent-index l.extent-items) l.slots.items;
+  full : AreFull l.slots.items;
 }

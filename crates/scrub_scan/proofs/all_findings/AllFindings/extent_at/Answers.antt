@@ -1,16 +1,12 @@
-use Rattle.std.proofs.Common.{sym, ◌∙◌, ap, get_or, arith, length, ◌<◌}
-use Rattle.std.proofs.lemmas.List.{get_or-map, length-map}
-use Rattle.std.proofs.lemmas.Simd.{map-map}
-use Rattle.scrub_scan.specs.declared.extent_result.ExtentResult.{ExtentResult}
-use Rattle.scrub_scan.specs.Scanned.{scanned}
+use Rattle.std.proofs.Common.{ap, sym, ◌∙◌}
+use Rattle.std.proofs.lemmas.Option.{slice_get-map, get_or_from_slice_get}
+use Rattle.scrub_scan.specs.AllFindings.{extent_numbers}
+use Rattle.scrub_scan.specs.Scanned.{Scanned, scanned}
+use Rattle.std.specs.Option.{option_map}
 use Rattle.scrub_scan.proofs.all_findings.AllFindings.extent_at.Goals as goal
 
 pub returns-clause-number : goal.returns-clause-number
 returns-clause-number g c =
-    let items = c.self.inside.results.items in
-    let below : c.args.i < length c.self.inside.results.items =
-    omega (arith, c.requires, ap (λ v. length v.extents) c.self.view_is, length-map c.self.inside.results.items (λ (r : ExtentResult g.row.D.Denot g.D.PageSource). scanned r)) in
-    rw (← c.self.view_is)
-    (c.extent.ensures ∙ ap (λ (r : ExtentResult g.row.D.Denot g.D.PageSource). r.extent) c.index.ensures
-    ∙ sym (get_or-map (λ (r : ExtentResult g.row.D.Denot g.D.PageSource). r.extent) c.self.inside.results.items c.args.i c.index.result.now 0 below)
-    ∙ ap (λ xs. get_or xs c.args.i 0) (sym (map-map (λ f. f.extent) (λ (r : ExtentResult g.row.D.Denot g.D.PageSource). scanned r) c.self.inside.results.items)))
+    c.extent.ensures
+    ∙ sym (get_or_from_slice_get (extent_numbers c.args.self.now.extents) c.args.i (scanned c.result_at.result.now).extent 0
+    (slice_get-map (λ (f : Scanned). f.extent) c.args.self.now.extents c.args.i ∙ ap (option_map (λ (f : Scanned). f.extent)) c.result_at.ensures.result))
