@@ -8,6 +8,7 @@ pub mod SortedStarts
 pub mod Sizes
 pub mod StartSearch
 pub mod CheckedLists
+pub mod ExtentsSoFar
 pub mod Reclaimable
 pub mod KeptChunks
 pub mod OneList

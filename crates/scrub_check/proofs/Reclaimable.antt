@@ -1,5 +1,5 @@
 -- Which extents may be reclaimed: what the sorted verdicts say of an extent, and that candidates stand in a strict order.
-use Rattle.std.proofs.Common.{◌≡◌, ◌<◌, ◌≤◌, ◌+◌, ◌-◌, ◌==◌, ◌≢◌, ◌&&◌, ◌||◌, ℕ, suc, Bool, true, false, not, cond, List, [], ◌∷◌, ◌++◌, length, get_or, map, take, arith, refl, sym, ◌∙◌, ap, subst, Result, Ok, Err, is_ok, Ordering, Less, Equal, Greater, nat_cmp, is_eq, is_lt, inl, inr, if◌then◌else◌}
+use Rattle.std.proofs.Common.{◌≡◌, ◌<◌, ◌≤◌, ◌+◌, ◌-◌, ◌==◌, ◌≢◌, ◌&&◌, ◌||◌, ℕ, suc, Bool, true, false, not, cond, List, [], ◌∷◌, length, get_or, map, arith, refl, sym, ◌∙◌, ap, subst, Result, Ok, Err, is_ok, Ordering, Less, Equal, Greater, nat_cmp, is_eq, is_lt, inl, inr, if◌then◌else◌}
 use Rattle.std.specs.Ordering.{ordering_then, ordering_reverse}
 use Rattle.std.specs.Cmp.{IsTotalOrder, nat_cmp_total}
 use Rattle.std.specs.List.{All, AllPairs, filter, list_any, list_all, count_by}
@@ -8,8 +8,7 @@ use Rattle.std.proofs.lemmas.Cmp.{then_total, on_total, back_total}
 use Rattle.std.proofs.lemmas.Bool.{cases_lt, eq-eqb}
 use Rattle.std.proofs.lemmas.Grind.{common_steps}
 use Rattle.std.proofs.lemmas.Map.Lookups.{exact_unsigned}
-use Rattle.std.proofs.lemmas.List.{map-append, take_more}
-use Rattle.std.proofs.lemmas.List.Elements.{recursion_from_All, filter-append}
+use Rattle.std.proofs.lemmas.List.Elements.{recursion_from_All}
 use Rattle.std.proofs.lemmas.List.Folds.{list_any_at, list_any_none}
 use Rattle.std.proofs.lemmas.List.Kept.{AllPairs-from_increasing}
 use Rattle.std.proofs.lemmas.List.Sums.{sum_by-cons, get_or-le-sum_by}
@@ -85,22 +84,6 @@ same_difference a b c d p q = ap (λ n. n - b) p ∙ ap (λ n. c - n) q
 pub candidate_parts : (c a : CandidateValue) (e n : ℕ) (ks : List ℕ) → c ≡ record { extent = e; free = n; keep = ks } → e ≡ a.extent → n ≡ a.free → ks ≡ a.keep → c ≡ a
 candidate_parts c a e n ks is extent free keep =
     let same : (let parts : CandidateValue = record { extent = e; free = n; keep = ks } in parts) ≡ a = λ i. record { extent = extent i; free = free i; keep = keep i } in is ∙ same
-
--- ---- as results are added
-
-reclaimable_append : (g : Geometry) (xs ys : List Scanned) (checked : List Checked) → reclaimable g (xs ++ ys) checked ≡ reclaimable g xs checked ++ reclaimable g ys checked
-reclaimable_append g xs ys checked =
-    ap (map (candidate_of checked)) (filter-append (is_reclaimable g checked) xs ys)
-    ∙ map-append (candidate_of checked) (filter (is_reclaimable g checked) xs) (filter (is_reclaimable g checked) ys)
-
-pub reclaimable_more : {R : Type 0} (view : R → Scanned) (g : Geometry) (rs : List R) (i : ℕ) (d r : R) (checked : List Checked) (old new : List CandidateValue) → i < length rs → r ≡ get_or rs i d →
-    old ≡ reclaimable g (map view (take i rs)) checked → new ≡ old ++ reclaimable g (view r ∷ []) checked → new ≡ reclaimable g (map view (take (i + 1) rs)) checked
-reclaimable_more view g rs i d r checked old new below at is grown =
-    grown
-    ∙ ap (λ cs. cs ++ reclaimable g (view r ∷ []) checked) is
-    ∙ ap (λ q. reclaimable g (map view (take i rs)) checked ++ reclaimable g (view q ∷ []) checked) at
-    ∙ sym (reclaimable_append g (map view (take i rs)) (view (get_or rs i d) ∷ []) checked)
-    ∙ ap (λ fs. reclaimable g fs checked) (sym (map-append view (take i rs) (get_or rs i d ∷ [])) ∙ ap (map view) (sym (take_more rs i d below)))
 
 -- ---- each extent is a candidate once
 

@@ -62,7 +62,8 @@ fn all_chunks<D: PageSource>(
     ensures { IfOk result (λ v. v.items ≡ chunks all.now.extents) }
 {
     let mut chunks = Vec::new(alloc);
-    for one in all.results() {
+    for i in 0..all.len() {
+        let one = all.result_at(i);
         let found = chunks_in(alloc, one.extent(), one.findings().items())?;
         chunks.extend_from_slice(&found)?;
     }

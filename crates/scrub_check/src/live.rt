@@ -125,8 +125,8 @@ pub fn all_live_bytes<D: PageSource>(
 {
     let sound = SoundStarts::of(alloc, checked)?;
     let mut bytes = Vec::with_capacity(alloc, all.len())?;
-    for one in all.results() {
-        bytes.push(live_bytes_in(one, &sound))?;
+    for i in 0..all.len() {
+        bytes.push(live_bytes_in(all.result_at(i), &sound))?;
     }
     Ok(bytes)
 }

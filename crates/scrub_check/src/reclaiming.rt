@@ -3,11 +3,12 @@
 
 ghost use Rattle.std.specs.Prelude.{◌≡◌, ◌≤◌, ◌&&◌, ◌*◌, ℕ, Bool, not, nat_lt, IfOk, OnOk, List, map};
 ghost use Rattle.std.specs.List.{filter, list_all};
-ghost use Rattle.std.specs.List.Sorted.{IsPermutation, IsSorted};
+ghost use Rattle.std.specs.List.Sorted.{IsPermutation, IsSorted, IsStrictlyIncreasing};
 ghost use Rattle.scrub_disk.specs.Image.{Image};
 ghost use Rattle.scrub_super.specs.Plan.{PlanValue};
 ghost use Rattle.scrub_scan.specs.Item.{start_of};
 ghost use Rattle.scrub_scan.specs.Scanned.{Scanned, scanned};
+ghost use Rattle.scrub_scan.specs.AllFindings.{extent_numbers};
 ghost use Rattle.scrub_check.specs.declared.checked.Checked.{Checked};
 ghost use Rattle.scrub_check.specs.Live.{live_bytes};
 ghost use Rattle.scrub_check.specs.SoundStarts.{is_live_by};
@@ -123,19 +124,21 @@ fn add_reclaimable<D: PageSource>(
     Ok(())
 }
 
-/// The extents that may be reclaimed, in the order of their results.
+/// The extents that may be reclaimed, in the order of their numbers.
 fn all_reclaimable<D: PageSource>(
     alloc: Global,
     geometry: Geometry,
     verdicts: &Verdicts,
-    results: &[ExtentResult<'_, D>],
+    all: &AllFindings<'_, D>,
 ) -> Result<Vec<Candidate>, OutOfMemory>
-    ensures { (checked : List Checked) → AreVerdicts checked verdicts.now →
-        IfOk result (λ v. v.items ≡ reclaimable geometry (map scanned results.now) checked) }
+    ensures reclaimable { (checked : List Checked) → AreVerdicts checked verdicts.now →
+        IfOk result (λ v. v.items ≡ reclaimable geometry all.now.extents checked) }
+    // The extents of every value of the type rise.
+    ensures rising { IsStrictlyIncreasing (extent_numbers all.now.extents) }
 {
     let mut candidates = Vec::new(alloc);
-    for found in results {
-        add_reclaimable(alloc, geometry, verdicts, found, &mut candidates)?;
+    for i in 0..all.len() {
+        add_reclaimable(alloc, geometry, verdicts, all.result_at(i), &mut candidates)?;
     }
     Ok(candidates)
 }
@@ -179,7 +182,7 @@ pub fn candidates<D: PageSource>(
         return Ok(Vec::new(alloc));
     }
     let verdicts = Verdicts::of(alloc, checked)?;
-    let mut candidates = all_reclaimable(alloc, plan.geometry(), &verdicts, all.results())?;
+    let mut candidates = all_reclaimable(alloc, plan.geometry(), &verdicts, all)?;
     sort_by_free(&mut candidates)?;
     Ok(candidates)
 }

@@ -9,6 +9,7 @@ pub mod ScannedExtents
 pub mod Tails
 pub mod Search
 pub mod Slots
+pub mod Taken
 pub mod Entries
 pub mod BytesAt
 pub mod FrameBytes

@@ -89,7 +89,9 @@ impl<'d, D: PageSource> AllFindings<'d, D> {
 
     /// How many extents were scanned.
     pub fn len(&self) -> usize
-        ensures { result ≡ length self.now.extents }
+        ensures count { result ≡ length self.now.extents }
+        // Every value of the type is such.
+        ensures scanned { AreScanned (D.image self.now.source) self.now.extents }
     {
         self.slots.len()
     }

@@ -1,19 +1,19 @@
-use Rattle.std.proofs.Common.{◌∙◌, ap, List, map}
+use Rattle.std.proofs.Common.{◌∙◌, ap, arith, List}
 use Rattle.std.proofs.lemmas.List.{take_all}
-use Rattle.scrub_scan.specs.declared.extent_result.ExtentResult.{ExtentResult}
-use Rattle.scrub_scan.specs.Scanned.{scanned}
+use Rattle.scrub_scan.specs.Scanned.{Scanned, scanned}
 use Rattle.scrub_check.specs.Candidates.{reclaimable}
-use Rattle.scrub_check.proofs.Reclaimable.{reclaimable_more}
+use Rattle.scrub_check.proofs.ExtentsSoFar.{reclaimable_more}
 use Rattle.scrub_check.proofs.reclaiming.all_reclaimable.Goals as goal
 
-pub loop-found-preserved : goal.loop-found-preserved
-loop-found-preserved g c checked verdicts =
-    reclaimable_more (scanned {D = g.row.D.Denot} {s = g.D.PageSource}) c.args.geometry c.args.results.now c.loop-found.found-index _ c.found-item.result checked
-    c.loop-found.candidates.items c.add_reclaimable.new.candidates.items c.loop-found-test.true c.found-item.is
-    (c.loop-found.invariant checked verdicts) (c.in_ok-add_reclaimable.ensures checked verdicts)
+pub loop-i-preserved : goal.loop-i-preserved
+loop-i-preserved g c checked verdicts =
+    reclaimable_more c.args.all.now.extents c.loop-i.i (scanned c.result_at.result.now) c.result_at.ensures.result c.args.geometry checked c.loop-i.candidates.items c.add_reclaimable.new.candidates.items
+    (c.loop-i.invariant checked verdicts) (c.in_ok-add_reclaimable.ensures checked verdicts)
 
-pub returns : goal.returns
-returns g c checked verdicts =
-    c.loop-found.invariant checked verdicts
-    ∙ ap (λ (rs : List (ExtentResult g.row.D.Denot g.D.PageSource)). reclaimable c.args.geometry (map (scanned {D = g.row.D.Denot} {s = g.D.PageSource}) rs) checked)
-    (take_all c.loop-found.found-index c.args.results.now c.loop-found-test.false)
+pub returns-clause-reclaimable : goal.returns-clause-reclaimable
+returns-clause-reclaimable g c checked verdicts =
+    c.loop-i.invariant checked verdicts
+    ∙ ap (λ (fs : List Scanned). reclaimable c.args.geometry fs checked) (take_all c.loop-i.i c.args.all.now.extents (omega (arith, c.loop-i-test.false, c.len-i-end.ensures.count)))
+
+pub returns-clause-rising : goal.returns-clause-rising
+returns-clause-rising g c = c.len-i-end.ensures.scanned.rising

@@ -1,5 +1,4 @@
-use Rattle.std.proofs.Common.{rules, ◌≡◌, ◌∙◌, ap, List}
-use Rattle.scrub_scan.specs.Scanned.{Scanned}
+use Rattle.std.proofs.Common.{rules, ◌≡◌, ◌∙◌, ap}
 use Rattle.scrub_check.specs.Candidates.{reclaimable}
 use Rattle.scrub_check.proofs.Reclaimable.{none_named, all_named}
 use Rattle.scrub_check.proofs.reclaiming.candidates.Goals as goal
@@ -14,7 +13,6 @@ returns g c =
     let all = c.args.all.now.extents in
     let checked = c.args.checked.now in
     let found : c.in_ok-candidates.candidates.items ≡ reclaimable plan.geometry all checked =
-    c.in_ok-candidates.ensures checked c.in_ok-verdicts.ensures
-    ∙ ap (λ (fs : List Scanned). reclaimable c.geometry.result fs checked) c.results.ensures.results
+    c.in_ok-candidates.ensures.reclaimable checked c.in_ok-verdicts.ensures
     ∙ ap (λ x. reclaimable x all checked) c.geometry.ensures in
-    all_named plan all checked c.args.in_doubt c.in_ok-candidates.candidates.items c.sort_by_free.new.candidates.items (search rules) c.results.ensures.scanned.rising found c.sort_by_free.ensures.same c.in_ok-sort_by_free.ensures.sorted
+    all_named plan all checked c.args.in_doubt c.in_ok-candidates.candidates.items c.sort_by_free.new.candidates.items (search rules) c.all_reclaimable.ensures.rising found c.sort_by_free.ensures.same c.in_ok-sort_by_free.ensures.sorted

@@ -1,0 +1,47 @@
+-- What is told of the extents so far, and of one more.
+use Rattle.std.proofs.Common.{◌≡◌, ◌+◌, ◌++◌, ◌∷◌, [], ℕ, List, Some, slice_get, map, take, sym, ◌∙◌, ap}
+use Rattle.std.specs.List.{filter, filter_map}
+use Rattle.std.proofs.lemmas.List.{map-append, append-nil}
+use Rattle.std.proofs.lemmas.List.Elements.{filter-append}
+use Rattle.std.proofs.lemmas.Grind.{flat_map-append}
+use Rattle.scrub_disk.specs.declared.geometry.Geometry.{Geometry}
+use Rattle.scrub_scan.specs.declared.item.Item.{Item}
+use Rattle.scrub_scan.specs.Scanned.{Scanned}
+use Rattle.scrub_scan.proofs.Taken.{take_next}
+use Rattle.scrub_check.specs.declared.checked.Checked.{Checked}
+use Rattle.scrub_check.specs.declared.place.Place.{Place}
+use Rattle.scrub_check.specs.Chunks.{place_of, chunks_in, chunks}
+use Rattle.scrub_check.specs.Live.{live_bytes}
+use Rattle.scrub_check.specs.Candidates.{CandidateValue, is_reclaimable, candidate_of, reclaimable}
+
+module _ (all : List Scanned) (i : ℕ) (f : Scanned) (at : slice_get all i ≡ Some f) where
+  -- its live bytes
+  pub live_bytes_more : (checked : List Checked) (old new : List ℕ) (n : ℕ) → old ≡ map (live_bytes checked) (take i all) → n ≡ live_bytes checked f → new ≡ old ++ n ∷ [] →
+      new ≡ map (live_bytes checked) (take (i + 1) all)
+  live_bytes_more checked old new n is its grown =
+      grown
+      ∙ ap (λ ns. ns ++ n ∷ []) is
+      ∙ ap (λ m. map (live_bytes checked) (take i all) ++ m ∷ []) its
+      ∙ sym (map-append (live_bytes checked) (take i all) (f ∷ []))
+      ∙ ap (map (live_bytes checked)) (sym (take_next all i f at))
+
+  -- its chunks
+  pub chunks_more : (old found new : List Place) (e : ℕ) (items : List Item) → old ≡ chunks (take i all) → found ≡ filter_map (place_of e) items → e ≡ f.extent → items ≡ f.findings.items → new ≡ old ++ found →
+      new ≡ chunks (take (i + 1) all)
+  chunks_more old found new e items is its number its_items grown =
+      grown
+      ∙ ap (λ ps. ps ++ found) is
+      ∙ ap (λ ps. chunks (take i all) ++ ps) (its ∙ ap (λ n. filter_map (place_of n) items) number ∙ ap (filter_map (place_of f.extent)) its_items)
+      ∙ ap (λ ps. chunks (take i all) ++ ps) (sym (append-nil (chunks_in f)))
+      ∙ sym (flat_map-append chunks_in (take i all) (f ∷ []))
+      ∙ ap chunks (sym (take_next all i f at))
+
+  -- it, if it may be reclaimed
+  pub reclaimable_more : (g : Geometry) (checked : List Checked) (old new : List CandidateValue) → old ≡ reclaimable g (take i all) checked → new ≡ old ++ reclaimable g (f ∷ []) checked →
+      new ≡ reclaimable g (take (i + 1) all) checked
+  reclaimable_more g checked old new is grown =
+      grown
+      ∙ ap (λ cs. cs ++ reclaimable g (f ∷ []) checked) is
+      ∙ sym (map-append (candidate_of checked) (filter (is_reclaimable g checked) (take i all)) (filter (is_reclaimable g checked) (f ∷ [])))
+      ∙ ap (map (candidate_of checked)) (sym (filter-append (is_reclaimable g checked) (take i all) (f ∷ [])))
+      ∙ ap (λ fs. reclaimable g fs checked) (sym (take_next all i f at))
