@@ -9,7 +9,7 @@ ghost use Rattle.scrub_report.specs.Report.{extent_data, extents_data, items_dat
 
 use crate::values::numbers_value;
 use scrub_disk::{OutOfMemory, PageSource};
-use scrub_scan::{ExtentResult, Item, item_line};
+use scrub_scan::{AllFindings, ExtentResult, Item, item_line};
 use serde_json::{Value, json};
 use std::alloc::Global;
 
@@ -46,19 +46,19 @@ fn extent_value<D: PageSource>(
     })
 }
 
-/// The value of `extents`: of each result, and of its live bytes.
+/// The value of `extents`: of each scanned extent, and of its live bytes.
 pub(crate) fn extents_value<D: PageSource>(
     alloc: Global,
-    results: &[ExtentResult<'_, D>],
+    all: &AllFindings<'_, D>,
     live: &[u32],
 ) -> Result<Value, OutOfMemory>
-    requires { length live.now ≡ length results.now }
-    ensures { (checked : List Checked) → live.now ≡ map (live_bytes checked) (map scanned results.now) →
-        IfOk result (λ v. view v ≡ extents_data checked (map scanned results.now)) }
+    requires { length live.now ≡ length all.now.extents }
+    ensures { (checked : List Checked) → live.now ≡ map (live_bytes checked) all.now.extents →
+        IfOk result (λ v. view v ≡ extents_data checked all.now.extents) }
 {
-    let mut values = Vec::with_capacity(alloc, results.len())?;
-    for i in 0..results.len() {
-        values.push(extent_value(alloc, &results[i], live[i])?)?;
+    let mut values = Vec::with_capacity(alloc, all.len())?;
+    for i in 0..all.len() {
+        values.push(extent_value(alloc, all.result_at(i), live[i])?)?;
     }
     Ok(Value::Array(values))
 }

@@ -56,7 +56,7 @@ fn extents_key<D: PageSource>(
     ensures { IfOk result (λ v. view v ≡ extents_data checked.now all.now.extents) }
 {
     let live = all_live_bytes(alloc, all, checked)?;
-    extents_value(alloc, all.results(), &live)
+    extents_value(alloc, all, &live)
 }
 
 /// The value of `orphans`.

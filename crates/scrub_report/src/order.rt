@@ -1,12 +1,12 @@
 //! Whether what was found is in good order, part by part.
 
-ghost use Rattle.std.specs.Prelude.{◌≡◌, map};
+ghost use Rattle.std.specs.Prelude.{◌≡◌};
 ghost use Rattle.std.specs.List.{list_all};
 ghost use Rattle.scrub_scan.specs.Scanned.{scanned};
 ghost use Rattle.scrub_report.specs.Scrubbed.{is_clean_choice, is_clean_extent, is_clean_item};
 
 use scrub_disk::PageSource;
-use scrub_scan::{ExtentResult, Item};
+use scrub_scan::{AllFindings, ExtentResult, Item};
 use scrub_super::Chosen;
 
 /// Whether an item is neither torn nor noise nor lost.
@@ -32,12 +32,12 @@ fn is_clean_extent<D: PageSource>(found: &ExtentResult<'_, D>) -> bool
 }
 
 /// Whether each of the extents is such.
-pub(crate) fn are_clean_extents<D: PageSource>(results: &[ExtentResult<'_, D>]) -> bool
-    ensures { result ≡ list_all is_clean_extent (map scanned results.now) }
+pub(crate) fn are_clean_extents<D: PageSource>(all: &AllFindings<'_, D>) -> bool
+    ensures { result ≡ list_all is_clean_extent all.now.extents }
 {
     let mut clean = true;
-    for found in results {
-        clean &= is_clean_extent(found);
+    for i in 0..all.len() {
+        clean &= is_clean_extent(all.result_at(i));
     }
     clean
 }

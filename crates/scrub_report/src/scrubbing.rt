@@ -122,7 +122,7 @@ pub(crate) fn is_clean<D: PageSource>(parts: &Parts<'_, D>) -> bool
     ensures { result ≡ is_clean (found_in parts.now) }
 {
     is_clean_choice(&parts.chosen)
-        && are_clean_extents(parts.all.results())
+        && are_clean_extents(&parts.all)
         && are_read(&parts.read)
         && is_clean_list(&parts.checked, &parts.shared)
 }

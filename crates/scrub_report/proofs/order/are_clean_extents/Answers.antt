@@ -1,21 +1,21 @@
 -- One more extent, and in the end all.
-use Rattle.std.proofs.Common.{◌∙◌, ◌&&◌, Bool, ap, ap₂, sym}
+use Rattle.std.proofs.Common.{◌∙◌, ◌&&◌, Bool, ap, ap₂, arith, sym}
 use Rattle.std.specs.List.{list_all}
+use Rattle.std.proofs.lemmas.Option.{slice_get_within, get_or_from_slice_get}
 use Rattle.std.proofs.lemmas.List.{take_all}
-use Rattle.std.proofs.lemmas.List.Folds.{list_all-map, list_all_more}
-use Rattle.scrub_scan.specs.declared.extent_result.ExtentResult.{ExtentResult}
+use Rattle.std.proofs.lemmas.List.Folds.{list_all_more}
 use Rattle.scrub_scan.specs.Scanned.{scanned}
 use Rattle.scrub_report.specs.Scrubbed.{is_clean_extent}
 use Rattle.scrub_report.proofs.order.are_clean_extents.Goals as goal
 
-pub loop-found-preserved : goal.loop-found-preserved
-loop-found-preserved g c =
-    let clean : ExtentResult g.row.D.Denot g.D.PageSource → Bool = λ r. is_clean_extent (scanned r) in
-    ap₂ (λ (a b : Bool). a && b) c.loop-found.invariant (c.is_clean_extent-clean.ensures ∙ ap clean c.found-item.is)
-    ∙ sym (list_all_more clean c.args.results.now c.loop-found.found-index c.found-item.result c.loop-found-test.true)
+pub loop-i-preserved : goal.loop-i-preserved
+loop-i-preserved g c =
+    let all = c.args.all.now.extents in
+    let i = c.loop-i.i in
+    let found = scanned c.result_at.result.now in
+    let at = c.result_at.ensures.result in
+    ap₂ (λ (a b : Bool). a && b) c.loop-i.invariant (c.is_clean_extent-clean.ensures ∙ ap is_clean_extent (sym (get_or_from_slice_get all i found found at)))
+    ∙ sym (list_all_more is_clean_extent all i found (slice_get_within all i found at))
 
 pub returns : goal.returns
-returns g c =
-    let clean : ExtentResult g.row.D.Denot g.D.PageSource → Bool = λ r. is_clean_extent (scanned r) in
-    c.loop-found.invariant ∙ ap (list_all clean) (take_all c.loop-found.found-index c.args.results.now c.loop-found-test.false)
-    ∙ sym (list_all-map is_clean_extent scanned c.args.results.now)
+returns g c = c.loop-i.invariant ∙ ap (list_all is_clean_extent) (take_all c.loop-i.i c.args.all.now.extents (omega (arith, c.loop-i-test.false, c.len-i-end.ensures.count)))
