@@ -1,4 +1,5 @@
-//! The items of an extent below its write pointer, and their lines.
+//! The items of an extent below its write pointer, and their lines. Those of `abc` under several pointers, of zeros and of a
+//! frame over an unreadable page are compared in `findings` and `all_findings`.
 
 use super::*;
 
@@ -28,45 +29,6 @@ fn check_frames(
 ) -> Result<(), Fail> {
     let disk = disk_with(alloc, frames, bad_pages)?;
     check_tiling(rt, alloc, &disk, pointer, lines)
-}
-
-#[test]
-fn the_chunk_of_abc_under_pointers_41_40_and_1(rt: HostRuntime) -> Result<(), Fail> {
-    let disk = disk_with(rt.alloc(), &[(0, ONES, b"abc")], &[])?;
-    let whole = ["chunk 0 41 11111111-1111-1111-1111-111111111111 3"];
-    for (pointer, lines) in [
-        (41, whole.as_slice()),
-        (40, &["torn 0 40"]),
-        (1, &["noise 0 1"]),
-        (0, &[]),
-    ] {
-        check_tiling(&rt, rt.alloc(), &disk, pointer, lines)?;
-    }
-    Ok(())
-}
-
-#[test]
-fn the_chunk_of_abc_and_zeros_behind_it(rt: HostRuntime) -> Result<(), Fail> {
-    let lines = [
-        "chunk 0 41 11111111-1111-1111-1111-111111111111 3",
-        "pad 41 64",
-        "pad 64 128",
-        "pad 128 192",
-        "pad 192 256",
-    ];
-    check_frames(&rt, rt.alloc(), &[(0, ONES, b"abc")], &[], 256, &lines)
-}
-
-#[test]
-fn a_blank_extent_is_four_pads(rt: HostRuntime) -> Result<(), Fail> {
-    let lines = ["pad 0 64", "pad 64 128", "pad 128 192", "pad 192 256"];
-    check_frames(&rt, rt.alloc(), &[], &[], 256, &lines)
-}
-
-#[test]
-fn a_frame_over_an_unreadable_page(rt: HostRuntime) -> Result<(), Fail> {
-    let lines = ["torn 0 64", "lost 64 98"];
-    check_frames(&rt, rt.alloc(), &[(0, ONES, &[0x78; 60])], &[1], 98, &lines)
 }
 
 #[test]

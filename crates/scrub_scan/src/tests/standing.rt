@@ -35,6 +35,24 @@ fn standing_at(
     Ok(frame_stands(alloc, disk, pointer, extent, offset)?)
 }
 
+/// Requires that a frame stands at an offset of an extent under a pointer, or that none does.
+fn check_stands(
+    rt: &impl Abort,
+    alloc: Global,
+    disk: &MemDisk,
+    pointer: u32,
+    extent: u32,
+    offset: u32,
+    stands: bool,
+) -> Result<(), Fail> {
+    let found = standing_at(rt, alloc, disk, pointer, extent, offset)?;
+    assert!(rt;
+        found.is_some() == stands,
+        "at {offset} of extent {extent} under {pointer}"
+    );
+    Ok(())
+}
+
 /// The frame of `abc` at a place.
 fn standing_abc(extent: u32, offset: u32) -> Standing {
     Standing {
@@ -79,8 +97,7 @@ fn frames_stand_at_their_places(rt: HostRuntime) -> Result<(), Fail> {
 fn no_frame_stands_where_none_was_written(rt: HostRuntime) -> Result<(), Fail> {
     let disk = two_extents(rt.alloc())?;
     for (pointer, extent, offset) in [(512, 1, 41), (512, 1, 300), (512, 1, 2048), (0, 3, 0)] {
-        let found = standing_at(&rt, rt.alloc(), &disk, pointer, extent, offset)?;
-        assert!(rt; found.is_none(), "at {offset} of extent {extent}");
+        check_stands(&rt, rt.alloc(), &disk, pointer, extent, offset, false)?;
     }
     Ok(())
 }
@@ -89,10 +106,8 @@ fn no_frame_stands_where_none_was_written(rt: HostRuntime) -> Result<(), Fail> {
 fn a_frame_that_ends_one_byte_past_the_pointer_does_not_stand(rt: HostRuntime) -> Result<(), Fail> {
     let disk = two_extents(rt.alloc())?;
     for (end, extent, offset) in [(41, 1, 0), (258, 2, 0), (297, 2, 256)] {
-        let whole = standing_at(&rt, rt.alloc(), &disk, end, extent, offset)?;
-        assert!(rt; whole.is_some(), "ends at {end}");
-        let cut = standing_at(&rt, rt.alloc(), &disk, end - 1, extent, offset)?;
-        assert!(rt; cut.is_none(), "ends at {end}");
+        check_stands(&rt, rt.alloc(), &disk, end, extent, offset, true)?;
+        check_stands(&rt, rt.alloc(), &disk, end - 1, extent, offset, false)?;
     }
     Ok(())
 }
@@ -103,8 +118,7 @@ fn a_frame_with_a_byte_on_an_unreadable_page_does_not_stand(rt: HostRuntime) -> 
     // Frames of 41 bytes. The first ends with page 0; of the others the last byte, part of the head and all lie on page 1.
     for (offset, stands) in [(215, true), (216, false), (240, false), (300, false)] {
         put_frame(rt.alloc(), &mut disk, 1, offset, ONES, b"abc")?;
-        let found = standing_at(&rt, rt.alloc(), &disk, 512, 1, offset)?;
-        assert!(rt; found.is_some() == stands, "at {offset}");
+        check_stands(&rt, rt.alloc(), &disk, 512, 1, offset, stands)?;
     }
     Ok(())
 }
