@@ -1,8 +1,9 @@
-//! For tests: raw images, writers and page sources that misbehave or count, and builders that put frames, records and
-//! runs on disks in memory. What is found on such disks is left to the tests.
+//! For tests: raw images, writers and page sources that misbehave or count, builders that put frames, records and runs on
+//! disks in memory, and the published reports. What is found on such disks is left to the tests.
 #![tactic(auto)]
 
 pub mod disk;
+pub mod published;
 pub mod raw;
 pub mod samples;
 pub mod source;

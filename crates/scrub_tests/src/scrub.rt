@@ -5,9 +5,9 @@ use crate::disks::{
     behind_the_pointer, broken_newest_run, broken_superblock, deleted_in_the_newest_run,
     nine_locators, one_shard_without, run_named_twice, torn_frame, two_superblocks,
 };
-use crate::published::NO_SHARDS;
 use crate::told::scrubbed;
 use scrub_disk::MemDisk;
+use scrub_fakes::published::NO_SHARDS;
 use scrub_report::ScrubAnswer;
 use std::alloc::Global;
 use std::process::Abort;

@@ -4,6 +4,7 @@
 use super::{check, image};
 use crate::running::run;
 use scrub_disk::{MemDisk, PageSource};
+use scrub_fakes::published::{COLLISION, NO_SHARDS, ONE_SHARD, TWINS, ZEROS};
 use scrub_fakes::{
     ENDS_IN_MAGIC, NarrowWriter, ONES, SHARD, TWOS, abc_at, put_chunk, put_frame, put_superblock,
     run_of, shard_of, small_disk,
@@ -13,67 +14,6 @@ use std::alloc::Global;
 use std::process::Abort;
 use std::slice;
 use std::test::Fail;
-
-/// The report of the disk with one shard.
-const ONE_SHARD: &str = concat!(
-    r#"{"broken":[],"candidates":[],"clean":true,"dangling":[],"doubtful":[],"extents":[{"bad":[],"extent":1,"#,
-    r#""items":["chunk 0 41 11111111-1111-1111-1111-111111111111 3"],"live":41,"pointer":41,"tail":0,"tail_at":null},"#,
-    r#"{"bad":[],"extent":2,"#,
-    r#""items":["chunk 0 155 22222222-2222-2222-2222-222222222222 117"],"live":155,"pointer":155,"tail":0,"#,
-    r#""tail_at":null}],"#,
-    r#""geometry":{"extents":3,"page":64,"pages":4},"hidden":[],"orphans":[],"retired":[],"#,
-    r#""runs":[{"entries":1,"extent":2,"offset":0,"state":"read"}],"shards":1,"shared":[],"#,
-    r#""super":{"bad":[],"generation":1,"page":0,"records":1,"tie":false},"twins":[]}"#,
-    "\n"
-);
-
-/// The report of a disk of zeros.
-const ZEROS: &str = concat!(
-    r#"{"broken":[],"candidates":[],"clean":false,"dangling":[],"doubtful":[],"extents":[{"bad":[],"extent":1,"#,
-    r#""items":["pad 0 64","pad 64 128","pad 128 192","pad 192 256"],"live":0,"pointer":256,"tail":0,"tail_at":null},"#,
-    r#"{"bad":[],"extent":2,"#,
-    r#""items":["pad 0 64","pad 64 128","pad 128 192","pad 192 256"],"live":0,"pointer":256,"tail":0,"#,
-    r#""tail_at":null}],"#,
-    r#""geometry":{"extents":3,"page":64,"pages":4},"hidden":[],"orphans":[],"retired":[],"runs":[],"shards":0,"#,
-    r#""shared":[],"super":{"bad":[],"generation":null,"page":null,"records":0,"tie":false},"twins":[]}"#,
-    "\n"
-);
-
-/// The report of the disk with a chunk whose last two bytes are the magic of the next one.
-const COLLISION: &str = concat!(
-    r#"{"broken":[],"candidates":[],"clean":false,"dangling":[],"doubtful":[],"extents":[{"bad":[],"extent":1,"#,
-    r#""items":["chunk 0 66 33333333-3333-3333-3333-33333333c55e 28","noise 66 105"],"live":0,"pointer":105,"#,
-    r#""tail":0,"tail_at":null},"#,
-    r#"{"bad":[],"extent":2,"#,
-    r#""items":["chunk 0 155 22222222-2222-2222-2222-222222222222 117"],"live":155,"pointer":155,"tail":0,"#,
-    r#""tail_at":null}],"#,
-    r#""geometry":{"extents":3,"page":64,"pages":4},"#,
-    r#""hidden":[{"extent":1,"length":3,"offset":64,"owner":"shard 00000000000000000000000000000001","#,
-    r#""uuid":"11111111-1111-1111-1111-111111111111"}],"#,
-    r#""orphans":[{"extent":1,"length":28,"offset":0,"uuid":"33333333-3333-3333-3333-33333333c55e"}],"#,
-    r#""retired":[],"runs":[{"entries":1,"extent":2,"offset":0,"state":"read"}],"shards":1,"shared":[],"#,
-    r#""super":{"bad":[],"generation":1,"page":0,"records":1,"tie":false},"twins":[]}"#,
-    "\n"
-);
-
-/// The report of the disk with twins and a shared place.
-const TWINS: &str = concat!(
-    r#"{"broken":[],"candidates":[{"extent":1,"free":41,"keep":[41]}],"clean":false,"dangling":[],"doubtful":[],"#,
-    r#""extents":[{"bad":[],"extent":1,"#,
-    r#""items":["chunk 0 41 11111111-1111-1111-1111-111111111111 3","#,
-    r#""chunk 41 82 11111111-1111-1111-1111-111111111111 3"],"live":41,"pointer":82,"tail":0,"tail_at":null},"#,
-    r#"{"bad":[],"extent":2,"#,
-    r#""items":["chunk 0 232 22222222-2222-2222-2222-222222222222 194"],"live":232,"pointer":232,"tail":0,"#,
-    r#""tail_at":null}],"#,
-    r#""geometry":{"extents":3,"page":64,"pages":4},"hidden":[],"#,
-    r#""orphans":[{"extent":1,"length":3,"offset":0,"uuid":"11111111-1111-1111-1111-111111111111"}],"#,
-    r#""retired":[],"runs":[{"entries":2,"extent":2,"offset":0,"state":"read"}],"shards":2,"#,
-    r#""shared":[{"count":2,"extent":1,"offset":41}],"#,
-    r#""super":{"bad":[],"generation":1,"page":0,"records":1,"tie":false},"#,
-    r#""twins":[{"extent":1,"length":3,"offset":0,"uuid":"11111111-1111-1111-1111-111111111111"},"#,
-    r#"{"extent":1,"length":3,"offset":41,"uuid":"11111111-1111-1111-1111-111111111111"}]}"#,
-    "\n"
-);
 
 /// The words of a command on a disk with three extents of four pages of 64 bytes.
 const SCAN: &str = "scan --page 64 --pages 4 --extents 3 disk.img";
@@ -167,12 +107,7 @@ fn a_disk_with_one_shard_is_clean(rt: HostRuntime) -> Result<(), Fail> {
 #[test]
 fn a_disk_of_zeros_has_findings(rt: HostRuntime) -> Result<(), Fail> {
     check(&rt, rt.alloc(), SCAN, image(&[0; 768]), (1, ZEROS, ""))?;
-    let index = [
-        0x52, 0x55, 0x4E, 0x31, 0x00, 0x00, 0x00, 0x00, 0x9A, 0x61, 0x1D, 0x9F, 0xB7, 0x17, 0x61,
-        0xFB, 0x2E, 0x22, 0x99, 0xE2, 0xF7, 0xE3, 0x46, 0xC4, 0xEA, 0x61, 0xD8, 0xE2, 0x52, 0x97,
-        0x40, 0x4A, 0xEB, 0x68, 0xD5, 0x4D, 0x2E, 0xEF, 0xB7, 0x96,
-    ];
-    check_index(&rt, rt.alloc(), &[0; 768], (1, &index))
+    check_index(&rt, rt.alloc(), &[0; 768], (1, &NO_SHARDS))
 }
 
 /// The index keeps the shard whose chunk is hidden.
