@@ -92,6 +92,23 @@ fn the_example_has_one_chunk_below_byte_41(rt: HostRuntime) -> Result<(), Fail> 
     )
 }
 
+/// Options in any order, before and behind the image, with a blank or an equals sign before their values.
+#[test]
+fn the_order_of_options_is_of_no_account(rt: HostRuntime) -> Result<(), Fail> {
+    let disk = disk_with(&rt, rt.alloc(), &[(256, ONES, b"abc")])?;
+    for words in [
+        "items --pointer 41 --extent 1 --extents 3 --pages 4 --page 64 disk.img",
+        "items --extent 1 --page 64 --pointer 41 --pages 4 --extents 3 disk.img",
+        "items --extents=3 --pointer=41 --page=64 --extent=1 --pages=4 disk.img",
+        "items --pages=4 --page 64 --extent 1 --extents=3 --pointer 41 disk.img",
+        "items disk.img --extent 1 --pages 4 --extents 3 --pointer 41 --page 64",
+        "items --extent 1 --pages 4 disk.img --pointer=41 --extents 3 --page 64",
+    ] {
+        check(&rt, rt.alloc(), words, image(&disk), (0, ABC_LINE, ""))?;
+    }
+    Ok(())
+}
+
 #[test]
 fn without_a_pointer_the_whole_extent_is_listed(rt: HostRuntime) -> Result<(), Fail> {
     let disk = disk_with(&rt, rt.alloc(), &[(256, ONES, b"abc")])?;
