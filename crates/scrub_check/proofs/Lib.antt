@@ -10,6 +10,7 @@ pub mod StartSearch
 pub mod CheckedLists
 pub mod ExtentsSoFar
 pub mod Reclaimable
+pub mod Rising
 pub mod KeptChunks
 pub mod OneList
 pub mod Filtered

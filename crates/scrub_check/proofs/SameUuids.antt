@@ -1,12 +1,17 @@
 -- Chunks whose UUID stands on another chunk too, found among the sorted UUIDs.
-use Rattle.std.proofs.Common.{◌≡◌, ◌∙◌, ap, ℕ, List, map, cond, nat_lt}
+use Rattle.std.proofs.Common.{◌≡◌, ◌≤◌, ◌∙◌, ap, sym, refl, arith, ℕ, Bool, false, List, [], ◌∷◌, map, cond, nat_lt, is_eq}
 use Rattle.std.specs.Str.{bytes_eq}
 use Rattle.std.specs.List.{filter, count_by}
+use Rattle.std.specs.List.Sorted.{IsStrictlySortedBy}
+use Rattle.std.proofs.lemmas.Cmp.{nat_list_cmp_total}
 use Rattle.std.proofs.lemmas.List.Sorted.{sum_by-IsPermutation}
+use Rattle.std.proofs.lemmas.Map.Text.{is_eq-slice_cmp}
 use Rattle.scrub_scan.specs.Scanned.{Scanned}
+use Rattle.scrub_check.specs.declared.place.Place.{Place}
 use Rattle.scrub_check.specs.Chunks.{chunks, chunks_with, twins}
-use Rattle.scrub_check.specs.ChunkUuids.{AreUuidsOf, is_twin_by}
+use Rattle.scrub_check.specs.ChunkUuids.{uuid_cmp, AreUuidsOf, is_twin_by}
 use Rattle.scrub_check.proofs.Counts.{count_map}
+use Rattle.scrub_check.proofs.Rising.{once_at_most, not_several}
 
 -- how many chunks have a UUID is how often it stands there
 count_uuids : (all : List Scanned) (uuids : List (List ℕ)) (uuid : List ℕ) → AreUuidsOf (chunks all) uuids → count_by (λ other. bytes_eq other uuid) uuids ≡ chunks_with all uuid
@@ -15,3 +20,17 @@ count_uuids all uuids uuid are =
 
 pub twins_found : (all : List Scanned) (uuids : List (List ℕ)) → AreUuidsOf (chunks all) uuids → filter (is_twin_by uuids) (chunks all) ≡ twins all
 twins_found all uuids are = ap (λ test. filter test (chunks all)) (λ i p. nat_lt 1 (count_uuids all uuids p.uuid are i))
+
+-- where the UUIDs rise, no chunk has a twin
+not_twin : (uuids : List (List ℕ)) (one : Place) → IsStrictlySortedBy uuid_cmp uuids → is_twin_by uuids one ≡ false
+not_twin uuids one rising =
+    let same : count_by (λ other. is_eq (uuid_cmp other one.uuid)) uuids ≡ count_by (λ other. bytes_eq other one.uuid) uuids = ap (λ test. count_by test uuids) (λ i other. is_eq-slice_cmp other one.uuid i) in
+    let few = once_at_most nat_list_cmp_total uuids one.uuid rising in
+    not_several (count_by (λ other. bytes_eq other one.uuid) uuids) (omega (arith, same, few))
+
+none_left : (p : Place → Bool) (ps : List Place) → ((one : Place) → p one ≡ false) → filter p ps ≡ []
+none_left p [] fails = refl
+none_left p (x ∷ ps) fails = ap (λ b. cond b (x ∷ filter p ps) (filter p ps)) (fails x) ∙ none_left p ps fails
+
+pub no_twins : (all : List Scanned) (uuids : List (List ℕ)) → AreUuidsOf (chunks all) uuids → IsStrictlySortedBy uuid_cmp uuids → [] ≡ twins all
+no_twins all uuids are rising = sym (none_left (is_twin_by uuids) (chunks all) (λ one. not_twin uuids one rising)) ∙ twins_found all uuids are

@@ -1,5 +1,5 @@
 -- Places that several sound locators point to, found among the sorted ones.
-use Rattle.std.proofs.Common.{◌≡◌, ◌<◌, Bool, List, [], ◌∷◌, map, nat_lt, arith, refl, sym, ◌∙◌, ap, subst, Ordering, Less}
+use Rattle.std.proofs.Common.{◌≡◌, ◌<◌, ◌≤◌, Bool, List, [], ◌∷◌, map, nat_lt, arith, refl, sym, ◌∙◌, ap, subst, Ordering, Less}
 use Rattle.std.specs.Cmp.{IsTotalOrder, nat_cmp_total}
 use Rattle.std.specs.List.{All, Contains, count_by}
 use Rattle.std.specs.List.Sorted.{IsStrictlySortedBy}
@@ -19,7 +19,8 @@ use Rattle.scrub_check.specs.Live.{sound_at}
 use Rattle.scrub_check.specs.Shared.{by_place, IsShared, AreShared}
 use Rattle.scrub_check.specs.SoundStarts.{start_cmp, is_start, AreSoundStarts, place_counted, shared_by}
 use Rattle.scrub_check.proofs.Counts.{any_counts}
-use Rattle.scrub_check.proofs.SortedStarts.{start_exact, count_sound}
+use Rattle.scrub_check.proofs.Rising.{once_at_most}
+use Rattle.scrub_check.proofs.SortedStarts.{start_total, start_exact, count_sound}
 
 pub by_place_total : IsTotalOrder by_place
 by_place_total = then_total (on_total (λ p. p.extent) nat_cmp_total) (on_total (λ p. p.offset) nat_cmp_total)
@@ -67,3 +68,19 @@ shared_found checked starts once places are distinct is = subst (λ (ps : List S
         let among : Contains once start = (distinct.same start).1 (counted_there starts start (omega (arith, so_often, shared.several))) in
         let itself : place_counted starts start ≡ s = λ i. record { extent = s.extent; offset = s.offset; count = so_often i } in
         subst (λ (p : SharedPlace). Contains (map (place_counted starts) once) p) itself (mapped_there (place_counted starts) once start among)
+
+no_places : IsStrictlySortedBy by_place []
+unfolding IsStrictlySortedBy
+no_places = tt
+
+-- where each place stands there once, none is shared
+pub none_shared : (checked : List Checked) (starts : List Start) → AreSoundStarts checked starts → IsStrictlySortedBy start_cmp starts → AreShared checked []
+none_shared checked starts are rising = record {
+  rising = no_places;
+  each = λ k d lt. absurd (omega (arith, lt));
+  all = λ s shared.
+      let start : Start = record { extent = s.extent; offset = s.offset } in
+      let so_often : count_by (is_start start) starts ≡ s.count = count_sound checked starts s.extent s.offset are ∙ sym shared.counted in
+      let few : count_by (is_start start) starts ≤ 1 = once_at_most start_total starts start rising in
+      absurd (omega (arith, so_often, few, shared.several));
+}

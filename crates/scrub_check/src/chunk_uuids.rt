@@ -1,9 +1,10 @@
 //! The UUIDs of chunks, sorted, so that how many chunks have one is found by search.
 
-ghost use Rattle.std.specs.Prelude.{◌≡◌, IfOk, map};
+ghost use Rattle.std.specs.Prelude.{◌≡◌, ◌↔◌, IsTrue, IfOk, map};
 ghost use Rattle.std.specs.Str.{bytes_eq};
 ghost use Rattle.std.specs.List.{count_by};
-ghost use Rattle.scrub_check.specs.ChunkUuids.{AreUuidsOf, is_twin_by};
+ghost use Rattle.std.specs.List.Sorted.{IsStrictlySortedBy};
+ghost use Rattle.scrub_check.specs.ChunkUuids.{uuid_cmp, AreUuidsOf, is_twin_by};
 
 use crate::counting::count_of;
 use crate::place::Place;
@@ -45,6 +46,13 @@ impl ChunkUuids {
         let mut uuids = uuids_of(alloc, chunks)?;
         uuids.sort()?;
         Ok(ChunkUuids { uuids })
+    }
+
+    /// Whether no two of the chunks have one UUID.
+    pub(crate) fn are_distinct(&self) -> bool
+        ensures { IsTrue result ↔ IsStrictlySortedBy uuid_cmp self.now }
+    {
+        self.uuids.is_sorted_by(|one, next| one.cmp(next).is_lt())
     }
 
     /// How many of the chunks have a UUID.

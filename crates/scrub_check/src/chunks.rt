@@ -122,5 +122,8 @@ pub fn twins<D: PageSource>(
 {
     let chunks = all_chunks(alloc, all)?;
     let uuids = ChunkUuids::of(alloc, &chunks)?;
+    if uuids.are_distinct() {
+        return Ok(Vec::new(alloc));
+    }
     twins_among(alloc, &chunks, &uuids)
 }

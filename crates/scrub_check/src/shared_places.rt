@@ -43,6 +43,9 @@ pub fn shared(alloc: Global, checked: &[Checked]) -> Result<Vec<SharedPlace>, Ou
     ensures { IfOk result (λ v. AreShared checked.now v.items) }
 {
     let sound = SoundStarts::of(alloc, checked)?;
+    if sound.are_distinct() {
+        return Ok(Vec::new(alloc));
+    }
     let places = sound.distinct(alloc)?;
     shared_among(alloc, &sound, &places)
 }

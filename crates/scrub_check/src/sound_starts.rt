@@ -1,7 +1,8 @@
 //! The places that sound named locators point to, sorted, so that whether one points to a place is found by search.
 
-ghost use Rattle.std.specs.Prelude.{◌≡◌, ℕ, nat_lt, IfOk, List, map};
+ghost use Rattle.std.specs.Prelude.{◌≡◌, ◌↔◌, ℕ, nat_lt, IsTrue, IfOk, List, map};
 ghost use Rattle.std.specs.List.{count_by, filter};
+ghost use Rattle.std.specs.List.Sorted.{IsStrictlySortedBy};
 ghost use Rattle.scrub_check.specs.declared.checked.Checked.{Checked};
 ghost use Rattle.scrub_check.specs.Checked.{is_sound};
 ghost use Rattle.scrub_check.specs.Distinct.{AreDistinct};
@@ -62,6 +63,13 @@ impl SoundStarts {
         let mut starts = starts_of(alloc, checked)?;
         starts.sort()?;
         Ok(SoundStarts { starts })
+    }
+
+    /// Whether each place stands there once.
+    pub(crate) fn are_distinct(&self) -> bool
+        ensures { IsTrue result ↔ IsStrictlySortedBy start_cmp self.now }
+    {
+        self.starts.is_sorted_by(|one, next| one.cmp(next).is_lt())
     }
 
     /// The places, each once, by extent and then byte.

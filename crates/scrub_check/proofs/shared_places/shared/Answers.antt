@@ -1,8 +1,16 @@
-use Rattle.std.proofs.Common.{◌≡◌, ◌∙◌, ap, rules}
+use Rattle.std.proofs.Common.{◌≡◌, ◌∙◌, ap, List, subst, sym, rules}
 use Rattle.std.proofs.lemmas.Result.{IfOk-weaker}
+use Rattle.scrub_check.specs.declared.place.SharedPlace.{SharedPlace}
+use Rattle.scrub_check.specs.Shared.{AreShared}
 use Rattle.scrub_check.specs.SoundStarts.{shared_by}
-use Rattle.scrub_check.proofs.SharedPlaces.{shared_found}
+use Rattle.scrub_check.proofs.SharedPlaces.{none_shared, shared_found}
 use Rattle.scrub_check.proofs.shared_places.shared.Goals as goal
+
+pub returns-then-are_distinct : goal.returns-then-are_distinct
+returns-then-are_distinct c =
+    let checked = c.args.checked.now in
+    subst (λ (ps : List SharedPlace). AreShared checked ps) (sym c.new.ensures.items)
+    (none_shared checked c.in_ok-sound.sound c.in_ok-sound.ensures (c.are_distinct.ensures.0 (search rules)))
 
 pub returns : goal.returns
 returns c =

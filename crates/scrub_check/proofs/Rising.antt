@@ -1,0 +1,47 @@
+-- Lists that rise strictly: how that is told, and that nothing stands there twice.
+use Rattle.std.proofs.Common.{◌≡◌, ◌≤◌, ◌+◌, ◌∙◌, ap, sym, refl, arith, ℕ, Bool, true, false, List, [], ◌∷◌, length, get_or, nat_lt, Ordering, Less, Equal, Greater, is_eq, is_lt}
+use Rattle.std.specs.Prelude.{◌↔◌, IsTrue}
+use Rattle.std.specs.Ordering.{ordering_reverse}
+use Rattle.std.specs.Cmp.{IsTotalOrder}
+use Rattle.std.specs.List.{All, count_by, IsAllAdjacentAnswer}
+use Rattle.std.specs.List.Sorted.{IsStrictlySortedBy}
+use Rattle.std.proofs.lemmas.Bool.{true≢false, false_from_ne_true, ltb-true}
+use Rattle.std.proofs.lemmas.List.Elements.{All-from_recursion}
+use Rattle.std.proofs.lemmas.Map.Keys.{sorted_from_all_adjacent, Less-from_sorted}
+use Rattle.scrub_check.proofs.Counts.{count_in, count_out, count_between}
+
+less_from_true : (r : Ordering) → is_lt r ≡ true → r ≡ Less
+less_from_true Less e = refl
+less_from_true Equal e = absurd (true≢false (sym e))
+less_from_true Greater e = absurd (true≢false (sym e))
+
+-- elements rise exactly where each is below the next
+pub rises_as_told : {X : Type 0} {R : X → X → Ordering} (o : IsTotalOrder R) (d : X) (xs : List X) (told : Bool) → IsAllAdjacentAnswer (λ x y b. b ≡ is_lt (R x y)) xs told → IsTrue told ↔ IsStrictlySortedBy R xs
+rises_as_told o d xs true below = (λ yes. sorted_from_all_adjacent o xs d (λ k lt. less_from_true _ (sym (below k d lt))), λ rising. refl)
+rises_as_told {R = R} o d xs false (k, lt, falls) = (
+  λ yes. absurd (true≢false (sym yes)),
+  λ rising. falls d ∙ ap is_lt (Less-from_sorted R xs k (k + 1) d rising (omega arith) lt),
+)
+
+-- what is above an element isn't in its place of the order
+above_differs : {X : Type 0} {R : X → X → Ordering} (o : IsTotalOrder R) (x y one : X) → R x one ≡ Equal → R x y ≡ Less → is_eq (R y one) ≡ false
+above_differs o x y one same less = ap is_eq (o.antisymm y one ∙ ap ordering_reverse (sym (o.congr x one y same) ∙ less))
+
+once_more : {X : Type 0} {R : X → X → Ordering} (o : IsTotalOrder R) (x one : X) (xs : List X) (r : Ordering) → R x one ≡ r → All (λ y. R x y ≡ Less) xs →
+    count_by (λ y. is_eq (R y one)) xs ≤ 1 → count_by (λ y. is_eq (R y one)) (x ∷ xs) ≤ 1
+once_more {R = R} o x one xs Less e above few = let none = count_out (λ y. is_eq (R y one)) x xs (ap is_eq e) in omega (arith, none, few)
+once_more {R = R} o x one xs Greater e above few = let none = count_out (λ y. is_eq (R y one)) x xs (ap is_eq e) in omega (arith, none, few)
+once_more {R = R} o x one xs Equal e above few =
+    let first = count_in (λ y. is_eq (R y one)) x xs (ap is_eq e) in
+    let others : count_by (λ y. is_eq (R y one)) xs ≡ 0 = count_between (λ y. is_eq (R y one)) xs 0 0 (omega arith) (omega arith) (λ k d lt. absurd (omega (arith, lt))) (λ k d a lt. absurd (omega (arith, lt)))
+    (λ k d a lt. above_differs o x (get_or xs k d) one e (above k d lt)) in
+    omega (arith, first, others)
+
+-- where elements rise, none stands there twice
+pub once_at_most : {X : Type 0} {R : X → X → Ordering} (o : IsTotalOrder R) (xs : List X) (one : X) → IsStrictlySortedBy R xs → count_by (λ y. is_eq (R y one)) xs ≤ 1
+unfolding IsStrictlySortedBy
+once_at_most o [] one rising = omega arith
+once_at_most {R = R} o (x ∷ xs) one rising = once_more o x one xs (R x one) refl (All-from_recursion (λ y. R x y ≡ Less) xs rising.0) (once_at_most o xs one rising.1)
+
+pub not_several : (n : ℕ) → n ≤ 1 → nat_lt 1 n ≡ false
+not_several n few = false_from_ne_true (nat_lt 1 n) (λ more. let lt = ltb-true 1 n more in omega (arith, lt, few))
