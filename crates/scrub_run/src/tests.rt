@@ -8,6 +8,7 @@ use scrub_frame::{Locator, digest_of, read_locator};
 use std::alloc::Global;
 use std::fmt::Debug;
 use std::process::Abort;
+use std::slice;
 use std::test::Fail;
 
 /// The run of one shard, which has the chunk of `abc` at extent 1, offset 0.
@@ -109,26 +110,37 @@ fn append(bytes: &mut Vec<u8>, entry: &Written) -> Result<(), OutOfMemory> {
 
 /// A payload of more than 32 bytes with one byte changed and its digest made anew.
 fn changed(alloc: Global, payload: &[u8], place: usize, byte: u8) -> Result<Vec<u8>, OutOfMemory> {
-    let mut bytes = Vec::from_slice(alloc, payload)?;
-    bytes.truncate(payload.len().saturating_sub(32));
+    let Some((front, _)) = payload.split_last_chunk::<32>() else {
+        return Vec::from_slice(alloc, payload);
+    };
+    let mut bytes = Vec::from_slice(alloc, front)?;
     if place < bytes.len() {
         bytes[place] = byte;
     }
     body(bytes)
 }
 
-/// Why no run is read, if none is.
-fn fault(alloc: Global, payload: &[u8]) -> Option<RunFault> {
-    read_run(alloc, payload).err()
+/// Requires that the payload is a run, or that it is none.
+fn check_payload(rt: &impl Abort, alloc: Global, payload: &[u8], is_run: bool) {
+    let wanted = if is_run {
+        None
+    } else {
+        Some(RunFault::NotARun)
+    };
+    same(rt, read_run(alloc, payload).err(), wanted);
 }
 
-/// Why no run is read from the payload that claims so many entries and has these, if none is.
-fn fault_of(
+/// Requires that the payload that claims so many entries and has these is a run, or that it is none.
+fn check_entries_taken(
+    rt: &impl Abort,
     alloc: Global,
     claimed: u32,
     entries: &[Written],
-) -> Result<Option<RunFault>, OutOfMemory> {
-    Ok(fault(alloc, &payload(alloc, claimed, entries)?))
+    is_run: bool,
+) -> Result<(), OutOfMemory> {
+    let bytes = payload(alloc, claimed, entries)?;
+    check_payload(rt, alloc, &bytes, is_run);
+    Ok(())
 }
 
 /// Compares entries with their identifiers and locators.
@@ -140,38 +152,44 @@ fn check_entries(rt: &impl Abort, entries: &[Entry], wanted: &[(ShardId, &[Locat
     }
 }
 
+/// Compares the entries of the run that a payload is.
+fn check_read(
+    rt: &impl Abort,
+    alloc: Global,
+    payload: &[u8],
+    wanted: &[(ShardId, &[Locator])],
+) -> Result<(), Fail> {
+    let run = read_run(alloc, payload)?;
+    check_entries(rt, run.entries(), wanted);
+    Ok(())
+}
+
 #[test]
 fn the_run_of_one_shard_is_written(rt: HostRuntime) -> Result<(), Fail> {
     let locators = Vec::from_slice(rt.alloc(), &[abc()])?;
-    let entries = [Entry::new(shard(1), locators)];
-    let bytes = write_run(rt.alloc(), &entries)?;
+    let entry = Entry::new(shard(1), locators);
+    let bytes = write_run(rt.alloc(), slice::from_ref(&entry))?;
     same(&rt, bytes.as_slice(), ONE_SHARD.as_slice());
     Ok(())
 }
 
 #[test]
 fn the_run_of_one_shard_is_read(rt: HostRuntime) -> Result<(), Fail> {
-    let run = read_run(rt.alloc(), &ONE_SHARD)?;
-    check_entries(&rt, run.entries(), &[(shard(1), &[abc()])]);
-    Ok(())
+    check_read(&rt, rt.alloc(), &ONE_SHARD, &[(shard(1), &[abc()])])
 }
 
 #[test]
 fn a_run_of_no_entries_has_40_bytes(rt: HostRuntime) -> Result<(), Fail> {
     let bytes = write_run(rt.alloc(), &[])?;
     same(&rt, bytes.as_slice(), NO_ENTRIES.as_slice());
-    let run = read_run(rt.alloc(), &NO_ENTRIES)?;
-    assert!(rt; run.entries().is_empty());
-    Ok(())
+    check_read(&rt, rt.alloc(), &NO_ENTRIES, &[])
 }
 
 #[test]
 fn a_deleted_shard_has_no_locators(rt: HostRuntime) -> Result<(), Fail> {
     let bytes = payload(rt.alloc(), 1, &[sound(1, 0)])?;
     assert!(rt; bytes.len() == 57);
-    let run = read_run(rt.alloc(), &bytes)?;
-    check_entries(&rt, run.entries(), &[(shard(1), &[])]);
-    Ok(())
+    check_read(&rt, rt.alloc(), &bytes, &[(shard(1), &[])])
 }
 
 #[test]
@@ -182,8 +200,7 @@ fn an_entry_keeps_its_locators_in_order(rt: HostRuntime) -> Result<(), Fail> {
     };
     let kept = [moved, abc(), moved];
     let entry = Entry::new(shard(2), Vec::from_slice(rt.alloc(), &kept)?);
-    same(&rt, entry.id(), shard(2));
-    same(&rt, entry.locators(), kept.as_slice());
+    check_entries(&rt, slice::from_ref(&entry), &[(shard(2), &kept)]);
     Ok(())
 }
 
@@ -208,50 +225,109 @@ fn deleted_behind_equal_bytes(last: [u8; 2]) -> Written {
     }
 }
 
-/// Three identifiers that differ behind their first fourteen bytes alone. The last byte falls where the one before it
-/// rises.
+/// Three entries whose identifiers rise and differ behind their first fourteen bytes alone. The last byte falls where the
+/// one before it rises.
+fn alike() -> (Written, Written, Written) {
+    (
+        deleted_behind_equal_bytes([0, 2]),
+        deleted_behind_equal_bytes([1, 1]),
+        deleted_behind_equal_bytes([1, 2]),
+    )
+}
+
 #[test]
 fn identifiers_that_begin_alike_are_told_apart(rt: HostRuntime) -> Result<(), Fail> {
-    let low = deleted_behind_equal_bytes([0, 2]);
-    let middle = deleted_behind_equal_bytes([1, 1]);
-    let high = deleted_behind_equal_bytes([1, 2]);
+    let (low, middle, high) = alike();
     let bytes = payload(rt.alloc(), 3, &[low, middle, high])?;
-    let run = read_run(rt.alloc(), &bytes)?;
-    check_entries(
+    check_read(
         &rt,
-        run.entries(),
+        rt.alloc(),
+        &bytes,
         &[(low.id, &[]), (middle.id, &[]), (high.id, &[])],
-    );
-    Ok(())
+    )
 }
 
 /// The first two entries exchanged, the last two exchanged, and the last one twice.
 #[test]
 fn identifiers_that_begin_alike_have_to_rise(rt: HostRuntime) -> Result<(), Fail> {
-    let low = deleted_behind_equal_bytes([0, 2]);
-    let middle = deleted_behind_equal_bytes([1, 1]);
-    let high = deleted_behind_equal_bytes([1, 2]);
-    for entries in [[middle, low, high], [low, high, middle], [low, high, high]] {
-        same(
-            &rt,
-            fault_of(rt.alloc(), 3, &entries)?,
-            Some(RunFault::NotARun),
-        );
-    }
+    let (low, middle, high) = alike();
+    check_entries_taken(&rt, rt.alloc(), 3, &[middle, low, high], false)?;
+    check_entries_taken(&rt, rt.alloc(), 3, &[low, high, middle], false)?;
+    check_entries_taken(&rt, rt.alloc(), 3, &[low, high, high], false)?;
     Ok(())
 }
+
+/// One byte of a payload that is changed: its place, and what it becomes.
+struct Change {
+    what: &'static str,
+    place: usize,
+    byte: u8,
+}
+
+/// What makes of the run of two shards with a locator each no run.
+const CHANGES: [Change; 10] = [
+    Change {
+        what: "another magic",
+        place: 3,
+        byte: b'2',
+    },
+    Change {
+        what: "a count one less",
+        place: 7,
+        byte: 1,
+    },
+    Change {
+        what: "a count one more",
+        place: 7,
+        byte: 3,
+    },
+    Change {
+        what: "a count far too great",
+        place: 4,
+        byte: 0xFF,
+    },
+    Change {
+        what: "two equal identifiers",
+        place: 100,
+        byte: 1,
+    },
+    Change {
+        what: "falling identifiers",
+        place: 100,
+        byte: 0,
+    },
+    Change {
+        what: "a first entry that claims no locator",
+        place: 24,
+        byte: 0,
+    },
+    Change {
+        what: "a first entry that claims two",
+        place: 24,
+        byte: 2,
+    },
+    Change {
+        what: "a last entry that claims no locator",
+        place: 101,
+        byte: 0,
+    },
+    Change {
+        what: "a last entry that claims two",
+        place: 101,
+        byte: 2,
+    },
+];
 
 /// Requires that this payload is no run, if one byte of it is changed and its digest made anew.
 fn check_changed(
     rt: &impl Abort,
     alloc: Global,
     payload: &[u8],
-    what: &str,
-    place: usize,
-    byte: u8,
-) -> Result<(), Fail> {
-    let broken = changed(alloc, payload, place, byte)?;
-    assert!(rt; fault(alloc, &broken) == Some(RunFault::NotARun), "{what}");
+    change: &Change,
+) -> Result<(), OutOfMemory> {
+    let broken = changed(alloc, payload, change.place, change.byte)?;
+    let fault = read_run(alloc, &broken).err();
+    assert!(rt; fault == Some(RunFault::NotARun), "{}", change.what);
     Ok(())
 }
 
@@ -259,70 +335,54 @@ fn check_changed(
 fn a_run_with_one_byte_changed_is_none(rt: HostRuntime) -> Result<(), Fail> {
     let bytes = payload(rt.alloc(), 2, &[sound(1, 1), sound(2, 1)])?;
     assert!(rt; bytes.len() == 194);
-    same(&rt, fault(rt.alloc(), &bytes), None);
-    for (what, place, byte) in [
-        ("another magic", 3, b'2'),
-        ("a count one less", 7, 1),
-        ("a count one more", 7, 3),
-        ("a count far too great", 4, 0xFF),
-        ("two equal identifiers", 100, 1),
-        ("falling identifiers", 100, 0),
-        ("a first entry that claims no locator", 24, 0),
-        ("a first entry that claims two", 24, 2),
-        ("a last entry that claims no locator", 101, 0),
-        ("a last entry that claims two", 101, 2),
-    ] {
-        check_changed(&rt, rt.alloc(), &bytes, what, place, byte)?;
+    check_payload(&rt, rt.alloc(), &bytes, true);
+    for change in &CHANGES {
+        check_changed(&rt, rt.alloc(), &bytes, change)?;
     }
     let unchanged = changed(rt.alloc(), &bytes, 3, b'1')?;
-    same(&rt, fault(rt.alloc(), &unchanged), None);
+    check_payload(&rt, rt.alloc(), &unchanged, true);
     Ok(())
 }
 
 #[test]
 fn a_run_with_another_digest_is_none(rt: HostRuntime) {
     let mut bytes = ONE_SHARD;
-    same(&rt, fault(rt.alloc(), &bytes), None);
+    check_payload(&rt, rt.alloc(), &bytes, true);
     bytes[116] ^= 1;
-    same(&rt, fault(rt.alloc(), &bytes), Some(RunFault::NotARun));
+    check_payload(&rt, rt.alloc(), &bytes, false);
     bytes[116] ^= 1;
     bytes[40] ^= 1;
-    same(&rt, fault(rt.alloc(), &bytes), Some(RunFault::NotARun));
+    check_payload(&rt, rt.alloc(), &bytes, false);
+}
+
+/// Bytes with one zero behind them.
+fn with_zero(alloc: Global, bytes: &[u8]) -> Result<Vec<u8>, OutOfMemory> {
+    let mut longer = Vec::from_slice(alloc, bytes)?;
+    longer.push(0)?;
+    Ok(longer)
 }
 
 #[test]
 fn a_run_ends_with_its_digest(rt: HostRuntime) -> Result<(), Fail> {
-    let mut longer = Vec::from_slice(rt.alloc(), &ONE_SHARD)?;
-    longer.push(0)?;
-    same(&rt, fault(rt.alloc(), &longer), Some(RunFault::NotARun));
-    same(
-        &rt,
-        fault(rt.alloc(), &ONE_SHARD[..116]),
-        Some(RunFault::NotARun),
-    );
-    same(&rt, fault(rt.alloc(), &[]), Some(RunFault::NotARun));
-    let mut inner = Vec::from_slice(rt.alloc(), &ONE_SHARD[..85])?;
-    inner.push(0)?;
-    let inner = body(inner)?;
-    same(&rt, fault(rt.alloc(), &inner), Some(RunFault::NotARun));
+    let longer = with_zero(rt.alloc(), &ONE_SHARD)?;
+    let inner = body(with_zero(rt.alloc(), &ONE_SHARD[..85])?)?;
+    check_payload(&rt, rt.alloc(), &longer, false);
+    check_payload(&rt, rt.alloc(), &ONE_SHARD[..116], false);
+    check_payload(&rt, rt.alloc(), &[], false);
+    check_payload(&rt, rt.alloc(), &inner, false);
     Ok(())
 }
 
 #[test]
 fn an_entry_has_at_most_64_locators(rt: HostRuntime) -> Result<(), Fail> {
-    same(&rt, fault_of(rt.alloc(), 1, &[sound(1, 64)])?, None);
     let missing = Written {
         id: shard(1),
         claimed: 64,
         present: 63,
     };
-    for entry in [sound(1, 65), missing] {
-        same(
-            &rt,
-            fault_of(rt.alloc(), 1, &[entry])?,
-            Some(RunFault::NotARun),
-        );
-    }
+    check_entries_taken(&rt, rt.alloc(), 1, &[sound(1, 64)], true)?;
+    check_entries_taken(&rt, rt.alloc(), 1, &[sound(1, 65)], false)?;
+    check_entries_taken(&rt, rt.alloc(), 1, &[missing], false)?;
     Ok(())
 }
 
@@ -331,7 +391,7 @@ fn an_entry_has_at_most_64_locators(rt: HostRuntime) -> Result<(), Fail> {
 fn forty_bytes_claim_the_greatest_count(rt: HostRuntime) -> Result<(), Fail> {
     let bytes = payload(rt.alloc(), 4_294_967_295, &[])?;
     assert!(rt; bytes.len() == 40);
-    same(&rt, fault(rt.alloc(), &bytes), Some(RunFault::NotARun));
+    check_payload(&rt, rt.alloc(), &bytes, false);
     Ok(())
 }
 
