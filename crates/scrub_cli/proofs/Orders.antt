@@ -1,0 +1,174 @@
+-- Two neighbouring options, exchanged: the words ask for the same.
+use Rattle.std.proofs.Common.{◌≡◌, ◌⊎◌, ◌∙◌, inl, inr, ℕ, false, List, [], ◌∷◌, ◌++◌, Option, None, Some, refl, sym, ap, ap₂, subst, codes, MatchOption}
+use Rattle.std.specs.Prelude.{fold, option_and_then, option_map, slice_get, is_some, unwrap_or}
+use Rattle.std.specs.Option.{option_map_or}
+use Rattle.clap.specs.Words.{Row, Text, built, fault_of, one_of, subcommand_of}
+use Rattle.clap.specs.Kinds.{Kinds, or_else}
+use Rattle.clap.specs.Simple.{Shape, entered, names_of, rows_at}
+use Rattle.clap.specs.Walk.{Walk, finished, nothing_held, row_text, settled, walk_from, walked}
+use Rattle.clap.specs.Faults.{check_fault, defaults_fault, entered_fault, level_fault, settle_fault, turn_fault, walk_fault}
+use Rattle.clap.proofs.OnLiterals.{clap_on_literals}
+use Rattle.clap.proofs.FaultLemmas.{stopped_fault}
+use Rattle.clap.proofs.WalkLemmas.{walk_stopped}
+use Rattle.scrub_cli.specs.declared.words.ImageWords.{ImageWords}
+use Rattle.scrub_cli.specs.declared.words.ItemsWords.{ItemsWords}
+use Rattle.scrub_cli.specs.declared.words.Request.{Request}
+use Rattle.scrub_cli.specs.declared.words.Request.TheVariants.{Demo, Items, Scan, Index}
+use Rattle.scrub_cli.specs.CommandLine.{shardscrub_app}
+use Rattle.scrub_cli.specs.Order.{AreExchanged, option_word}
+use Rattle.scrub_cli.specs.Words.{AreImageWords, AreItemsWords, AskFor, IsAskedBy, IsNumberOf}
+use Rattle.scrub_cli.proofs.Walks.{EachRule, parts}
+use Rattle.scrub_cli.proofs.Whole.{built_items, disk}
+use Rattle.scrub_cli.proofs.SameRows.{AreSame, found_same}
+use Rattle.scrub_cli.proofs.Exchanges.{IsByName, end_exchanged, joined}
+
+-- a pair that was found
+pair_names : {A B : Type 0} (a c : A) (b d : B) → ◌≡◌ {A = Option (A × B)} (Some (a, b)) (Some (c, d)) → a ≡ c
+pair_names {A} {B} a c b d same = ap (λ (o : Option (A × B)). option_map_or (λ p. p.0) o a) same
+
+pair_rows : {A B : Type 0} (a c : A) (b d : B) → ◌≡◌ {A = Option (A × B)} (Some (a, b)) (Some (c, d)) → d ≡ b
+pair_rows {A} {B} a c b d same = sym (ap (λ (o : Option (A × B)). option_map_or (λ p. p.1) o b) same)
+
+abbrev some_pair : Text → List Row → Option (Text × List Row)
+some_pair name rows = Some (name, rows)
+
+-- what is looked up by name is the same
+module _ (xs ys : List Row) (same : AreSame xs ys) where
+  one_same : (id : Text) → one_of id xs ≡ one_of id ys
+  one_same id = ap (option_and_then row_text) (found_same id xs ys (same id))
+
+  number_same : (id : Text) (n : ℕ) → IsNumberOf xs id n → IsNumberOf ys id n
+  number_same id n read = (read.0, sym (one_same id) ∙ read.1, read.2, read.3)
+
+  image_same : (words : ImageWords) → AreImageWords xs words → AreImageWords ys words
+  image_same words read = record {
+    page = number_same (codes "page") words.page read.page;
+    pages = number_same (codes "pages") words.pages read.pages;
+    extents = number_same (codes "extents") words.extents read.extents;
+    name = sym (ap (option_and_then (λ (r : Row). slice_get r.values 0)) (found_same (codes "image") xs ys (same (codes "image")))) ∙ read.name;
+    bad_pages = read.bad_pages ∙ ap (λ (o : Option Row). unwrap_or (option_map (λ r. r.values) o) []) (found_same (codes "bad-pages") xs ys (same (codes "bad-pages")));
+  }
+
+  items_same : (words : ItemsWords) → AreItemsWords xs words → AreItemsWords ys words
+  items_same words read = record {
+    image = image_same words.image read.image;
+    extent = number_same (codes "extent") words.extent read.extent;
+    pointer = go words.pointer read.pointer;
+  }
+    where
+      go : (o : Option ℕ) → MatchOption o (one_of (codes "pointer") xs ≡ None) (IsNumberOf xs (codes "pointer")) → MatchOption o (one_of (codes "pointer") ys ≡ None) (IsNumberOf ys (codes "pointer"))
+      go None none = sym (one_same (codes "pointer")) ∙ none
+      go (Some n) read = number_same (codes "pointer") n read
+
+  renamed : (name other : Text) (found : List Row) → ◌≡◌ {A = Option (Text × List Row)} (Some (name, xs)) (Some (other, found))
+      → ◌≡◌ {A = Option (Text × List Row)} (Some (name, ys)) (Some (other, ys))
+  renamed name other found is = ap (λ (n : Text). some_pair n ys) (pair_names name other xs found is)
+
+  pub asked_same : (name : Text) (request : Request) → IsAskedBy (Some (name, xs)) request → IsAskedBy (Some (name, ys)) request
+  asked_same name Demo (inl none) = cc
+  asked_same name Demo (inr named) = inr (ys, renamed name (codes "demo") named.0 named.1)
+  asked_same name (Items words) asked =
+      (ys, renamed name (codes "items") asked.0 asked.1, items_same words (subst (λ (rows : List Row). AreItemsWords rows words) (pair_rows name (codes "items") xs asked.0 asked.1) asked.2))
+  asked_same name (Scan words) asked =
+      (ys, renamed name (codes "scan") asked.0 asked.1, image_same words (subst (λ (rows : List Row). AreImageWords rows words) (pair_rows name (codes "scan") xs asked.0 asked.1) asked.2))
+  asked_same name (Index words) asked =
+      (ys, renamed name (codes "index") asked.0 asked.1, image_same words (subst (λ (rows : List Row). AreImageWords rows words) (pair_rows name (codes "index") xs asked.0 asked.1) asked.2))
+
+-- the commands as `clap` builds them are known by their names
+disk_by_name : (name : Text) → EachRule IsByName (disk name).rules
+unfolding clap_on_literals
+disk_by_name name = (
+  (refl, inr refl, refl, refl),
+  ((refl, inr refl, refl, refl), ((refl, inr refl, refl, refl), ((refl, inl refl, refl, refl), ((refl, inl refl, refl, refl), ((refl, inr refl, refl, refl), tt))))),
+)
+
+items_by_name : EachRule IsByName built_items.rules
+unfolding clap_on_literals
+items_by_name = (
+  (refl, inr refl, refl, refl),
+  (
+    (refl, inr refl, refl, refl),
+    (
+      (refl, inr refl, refl, refl),
+      (
+        (refl, inr refl, refl, refl),
+        (
+          (refl, inr refl, refl, refl),
+          ((refl, inl refl, refl, refl), ((refl, inl refl, refl, refl), ((refl, inr refl, refl, refl), tt))),
+        ),
+      ),
+    ),
+  ),
+)
+
+-- the words of a command are left to it
+abbrev stopped : Text → List Text → Walk
+stopped command words = record (walk_from nothing_held) { stopped = Some (command, words) }
+
+abbrev after_walk : Kinds → Walk → Kinds
+after_walk walks w =
+    let app = built shardscrub_app in
+    or_else walks (or_else (entered_fault app w.stopped) (or_else (settle_fault app.top.rules app.top.args_override_self w.held)
+    (or_else (defaults_fault (settled app.top.rules w.held).rows app.top.rules) (check_fault app.top (finished app.top.rules w.held) (is_some (entered app w.stopped))))))
+
+record Enters (command : Text) (below : Shape) : Type 0 where
+  first : walked (built shardscrub_app).top.rules (names_of (built shardscrub_app)) (walk_from nothing_held) command ≡ stopped command []
+  clean : turn_fault (built shardscrub_app).top (names_of (built shardscrub_app)) (walk_from nothing_held) command ≡ []
+  faults : (words : List Text) → after_walk [] (stopped command words) ≡ or_else (level_fault below [] nothing_held words false []) []
+  rows : (words : List Text) → entered (built shardscrub_app) (Some (command, words)) ≡ Some (rows_at below words)
+
+enters_scan : Enters (codes "scan") (disk (codes "scan"))
+unfolding clap_on_literals
+enters_scan = record { first = refl; clean = refl; faults = λ words. refl; rows = λ words. refl }
+
+enters_index : Enters (codes "index") (disk (codes "index"))
+unfolding clap_on_literals
+enters_index = record { first = refl; clean = refl; faults = λ words. refl; rows = λ words. refl }
+
+enters_items : Enters (codes "items") built_items
+unfolding clap_on_literals
+enters_items = record { first = refl; clean = refl; faults = λ words. refl; rows = λ words. refl }
+
+module _ (command : Text) (below : Shape) (enters : Enters command below) where
+  abbrev top : Shape
+  top = (built shardscrub_app).top
+
+  ends : (words : List Text) → fold (walked top.rules (names_of (built shardscrub_app))) (walk_from nothing_held) (command ∷ words) ≡ stopped command words
+  ends words = ap (λ (w : Walk). fold (walked top.rules (names_of (built shardscrub_app))) w words) enters.first
+      ∙ sym (walk_stopped top.rules (names_of (built shardscrub_app)) (walk_from nothing_held) command [] words)
+
+  walks : (words : List Text) → walk_fault top (names_of (built shardscrub_app)) (walk_from nothing_held) (command ∷ words) ≡ []
+  unfolding walk_fault
+  walks words = joined (turn_fault top (names_of (built shardscrub_app)) (walk_from nothing_held) command) _ enters.clean (ap (λ (w : Walk). walk_fault top (names_of (built shardscrub_app)) w words) enters.first
+      ∙ stopped_fault top (names_of (built shardscrub_app)) (walk_from nothing_held) (command, []) words)
+
+  fault_is : (words : List Text) → fault_of shardscrub_app (command ∷ words) ≡ or_else (level_fault below [] nothing_held words false []) []
+  fault_is words = ap₂ after_walk (walks words) (ends words) ∙ enters.faults words
+
+  rows_are : (words : List Text) → subcommand_of shardscrub_app (command ∷ words) ≡ Some (rows_at below words)
+  rows_are words = ap (λ (w : Walk). entered (built shardscrub_app) w.stopped) (ends words) ∙ enters.rows words
+
+  exchanged : EachRule IsByName below.rules → below.arg_required_else_help ≡ false → (words others : List Text) (x : AreExchanged words others) → x.command ≡ command
+      → (request : Request) → AskFor words request → AskFor others request
+  exchanged by_name plain words others x named request asked =
+      let pair : List Text = option_word x.name x.value ∷ (option_word x.other_name x.other_value ∷ x.after) in
+      let turned : List Text = option_word x.other_name x.other_value ∷ (option_word x.name x.value ∷ x.after) in
+      let words_are : words ≡ command ∷ (x.before ++ pair) = x.one ∙ ap (λ (c : Text). c ∷ (x.before ++ pair)) named in
+      let others_are : others ≡ command ∷ (x.before ++ turned) = x.other ∙ ap (λ (c : Text). c ∷ (x.before ++ turned)) named in
+      let was : AskFor (command ∷ (x.before ++ pair)) request = subst (λ (ws : List Text). AskFor ws request) words_are asked in
+      let clean = (parts (level_fault below [] nothing_held (x.before ++ pair) false []) [] (sym (fault_is (x.before ++ pair)) ∙ was.0)).0 in
+      let both = end_exchanged below by_name x.name x.value x.other_name x.other_value x.named x.other_named x.apart x.after x.before x.no_end plain clean in
+      let faults : fault_of shardscrub_app (command ∷ (x.before ++ turned)) ≡ [] = fault_is (x.before ++ turned) ∙ joined (level_fault below [] nothing_held (x.before ++ turned) false []) [] both.0 refl in
+      let asks : IsAskedBy (Some (rows_at below (x.before ++ pair))) request = subst (λ (met : Option (Text × List Row)). IsAskedBy met request) (rows_are (x.before ++ pair)) was.1 in
+      let still = asked_same _ _ both.1 below.name request asks in
+      subst (λ (ws : List Text). AskFor ws request) (sym others_are)
+      (faults, subst (λ (met : Option (Text × List Row)). IsAskedBy met request) (sym (rows_are (x.before ++ turned))) still)
+
+-- the law
+pub order_is_free : (words others : List Text) (request : Request) → AreExchanged words others → AskFor words request → AskFor others request
+order_is_free words others request x asked = go x.options
+  where
+    go : (x.command ≡ codes "scan") ⊎ (x.command ≡ codes "index") ⊎ (x.command ≡ codes "items") → AskFor others request
+    go (inl scan) = exchanged (codes "scan") (disk (codes "scan")) enters_scan (disk_by_name (codes "scan")) refl words others x scan request asked
+    go (inr (inl index)) = exchanged (codes "index") (disk (codes "index")) enters_index (disk_by_name (codes "index")) refl words others x index request asked
+    go (inr (inr items)) = exchanged (codes "items") built_items enters_items items_by_name refl words others x items request asked
