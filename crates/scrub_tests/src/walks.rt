@@ -43,8 +43,8 @@ fn place_of(extent: u32, item: &Item) -> Option<Place> {
 /// The chunks of a disk, by extent and then start.
 fn walk_chunks(alloc: Global, all: &AllFindings<'_, MemDisk>) -> Result<Vec<Place>, Fail> {
     let mut places = Vec::new(alloc);
-    for one in all.results() {
-        add_chunks(&mut places, one)?;
+    for i in 0..all.len() {
+        add_chunks(&mut places, all.result_at(i))?;
     }
     Ok(places)
 }
@@ -173,7 +173,8 @@ fn walk_candidates(
     checked: &[Checked],
 ) -> Result<Vec<Reclaimed>, Fail> {
     let mut found = Vec::new(alloc);
-    for one in all.results() {
+    for i in 0..all.len() {
+        let one = all.result_at(i);
         let (keep, live) = walk_live(alloc, one, checked)?;
         if is_known(disk, one, checked) && 2 * live as u64 <= one.pointer() as u64 {
             found.push(Reclaimed {
@@ -254,7 +255,8 @@ fn check(rt: &impl Abort, alloc: Global, disk: &MemDisk) -> Result<(), Fail> {
     let found = shared(alloc, &checked)?;
     same(rt, found, walk_shared(alloc, disk, &checked)?);
     check_candidates(rt, alloc, disk, &all, &checked)?;
-    for one in all.results() {
+    for i in 0..all.len() {
+        let one = all.result_at(i);
         check_starts(rt, alloc, disk, one.extent(), one.pointer())?;
     }
     Ok(())
