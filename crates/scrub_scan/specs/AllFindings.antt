@@ -1,5 +1,5 @@
 -- The findings of one reader, who goes through the planned extents in the order of their numbers.
-use Rattle.std.specs.Prelude.{◌≡◌, ◌==◌, ℕ, List, All, map, Some, Option, option_map}
+use Rattle.std.specs.Prelude.{◌≡◌, ◌<◌, ◌==◌, ℕ, List, All, map, Some, Option, option_map, length, slice_index}
 use Rattle.std.specs.List.{find}
 use Rattle.std.specs.List.Sorted.{IsStrictlyIncreasing}
 use Rattle.scrub_disk.specs.Image.{Image}
@@ -16,6 +16,10 @@ pub record ScannedDisk (D : Type 0) : Type 0 where
 -- the numbers of the extents
 abbrev pub extent_numbers : List Scanned → List ℕ
 extent_numbers all = map (λ f. f.extent) all
+
+-- extent e was scanned as the i-th
+abbrev pub IsPlaceOf : List Scanned → ℕ → ℕ → Type 0
+IsPlaceOf all e i = (i < length all) × (slice_index (extent_numbers all) i ≡ e)
 
 -- what was found in extent e, where it was scanned
 abbrev pub entry_of : List Scanned → ℕ → Option Scanned

@@ -6,7 +6,7 @@ ghost use Rattle.std.specs.List.Sorted.{IsStrictlyIncreasing};
 ghost use Rattle.scrub_disk.specs.Image.{Image};
 ghost use Rattle.scrub_scan.specs.Scanned.{result_image};
 ghost use Rattle.scrub_scan.specs.Slots.{AreFull, held_in, scanned_in};
-ghost use Rattle.scrub_scan.specs.AllFindings.{extent_numbers};
+ghost use Rattle.scrub_scan.specs.AllFindings.{IsPlaceOf, extent_numbers};
 
 use crate::extent_result::ExtentResult;
 use crate::findings::Findings;
@@ -58,7 +58,7 @@ fn number_in<D: PageSource>(slot: &Option<ExtentResult<'_, D>>) -> u32
 fn position_of<D: PageSource>(slots: &[Option<ExtentResult<'_, D>>], extent: u32) -> Option<usize>
     requires full { AreFull slots.now }
     requires rising { IsStrictlyIncreasing (extent_numbers (scanned_in slots.now)) }
-    ensures found { IfSome result (λ i. (i < length (scanned_in slots.now)) × (slice_index (extent_numbers (scanned_in slots.now)) i ≡ extent)) }
+    ensures found { IfSome result (IsPlaceOf (scanned_in slots.now) extent) }
     ensures none { IfNone result (¬ Contains (extent_numbers (scanned_in slots.now)) extent) }
 {
     slots

@@ -1,0 +1,79 @@
+-- What a complete pool has.
+use Rattle.std.proofs.Common.{Some, ◌≡◌, ◌<◌, ◌==◌, ◌&&◌, ◌++◌, ◌∷◌, ◌∙◌, ℕ, suc, List, [], Bool, true, false, Option, None, All, length, get_or, sum_by, arith, refl, sym, ap, subst, slice_get, is_none}
+use Rattle.std.specs.List.{Contains, list_all}
+use Rattle.std.specs.List.Sorted.{IsStrictlyIncreasing}
+use Rattle.std.specs.Option.{option_to_list}
+use Rattle.std.proofs.lemmas.Bool.{true≢false}
+use Rattle.std.proofs.lemmas.Bool.Decides.{nat_tests}
+use Rattle.std.proofs.lemmas.List.{get_or_default}
+use Rattle.std.proofs.lemmas.List.Elements.{All-contains}
+use Rattle.std.proofs.lemmas.List.Sums.{sum_by-cons, get_or-le-sum_by}
+use Rattle.std.proofs.lemmas.Option.{slice_get_within, get_or_from_slice_get}
+use Rattle.scrub_disk.specs.Image.{Image}
+use Rattle.scrub_super.specs.Plan.{PlanValue}
+use Rattle.scrub_super.specs.Planned.{ArePlanned}
+use Rattle.scrub_scan.specs.Scanned.{Scanned}
+use Rattle.scrub_scan.specs.AllFindings.{extent_numbers, AreAllFindings}
+use Rattle.scrub_book.specs.Pool.{MemberValue, PoolState, start, is_complete, having, IsAccount, IsScanned, IsMember, IsPool, IsAssembly, IsOnceEach, EveryScheduleFinds}
+use Rattle.scrub_book.proofs.Counts.{one_for, contained_counts, counted_contained, rising_once}
+use Rattle.scrub_book.proofs.Pools.{start_is, leads_keeps}
+
+both : (a b : Bool) → (a && b) ≡ true → (a ≡ true) × (b ≡ true)
+both true b is = (refl, is)
+both false b is = absurd (true≢false (sym is))
+
+is_empty : {X : Type 0} (xs : List X) → (length xs == 0) ≡ true → xs ≡ []
+is_empty [] is = refl
+is_empty (x ∷ xs) is = let none : length (x ∷ xs) ≡ 0 = grind (arith, nat_tests) in absurd (omega (arith, none))
+
+holds_none : {X : Type 0} (o : Option X) → is_none o ≡ true → o ≡ None
+holds_none None is = refl
+holds_none (Some x) is = absurd (true≢false (sym is))
+
+module _ (image : Image) (plan : PlanValue) where
+  -- members that are through have nothing
+  through_have : (f : ℕ → ℕ) (ms : List MemberValue) → All (IsMember image plan) ms → list_all (λ m. is_none m.held && m.has_retired) ms ≡ true → sum_by (λ m. sum_by f (having m)) ms ≡ 0
+  through_have f [] are through = refl
+  through_have f (m ∷ ms) are through =
+      let parts = both (is_none m.held && m.has_retired) (list_all (λ x. is_none x.held && x.has_retired) ms) through in
+      let facts = both (is_none m.held) m.has_retired parts.0 in
+      let left = (are 0 m (omega arith)).left facts.1 in
+      let none : sum_by f (having m) ≡ 0 = ap (λ (o : Option ℕ). sum_by f (option_to_list o ++ extent_numbers m.results)) left.0 ∙ ap (λ (rs : List Scanned). sum_by f (extent_numbers rs)) left.1 in
+      omega (arith, sum_by-cons (λ x. sum_by f (having x)) m ms, none, through_have f ms (λ k d below. are (suc k) d (omega (arith, below))) parts.1)
+
+  -- the arrivals of a complete pool are the planned extents, each as often
+  pub complete_sums : (p : PoolState) → IsPool image plan p → is_complete p ≡ true → (f : ℕ → ℕ) → sum_by f (extent_numbers p.arrivals) ≡ sum_by f plan.planned
+  complete_sums p pool complete f =
+      let parts = both (length p.queue == 0) (list_all (λ m. is_none m.held && m.has_retired) p.members) complete in
+      let queue : sum_by f p.queue ≡ 0 = ap (sum_by f) (is_empty p.queue parts.0) in
+      omega (arith, pool.account f, queue, through_have f p.members pool.members parts.1)
+
+  -- what a member holds is planned
+  pub held_planned : (p : PoolState) (v : ℕ) (m : MemberValue) (e : ℕ) → IsAccount plan p → slice_get p.members v ≡ Some m → m.held ≡ Some e → Contains plan.planned e
+  held_planned p v m e account at held =
+      let below : v < length p.members = slice_get_within p.members v m at in
+      let among = get_or-le-sum_by (λ x. sum_by (one_for e) (having x)) p.members v m below in
+      let is : sum_by (one_for e) (having (get_or p.members v m)) ≡ sum_by (one_for e) (having m) = ap (λ x. sum_by (one_for e) (having x)) (get_or_from_slice_get p.members v m m at) in
+      let there = contained_counts (having m) e (subst (λ (o : Option ℕ). Contains (option_to_list o ++ extent_numbers m.results) e) (sym held) (0, omega arith, refl)) in
+      counted_contained plan.planned e (omega (arith, account (one_for e), among, is, there))
+
+  pub once_each : (p : PoolState) → IsStrictlyIncreasing plan.planned → ((f : ℕ → ℕ) → sum_by f (extent_numbers p.arrivals) ≡ sum_by f plan.planned) → IsOnceEach plan p
+  once_each p rising same = record {
+    once = λ e there. omega (arith, same (one_for e), contained_counts plan.planned e there, rising_once plan.planned e rising);
+    no_other = λ k d below.
+        let e = get_or (extent_numbers p.arrivals) k d in
+        counted_contained plan.planned e (omega (arith, same (one_for e), contained_counts (extent_numbers p.arrivals) e (k, below, get_or_default (extent_numbers p.arrivals) k e d below)));
+  }
+
+  -- what is assembled of arrivals that are what the image holds is what one reader finds
+  pub assembled : (p : PoolState) (all : List Scanned) → All (IsScanned image plan) p.arrivals → IsAssembly plan p all → AreAllFindings image plan all
+  assembled p all are is = record {
+    extents = is.extents;
+    pointers = λ k d below. (All-contains (IsScanned image plan) p.arrivals (get_or all k d) are (is.arrived k d below)).pointer_is;
+    findings = λ k d below. (All-contains (IsScanned image plan) p.arrivals (get_or all k d) are (is.arrived k d below)).found;
+  }
+
+  pub every_schedule : ArePlanned plan.geometry.extents plan.planned → EveryScheduleFinds image plan
+  every_schedule planned workers events p leads complete =
+      let pool = leads_keeps image plan (start plan workers) events p leads (start_is image plan workers) in
+      (once_each p planned.rising (complete_sums p pool complete), λ all is. assembled p all pool.arrivals is)

@@ -1,0 +1,57 @@
+-- How often a number stands in a list.
+use Rattle.std.proofs.Common.{◌≡◌, ◌<◌, ◌≤◌, ◌==◌, ◌∷◌, ℕ, suc, List, [], Bool, true, false, length, get_or, cond, arith, refl, ap}
+use Rattle.std.specs.List.{Contains, count_by}
+use Rattle.std.specs.List.Sorted.{IsStrictlyIncreasing}
+use Rattle.std.proofs.lemmas.Bool.Decides.{nat_tests}
+use Rattle.std.proofs.lemmas.List.Kept.{AllPairs-from_increasing}
+use Rattle.std.proofs.lemmas.List.Sums.{get_or-le-sum_by, sum_by-cons}
+
+-- 1 for this number, 0 for any other
+abbrev pub one_for : ℕ → ℕ → ℕ
+one_for e x = cond (x == e) 1 0
+
+pub is_one : (e x : ℕ) → (x == e) ≡ true → one_for e x ≡ 1
+is_one e x same = ap (λ (b : Bool). let n : ℕ = cond b 1 0 in n) same
+
+is_zero : (e x : ℕ) → (x == e) ≡ false → one_for e x ≡ 0
+is_zero e x other = ap (λ (b : Bool). let n : ℕ = cond b 1 0 in n) other
+
+-- once at least where it is contained
+pub contained_counts : (xs : List ℕ) (e : ℕ) → Contains xs e → 1 ≤ count_by (λ x. x == e) xs
+contained_counts xs e there =
+    let same : (get_or xs there.0 e == e) ≡ true = grind (arith, nat_tests, there.2) in
+    omega (arith, get_or-le-sum_by (one_for e) xs there.0 e there.1, is_one e (get_or xs there.0 e) same)
+
+-- contained where it stands there
+pub counted_contained : (xs : List ℕ) (e : ℕ) → 1 ≤ count_by (λ x. x == e) xs → Contains xs e
+counted_contained [] e some = absurd (omega (arith, some))
+counted_contained (x ∷ xs) e some = by (x == e) refl (counted_contained xs e)
+  where
+    by : (b : Bool) → (x == e) ≡ b → (1 ≤ count_by (λ y. y == e) xs → Contains xs e) → Contains (x ∷ xs) e
+    by true is later = let same : x ≡ e = grind (arith, nat_tests) in (0, omega arith, same)
+    by false is later =
+        let rest = later (omega (arith, some, sum_by-cons (one_for e) x xs, is_zero e x is)) in
+        (suc rest.0, omega (arith, rest.1), rest.2)
+
+-- never where all are above it
+above : (xs : List ℕ) (e : ℕ) → ((k : ℕ) → k < length xs → e < get_or xs k 0) → count_by (λ x. x == e) xs ≡ 0
+above [] e more = refl
+above (x ∷ xs) e more =
+    let less : e < x = more 0 (omega arith) in
+    let other : (x == e) ≡ false = grind (arith, nat_tests) in
+    omega (arith, sum_by-cons (one_for e) x xs, is_zero e x other, above xs e (λ k below. more (suc k) (omega (arith, below))))
+
+once : (xs : List ℕ) (e : ℕ) → ((i j : ℕ) → i < j → j < length xs → get_or xs i 0 < get_or xs j 0) → count_by (λ x. x == e) xs ≤ 1
+once [] e rise = omega arith
+once (x ∷ xs) e rise = by (x == e) refl (once xs e (λ i j less below. rise (suc i) (suc j) (omega (arith, less)) (omega (arith, below))))
+  where
+    by : (b : Bool) → (x == e) ≡ b → count_by (λ y. y == e) xs ≤ 1 → count_by (λ y. y == e) (x ∷ xs) ≤ 1
+    by true is rest =
+        let same : x ≡ e = grind (arith, nat_tests) in
+        let none = above xs e (λ k below. let less = rise 0 (suc k) (omega arith) (omega (arith, below)) in omega (arith, less, same)) in
+        omega (arith, sum_by-cons (one_for e) x xs, is_one e x is, none)
+    by false is rest = omega (arith, sum_by-cons (one_for e) x xs, is_zero e x is, rest)
+
+-- once at most where the numbers rise
+pub rising_once : (xs : List ℕ) (e : ℕ) → IsStrictlyIncreasing xs → count_by (λ x. x == e) xs ≤ 1
+rising_once xs e rising = once xs e (λ i j less below. AllPairs-from_increasing xs rising i j 0 less below)

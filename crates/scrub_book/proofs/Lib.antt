@@ -1,0 +1,6 @@
+pub mod Pools
+pub mod Counts
+pub mod Complete
+pub mod Places
+pub mod Kept
+pub mod Assembling

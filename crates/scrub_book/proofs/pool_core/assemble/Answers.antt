@@ -1,0 +1,73 @@
+use Rattle.std.proofs.Common.{◌≡◌, ◌++◌, ◌∷◌, ◌∙◌, [], ℕ, suc, List, All, Some, map, sum_by, length, ap, arith, append-nil, subst, sym, refl}
+use Rattle.std.specs.List.{Contains}
+use Rattle.std.specs.List.Sorted.{IsPermutation}
+use Rattle.std.specs.Vec.Iter.{into_iter_items}
+use Rattle.std.proofs.lemmas.Simd.{map-map}
+use Rattle.scrub_super.specs.Plan.{pointer_of, PlanValue}
+use Rattle.scrub_scan.specs.declared.extent_result.ExtentResult.{ExtentResult}
+use Rattle.scrub_scan.specs.Scanned.{Scanned, result_image, scanned}
+use Rattle.scrub_scan.specs.AllFindings.{extent_numbers}
+use Rattle.scrub_book.specs.Extents.{extents_of}
+use Rattle.scrub_book.proofs.Assembling.{one_more_came, next_planned, next_first, all_came, not_refused}
+use Rattle.scrub_book.proofs.pool_core.assemble.Goals as goal
+
+nothing_left : {X : Type 0} (xs : List X) → length xs ≡ 0 → xs ≡ []
+nothing_left [] none = refl
+nothing_left (x ∷ xs) none = absurd (omega (arith, none))
+
+-- a fact of all but the first
+rest_of : {X : Type 0} (P : X → Type 0) (xs rest : List X) (x : X) → xs ≡ x ∷ rest → All P xs → All P rest
+rest_of {X} P xs rest x is all k d below = (subst (λ (ys : List X). All P ys) is all) (suc k) d (omega (arith, below))
+
+-- what arrived are the planned extents
+each_of : {D : Type 0} {s : _} (planned : List ℕ) (rs : List (ExtentResult D s)) → ((f : ℕ → ℕ) → sum_by f (extents_of rs) ≡ sum_by f planned) → (f : ℕ → ℕ) → sum_by f (extent_numbers (map (λ (r : ExtentResult D s). scanned r) rs)) ≡ sum_by f planned
+each_of {D} {s} planned rs each f = ap (sum_by f) (map-map (λ x. x.extent) (λ (r : ExtentResult D s). scanned r) rs) ∙ each f
+
+-- the next that comes
+next_of : {D : Type 0} {s : _} (all : List Scanned) (came : List Scanned) (rs rest : List (ExtentResult D s)) (r : ExtentResult D s) → rs ≡ r ∷ rest →
+    IsPermutation all (came ++ map (λ (x : ExtentResult D s). scanned x) rs) → IsPermutation all (came ++ scanned r ∷ map (λ (x : ExtentResult D s). scanned x) rest)
+next_of {D} {s} all came rs rest r is so_far = subst (λ (ys : List (ExtentResult D s)). IsPermutation all (came ++ map (λ (x : ExtentResult D s). scanned x) ys)) is so_far
+
+-- nothing more comes
+none_of : {D : Type 0} {s : _} (all : List Scanned) (came : List Scanned) (rs : List (ExtentResult D s)) → rs ≡ [] → IsPermutation all (came ++ map (λ (x : ExtentResult D s). scanned x) rs) → IsPermutation all came
+none_of {D} {s} all came rs is so_far =
+    subst (λ (xs : List Scanned). IsPermutation all xs) (append-nil came) (subst (λ (ys : List (ExtentResult D s)). IsPermutation all (came ++ map (λ (x : ExtentResult D s). scanned x) ys)) is so_far)
+
+pub loop-found-preserved : goal.loop-found-preserved
+loop-found-preserved g c =
+    let inv = c.loop-found.invariant in
+    let all = map (λ (r : ExtentResult g.row.D.Denot g.D.PageSource). scanned r) c.args.arrived.items in
+    let added = c.in-Ok.ensures.added in record {
+      source = added.source ∙ inv.source;
+      plan = added.plan ∙ inv.plan;
+      came = one_more_came all c.loop-found.book.came _ c.add.new.self.came (scanned c.in-Some.found) (next_of all c.loop-found.book.came _ _ c.in-Some.found c.in-Some.ensures.steps.0 inv.came) added.came;
+      images = rest_of (λ (r : ExtentResult g.row.D.Denot g.D.PageSource). result_image r ≡ g.D.PageSource.image c.args.book.source) _ _ c.in-Some.found c.in-Some.ensures.steps.0 inv.images;
+      pointers = rest_of (λ (r : ExtentResult g.row.D.Denot g.D.PageSource). pointer_of c.args.book.plan r.extent ≡ Some r.pointer) _ _ c.in-Some.found c.in-Some.ensures.steps.0 inv.pointers;
+    }
+
+-- each that arrived is planned, and comes once
+pub unreachable-requires : goal.unreachable-requires
+unreachable-requires g c =
+    let inv = c.loop-found.invariant in
+    let book = c.loop-found.book in
+    let all = map (λ (r : ExtentResult g.row.D.Denot g.D.PageSource). scanned r) c.args.arrived.items in
+    let each = each_of c.args.book.plan.planned c.args.arrived.items c.requires.each in
+    let next = next_of all book.came _ _ c.in-Some.found c.in-Some.ensures.steps.0 inv.came in
+    not_refused book c.in-Some.found c.in-Err.field-0
+    (subst (λ (p : PlanValue). Contains p.planned c.in-Some.found.extent) (sym inv.plan) (next_planned c.args.book.plan.planned all each book.came _ (scanned c.in-Some.found) next))
+    (next_first c.args.book.plan.planned all each book.came _ (scanned c.in-Some.found) c.requires.rising next) c.in-Err.ensures.refused
+
+-- at the end each came
+pub unreachable-requires-in-Err-finish : goal.unreachable-requires-in-Err-finish
+unreachable-requires-in-Err-finish g c =
+    let inv = c.loop-found.invariant in
+    let book = c.loop-found.book in
+    let all = map (λ (r : ExtentResult g.row.D.Denot g.D.PageSource). scanned r) c.args.arrived.items in
+    let each = each_of c.args.book.plan.planned c.args.arrived.items c.requires.each in
+    c.in-Err-finish.ensures.back.1
+    (subst (λ (p : PlanValue). All (Contains (extent_numbers book.came)) p.planned) (sym inv.plan) (all_came c.args.book.plan.planned all each book.came (none_of all book.came _ (nothing_left (into_iter_items c.loop-found.found-iterator) (omega (arith, c.in-None.ensures.steps.0))) inv.came)))
+
+pub returns-clause-arrived : goal.returns-clause-arrived
+returns-clause-arrived g c =
+    let all = map (λ (r : ExtentResult g.row.D.Denot g.D.PageSource). scanned r) c.args.arrived.items in
+    subst (λ (xs : List Scanned). IsPermutation all xs) (sym c.in-Ok-finish.ensures.all.1) (none_of all c.loop-found.book.came _ (nothing_left (into_iter_items c.loop-found.found-iterator) (omega (arith, c.in-None.ensures.steps.0))) c.loop-found.invariant.came)

@@ -1,0 +1,11 @@
+-- The words that public clauses say, and those of the crates below that they cite.
+pub mod Extents
+pub mod Book
+pub mod Worker
+pub mod Pool
+pub use Rattle.scrub_disk.specs.Image
+pub use Rattle.scrub_super.specs.Plan
+pub use Rattle.scrub_scan.specs.Scanned
+pub use Rattle.scrub_scan.specs.AllFindings
+-- The steps of the code.
+pub mod Member

@@ -1,0 +1,20 @@
+//! Collecting the results of planned extents, and the pool of workers as a machine, without any thread. How an extent is
+//! scanned is left to the scan, and who runs at what time to the crates above.
+#![tactic(auto)]
+
+pub mod book;
+pub mod event;
+mod member;
+pub mod pool_core;
+pub mod retired;
+pub mod worker_core;
+
+pub use book::{AddRefused, Book};
+pub use event::{Event, StepRefused};
+pub use pool_core::{PoolCore, one_answer_in_every_schedule};
+pub use retired::Retired;
+pub use scrub_disk::OutOfMemory;
+pub use worker_core::WorkerCore;
+
+#[cfg(test)]
+mod tests;

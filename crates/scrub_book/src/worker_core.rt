@@ -1,0 +1,131 @@
+//! What one worker took and found so far. From where it takes extents, and how they are scanned, is left to others.
+
+ghost use Rattle.std.specs.Prelude.{◌≡◌, ◌≢◌, ◌+◌, ◌≤◌, ◌++◌, [], ◌∷◌, length, vec_len, Some, None, OnOk, OnErr, IfOk, IfErr};
+ghost use Rattle.std.specs.Vec.{vec_capacity};
+ghost use Rattle.std.specs.Option.{option_to_list};
+ghost use Rattle.scrub_book.specs.Extents.{extents_of};
+
+use crate::OutOfMemory;
+use crate::retired::Retired;
+use scrub_disk::PageSource;
+use scrub_scan::ExtentResult;
+use std::alloc::Global;
+
+/// The extents that a worker took, and the results of those that it doesn't hold, in the same order. It holds an extent
+/// from when it took it until its result is there. Spare is the number of extents that it has room for, the held one
+/// among them.
+#[derive(Drop)]
+pub struct WorkerCore<'d, D: PageSource> {
+    held: Option<u32>,
+    taken: Vec<u32>,
+    results: Vec<ExtentResult<'d, D>>,
+    spare: usize,
+    ghost matched: { taken.items ≡ extents_of results.items ++ option_to_list held },
+    ghost room_to_take: { vec_len taken + spare ≤ vec_capacity taken + length (option_to_list held) },
+    ghost room_for_results: { vec_len results + spare ≤ vec_capacity results },
+    ghost room_for_held: { length (option_to_list held) ≤ spare },
+}
+
+impl<'d, D: PageSource> WorkerCore<'d, D> {
+    ghost use Rattle.scrub_scan.specs.Scanned.{scanned};
+    ghost use Rattle.scrub_book.specs.Worker.{held_by, taken_by, results_of, spare_of, HasResults, retired_taken, retired_results};
+
+    /// A worker that took nothing and has no spare. It takes no memory.
+    pub fn new(alloc: Global) -> WorkerCore<'d, D>
+        ensures held { held_by result ≡ None }
+        ensures taken { taken_by result ≡ [] }
+        ensures results { results_of result ≡ [] }
+        ensures spare { spare_of result ≡ 0 }
+    {
+        WorkerCore {
+            held: None,
+            taken: Vec::new(alloc),
+            results: Vec::new(alloc),
+            spare: 0,
+        }
+    }
+
+    /// The number of the extent that the worker holds.
+    pub(crate) fn held(&self) -> Option<u32>
+        ensures held { result ≡ held_by self.now }
+        // Every value of the type is such.
+        ensures results { HasResults self.now }
+    {
+        self.held
+    }
+
+    /// Makes spare at least `n`. Where it can't, all is as it was.
+    pub fn reserve(&mut self, n: usize) -> Result<(), OutOfMemory>
+        ensures held { held_by self.new ≡ held_by self.old }
+        ensures taken { taken_by self.new ≡ taken_by self.old }
+        ensures results { results_of self.new ≡ results_of self.old }
+        ensures wanted { OnOk result (n ≤ spare_of self.new) }
+        ensures kept { OnOk result (spare_of self.old ≤ spare_of self.new) }
+        ensures refused { OnErr result (spare_of self.new ≡ spare_of self.old) }
+    {
+        if n <= self.spare {
+            return Ok(());
+        }
+        let WorkerCore {
+            taken,
+            results,
+            spare,
+            ..
+        } = self;
+        taken.reserve(n)?;
+        results.reserve(n)?;
+        *spare = n;
+        Ok(())
+    }
+
+    /// The worker took an extent, and holds it from now on. It held none, and its spare is at least 1. It takes no memory.
+    pub fn took(&mut self, extent: u32)
+        requires free { held_by self.old ≡ None }
+        requires spare { 1 ≤ spare_of self.old }
+        ensures held { held_by self.new ≡ Some extent }
+        ensures taken { taken_by self.new ≡ taken_by self.old ++ extent ∷ [] }
+        ensures results { results_of self.new ≡ results_of self.old }
+        ensures spare { spare_of self.new ≡ spare_of self.old }
+    {
+        let WorkerCore { held, taken, .. } = self;
+        taken.push_reserved(extent);
+        *held = Some(extent);
+    }
+
+    /// What the worker found in the extent that it holds. From now on it holds none, and its spare is one less. It takes
+    /// no memory.
+    pub fn done(&mut self, found: ExtentResult<'d, D>)
+        requires { held_by self.old ≡ Some (scanned found).extent }
+        ensures held { held_by self.new ≡ None }
+        ensures taken { taken_by self.new ≡ taken_by self.old }
+        ensures results { results_of self.new ≡ results_of self.old ++ found.entry ∷ [] }
+        ensures spare { spare_of self.new + 1 ≡ spare_of self.old }
+    {
+        let WorkerCore {
+            held,
+            results,
+            spare,
+            ..
+        } = self;
+        results.push_reserved(found);
+        *held = None;
+        *spare -= 1;
+    }
+
+    /// The extents that the worker took, and their results. A worker that holds an extent comes back as it is. It takes no
+    /// memory.
+    pub fn retire(self) -> Result<Retired<'d, D>, WorkerCore<'d, D>>
+        ensures free { IfOk result (λ r. held_by self.entry ≡ None) }
+        ensures taken { IfOk result (λ r. retired_taken r ≡ taken_by self.entry) }
+        ensures results { IfOk result (λ r. retired_results r ≡ results_of self.entry) }
+        ensures matched { IfOk result (λ r. extents_of (retired_results r) ≡ taken_by self.entry) }
+        ensures holds { OnErr result (held_by self.entry ≢ None) }
+        ensures same { IfErr result (λ core. core ≡ self.entry) }
+    {
+        if self.held.is_some() {
+            return Err(self);
+        }
+        let WorkerCore { taken, results, .. } = self;
+        Ok(Retired::new(taken, results))
+    }
+}
