@@ -3,4 +3,4 @@ pub mod Counts
 pub mod Complete
 pub mod Places
 pub mod Kept
-pub mod Assembling
+pub mod Arrivals

@@ -2,6 +2,7 @@
 //! scanned is left to the scan, and who runs at what time to the crates above.
 #![tactic(auto)]
 
+pub mod assembling;
 pub mod book;
 pub mod event;
 mod member;
@@ -9,6 +10,7 @@ pub mod pool_core;
 pub mod retired;
 pub mod worker_core;
 
+pub use assembling::assemble;
 pub use book::{AddRefused, Book};
 pub use event::{Event, StepRefused};
 pub use pool_core::{PoolCore, one_answer_in_every_schedule};

@@ -1,20 +1,20 @@
 //! The pool of workers as a machine of one thread: who takes, is done and retires at what time is told to it event by
 //! event. Real threads are left to the crates above.
 
-ghost use Rattle.std.specs.Prelude.{◌≡◌, ◌+◌, ◌≤◌, ◌++◌, ◌&&◌, ℕ, is_none, sum_by, [], List, All, Contains, length, map, replicate, slice_get, vec_len, IfOk, IfErr, OnOk, OnErr, None, true, false, Some};
+ghost use Rattle.std.specs.Prelude.{◌≡◌, ◌+◌, ◌≤◌, ◌++◌, ◌&&◌, is_none, All, map, replicate, slice_get, vec_len, IfOk, IfErr, OnOk, OnErr, None, true, false, Some};
 ghost use Rattle.std.specs.List.{list_all};
-ghost use Rattle.std.specs.List.Sorted.{IsPermutation, IsStrictlyIncreasing};
 ghost use Rattle.std.specs.Vec.{vec_capacity};
 ghost use Rattle.scrub_disk.specs.Image.{Image};
 ghost use Rattle.scrub_super.specs.Plan.{PlanValue, pointer_of};
 ghost use Rattle.scrub_super.specs.Planned.{ArePlanned};
-ghost use Rattle.scrub_scan.specs.Scanned.{result_image, scanned};
+ghost use Rattle.scrub_scan.specs.Scanned.{result_image};
 ghost use Rattle.scrub_scan.specs.AllFindings.{extent_numbers, AreAllFindings};
 ghost use Rattle.scrub_book.specs.Extents.{extents_of};
 ghost use Rattle.scrub_book.specs.Member.{member_value, IsReady};
 ghost use Rattle.scrub_book.specs.Pool.{idle, MemberValue, member_refusal, worker_of, EveryScheduleFinds};
 
 use crate::OutOfMemory;
+use crate::assembling::assemble;
 use crate::book::Book;
 use crate::event::{Event, StepRefused};
 use crate::member::Member;
@@ -119,32 +119,6 @@ fn arrive<'d, D: PageSource>(
     for found in results {
         numbers.push_reserved(found.extent());
         arrived.push_reserved(found);
-    }
-}
-
-/// What one reader finds, of the results of all planned extents in whatever order.
-fn assemble<'d, D: PageSource>(
-    book: Book<'d, D>,
-    arrived: Vec<ExtentResult<'d, D>>,
-) -> AllFindings<'d, D>
-    requires nothing { book.came ≡ [] }
-    requires rising { IsStrictlyIncreasing book.plan.planned }
-    requires images { All (λ r. result_image r ≡ D.image book.source) arrived.items }
-    requires pointers { All (λ r. pointer_of book.plan r.extent ≡ Some r.pointer) arrived.items }
-    requires each { (f : ℕ → ℕ) → sum_by f (extents_of arrived.items) ≡ sum_by f book.plan.planned }
-    ensures found { AreAllFindings (D.image book.entry.source) book.entry.plan result.extents }
-    ensures arrived { IsPermutation (map scanned arrived.entry.items) result.extents }
-{
-    let mut book = book;
-    for found in arrived {
-        match book.add(found) {
-            Ok(()) => (),
-            Err(_) => unreachable!(),
-        }
-    }
-    match book.finish() {
-        Ok(all) => all,
-        Err(_) => unreachable!(),
     }
 }
 

@@ -4,7 +4,7 @@ use Rattle.std.specs.Vec.Iter.{into_iter_items}
 use Rattle.scrub_super.specs.Plan.{pointer_of}
 use Rattle.scrub_scan.specs.declared.extent_result.ExtentResult.{ExtentResult}
 use Rattle.scrub_scan.specs.Scanned.{result_image, scanned}
-use Rattle.scrub_book.proofs.pool_core.assemble.Given as goal
+use Rattle.scrub_book.proofs.assembling.assemble.Given as goal
 
 -- what came and what is still to come is what arrived
 abbrev pub invariant-loop-found : goal.invariant-loop-found

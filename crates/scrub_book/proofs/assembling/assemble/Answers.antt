@@ -1,27 +1,22 @@
-use Rattle.std.proofs.Common.{◌≡◌, ◌++◌, ◌∷◌, ◌∙◌, [], ℕ, suc, List, All, Some, map, sum_by, length, ap, arith, append-nil, subst, sym, refl}
+use Rattle.std.proofs.Common.{◌≡◌, ◌++◌, ◌∷◌, ◌∙◌, [], ℕ, List, All, Some, map, sum_by, ap, arith, append-nil, subst, sym}
 use Rattle.std.specs.List.{Contains}
-use Rattle.std.specs.List.Sorted.{IsPermutation}
+use Rattle.std.specs.List.Sorted.{IsPermutation, IsStrictlyIncreasing}
 use Rattle.std.specs.Vec.Iter.{into_iter_items}
+use Rattle.std.proofs.lemmas.List.{nil_from_length}
+use Rattle.std.proofs.lemmas.List.Elements.{All-rest}
+use Rattle.std.proofs.lemmas.List.Sorted.{sum_by-IsPermutation}
 use Rattle.std.proofs.lemmas.Simd.{map-map}
 use Rattle.scrub_super.specs.Plan.{pointer_of, PlanValue}
 use Rattle.scrub_scan.specs.declared.extent_result.ExtentResult.{ExtentResult}
 use Rattle.scrub_scan.specs.Scanned.{Scanned, result_image, scanned}
 use Rattle.scrub_scan.specs.AllFindings.{extent_numbers}
 use Rattle.scrub_book.specs.Extents.{extents_of}
-use Rattle.scrub_book.proofs.Assembling.{one_more_came, next_planned, next_first, all_came, not_refused}
-use Rattle.scrub_book.proofs.pool_core.assemble.Goals as goal
-
-nothing_left : {X : Type 0} (xs : List X) → length xs ≡ 0 → xs ≡ []
-nothing_left [] none = refl
-nothing_left (x ∷ xs) none = absurd (omega (arith, none))
-
--- a fact of all but the first
-rest_of : {X : Type 0} (P : X → Type 0) (xs rest : List X) (x : X) → xs ≡ x ∷ rest → All P xs → All P rest
-rest_of {X} P xs rest x is all k d below = (subst (λ (ys : List X). All P ys) is all) (suc k) d (omega (arith, below))
+use Rattle.scrub_book.proofs.Arrivals.{one_more_came, next_planned, next_first, all_came, not_refused}
+use Rattle.scrub_book.proofs.assembling.assemble.Goals as goal
 
 -- what arrived are the planned extents
-each_of : {D : Type 0} {s : _} (planned : List ℕ) (rs : List (ExtentResult D s)) → ((f : ℕ → ℕ) → sum_by f (extents_of rs) ≡ sum_by f planned) → (f : ℕ → ℕ) → sum_by f (extent_numbers (map (λ (r : ExtentResult D s). scanned r) rs)) ≡ sum_by f planned
-each_of {D} {s} planned rs each f = ap (sum_by f) (map-map (λ x. x.extent) (λ (r : ExtentResult D s). scanned r) rs) ∙ each f
+each_of : {D : Type 0} {s : _} (planned : List ℕ) (rs : List (ExtentResult D s)) → IsPermutation (extents_of rs) planned → (f : ℕ → ℕ) → sum_by f (extent_numbers (map (λ (r : ExtentResult D s). scanned r) rs)) ≡ sum_by f planned
+each_of {D} {s} planned rs each f = ap (sum_by f) (map-map (λ x. x.extent) (λ (r : ExtentResult D s). scanned r) rs) ∙ sym (sum_by-IsPermutation f (extents_of rs) planned each)
 
 -- the next that comes
 next_of : {D : Type 0} {s : _} (all : List Scanned) (came : List Scanned) (rs rest : List (ExtentResult D s)) (r : ExtentResult D s) → rs ≡ r ∷ rest →
@@ -41,8 +36,8 @@ loop-found-preserved g c =
       source = added.source ∙ inv.source;
       plan = added.plan ∙ inv.plan;
       came = one_more_came all c.loop-found.book.came _ c.add.new.self.came (scanned c.in-Some.found) (next_of all c.loop-found.book.came _ _ c.in-Some.found c.in-Some.ensures.steps.0 inv.came) added.came;
-      images = rest_of (λ (r : ExtentResult g.row.D.Denot g.D.PageSource). result_image r ≡ g.D.PageSource.image c.args.book.source) _ _ c.in-Some.found c.in-Some.ensures.steps.0 inv.images;
-      pointers = rest_of (λ (r : ExtentResult g.row.D.Denot g.D.PageSource). pointer_of c.args.book.plan r.extent ≡ Some r.pointer) _ _ c.in-Some.found c.in-Some.ensures.steps.0 inv.pointers;
+      images = All-rest (λ (r : ExtentResult g.row.D.Denot g.D.PageSource). result_image r ≡ g.D.PageSource.image c.args.book.source) c.in-Some.found _ _ c.in-Some.ensures.steps.0 inv.images;
+      pointers = All-rest (λ (r : ExtentResult g.row.D.Denot g.D.PageSource). pointer_of c.args.book.plan r.extent ≡ Some r.pointer) c.in-Some.found _ _ c.in-Some.ensures.steps.0 inv.pointers;
     }
 
 -- each that arrived is planned, and comes once
@@ -53,9 +48,10 @@ unreachable-requires g c =
     let all = map (λ (r : ExtentResult g.row.D.Denot g.D.PageSource). scanned r) c.args.arrived.items in
     let each = each_of c.args.book.plan.planned c.args.arrived.items c.requires.each in
     let next = next_of all book.came _ _ c.in-Some.found c.in-Some.ensures.steps.0 inv.came in
+    let rising = subst (λ (p : PlanValue). IsStrictlyIncreasing p.planned) c.plan.ensures c.planned.ensures.extents.rising in
     not_refused book c.in-Some.found c.in-Err.field-0
     (subst (λ (p : PlanValue). Contains p.planned c.in-Some.found.extent) (sym inv.plan) (next_planned c.args.book.plan.planned all each book.came _ (scanned c.in-Some.found) next))
-    (next_first c.args.book.plan.planned all each book.came _ (scanned c.in-Some.found) c.requires.rising next) c.in-Err.ensures.refused
+    (next_first c.args.book.plan.planned all each book.came _ (scanned c.in-Some.found) rising next) c.in-Err.ensures.refused
 
 -- at the end each came
 pub unreachable-requires-in-Err-finish : goal.unreachable-requires-in-Err-finish
@@ -65,9 +61,9 @@ unreachable-requires-in-Err-finish g c =
     let all = map (λ (r : ExtentResult g.row.D.Denot g.D.PageSource). scanned r) c.args.arrived.items in
     let each = each_of c.args.book.plan.planned c.args.arrived.items c.requires.each in
     c.in-Err-finish.ensures.back.1
-    (subst (λ (p : PlanValue). All (Contains (extent_numbers book.came)) p.planned) (sym inv.plan) (all_came c.args.book.plan.planned all each book.came (none_of all book.came _ (nothing_left (into_iter_items c.loop-found.found-iterator) (omega (arith, c.in-None.ensures.steps.0))) inv.came)))
+    (subst (λ (p : PlanValue). All (Contains (extent_numbers book.came)) p.planned) (sym inv.plan) (all_came c.args.book.plan.planned all each book.came (none_of all book.came _ (nil_from_length (into_iter_items c.loop-found.found-iterator) (omega (arith, c.in-None.ensures.steps.0))) inv.came)))
 
 pub returns-clause-arrived : goal.returns-clause-arrived
 returns-clause-arrived g c =
     let all = map (λ (r : ExtentResult g.row.D.Denot g.D.PageSource). scanned r) c.args.arrived.items in
-    subst (λ (xs : List Scanned). IsPermutation all xs) (sym c.in-Ok-finish.ensures.all.1) (none_of all c.loop-found.book.came _ (nothing_left (into_iter_items c.loop-found.found-iterator) (omega (arith, c.in-None.ensures.steps.0))) c.loop-found.invariant.came)
+    subst (λ (xs : List Scanned). IsPermutation all xs) (sym c.in-Ok-finish.ensures.all.1) (none_of all c.loop-found.book.came _ (nil_from_length (into_iter_items c.loop-found.found-iterator) (omega (arith, c.in-None.ensures.steps.0))) c.loop-found.invariant.came)

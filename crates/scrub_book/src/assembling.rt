@@ -1,0 +1,42 @@
+//! The findings of one reader, assembled of results that arrived in whatever order. Who scans, and when, is left to others.
+
+ghost use Rattle.std.specs.Prelude.{◌≡◌, [], All, Some, map};
+ghost use Rattle.std.specs.List.Sorted.{IsPermutation};
+ghost use Rattle.scrub_super.specs.Plan.{pointer_of};
+ghost use Rattle.scrub_scan.specs.Scanned.{result_image, scanned};
+ghost use Rattle.scrub_scan.specs.AllFindings.{AreAllFindings};
+ghost use Rattle.scrub_book.specs.Extents.{extents_of};
+
+use crate::book::Book;
+use scrub_disk::PageSource;
+use scrub_scan::{AllFindings, ExtentResult};
+
+/// What one reader finds, of the results of a book's planned extents, which arrived in whatever order: each planned extent's
+/// once and no other, all of the book's disk and under the write pointers of its plan. Nothing came to the book yet. It takes
+/// no memory.
+pub fn assemble<'d, D: PageSource>(
+    book: Book<'d, D>,
+    arrived: Vec<ExtentResult<'d, D>>,
+) -> AllFindings<'d, D>
+    requires nothing { book.came ≡ [] }
+    requires images { All (λ r. result_image r ≡ D.image book.source) arrived.items }
+    requires pointers { All (λ r. pointer_of book.plan r.extent ≡ Some r.pointer) arrived.items }
+    requires each { IsPermutation (extents_of arrived.items) book.plan.planned }
+    ensures found { AreAllFindings (D.image book.entry.source) book.entry.plan result.extents }
+    ensures image { D.image result.source ≡ D.image book.entry.source }
+    ensures arrived { IsPermutation (map scanned arrived.entry.items) result.extents }
+{
+    // It tells that the planned extents rise.
+    let _ = book.plan().planned();
+    let mut book = book;
+    for found in arrived {
+        match book.add(found) {
+            Ok(()) => (),
+            Err(_) => unreachable!(),
+        }
+    }
+    match book.finish() {
+        Ok(all) => all,
+        Err(_) => unreachable!(),
+    }
+}
