@@ -1,18 +1,24 @@
 -- Results that come to a book one by one.
-use Rattle.std.proofs.Common.{true, ◌==◌, ◌≡◌, ◌≤◌, ◌+◌, ◌++◌, ◌∷◌, ℕ, List, [], All, get_or, sum_by, arith, refl, append_assoc, subst}
+use Rattle.std.proofs.Common.{true, ◌==◌, ◌≡◌, ◌≤◌, ◌+◌, ◌++◌, ◌∷◌, ℕ, List, [], All, get_or, map, sum_by, arith, refl, append_assoc, subst}
 use Rattle.std.specs.List.{Contains}
 use Rattle.std.specs.List.Sorted.{IsPermutation, IsStrictlyIncreasing}
 use Rattle.std.proofs.lemmas.Bool.Decides.{nat_tests}
 use Rattle.std.proofs.lemmas.List.{get_or_default}
 use Rattle.std.proofs.lemmas.List.Sorted.{IsPermutation-trans, IsPermutation-append_left, IsPermutation-to_front, sum_by-IsPermutation}
 use Rattle.std.proofs.lemmas.List.Sums.{sum_by-append, sum_by-cons}
+use Rattle.std.proofs.lemmas.Simd.{map-map}
 use Rattle.scrub_scan.specs.declared.extent_result.ExtentResult.{ExtentResult}
-use Rattle.scrub_scan.specs.Scanned.{Scanned}
+use Rattle.scrub_scan.specs.Scanned.{Scanned, scanned}
 use Rattle.scrub_scan.specs.AllFindings.{extent_numbers}
 use Rattle.scrub_book.specs.declared.book.AddRefused.{AddRefused}
 use Rattle.scrub_book.specs.declared.book.AddRefused.TheVariants.{Stranger, Double}
+use Rattle.scrub_book.specs.Extents.{extents_of}
 use Rattle.scrub_book.specs.Book.{BookValue, IsAddRefused}
 use Rattle.scrub_book.proofs.Counts.{one_for, is_one, contained_counts, counted_contained, rising_once}
+
+-- the numbers that results show are those of the extents that they are of
+pub numbers_shown : {D : Type 0} {s : _} (rs : List (ExtentResult D s)) → extent_numbers (map (λ (r : ExtentResult D s). scanned r) rs) ≡ extents_of rs
+numbers_shown {D} {s} rs = map-map (λ x. x.extent) (λ (r : ExtentResult D s). scanned r) rs
 
 -- a sum over numbers is one over what has them
 of_numbers : (f : ℕ → ℕ) (all : List Scanned) → sum_by f (extent_numbers all) ≡ sum_by (λ x. f x.extent) all

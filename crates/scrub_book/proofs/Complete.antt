@@ -1,14 +1,13 @@
 -- What a complete pool has.
-use Rattle.std.proofs.Common.{Some, ◌≡◌, ◌<◌, ◌==◌, ◌&&◌, ◌++◌, ◌∷◌, ◌∙◌, ℕ, suc, List, [], Bool, true, false, Option, None, All, length, get_or, sum_by, arith, refl, sym, ap, subst, slice_get, is_none}
+use Rattle.std.proofs.Common.{Some, ◌≡◌, ◌==◌, ◌&&◌, ◌++◌, ◌∷◌, ◌∙◌, ℕ, suc, List, [], Bool, true, false, Option, All, length, get_or, sum_by, arith, refl, sym, ap, subst, slice_get, is_none}
 use Rattle.std.specs.List.{Contains, list_all}
 use Rattle.std.specs.List.Sorted.{IsStrictlyIncreasing}
 use Rattle.std.specs.Option.{option_to_list}
 use Rattle.std.proofs.lemmas.Bool.{true≢false}
 use Rattle.std.proofs.lemmas.Bool.Decides.{nat_tests}
-use Rattle.std.proofs.lemmas.List.{get_or_default}
+use Rattle.std.proofs.lemmas.List.{get_or_default, nil_from_length}
 use Rattle.std.proofs.lemmas.List.Elements.{All-contains}
-use Rattle.std.proofs.lemmas.List.Sums.{sum_by-cons, get_or-le-sum_by}
-use Rattle.std.proofs.lemmas.Option.{slice_get_within, get_or_from_slice_get}
+use Rattle.std.proofs.lemmas.List.Sums.{sum_by-cons}
 use Rattle.scrub_disk.specs.Image.{Image}
 use Rattle.scrub_super.specs.Plan.{PlanValue}
 use Rattle.scrub_super.specs.Planned.{ArePlanned}
@@ -16,19 +15,14 @@ use Rattle.scrub_scan.specs.Scanned.{Scanned}
 use Rattle.scrub_scan.specs.AllFindings.{extent_numbers, AreAllFindings}
 use Rattle.scrub_book.specs.Pool.{MemberValue, PoolState, start, is_complete, having, IsAccount, IsScanned, IsMember, IsPool, IsAssembly, IsOnceEach, EveryScheduleFinds}
 use Rattle.scrub_book.proofs.Counts.{one_for, contained_counts, counted_contained, rising_once}
-use Rattle.scrub_book.proofs.Pools.{start_is, leads_keeps}
+use Rattle.scrub_book.proofs.Pools.{one_among, start_is, leads_keeps}
 
 both : (a b : Bool) → (a && b) ≡ true → (a ≡ true) × (b ≡ true)
 both true b is = (refl, is)
 both false b is = absurd (true≢false (sym is))
 
 is_empty : {X : Type 0} (xs : List X) → (length xs == 0) ≡ true → xs ≡ []
-is_empty [] is = refl
-is_empty (x ∷ xs) is = let none : length (x ∷ xs) ≡ 0 = grind (arith, nat_tests) in absurd (omega (arith, none))
-
-holds_none : {X : Type 0} (o : Option X) → is_none o ≡ true → o ≡ None
-holds_none None is = refl
-holds_none (Some x) is = absurd (true≢false (sym is))
+is_empty xs is = let none : length xs ≡ 0 = grind (arith, nat_tests, is) in nil_from_length xs none
 
 module _ (image : Image) (plan : PlanValue) where
   -- members that are through have nothing
@@ -51,11 +45,8 @@ module _ (image : Image) (plan : PlanValue) where
   -- what a member holds is planned
   pub held_planned : (p : PoolState) (v : ℕ) (m : MemberValue) (e : ℕ) → IsAccount plan p → slice_get p.members v ≡ Some m → m.held ≡ Some e → Contains plan.planned e
   held_planned p v m e account at held =
-      let below : v < length p.members = slice_get_within p.members v m at in
-      let among = get_or-le-sum_by (λ x. sum_by (one_for e) (having x)) p.members v m below in
-      let is : sum_by (one_for e) (having (get_or p.members v m)) ≡ sum_by (one_for e) (having m) = ap (λ x. sum_by (one_for e) (having x)) (get_or_from_slice_get p.members v m m at) in
       let there = contained_counts (having m) e (subst (λ (o : Option ℕ). Contains (option_to_list o ++ extent_numbers m.results) e) (sym held) (0, omega arith, refl)) in
-      counted_contained plan.planned e (omega (arith, account (one_for e), among, is, there))
+      counted_contained plan.planned e (omega (arith, account (one_for e), one_among (one_for e) p.members v m at, there))
 
   pub once_each : (p : PoolState) → IsStrictlyIncreasing plan.planned → ((f : ℕ → ℕ) → sum_by f (extent_numbers p.arrivals) ≡ sum_by f plan.planned) → IsOnceEach plan p
   once_each p rising same = record {

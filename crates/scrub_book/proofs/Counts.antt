@@ -1,8 +1,9 @@
 -- How often a number stands in a list.
-use Rattle.std.proofs.Common.{◌≡◌, ◌<◌, ◌≤◌, ◌==◌, ◌∷◌, ℕ, suc, List, [], Bool, true, false, length, get_or, cond, arith, refl, ap, sym, subst, sum_by, remove}
+use Rattle.std.proofs.Common.{◌≡◌, ◌<◌, ◌≤◌, ◌==◌, ◌∷◌, ◌∙◌, ℕ, suc, List, [], Bool, true, false, length, get_or, cond, arith, refl, ap, sym, subst, sum_by, remove}
 use Rattle.std.specs.List.{Contains, count_by}
 use Rattle.std.specs.List.Sorted.{IsPermutation, IsStrictlyIncreasing}
 use Rattle.std.proofs.lemmas.Bool.Decides.{nat_tests}
+use Rattle.std.proofs.lemmas.List.{nil_from_length}
 use Rattle.std.proofs.lemmas.List.Kept.{AllPairs-from_increasing}
 use Rattle.std.proofs.lemmas.List.Sorted.{IsPermutation-refl, IsPermutation-trans, IsPermutation-cons, IsPermutation-remove, sum_by-IsPermutation}
 use Rattle.std.proofs.lemmas.List.Sums.{get_or-le-sum_by, sum_by-cons}
@@ -57,14 +58,14 @@ once (x ∷ xs) e rise = by (x == e) refl (once xs e (λ i j less below. rise (s
 pub rising_once : (xs : List ℕ) (e : ℕ) → IsStrictlyIncreasing xs → count_by (λ x. x == e) xs ≤ 1
 rising_once xs e rising = once xs e (λ i j less below. AllPairs-from_increasing xs rising i j 0 less below)
 
--- no number is left where 1 for each adds up to nothing
-none_left : (xs : List ℕ) → sum_by (λ (x : ℕ). 1) xs ≡ 0 → xs ≡ []
-none_left [] none = refl
-none_left (x ∷ xs) none = absurd (omega (arith, none, sum_by-cons (λ (y : ℕ). 1) x xs))
+-- 1 for each number adds up to how many there are
+pub ones : (xs : List ℕ) → sum_by (λ (x : ℕ). 1) xs ≡ length xs
+ones [] = refl
+ones (x ∷ xs) = omega (arith, sum_by-cons (λ (x : ℕ). 1) x xs, ones xs)
 
 -- numbers that add up as others do, whatever is added up, are these in some order
 pub permutation_of_sums : (xs ys : List ℕ) → ((f : ℕ → ℕ) → sum_by f xs ≡ sum_by f ys) → IsPermutation xs ys
-permutation_of_sums xs [] same = subst (λ (l : List ℕ). IsPermutation l []) (sym (none_left xs (same (λ x. 1)))) (IsPermutation-refl [])
+permutation_of_sums xs [] same = subst (λ (l : List ℕ). IsPermutation l []) (sym (nil_from_length xs (sym (ones xs) ∙ same (λ x. 1)))) (IsPermutation-refl [])
 permutation_of_sums xs (y ∷ ys) same =
     let there = counted_contained xs y (omega (arith, same (one_for y), contained_counts (y ∷ ys) y (0, omega arith, refl))) in
     let rest = remove xs there.0 in

@@ -4,3 +4,4 @@ pub mod Complete
 pub mod Places
 pub mod Kept
 pub mod Arrivals
+pub mod Options

@@ -21,6 +21,7 @@ use Rattle.scrub_scan.specs.AllFindings.{extent_numbers}
 use Rattle.scrub_scan.specs.Slots.{held_in, AreFull, IsPlannedResult, AreSlots, scanned_in}
 use Rattle.scrub_scan.proofs.Slots.{all_found}
 use Rattle.scrub_book.specs.Book.{BookValue, IsAdded, IsLeastMissing, HasAll}
+use Rattle.scrub_book.proofs.Options.{is_nothing}
 
 -- a number among rising ones stands at one place
 pub one_place : (es : List ℕ) → IsStrictlyIncreasing es → (i j : ℕ) → i < length es → j < length es → get_or es i 0 ≡ get_or es j 0 → i ≡ j
@@ -62,11 +63,6 @@ not_false false h = absurd (true≢false h)
 contains_more : {X : Type 0} (x : X) (xs : List X) (y : X) → Contains xs y → Contains (x ∷ xs) y
 contains_more x xs y there = (suc there.0, omega (arith, there.1), there.2)
 
--- what isn't there is nothing
-is_nothing : {X : Type 0} (o : Option X) → is_some o ≡ false → o ≡ None
-is_nothing None h = refl
-is_nothing (Some x) h = absurd (true≢false h)
-
 module _ {X : Type 0} where
   -- nothing stands in empty places
   pub held_none : (n : ℕ) → held_in {X = X} (replicate n None) ≡ []
@@ -88,6 +84,10 @@ module _ {X : Type 0} where
   full_before [] past = refl
   full_before (None ∷ slots) past = absurd (omega (arith, past))
   full_before (Some x ∷ slots) past = full_before slots (omega (arith, past))
+
+  -- the first empty place, as the code looks for it
+  pub first_empty_is : {xs slots : List (Option X)} {o : Option ℕ} → o ≡ position (λ slot. not (is_some slot)) xs → xs ≡ slots → position (λ slot. not (is_some slot)) slots ≡ o
+  first_empty_is is same = ap (position (λ slot. not (is_some slot))) (sym same) ∙ sym is
 
   -- where no empty place is found, each has something
   pub none_empty : (slots : List (Option X)) → is_some (position (λ slot. not (is_some slot)) slots) ≡ false → AreFull slots

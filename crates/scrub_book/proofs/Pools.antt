@@ -1,46 +1,36 @@
 -- What each pool keeps, event by event.
-use Rattle.std.proofs.Common.{◌≡◌, ◌+◌, ◌++◌, ◌∷◌, ◌∙◌, ℕ, zero, suc, List, [], Bool, true, false, Option, Some, None, All, get_or, set, slice_get, sum_by, arith, refl, sym, ap, subst, inl, inr, if◌then◌else◌, replicate}
+use Rattle.std.proofs.Common.{◌≡◌, ◌≤◌, ◌+◌, ◌++◌, ◌∷◌, ◌∙◌, ℕ, zero, suc, List, [], Bool, true, false, Option, Some, None, All, get_or, set, slice_get, sum_by, arith, refl, sym, ap, subst, inl, inr, if◌then◌else◌, replicate}
 use Rattle.std.specs.Option.{is_some, option_map_or, option_to_list}
 use Rattle.std.proofs.lemmas.Bool.{true≢false}
 use Rattle.std.proofs.lemmas.Option.{none-some, slice_get_within, get_or_from_slice_get}
 use Rattle.std.proofs.lemmas.List.{map-append}
 use Rattle.std.proofs.lemmas.List.Elements.{All-append, All-push, All-set}
 use Rattle.std.proofs.lemmas.List.Folds.{sum_by-replicate}
-use Rattle.std.proofs.lemmas.List.Sums.{sum_by-append, sum_by-cons, sum_by-set}
+use Rattle.std.proofs.lemmas.List.Sums.{get_or-le-sum_by, sum_by-append, sum_by-cons, sum_by-set}
 use Rattle.scrub_disk.specs.Image.{Image}
 use Rattle.scrub_super.specs.Plan.{PlanValue}
 use Rattle.scrub_scan.specs.AllFindings.{extent_numbers}
 use Rattle.scrub_book.specs.declared.event.Event.{Event}
 use Rattle.scrub_book.specs.declared.event.Event.TheVariants.{Take, Done, Retire}
+use Rattle.scrub_book.specs.declared.event.StepRefused.{StepRefused}
 use Rattle.scrub_book.specs.declared.event.StepRefused.TheVariants.{NoWorker}
 use Rattle.scrub_book.specs.Pool.{MemberValue, PoolState, idle, start, worker_of, member_refusal, refusal, IsScanned, IsTake, IsDone, IsRetire, IsStep, Leads, having, IsMember, IsPool}
+use Rattle.scrub_book.proofs.Options.{is_nothing}
 
 -- a test that gives nothing is false, and neither does the rest give anything
-not_refused : {X : Type 0} (b : Bool) (x : X) (rest : Option X) → (if b then Some x else rest) ≡ None → (b ≡ false) × (rest ≡ None)
-not_refused true x rest none = absurd (none-some x (sym none))
-not_refused false x rest none = (refl, none)
-
-nothing : {X : Type 0} (o : Option X) → is_some o ≡ false → o ≡ None
-nothing None is = refl
-nothing (Some x) is = absurd (true≢false is)
+gives_nothing : {X : Type 0} (b : Bool) (x : X) (rest : Option X) → (if b then Some x else rest) ≡ None → (b ≡ false) × (rest ≡ None)
+gives_nothing true x rest none = absurd (none-some x (sym none))
+gives_nothing false x rest none = (refl, none)
 
 -- what is asked of the member itself
-pub asked : (p : PoolState) (event : Event) (m : MemberValue) → slice_get p.members (worker_of event) ≡ Some m → refusal p event ≡ None → member_refusal p.queue event m ≡ None
+asked : (p : PoolState) (event : Event) (m : MemberValue) → slice_get p.members (worker_of event) ≡ Some m → refusal p event ≡ None → member_refusal p.queue event m ≡ None
 asked p event m at may = sym (ap (λ (o : Option MemberValue). option_map_or (member_refusal p.queue event) o (Some NoWorker)) at) ∙ may
 
 -- a member that may take or retire has not retired, and holds nothing
-pub free_to_take : (queue : List ℕ) (v : ℕ) (m : MemberValue) → member_refusal queue (Take v) m ≡ None → (m.has_retired ≡ false) × (m.held ≡ None)
-free_to_take queue v m may =
-    let first = not_refused m.has_retired _ _ may in
-    (first.0, nothing m.held (not_refused (is_some m.held) _ _ first.1).0)
-
-pub free_to_retire : (queue : List ℕ) (v : ℕ) (m : MemberValue) → member_refusal queue (Retire v) m ≡ None → (m.has_retired ≡ false) × (m.held ≡ None)
-free_to_retire queue v m may =
-    let first = not_refused m.has_retired _ _ may in
-    (first.0, nothing m.held (not_refused (is_some m.held) _ _ first.1).0)
-
-pub at_work : (queue : List ℕ) (v : ℕ) (m : MemberValue) → member_refusal queue (Done v) m ≡ None → m.has_retired ≡ false
-at_work queue v m may = (not_refused m.has_retired _ _ may).0
+free : (m : MemberValue) (x y : StepRefused) (rest : Option StepRefused) → (if m.has_retired then Some x else if is_some m.held then Some y else rest) ≡ None → (m.has_retired ≡ false) × (m.held ≡ None)
+free m x y rest may =
+    let first = gives_nothing m.has_retired x _ may in
+    (first.0, is_nothing m.held (gives_nothing (is_some m.held) y rest first.1).0)
 
 -- the sums over the members, before and after one is written
 placed : (f : ℕ → ℕ) (ms : List MemberValue) (v : ℕ) (m n : MemberValue) → slice_get ms v ≡ Some m →
@@ -49,6 +39,10 @@ placed f ms v m n at =
     let wrote = sum_by-set (λ x. sum_by f (having x)) ms v n m (slice_get_within ms v m at) in
     let is : sum_by f (having (get_or ms v m)) ≡ sum_by f (having m) = ap (λ x. sum_by f (having x)) (get_or_from_slice_get ms v m m at) in
     omega (arith, wrote, is)
+
+-- what one of them has is no more than what all have
+pub one_among : (f : ℕ → ℕ) (ms : List MemberValue) (v : ℕ) (m : MemberValue) → slice_get ms v ≡ Some m → sum_by f (having m) ≤ sum_by (λ x. sum_by f (having x)) ms
+one_among f ms v m at = subst (λ (x : MemberValue). sum_by f (having x) ≤ sum_by (λ y. sum_by f (having y)) ms) (get_or_from_slice_get ms v m m at) (get_or-le-sum_by (λ x. sum_by f (having x)) ms v m (slice_get_within ms v m at))
 
 -- a member that holds nothing has its results
 free_has : (f : ℕ → ℕ) (m : MemberValue) → m.held ≡ None → sum_by f (having m) ≡ sum_by f (extent_numbers m.results)
@@ -63,28 +57,28 @@ module _ (image : Image) (plan : PlanValue) where
   member_of : (ms : List MemberValue) (v : ℕ) (m : MemberValue) → slice_get ms v ≡ Some m → All (IsMember image plan) ms → IsMember image plan m
   member_of ms v m at are = subst (λ (x : MemberValue). IsMember image plan x) (get_or_from_slice_get ms v m m at) (are v m (slice_get_within ms v m at))
 
-  pub take_keeps : (old : PoolState) (v : ℕ) (new : PoolState) → refusal old (Take v) ≡ None → IsTake old v new → IsPool image plan old → IsPool image plan new
+  take_keeps : (old : PoolState) (v : ℕ) (new : PoolState) → refusal old (Take v) ≡ None → IsTake old v new → IsPool image plan old → IsPool image plan new
   take_keeps old v new may step pool =
       let m = step.member in
       let e = step.extent in
-      let free = free_to_take old.queue v m (asked old (Take v) m step.at may) in
+      let is_free = free m _ _ _ (asked old (Take v) m step.at may) in
       let n : MemberValue = record m { held = Some e; taken = m.taken ++ e ∷ [] } in
       subst (λ (p : PoolState). IsPool image plan p) (sym step.is) (record {
         account = λ f.
             let queue : sum_by f old.queue ≡ f e + sum_by f step.rest = ap (sum_by f) step.front ∙ sum_by-cons f e step.rest in
-            omega (arith, pool.account f, queue, placed f old.members v m n step.at, free_has f m free.1, busy_has f n e refl);
+            omega (arith, pool.account f, queue, placed f old.members v m n step.at, free_has f m is_free.1, busy_has f n e refl);
         members = All-set (IsMember image plan) old.members v n (record {
           results = (member_of old.members v m step.at pool.members).results;
-          left = λ gone. absurd (true≢false (sym gone ∙ free.0));
+          left = λ gone. absurd (true≢false (sym gone ∙ is_free.0));
         }) pool.members;
         arrivals = pool.arrivals;
       })
 
-  pub done_keeps : (old : PoolState) (v : ℕ) (new : PoolState) → refusal old (Done v) ≡ None → IsDone image plan old v new → IsPool image plan old → IsPool image plan new
+  done_keeps : (old : PoolState) (v : ℕ) (new : PoolState) → refusal old (Done v) ≡ None → IsDone image plan old v new → IsPool image plan old → IsPool image plan new
   done_keeps old v new may step pool =
       let m = step.member in
       let one = step.one in
-      let working = at_work old.queue v m (asked old (Done v) m step.at may) in
+      let working : m.has_retired ≡ false = (gives_nothing m.has_retired _ _ (asked old (Done v) m step.at may)).0 in
       let n : MemberValue = record m { held = None; results = m.results ++ one ∷ [] } in
       subst (λ (p : PoolState). IsPool image plan p) (sym step.is) (record {
         account = λ f.
@@ -98,17 +92,17 @@ module _ (image : Image) (plan : PlanValue) where
         arrivals = pool.arrivals;
       })
 
-  pub retire_keeps : (old : PoolState) (v : ℕ) (new : PoolState) → refusal old (Retire v) ≡ None → IsRetire old v new → IsPool image plan old → IsPool image plan new
+  retire_keeps : (old : PoolState) (v : ℕ) (new : PoolState) → refusal old (Retire v) ≡ None → IsRetire old v new → IsPool image plan old → IsPool image plan new
   retire_keeps old v new may step pool =
       let m = step.member in
-      let free = free_to_retire old.queue v m (asked old (Retire v) m step.at may) in
+      let is_free = free m _ _ _ (asked old (Retire v) m step.at may) in
       let n : MemberValue = record m { results = []; has_retired = true } in
       subst (λ (p : PoolState). IsPool image plan p) (sym step.is) (record {
         account = λ f.
             let more : sum_by f (extent_numbers (old.arrivals ++ m.results)) ≡ sum_by f (extent_numbers old.arrivals) + sum_by f (extent_numbers m.results) =
             ap (sum_by f) (map-append (λ x. x.extent) old.arrivals m.results) ∙ sum_by-append f (extent_numbers old.arrivals) (extent_numbers m.results) in
-            omega (arith, pool.account f, placed f old.members v m n step.at, free_has f m free.1, free_has f n free.1, more);
-        members = All-set (IsMember image plan) old.members v n (record { results = λ k d below. absurd (omega (arith, below)); left = λ gone. (free.1, refl) }) pool.members;
+            omega (arith, pool.account f, placed f old.members v m n step.at, free_has f m is_free.1, free_has f n is_free.1, more);
+        members = All-set (IsMember image plan) old.members v n (record { results = λ k d below. absurd (omega (arith, below)); left = λ gone. (is_free.1, refl) }) pool.members;
         arrivals = All-append (IsScanned image plan) old.arrivals m.results pool.arrivals (member_of old.members v m step.at pool.members).results;
       })
 

@@ -1,13 +1,13 @@
 use Rattle.std.proofs.Common.{◌≡◌, ◌∙◌, Some, true, map, sum_by, get_or, ap, arith, sym, subst}
 use Rattle.std.proofs.lemmas.List.{get_or-map, get_or_default, length-map}
 use Rattle.std.proofs.lemmas.List.Sorted.{Contains-permutation, IsPermutation-sym}
-use Rattle.std.proofs.lemmas.Simd.{map-map}
 use Rattle.scrub_super.specs.Plan.{pointer_of}
 use Rattle.scrub_scan.specs.declared.extent_result.ExtentResult.{ExtentResult}
 use Rattle.scrub_scan.specs.Scanned.{Scanned, scanned}
 use Rattle.scrub_book.specs.Extents.{extents_of}
 use Rattle.scrub_book.specs.Member.{state_of}
 use Rattle.scrub_book.specs.Pool.{is_complete}
+use Rattle.scrub_book.proofs.Arrivals.{numbers_shown}
 use Rattle.scrub_book.proofs.Complete.{complete_sums}
 use Rattle.scrub_book.proofs.Counts.{permutation_of_sums}
 use Rattle.scrub_book.proofs.pool_core.PoolCore.finish.Goals as goal
@@ -23,10 +23,9 @@ assemble-requires-clause-pointers g c = λ κs h k d below.
 pub assemble-requires-clause-each : goal.assemble-requires-clause-each
 assemble-requires-clause-each g c = λ κs h.
     let x = c.self.inside in
-    let value = λ (r : ExtentResult g.row.D.Denot g.D.PageSource). scanned r in
     let complete : is_complete (state_of x.queue.items x.members.items x.arrived.items) ≡ true = ap (λ v. is_complete v.state) c.self.view_is ∙ sym c.is_complete.ensures ∙ c.if-not-is_complete.false in
-    permutation_of_sums (extents_of x.arrived.items) x.book.plan.planned (λ f. sym (ap (sum_by f) (map-map (λ s. s.extent) value x.arrived.items))
-    ∙ complete_sums (g.D.PageSource.image x.book.source) x.book.plan (state_of x.queue.items x.members.items x.arrived.items) c.self.invariant.0.pool complete f)
+    permutation_of_sums (extents_of x.arrived.items) x.book.plan.planned
+    (λ f. sym (ap (sum_by f) (numbers_shown x.arrived.items)) ∙ complete_sums (g.D.PageSource.image x.book.source) x.book.plan (state_of x.queue.items x.members.items x.arrived.items) c.self.invariant.0.pool complete f)
 
 pub returns-clause-assembly : goal.returns-clause-assembly
 returns-clause-assembly g c =
