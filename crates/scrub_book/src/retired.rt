@@ -55,7 +55,7 @@ impl<'d, D: PageSource> Retired<'d, D> {
     }
 
     /// The extents and their results by value, both in that order. It takes no memory.
-    pub(crate) fn into_parts(self) -> (Vec<u32>, Vec<ExtentResult<'d, D>>)
+    pub fn into_parts(self) -> (Vec<u32>, Vec<ExtentResult<'d, D>>)
         ensures taken { result.0.items ≡ retired_taken self.entry }
         ensures results { result.1.items ≡ retired_results self.entry }
         // Every value of the type is such.
