@@ -1,10 +1,9 @@
--- Where each key has its value, the object is the report.
+-- Where all keys are put to an object, it is the report.
 use Rattle.std.proofs.Common.{◌≡◌, refl}
-use Rattle.scrub_report.specs.declared.report.Keys.{Keys}
+use Rattle.serde_json.specs.Data.{no_members, object}
 use Rattle.scrub_report.specs.Scrubbed.{Scrubbed}
 use Rattle.scrub_report.specs.Report.{report_data}
-use Rattle.scrub_report.specs.Keys.{AreKeysOf, keys_data}
+use Rattle.scrub_report.specs.Keys.{with_chunks, with_disk, with_index, with_locators}
 
-pub keys_are : (s : Scrubbed) (k : Keys) → AreKeysOf s k → keys_data k ≡ report_data s
-keys_are s k h =
-    rw (h.broken, h.candidates, h.clean, h.dangling, h.doubtful, h.extents, h.geometry, h.hidden, h.orphans, h.runs, h.shards, h.shared, h.superblock, h.twins) refl
+pub keys_are : (s : Scrubbed) → object (with_disk s (with_chunks s (with_locators s (with_index s no_members)))) ≡ report_data s
+keys_are s = refl

@@ -8,9 +8,8 @@ ghost use Rattle.scrub_super.specs.Plan.{IsPlanOf};
 ghost use Rattle.scrub_report.specs.Answer.{AnswerValue, IsScrubAnswer};
 
 use crate::index::index_bytes;
-use crate::keys::keys_of;
-use crate::report::report_text;
-use crate::scrubbing::parts_of;
+use crate::report::{report_text, report_value};
+use crate::scrubbing::{is_clean, parts_of};
 use scrub_disk::{OutOfMemory, PageSource};
 use scrub_scan::{AllFindings, scan_in_order};
 use scrub_super::{Chosen, Plan, choose};
@@ -99,10 +98,10 @@ fn answer_of<'d, R, D: PageSource>(
 {
     let parts = parts_of(rt, alloc, disk, chosen, plan, all)?;
     let index = index_bytes(alloc, parts.map.bindings(), &parts.checked, &parts.broken)?;
-    let keys = keys_of(alloc, &parts)?;
+    let is_clean = is_clean(&parts);
+    let object = report_value(alloc, &parts, is_clean)?;
     drop(parts);
-    let is_clean = keys.clean;
-    let report = report_text(alloc, keys)?;
+    let report = report_text(alloc, object)?;
     Ok(ScrubAnswer {
         report,
         index,

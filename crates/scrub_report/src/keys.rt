@@ -1,21 +1,21 @@
-//! The values of the report's keys, from what was found on a disk. Each list that only the report needs is given up once
-//! its value stands.
+//! The report's keys with their values, from what was found on a disk, a few at a time. Each list that only the report
+//! needs is given up once its value stands.
 
-ghost use Rattle.std.specs.Prelude.{◌≡◌, IfOk, length, map};
-ghost use Rattle.serde_json.specs.View.{view};
+ghost use Rattle.std.specs.Prelude.{◌≡◌, IfOk, OnOk, length, map};
+ghost use Rattle.serde_json.specs.View.{members_view, view};
 ghost use Rattle.scrub_check.specs.Checked.{dangling, hidden};
 ghost use Rattle.scrub_check.specs.Chunks.{orphans, twins};
 ghost use Rattle.scrub_report.specs.Json.{list};
-ghost use Rattle.scrub_report.specs.Keys.{AreKeysOf};
+ghost use Rattle.scrub_report.specs.Keys.{with_chunks, with_disk, with_index, with_locators};
 ghost use Rattle.scrub_report.specs.Parts.{found_in};
 ghost use Rattle.scrub_report.specs.Report.{dangling_data, doubtful_ids, extents_data, hidden_data, ids_data, place_data};
+ghost use Rattle.scrub_report.specs.Scrubbed.{is_clean};
 
 use crate::chunks::{candidates_value, places_value, shared_value};
 use crate::extents::extents_value;
 use crate::locators::{dangling_value, hidden_value};
-use crate::report::Keys;
 use crate::runs::runs_value;
-use crate::scrubbing::{Parts, is_clean};
+use crate::scrubbing::Parts;
 use crate::shards::doubtful_ids;
 use crate::sizes::{geometry_value, super_value};
 use crate::values::ids_value;
@@ -23,7 +23,7 @@ use scrub_check::{Checked, all_live_bytes, dangling, hidden, orphans, twins};
 use scrub_disk::{OutOfMemory, PageSource};
 use scrub_merge::Binding;
 use scrub_scan::AllFindings;
-use serde_json::Value;
+use serde_json::{Map, Value, put};
 use std::alloc::Global;
 
 /// The value of `dangling`.
@@ -77,30 +77,77 @@ fn twins_key<D: PageSource>(alloc: Global, all: &AllFindings<'_, D>) -> Result<V
     places_value(alloc, &twins(alloc, all)?)
 }
 
-/// The values of all keys.
-pub(crate) fn keys_of<D: PageSource>(
+/// Puts the values of the index to the report.
+pub(crate) fn put_index<D: PageSource>(
+    report: &mut Map<String, Value>,
     alloc: Global,
     parts: &Parts<'_, D>,
-) -> Result<Keys, OutOfMemory>
+) -> Result<(), OutOfMemory>
     requires { length (found_in parts.now).read.runs ≡ length (found_in parts.now).plan.runs }
-    ensures { IfOk result (AreKeysOf (found_in parts.now)) }
+    ensures { OnOk result (members_view report.new.entries ≡
+        with_index (found_in parts.now) (members_view report.old.entries)) }
 {
     let bindings = parts.map.bindings();
-    Ok(Keys {
-        broken: ids_value(alloc, &parts.broken)?,
-        candidates: candidates_value(alloc, &parts.candidates)?,
-        clean: is_clean(parts),
-        dangling: dangling_key(alloc, &parts.checked)?,
-        doubtful: doubtful_key(alloc, bindings)?,
-        geometry: geometry_value(alloc, parts.plan.geometry())?,
-        hidden: hidden_key(alloc, &parts.checked)?,
-        orphans: orphans_key(alloc, &parts.all, &parts.checked)?,
-        runs: runs_value(alloc, parts.plan.runs(), &parts.read)?,
-        shards: bindings.len(),
-        shared: shared_value(alloc, &parts.shared)?,
-        superblock: super_value(alloc, &parts.chosen)?,
-        twins: twins_key(alloc, &parts.all)?,
-        // Its value is by far the greatest: by now the others need no lists any more.
-        extents: extents_key(alloc, &parts.all, &parts.checked)?,
-    })
+    let broken = ids_value(alloc, &parts.broken)?;
+    put(report, alloc, "broken", broken)?;
+    let doubtful = doubtful_key(alloc, bindings)?;
+    put(report, alloc, "doubtful", doubtful)?;
+    let runs = runs_value(alloc, parts.plan.runs(), &parts.read)?;
+    put(report, alloc, "runs", runs)?;
+    put(report, alloc, "shards", Value::from(bindings.len()))
+}
+
+/// Puts the values of the locators to the report, and whether all is in good order.
+pub(crate) fn put_locators<D: PageSource>(
+    report: &mut Map<String, Value>,
+    alloc: Global,
+    parts: &Parts<'_, D>,
+    clean: bool,
+) -> Result<(), OutOfMemory>
+    requires { clean ≡ is_clean (found_in parts.now) }
+    ensures { OnOk result (members_view report.new.entries ≡
+        with_locators (found_in parts.now) (members_view report.old.entries)) }
+{
+    put(report, alloc, "clean", Value::from(clean))?;
+    let dangling = dangling_key(alloc, &parts.checked)?;
+    put(report, alloc, "dangling", dangling)?;
+    let hidden = hidden_key(alloc, &parts.checked)?;
+    put(report, alloc, "hidden", hidden)?;
+    let shared = shared_value(alloc, &parts.shared)?;
+    put(report, alloc, "shared", shared)
+}
+
+/// Puts the values of the chunks to the report.
+pub(crate) fn put_chunks<D: PageSource>(
+    report: &mut Map<String, Value>,
+    alloc: Global,
+    parts: &Parts<'_, D>,
+) -> Result<(), OutOfMemory>
+    ensures { OnOk result (members_view report.new.entries ≡
+        with_chunks (found_in parts.now) (members_view report.old.entries)) }
+{
+    let candidates = candidates_value(alloc, &parts.candidates)?;
+    put(report, alloc, "candidates", candidates)?;
+    let orphans = orphans_key(alloc, &parts.all, &parts.checked)?;
+    put(report, alloc, "orphans", orphans)?;
+    let twins = twins_key(alloc, &parts.all)?;
+    put(report, alloc, "twins", twins)
+}
+
+/// Puts the values of the disk and of its extents to the report.
+pub(crate) fn put_disk<D: PageSource>(
+    report: &mut Map<String, Value>,
+    alloc: Global,
+    parts: &Parts<'_, D>,
+) -> Result<(), OutOfMemory>
+    ensures { OnOk result (members_view report.new.entries ≡
+        with_disk (found_in parts.now) (members_view report.old.entries)) }
+{
+    let geometry = geometry_value(alloc, parts.plan.geometry())?;
+    put(report, alloc, "geometry", geometry)?;
+    put(report, alloc, "retired", Value::Array(Vec::new(alloc)))?;
+    let superblock = super_value(alloc, &parts.chosen)?;
+    put(report, alloc, "super", superblock)?;
+    let extents = extents_key(alloc, &parts.all, &parts.checked)?;
+    put(report, alloc, "extents", extents)
 }

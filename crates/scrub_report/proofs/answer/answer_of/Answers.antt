@@ -21,13 +21,13 @@ index_bytes-requires-clause-count g c =
 
 pub returns : goal.returns
 returns g c = record {
-  report = record { found = found; scrubbed = c.in_ok-parts.ensures; text_is = c.in_ok-report.ensures found c.in_ok-keys.ensures };
+  report = record { found = found; scrubbed = c.in_ok-parts.ensures; text_is = c.in_ok-report.ensures found c.in_ok-object.ensures };
   index = record {
     found = found;
     scrubbed = c.in_ok-parts.ensures;
     bytes_are = c.in_ok-index.ensures ∙ ap₂ (λ checked bindings. run_bytes (index_entries checked bindings)) c.deref.ensures.value c.bindings.ensures.bindings;
   };
-  clean = record { found = found; scrubbed = c.in_ok-parts.ensures; told = c.in_ok-keys.ensures.clean };
+  clean = record { found = found; scrubbed = c.in_ok-parts.ensures; told = cc };
 }
   where
     found : Scrubbed
