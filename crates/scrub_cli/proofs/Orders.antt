@@ -12,11 +12,12 @@ use Rattle.clap.proofs.FaultLemmas.{stopped_fault}
 use Rattle.clap.proofs.WalkLemmas.{walk_stopped}
 use Rattle.scrub_cli.specs.declared.words.ImageWords.{ImageWords}
 use Rattle.scrub_cli.specs.declared.words.ItemsWords.{ItemsWords}
+use Rattle.scrub_cli.specs.declared.words.ScanWords.{ScanWords}
 use Rattle.scrub_cli.specs.declared.words.Request.{Request}
 use Rattle.scrub_cli.specs.declared.words.Request.TheVariants.{Demo, Items, Scan, Index}
 use Rattle.scrub_cli.specs.CommandLine.{shardscrub_app}
 use Rattle.scrub_cli.specs.Order.{AreExchanged, option_word}
-use Rattle.scrub_cli.specs.Words.{AreImageWords, AreItemsWords, AskFor, IsAskedBy, IsNumberOf}
+use Rattle.scrub_cli.specs.Words.{AreImageWords, AreItemsWords, AreScanWords, AskFor, IsAskedBy, IsNumberOf, IsWorkersOf}
 use Rattle.scrub_cli.proofs.Walks.{EachRule, parts}
 use Rattle.scrub_cli.proofs.Whole.{built_items, disk}
 use Rattle.scrub_cli.proofs.SameRows.{AreSame, found_same}
@@ -49,6 +50,16 @@ module _ (xs ys : List Row) (same : AreSame xs ys) where
     bad_pages = read.bad_pages ∙ ap (λ (o : Option Row). unwrap_or (option_map (λ r. r.values) o) []) (found_same (codes "bad-pages") xs ys (same (codes "bad-pages")));
   }
 
+  scan_same : (words : ScanWords) → AreScanWords xs words → AreScanWords ys words
+  scan_same words read = record {
+    image = image_same words.image read.image;
+    workers = go read.workers;
+  }
+    where
+      go : IsWorkersOf xs words.workers → IsWorkersOf ys words.workers
+      go (inl default) = inl (sym (one_same (codes "workers")) ∙ default.0, default.1)
+      go (inr given) = inr (number_same (codes "workers") words.workers given.0, given.1)
+
   items_same : (words : ItemsWords) → AreItemsWords xs words → AreItemsWords ys words
   items_same words read = record {
     image = image_same words.image read.image;
@@ -70,16 +81,16 @@ module _ (xs ys : List Row) (same : AreSame xs ys) where
   asked_same name (Items words) asked =
       (ys, renamed name (codes "items") asked.0 asked.1, items_same words (subst (λ (rows : List Row). AreItemsWords rows words) (pair_rows name (codes "items") xs asked.0 asked.1) asked.2))
   asked_same name (Scan words) asked =
-      (ys, renamed name (codes "scan") asked.0 asked.1, image_same words (subst (λ (rows : List Row). AreImageWords rows words) (pair_rows name (codes "scan") xs asked.0 asked.1) asked.2))
+      (ys, renamed name (codes "scan") asked.0 asked.1, scan_same words (subst (λ (rows : List Row). AreScanWords rows words) (pair_rows name (codes "scan") xs asked.0 asked.1) asked.2))
   asked_same name (Index words) asked =
-      (ys, renamed name (codes "index") asked.0 asked.1, image_same words (subst (λ (rows : List Row). AreImageWords rows words) (pair_rows name (codes "index") xs asked.0 asked.1) asked.2))
+      (ys, renamed name (codes "index") asked.0 asked.1, scan_same words (subst (λ (rows : List Row). AreScanWords rows words) (pair_rows name (codes "index") xs asked.0 asked.1) asked.2))
 
 -- the commands as `clap` builds them are known by their names
 disk_by_name : (name : Text) → EachRule IsByName (disk name).rules
 unfolding clap_on_literals
 disk_by_name name = (
   (refl, inr refl, refl, refl),
-  ((refl, inr refl, refl, refl), ((refl, inr refl, refl, refl), ((refl, inl refl, refl, refl), ((refl, inl refl, refl, refl), ((refl, inr refl, refl, refl), tt))))),
+  ((refl, inr refl, refl, refl), ((refl, inr refl, refl, refl), ((refl, inr refl, refl, refl), ((refl, inl refl, refl, refl), ((refl, inl refl, refl, refl), ((refl, inr refl, refl, refl), tt)))))),
 )
 
 items_by_name : EachRule IsByName built_items.rules

@@ -1,5 +1,5 @@
 -- What a parse of the words leaves to be read, and what an error of `clap` comes to.
-use Rattle.std.specs.Prelude.{◌≡◌, ◌≢◌, ◌⊎◌, List, Option, None, Some, codes, IfSome, pos}
+use Rattle.std.specs.Prelude.{◌≡◌, ◌≢◌, ◌⊎◌, ℕ, List, Option, None, Some, codes, IfSome, pos}
 use Rattle.clap.specs.Words.{IsSignedIn, without_minus, Row, Text, first_of, one_of}
 use Rattle.clap.specs.declared.error.kind.ErrorKind.{ErrorKind}
 use Rattle.clap.specs.declared.error.kind.ErrorKind.TheVariants.{DisplayHelp, OutOfMemory as no_memory}
@@ -13,9 +13,13 @@ StandsFor (Refused text) kind = (kind ≢ DisplayHelp) × (kind ≢ no_memory)
 StandsFor (Help text) kind = kind ≡ DisplayHelp
 StandsFor OutOfMemory kind = Unit {0}
 
--- a value was found for the option, and its parser took it as a number of 32 bits
+-- a value was found for the option, and its parser took it as a whole number up to a greatest one
+abbrev pub HasNumberTo : ℕ → List Row → Text → Type 0
+HasNumberTo most found name = (text : Text) × (one_of name found ≡ Some (without_minus text)) × IsSignedIn (pos 0) (pos most) text
+
+-- or as a number of 32 bits
 abbrev pub HasNumber : List Row → Text → Type 0
-HasNumber found name = (text : Text) × (one_of name found ≡ Some (without_minus text)) × IsSignedIn (pos 0) (pos 4294967295) text
+HasNumber found name = HasNumberTo 4294967295 found name
 
 -- what `clap` found has all that a command on an image file needs
 pub record HasImage (found : List Row) : Type 0 where
@@ -23,6 +27,11 @@ pub record HasImage (found : List Row) : Type 0 where
   pub pages : HasNumber found (codes "pages")
   pub extents : HasNumber found (codes "extents")
   pub image : (name : Text) × (first_of (codes "image") found ≡ Some name)
+
+-- and all that `scan` and `index` need
+pub record HasScan (found : List Row) : Type 0 where
+  pub disk : HasImage found
+  pub workers : (one_of (codes "workers") found ≡ None) ⊎ HasNumberTo 64 found (codes "workers")
 
 -- and all that `items` needs
 pub record HasItems (found : List Row) : Type 0 where
@@ -35,7 +44,7 @@ abbrev pub IsWholeCommand : Text → List Row → Type 0
 IsWholeCommand name found =
     (name ≡ codes "demo")
     ⊎ ((name ≡ codes "items") × HasItems found)
-    ⊎ (((name ≡ codes "scan") ⊎ (name ≡ codes "index")) × HasImage found)
+    ⊎ (((name ≡ codes "scan") ⊎ (name ≡ codes "index")) × HasScan found)
 
 abbrev pub IsWhole : Option (Text × List Row) → Type 0
 IsWhole command = IfSome command (λ met. IsWholeCommand met.0 met.1)

@@ -8,9 +8,12 @@ ghost use Rattle.scrub_cli.specs.Lines.{lines_of, status_of_clean, IsListing};
 ghost use Rattle.scrub_cli.specs.Scan.{IsDiskAnswer};
 
 use scrub_disk::{OutOfMemory, PageSource};
-use scrub_report::{ScrubFault, are_clean_items, scrub_in_order};
+use scrub_pool::NoGate;
+use scrub_report::{ScrubFault, are_clean_items, scrub};
 use scrub_scan::{Item, item_line, tile};
 use std::alloc::Global;
+use std::sync::Wait;
+use std::thread::Threads;
 
 /// The whole answer of a command, in memory.
 #[derive(Drop)]
@@ -68,16 +71,18 @@ pub fn extent_answer<D: PageSource>(
     Ok(Answer { text, status })
 }
 
-/// What is told of a disk, with the status of its report.
-pub fn disk_answer<R, D: PageSource>(
+/// What is told of a disk that this many workers scan beside the caller, with the status of its report.
+pub fn disk_answer<R: Threads + Wait + Sync, D: PageSource>(
     rt: &R,
     alloc: Global,
     disk: &D,
+    workers: u32,
     told: Told,
 ) -> Result<Answer, ScrubFault>
+    requires { workers ≤ 64 }
     ensures { IfOk result (λ a. IsDiskAnswer told (D.image disk.now) a.text.items a.status) }
 {
-    let found = scrub_in_order(rt, alloc, disk)?;
+    let (found, _) = scrub(rt, alloc, disk, workers, &NoGate)?;
     let status = status_of(found.is_clean());
     let text = match told {
         Told::Report => found.into_report(),

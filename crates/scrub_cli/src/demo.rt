@@ -15,6 +15,8 @@ use scrub_report::ScrubFault;
 use scrub_run::{Entry, ShardId, write_run};
 use scrub_super::{Superblock, write_record};
 use std::alloc::Global;
+use std::sync::Wait;
+use std::thread::Threads;
 use uuid::Uuid;
 
 /// The payload of the demo's chunk.
@@ -23,6 +25,9 @@ const PAYLOAD: &[u8; 3] = b"abc";
 const SHARD: ShardId = ShardId([0, 0, 0, 0, 0, 0, 0, 0, 0, 0, 0, 0, 0, 0, 0, 1]);
 /// The ends of the frames in extents 1 and 2, in bytes.
 const POINTERS: [u32; 2] = [41, 155];
+
+/// How many workers scan the demo's disk beside the caller.
+const WORKERS: u32 = 2;
 
 /// The frame of a UUID and a payload.
 fn frame_of(alloc: Global, uuid: Uuid, payload: &[u8]) -> Result<Vec<u8>, OutOfMemory>
@@ -82,10 +87,10 @@ fn demo_disk(alloc: Global) -> Result<MemDisk, OutOfMemory>
     Ok(disk)
 }
 
-/// The report of the demo's disk.
-pub fn demo<R>(rt: &R, alloc: Global) -> Result<Answer, ScrubFault>
+/// The report of the demo's disk, which two workers scan beside the caller.
+pub fn demo<R: Threads + Wait + Sync>(rt: &R, alloc: Global) -> Result<Answer, ScrubFault>
     ensures { IfOk result (λ a. IsDemoAnswer a.text.items a.status) }
 {
     let disk = demo_disk(alloc)?;
-    disk_answer(rt, alloc, &disk, Told::Report)
+    disk_answer(rt, alloc, &disk, WORKERS, Told::Report)
 }

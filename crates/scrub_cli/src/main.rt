@@ -31,6 +31,8 @@ use std::env::Env;
 use std::fs::{File, Files};
 use std::io::{ErrorKind, Write};
 use std::process::ExitCode;
+use std::sync::Wait;
+use std::thread::Threads;
 
 fn main(rt: HostRuntime) -> ExitCode {
     let (mut out, mut err) = (rt.stdout(), rt.stderr());
@@ -57,7 +59,7 @@ fn behind_name(words: &[String]) -> &[String]
 }
 
 /// Runs the program on the words of a process, or tells why there are none.
-fn run_process<R: Files<File = File> + AllocGlobal, O: Write, E: Write>(
+fn run_process<R: Files<File = File> + AllocGlobal + Threads + Wait + Sync, O: Write, E: Write>(
     rt: &R,
     words: Result<Vec<String>, Fault<'static>>,
     out: &mut O,
@@ -77,7 +79,7 @@ fn run_process<R: Files<File = File> + AllocGlobal, O: Write, E: Write>(
 }
 
 /// Runs the program on the files of the system.
-fn run_words<R: Files<File = File> + AllocGlobal, O: Write, E: Write>(
+fn run_words<R: Files<File = File> + AllocGlobal + Threads + Wait + Sync, O: Write, E: Write>(
     rt: &R,
     words: &[String],
     out: &mut O,

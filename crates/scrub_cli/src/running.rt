@@ -14,9 +14,11 @@ use crate::words::{Request, read_words};
 use scrub_report::write_out;
 use std::alloc::Global;
 use std::io::Write;
+use std::sync::Wait;
+use std::thread::Threads;
 
 /// The answer of the command that the words name, whole and in memory.
-fn answer<'a, R, I: Images>(
+fn answer<'a, R: Threads + Wait + Sync, I: Images>(
     rt: &R,
     alloc: Global,
     words: &'a [&'a str],
@@ -52,7 +54,7 @@ fn give<O: Write, E: Write>(answer: &Answer, out: &mut O, err: &mut E) -> u8
 /// in memory, and whatever else is to be said goes to `err`, whose faults are ignored.
 ///
 /// The statuses: 0 clean, or help; 1 findings; 2 words refused; 3 file fault; 4 want of memory.
-pub fn run<R, I: Images, O: Write, E: Write>(
+pub fn run<R: Threads + Wait + Sync, I: Images, O: Write, E: Write>(
     rt: &R,
     alloc: Global,
     words: &[&str],

@@ -1,5 +1,7 @@
 -- What a scrub answers of a disk.
-use Rattle.std.specs.Prelude.{ℕ, List, Bool}
+use Rattle.std.specs.Prelude.{◌-◌, ℕ, List, Bool}
+use Rattle.std.specs.List.{range_with_len}
+use Rattle.scrub_disk.specs.declared.geometry.Geometry.{Geometry}
 use Rattle.scrub_disk.specs.Image.{Image}
 use Rattle.scrub_report.specs.Scrubbed.{IsCleanImage}
 use Rattle.scrub_report.specs.Report.{IsReport}
@@ -16,3 +18,7 @@ pub record IsScrubAnswer (image : Image) (a : AnswerValue) : Type 0 where
   pub report : IsReport image a.report
   pub index : IsIndex image a.index
   pub clean : IsCleanImage image a.is_clean
+
+-- the extents that a scrub goes through, rising: all of the disk but extent 0
+abbrev pub planned_extents : Geometry → List ℕ
+planned_extents g = range_with_len 1 (g.extents - 1)

@@ -1,20 +1,24 @@
-//! What a scrub answers, and the whole scrub of a disk by one reader.
+//! What a scrub answers, and the whole scrub of a disk, by one reader or by many workers.
 
-ghost use Rattle.std.specs.Prelude.{◌≡◌, IfOk};
+ghost use Rattle.std.specs.Prelude.{◌≡◌, ◌+◌, ◌≤◌, length, IfOk};
 ghost use Rattle.scrub_disk.specs.Image.{Image};
 ghost use Rattle.scrub_scan.specs.AllFindings.{AreAllFindings};
 ghost use Rattle.scrub_super.specs.Chosen.{IsChoice};
 ghost use Rattle.scrub_super.specs.Plan.{IsPlanOf};
-ghost use Rattle.scrub_report.specs.Answer.{AnswerValue, IsScrubAnswer};
+ghost use Rattle.scrub_pool.specs.Takings.{IsPartition};
+ghost use Rattle.scrub_report.specs.Answer.{AnswerValue, IsScrubAnswer, planned_extents};
 
 use crate::index::index_bytes;
 use crate::report::{report_text, report_value};
 use crate::scrubbing::{is_clean, parts_of};
 use scrub_disk::{OutOfMemory, PageSource};
+use scrub_pool::{ExtentQueue, Gate, PoolFault, Takings, scan_all};
 use scrub_scan::{AllFindings, scan_in_order};
 use scrub_super::{Chosen, Plan, choose};
 use std::alloc::Global;
 use std::marker::Model;
+use std::sync::Wait;
+use std::thread::Threads;
 
 /// Why a scrub has no answer.
 #[derive(Debug, Clone, Copy, PartialEq, Eq)]
@@ -25,6 +29,12 @@ pub enum ScrubFault {
 
 impl From<OutOfMemory> for ScrubFault {
     fn from(_fault: OutOfMemory) -> ScrubFault {
+        ScrubFault::OutOfMemory
+    }
+}
+
+impl From<PoolFault> for ScrubFault {
+    fn from(_fault: PoolFault) -> ScrubFault {
         ScrubFault::OutOfMemory
     }
 }
@@ -122,6 +132,30 @@ pub fn scrub_in_order<R, D: PageSource>(
     let plan = Plan::make(alloc, &chosen, disk.geometry())?;
     let all = scan_in_order(alloc, disk, &plan)?;
     Ok(answer_of(rt, alloc, disk, chosen, plan, all)?)
+}
+
+/// Scrubs a disk as `scrub_in_order` does, with this many workers (0 to 64) beside the caller, who scan its planned extents at
+/// the same time, each taking from one queue until none is left; and tells who took which extents. The one fault is
+/// `OutOfMemory`, told once every worker that was started has ended.
+pub fn scrub<D: PageSource, G: Gate, R: Threads + Wait + Sync>(
+    rt: &R,
+    alloc: Global,
+    disk: &D,
+    workers: u32,
+    gate: &G,
+) -> Result<(ScrubAnswer, Takings), ScrubFault>
+    requires { workers ≤ 64 }
+    ensures answer { IfOk result (λ r. IsScrubAnswer (D.image disk.now) r.0) }
+    ensures workers { IfOk result (λ r. length r.1.lists ≡ workers + 1) }
+    ensures partition { IfOk result (λ r. IsPartition (planned_extents (D.image disk.now).geometry) r.1.lists) }
+    ensures counted { IfOk result (λ r. r.1.counted ≡ length (planned_extents (D.image disk.now).geometry)) }
+{
+    let chosen = choose(alloc, disk)?;
+    let plan = Plan::make(alloc, &chosen, disk.geometry())?;
+    let (queue, mut first) = ExtentQueue::new(rt, alloc, &plan)?;
+    let (all, takings) = scan_all(rt, alloc, disk, &plan, &queue, &mut first, workers, gate)?;
+    let answer = answer_of(rt, alloc, disk, chosen, plan, all)?;
+    Ok((answer, takings))
 }
 
 /// A law: an image has one report, one index and one verdict whether it is clean. So whoever scrubs it, with however many

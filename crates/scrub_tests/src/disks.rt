@@ -272,3 +272,22 @@ pub(crate) fn broken_superblock(alloc: Global) -> Result<MemDisk, Fail> {
     put(&mut disk, 0, 192 + 61, &[last ^ 1])?;
     Ok(disk)
 }
+
+/// A disk of 40 extents, each of 64 pages of 64 bytes. Each extent from 1 to 38 has `abc` at its start, under the UUID of
+/// sixteen bytes that are its number; extent 39 has the run of 38 shards, each of one of these chunks, whose payload comes
+/// with the disk.
+pub(crate) fn many_shards(rt: &impl Abort, alloc: Global) -> Result<(MemDisk, Vec<u8>), Fail> {
+    let mut disk = MemDisk::blank(alloc, Geometry::new(64, 64, 40)?)?;
+    let (mut entries, mut pointers) = (Vec::new(alloc), Vec::new(alloc));
+    for byte in 1..39 {
+        let chunk = put_chunk(alloc, &mut disk, u32::from(byte), 0, [byte; 16], b"abc")?;
+        entries.push(entry_of(alloc, shard_of(byte), chunk)?)?;
+        pointers.push(41)?;
+    }
+    let payload = payload_of(alloc, &entries)?;
+    assert!(rt; payload.len() == 2_966);
+    let run = put_chunk(alloc, &mut disk, 39, 0, [0xF0; 16], &payload)?;
+    pointers.push(3_004)?;
+    put_superblock(alloc, &mut disk, &pointers, slice::from_ref(&run))?;
+    Ok((disk, payload))
+}

@@ -28,3 +28,5 @@ mod superblock;
 mod told;
 #[cfg(test)]
 mod walks;
+#[cfg(test)]
+mod workers;

@@ -11,7 +11,9 @@ use std::alloc::Global;
 use std::fs;
 use std::fs::{File, Files};
 use std::process::{Abort, ExitCode};
+use std::sync::Wait;
 use std::test::Fail;
+use std::thread::Threads;
 use uuid::Uuid;
 
 mod scans;
@@ -64,7 +66,7 @@ fn image(bytes: &[u8]) -> OneImage<'_> {
 
 /// Runs words that are parted by blanks, and compares all that comes of it.
 fn check(
-    rt: &impl Abort,
+    rt: &(impl Abort + Threads + Wait + Sync),
     alloc: Global,
     words: &str,
     mut images: OneImage<'_>,
@@ -352,7 +354,12 @@ fn a_fault_of_the_error_stream_is_ignored(rt: HostRuntime) -> Result<(), Fail> {
 }
 
 /// The words come to this status and a text on the error stream alone, which begins like this.
-fn check_text(rt: &impl Abort, alloc: Global, words: &str, wanted: (u8, &str)) -> Result<(), Fail> {
+fn check_text(
+    rt: &(impl Abort + Threads + Wait + Sync),
+    alloc: Global,
+    words: &str,
+    wanted: (u8, &str),
+) -> Result<(), Fail> {
     let (mut out, mut err) = (Vec::new(alloc), Vec::new(alloc));
     let split: Vec<&str> = words.split_whitespace().collect(alloc)?;
     let status = run(rt, alloc, &split, &mut image(&[0; 768]), &mut out, &mut err);
@@ -372,7 +379,7 @@ fn words_that_are_no_command_are_refused(rt: HostRuntime) -> Result<(), Fail> {
         "items --page 64 --pages 4 --extents 3 disk.img",
         "items --page 64 --pages 4 --extents 3 --extent x disk.img",
         "items --page 64 --pages 4 --extents 3 --extent 4294967296 disk.img",
-        "scan --page 64 --pages 4 --extents 3 --workers 2 disk.img",
+        "scan --page 64 --pages 4 --extents 3 --workers 65 disk.img",
         "index --page 64 --pages 4 --extents 3",
     ] {
         check_text(&rt, rt.alloc(), words, (2, "error: "))?;
@@ -426,7 +433,7 @@ fn want_of_memory_has_a_status_and_a_text(rt: HostRuntime) -> Result<(), Fail> {
 const FILE: &str = "scrub_cli_test.img";
 
 /// Runs the program on words of a process, the first of which is its name, and compares all that comes of it.
-fn check_process<R: Files<File = File> + AllocGlobal + Abort>(
+fn check_process<R: Files<File = File> + AllocGlobal + Abort + Threads + Wait + Sync>(
     rt: &R,
     words: &str,
     wanted: (u8, &str, &str),

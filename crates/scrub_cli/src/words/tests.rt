@@ -58,16 +58,18 @@ fn items_with_all_options(rt: HostRuntime) -> Result<(), Fail> {
 fn scan_and_index_with_their_words(rt: HostRuntime) -> Result<(), Fail> {
     let words = "scan --page 64 --pages 4 --extents 3 disk.img 1:3 x 2:0";
     let split: Vec<&str> = words.split_whitespace().collect(rt.alloc())?;
-    let Request::Scan(image) = read_words(rt.alloc(), &split)? else {
+    let Request::Scan(scan) = read_words(rt.alloc(), &split)? else {
         panic!(rt; "not scan");
     };
-    check_image(&rt, &image);
-    let words = "index --extents 3 --pages 4 --page 64 disk.img 1:3 x 2:0";
+    check_image(&rt, &scan.image);
+    assert!(rt; scan.workers == 1);
+    let words = "index --extents 3 --workers 64 --pages 4 --page 64 disk.img 1:3 x 2:0";
     let split: Vec<&str> = words.split_whitespace().collect(rt.alloc())?;
-    let Request::Index(image) = read_words(rt.alloc(), &split)? else {
+    let Request::Index(index) = read_words(rt.alloc(), &split)? else {
         panic!(rt; "not index");
     };
-    check_image(&rt, &image);
+    check_image(&rt, &index.image);
+    assert!(rt; index.workers == 64);
     Ok(())
 }
 
@@ -106,14 +108,14 @@ fn a_refusal_says_what_is_wrong(rt: HostRuntime) -> Result<(), Fail> {
             "'0x4'",
         ),
         (
+            "scan --page 64 --pages 4 --extents 3 --workers 65 x",
+            "65 is not in 0..=64",
+        ),
+        (
             "items --page 64 --pages 4 --extents 3 --extent 1 --workers 2 x",
             "--workers",
         ),
         ("scan --page 64 --pages 4 --extents 3", "<IMAGE>"),
-        (
-            "scan --page 64 --pages 4 --extents 3 --workers 1 x",
-            "--workers",
-        ),
     ] {
         let text = refusal(&rt, words)?;
         assert!(rt; text.as_str().contains(part), "{words}");

@@ -1,8 +1,9 @@
 -- What a request comes to is what the words that ask for it come to.
-use Rattle.std.proofs.Common.{map}
+use Rattle.std.proofs.Common.{rules, map}
 use Rattle.scrub_cli.specs.Words.{AskFor}
 use Rattle.scrub_cli.specs.declared.words.Request.TheVariants.{Items, Scan, Index}
 use Rattle.scrub_cli.proofs.RunAnswers.{answered}
+use Rattle.scrub_cli.proofs.WordsFound.{few_workers}
 use Rattle.scrub_cli.proofs.running.answer.Goals as goal
 
 pub returns-in-Items : goal.returns-in-Items
@@ -11,6 +12,16 @@ returns-in-Items g c =
     let request = Items c.in-Items.words in
     let asked : AskFor words request = rw c.in-Items.is at c.in_ok-read_words.ensures in
     answered (g.I.Images.known c.args.images.now) words request c.items.result asked c.items.ensures
+
+pub scan-requires : goal.scan-requires
+scan-requires g c =
+    let asked : AskFor (map (λ word. word.now) c.args.words.now) (Scan c.in-Scan.words) = rw c.in-Scan.is at c.in_ok-read_words.ensures in
+    (search rules, few_workers asked.1.0 c.in-Scan.words.workers asked.1.2.workers)
+
+pub scan-requires-in-Index : goal.scan-requires-in-Index
+scan-requires-in-Index g c =
+    let asked : AskFor (map (λ word. word.now) c.args.words.now) (Index c.in-Index.words) = rw c.in-Index.is at c.in_ok-read_words.ensures in
+    (search rules, few_workers asked.1.0 c.in-Index.words.workers asked.1.2.workers)
 
 pub returns-in-Scan : goal.returns-in-Scan
 returns-in-Scan g c =

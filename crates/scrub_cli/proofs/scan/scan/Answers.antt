@@ -6,7 +6,7 @@ use Rattle.scrub_cli.proofs.scan.scan.Goals as goal
 
 pub returns-in_err-disk : goal.returns-in_err-disk
 returns-in_err-disk g c =
-    let words = c.args.words.now in
+    let words = c.args.words.now.image in
     let p = err_from_is_err_and c.from_residual-in_err-disk.result c.from_residual-in_err-disk.ensures.1 in
     rw (p.1, p.2) (scan_disk_fault (g.I.Images.known c.args.images.now words.name.now) words c.in_ok-geometry.geometry c.in_err-disk.field-0.0 c.in_ok-geometry.ensures c.in_err-disk.ensures)
 

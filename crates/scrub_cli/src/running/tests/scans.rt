@@ -13,7 +13,9 @@ use scrub_frame::{digest_of, write_locator};
 use std::alloc::Global;
 use std::process::Abort;
 use std::slice;
+use std::sync::Wait;
 use std::test::Fail;
+use std::thread::Threads;
 
 /// The words of a command on a disk with three extents of four pages of 64 bytes.
 const SCAN: &str = "scan --page 64 --pages 4 --extents 3 disk.img";
@@ -74,7 +76,7 @@ fn run_of_two(alloc: Global) -> Result<Vec<u8>, Fail> {
 
 /// Runs the command `index` on a disk, and compares the bytes and the status.
 fn check_index(
-    rt: &impl Abort,
+    rt: &(impl Abort + Threads + Wait + Sync),
     alloc: Global,
     disk: &[u8],
     wanted: (u8, &[u8]),
@@ -102,6 +104,20 @@ fn a_disk_with_one_shard_is_clean(rt: HostRuntime) -> Result<(), Fail> {
     check(&rt, rt.alloc(), SCAN, image(&disk), (0, ONE_SHARD, ""))?;
     assert!(rt; payload.len() == 117);
     check_index(&rt, rt.alloc(), &disk, (0, &payload))
+}
+
+/// However many workers scan the disk, the report is the same.
+#[test]
+fn the_number_of_workers_is_of_no_account(rt: HostRuntime) -> Result<(), Fail> {
+    let (disk, _) = one_shard(rt.alloc())?;
+    for words in [
+        "scan --workers 0 --page 64 --pages 4 --extents 3 disk.img",
+        "scan --page 64 --pages 4 --extents 3 disk.img --workers=3",
+        "scan --page 64 --workers 64 --pages 4 --extents 3 disk.img",
+    ] {
+        check(&rt, rt.alloc(), words, image(&disk), (0, ONE_SHARD, ""))?;
+    }
+    Ok(())
 }
 
 #[test]
@@ -133,7 +149,12 @@ fn twins_and_a_shared_place_are_told(rt: HostRuntime) -> Result<(), Fail> {
 }
 
 /// The output takes so many bytes of the report of the demo, and fails or takes none.
-fn check_narrow(rt: &impl Abort, alloc: Global, room: usize, fails: bool) -> Result<(), Fail> {
+fn check_narrow(
+    rt: &(impl Abort + Threads + Wait + Sync),
+    alloc: Global,
+    room: usize,
+    fails: bool,
+) -> Result<(), Fail> {
     let mut out = NarrowWriter::new(alloc, room, fails);
     let mut err = Vec::new(alloc);
     let status = run(rt, alloc, &["demo"], &mut image(&[]), &mut out, &mut err);

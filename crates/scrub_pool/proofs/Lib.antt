@@ -1,0 +1,5 @@
+pub mod Rising
+pub mod Totals
+pub mod Steps
+pub mod Crews
+pub mod Joined

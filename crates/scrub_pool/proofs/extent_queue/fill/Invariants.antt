@@ -1,0 +1,8 @@
+use Rattle.std.proofs.Common.{◌≡◌, [], take}
+use Rattle.crossbeam_queue.specs.Passes.{IsSamePass, IsPassOf}
+use Rattle.scrub_pool.specs.Account.{view_of}
+use Rattle.scrub_pool.specs.Known.{known}
+use Rattle.scrub_pool.proofs.extent_queue.fill.Given as goal
+
+abbrev pub invariant-loop-extent : goal.invariant-loop-extent
+invariant-loop-extent g l = IsSamePass l.initial.pass l.pass × IsPassOf l.line l.pass × (known l.pass ≡ view_of 1 0 0 (take l.extent-index l.extents) [] [])

@@ -1,0 +1,41 @@
+-- What contracts see of the queue of extents and of a pass: which queue it is of, and who took which extents.
+use Rattle.std.specs.Prelude.{◌≡◌, ◌<◌, ◌++◌, ◌∷◌, ℕ, List, [], Bool, true, false, All, Contains}
+use Rattle.std.specs.List.{flat_map}
+use Rattle.std.specs.List.Sorted.{IsPermutation}
+pub use Rattle.atomic_table.specs.Seated.{TableId}
+
+-- a pass: its queue, the planned extents, whether it is the first, the extents that it took, the list that each pass took
+-- that was joined into it, and how many passes are out, which were split from it and not joined back
+pub record PassValue : Type 0 where
+  pub queue : TableId
+  pub planned : List ℕ
+  pub first : Bool
+  pub own : List ℕ
+  pub joined : List (List ℕ)
+  pub out : ℕ
+
+-- lists, one after another
+abbrev pub one_list : List (List ℕ) → List ℕ
+one_list lists = flat_map (λ xs. xs) lists
+
+-- all that stands in its own and joined lists
+abbrev pub taken_in : PassValue → List ℕ
+taken_in p = p.own ++ one_list p.joined
+
+-- the first pass of a queue, by which nothing was taken yet
+abbrev pub new_pass : TableId → List ℕ → PassValue
+new_pass queue planned = record { queue = queue; planned = planned; first = true; own = []; joined = []; out = 0 }
+
+-- a pass that was split from it, by which nothing was taken yet
+abbrev pub split_pass : TableId → List ℕ → PassValue
+split_pass queue planned = record { queue = queue; planned = planned; first = false; own = []; joined = []; out = 0 }
+
+-- by a pass a planned extent was taken, which is above all that it had
+pub record IsTakenBy (old : PassValue) (e : ℕ) (new : PassValue) : Type 0 where
+  pub planned : Contains old.planned e
+  pub above : All (λ x. x < e) (taken_in old)
+  pub is : new ≡ record old { own = old.own ++ e ∷ [] }
+
+-- own and joined are together the planned extents, each once
+abbrev pub HasTakenAll : PassValue → Type 0
+HasTakenAll p = IsPermutation (taken_in p) p.planned

@@ -1,0 +1,140 @@
+//! The workers beside the caller, each half of them on a thread of its own. What one worker does is left to it.
+
+ghost use Rattle.std.specs.Thread.{IsSync};
+ghost use Rattle.std.specs.Prelude.{◌≡◌, ◌+◌, ◌<◌, false, None, [], All, length, IfSome, vec_len};
+ghost use Rattle.scrub_book.specs.Worker.{held_by, results_of};
+ghost use Rattle.scrub_pool.specs.Work.{AreHands, IsHand, HasEnded, AreDone};
+
+use crate::extent_queue::{ExtentQueue, TakePass};
+use crate::gate::Gate;
+use crate::tally::{Tally, nothing};
+use crate::worker::works;
+use scrub_book::WorkerCore;
+use scrub_disk::PageSource;
+use scrub_super::Plan;
+use std::alloc::Global;
+use std::sync::ledger::{Ledger, Share};
+use std::sync::{Mutex, Wait};
+use std::thread::{Threads, join};
+
+/// What a worker begins with: its number, and a pass by which nothing was taken.
+#[derive(Drop)]
+pub(crate) struct Hand {
+    pub(crate) number: u32,
+    pub(crate) pass: TakePass,
+}
+
+/// A worker that ended: its pass, and what it took and found.
+#[derive(Drop)]
+pub(crate) struct Member<'d, D: PageSource> {
+    pub(crate) pass: TakePass,
+    pub(crate) core: WorkerCore<'d, D>,
+}
+
+/// One member works.
+fn member_works<'d, D: PageSource, L: Ledger + Send + Sync, G: Gate, R: Wait>(
+    rt: &R,
+    alloc: Global,
+    disk: &'d D,
+    plan: &Plan,
+    queue: &ExtentQueue,
+    gate: &G,
+    tally: &Mutex<Tally<L>>,
+    hand: Hand,
+) -> (Member<'d, D>, Option<Share<L>>)
+    requires geometry { plan.now.geometry ≡ (D.image disk.now).geometry }
+    requires hand { IsHand queue.now plan.now.planned hand }
+    ensures member { HasEnded queue.now plan.now (D.image disk.now) result.0 }
+    ensures whole { IfSome result.1 (λ s. (held_by result.0.core ≡ None) × (s.parts ≡ 1) × (s.amount ≡ length (results_of result.0.core))) }
+{
+    let Hand { number, mut pass } = hand;
+    let (core, share) = works(rt, alloc, disk, plan, queue, gate, tally, number, &mut pass);
+    (Member { pass, core }, share)
+}
+
+/// The only member works, or none. No share means want of memory.
+fn last_works<'d, D: PageSource, L: Ledger + Send + Sync, G: Gate, R: Wait>(
+    rt: &R,
+    alloc: Global,
+    disk: &'d D,
+    plan: &Plan,
+    queue: &ExtentQueue,
+    gate: &G,
+    tally: &Mutex<Tally<L>>,
+    hands: Vec<Hand>,
+) -> (Vec<Member<'d, D>>, Option<Share<L>>)
+    requires geometry { plan.now.geometry ≡ (D.image disk.now).geometry }
+    requires few { vec_len hands < 2 }
+    requires hands { AreHands queue.now plan.now.planned hands.items }
+    ensures members { All (λ m. HasEnded queue.now plan.now (D.image disk.now) m) result.0.items }
+    ensures whole { IfSome result.1 (λ s. AreDone s.parts s.amount result.0.items × (vec_len result.0 ≡ vec_len hands)) }
+{
+    let mut hands = hands;
+    let mut members = Vec::new(alloc);
+    let Some(hand) = hands.pop() else {
+        return (members, Some(nothing(rt, tally)));
+    };
+    let (member, share) = member_works(rt, alloc, disk, plan, queue, gate, tally, hand);
+    if members.push(member).is_err() {
+        return (members, None);
+    }
+    (members, share)
+}
+
+/// All members work at once: the list is cut in halves, and one half goes to a new thread. No share means that one of them
+/// lacked memory.
+#[cycle(halves)]
+pub(crate) fn crew_works<
+    'd,
+    D: PageSource,
+    L: Ledger + Send + Sync,
+    G: Gate,
+    R: Threads + Wait + Sync,
+>(
+    rt: &R,
+    alloc: Global,
+    disk: &'d D,
+    plan: &Plan,
+    queue: &ExtentQueue,
+    gate: &G,
+    tally: &Mutex<Tally<L>>,
+    mut low: Vec<Hand>,
+) -> (Vec<Member<'d, D>>, Option<Share<L>>)
+    requires geometry { plan.now.geometry ≡ (D.image disk.now).geometry }
+    requires hands { AreHands queue.now plan.now.planned low.items }
+    ensures members { All (λ m. HasEnded queue.now plan.now (D.image disk.now) m) result.0.items }
+    ensures whole { IfSome result.1 (λ s. AreDone s.parts s.amount result.0.items × (vec_len result.0 ≡ vec_len low)) }
+{
+    if low.len() < 2 {
+        return last_works(rt, alloc, disk, plan, queue, gate, tally, low);
+    }
+    let Ok(high) = low.split_off(low.len() / 2) else {
+        return (Vec::new(alloc), None);
+    };
+    let front = move || -> (Vec<Member<D>>, Option<Share<L>>)
+        requires sync { IsSync R.row }
+        requires geometry { plan.now.geometry ≡ (D.image disk.now).geometry }
+        requires hands { AreHands queue.now plan.now.planned low.items }
+        ensures members { All (λ m. HasEnded queue.entry.now plan.entry.now (D.image disk.entry.now) m) result.0.items }
+        ensures whole { IfSome result.1 (λ s. AreDone s.parts s.amount result.0.items × (vec_len result.0 ≡ vec_len low)) }
+    { crew_works(rt, alloc, disk, plan, queue, gate, tally, low) };
+    let back = move || -> (Vec<Member<D>>, Option<Share<L>>)
+        requires sync { IsSync R.row }
+        requires geometry { plan.now.geometry ≡ (D.image disk.now).geometry }
+        requires hands { AreHands queue.now plan.now.planned high.items }
+        ensures members { All (λ m. HasEnded queue.entry.now plan.entry.now (D.image disk.entry.now) m) result.0.items }
+        ensures whole { IfSome result.1 (λ s. AreDone s.parts s.amount result.0.items × (vec_len result.0 ≡ vec_len high)) }
+    { crew_works(rt, alloc, disk, plan, queue, gate, tally, high) };
+    let ((mut members, mine), (mut rest, other)) = join(rt, front, back);
+    if members.append(&mut rest).is_err() {
+        return (members, None);
+    }
+    let Some(mut mine) = mine else {
+        return (members, None);
+    };
+    let Some(other) = other else {
+        return (members, None);
+    };
+    mine.merge(other);
+    (members, Some(mine))
+}

@@ -1,0 +1,23 @@
+//! Workers that scan the planned extents of a disk at the same time, each taking from one shared queue. What is decided
+//! without threads is left to the crates below, and what follows from what was found to those above.
+#![tactic(auto)]
+
+mod crew;
+pub mod extent_queue;
+pub mod fault;
+pub mod gate;
+pub mod rule;
+pub mod scanning;
+pub mod takings;
+mod tally;
+mod worker;
+
+pub use extent_queue::{ExtentQueue, TakePass};
+pub use fault::PoolFault;
+pub use gate::{Gate, NoGate};
+pub use scanning::scan_all;
+pub use scrub_disk::OutOfMemory;
+pub use takings::Takings;
+
+#[cfg(test)]
+mod tests;

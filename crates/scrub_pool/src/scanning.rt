@@ -1,0 +1,244 @@
+//! Scanning all planned extents by many workers and the caller. What one worker does is left to it.
+
+ghost use Rattle.std.specs.Thread.{IsSync};
+ghost use Rattle.std.specs.Prelude.{◌≡◌, ℕ, ◌+◌, ◌-◌, ◌<◌, ◌≤◌, ◌++◌, [], ◌∷◌, true, false, None, All, length, map, OnOk, IfOk, IfSome, sum_by, vec_len};
+ghost use Rattle.std.specs.List.Sorted.{IsStrictlyIncreasing};
+ghost use Rattle.scrub_disk.specs.Image.{Image};
+ghost use Rattle.scrub_super.specs.Plan.{PlanValue};
+ghost use Rattle.scrub_scan.specs.AllFindings.{AreAllFindings};
+ghost use Rattle.scrub_book.specs.Extents.{extents_of};
+ghost use Rattle.scrub_book.specs.Worker.{held_by, taken_by, results_of};
+ghost use Rattle.scrub_pool.specs.Passes.{one_list, new_pass};
+ghost use Rattle.scrub_pool.specs.Takings.{IsPartition};
+ghost use Rattle.scrub_pool.specs.Work.{IsPassFor, IsSamePart, IsAtWork, AreResults, AreHands, HasEnded, HaveResults, IsThrough, AreDone, after_joins, lists_in};
+
+use crate::OutOfMemory;
+use crate::crew::{Hand, Member, crew_works};
+use crate::extent_queue::{ExtentQueue, TakePass};
+use crate::fault::PoolFault;
+use crate::gate::Gate;
+use crate::takings::Takings;
+use crate::tally::Tally;
+use crate::worker::{work, works};
+use scrub_book::{Book, WorkerCore, assemble};
+use scrub_disk::PageSource;
+use scrub_scan::{AllFindings, ExtentResult};
+use scrub_super::Plan;
+use std::alloc::Global;
+use std::marker::Brand;
+use std::mem;
+use std::sync::ledger::{Blank, Ledger, Share};
+use std::sync::{Mutex, Wait};
+use std::thread::{Threads, join_mut};
+
+/// As many workers as asked, each with a pass of its own.
+fn hire<R: Wait>(
+    rt: &R,
+    alloc: Global,
+    queue: &ExtentQueue,
+    first: &mut TakePass,
+    workers: u32,
+) -> Result<Vec<Hand>, OutOfMemory>
+    requires queue { first.old.queue ≡ queue.now }
+    requires first { first.old.first ≡ true }
+    requires none_out { first.old.out ≡ 0 }
+    requires workers { workers ≤ 64 }
+    ensures count { IfOk result (λ v. vec_len v ≡ workers) }
+    ensures hands { IfOk result (λ v. AreHands queue.now first.old.planned v.items) }
+    ensures first { OnOk result (first.new ≡ record first.old { out = workers }) }
+{
+    let mut hands = Vec::with_capacity(alloc, workers as usize)?;
+    for number in 0..workers {
+        let pass = queue.split(rt, alloc, first)?;
+        hands.push(Hand { number, pass })?;
+    }
+    Ok(hands)
+}
+
+/// The crew and the caller work at the same time. No share means that one of them lacked memory.
+fn all_work<'d, D: PageSource, L: Ledger + Send + Sync, G: Gate, R: Threads + Wait + Sync>(
+    rt: &R,
+    alloc: Global,
+    disk: &'d D,
+    plan: &Plan,
+    queue: &ExtentQueue,
+    gate: &G,
+    tally: &Mutex<Tally<L>>,
+    number: u32,
+    first: &mut TakePass,
+    hands: Vec<Hand>,
+) -> (
+    (Vec<Member<'d, D>>, Option<Share<L>>),
+    (WorkerCore<'d, D>, Option<Share<L>>),
+)
+    requires geometry { plan.now.geometry ≡ (D.image disk.now).geometry }
+    requires first { IsPassFor queue.now plan.now.planned first.old }
+    requires nothing { first.old.own ≡ [] }
+    requires hands { AreHands queue.now plan.now.planned hands.items }
+    ensures members { All (λ m. HasEnded queue.now plan.now (D.image disk.now) m) result.0.0.items }
+    ensures theirs { IfSome result.0.1 (λ s. AreDone s.parts s.amount result.0.0.items × (vec_len result.0.0 ≡ vec_len hands)) }
+    ensures pass { IsSamePart first.old first.new }
+    ensures core { IsAtWork queue.now plan.now (D.image disk.now) first.new result.1.0 }
+    ensures mine { IfSome result.1.1 (λ s. (held_by result.1.0 ≡ None) × (s.parts ≡ 1) × (s.amount ≡ length (results_of result.1.0))) }
+{
+    let mut hands = hands;
+    join_mut(
+        rt,
+        &mut || -> (Vec<Member<D>>, Option<Share<L>>)
+            requires sync { IsSync R.row }
+            requires geometry { plan.now.geometry ≡ (D.image disk.now).geometry }
+            requires hands { AreHands queue.now plan.now.planned hands.items }
+            ensures members { All (λ m. HasEnded queue.entry.now plan.entry.now (D.image disk.entry.now) m) result.0.items }
+            ensures theirs { IfSome result.1 (λ s. AreDone s.parts s.amount result.0.items × (vec_len result.0 ≡ vec_len hands.entry)) }
+        {
+            let some = mem::replace(&mut hands, Vec::new(alloc));
+            crew_works(rt, alloc, disk, plan, queue, gate, tally, some)
+        },
+        &mut || -> (WorkerCore<D>, Option<Share<L>>)
+            requires geometry { plan.now.geometry ≡ (D.image disk.now).geometry }
+            requires first { IsPassFor queue.now plan.now.planned first.now }
+            requires nothing { first.now.own ≡ [] }
+            ensures pass { IsSamePart first.entry.now first.exit.now }
+            ensures core { IsAtWork queue.entry.now plan.entry.now (D.image disk.entry.now) first.exit.now result.0 }
+            ensures mine { IfSome result.1 (λ s. (held_by result.0 ≡ None) × (s.parts ≡ 1) × (s.amount ≡ length (results_of result.0))) }
+        { works(rt, alloc, disk, plan, queue, gate, tally, number, first) },
+    )
+}
+
+/// Takes in one member that ended: joins its pass, adds its results to those found, and gives the list of what it took.
+fn take_in<'d, D: PageSource, R: Wait>(
+    rt: &R,
+    queue: &ExtentQueue,
+    first: &mut TakePass,
+    member: Member<'d, D>,
+    found: &mut Vec<ExtentResult<'d, D>>,
+) -> Result<Vec<u32>, OutOfMemory>
+    requires queue { first.old.queue ≡ queue.now }
+    requires first { first.old.first ≡ true }
+    requires member { IsThrough queue.now member }
+    ensures first { first.new ≡ record first.old { joined = first.old.joined ++ member.entry.pass.own ∷ []; out = first.old.out - 1 } }
+    ensures list { IfOk result (λ v. v.items ≡ taken_by member.entry.core) }
+    ensures found { OnOk result (found.new.items ≡ found.old.items ++ results_of member.entry.core) }
+    ensures matched { OnOk result (extents_of (results_of member.entry.core) ≡ taken_by member.entry.core) }
+{
+    let Member { pass, core } = member;
+    queue.join(rt, first, pass);
+    let Ok(retired) = core.retire() else {
+        unreachable!()
+    };
+    let (taken, mut results) = retired.into_parts();
+    found.append(&mut results)?;
+    Ok(taken)
+}
+
+/// Takes in all members that ended, in their order, and gives the lists of what they took.
+fn collect<'d, D: PageSource, R: Wait>(
+    rt: &R,
+    alloc: Global,
+    queue: &ExtentQueue,
+    first: &mut TakePass,
+    members: Vec<Member<'d, D>>,
+    found: &mut Vec<ExtentResult<'d, D>>,
+) -> Result<Vec<Vec<u32>>, OutOfMemory>
+    requires queue { first.old.queue ≡ queue.now }
+    requires first { first.old.first ≡ true }
+    requires nothing { found.old.items ≡ [] }
+    requires members { All (λ m. IsThrough queue.now m) members.items }
+    ensures first { IfOk result (λ v. first.new ≡ after_joins first.old (lists_in v.items) (vec_len members.entry)) }
+    ensures count { IfOk result (λ v. vec_len v ≡ vec_len members.entry) }
+    ensures found { IfOk result (λ v. extents_of found.new.items ≡ one_list (lists_in v.items)) }
+    ensures sum { OnOk result (length found.new.items ≡ sum_by (λ m. length (results_of m.core)) members.entry.items) }
+    ensures results { (image : Image) (plan : PlanValue) → HaveResults image plan members.entry.items → OnOk result (AreResults image plan found.new.items) }
+{
+    let mut lists = Vec::new(alloc);
+    for member in members {
+        lists.push(take_in(rt, queue, first, member, found)?)?;
+    }
+    Ok(lists)
+}
+
+/// Scans all planned extents, and counts them in this ledger.
+fn scan_under<'d, D: PageSource, L: Ledger + Send + Sync, G: Gate, R: Threads + Wait + Sync>(
+    rt: &R,
+    alloc: Global,
+    disk: &'d D,
+    plan: &Plan,
+    queue: &ExtentQueue,
+    first: &mut TakePass,
+    workers: u32,
+    gate: &G,
+    blank: Blank,
+) -> Result<(AllFindings<'d, D>, Takings), OutOfMemory>
+    requires workers { workers ≤ 64 }
+    requires geometry { plan.now.geometry ≡ (D.image disk.now).geometry }
+    requires first { first.old ≡ new_pass queue.now plan.now.planned }
+    requires name { blank.name ≡ L.name }
+    requires parts { (blank.parts ≡ L.parts) × (blank.parts ≡ workers + 1) }
+    ensures image { IfOk result (λ r. D.image r.0.source ≡ D.image disk.now) }
+    ensures findings { IfOk result (λ r. AreAllFindings (D.image disk.now) plan.now r.0.extents) }
+    ensures workers { IfOk result (λ r. length r.1.lists ≡ workers + 1) }
+    ensures lists { IfOk result (λ r. r.1.lists ≡ first.new.joined ++ first.new.own ∷ []) }
+    ensures partition { IfOk result (λ r. IsPartition plan.now.planned r.1.lists) }
+    ensures counted { IfOk result (λ r. r.1.counted ≡ length plan.now.planned) }
+    ensures none_out { OnOk result (first.new.out ≡ 0) }
+{
+    let book = Book::new(alloc, disk, plan)?;
+    let parts = u64::from(workers) + 1;
+    let (ledger, mut all) = blank.open::<L>();
+    let purse = all.split_off(parts, 0);
+    let tally = Mutex::new(Tally::new(ledger, purse, parts));
+    let hands = hire(rt, alloc, queue, first, workers)?;
+    let ((members, theirs), (core, mine)) = all_work(
+        rt, alloc, disk, plan, queue, gate, &tally, workers, first, hands,
+    );
+    let (Some(theirs), Some(mine)) = (theirs, mine) else {
+        return Err(OutOfMemory);
+    };
+    let (mut core, mut share) = (core, mine);
+    let mut found = Vec::new(alloc);
+    let mut lists = collect(rt, alloc, queue, first, members, &mut found)?;
+    work(
+        rt, alloc, disk, plan, queue, gate, &tally, workers, first, &mut core, &mut share,
+    )?;
+    let Ok(retired) = core.retire() else {
+        unreachable!()
+    };
+    let (taken, mut results) = retired.into_parts();
+    results.append(&mut found)?;
+    lists.push(taken)?;
+    all.merge(share);
+    all.merge(theirs);
+    let counted = tally.into_inner().last(&mut all);
+    Ok((assemble(book, results), Takings::new(lists, counted)))
+}
+
+/// What one reader finds in the planned extents, scanned by this many workers (0 to 64) and the caller, each taking from this
+/// queue until none is left, and who took what. The caller takes with the first pass, as worker number `workers`. The one
+/// fault is `OutOfMemory`, told once every worker that was started has ended; the queue and the pass are then for dropping.
+pub fn scan_all<'d, D: PageSource, G: Gate, R: Threads + Wait + Sync>(
+    rt: &R,
+    alloc: Global,
+    disk: &'d D,
+    plan: &Plan,
+    queue: &ExtentQueue,
+    first: &mut TakePass,
+    workers: u32,
+    gate: &G,
+) -> Result<(AllFindings<'d, D>, Takings), PoolFault>
+    requires workers { workers ≤ 64 }
+    requires geometry { plan.now.geometry ≡ (D.image disk.now).geometry }
+    requires first { first.old ≡ new_pass queue.now plan.now.planned }
+    ensures image { IfOk result (λ r. D.image r.0.source ≡ D.image disk.now) }
+    ensures findings { IfOk result (λ r. AreAllFindings (D.image disk.now) plan.now r.0.extents) }
+    ensures workers { IfOk result (λ r. length r.1.lists ≡ workers + 1) }
+    ensures lists { IfOk result (λ r. r.1.lists ≡ first.new.joined ++ first.new.own ∷ []) }
+    ensures partition { IfOk result (λ r. IsPartition plan.now.planned r.1.lists) }
+    ensures counted { IfOk result (λ r. r.1.counted ≡ length plan.now.planned) }
+    ensures none_out { OnOk result (first.new.out ≡ 0) }
+{
+    let blank = Blank::new(u64::from(workers) + 1);
+    let answer = scan_under::<D, Brand, G, R>(
+        rt, alloc, disk, plan, queue, first, workers, gate, blank,
+    )?;
+    Ok(answer)
+}

@@ -1,0 +1,61 @@
+//! Who took which extents, and how many were counted. How it came to that is left to the workers.
+
+ghost use Rattle.std.specs.Prelude.{◌≡◌, ◌+◌, ◌<◌, length, Some, slice_get};
+
+use std::marker::Model;
+
+/// For each worker the extents that it took, in that order, and the ledger's total.
+#[derive(Drop)]
+pub struct Takings {
+    // By the workers' numbers, the caller's last.
+    lists: Vec<Vec<u32>>,
+    counted: u64,
+}
+
+impl Model for Takings {
+    ghost use Rattle.std.specs.Prelude.{◌<◌, ◌≤◌, length, map};
+    ghost use Rattle.scrub_pool.specs.Takings.{TakingsValue};
+
+    ghost Value = { TakingsValue };
+
+    ghost view = { λ t. record { lists = map (λ l. l.items) t.lists.items; counted = t.counted } };
+
+    ghost invariant = { λ t. (0 < length t.lists.items) × (length t.lists.items ≤ 65) };
+}
+
+impl Takings {
+    ghost use Rattle.std.specs.Prelude.{◌≤◌, map};
+    ghost use Rattle.scrub_pool.specs.Takings.{TakingsValue};
+
+    /// The lists of the workers, by their numbers, the caller's last, and the ledger's total.
+    pub(crate) fn new(lists: Vec<Vec<u32>>, counted: u64) -> Takings
+        requires caller { 0 < length lists.items }
+        requires few { length lists.items ≤ 65 }
+        ensures lists { result.lists ≡ map (λ l. l.items) lists.items }
+        ensures counted { result.counted ≡ counted }
+    {
+        Takings { lists, counted }
+    }
+
+    /// How many workers were asked for beside the caller.
+    pub fn workers(&self) -> u32
+        ensures { result + 1 ≡ length self.now.lists }
+    {
+        self.lists.len() as u32 - 1
+    }
+
+    /// The extents that a worker took, rising. The caller's number is `workers()`. A worker that was passed over took none.
+    pub fn taken_by(&self, worker: u32) -> &[u32]
+        requires { worker < length self.now.lists }
+        ensures { slice_get self.now.lists worker ≡ Some result.now }
+    {
+        self.lists[worker as usize].as_slice()
+    }
+
+    /// The ledger's total: how many extents were counted.
+    pub fn counted(&self) -> u64
+        ensures { result ≡ self.now.counted }
+    {
+        self.counted
+    }
+}

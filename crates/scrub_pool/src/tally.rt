@@ -1,0 +1,108 @@
+//! What all workers counted, under one lock. When something is counted is left to the workers.
+
+ghost use Rattle.std.specs.Prelude.{◌≡◌, ◌+◌, ◌<◌, IfSome, OnSome};
+
+use std::sync::ledger::{Book, Ledger, Share};
+use std::sync::{Mutex, Wait};
+
+/// The total, beside the ledger's book that says so, and the parts of the ledger that no worker has yet.
+#[derive(Drop)]
+pub(crate) struct Tally<L: Ledger> {
+    total: u64,
+    book: Book<L>,
+    purse: Share<L>,
+    left: u64,
+    ghost same: { total ≡ book.total },
+    ghost parts: { purse.parts ≡ left },
+    ghost empty: { purse.amount ≡ 0 },
+}
+
+impl<L: Ledger> Tally<L> {
+    /// A book in which nothing was counted, and so many parts.
+    pub(crate) fn new(book: Book<L>, purse: Share<L>, left: u64) -> Tally<L>
+        requires total { book.total ≡ 0 }
+        requires parts { purse.parts ≡ left }
+        requires empty { purse.amount ≡ 0 }
+    {
+        Tally {
+            total: 0,
+            book,
+            purse,
+            left,
+        }
+    }
+
+    /// One part of the ledger, by which nothing was counted. None where no part is left.
+    fn enroll(&mut self) -> Option<Share<L>>
+        ensures one { IfSome result (λ s. s.parts ≡ 1) }
+        ensures empty { IfSome result (λ s. s.amount ≡ 0) }
+    {
+        let Tally { purse, left, .. } = self;
+        if *left == 0 {
+            return None;
+        }
+        *left -= 1;
+        Some(purse.split_off(1, 0))
+    }
+
+    /// No part of the ledger.
+    fn nothing(&mut self) -> Share<L>
+        ensures none { result.parts ≡ 0 }
+        ensures empty { result.amount ≡ 0 }
+    {
+        self.purse.empty()
+    }
+
+    /// Moves 1 into the book, and tells the total that the move left. None where the total can't grow.
+    fn count(&mut self, share: &mut Share<L>) -> Option<u64>
+        requires { 0 < share.old.parts }
+        ensures parts { share.new.parts ≡ share.old.parts }
+        ensures moved { OnSome result (share.new.amount ≡ share.old.amount + 1) }
+        ensures told { IfSome result (λ n. n ≡ self.new.total) }
+        ensures more { IfSome result (λ n. n ≡ self.old.total + 1) }
+    {
+        let Tally { total, book, .. } = self;
+        let next = total.checked_add(1)?;
+        book.add(share, 1);
+        *total = next;
+        Some(next)
+    }
+
+    /// The book's total, by the share that has every part: what was counted by it.
+    pub(crate) fn last(&mut self, all: &mut Share<L>) -> u64
+        requires { all.old.parts ≡ L.parts }
+        ensures { result ≡ all.old.amount }
+    {
+        self.book.audit(all);
+        self.total
+    }
+}
+
+/// One part of the ledger, for any thread.
+pub(crate) fn enroll<L: Ledger, R: Wait>(rt: &R, tally: &Mutex<Tally<L>>) -> Option<Share<L>>
+    ensures one { IfSome result (λ s. s.parts ≡ 1) }
+    ensures empty { IfSome result (λ s. s.amount ≡ 0) }
+{
+    tally.lock(rt).enroll()
+}
+
+/// No part of the ledger, for any thread.
+pub(crate) fn nothing<L: Ledger, R: Wait>(rt: &R, tally: &Mutex<Tally<L>>) -> Share<L>
+    ensures none { result.parts ≡ 0 }
+    ensures empty { result.amount ≡ 0 }
+{
+    tally.lock(rt).nothing()
+}
+
+/// One move of 1, by any thread, and the total that it left.
+pub(crate) fn count<L: Ledger, R: Wait>(
+    rt: &R,
+    tally: &Mutex<Tally<L>>,
+    share: &mut Share<L>,
+) -> Option<u64>
+    requires { 0 < share.old.parts }
+    ensures parts { share.new.parts ≡ share.old.parts }
+    ensures moved { OnSome result (share.new.amount ≡ share.old.amount + 1) }
+{
+    tally.lock(rt).count(share)
+}

@@ -1,0 +1,94 @@
+//! One worker: it takes extents until none is left, scans each, and counts it. Which thread it runs on is left to the crew.
+
+ghost use Rattle.std.specs.Prelude.{◌≡◌, ◌+◌, ◌<◌, true, None, [], All, length, OnOk, IfSome};
+ghost use Rattle.std.specs.List.Sorted.{IsStrictlyIncreasing};
+ghost use Rattle.scrub_book.specs.Worker.{held_by, results_of};
+ghost use Rattle.scrub_pool.specs.Passes.{HasTakenAll};
+ghost use Rattle.scrub_pool.specs.Work.{IsPassFor, IsSamePart, IsAtWork};
+
+use crate::OutOfMemory;
+use crate::extent_queue::{ExtentQueue, TakePass};
+use crate::gate::Gate;
+use crate::tally::{Tally, count, enroll};
+use scrub_book::WorkerCore;
+use scrub_disk::PageSource;
+use scrub_scan::scan_extent;
+use scrub_super::Plan;
+use std::alloc::Global;
+use std::sync::ledger::{Ledger, Share};
+use std::sync::{Mutex, Wait};
+
+/// Takes extents until none is left, and scans and counts each. An Err is want of memory.
+pub(crate) fn work<'d, D: PageSource, L: Ledger + Send + Sync, G: Gate, R: Wait>(
+    rt: &R,
+    alloc: Global,
+    disk: &'d D,
+    plan: &Plan,
+    queue: &ExtentQueue,
+    gate: &G,
+    tally: &Mutex<Tally<L>>,
+    number: u32,
+    pass: &mut TakePass,
+    core: &mut WorkerCore<'d, D>,
+    share: &mut Share<L>,
+) -> Result<(), OutOfMemory>
+    requires geometry { plan.now.geometry ≡ (D.image disk.now).geometry }
+    requires free { held_by core.old ≡ None }
+    requires part { share.old.parts ≡ 1 }
+    requires counted { share.old.amount ≡ length (results_of core.old) }
+    requires work { IsAtWork queue.now plan.now (D.image disk.now) pass.old core.old }
+    ensures pass { IsSamePart pass.old pass.new }
+    ensures work { IsAtWork queue.now plan.now (D.image disk.now) pass.new core.new }
+    ensures part { share.new.parts ≡ 1 }
+    ensures free { OnOk result (held_by core.new ≡ None) }
+    ensures counted { OnOk result (share.new.amount ≡ length (results_of core.new)) }
+    ensures all { OnOk result (pass.new.first ≡ true → pass.new.out ≡ 0 → HasTakenAll pass.new) }
+    ensures rising { OnOk result (IsStrictlyIncreasing pass.new.own × All IsStrictlyIncreasing pass.new.joined) }
+{
+    for _ in rt.forever() {
+        core.reserve(1)?;
+        let Some(extent) = queue.take(rt, pass) else {
+            return Ok(());
+        };
+        core.took(extent);
+        gate.passed(number, extent);
+        let found = scan_extent(alloc, disk, plan, extent)?;
+        core.done(found);
+        let Some(total) = count(rt, tally, share) else {
+            return Err(OutOfMemory);
+        };
+        gate.counted(number, total);
+    }
+    unreachable!()
+}
+
+/// Works with a core and a part of the ledger of its own. No share means that it lacked memory.
+pub(crate) fn works<'d, D: PageSource, L: Ledger + Send + Sync, G: Gate, R: Wait>(
+    rt: &R,
+    alloc: Global,
+    disk: &'d D,
+    plan: &Plan,
+    queue: &ExtentQueue,
+    gate: &G,
+    tally: &Mutex<Tally<L>>,
+    number: u32,
+    pass: &mut TakePass,
+) -> (WorkerCore<'d, D>, Option<Share<L>>)
+    requires geometry { plan.now.geometry ≡ (D.image disk.now).geometry }
+    requires pass { IsPassFor queue.now plan.now.planned pass.old }
+    requires nothing { pass.old.own ≡ [] }
+    ensures pass { IsSamePart pass.old pass.new }
+    ensures work { IsAtWork queue.now plan.now (D.image disk.now) pass.new result.0 }
+    ensures whole { IfSome result.1 (λ s. (held_by result.0 ≡ None) × (s.parts ≡ 1) × (s.amount ≡ length (results_of result.0))) }
+{
+    let mut core = WorkerCore::new(alloc);
+    let Some(mut share) = enroll(rt, tally) else {
+        return (core, None);
+    };
+    match work(
+        rt, alloc, disk, plan, queue, gate, tally, number, pass, &mut core, &mut share,
+    ) {
+        Ok(()) => (core, Some(share)),
+        Err(_) => (core, None),
+    }
+}

@@ -1,0 +1,149 @@
+//! What any number of workers finds, answers and takes, beside one reader, while a gate holds some of them up.
+
+ghost use Rattle.std.specs.Prelude.{◌≤◌};
+
+mod watch;
+
+use crate::compare::same;
+use crate::disks::{many_shards, one_shard};
+use crate::told::scrubbed;
+use crate::workers::watch::Watch;
+use scrub_disk::{Geometry, MemDisk};
+use scrub_fakes::plan_of;
+use scrub_pool::{ExtentQueue, scan_all};
+use scrub_report::{ScrubFault, scrub};
+use scrub_scan::{AllFindings, ExtentResult, Item, scan_in_order};
+use std::alloc::Global;
+use std::process::Abort;
+use std::sync::Wait;
+use std::test::Fail;
+use std::thread::Threads;
+
+/// Compares two results of one extent.
+fn check_result(
+    rt: &impl Abort,
+    found: &ExtentResult<'_, MemDisk>,
+    wanted: &ExtentResult<'_, MemDisk>,
+) {
+    same(
+        rt,
+        (found.extent(), found.pointer()),
+        (wanted.extent(), wanted.pointer()),
+    );
+    let (one, other) = (found.findings(), wanted.findings());
+    same(rt, one.items(), other.items());
+    same(
+        rt,
+        (one.tail_count(), one.tail_first()),
+        (other.tail_count(), other.tail_first()),
+    );
+    same(rt, one.bad_pages(), other.bad_pages());
+}
+
+/// Compares findings, extent by extent.
+fn check_found(
+    rt: &impl Abort,
+    found: &AllFindings<'_, MemDisk>,
+    wanted: &AllFindings<'_, MemDisk>,
+) {
+    assert!(rt; found.len() == wanted.len());
+    for i in 0..found.len() {
+        check_result(rt, found.result_at(i), wanted.result_at(i));
+    }
+}
+
+/// Scans a disk by so many workers and the caller, each of whose first extents is held until so many have passed with
+/// one, and compares what is found with what one reader finds, and who took what with what the gate was told.
+fn check_scan<R: Threads + Wait + Abort + Sync>(
+    rt: &R,
+    alloc: Global,
+    disk: &MemDisk,
+    workers: u32,
+    held: usize,
+) -> Result<(), Fail>
+    requires { workers ≤ 64 }
+{
+    let plan = plan_of(alloc, disk)?;
+    let (queue, mut first) = ExtentQueue::new(rt, alloc, &plan)?;
+    let watch = Watch::new(alloc, workers + 1, held)?;
+    let (found, takings) = scan_all(rt, alloc, disk, &plan, &queue, &mut first, workers, &watch)?;
+    check_found(rt, &found, &scan_in_order(alloc, disk, &plan)?);
+    same(rt, takings.workers(), workers);
+    same(rt, takings.counted(), plan.planned().len() as u64);
+    watch.check(rt, &takings, plan.planned());
+    Ok(())
+}
+
+/// The same of a whole scrub, whose answer is that of one reader.
+fn check_scrub<R: Threads + Wait + Abort + Sync>(
+    rt: &R,
+    alloc: Global,
+    disk: &MemDisk,
+    workers: u32,
+    held: usize,
+) -> Result<(), Fail>
+    requires { workers ≤ 64 }
+{
+    let plan = plan_of(alloc, disk)?;
+    let watch = Watch::new(alloc, workers + 1, held)?;
+    let (answer, takings) = match scrub(rt, alloc, disk, workers, &watch) {
+        Ok(found) => found,
+        Err(ScrubFault::OutOfMemory) => return Err(Fail::from("out of memory")),
+    };
+    let wanted = scrubbed(rt, alloc, disk)?;
+    same(rt, answer.report(), wanted.report());
+    same(rt, answer.index(), wanted.index());
+    same(rt, answer.is_clean(), wanted.is_clean());
+    same(rt, takings.workers(), workers);
+    same(rt, takings.counted(), plan.planned().len() as u64);
+    watch.check(rt, &takings, plan.planned());
+    Ok(())
+}
+
+#[test]
+fn extent_1_is_held_until_another_worker_passed_with_extent_2(rt: HostRuntime) -> Result<(), Fail> {
+    let disk = one_shard(rt.alloc())?;
+    check_scan(&rt, rt.alloc(), &disk, 1, 2)?;
+    check_scrub(&rt, rt.alloc(), &disk, 1, 2)
+}
+
+#[test]
+fn four_workers_are_held_until_each_has_passed_with_an_extent(rt: HostRuntime) -> Result<(), Fail> {
+    let (disk, _) = many_shards(&rt, rt.alloc())?;
+    check_scan(&rt, rt.alloc(), &disk, 3, 4)?;
+    check_scrub(&rt, rt.alloc(), &disk, 3, 4)
+}
+
+#[test]
+fn any_number_of_workers_answers_what_one_reader_answers(rt: HostRuntime) -> Result<(), Fail> {
+    let (disk, index) = many_shards(&rt, rt.alloc())?;
+    let answer = scrubbed(&rt, rt.alloc(), &disk)?;
+    same(&rt, answer.index(), index.as_slice());
+    let report = str::from_utf8(answer.report())?;
+    assert!(&rt; answer.is_clean() && report.contains(r#""shards":38,"#));
+    for workers in [0, 1, 2, 7, 64] {
+        check_scan(&rt, rt.alloc(), &disk, workers, 0)?;
+        check_scrub(&rt, rt.alloc(), &disk, workers, 0)?;
+    }
+    Ok(())
+}
+
+#[test]
+fn a_disk_of_one_extent_of_one_page(rt: HostRuntime) -> Result<(), Fail> {
+    let disk = MemDisk::blank(rt.alloc(), Geometry::new(64, 1, 2)?)?;
+    let plan = plan_of(rt.alloc(), &disk)?;
+    let wanted = scan_in_order(rt.alloc(), &disk, &plan)?;
+    assert!(&rt; wanted.len() == 1);
+    let one = wanted.result_at(0);
+    same(&rt, (one.extent(), one.pointer()), (1, 64));
+    same(
+        &rt,
+        one.findings().items(),
+        &[Item::Pad { start: 0, stop: 64 }],
+    );
+    for workers in [0, 64] {
+        check_scan(&rt, rt.alloc(), &disk, workers, 0)?;
+        check_scrub(&rt, rt.alloc(), &disk, workers, 0)?;
+    }
+    Ok(())
+}
