@@ -22,12 +22,14 @@ SEVERAL = "--page 64 --pages 16 --extents 5 examples/several-findings.img 3:1"
 WORDS = [
     "",
     f"scan {SMALL}",
-    f"index {SMALL}",
+    f"scan --workers 0 {SMALL}",
+    f"index --workers 2 {SMALL}",
     f"scan {SEVERAL}",
+    f"scan --workers 2 {SEVERAL}",
     f"index {SEVERAL}",
     "items --page 64 --pages 4 --extents 3 --extent 1 examples/one-chunk.img",
     "scan --help",
-    "scan --workers 1",
+    "scan --workers 65",
 ]
 OUT_OF_MEMORY = (4, b"", b"shardscrub: out of memory\n")
 LIBRARY = r"""
