@@ -1,7 +1,8 @@
 #!/usr/bin/env python3
 """Measures `shardscrub scan` beside `sha256sum` on three kinds of disk. It is no part of the gate.
 
-usage: bench/scan.py [--mib SIZE] [--turns COUNT] [PROGRAM]    (default: 512, 5, crates/scrub_cli/out/scrub_cli)
+usage: bench/scan.py [--mib SIZE] [--turns COUNT] [--workers N,..] [PROGRAM]
+                                                               (default: 512, 5, 1, crates/scrub_cli/out/scrub_cli)
        bench/scan.py [--mib SIZE] --make FOLDER                makes the images alone, and prints the words for each
 
 The disks, each of SIZE MiB:
@@ -14,7 +15,7 @@ small chunks   frames of 138 bytes in extents of 8 MiB, and as many runs, of one
 damage         frames of 64 KiB to 1 MiB that fill pages of 64 KiB, no superblock, every tenth frame spoilt in its last
                byte, every 50th page named as unreadable.
 
-Both programs read the same file by turns. sha256sum hashes all of it, and the scan what it has to: the payload of each
+Both programs read the same file by turns, the scan with each of the numbers of workers given. sha256sum hashes all of it, and the scan what it has to: the payload of each
 chunk, and of the superblock and of each run once more the bytes that its own digest is for. Exit status: 0 where all
 is within what is wanted, 1 where something is beyond it or an answer is wrong, 2 where nothing can be measured.
 """
@@ -208,58 +209,82 @@ def apart(call, *arguments):
         return pool.apply(call, arguments)
 
 
-def compare(program, room, kind, mib, turns):
+def is_right(name, made, answer, status):
+    """The number of items of the answer in this file, or None where it is wrong, which is printed."""
+    told, items = apart(judge, answer, status) if status in (0, 1) else ({"status": status}, 0)
+    wrong = {key: (told.get(key), right) for key, right in made["right"].items() if told.get(key) != right}
+    if wrong:
+        print(f"{name}: wrong answer (told, right): {wrong}")
+    return None if wrong else items
+
+
+def compare(program, room, kind, mib, turns, workers):
     """Prints one image's figures, unless an answer is wrong.
 
-    Returns the seconds, the number of items, the time per hashed byte of sha256sum's, and whether the memory is within.
+    Returns for each number of workers the seconds, the number of items, the time per hashed byte of sha256sum's, and
+    whether the memory is within.
     """
     name, image, answer = kind.__name__.replace("_", " "), f"{room}/image", f"{room}/answer"
     made = apart(make_image, kind, mib, image)
-    words = [program, "scan", *made["sizes"], image, *made["bad"]]
-    ours, theirs, peak = [], [], 0
+    ours, peak, theirs, items = {n: [] for n in workers}, dict.fromkeys(workers, 0), [], 0
     for turn in range(turns):
-        seconds, memory, status = measured(words, answer)
-        if turn == 0:
-            told, items = apart(judge, answer, status) if status in (0, 1) else ({"status": status}, 0)
-        wrong = {key: (told.get(key), right) for key, right in made["right"].items() if told.get(key) != right}
-        if wrong or status != made["right"]["status"]:
-            print(f"{name}: wrong answer (told, right): {wrong or status}")
-            return None
-        ours.append(seconds)
-        peak = max(peak, memory)
+        for n in workers:
+            words = [program, "scan", "--workers", str(n), *made["sizes"], image, *made["bad"]]
+            seconds, memory, status = measured(words, answer)
+            if turn == 0:
+                items = is_right(name, made, answer, status)
+            if items is None or status != made["right"]["status"]:
+                print(f"{name}: no right answer by {n} workers, status {status}")
+                return None
+            ours[n].append(seconds)
+            peak[n] = max(peak[n], memory)
         theirs.append(measured(["sha256sum", image], answer)[0])
-    our, their = statistics.median(ours), statistics.median(theirs)
-    ratio = our / made["hashed"] / (their / made["bytes"])
+    their, hashed, size = statistics.median(theirs), made["hashed"] / MIB, made["bytes"] / MIB
     most = MOST_MEMORY * made["bytes"] + MOST_ITEM * items
-    hashed, size = made["hashed"] / MIB, made["bytes"] / MIB
-    print(f"{name}, {mib} MiB: {items} items, {told['chunk']} of them chunks; {hashed:.0f} MiB to be hashed")
-    print(f"    medians of {turns}: shardscrub {our:.3f} s, sha256sum {their:.3f} s")
-    print(f"    time   {our / their:.2f} of sha256sum's, {ratio:.2f} of it per hashed byte")
-    print(f"    memory {peak / MIB:.0f} MiB, {peak / MIB / size:.2f} of the image's size; "
-          f"wanted at most {most / MIB:.0f} MiB", flush=True)
-    return our, items, ratio, peak <= most
+    print(f"{name}, {mib} MiB: {items} items, {made['right']['chunk']} of them chunks; {hashed:.0f} MiB to be hashed")
+    print(f"    medians of {turns}: sha256sum {their:.3f} s; memory wanted at most {most / MIB:.0f} MiB")
+    found = {}
+    for n in workers:
+        our = statistics.median(ours[n])
+        ratio = our / made["hashed"] / (their / made["bytes"])
+        print(f"    {n:2} workers: {our:.3f} s, {our / their:.2f} of sha256sum's, {ratio:.2f} of it per hashed byte; "
+              f"{peak[n] / MIB:.0f} MiB, {peak[n] / MIB / size:.2f} of the image's size", flush=True)
+        found[n] = our, items, ratio, peak[n] <= most
+    return found
 
 
-def measure(program, room, mib, turns):
+def measure(program, room, mib, turns, workers):
     """Measures all images, and returns whether all is within what is wanted."""
-    large = compare(program, room, large_chunks, mib, turns)
+    large = compare(program, room, large_chunks, mib, turns, workers)
     if large:
         print(f"    wanted at most {MOST_TIME} of sha256sum's time per hashed byte")
-    small = [compare(program, room, small_chunks, size, turns) for size in (mib // 4, mib // 2, mib)]
-    damaged = compare(program, room, damage, mib, turns)
+    small = [compare(program, room, small_chunks, size, turns, workers) for size in (mib // 4, mib // 2, mib)]
+    damaged = compare(program, room, damage, mib, turns, workers)
     if not (large and damaged and all(small)):
         return False
-    rates = [seconds / (items * math.log2(items)) for seconds, items, _, _ in small]
-    print("small chunks, time / (n log n): " + ", ".join(f"{rate * 1e9:.3f} ns" for rate in rates))
-    print(f"    the last is {rates[-1] / rates[0]:.2f} of the first, wanted at most {MOST_GROWTH}")
-    within = all(case[3] for case in (large, *small, damaged))
-    return within and large[2] <= MOST_TIME and rates[-1] <= MOST_GROWTH * rates[0]
+    within = True
+    for n in workers:
+        rates = [seconds / (items * math.log2(items)) for seconds, items, _, _ in (case[n] for case in small)]
+        print(f"small chunks, {n} workers, time / (n log n): " + ", ".join(f"{rate * 1e9:.3f} ns" for rate in rates))
+        print(f"    the last is {rates[-1] / rates[0]:.2f} of the first, wanted at most {MOST_GROWTH}")
+        within = within and all(case[n][3] for case in (large, *small, damaged))
+        within = within and large[n][2] <= MOST_TIME and rates[-1] <= MOST_GROWTH * rates[0]
+    return within
+
+
+def numbers(word):
+    """The numbers of workers that a word lists."""
+    found = [int(part) for part in word.split(",")]
+    if any(not 0 <= n <= 64 for n in found) or len(set(found)) < len(found):
+        raise ValueError
+    return found
 
 
 def main(words):
     parser = argparse.ArgumentParser(description="Measures `shardscrub scan` beside `sha256sum`.")
     parser.add_argument("--mib", type=int, default=512, help="size of the images: a multiple of 32 from 128 to 768")
     parser.add_argument("--turns", type=int, default=5, help="how often each program runs")
+    parser.add_argument("--workers", type=numbers, default=[1], metavar="N,..", help="numbers of workers, each 0 to 64")
     parser.add_argument("--make", metavar="FOLDER", help="make the images there, and measure nothing")
     beside = Path(__file__).resolve().parent.parent / "crates/scrub_cli/out/scrub_cli"
     parser.add_argument("program", nargs="?", type=Path, default=beside)
@@ -281,7 +306,7 @@ def main(words):
         print("sha256sum, which the program is measured beside, is not found", file=sys.stderr)
         return 2
     with tempfile.TemporaryDirectory(prefix="shardscrub-bench-") as room:
-        return 0 if measure(str(program), room, given.mib, given.turns) else 1
+        return 0 if measure(str(program), room, given.mib, given.turns, given.workers) else 1
 
 
 if __name__ == "__main__":

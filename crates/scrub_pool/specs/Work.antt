@@ -8,7 +8,7 @@ use Rattle.scrub_book.specs.declared.worker_core.WorkerCore.{WorkerCore}
 use Rattle.scrub_book.specs.Worker.{held_by, taken_by, results_of}
 use Rattle.scrub_pool.specs.Passes.{PassValue, TableId}
 use Rattle.scrub_pool.specs.declared.crew.Member.{Member}
-use Rattle.scrub_pool.specs.declared.crew.Hand.{Hand}
+use Rattle.scrub_pool.specs.declared.crew.NewMember.{NewMember}
 
 -- a pass of this queue, over these planned extents
 abbrev pub IsPassFor : TableId → List ℕ → PassValue → Type 0
@@ -28,11 +28,11 @@ module _ {D : Type 0} {s : _} where
   IsAtWork queue plan image pass core = IsPassFor queue plan.planned pass × (pass.own ≡ taken_by core) × AreResults image plan (results_of core)
 
 -- a worker that didn't begin
-abbrev pub IsHand : TableId → List ℕ → Hand → Type 0
-IsHand queue planned h = IsPassFor queue planned h.pass × (h.pass.first ≡ false) × (h.pass.own ≡ [])
+abbrev pub IsNewMember : TableId → List ℕ → NewMember → Type 0
+IsNewMember queue planned m = IsPassFor queue planned m.pass × (m.pass.first ≡ false) × (m.pass.own ≡ [])
 
-abbrev pub AreHands : TableId → List ℕ → List Hand → Type 0
-AreHands queue planned hands = All (λ h. IsHand queue planned h) hands
+abbrev pub AreNewMembers : TableId → List ℕ → List NewMember → Type 0
+AreNewMembers queue planned crew = All (λ m. IsNewMember queue planned m) crew
 
 -- the pass once so many others were joined into it, with these lists
 abbrev pub after_joins : PassValue → List (List ℕ) → ℕ → PassValue
@@ -50,6 +50,10 @@ module _ {D : Type 0} {s : _} where
   -- each has results of this image, under the plan's write pointers
   abbrev pub HaveResults : Image → PlanValue → List (Member D s) → Type 0
   HaveResults image plan members = All (λ m. AreResults image plan (results_of m.core)) members
+
+  -- results of whatever image and plan those of all workers are of
+  abbrev pub AreFoundBy : List (Member D s) → List (ExtentResult D s) → Type 0
+  AreFoundBy members results = (image : Image) (plan : PlanValue) → HaveResults image plan members → AreResults image plan results
 
   -- a worker that ended, and holds no extent
   abbrev pub IsThrough : TableId → Member D s → Type 0

@@ -3,7 +3,7 @@
 ghost use Rattle.std.specs.Thread.{IsSync};
 ghost use Rattle.std.specs.Prelude.{◌≡◌, ◌+◌, ◌<◌, false, None, [], All, length, IfSome, vec_len};
 ghost use Rattle.scrub_book.specs.Worker.{held_by, results_of};
-ghost use Rattle.scrub_pool.specs.Work.{AreHands, IsHand, HasEnded, AreDone};
+ghost use Rattle.scrub_pool.specs.Work.{AreNewMembers, IsNewMember, HasEnded, AreDone};
 
 use crate::extent_queue::{ExtentQueue, TakePass};
 use crate::gate::Gate;
@@ -17,9 +17,9 @@ use std::sync::ledger::{Ledger, Share};
 use std::sync::{Mutex, Wait};
 use std::thread::{Threads, join};
 
-/// What a worker begins with: its number, and a pass by which nothing was taken.
+/// A worker that didn't begin: its number, and a pass by which nothing was taken.
 #[derive(Drop)]
-pub(crate) struct Hand {
+pub(crate) struct NewMember {
     pub(crate) number: u32,
     pub(crate) pass: TakePass,
 }
@@ -40,14 +40,14 @@ fn member_works<'d, D: PageSource, L: Ledger + Send + Sync, G: Gate, R: Wait>(
     queue: &ExtentQueue,
     gate: &G,
     tally: &Mutex<Tally<L>>,
-    hand: Hand,
+    member: NewMember,
 ) -> (Member<'d, D>, Option<Share<L>>)
     requires geometry { plan.now.geometry ≡ (D.image disk.now).geometry }
-    requires hand { IsHand queue.now plan.now.planned hand }
+    requires member { IsNewMember queue.now plan.now.planned member }
     ensures member { HasEnded queue.now plan.now (D.image disk.now) result.0 }
     ensures whole { IfSome result.1 (λ s. (held_by result.0.core ≡ None) × (s.parts ≡ 1) × (s.amount ≡ length (results_of result.0.core))) }
 {
-    let Hand { number, mut pass } = hand;
+    let NewMember { number, mut pass } = member;
     let (core, share) = works(rt, alloc, disk, plan, queue, gate, tally, number, &mut pass);
     (Member { pass, core }, share)
 }
@@ -61,20 +61,20 @@ fn last_works<'d, D: PageSource, L: Ledger + Send + Sync, G: Gate, R: Wait>(
     queue: &ExtentQueue,
     gate: &G,
     tally: &Mutex<Tally<L>>,
-    hands: Vec<Hand>,
+    crew: Vec<NewMember>,
 ) -> (Vec<Member<'d, D>>, Option<Share<L>>)
     requires geometry { plan.now.geometry ≡ (D.image disk.now).geometry }
-    requires few { vec_len hands < 2 }
-    requires hands { AreHands queue.now plan.now.planned hands.items }
+    requires few { vec_len crew < 2 }
+    requires crew { AreNewMembers queue.now plan.now.planned crew.items }
     ensures members { All (λ m. HasEnded queue.now plan.now (D.image disk.now) m) result.0.items }
-    ensures whole { IfSome result.1 (λ s. AreDone s.parts s.amount result.0.items × (vec_len result.0 ≡ vec_len hands)) }
+    ensures whole { IfSome result.1 (λ s. AreDone s.parts s.amount result.0.items × (vec_len result.0 ≡ vec_len crew)) }
 {
-    let mut hands = hands;
+    let mut crew = crew;
     let mut members = Vec::new(alloc);
-    let Some(hand) = hands.pop() else {
+    let Some(new_member) = crew.pop() else {
         return (members, Some(nothing(rt, tally)));
     };
-    let (member, share) = member_works(rt, alloc, disk, plan, queue, gate, tally, hand);
+    let (member, share) = member_works(rt, alloc, disk, plan, queue, gate, tally, new_member);
     if members.push(member).is_err() {
         return (members, None);
     }
@@ -98,10 +98,10 @@ pub(crate) fn crew_works<
     queue: &ExtentQueue,
     gate: &G,
     tally: &Mutex<Tally<L>>,
-    mut low: Vec<Hand>,
+    mut low: Vec<NewMember>,
 ) -> (Vec<Member<'d, D>>, Option<Share<L>>)
     requires geometry { plan.now.geometry ≡ (D.image disk.now).geometry }
-    requires hands { AreHands queue.now plan.now.planned low.items }
+    requires crew { AreNewMembers queue.now plan.now.planned low.items }
     ensures members { All (λ m. HasEnded queue.now plan.now (D.image disk.now) m) result.0.items }
     ensures whole { IfSome result.1 (λ s. AreDone s.parts s.amount result.0.items × (vec_len result.0 ≡ vec_len low)) }
 {
@@ -114,14 +114,14 @@ pub(crate) fn crew_works<
     let front = move || -> (Vec<Member<D>>, Option<Share<L>>)
         requires sync { IsSync R.row }
         requires geometry { plan.now.geometry ≡ (D.image disk.now).geometry }
-        requires hands { AreHands queue.now plan.now.planned low.items }
+        requires crew { AreNewMembers queue.now plan.now.planned low.items }
         ensures members { All (λ m. HasEnded queue.entry.now plan.entry.now (D.image disk.entry.now) m) result.0.items }
         ensures whole { IfSome result.1 (λ s. AreDone s.parts s.amount result.0.items × (vec_len result.0 ≡ vec_len low)) }
     { crew_works(rt, alloc, disk, plan, queue, gate, tally, low) };
     let back = move || -> (Vec<Member<D>>, Option<Share<L>>)
         requires sync { IsSync R.row }
         requires geometry { plan.now.geometry ≡ (D.image disk.now).geometry }
-        requires hands { AreHands queue.now plan.now.planned high.items }
+        requires crew { AreNewMembers queue.now plan.now.planned high.items }
         ensures members { All (λ m. HasEnded queue.entry.now plan.entry.now (D.image disk.entry.now) m) result.0.items }
         ensures whole { IfSome result.1 (λ s. AreDone s.parts s.amount result.0.items × (vec_len result.0 ≡ vec_len high)) }
     { crew_works(rt, alloc, disk, plan, queue, gate, tally, high) };

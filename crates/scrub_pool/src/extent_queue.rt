@@ -8,7 +8,7 @@ ghost use Rattle.scrub_pool.specs.Account.{view_of};
 ghost use Rattle.scrub_pool.specs.Known.{known};
 
 use crate::OutOfMemory;
-use crate::rule::{Line, Parts, Pushes, Takes, View};
+use crate::rule::{Parts, Pushes, RuledQueue, Takes, View};
 use crossbeam_queue::Pass;
 use scrub_super::Plan;
 use std::alloc::Global;
@@ -18,7 +18,7 @@ use std::sync::Wait;
 /// The planned extents that nobody has taken. Contracts see which queue it is.
 #[derive(Drop)]
 pub struct ExtentQueue {
-    line: Line,
+    queue: RuledQueue,
 }
 
 impl Model for ExtentQueue {
@@ -26,7 +26,7 @@ impl Model for ExtentQueue {
 
     ghost Value = { TableId };
 
-    ghost view = { λ q. q.line.table.shared.table_id };
+    ghost view = { λ q. q.queue.table.shared.table_id };
 }
 
 /// The right to take from a queue, and the account of what was taken by it.
@@ -58,9 +58,9 @@ impl ExtentQueue {
         ensures { IfOk result (λ q. q.1 ≡ new_pass q.0 plan.now.planned) }
     {
         let extents = plan.planned();
-        let (line, mut pass) = Line::ruled(alloc, extents.len().max(1))?;
-        fill(rt, &line, &mut pass, extents);
-        Ok((ExtentQueue { line }, TakePass { pass }))
+        let (queue, mut pass) = RuledQueue::ruled(alloc, extents.len().max(1))?;
+        fill(rt, &queue, &mut pass, extents);
+        Ok((ExtentQueue { queue }, TakePass { pass }))
     }
 
     /// A pass of this queue that took nothing, split from the first one, of which at most 64 are out.
@@ -77,7 +77,7 @@ impl ExtentQueue {
         ensures out { IfOk result (λ p. pass.new ≡ record pass.old { out = pass.old.out + 1 }) }
         ensures same { OnErr result (pass.new ≡ pass.old) }
     {
-        let other = self.line.another::<Parts>(&mut pass.pass);
+        let other = self.queue.another::<Parts>(&mut pass.pass);
         Ok(TakePass { pass: other })
     }
 
@@ -90,7 +90,7 @@ impl ExtentQueue {
         ensures { pass.new ≡ record pass.old { joined = pass.old.joined ++ other.own ∷ []; out = pass.old.out - 1 } }
     {
         let TakePass { pass: theirs } = other;
-        self.line.absorb::<Parts>(&mut pass.pass, theirs);
+        self.queue.absorb::<Parts>(&mut pass.pass, theirs);
     }
 
     /// Takes the next extent out of the queue, above all that this pass took. None means that the queue was empty at one
@@ -104,21 +104,21 @@ impl ExtentQueue {
         ensures rising { IsStrictlyIncreasing pass.new.own }
         ensures joined_rise { All IsStrictlyIncreasing pass.new.joined }
     {
-        self.line.pop_as::<Takes, R>(rt, &mut pass.pass)
+        self.queue.pop_as::<Takes, R>(rt, &mut pass.pass)
     }
 }
 
 /// Pushes the extents. Nobody else has a pass, so the queue has room for each.
-fn fill<R: Wait>(rt: &R, line: &Line, pass: &mut Pass<u32, View>, extents: &[u32])
-    requires room { length extents.now ≤ ruled_capacity line.now }
+fn fill<R: Wait>(rt: &R, queue: &RuledQueue, pass: &mut Pass<u32, View>, extents: &[u32])
+    requires room { length extents.now ≤ ruled_capacity queue.now }
     requires rising { IsStrictlyIncreasing extents.now }
-    requires pass { IsPassOf line.now pass.old }
+    requires pass { IsPassOf queue.now pass.old }
     requires first { known pass.old ≡ view_of 1 0 0 [] [] [] }
     ensures same { IsSamePass pass.old pass.new }
     ensures pushed { known pass.new ≡ view_of 1 0 0 extents.now [] [] }
 {
     for extent in extents {
-        let Ok(()) = line.push_as::<Pushes, R>(rt, pass, *extent) else {
+        let Ok(()) = queue.push_as::<Pushes, R>(rt, pass, *extent) else {
             unreachable!()
         };
     }

@@ -85,4 +85,4 @@ impl Join<View> for Parts {
 }
 
 /// The queue under this rule.
-pub type Line = RuledArrayQueue<u32, View, Account>;
+pub type RuledQueue = RuledArrayQueue<u32, View, Account>;

@@ -2,18 +2,18 @@
 
 ghost use Rattle.std.specs.Thread.{IsSync};
 ghost use Rattle.std.specs.Prelude.{◌≡◌, ℕ, ◌+◌, ◌-◌, ◌<◌, ◌≤◌, ◌++◌, [], ◌∷◌, true, false, None, All, length, map, OnOk, IfOk, IfSome, sum_by, vec_len};
-ghost use Rattle.std.specs.List.Sorted.{IsStrictlyIncreasing};
+ghost use Rattle.std.specs.List.Sorted.{IsPermutation, IsStrictlyIncreasing};
 ghost use Rattle.scrub_disk.specs.Image.{Image};
 ghost use Rattle.scrub_super.specs.Plan.{PlanValue};
 ghost use Rattle.scrub_scan.specs.AllFindings.{AreAllFindings};
 ghost use Rattle.scrub_book.specs.Extents.{extents_of};
 ghost use Rattle.scrub_book.specs.Worker.{held_by, taken_by, results_of};
-ghost use Rattle.scrub_pool.specs.Passes.{one_list, new_pass};
+ghost use Rattle.scrub_pool.specs.Passes.{one_list, new_pass, IsFirstAlone};
 ghost use Rattle.scrub_pool.specs.Takings.{IsPartition};
-ghost use Rattle.scrub_pool.specs.Work.{IsPassFor, IsSamePart, IsAtWork, AreResults, AreHands, HasEnded, HaveResults, IsThrough, AreDone, after_joins, lists_in};
+ghost use Rattle.scrub_pool.specs.Work.{IsPassFor, IsSamePart, IsAtWork, AreResults, AreNewMembers, HasEnded, HaveResults, IsThrough, AreDone, AreFoundBy, after_joins, lists_in};
 
 use crate::OutOfMemory;
-use crate::crew::{Hand, Member, crew_works};
+use crate::crew::{Member, NewMember, crew_works};
 use crate::extent_queue::{ExtentQueue, TakePass};
 use crate::fault::PoolFault;
 use crate::gate::Gate;
@@ -31,31 +31,32 @@ use std::sync::ledger::{Blank, Ledger, Share};
 use std::sync::{Mutex, Wait};
 use std::thread::{Threads, join_mut};
 
-/// As many workers as asked, each with a pass of its own.
-fn hire<R: Wait>(
+/// As many members as workers were asked for, each with a pass of its own.
+fn new_crew<R: Wait>(
     rt: &R,
     alloc: Global,
     queue: &ExtentQueue,
     first: &mut TakePass,
     workers: u32,
-) -> Result<Vec<Hand>, OutOfMemory>
+) -> Result<Vec<NewMember>, OutOfMemory>
     requires queue { first.old.queue ≡ queue.now }
     requires first { first.old.first ≡ true }
     requires none_out { first.old.out ≡ 0 }
     requires workers { workers ≤ 64 }
     ensures count { IfOk result (λ v. vec_len v ≡ workers) }
-    ensures hands { IfOk result (λ v. AreHands queue.now first.old.planned v.items) }
+    ensures crew { IfOk result (λ v. AreNewMembers queue.now first.old.planned v.items) }
     ensures first { OnOk result (first.new ≡ record first.old { out = workers }) }
 {
-    let mut hands = Vec::with_capacity(alloc, workers as usize)?;
+    let mut crew = Vec::with_capacity(alloc, workers as usize)?;
     for number in 0..workers {
         let pass = queue.split(rt, alloc, first)?;
-        hands.push(Hand { number, pass })?;
+        crew.push(NewMember { number, pass })?;
     }
-    Ok(hands)
+    Ok(crew)
 }
 
-/// The crew and the caller work at the same time. No share means that one of them lacked memory.
+/// The crew and the caller work at the same time; where there is no crew, no thread is started. No share means that one of
+/// them lacked memory.
 fn all_work<'d, D: PageSource, L: Ledger + Send + Sync, G: Gate, R: Threads + Wait + Sync>(
     rt: &R,
     alloc: Global,
@@ -66,7 +67,7 @@ fn all_work<'d, D: PageSource, L: Ledger + Send + Sync, G: Gate, R: Threads + Wa
     tally: &Mutex<Tally<L>>,
     number: u32,
     first: &mut TakePass,
-    hands: Vec<Hand>,
+    crew: Vec<NewMember>,
 ) -> (
     (Vec<Member<'d, D>>, Option<Share<L>>),
     (WorkerCore<'d, D>, Option<Share<L>>),
@@ -74,25 +75,32 @@ fn all_work<'d, D: PageSource, L: Ledger + Send + Sync, G: Gate, R: Threads + Wa
     requires geometry { plan.now.geometry ≡ (D.image disk.now).geometry }
     requires first { IsPassFor queue.now plan.now.planned first.old }
     requires nothing { first.old.own ≡ [] }
-    requires hands { AreHands queue.now plan.now.planned hands.items }
+    requires crew { AreNewMembers queue.now plan.now.planned crew.items }
     ensures members { All (λ m. HasEnded queue.now plan.now (D.image disk.now) m) result.0.0.items }
-    ensures theirs { IfSome result.0.1 (λ s. AreDone s.parts s.amount result.0.0.items × (vec_len result.0.0 ≡ vec_len hands)) }
+    ensures theirs { IfSome result.0.1 (λ s. AreDone s.parts s.amount result.0.0.items × (vec_len result.0.0 ≡ vec_len crew)) }
     ensures pass { IsSamePart first.old first.new }
     ensures core { IsAtWork queue.now plan.now (D.image disk.now) first.new result.1.0 }
     ensures mine { IfSome result.1.1 (λ s. (held_by result.1.0 ≡ None) × (s.parts ≡ 1) × (s.amount ≡ length (results_of result.1.0))) }
 {
-    let mut hands = hands;
+    if crew.is_empty() {
+        let none = crew_works(rt, alloc, disk, plan, queue, gate, tally, crew);
+        return (
+            none,
+            works(rt, alloc, disk, plan, queue, gate, tally, number, first),
+        );
+    }
+    let mut crew = crew;
     join_mut(
         rt,
         &mut || -> (Vec<Member<D>>, Option<Share<L>>)
             requires sync { IsSync R.row }
             requires geometry { plan.now.geometry ≡ (D.image disk.now).geometry }
-            requires hands { AreHands queue.now plan.now.planned hands.items }
+            requires crew { AreNewMembers queue.now plan.now.planned crew.items }
             ensures members { All (λ m. HasEnded queue.entry.now plan.entry.now (D.image disk.entry.now) m) result.0.items }
-            ensures theirs { IfSome result.1 (λ s. AreDone s.parts s.amount result.0.items × (vec_len result.0 ≡ vec_len hands.entry)) }
+            ensures theirs { IfSome result.1 (λ s. AreDone s.parts s.amount result.0.items × (vec_len result.0 ≡ vec_len crew.entry)) }
         {
-            let some = mem::replace(&mut hands, Vec::new(alloc));
-            crew_works(rt, alloc, disk, plan, queue, gate, tally, some)
+            let all = mem::replace(&mut crew, Vec::new(alloc));
+            crew_works(rt, alloc, disk, plan, queue, gate, tally, all)
         },
         &mut || -> (WorkerCore<D>, Option<Share<L>>)
             requires geometry { plan.now.geometry ≡ (D.image disk.now).geometry }
@@ -148,13 +156,61 @@ fn collect<'d, D: PageSource, R: Wait>(
     ensures count { IfOk result (λ v. vec_len v ≡ vec_len members.entry) }
     ensures found { IfOk result (λ v. extents_of found.new.items ≡ one_list (lists_in v.items)) }
     ensures sum { OnOk result (length found.new.items ≡ sum_by (λ m. length (results_of m.core)) members.entry.items) }
-    ensures results { (image : Image) (plan : PlanValue) → HaveResults image plan members.entry.items → OnOk result (AreResults image plan found.new.items) }
+    ensures results { OnOk result (AreFoundBy members.entry.items found.new.items) }
 {
     let mut lists = Vec::new(alloc);
     for member in members {
         lists.push(take_in(rt, queue, first, member, found)?)?;
     }
     Ok(lists)
+}
+
+/// All work until no extent is left. Gives who took what, by the workers' numbers, the caller's last; what was found; and the
+/// part of the ledger by which it was counted.
+fn gather<'d, D: PageSource, L: Ledger + Send + Sync, G: Gate, R: Threads + Wait + Sync>(
+    rt: &R,
+    alloc: Global,
+    disk: &'d D,
+    plan: &Plan,
+    queue: &ExtentQueue,
+    first: &mut TakePass,
+    workers: u32,
+    gate: &G,
+    tally: &Mutex<Tally<L>>,
+) -> Result<(Vec<Vec<u32>>, Vec<ExtentResult<'d, D>>, Share<L>), OutOfMemory>
+    requires workers { workers ≤ 64 }
+    requires geometry { plan.now.geometry ≡ (D.image disk.now).geometry }
+    requires first { first.old ≡ new_pass queue.now plan.now.planned }
+    ensures first { OnOk result (IsFirstAlone queue.now plan.now.planned first.new) }
+    ensures workers { IfOk result (λ r. vec_len r.0 ≡ workers + 1) }
+    ensures lists { IfOk result (λ r. lists_in r.0.items ≡ first.new.joined ++ first.new.own ∷ []) }
+    ensures partition { IfOk result (λ r. IsPartition plan.now.planned (lists_in r.0.items)) }
+    ensures found { IfOk result (λ r. AreResults (D.image disk.now) plan.now r.1.items) }
+    ensures extents { IfOk result (λ r. IsPermutation (extents_of r.1.items) plan.now.planned) }
+    ensures parts { IfOk result (λ r. r.2.parts ≡ workers + 1) }
+    ensures counted { IfOk result (λ r. r.2.amount ≡ length r.1.items) }
+{
+    let crew = new_crew(rt, alloc, queue, first, workers)?;
+    let ((members, theirs), (core, mine)) = all_work(
+        rt, alloc, disk, plan, queue, gate, tally, workers, first, crew,
+    );
+    let (Some(theirs), Some(mine)) = (theirs, mine) else {
+        return Err(OutOfMemory);
+    };
+    let (mut core, mut share) = (core, mine);
+    let mut found = Vec::new(alloc);
+    let mut lists = collect(rt, alloc, queue, first, members, &mut found)?;
+    work(
+        rt, alloc, disk, plan, queue, gate, tally, workers, first, &mut core, &mut share,
+    )?;
+    let Ok(retired) = core.retire() else {
+        unreachable!()
+    };
+    let (taken, mut results) = retired.into_parts();
+    results.append(&mut found)?;
+    lists.push(taken)?;
+    share.merge(theirs);
+    Ok((lists, results, share))
 }
 
 /// Scans all planned extents, and counts them in this ledger.
@@ -177,38 +233,19 @@ fn scan_under<'d, D: PageSource, L: Ledger + Send + Sync, G: Gate, R: Threads + 
     ensures image { IfOk result (λ r. D.image r.0.source ≡ D.image disk.now) }
     ensures findings { IfOk result (λ r. AreAllFindings (D.image disk.now) plan.now r.0.extents) }
     ensures workers { IfOk result (λ r. length r.1.lists ≡ workers + 1) }
+    ensures first { OnOk result (IsFirstAlone queue.now plan.now.planned first.new) }
     ensures lists { IfOk result (λ r. r.1.lists ≡ first.new.joined ++ first.new.own ∷ []) }
     ensures partition { IfOk result (λ r. IsPartition plan.now.planned r.1.lists) }
     ensures counted { IfOk result (λ r. r.1.counted ≡ length plan.now.planned) }
-    ensures none_out { OnOk result (first.new.out ≡ 0) }
 {
     let book = Book::new(alloc, disk, plan)?;
     let parts = u64::from(workers) + 1;
-    let (ledger, mut all) = blank.open::<L>();
-    let purse = all.split_off(parts, 0);
-    let tally = Mutex::new(Tally::new(ledger, purse, parts));
-    let hands = hire(rt, alloc, queue, first, workers)?;
-    let ((members, theirs), (core, mine)) = all_work(
-        rt, alloc, disk, plan, queue, gate, &tally, workers, first, hands,
-    );
-    let (Some(theirs), Some(mine)) = (theirs, mine) else {
-        return Err(OutOfMemory);
-    };
-    let (mut core, mut share) = (core, mine);
-    let mut found = Vec::new(alloc);
-    let mut lists = collect(rt, alloc, queue, first, members, &mut found)?;
-    work(
-        rt, alloc, disk, plan, queue, gate, &tally, workers, first, &mut core, &mut share,
+    let (ledger, unclaimed) = blank.open::<L>();
+    let tally = Mutex::new(Tally::new(ledger, unclaimed, parts));
+    let (lists, results, mut share) = gather(
+        rt, alloc, disk, plan, queue, first, workers, gate, &tally,
     )?;
-    let Ok(retired) = core.retire() else {
-        unreachable!()
-    };
-    let (taken, mut results) = retired.into_parts();
-    results.append(&mut found)?;
-    lists.push(taken)?;
-    all.merge(share);
-    all.merge(theirs);
-    let counted = tally.into_inner().last(&mut all);
+    let counted = tally.into_inner().last(&mut share);
     Ok((assemble(book, results), Takings::new(lists, counted)))
 }
 
@@ -231,10 +268,10 @@ pub fn scan_all<'d, D: PageSource, G: Gate, R: Threads + Wait + Sync>(
     ensures image { IfOk result (λ r. D.image r.0.source ≡ D.image disk.now) }
     ensures findings { IfOk result (λ r. AreAllFindings (D.image disk.now) plan.now r.0.extents) }
     ensures workers { IfOk result (λ r. length r.1.lists ≡ workers + 1) }
+    ensures first { OnOk result (IsFirstAlone queue.now plan.now.planned first.new) }
     ensures lists { IfOk result (λ r. r.1.lists ≡ first.new.joined ++ first.new.own ∷ []) }
     ensures partition { IfOk result (λ r. IsPartition plan.now.planned r.1.lists) }
     ensures counted { IfOk result (λ r. r.1.counted ≡ length plan.now.planned) }
-    ensures none_out { OnOk result (first.new.out ≡ 0) }
 {
     let blank = Blank::new(u64::from(workers) + 1);
     let answer = scan_under::<D, Brand, G, R>(

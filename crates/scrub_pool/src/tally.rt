@@ -10,39 +10,43 @@ use std::sync::{Mutex, Wait};
 pub(crate) struct Tally<L: Ledger> {
     total: u64,
     book: Book<L>,
-    purse: Share<L>,
+    unclaimed: Share<L>,
     left: u64,
     ghost same: { total ≡ book.total },
-    ghost parts: { purse.parts ≡ left },
-    ghost empty: { purse.amount ≡ 0 },
+    ghost parts: { unclaimed.parts ≡ left },
+    ghost empty: { unclaimed.amount ≡ 0 },
 }
 
 impl<L: Ledger> Tally<L> {
     /// A book in which nothing was counted, and so many parts.
-    pub(crate) fn new(book: Book<L>, purse: Share<L>, left: u64) -> Tally<L>
+    pub(crate) fn new(book: Book<L>, unclaimed: Share<L>, left: u64) -> Tally<L>
         requires total { book.total ≡ 0 }
-        requires parts { purse.parts ≡ left }
-        requires empty { purse.amount ≡ 0 }
+        requires parts { unclaimed.parts ≡ left }
+        requires empty { unclaimed.amount ≡ 0 }
     {
         Tally {
             total: 0,
             book,
-            purse,
+            unclaimed,
             left,
         }
     }
 
     /// One part of the ledger, by which nothing was counted. None where no part is left.
-    fn enroll(&mut self) -> Option<Share<L>>
+    fn claim(&mut self) -> Option<Share<L>>
         ensures one { IfSome result (λ s. s.parts ≡ 1) }
         ensures empty { IfSome result (λ s. s.amount ≡ 0) }
     {
-        let Tally { purse, left, .. } = self;
+        let Tally {
+            unclaimed,
+            left,
+            ..
+        } = self;
         if *left == 0 {
             return None;
         }
         *left -= 1;
-        Some(purse.split_off(1, 0))
+        Some(unclaimed.split_off(1, 0))
     }
 
     /// No part of the ledger.
@@ -50,7 +54,7 @@ impl<L: Ledger> Tally<L> {
         ensures none { result.parts ≡ 0 }
         ensures empty { result.amount ≡ 0 }
     {
-        self.purse.empty()
+        self.unclaimed.empty()
     }
 
     /// Moves 1 into the book, and tells the total that the move left. None where the total can't grow.
@@ -79,11 +83,11 @@ impl<L: Ledger> Tally<L> {
 }
 
 /// One part of the ledger, for any thread.
-pub(crate) fn enroll<L: Ledger, R: Wait>(rt: &R, tally: &Mutex<Tally<L>>) -> Option<Share<L>>
+pub(crate) fn claim<L: Ledger, R: Wait>(rt: &R, tally: &Mutex<Tally<L>>) -> Option<Share<L>>
     ensures one { IfSome result (λ s. s.parts ≡ 1) }
     ensures empty { IfSome result (λ s. s.amount ≡ 0) }
 {
-    tally.lock(rt).enroll()
+    tally.lock(rt).claim()
 }
 
 /// No part of the ledger, for any thread.

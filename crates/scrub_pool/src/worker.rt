@@ -9,7 +9,7 @@ ghost use Rattle.scrub_pool.specs.Work.{IsPassFor, IsSamePart, IsAtWork};
 use crate::OutOfMemory;
 use crate::extent_queue::{ExtentQueue, TakePass};
 use crate::gate::Gate;
-use crate::tally::{Tally, count, enroll};
+use crate::tally::{Tally, claim, count};
 use scrub_book::WorkerCore;
 use scrub_disk::PageSource;
 use scrub_scan::scan_extent;
@@ -82,7 +82,7 @@ pub(crate) fn works<'d, D: PageSource, L: Ledger + Send + Sync, G: Gate, R: Wait
     ensures whole { IfSome result.1 (λ s. (held_by result.0 ≡ None) × (s.parts ≡ 1) × (s.amount ≡ length (results_of result.0))) }
 {
     let mut core = WorkerCore::new(alloc);
-    let Some(mut share) = enroll(rt, tally) else {
+    let Some(mut share) = claim(rt, tally) else {
         return (core, None);
     };
     match work(

@@ -1,61 +1,20 @@
-use Rattle.std.proofs.Common.{rules, ◌+◌, ◌≡◌, ◌++◌, ◌∷◌, ◌∙◌, [], List, ℕ, map, length, arith, sym, ap, subst, All, Some}
-use Rattle.std.specs.List.Sorted.{IsPermutation}
+use Rattle.std.proofs.Common.{◌≡◌, arith, sym, subst, All, Some}
 use Rattle.std.proofs.lemmas.List.{length-map}
 use Rattle.std.proofs.lemmas.List.Sorted.{length_permutation}
 use Rattle.scrub_super.specs.Plan.{pointer_of}
 use Rattle.scrub_scan.specs.Scanned.{result_image, scanned}
 use Rattle.scrub_book.specs.Extents.{extents_of}
-use Rattle.scrub_book.specs.Worker.{results_of}
-use Rattle.scrub_pool.specs.Passes.{one_list, taken_in}
-use Rattle.scrub_pool.specs.Work.{AreResults}
-use Rattle.scrub_pool.proofs.Joined.{items_push, results_append, all_scanned, long_append, partition_of}
 use Rattle.scrub_pool.proofs.scanning.scan_under.Goals as goal
 
 pub assemble-requires-clause-images : goal.assemble-requires-clause-images
 assemble-requires-clause-images g c κs within =
-    let image = g.D.PageSource.image c.args.disk.now in
-    let plan = c.args.plan.now in
-    let is : c.into_parts-taken.result.1.items ≡ results_of c.work.new.core = search rules in
-    let mine = subst (λ rs. AreResults image plan rs) (sym is) c.in_ok-work.ensures.work.2 in
-    let theirs = c.in_ok-lists.ensures.results image plan (λ k d below. (c.all_work-members.ensures.members k d below).1.2) in
-    subst (λ s. All (λ r. result_image r ≡ g.D.PageSource.image s) c.append.new.self.items) (sym c.in_ok-book.ensures.source_is)
-    (results_append image plan c.append.new.self.items c.into_parts-taken.result.1.items c.collect.new.found.items c.in_ok-append.ensures.items mine theirs).0
+    subst (λ s. All (λ r. result_image r ≡ g.D.PageSource.image s) c.in_ok-lists.results.items) (sym c.in_ok-book.ensures.source_is) c.in_ok-lists.ensures.found.0
 
 pub assemble-requires-clause-pointers : goal.assemble-requires-clause-pointers
 assemble-requires-clause-pointers g c κs within =
-    let image = g.D.PageSource.image c.args.disk.now in
-    let plan = c.args.plan.now in
-    let is : c.into_parts-taken.result.1.items ≡ results_of c.work.new.core = search rules in
-    let mine = subst (λ rs. AreResults image plan rs) (sym is) c.in_ok-work.ensures.work.2 in
-    let theirs = c.in_ok-lists.ensures.results image plan (λ k d below. (c.all_work-members.ensures.members k d below).1.2) in
-    subst (λ p. All (λ r. pointer_of p r.extent ≡ Some r.pointer) c.append.new.self.items) (sym c.in_ok-book.ensures.plan_is)
-    (results_append image plan c.append.new.self.items c.into_parts-taken.result.1.items c.collect.new.found.items c.in_ok-append.ensures.items mine theirs).1
-
-pub assemble-requires-clause-each : goal.assemble-requires-clause-each
-assemble-requires-clause-each g c κs within =
-    let pass = c.work.new.pass in
-    let mine : extents_of c.into_parts-taken.result.1.items ≡ pass.own = search rules in
-    let joined : pass.joined ≡ map (λ l. l.items) c.in_ok-lists.lists.items = search rules in
-    all_scanned pass c.append.new.self.items c.into_parts-taken.result.1.items c.collect.new.found.items c.in_ok-book.book.plan.planned c.in_ok-append.ensures.items mine (c.in_ok-lists.ensures.found ∙ ap one_list (sym joined)) (search rules) (c.in_ok-work.ensures.all (search rules) (search rules))
-
-pub returns-clause-partition : goal.returns-clause-partition
-returns-clause-partition g c =
-    let pass = c.work.new.pass in
-    let ended = c.in_ok-work.ensures in
-    let pushed = items_push c.in_ok-lists.lists.items c.push.new.self.items c.into_parts-taken.result.0 pass.own c.in_ok-push.ensures.items (search rules) in
-    let joined : pass.joined ≡ map (λ l. l.items) c.in_ok-lists.lists.items = search rules in
-    partition_of c.args.plan.now.planned pass.own pass.joined c.new-3.result.lists (c.new-3.ensures.lists ∙ pushed ∙ ap (λ l. l ++ pass.own ∷ []) (sym joined)) ended.rising.0 ended.rising.1
-    (subst (λ (l : List ℕ). IsPermutation (taken_in pass) l) (search rules) (ended.all (search rules) (search rules)))
+    subst (λ p. All (λ r. pointer_of p r.extent ≡ Some r.pointer) c.in_ok-lists.results.items) (sym c.in_ok-book.ensures.plan_is) c.in_ok-lists.ensures.found.1
 
 pub returns-clause-counted : goal.returns-clause-counted
 returns-clause-counted g c =
-    let pass = c.work.new.pass in
-    let mine : extents_of c.into_parts-taken.result.1.items ≡ pass.own = search rules in
-    let joined : pass.joined ≡ map (λ l. l.items) c.in_ok-lists.lists.items = search rules in
-    let all = all_scanned pass c.append.new.self.items c.into_parts-taken.result.1.items c.collect.new.found.items c.args.plan.now.planned c.in_ok-append.ensures.items mine (c.in_ok-lists.ensures.found ∙ ap one_list (sym joined)) (search rules) (c.in_ok-work.ensures.all (search rules) (search rules)) in
-    let core = c.work.new.core in
-    let own : c.work.new.share.amount ≡ length (results_of core) = c.in_ok-work.ensures.counted in
-    let others : c.in-Some-Some.theirs.amount ≡ length c.collect.new.found.items = search rules in
-    let is : c.into_parts-taken.result.1.items ≡ results_of core = search rules in
-    let whole : c.new-3.result.counted ≡ c.work.new.share.amount + c.in-Some-Some.theirs.amount = search rules in
-    omega (arith, whole, own, others, ap (λ (l : List _). length l) is, long_append c.append.new.self.items c.into_parts-taken.result.1.items c.collect.new.found.items c.in_ok-append.ensures.items, length_permutation (extents_of c.append.new.self.items) c.args.plan.now.planned all, length-map c.append.new.self.items (λ r. (scanned r).extent))
+    let results = c.in_ok-lists.results.items in
+    omega (arith, c.in_ok-lists.ensures.counted, length_permutation (extents_of results) c.args.plan.now.planned c.in_ok-lists.ensures.extents, length-map results (λ r. (scanned r).extent))
