@@ -250,8 +250,9 @@ fn scan_under<'d, D: PageSource, L: Ledger + Send + Sync, G: Gate, R: Threads + 
 }
 
 /// What one reader finds in the planned extents, scanned by this many workers (0 to 64) and the caller, each taking from this
-/// queue until none is left, and who took what. The caller takes with the first pass, as worker number `workers`. The one
-/// fault is `OutOfMemory`, told once every worker that was started has ended; the queue and the pass are then for dropping.
+/// queue until none is left, and who took what. The caller takes with the first pass, as worker number `workers`; with no
+/// others no thread is started. The one fault is `OutOfMemory`, told once every worker that was started has ended; the queue
+/// and the pass are then for dropping.
 pub fn scan_all<'d, D: PageSource, G: Gate, R: Threads + Wait + Sync>(
     rt: &R,
     alloc: Global,
