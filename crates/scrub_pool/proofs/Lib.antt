@@ -3,3 +3,4 @@ pub mod Totals
 pub mod Steps
 pub mod Crews
 pub mod Joined
+pub mod Schedules

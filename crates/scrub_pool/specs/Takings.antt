@@ -1,6 +1,10 @@
 -- Who took which extents.
-use Rattle.std.specs.Prelude.{ℕ, List, All}
+use Rattle.std.specs.Prelude.{◌≡◌, ℕ, List, All, true, length, map}
 use Rattle.std.specs.List.Sorted.{IsPermutation, IsStrictlyIncreasing}
+use Rattle.scrub_disk.specs.Image.{Image}
+use Rattle.scrub_super.specs.Plan.{PlanValue}
+use Rattle.scrub_book.specs.declared.event.Event.{Event}
+use Rattle.scrub_book.specs.Pool.{PoolState, start, Leads, is_complete}
 use Rattle.scrub_pool.specs.Passes.{one_list}
 
 -- the extents that each worker took, by the workers' numbers, the caller's last, and how many the ledger counted
@@ -12,3 +16,15 @@ pub record TakingsValue : Type 0 where
 pub record IsPartition (planned : List ℕ) (lists : List (List ℕ)) : Type 0 where
   pub rising : All IsStrictlyIncreasing lists
   pub whole : IsPermutation (one_list lists) planned
+
+-- from a state some schedule leads to a complete pool whose members took these lists, each the list of its number
+pub record AreTakenFrom (image : Image) (plan : PlanValue) (old : PoolState) (lists : List (List ℕ)) : Type 0 where
+  pub events : List Event
+  pub last : PoolState
+  pub leads : Leads image plan old events last
+  pub complete : is_complete last ≡ true
+  pub taken : map (λ m. m.taken) last.members ≡ lists
+
+-- after some schedule they are what the members of a complete pool took, which has a member for each list
+abbrev pub AreTakenInSomeSchedule : Image → PlanValue → List (List ℕ) → Type 0
+AreTakenInSomeSchedule image plan lists = AreTakenFrom image plan (start plan (length lists)) lists

@@ -17,7 +17,7 @@ pub use fault::PoolFault;
 pub use gate::{Gate, NoGate};
 pub use scanning::scan_all;
 pub use scrub_disk::OutOfMemory;
-pub use takings::Takings;
+pub use takings::{Takings, some_schedule_takes_so};
 
 #[cfg(test)]
 mod tests;

@@ -1,6 +1,12 @@
 //! Who took which extents, and how many were counted. How it came to that is left to the workers.
 
-ghost use Rattle.std.specs.Prelude.{◌≡◌, ◌+◌, ◌<◌, length, Some, slice_get};
+ghost use Rattle.std.specs.Prelude.{◌≡◌, ◌+◌, ◌<◌, ℕ, List, length, Some, slice_get};
+ghost use Rattle.std.specs.List.Sorted.{IsStrictlyIncreasing};
+ghost use Rattle.scrub_disk.specs.Image.{Image};
+ghost use Rattle.scrub_super.specs.Plan.{PlanValue};
+ghost use Rattle.scrub_scan.specs.Scanned.{Scanned};
+ghost use Rattle.scrub_scan.specs.AllFindings.{AreAllFindings};
+ghost use Rattle.scrub_pool.specs.Takings.{IsPartition, AreTakenInSomeSchedule};
 
 use std::marker::Model;
 
@@ -59,3 +65,11 @@ impl Takings {
         self.counted
     }
 }
+
+/// A law: lists that are a partition of the planned extents are what the members of a complete pool took, after some
+/// schedule. `all` shows that each planned extent has findings, so that it can be done.
+pub fn some_schedule_takes_so()
+    ensures { (image : Image) (plan : PlanValue) (all : List Scanned) (lists : List (List ℕ)) →
+        IsStrictlyIncreasing plan.planned → AreAllFindings image plan all → IsPartition plan.planned lists →
+        AreTakenInSomeSchedule image plan lists }
+{}
