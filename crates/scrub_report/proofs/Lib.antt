@@ -4,6 +4,7 @@ pub mod Shown
 pub mod ScannedLive
 pub mod NoFloats
 pub mod KeyValues
+pub mod LocatorValues
 pub mod KeptEntries
 pub mod RunEntries
 pub mod OneReader

@@ -1,11 +1,16 @@
--- The steps of the code: members with some of the report's keys put to them.
-use Rattle.std.specs.Prelude.{[], codes, length, map}
-use Rattle.serde_json.specs.Data.{Members, boolean, put}
-use Rattle.scrub_check.specs.Checked.{dangling, hidden}
+-- The steps of the code: a locator of either list, and members with some of the report's keys put to them.
+use Rattle.std.specs.Prelude.{[], codes, cond, length, map}
+use Rattle.serde_json.specs.Data.{Data, Members, boolean, put}
+use Rattle.scrub_check.specs.declared.checked.Checked.{Checked}
+use Rattle.scrub_check.specs.Checked.{dangling, hidden, is_hidden}
 use Rattle.scrub_check.specs.Chunks.{orphans, twins}
 use Rattle.scrub_report.specs.Json.{natural, list}
 use Rattle.scrub_report.specs.Scrubbed.{Scrubbed, is_clean}
 use Rattle.scrub_report.specs.Report.{ids_data, candidate_data, dangling_data, doubtful_ids, extents_data, geometry_data, hidden_data, place_data, runs_data, shared_data, super_data}
+
+-- one of `hidden`, or of `dangling`
+abbrev pub locator_data : Checked → Data
+locator_data c = cond (is_hidden c.status) (hidden_data c) (dangling_data c)
 
 -- with those of the index
 abbrev pub with_index : Scrubbed → Members → Members

@@ -1,7 +1,7 @@
 -- The report, key by key: the JSON value of each part of what was found.
 use Rattle.std.specs.Prelude.{◌≡◌, ℕ, List, [], ◌∷◌, ◌++◌, Option, codes, filter, length, map, option_map}
 use Rattle.std.specs.List.{zip}
-use Rattle.serde_json.specs.Data.{Data, boolean, string}
+use Rattle.serde_json.specs.Data.{Data, Members, boolean, object, put, string}
 use Rattle.serde_json.specs.Written.{compact_text}
 use Rattle.scrub_disk.specs.declared.geometry.Geometry.{Geometry}
 use Rattle.scrub_disk.specs.Image.{Image}
@@ -22,7 +22,7 @@ use Rattle.scrub_check.specs.Checked.{dangling, hidden}
 use Rattle.scrub_check.specs.Chunks.{orphans, twins}
 use Rattle.scrub_check.specs.Live.{live_bytes}
 use Rattle.scrub_check.specs.Runs.{ReadRunsValue}
-use Rattle.scrub_report.specs.Json.{natural, natural_or_null, list, with_keys}
+use Rattle.scrub_report.specs.Json.{natural, natural_or_null, list, members, with_keys}
 use Rattle.scrub_report.specs.Scrubbed.{Scrubbed, IsScrubbed, is_clean}
 use Rattle.scrub_report.specs.Texts.{id_text, owner_text, state_text, status_text, uuid_text}
 
@@ -82,24 +82,22 @@ runs_data locators read = list (map (λ r. run_data r.0 r.1.0 r.1.1) (zip locato
 abbrev pub doubtful_ids : List BindingValue → List ShardId
 doubtful_ids bindings = map (λ b. b.id) (filter (λ b. b.doubtful) bindings)
 
--- one of `dangling`: a locator, who names it, and what is wrong with it
-abbrev pub dangling_data : Checked → Data
-dangling_data c = with_keys (
+-- a locator, and who names it
+abbrev pub locator_members : Checked → Members
+locator_members c = members (
     (codes "extent", natural c.locator.extent) ∷
     (codes "length", natural c.locator.length) ∷
     (codes "offset", natural c.locator.offset) ∷
     (codes "owner", string (owner_text c.owner)) ∷
-    (codes "reason", string (status_text c.status)) ∷
     (codes "uuid", string (uuid_text c.locator.uuid)) ∷ [])
 
--- one of `hidden`: the same without a reason
+-- one of `hidden`
 abbrev pub hidden_data : Checked → Data
-hidden_data c = with_keys (
-    (codes "extent", natural c.locator.extent) ∷
-    (codes "length", natural c.locator.length) ∷
-    (codes "offset", natural c.locator.offset) ∷
-    (codes "owner", string (owner_text c.owner)) ∷
-    (codes "uuid", string (uuid_text c.locator.uuid)) ∷ [])
+hidden_data c = object (locator_members c)
+
+-- one of `dangling`: the same, with what is wrong with it as `reason`
+abbrev pub dangling_data : Checked → Data
+dangling_data c = object (put (codes "reason") (string (status_text c.status)) (locator_members c))
 
 -- one of `orphans` and `twins`: a chunk, by its place; the length is that of its payload
 abbrev pub place_data : Place → Data

@@ -5,23 +5,24 @@ ghost use Rattle.serde_json.specs.View.{view};
 ghost use Rattle.scrub_scan.specs.Scanned.{scanned};
 ghost use Rattle.scrub_check.specs.declared.checked.Checked.{Checked};
 ghost use Rattle.scrub_check.specs.Live.{live_bytes};
-ghost use Rattle.scrub_report.specs.Report.{extent_data, extents_data, items_data};
+ghost use Rattle.scrub_report.specs.Report.{extent_data, extents_data};
 
-use crate::values::numbers_value;
+use crate::values::{Told, list_value};
 use scrub_disk::{OutOfMemory, PageSource};
 use scrub_scan::{AllFindings, ExtentResult, Item, item_line};
 use serde_json::{Value, json};
 use std::alloc::Global;
 
-/// The lines of items.
-fn items_value(alloc: Global, items: &[Item]) -> Result<Value, OutOfMemory>
-    ensures { IfOk result (λ v. view v ≡ items_data items.now) }
-{
-    let mut values = Vec::with_capacity(alloc, items.len())?;
-    for item in items {
-        values.push(Value::String(item_line(alloc, item)?))?;
+/// Its line.
+impl Told for Item {
+    ghost use Rattle.serde_json.specs.Data.{string};
+    ghost use Rattle.scrub_scan.specs.Line.{line_of};
+
+    ghost shown = { λ item. string (line_of item) };
+
+    fn told(&self, alloc: Global) -> Result<Value, OutOfMemory> {
+        Ok(Value::String(item_line(alloc, self)?))
     }
-    Ok(Value::Array(values))
 }
 
 /// The value of one extent, with its live bytes.
@@ -33,8 +34,8 @@ fn extent_value<D: PageSource>(
     ensures { IfOk result (λ v. view v ≡ extent_data live (scanned found.now)) }
 {
     let findings = found.findings();
-    let bad = numbers_value(alloc, findings.bad_pages())?;
-    let items = items_value(alloc, findings.items())?;
+    let bad = list_value(alloc, findings.bad_pages())?;
+    let items = list_value(alloc, findings.items())?;
     json!(in alloc; {
         "bad": bad,
         "extent": found.extent(),

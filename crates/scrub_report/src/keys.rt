@@ -11,14 +11,12 @@ ghost use Rattle.scrub_report.specs.Parts.{found_in};
 ghost use Rattle.scrub_report.specs.Report.{dangling_data, doubtful_ids, extents_data, hidden_data, ids_data, place_data};
 ghost use Rattle.scrub_report.specs.Scrubbed.{is_clean};
 
-use crate::chunks::{candidates_value, places_value, shared_value};
 use crate::extents::extents_value;
-use crate::locators::{dangling_value, hidden_value};
 use crate::runs::runs_value;
 use crate::scrubbing::Parts;
 use crate::shards::doubtful_ids;
 use crate::sizes::{geometry_value, super_value};
-use crate::values::ids_value;
+use crate::values::list_value;
 use scrub_check::{Checked, all_live_bytes, dangling, hidden, orphans, twins};
 use scrub_disk::{OutOfMemory, PageSource};
 use scrub_merge::Binding;
@@ -30,21 +28,21 @@ use std::alloc::Global;
 fn dangling_key(alloc: Global, checked: &[Checked]) -> Result<Value, OutOfMemory>
     ensures { IfOk result (λ v. view v ≡ list (map dangling_data (dangling checked.now))) }
 {
-    dangling_value(alloc, &dangling(alloc, checked)?)
+    list_value(alloc, &dangling(alloc, checked)?)
 }
 
 /// The value of `hidden`.
 fn hidden_key(alloc: Global, checked: &[Checked]) -> Result<Value, OutOfMemory>
     ensures { IfOk result (λ v. view v ≡ list (map hidden_data (hidden checked.now))) }
 {
-    hidden_value(alloc, &hidden(alloc, checked)?)
+    list_value(alloc, &hidden(alloc, checked)?)
 }
 
 /// The value of `doubtful`.
 fn doubtful_key(alloc: Global, bindings: &[Binding]) -> Result<Value, OutOfMemory>
     ensures { IfOk result (λ v. view v ≡ ids_data (doubtful_ids bindings.now)) }
 {
-    ids_value(alloc, &doubtful_ids(alloc, bindings)?)
+    list_value(alloc, &doubtful_ids(alloc, bindings)?)
 }
 
 /// The value of `extents`.
@@ -67,14 +65,14 @@ fn orphans_key<D: PageSource>(
 ) -> Result<Value, OutOfMemory>
     ensures { IfOk result (λ v. view v ≡ list (map place_data (orphans all.now.extents checked.now))) }
 {
-    places_value(alloc, &orphans(alloc, all, checked)?)
+    list_value(alloc, &orphans(alloc, all, checked)?)
 }
 
 /// The value of `twins`.
 fn twins_key<D: PageSource>(alloc: Global, all: &AllFindings<'_, D>) -> Result<Value, OutOfMemory>
     ensures { IfOk result (λ v. view v ≡ list (map place_data (twins all.now.extents))) }
 {
-    places_value(alloc, &twins(alloc, all)?)
+    list_value(alloc, &twins(alloc, all)?)
 }
 
 /// Puts the values of the index to the report.
@@ -88,7 +86,7 @@ pub(crate) fn put_index<D: PageSource>(
         with_index (found_in parts.now) (members_view report.old.entries)) }
 {
     let bindings = parts.map.bindings();
-    let broken = ids_value(alloc, &parts.broken)?;
+    let broken = list_value(alloc, &parts.broken)?;
     put(report, alloc, "broken", broken)?;
     let doubtful = doubtful_key(alloc, bindings)?;
     put(report, alloc, "doubtful", doubtful)?;
@@ -113,7 +111,7 @@ pub(crate) fn put_locators<D: PageSource>(
     put(report, alloc, "dangling", dangling)?;
     let hidden = hidden_key(alloc, &parts.checked)?;
     put(report, alloc, "hidden", hidden)?;
-    let shared = shared_value(alloc, &parts.shared)?;
+    let shared = list_value(alloc, &parts.shared)?;
     put(report, alloc, "shared", shared)
 }
 
@@ -126,7 +124,7 @@ pub(crate) fn put_chunks<D: PageSource>(
     ensures { OnOk result (members_view report.new.entries ≡
         with_chunks (found_in parts.now) (members_view report.old.entries)) }
 {
-    let candidates = candidates_value(alloc, &parts.candidates)?;
+    let candidates = list_value(alloc, &parts.candidates)?;
     put(report, alloc, "candidates", candidates)?;
     let orphans = orphans_key(alloc, &parts.all, &parts.checked)?;
     put(report, alloc, "orphans", orphans)?;

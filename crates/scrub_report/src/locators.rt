@@ -1,65 +1,65 @@
 //! The report's values of the named locators that aren't sound.
 
-ghost use Rattle.std.specs.Prelude.{◌≡◌, IfOk, map};
-ghost use Rattle.serde_json.specs.View.{view};
-ghost use Rattle.scrub_report.specs.Json.{list};
-ghost use Rattle.scrub_report.specs.Report.{dangling_data, hidden_data};
+ghost use Rattle.std.specs.Prelude.{◌≡◌, IfOk};
+ghost use Rattle.serde_json.specs.View.{members_view};
+ghost use Rattle.scrub_check.specs.Checked.{is_hidden};
+ghost use Rattle.scrub_report.specs.Keys.{locator_data};
+ghost use Rattle.scrub_report.specs.Report.{locator_members};
 
 use crate::texts::{owner_text, status_text, uuid_text};
-use scrub_check::Checked;
+use crate::values::Told;
+use scrub_check::{Checked, Status};
 use scrub_disk::OutOfMemory;
-use serde_json::{Value, json};
+use serde_json::{Map, Value, put};
 use std::alloc::Global;
 
-/// The value of one locator that is neither sound nor hidden.
-fn dangling_one(alloc: Global, one: &Checked) -> Result<Value, OutOfMemory>
-    ensures { IfOk result (λ v. view v ≡ dangling_data one.now) }
+fn is_hidden(status: Status) -> bool
+    ensures { result ≡ is_hidden status }
+{
+    matches!(status, Status::Hidden)
+}
+
+/// Where a locator points, and who names it.
+fn locator_members(alloc: Global, one: &Checked) -> Result<Map<String, Value>, OutOfMemory>
+    ensures { IfOk result (λ m. members_view m.entries ≡ locator_members one.now) }
 {
     let owner = owner_text(alloc, one.owner)?;
     let uuid = uuid_text(alloc, one.locator.uuid)?;
-    json!(in alloc; {
-        "extent": one.locator.extent,
-        "length": one.locator.length,
-        "offset": one.locator.offset,
-        "owner": owner,
-        "reason": status_text(one.status),
-        "uuid": uuid,
-    })
+    let mut members = Map::new(alloc);
+    put(
+        &mut members,
+        alloc,
+        "extent",
+        Value::from(one.locator.extent),
+    )?;
+    put(
+        &mut members,
+        alloc,
+        "length",
+        Value::from(one.locator.length),
+    )?;
+    put(
+        &mut members,
+        alloc,
+        "offset",
+        Value::from(one.locator.offset),
+    )?;
+    put(&mut members, alloc, "owner", Value::String(owner))?;
+    put(&mut members, alloc, "uuid", Value::String(uuid))?;
+    Ok(members)
 }
 
-/// The value of one hidden locator.
-fn hidden_one(alloc: Global, one: &Checked) -> Result<Value, OutOfMemory>
-    ensures { IfOk result (λ v. view v ≡ hidden_data one.now) }
-{
-    let owner = owner_text(alloc, one.owner)?;
-    let uuid = uuid_text(alloc, one.locator.uuid)?;
-    json!(in alloc; {
-        "extent": one.locator.extent,
-        "length": one.locator.length,
-        "offset": one.locator.offset,
-        "owner": owner,
-        "uuid": uuid,
-    })
-}
+/// One of `hidden`, or of `dangling`, which tells what is wrong with it too.
+impl Told for Checked {
+    ghost shown = { locator_data };
 
-/// The value of `dangling`.
-pub(crate) fn dangling_value(alloc: Global, dangling: &[Checked]) -> Result<Value, OutOfMemory>
-    ensures { IfOk result (λ v. view v ≡ list (map dangling_data dangling.now)) }
-{
-    let mut values = Vec::with_capacity(alloc, dangling.len())?;
-    for one in dangling {
-        values.push(dangling_one(alloc, one)?)?;
+    fn told(&self, alloc: Global) -> Result<Value, OutOfMemory> {
+        let mut members = locator_members(alloc, self)?;
+        if is_hidden(self.status) {
+            return Ok(Value::Object(members));
+        }
+        let reason = String::from_str(alloc, status_text(self.status))?;
+        put(&mut members, alloc, "reason", Value::String(reason))?;
+        Ok(Value::Object(members))
     }
-    Ok(Value::Array(values))
-}
-
-/// The value of `hidden`.
-pub(crate) fn hidden_value(alloc: Global, hidden: &[Checked]) -> Result<Value, OutOfMemory>
-    ensures { IfOk result (λ v. view v ≡ list (map hidden_data hidden.now)) }
-{
-    let mut values = Vec::with_capacity(alloc, hidden.len())?;
-    for one in hidden {
-        values.push(hidden_one(alloc, one)?)?;
-    }
-    Ok(Value::Array(values))
 }

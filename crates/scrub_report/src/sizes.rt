@@ -4,7 +4,7 @@ ghost use Rattle.std.specs.Prelude.{◌≡◌, IfOk};
 ghost use Rattle.serde_json.specs.View.{view};
 ghost use Rattle.scrub_report.specs.Report.{geometry_data, super_data};
 
-use crate::values::numbers_value;
+use crate::values::list_value;
 use scrub_disk::{Geometry, OutOfMemory};
 use scrub_super::Chosen;
 use serde_json::{Value, json};
@@ -25,7 +25,7 @@ pub(crate) fn geometry_value(alloc: Global, geometry: Geometry) -> Result<Value,
 pub(crate) fn super_value(alloc: Global, chosen: &Chosen) -> Result<Value, OutOfMemory>
     ensures { IfOk result (λ v. view v ≡ super_data chosen.now) }
 {
-    let bad = numbers_value(alloc, chosen.bad_pages())?;
+    let bad = list_value(alloc, chosen.bad_pages())?;
     let generation = chosen
         .superblock()
         .map(|superblock| superblock.generation());

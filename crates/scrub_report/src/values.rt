@@ -1,8 +1,10 @@
-//! JSON values that several keys of the report have: lists of numbers and of identifiers.
+//! JSON lists: one value for each element. Lists of numbers and of identifiers stand here, as several keys of the report
+//! have them.
 
-ghost use Rattle.std.specs.Prelude.{◌≡◌, IfOk};
+ghost use Rattle.std.specs.Prelude.{◌≡◌, IfOk, map};
+ghost use Rattle.serde_json.specs.Data.{Data};
 ghost use Rattle.serde_json.specs.View.{view};
-ghost use Rattle.scrub_report.specs.Report.{ids_data, numbers_data};
+ghost use Rattle.scrub_report.specs.Json.{list};
 
 use crate::texts::id_text;
 use scrub_disk::OutOfMemory;
@@ -10,24 +12,44 @@ use scrub_run::ShardId;
 use serde_json::Value;
 use std::alloc::Global;
 
-/// A list of numbers.
-pub(crate) fn numbers_value(alloc: Global, numbers: &[u32]) -> Result<Value, OutOfMemory>
-    ensures { IfOk result (λ v. view v ≡ numbers_data numbers.now) }
+/// What a list of the report has a value of.
+pub(crate) trait Told {
+    /// Which value it is.
+    ghost shown: { Self → Data };
+
+    /// The value.
+    fn told(&self, alloc: Global) -> Result<Value, OutOfMemory>
+        ensures { IfOk result (λ v. view v ≡ shown self.now) };
+}
+
+/// The values of some elements, in their order.
+pub(crate) fn list_value<T: Told>(alloc: Global, items: &[T]) -> Result<Value, OutOfMemory>
+    ensures { IfOk result (λ v. view v ≡ list (map T.shown items.now)) }
 {
-    let mut values = Vec::with_capacity(alloc, numbers.len())?;
-    for number in numbers {
-        values.push(Value::from(*number))?;
+    let mut values = Vec::with_capacity(alloc, items.len())?;
+    for item in items {
+        values.push(item.told(alloc)?)?;
     }
     Ok(Value::Array(values))
 }
 
-/// A list of shards, by their identifiers.
-pub(crate) fn ids_value(alloc: Global, ids: &[ShardId]) -> Result<Value, OutOfMemory>
-    ensures { IfOk result (λ v. view v ≡ ids_data ids.now) }
-{
-    let mut values = Vec::with_capacity(alloc, ids.len())?;
-    for id in ids {
-        values.push(Value::String(id_text(alloc, *id)?))?;
+impl Told for u32 {
+    ghost use Rattle.scrub_report.specs.Json.{natural};
+
+    ghost shown = { natural };
+
+    fn told(&self, _alloc: Global) -> Result<Value, OutOfMemory> {
+        Ok(Value::from(*self))
     }
-    Ok(Value::Array(values))
+}
+
+impl Told for ShardId {
+    ghost use Rattle.serde_json.specs.Data.{string};
+    ghost use Rattle.scrub_report.specs.Texts.{id_text};
+
+    ghost shown = { λ id. string (id_text id) };
+
+    fn told(&self, alloc: Global) -> Result<Value, OutOfMemory> {
+        Ok(Value::String(id_text(alloc, *self)?))
+    }
 }
