@@ -5,12 +5,13 @@ use Rattle.scrub_disk.specs.Faults.{HasSizes}
 use Rattle.scrub_disk.specs.Image.{Image, extent_bytes}
 use Rattle.scrub_scan.specs.Extent.{extent_of}
 use Rattle.scrub_cli.specs.declared.fault.Fault.{Fault}
-use Rattle.scrub_cli.specs.declared.fault.Fault.TheVariants.{NotUtf8, Help, Words, Geometry, Extent, Pointer, BadPage, NoImage, TooLong, Output, OutOfMemory}
+use Rattle.scrub_cli.specs.declared.fault.Fault.TheVariants.{Pointer}
 use Rattle.scrub_cli.specs.declared.words.ItemsWords.{ItemsWords}
 use Rattle.scrub_cli.specs.DiskImage.{IsDiskFault, IsLoadedDisk}
 use Rattle.scrub_cli.specs.Items.{given_pointer, AreInDisk, IsItemsAnswer, IsItemsFault}
 use Rattle.scrub_cli.specs.Known.{KnownRaw}
 use Rattle.scrub_cli.specs.Lines.{IsListing}
+use Rattle.scrub_cli.proofs.DiskAnswers.{of_disk_fault}
 
 -- what is left where the sizes, the extent and the pointer are refused by none of the tests; an extent has `size` bytes
 pub placed : (words : ItemsWords) (g : Sizes) (pointer size limit : ℕ) → HasSizes g words.image.page words.image.pages words.image.extents →
@@ -31,17 +32,8 @@ pointer_fault known words g pointer size limit sizes in_disk is size_is limit_is
 
 -- a fault of the image is one of `items`
 pub items_disk_fault : (known : KnownRaw) (words : ItemsWords) (g : Sizes) (fault : Fault) → AreInDisk words g → IsDiskFault known words.image g fault → IsItemsFault known words fault
-items_disk_fault known words g NotUtf8 places is = absurd is
-items_disk_fault known words g (Help text) places is = absurd is
-items_disk_fault known words g (Words text) places is = absurd is
-items_disk_fault known words g (Geometry fault) places is = absurd is
-items_disk_fault known words g Extent places is = absurd is
-items_disk_fault known words g Pointer places is = absurd is
-items_disk_fault known words g (BadPage word) places is = (g, places, is)
-items_disk_fault known words g (NoImage name) places is = (g, places, is)
-items_disk_fault known words g TooLong places is = (g, places, is)
-items_disk_fault known words g (Output written) places is = absurd is
-items_disk_fault known words g OutOfMemory places is = tt
+items_disk_fault known words g fault places =
+    of_disk_fault (IsItemsFault known words) known words.image g (λ word is. (g, places, is)) (λ name is. (g, places, is)) (λ is. (g, places, is)) tt fault
 
 pub items_answer : (known : KnownRaw) (words : ItemsWords) (g : Sizes) (image : Image) (pointer : ℕ) (text : List ℕ) (status : ℕ) →
     AreInDisk words g → IsLoadedDisk known words.image g image → pointer ≡ given_pointer words g →
