@@ -5,7 +5,8 @@ usage: bench/refuse.py [PROGRAM]    (default: crates/scrub_cli/out/scrub_cli)
 
 For each line of words below the program is run with its first allocation refused, then with its second, and so on until
 a run meets no refusal; then the same with all later allocations refused too. Each run has to end with status 4, nothing
-on the output and the text for want of memory on the error stream, or with the right answer whole. The refusals come of
+on the output and the text for want of memory on the error stream, or with the right answer whole; and so only where later
+allocations aren't refused: then a list may have grown by less than it asked for first. The refusals come of
 a library of C that is made by `cc` and put before the C library. Prints a line for each line of words. Exit status: 0
 where each answer was such, 1 where one wasn't, 2 where `cc` can't make the library.
 """
@@ -125,7 +126,7 @@ def main():
                     if met < refused:
                         break
                     counts["refused" if got == OUT_OF_MEMORY else "whole" if got == whole else "wrong"] += 1
-                wrong += counts["wrong"]
+                wrong += counts["wrong"] + (counts["whole"] if all_later else 0)
                 which = "it and all later ones" if all_later else "one"
                 print(f"'{words}', {which}: {dict(counts)} of {refused - 1} allocations", flush=True)
     sys.exit(1 if wrong else 0)

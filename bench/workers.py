@@ -10,8 +10,9 @@ Two disks of SIZE MiB in extents of 4 MiB, each scanned by 0, 1, 3 and 64 worker
 large chunks   frames of 64 KiB to 1 MiB, as in bench/scan.py;
 one full       one extent full of frames of 138 bytes, and the others empty.
 
-Beside them a disk of the same size on which nothing is written, since loading it and printing are done by one thread: what
-is above its time is the part that workers share. The answer to each is compared with that of 0 workers, byte for byte.
+Each is also loaded alone, by `items` of an extent under the write pointer 0, which prints nothing, since the main thread
+loads the image before a worker starts: what is above that time is what the workers share, and checking and printing. The
+answer to each is compared with that of 0 workers, byte for byte.
 Then examples/several-findings.img, which has every kind of item, is scanned by 7 workers as often as RUNS says, and each
 answer compared with that of 0 workers. Exit status: 0 where all answers are the same, 1 where one differs, 2 where nothing
 can be measured.
@@ -27,14 +28,6 @@ from items import measured
 from scan import KIB, MIB, ROUND_PAYLOAD, SMALL_PAYLOAD, Disk, apart, large_chunks, make_image
 
 WORKERS = (0, 1, 3, 64)
-
-
-def nothing(file, mib):
-    disk = Disk(file, 4 * KIB, KIB, mib // 4)
-    for _ in range(1, disk.extents):
-        disk.next_extent()
-    disk.put_superblock([])
-    return disk.made(0)
 
 
 def one_full(file, mib):
@@ -53,11 +46,13 @@ def text_of(path):
 
 
 def compare(program, room, kind, mib, turns):
-    """Returns for each number of workers the median of its seconds and its peak memory, or None where an answer differs."""
+    """Returns the median of the seconds for loading alone, and for each number of workers the median of its seconds and its
+    peak memory, or None where an answer differs."""
     image, answer = f"{room}/image", f"{room}/answer"
     made = apart(make_image, kind, mib, image)
-    seconds, peak, right = {n: [] for n in WORKERS}, dict.fromkeys(WORKERS, 0), None
+    seconds, peak, right, loads = {n: [] for n in WORKERS}, dict.fromkeys(WORKERS, 0), None, []
     for _ in range(turns):
+        loads.append(measured([program, "items", *made["sizes"], "--extent", "1", "--pointer", "0", image], answer)[0])
         for workers in WORKERS:
             words = [program, "scan", "--workers", str(workers), *made["sizes"], image]
             took, memory, status = measured(words, answer)
@@ -68,7 +63,7 @@ def compare(program, room, kind, mib, turns):
                 return None
             seconds[workers].append(took)
             peak[workers] = max(peak[workers], memory)
-    return {n: (statistics.median(seconds[n]), peak[n]) for n in WORKERS}
+    return statistics.median(loads), {n: (statistics.median(seconds[n]), peak[n]) for n in WORKERS}
 
 
 def repeat(program, room, runs):
@@ -88,20 +83,19 @@ def repeat(program, room, runs):
 
 
 def measure(program, room, mib, turns, runs):
-    loaded = compare(program, room, nothing, mib, turns)
-    same = bool(loaded)
+    same = True
     for kind in (large_chunks, one_full):
         found = compare(program, room, kind, mib, turns)
-        same = same and bool(found)
-        if not (loaded and found):
+        if not found:
+            same = False
             continue
-        print(f"{kind.__name__.replace('_', ' ')}, {mib} MiB, medians of {turns}:")
-        alone = found[0][0] - loaded[0][0]
+        load, by = found
+        print(f"{kind.__name__.replace('_', ' ')}, {mib} MiB, medians of {turns}: loading alone {load:.3f} s")
         for n in WORKERS:
-            shared = found[n][0] - loaded[n][0]
-            print(f"    {n:2} workers: {found[n][0]:.3f} s, {loaded[n][0]:.3f} s of it for a disk with nothing on it; "
-                  f"the rest is done {alone / max(shared, 1e-9):.2f} times as fast as by none; "
-                  f"{found[n][1] / MIB:.0f} MiB", flush=True)
+            seconds, memory = by[n]
+            faster = (by[0][0] - load) / max(seconds - load, 1e-9)
+            print(f"    {n:2} workers: {seconds:.3f} s; what is above loading is done {faster:.2f} times as fast as by none; "
+                  f"{memory / MIB:.0f} MiB", flush=True)
     return repeat(program, room, runs) and same
 
 
