@@ -6,7 +6,7 @@ usage: bench/refuse.py [PROGRAM]    (default: crates/scrub_cli/out/scrub_cli)
 For each line of words below the program is run with its first allocation refused, then with its second, and so on until
 a run meets no refusal; then the same with all later allocations refused too. Each run has to end with status 4, nothing
 on the output and the text for want of memory on the error stream, or with the right answer whole; and so only where later
-allocations aren't refused: a list that is refused room asks once more in some places. The refusals come of
+allocations aren't refused, since some refused requests are made once more. The refusals come of
 a library of C that is made by `cc` and put before the C library. Prints a line for each line of words. Exit status: 0
 where each answer was such, 1 where one wasn't, 2 where `cc` can't make the library.
 """
