@@ -13,6 +13,15 @@ enum Outcome {
     Double(u32),
 }
 
+/// What a book answered to a result.
+fn outcome_of(answer: Result<(), AddRefused<'_, MemDisk>>) -> Outcome {
+    match answer {
+        Ok(()) => Outcome::Added,
+        Err(AddRefused::Stranger(back)) => Outcome::Stranger(back.extent()),
+        Err(AddRefused::Double(back)) => Outcome::Double(back.extent()),
+    }
+}
+
 /// Scans an extent and adds its result.
 fn add_scanned<'d>(
     alloc: Global,
@@ -29,11 +38,7 @@ fn add_scanned<'d>(
     ensures pointers { OnOk result (book.new.plan.pointers ≡ book.old.plan.pointers) }
 {
     let found = scan_extent(alloc, disk, plan, extent)?;
-    match book.add(found) {
-        Ok(()) => Ok(Outcome::Added),
-        Err(AddRefused::Stranger(back)) => Ok(Outcome::Stranger(back.extent())),
-        Err(AddRefused::Double(back)) => Ok(Outcome::Double(back.extent())),
-    }
+    Ok(outcome_of(book.add(found)))
 }
 
 /// Compares the extents of findings.
