@@ -45,11 +45,12 @@ module _ {D : Type 0} {s : _} where
   extents_append all found more xs ys is first then =
       ap (λ (rs : List (ExtentResult D s)). extents_of rs) is ∙ map-append _ found more ∙ (λ i. first i ++ then i)
 
-  -- the results of the first pass and of those joined into it are of all planned extents
-  pub all_scanned : (pass : PassValue) (all mine theirs : List (ExtentResult D s)) (planned : List ℕ) → all ≡ mine ++ theirs → extents_of mine ≡ pass.own → extents_of theirs ≡ one_list pass.joined →
+  -- the results of those joined into the first pass and its own are of all planned extents
+  pub all_scanned : (pass : PassValue) (all theirs mine : List (ExtentResult D s)) (planned : List ℕ) → all ≡ theirs ++ mine → extents_of theirs ≡ one_list pass.joined → extents_of mine ≡ pass.own →
       pass.planned ≡ planned → HasTakenAll pass → IsPermutation (extents_of all) planned
-  all_scanned pass all mine theirs planned is own joined same whole =
-      subst (λ (l : List ℕ). IsPermutation l planned) (sym (extents_append all mine theirs pass.own (one_list pass.joined) is own joined)) (subst (λ (l : List ℕ). IsPermutation (taken_in pass) l) same whole)
+  all_scanned pass all theirs mine planned is joined own same whole =
+      subst (λ (l : List ℕ). IsPermutation l planned) (sym (extents_append all theirs mine (one_list pass.joined) pass.own is joined own))
+        (IsPermutation-trans (one_list pass.joined ++ pass.own) (taken_in pass) planned (IsPermutation-append_comm (one_list pass.joined) pass.own) (subst (λ (l : List ℕ). IsPermutation (taken_in pass) l) same whole))
 
   pub long_append : (all found more : List (ExtentResult D s)) → all ≡ found ++ more → length all ≡ length found + length more
   long_append all found more is = ap (λ (rs : List (ExtentResult D s)). length rs) is ∙ length-append found more

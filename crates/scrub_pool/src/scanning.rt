@@ -113,6 +113,24 @@ fn all_work<'d, D: PageSource, L: Ledger + Send + Sync, G: Gate, R: Threads + Wa
     )
 }
 
+/// Retires a worker that holds no extent: adds its results to those found, and gives the list of what it took.
+fn take_over<'d, D: PageSource>(
+    core: WorkerCore<'d, D>,
+    found: &mut Vec<ExtentResult<'d, D>>,
+) -> Result<Vec<u32>, OutOfMemory>
+    requires free { held_by core ≡ None }
+    ensures list { IfOk result (λ v. v.items ≡ taken_by core.entry) }
+    ensures found { OnOk result (found.new.items ≡ found.old.items ++ results_of core.entry) }
+    ensures matched { OnOk result (extents_of (results_of core.entry) ≡ taken_by core.entry) }
+{
+    let Ok(retired) = core.retire() else {
+        unreachable!()
+    };
+    let (taken, mut results) = retired.into_parts();
+    found.append(&mut results)?;
+    Ok(taken)
+}
+
 /// Takes in one member that ended: joins its pass, adds its results to those found, and gives the list of what it took.
 fn take_in<'d, D: PageSource, R: Wait>(
     rt: &R,
@@ -131,12 +149,7 @@ fn take_in<'d, D: PageSource, R: Wait>(
 {
     let Member { pass, core } = member;
     queue.join(rt, first, pass);
-    let Ok(retired) = core.retire() else {
-        unreachable!()
-    };
-    let (taken, mut results) = retired.into_parts();
-    found.append(&mut results)?;
-    Ok(taken)
+    take_over(core, found)
 }
 
 /// Takes in all members that ended, in their order, and gives the lists of what they took.
@@ -203,14 +216,10 @@ fn gather<'d, D: PageSource, L: Ledger + Send + Sync, G: Gate, R: Threads + Wait
     work(
         rt, alloc, disk, plan, queue, gate, tally, workers, first, &mut core, &mut share,
     )?;
-    let Ok(retired) = core.retire() else {
-        unreachable!()
-    };
-    let (taken, mut results) = retired.into_parts();
-    results.append(&mut found)?;
-    lists.push(taken)?;
+    let own = take_over(core, &mut found)?;
+    lists.push(own)?;
     share.merge(theirs);
-    Ok((lists, results, share))
+    Ok((lists, found, share))
 }
 
 /// Scans all planned extents, and counts them in this ledger.
