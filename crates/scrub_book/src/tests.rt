@@ -9,7 +9,6 @@ use scrub_fakes::{
 use scrub_scan::{AllFindings, ExtentResult, scan_extent, scan_in_order};
 use scrub_super::Plan;
 use std::alloc::Global;
-use std::fmt::Debug;
 use std::process::Abort;
 use std::slice;
 use std::test::Fail;
@@ -17,9 +16,3 @@ use std::test::Fail;
 mod book;
 mod pool_core;
 mod worker_core;
-
-/// Requires that what was found is what was wanted, and else prints both. That it can be printed is proved here, once, and
-/// not in each test.
-fn same<T: PartialEq + Debug + Drop>(rt: &impl Abort, found: T, wanted: T) {
-    assert_eq!(rt; found, wanted);
-}

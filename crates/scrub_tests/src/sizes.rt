@@ -1,11 +1,13 @@
 //! Sizes that no example has. No clause refuses a body that answers want of memory where a list is long, so each call
 //! that makes a list is called with a long one here. No clock is read.
 
-ghost use Rattle.std.specs.Prelude.{◌<◌, All, IsTrue};
+ghost use Rattle.std.specs.Prelude.{◌≡◌, ◌<◌, All, Contains, IsTrue, OnOk};
+ghost use Rattle.scrub_disk.specs.Memory.{image_of};
 
 use crate::compare::same;
 use crate::disks::{payload_of, put_abc_and_its_run};
 use crate::told::{scrubbed, told_of};
+use scrub_book::Book;
 use scrub_check::{
     Checked, Owner, SharedPlace, Status, broken_shards, dangling, hidden, named_locators, shared,
     twins,
@@ -16,8 +18,10 @@ use scrub_fakes::{
 };
 use scrub_merge::merge;
 use scrub_run::{Entry, ShardId, read_run};
-use scrub_scan::{scan_in_order, tile};
+use scrub_scan::{AllFindings, scan_extent, scan_in_order, tile};
+use scrub_super::Plan;
 use std::alloc::Global;
+use std::process::Abort;
 use std::slice;
 use std::test::Fail;
 
@@ -206,5 +210,69 @@ fn as_many_runs_are_read_as_a_superblock_names(rt: HostRuntime) -> Result<(), Fa
     let answer = scrubbed(&rt, rt.alloc(), &disk)?;
     let report = str::from_utf8(answer.report())?;
     assert!(rt; report.contains(r#""shared":[{"count":32,"extent":2,"offset":0}]"#));
+    Ok(())
+}
+
+/// Scans a planned extent that is missing in a book, and adds its result.
+fn add_scanned<'d>(
+    alloc: Global,
+    disk: &'d MemDisk,
+    plan: &Plan,
+    book: &mut Book<'d, MemDisk>,
+    extent: u32,
+) -> Result<(), Fail>
+    requires geometry { plan.now.geometry ≡ (image_of disk.now).geometry }
+    requires planned { Contains plan.now.planned extent }
+    requires image { image_of book.old.source ≡ image_of disk.now }
+    requires pointers { book.old.plan.pointers ≡ plan.now.pointers }
+    ensures image { OnOk result (image_of book.new.source ≡ image_of book.old.source) }
+    ensures pointers { OnOk result (book.new.plan.pointers ≡ book.old.plan.pointers) }
+{
+    let found = scan_extent(alloc, disk, plan, extent)?;
+    Ok(book.add(found).ok().ok_or("a result that was missing")?)
+}
+
+/// Scans all planned extents, from the last to the first, and adds each result.
+fn fill_from_last<'d>(
+    alloc: Global,
+    disk: &'d MemDisk,
+    plan: &Plan,
+    book: &mut Book<'d, MemDisk>,
+) -> Result<(), Fail>
+    requires geometry { plan.now.geometry ≡ (image_of disk.now).geometry }
+    requires image { image_of book.old.source ≡ image_of disk.now }
+    requires pointers { book.old.plan.pointers ≡ plan.now.pointers }
+{
+    let planned = plan.planned();
+    for i in (0..planned.len()).rev() {
+        add_scanned(alloc, disk, plan, book, planned[i])?;
+    }
+    Ok(())
+}
+
+/// Compares the extents of findings.
+fn check_extents(
+    rt: &impl Abort,
+    found: &AllFindings<'_, MemDisk>,
+    wanted: &AllFindings<'_, MemDisk>,
+) {
+    assert!(rt; found.len() == wanted.len());
+    for i in 0..found.len() {
+        assert!(rt;
+            found.extent_at(i) == wanted.extent_at(i),
+            "the extents rise"
+        );
+    }
+}
+
+#[test]
+fn a_book_of_65535_extents_filled_from_the_last(rt: HostRuntime) -> Result<(), Fail> {
+    let disk = MemDisk::blank(rt.alloc(), Geometry::new(64, 1, 65_536)?)?;
+    let plan = plan_of(rt.alloc(), &disk)?;
+    let mut book = Book::new(rt.alloc(), &disk, &plan)?;
+    fill_from_last(rt.alloc(), &disk, &plan, &mut book)?;
+    let all = book.finish().ok().ok_or("the findings of all extents")?;
+    assert!(&rt; all.len() == 65_535);
+    check_extents(&rt, &all, &scan_in_order(rt.alloc(), &disk, &plan)?);
     Ok(())
 }

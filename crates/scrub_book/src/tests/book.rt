@@ -1,12 +1,12 @@
 //! What comes of adding results to a book.
 
-ghost use Rattle.std.specs.Prelude.{◌≡◌, Contains, OnOk};
+ghost use Rattle.std.specs.Prelude.{◌≡◌, OnOk, IfOk};
 ghost use Rattle.scrub_disk.specs.Memory.{image_of};
 
 use super::*;
 
 /// What came of adding a result: a refusal has the extent of the result that came back.
-#[derive(Clone, Copy, PartialEq, Debug)]
+#[derive(PartialEq, Drop)]
 enum Outcome {
     Added,
     Stranger(u32),
@@ -22,33 +22,6 @@ fn outcome_of(answer: Result<(), AddRefused<'_, MemDisk>>) -> Outcome {
     }
 }
 
-/// Scans an extent and adds its result.
-fn add_scanned<'d>(
-    alloc: Global,
-    disk: &'d MemDisk,
-    plan: &Plan,
-    book: &mut Book<'d, MemDisk>,
-    extent: u32,
-) -> Result<Outcome, Fail>
-    requires geometry { plan.now.geometry ≡ (image_of disk.now).geometry }
-    requires planned { Contains plan.now.planned extent }
-    requires image { image_of book.old.source ≡ image_of disk.now }
-    requires pointers { book.old.plan.pointers ≡ plan.now.pointers }
-    ensures image { OnOk result (image_of book.new.source ≡ image_of book.old.source) }
-    ensures pointers { OnOk result (book.new.plan.pointers ≡ book.old.plan.pointers) }
-{
-    let found = scan_extent(alloc, disk, plan, extent)?;
-    Ok(outcome_of(book.add(found)))
-}
-
-/// Compares the extents of findings.
-fn check_extents<D: PageSource>(rt: &impl Abort, all: &AllFindings<'_, D>, wanted: &[u32]) {
-    assert!(rt; all.len() == wanted.len());
-    for i in 0..all.len() {
-        same(rt, all.extent_at(i), wanted[i]);
-    }
-}
-
 /// Scans a planned extent, adds its result, and compares what came of that.
 fn check_added<'d>(
     rt: &impl Abort,
@@ -57,7 +30,7 @@ fn check_added<'d>(
     plan: &Plan,
     book: &mut Book<'d, MemDisk>,
     extent: u32,
-    wanted: Outcome,
+    wanted: &Outcome,
 ) -> Result<(), Fail>
     requires geometry { plan.now.geometry ≡ (image_of disk.now).geometry }
     requires image { image_of book.old.source ≡ image_of disk.now }
@@ -66,28 +39,69 @@ fn check_added<'d>(
     ensures pointers { OnOk result (book.new.plan.pointers ≡ book.old.plan.pointers) }
 {
     assert!(rt; plan.planned().contains(&extent));
-    let outcome = add_scanned(alloc, disk, plan, book, extent)?;
-    same(rt, outcome, wanted);
+    let found = scan_extent(alloc, disk, plan, extent)?;
+    let outcome = outcome_of(book.add(found));
+    assert!(rt; outcome == *wanted, "what comes of adding a result");
     Ok(())
 }
 
-/// Adds the result of extent 1, the last one missing of 1 and 3, and compares what it all comes to.
-fn check_completed<'d>(
+/// Adds the results of extents 3, 3 and 2 to a book of extents 1 and 3.
+fn check_refusals<'d>(
     rt: &impl Abort,
     alloc: Global,
     disk: &'d MemDisk,
+    whole: &Plan,
     plan: &Plan,
-    mut book: Book<'d, MemDisk>,
+    book: &mut Book<'d, MemDisk>,
 ) -> Result<(), Fail>
+    requires whole { whole.now.geometry ≡ (image_of disk.now).geometry }
     requires geometry { plan.now.geometry ≡ (image_of disk.now).geometry }
-    requires image { image_of book.source ≡ image_of disk.now }
-    requires pointers { book.plan.pointers ≡ plan.now.pointers }
+    requires image { image_of book.old.source ≡ image_of disk.now }
+    requires pointers { book.old.plan.pointers ≡ plan.now.pointers }
+    requires same { whole.now.pointers ≡ plan.now.pointers }
+    ensures image { OnOk result (image_of book.new.source ≡ image_of book.old.source) }
+    ensures pointers { OnOk result (book.new.plan.pointers ≡ book.old.plan.pointers) }
 {
-    same(rt, book.missing(), Some(1));
-    check_added(rt, alloc, disk, plan, &mut book, 1, Outcome::Added)?;
-    same(rt, book.missing(), None);
+    check_added(rt, alloc, disk, plan, book, 3, &Outcome::Added)?;
+    check_added(rt, alloc, disk, plan, book, 3, &Outcome::Double(3))?;
+    check_added(rt, alloc, disk, whole, book, 2, &Outcome::Stranger(2))
+}
+
+/// Compares the extents of findings with 1 and 3.
+fn check_extents(rt: &impl Abort, all: &AllFindings<'_, MemDisk>) {
+    assert!(rt; all.len() == 2);
+    assert!(rt; all.extent_at(0) == 1 && all.extent_at(1) == 3);
+}
+
+/// Asks a book of extents 1 and 3, in which extent 1 is missing, for what it found: it comes back.
+fn came_back<'d>(rt: &impl Abort, book: Book<'d, MemDisk>) -> Result<Book<'d, MemDisk>, Fail>
+    ensures { IfOk result (λ back. back ≡ book.entry) }
+{
+    assert!(rt; book.missing() == Some(1));
+    let back = book.finish().err().ok_or("extent 1 is missing")?;
+    assert!(rt; back.missing() == Some(1));
+    Ok(back)
+}
+
+/// What comes of the results of these extents, of which the plan has 1 and 3.
+fn check_1_and_3(
+    rt: &impl Abort,
+    alloc: Global,
+    disk: &MemDisk,
+    whole: &Plan,
+    plan: &Plan,
+) -> Result<(), Fail>
+    requires whole { whole.now.geometry ≡ (image_of disk.now).geometry }
+    requires geometry { plan.now.geometry ≡ (image_of disk.now).geometry }
+    requires same { whole.now.pointers ≡ plan.now.pointers }
+{
+    let mut book = Book::new(alloc, disk, plan)?;
+    check_refusals(rt, alloc, disk, whole, plan, &mut book)?;
+    let mut book = came_back(rt, book)?;
+    check_added(rt, alloc, disk, plan, &mut book, 1, &Outcome::Added)?;
+    assert!(rt; book.missing().is_none());
     let all = book.finish().ok().ok_or("the findings of both extents")?;
-    check_extents(rt, &all, &[1, 3]);
+    check_extents(rt, &all);
     Ok(())
 }
 
@@ -96,65 +110,5 @@ fn results_of_extents_1_and_3(rt: HostRuntime) -> Result<(), Fail> {
     let disk = MemDisk::blank(rt.alloc(), Geometry::new(64, 4, 4)?)?;
     let whole = plan_of(rt.alloc(), &disk)?;
     let plan = whole.restrict(rt.alloc(), &[1, 3])?;
-    let mut book = Book::new(rt.alloc(), &disk, &plan)?;
-    check_added(&rt, rt.alloc(), &disk, &plan, &mut book, 3, Outcome::Added)?;
-    check_added(
-        &rt,
-        rt.alloc(),
-        &disk,
-        &plan,
-        &mut book,
-        3,
-        Outcome::Double(3),
-    )?;
-    check_added(
-        &rt,
-        rt.alloc(),
-        &disk,
-        &whole,
-        &mut book,
-        2,
-        Outcome::Stranger(2),
-    )?;
-    same(&rt, book.missing(), Some(1));
-    match book.finish() {
-        Ok(_) => panic!(&rt; "extent 1 is missing"),
-        Err(back) => check_completed(&rt, rt.alloc(), &disk, &plan, back),
-    }
-}
-
-/// Scans all planned extents, from the last to the first, and adds each result.
-fn fill_from_last<'d>(
-    rt: &impl Abort,
-    alloc: Global,
-    disk: &'d MemDisk,
-    plan: &Plan,
-    book: &mut Book<'d, MemDisk>,
-) -> Result<(), Fail>
-    requires geometry { plan.now.geometry ≡ (image_of disk.now).geometry }
-    requires image { image_of book.old.source ≡ image_of disk.now }
-    requires pointers { book.old.plan.pointers ≡ plan.now.pointers }
-{
-    let planned = plan.planned();
-    for i in (0..planned.len()).rev() {
-        let outcome = add_scanned(alloc, disk, plan, book, planned[i])?;
-        same(rt, outcome, Outcome::Added);
-    }
-    Ok(())
-}
-
-#[test]
-fn a_book_of_65535_extents_filled_from_the_last(rt: HostRuntime) -> Result<(), Fail> {
-    let disk = MemDisk::blank(rt.alloc(), Geometry::new(64, 1, 65_536)?)?;
-    let plan = plan_of(rt.alloc(), &disk)?;
-    let mut book = Book::new(rt.alloc(), &disk, &plan)?;
-    fill_from_last(&rt, rt.alloc(), &disk, &plan, &mut book)?;
-    let all = book.finish().ok().ok_or("the findings of all extents")?;
-    let wanted = scan_in_order(rt.alloc(), &disk, &plan)?;
-    same(&rt, all.len(), 65_535);
-    assert!(&rt; all.len() == wanted.len());
-    for i in 0..all.len() {
-        same(&rt, all.extent_at(i), wanted.extent_at(i));
-    }
-    Ok(())
+    check_1_and_3(&rt, rt.alloc(), &disk, &whole, &plan)
 }

@@ -20,8 +20,23 @@ fn check_steps(
     steps: &[(Event, Option<StepRefused>)],
 ) {
     for (event, wanted) in steps {
-        same(rt, pool.step(*event).err(), *wanted);
+        assert_eq!(rt; pool.step(*event).err(), *wanted);
     }
+}
+
+/// Compares two results of one extent.
+fn check_result(
+    rt: &impl Abort,
+    found: &ExtentResult<'_, MemDisk>,
+    wanted: &ExtentResult<'_, MemDisk>,
+) {
+    assert!(rt; found.extent() == wanted.extent() && found.pointer() == wanted.pointer());
+    let (one, other) = (found.findings(), wanted.findings());
+    assert!(rt; one.items() == other.items(), "what one reader finds");
+    assert!(rt;
+        one.bad_pages() == other.bad_pages(),
+        "what one reader can't read"
+    );
 }
 
 /// Compares findings, extent by extent.
@@ -32,25 +47,23 @@ fn check_found(
 ) {
     assert!(rt; found.len() == wanted.len());
     for i in 0..found.len() {
-        let one = found.result_at(i);
-        let other = wanted.result_at(i);
-        same(
-            rt,
-            (one.extent(), one.pointer()),
-            (other.extent(), other.pointer()),
-        );
-        same(rt, one.findings().items(), other.findings().items());
-        same(rt, one.findings().bad_pages(), other.findings().bad_pages());
+        check_result(rt, found.result_at(i), wanted.result_at(i));
     }
 }
 
-/// Finishes a complete pool, and compares what it assembles with what one reader finds.
-fn check_finished(
+/// Finishes a pool that is complete and has these arrivals, and compares what it assembles with what one reader finds.
+fn check_complete(
     rt: &impl Abort,
     alloc: Global,
     disk: &MemDisk,
     pool: PoolCore<'_, MemDisk>,
+    arrivals: &[u32],
 ) -> Result<(), Fail> {
+    assert!(rt; pool.is_complete());
+    assert!(rt;
+        pool.arrivals() == arrivals,
+        "the results arrive in this order"
+    );
     let plan = plan_of(alloc, disk)?;
     let found = pool.finish().ok().ok_or("what a complete pool assembles")?;
     let wanted = scan_in_order(alloc, disk, &plan)?;
@@ -63,36 +76,38 @@ fn came_back<'d>(
     rt: &impl Abort,
     pool: PoolCore<'d, MemDisk>,
 ) -> Result<PoolCore<'d, MemDisk>, Fail> {
-    same(rt, pool.is_complete(), false);
+    assert!(rt; !pool.is_complete());
     Ok(pool.finish().err().ok_or("a pool that isn't complete")?)
 }
+
+/// What comes of the steps of two members until the second has retired.
+const BEFORE: [(Event, Option<StepRefused>); 9] = [
+    (Event::Take(0), None),
+    (Event::Take(0), Some(StepRefused::Busy)),
+    (Event::Done(1), Some(StepRefused::Idle)),
+    (Event::Take(1), None),
+    (Event::Take(5), Some(StepRefused::NoWorker)),
+    (Event::Done(1), None),
+    (Event::Done(0), None),
+    (Event::Take(0), Some(StepRefused::QueueEmpty)),
+    (Event::Retire(1), None),
+];
+
+/// What is left to be done, and one step more.
+const AFTER: [(Event, Option<StepRefused>); 2] = [
+    (Event::Retire(0), None),
+    (Event::Retire(0), Some(StepRefused::Retired)),
+];
 
 #[test]
 fn the_steps_of_two_members(rt: HostRuntime) -> Result<(), Fail> {
     let disk = one_shard(rt.alloc())?;
     let plan = plan_of(rt.alloc(), &disk)?;
     let mut pool = PoolCore::new(rt.alloc(), &disk, &plan, 2)?;
-    let before = [
-        (Event::Take(0), None),
-        (Event::Take(0), Some(StepRefused::Busy)),
-        (Event::Done(1), Some(StepRefused::Idle)),
-        (Event::Take(1), None),
-        (Event::Take(5), Some(StepRefused::NoWorker)),
-        (Event::Done(1), None),
-        (Event::Done(0), None),
-        (Event::Take(0), Some(StepRefused::QueueEmpty)),
-        (Event::Retire(1), None),
-    ];
-    check_steps(&rt, &mut pool, &before);
+    check_steps(&rt, &mut pool, &BEFORE);
     let mut pool = came_back(&rt, pool)?;
-    let after = [
-        (Event::Retire(0), None),
-        (Event::Retire(0), Some(StepRefused::Retired)),
-    ];
-    check_steps(&rt, &mut pool, &after);
-    same(&rt, pool.is_complete(), true);
-    same(&rt, pool.arrivals(), &[2, 1]);
-    check_finished(&rt, rt.alloc(), &disk, pool)
+    check_steps(&rt, &mut pool, &AFTER);
+    check_complete(&rt, rt.alloc(), &disk, pool, &[2, 1])
 }
 
 #[test]
@@ -106,7 +121,7 @@ fn a_pool_of_no_workers(rt: HostRuntime) -> Result<(), Fail> {
         &[(Event::Take(0), Some(StepRefused::NoWorker))],
     );
     let pool = came_back(&rt, pool)?;
-    same(&rt, pool.arrivals(), &[]);
+    assert!(&rt; pool.arrivals().is_empty());
     Ok(())
 }
 
@@ -154,10 +169,12 @@ fn check_schedule(
     let plan = plan_of(alloc, disk)?;
     let mut pool = PoolCore::new(alloc, disk, &plan, 3)?;
     for event in events {
-        same(rt, pool.step(*event), Ok(()));
+        assert!(rt;
+            pool.step(*event).is_ok(),
+            "no step of the schedule is refused"
+        );
     }
-    same(rt, pool.arrivals(), arrivals);
-    check_finished(rt, alloc, disk, pool)
+    check_complete(rt, alloc, disk, pool, arrivals)
 }
 
 #[test]

@@ -22,9 +22,9 @@ fn take_and_scan<'d>(
     assert!(rt; plan.planned().contains(&extent));
     core.reserve(1)?;
     core.took(extent);
-    same(rt, core.held(), Some(extent));
+    assert!(rt; core.held() == Some(extent));
     core.done(scan_extent(alloc, disk, plan, extent)?);
-    same(rt, core.held(), None);
+    assert!(rt; core.held().is_none());
     Ok(())
 }
 
@@ -34,11 +34,25 @@ fn check_results(
     results: &[ExtentResult<'_, MemDisk>],
     wanted: &[(u32, u32, usize)],
 ) {
-    same(rt, results.len(), wanted.len());
-    for (found, expected) in results.iter().zip(wanted) {
-        let items = found.findings().items().len();
-        same(rt, (found.extent(), found.pointer(), items), *expected);
+    assert!(rt; results.len() == wanted.len());
+    for (found, (extent, pointer, items)) in results.iter().zip(wanted) {
+        assert!(rt; found.extent() == *extent && found.pointer() == *pointer);
+        assert!(rt; found.findings().items().len() == *items, "as many items");
     }
+}
+
+/// Compares what a retired worker took and found.
+fn check_retired(
+    rt: &impl Abort,
+    retired: &Retired<'_, MemDisk>,
+    taken: &[u32],
+    results: &[(u32, u32, usize)],
+) {
+    assert!(rt;
+        retired.taken() == taken,
+        "the taken extents, in their order"
+    );
+    check_results(rt, retired.results(), results);
 }
 
 /// A worker that holds extent 1, as it came back when it was asked to retire.
@@ -60,7 +74,7 @@ fn retired_at_last<'d>(
     let plan = plan_of(alloc, disk)?;
     assert!(rt; plan.planned().contains(&1));
     let mut core = came_back(alloc)?;
-    same(rt, core.held(), Some(1));
+    assert!(rt; core.held() == Some(1));
     core.done(scan_extent(alloc, disk, &plan, 1)?);
     Ok(core.retire().ok().ok_or("a worker that holds none")?)
 }
@@ -69,8 +83,7 @@ fn retired_at_last<'d>(
 fn a_worker_that_holds_an_extent_comes_back(rt: HostRuntime) -> Result<(), Fail> {
     let disk = small_disk(rt.alloc())?;
     let retired = retired_at_last(&rt, rt.alloc(), &disk)?;
-    same(&rt, retired.taken(), &[1]);
-    check_results(&rt, retired.results(), &[(1, 256, 4)]);
+    check_retired(&rt, &retired, &[1], &[(1, 256, 4)]);
     check_results(&rt, &retired.into_results(), &[(1, 256, 4)]);
     Ok(())
 }
@@ -78,10 +91,10 @@ fn a_worker_that_holds_an_extent_comes_back(rt: HostRuntime) -> Result<(), Fail>
 #[test]
 fn a_worker_that_took_nothing_retires(rt: HostRuntime) -> Result<(), Fail> {
     let core: WorkerCore<'_, MemDisk> = WorkerCore::new(rt.alloc());
-    same(&rt, core.held(), None);
+    assert!(&rt; core.held().is_none());
     let retired = core.retire().ok().ok_or("a worker that took nothing")?;
-    same(&rt, retired.taken(), &[]);
-    check_results(&rt, &retired.into_results(), &[]);
+    check_retired(&rt, &retired, &[], &[]);
+    assert!(&rt; retired.into_results().is_empty());
     Ok(())
 }
 
@@ -107,10 +120,12 @@ fn results_come_in_the_order_in_which_extents_were_taken(rt: HostRuntime) -> Res
     put_superblock(rt.alloc(), &mut disk, &[64, 128, 192], &[])?;
     let retired = retired_after(&rt, rt.alloc(), &disk, [3, 1, 2])?;
     let wanted = [(3, 192, 3), (1, 64, 1), (2, 128, 2)];
-    same(&rt, retired.taken(), &[3, 1, 2]);
-    check_results(&rt, retired.results(), &wanted);
+    check_retired(&rt, &retired, &[3, 1, 2], &wanted);
     let (taken, results) = retired.into_parts();
-    same(&rt, taken.as_slice(), &[3, 1, 2]);
+    assert!(&rt;
+        taken.as_slice() == [3, 1, 2].as_slice(),
+        "the taken extents that are handed out"
+    );
     check_results(&rt, &results, &wanted);
     Ok(())
 }
