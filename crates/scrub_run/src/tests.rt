@@ -6,7 +6,6 @@ ghost use Rattle.std.specs.Prelude.{◌≡◌, ◌≢◌, IfOk, Err};
 use crate::*;
 use scrub_frame::{Locator, digest_of, read_locator};
 use std::alloc::Global;
-use std::fmt::Debug;
 use std::process::Abort;
 use std::slice;
 use std::test::Fail;
@@ -38,12 +37,6 @@ const ABC_LOCATOR: [u8; 60] = [
     0x96, 0x17, 0x7a, 0x9c, 0xb4, 0x10, 0xff, 0x61, 0xf2, 0x00, 0x15, 0xad,
 ];
 
-/// Requires that what was found is what was wanted, and else prints both. That it can be printed is proved here, once, and
-/// not in each test.
-fn same<T: PartialEq + Debug + Drop>(rt: &impl Abort, found: T, wanted: T) {
-    assert_eq!(rt; found, wanted);
-}
-
 /// That locator.
 fn abc() -> Locator {
     read_locator(&ABC_LOCATOR)
@@ -51,145 +44,111 @@ fn abc() -> Locator {
 
 /// The identifier of fifteen zero bytes and this one.
 fn shard(last: u8) -> ShardId {
-    let mut bytes = [0; 16];
-    bytes[15] = last;
-    ShardId(bytes)
+    ShardId([0, 0, 0, 0, 0, 0, 0, 0, 0, 0, 0, 0, 0, 0, 0, last])
 }
 
-/// The bytes, with their digest behind them.
-fn body(mut bytes: Vec<u8>) -> Result<Vec<u8>, OutOfMemory> {
+/// The locator of `abc` as a part of a payload.
+const ABC: &[u8] = &ABC_LOCATOR;
+
+/// The head of a run of one entry: the magic, and the number of entries that are claimed.
+const ONE_ENTRY: &[u8] = b"RUN1\0\0\0\x01";
+
+/// The head of a run of two entries.
+const TWO_ENTRIES: &[u8] = b"RUN1\0\0\0\x02";
+
+/// The head of a run of three entries.
+const THREE_ENTRIES: &[u8] = b"RUN1\0\0\0\x03";
+
+/// The head of an entry: the identifier of sixteen zero bytes, and the number of locators that are claimed, 1.
+const ZEROTH_OF_ONE: &[u8] = b"\0\0\0\0\0\0\0\0\0\0\0\0\0\0\0\x00\x01";
+
+/// The heads of entries of the identifier of fifteen zero bytes and 01.
+const FIRST_OF_NONE: &[u8] = b"\0\0\0\0\0\0\0\0\0\0\0\0\0\0\0\x01\x00";
+
+const FIRST_OF_ONE: &[u8] = b"\0\0\0\0\0\0\0\0\0\0\0\0\0\0\0\x01\x01";
+
+const FIRST_OF_TWO: &[u8] = b"\0\0\0\0\0\0\0\0\0\0\0\0\0\0\0\x01\x02";
+
+/// The heads of entries of the identifier of fifteen zero bytes and 02.
+const SECOND_OF_NONE: &[u8] = b"\0\0\0\0\0\0\0\0\0\0\0\0\0\0\0\x02\x00";
+
+const SECOND_OF_ONE: &[u8] = b"\0\0\0\0\0\0\0\0\0\0\0\0\0\0\0\x02\x01";
+
+const SECOND_OF_TWO: &[u8] = b"\0\0\0\0\0\0\0\0\0\0\0\0\0\0\0\x02\x02";
+
+/// The heads of runs of one entry, each with the head of an entry of 64 locators or of 65 behind it.
+const ONE_OF_64: &[u8] = b"RUN1\0\0\0\x01\0\0\0\0\0\0\0\0\0\0\0\0\0\0\0\x01\x40";
+
+const ONE_OF_65: &[u8] = b"RUN1\0\0\0\x01\0\0\0\0\0\0\0\0\0\0\0\0\0\0\0\x01\x41";
+
+/// Three entries of shards that were deleted. Their identifiers rise and differ behind their first fourteen bytes alone;
+/// the last byte falls where the one before it rises.
+const LOW: &[u8] = b"\x7F\x7F\x7F\x7F\x7F\x7F\x7F\x7F\x7F\x7F\x7F\x7F\x7F\x7F\x00\x02\x00";
+
+const MIDDLE: &[u8] = b"\x7F\x7F\x7F\x7F\x7F\x7F\x7F\x7F\x7F\x7F\x7F\x7F\x7F\x7F\x01\x01\x00";
+
+const HIGH: &[u8] = b"\x7F\x7F\x7F\x7F\x7F\x7F\x7F\x7F\x7F\x7F\x7F\x7F\x7F\x7F\x01\x02\x00";
+
+/// The payload of a run's head and the parts behind it, with its digest.
+fn payload(alloc: Global, head: &[u8], parts: &[&[u8]]) -> Result<Vec<u8>, OutOfMemory> {
+    let mut bytes = Vec::from_slice(alloc, head)?;
+    for part in parts {
+        bytes.extend_from_slice(part)?;
+    }
     let digest = digest_of(&bytes);
     bytes.extend_from_slice(&digest)?;
     Ok(bytes)
 }
 
-/// The identifier of fourteen bytes 7F and these two.
-fn behind_equal_bytes(last: [u8; 2]) -> ShardId {
-    let mut bytes = [0x7F; 16];
-    bytes[14] = last[0];
-    bytes[15] = last[1];
-    ShardId(bytes)
+/// Whether a payload is a run.
+fn is_run(alloc: Global, payload: &[u8]) -> bool {
+    read_run(alloc, payload).is_ok()
 }
 
-/// An entry as a test writes it: its identifier, the number of locators that it claims, and the number of locators that
-/// follow, each the one of `abc`.
-#[derive(Clone, Copy)]
-struct Written {
-    id: ShardId,
-    claimed: u8,
-    present: usize,
-}
-
-/// An entry that has as many locators as it claims.
-fn sound(last: u8, locators: u8) -> Written {
-    Written {
-        id: shard(last),
-        claimed: locators,
-        present: locators as usize,
-    }
-}
-
-/// The payload that claims so many entries and has these, with its digest.
-fn payload(alloc: Global, claimed: u32, entries: &[Written]) -> Result<Vec<u8>, OutOfMemory> {
-    let mut bytes = Vec::from_slice(alloc, b"RUN1")?;
-    bytes.extend_from_slice(&claimed.to_be_bytes())?;
-    for entry in entries {
-        append(&mut bytes, entry)?;
-    }
-    body(bytes)
-}
-
-fn append(bytes: &mut Vec<u8>, entry: &Written) -> Result<(), OutOfMemory> {
-    bytes.extend_from_slice(&entry.id.0)?;
-    bytes.push(entry.claimed)?;
-    for _ in 0..entry.present {
-        bytes.extend_from_slice(&ABC_LOCATOR)?;
-    }
-    Ok(())
-}
-
-/// A payload of more than 32 bytes with one byte changed and its digest made anew.
-fn changed(alloc: Global, payload: &[u8], place: usize, byte: u8) -> Result<Vec<u8>, OutOfMemory> {
-    let Some((front, _)) = payload.split_last_chunk::<32>() else {
-        return Vec::from_slice(alloc, payload);
-    };
-    let mut bytes = Vec::from_slice(alloc, front)?;
-    if place < bytes.len() {
-        bytes[place] = byte;
-    }
-    body(bytes)
-}
-
-/// Requires that the payload is a run, or that it is none.
-fn check_payload(rt: &impl Abort, alloc: Global, payload: &[u8], is_run: bool) {
-    let wanted = if is_run {
-        None
-    } else {
-        Some(RunFault::NotARun)
-    };
-    same(rt, read_run(alloc, payload).err(), wanted);
-}
-
-/// Requires that the payload that claims so many entries and has these is a run, or that it is none.
-fn check_entries_taken(
-    rt: &impl Abort,
-    alloc: Global,
-    claimed: u32,
-    entries: &[Written],
-    is_run: bool,
-) -> Result<(), OutOfMemory> {
-    let bytes = payload(alloc, claimed, entries)?;
-    check_payload(rt, alloc, &bytes, is_run);
-    Ok(())
+/// Whether a payload is refused, and not for want of memory.
+fn is_none(alloc: Global, payload: &[u8]) -> bool {
+    matches!(read_run(alloc, payload), Err(RunFault::NotARun))
 }
 
 /// Compares entries with their identifiers and locators.
 fn check_entries(rt: &impl Abort, entries: &[Entry], wanted: &[(ShardId, &[Locator])]) {
     assert!(rt; entries.len() == wanted.len());
     for (entry, (id, locators)) in entries.iter().zip(wanted) {
-        same(rt, entry.id(), *id);
-        same(rt, entry.locators(), *locators);
+        assert!(rt; entry.id() == *id);
+        assert!(rt; entry.locators() == *locators);
     }
 }
 
-/// Compares the entries of the run that a payload is.
-fn check_read(
-    rt: &impl Abort,
-    alloc: Global,
-    payload: &[u8],
-    wanted: &[(ShardId, &[Locator])],
-) -> Result<(), Fail> {
-    let run = read_run(alloc, payload)?;
-    check_entries(rt, run.entries(), wanted);
-    Ok(())
-}
-
 #[test]
-fn the_run_of_one_shard_is_written(rt: HostRuntime) -> Result<(), Fail> {
-    let locators = Vec::from_slice(rt.alloc(), &[abc()])?;
-    let entry = Entry::new(shard(1), locators);
+fn the_run_of_one_shard_is_written_and_read(rt: HostRuntime) -> Result<(), Fail> {
+    let locators = [abc()];
+    let entry = Entry::new(shard(1), Vec::from_slice(rt.alloc(), &locators)?);
     let bytes = write_run(rt.alloc(), slice::from_ref(&entry))?;
-    same(&rt, bytes.as_slice(), ONE_SHARD.as_slice());
+    assert!(rt; bytes.as_slice() == ONE_SHARD.as_slice());
+    let run = read_run(rt.alloc(), &ONE_SHARD)?;
+    check_entries(&rt, run.entries(), &[(shard(1), &locators)]);
     Ok(())
 }
 
+/// No list of as many entries as the last head claims could be held: the count alone makes no list grow.
 #[test]
-fn the_run_of_one_shard_is_read(rt: HostRuntime) -> Result<(), Fail> {
-    check_read(&rt, rt.alloc(), &ONE_SHARD, &[(shard(1), &[abc()])])
-}
-
-#[test]
-fn a_run_of_no_entries_has_40_bytes(rt: HostRuntime) -> Result<(), Fail> {
+fn forty_bytes_are_a_run_of_no_entries(rt: HostRuntime) -> Result<(), Fail> {
     let bytes = write_run(rt.alloc(), &[])?;
-    same(&rt, bytes.as_slice(), NO_ENTRIES.as_slice());
-    check_read(&rt, rt.alloc(), &NO_ENTRIES, &[])
+    assert!(rt; bytes.as_slice() == NO_ENTRIES.as_slice());
+    assert!(rt; read_run(rt.alloc(), &bytes)?.entries().is_empty());
+    let greatest = payload(rt.alloc(), b"RUN1\xFF\xFF\xFF\xFF", &[])?;
+    assert!(rt; greatest.len() == 40);
+    assert!(rt; is_none(rt.alloc(), &greatest), "the greatest count");
+    Ok(())
 }
 
 #[test]
 fn a_deleted_shard_has_no_locators(rt: HostRuntime) -> Result<(), Fail> {
-    let bytes = payload(rt.alloc(), 1, &[sound(1, 0)])?;
+    let bytes = payload(rt.alloc(), ONE_ENTRY, &[FIRST_OF_NONE])?;
     assert!(rt; bytes.len() == 57);
-    check_read(&rt, rt.alloc(), &bytes, &[(shard(1), &[])])
+    let run = read_run(rt.alloc(), &bytes)?;
+    check_entries(&rt, run.entries(), &[(shard(1), &[])]);
+    Ok(())
 }
 
 #[test]
@@ -216,182 +175,138 @@ fn identifiers_are_ordered_as_bytes(rt: HostRuntime) {
     assert!(rt; shard(0xFF) < ShardId(first));
 }
 
-/// The entry of a shard that was deleted. Its identifier is told apart by these last two bytes.
-fn deleted_behind_equal_bytes(last: [u8; 2]) -> Written {
-    Written {
-        id: behind_equal_bytes(last),
-        claimed: 0,
-        present: 0,
-    }
-}
-
-/// Three entries whose identifiers rise and differ behind their first fourteen bytes alone. The last byte falls where the
-/// one before it rises.
-fn alike() -> (Written, Written, Written) {
-    (
-        deleted_behind_equal_bytes([0, 2]),
-        deleted_behind_equal_bytes([1, 1]),
-        deleted_behind_equal_bytes([1, 2]),
-    )
+/// The identifier of fourteen bytes 7F and these two.
+fn alike(last: [u8; 2]) -> ShardId {
+    let mut bytes = [0x7F; 16];
+    bytes[14] = last[0];
+    bytes[15] = last[1];
+    ShardId(bytes)
 }
 
 #[test]
 fn identifiers_that_begin_alike_are_told_apart(rt: HostRuntime) -> Result<(), Fail> {
-    let (low, middle, high) = alike();
-    let bytes = payload(rt.alloc(), 3, &[low, middle, high])?;
-    check_read(
+    let bytes = payload(rt.alloc(), THREE_ENTRIES, &[LOW, MIDDLE, HIGH])?;
+    let run = read_run(rt.alloc(), &bytes)?;
+    let (low, middle, high) = (alike([0, 2]), alike([1, 1]), alike([1, 2]));
+    check_entries(
         &rt,
-        rt.alloc(),
-        &bytes,
-        &[(low.id, &[]), (middle.id, &[]), (high.id, &[])],
-    )
-}
-
-/// The first two entries exchanged, the last two exchanged, and the last one twice.
-#[test]
-fn identifiers_that_begin_alike_have_to_rise(rt: HostRuntime) -> Result<(), Fail> {
-    let (low, middle, high) = alike();
-    check_entries_taken(&rt, rt.alloc(), 3, &[middle, low, high], false)?;
-    check_entries_taken(&rt, rt.alloc(), 3, &[low, high, middle], false)?;
-    check_entries_taken(&rt, rt.alloc(), 3, &[low, high, high], false)?;
+        run.entries(),
+        &[(low, &[]), (middle, &[]), (high, &[])],
+    );
     Ok(())
 }
 
-/// One byte of a payload that is changed: its place, and what it becomes.
-struct Change {
-    what: &'static str,
-    place: usize,
-    byte: u8,
-}
-
-/// What makes of the run of two shards with a locator each no run.
-const CHANGES: [Change; 10] = [
-    Change {
-        what: "another magic",
-        place: 3,
-        byte: b'2',
-    },
-    Change {
-        what: "a count one less",
-        place: 7,
-        byte: 1,
-    },
-    Change {
-        what: "a count one more",
-        place: 7,
-        byte: 3,
-    },
-    Change {
-        what: "a count far too great",
-        place: 4,
-        byte: 0xFF,
-    },
-    Change {
-        what: "two equal identifiers",
-        place: 100,
-        byte: 1,
-    },
-    Change {
-        what: "falling identifiers",
-        place: 100,
-        byte: 0,
-    },
-    Change {
-        what: "a first entry that claims no locator",
-        place: 24,
-        byte: 0,
-    },
-    Change {
-        what: "a first entry that claims two",
-        place: 24,
-        byte: 2,
-    },
-    Change {
-        what: "a last entry that claims no locator",
-        place: 101,
-        byte: 0,
-    },
-    Change {
-        what: "a last entry that claims two",
-        place: 101,
-        byte: 2,
-    },
+/// What makes no run of what would be one else, and the head and the parts behind it.
+const NO_RUNS: [(&str, &[u8], &[&[u8]]); 13] = [
+    (
+        "another magic",
+        b"RUN2\0\0\0\x02",
+        &[FIRST_OF_ONE, ABC, SECOND_OF_ONE, ABC],
+    ),
+    (
+        "a count one less",
+        ONE_ENTRY,
+        &[FIRST_OF_ONE, ABC, SECOND_OF_ONE, ABC],
+    ),
+    (
+        "a count one more",
+        THREE_ENTRIES,
+        &[FIRST_OF_ONE, ABC, SECOND_OF_ONE, ABC],
+    ),
+    (
+        "a count far too great",
+        b"RUN1\xFF\0\0\x02",
+        &[FIRST_OF_ONE, ABC, SECOND_OF_ONE, ABC],
+    ),
+    (
+        "two equal identifiers",
+        TWO_ENTRIES,
+        &[FIRST_OF_ONE, ABC, FIRST_OF_ONE, ABC],
+    ),
+    (
+        "falling identifiers",
+        TWO_ENTRIES,
+        &[FIRST_OF_ONE, ABC, ZEROTH_OF_ONE, ABC],
+    ),
+    (
+        "a first entry that claims no locator",
+        TWO_ENTRIES,
+        &[FIRST_OF_NONE, ABC, SECOND_OF_ONE, ABC],
+    ),
+    (
+        "a first entry that claims two",
+        TWO_ENTRIES,
+        &[FIRST_OF_TWO, ABC, SECOND_OF_ONE, ABC],
+    ),
+    (
+        "a last entry that claims no locator",
+        TWO_ENTRIES,
+        &[FIRST_OF_ONE, ABC, SECOND_OF_NONE, ABC],
+    ),
+    (
+        "a last entry that claims two",
+        TWO_ENTRIES,
+        &[FIRST_OF_ONE, ABC, SECOND_OF_TWO, ABC],
+    ),
+    (
+        "the first two alike exchanged",
+        THREE_ENTRIES,
+        &[MIDDLE, LOW, HIGH],
+    ),
+    (
+        "the last two alike exchanged",
+        THREE_ENTRIES,
+        &[LOW, HIGH, MIDDLE],
+    ),
+    (
+        "the last one alike twice",
+        THREE_ENTRIES,
+        &[LOW, HIGH, HIGH],
+    ),
 ];
 
-/// Requires that this payload is no run, if one byte of it is changed and its digest made anew.
-fn check_changed(
-    rt: &impl Abort,
-    alloc: Global,
-    payload: &[u8],
-    change: &Change,
-) -> Result<(), OutOfMemory> {
-    let broken = changed(alloc, payload, change.place, change.byte)?;
-    let fault = read_run(alloc, &broken).err();
-    assert!(rt; fault == Some(RunFault::NotARun), "{}", change.what);
-    Ok(())
-}
-
 #[test]
-fn a_run_with_one_byte_changed_is_none(rt: HostRuntime) -> Result<(), Fail> {
-    let bytes = payload(rt.alloc(), 2, &[sound(1, 1), sound(2, 1)])?;
-    assert!(rt; bytes.len() == 194);
-    check_payload(&rt, rt.alloc(), &bytes, true);
-    for change in &CHANGES {
-        check_changed(&rt, rt.alloc(), &bytes, change)?;
+fn what_is_no_run(rt: HostRuntime) -> Result<(), Fail> {
+    let sound = payload(
+        rt.alloc(),
+        TWO_ENTRIES,
+        &[FIRST_OF_ONE, ABC, SECOND_OF_ONE, ABC],
+    )?;
+    assert!(rt; sound.len() == 194);
+    assert!(rt; is_run(rt.alloc(), &sound));
+    for (what, head, parts) in &NO_RUNS {
+        let bytes = payload(rt.alloc(), head, parts)?;
+        assert!(rt; is_none(rt.alloc(), &bytes), "{what}");
     }
-    let unchanged = changed(rt.alloc(), &bytes, 3, b'1')?;
-    check_payload(&rt, rt.alloc(), &unchanged, true);
-    Ok(())
-}
-
-#[test]
-fn a_run_with_another_digest_is_none(rt: HostRuntime) {
-    let mut bytes = ONE_SHARD;
-    check_payload(&rt, rt.alloc(), &bytes, true);
-    bytes[116] ^= 1;
-    check_payload(&rt, rt.alloc(), &bytes, false);
-    bytes[116] ^= 1;
-    bytes[40] ^= 1;
-    check_payload(&rt, rt.alloc(), &bytes, false);
-}
-
-/// Bytes with one zero behind them.
-fn with_zero(alloc: Global, bytes: &[u8]) -> Result<Vec<u8>, OutOfMemory> {
-    let mut longer = Vec::from_slice(alloc, bytes)?;
-    longer.push(0)?;
-    Ok(longer)
-}
-
-#[test]
-fn a_run_ends_with_its_digest(rt: HostRuntime) -> Result<(), Fail> {
-    let longer = with_zero(rt.alloc(), &ONE_SHARD)?;
-    let inner = body(with_zero(rt.alloc(), &ONE_SHARD[..85])?)?;
-    check_payload(&rt, rt.alloc(), &longer, false);
-    check_payload(&rt, rt.alloc(), &ONE_SHARD[..116], false);
-    check_payload(&rt, rt.alloc(), &[], false);
-    check_payload(&rt, rt.alloc(), &inner, false);
     Ok(())
 }
 
 #[test]
 fn an_entry_has_at_most_64_locators(rt: HostRuntime) -> Result<(), Fail> {
-    let missing = Written {
-        id: shard(1),
-        claimed: 64,
-        present: 63,
-    };
-    check_entries_taken(&rt, rt.alloc(), 1, &[sound(1, 64)], true)?;
-    check_entries_taken(&rt, rt.alloc(), 1, &[sound(1, 65)], false)?;
-    check_entries_taken(&rt, rt.alloc(), 1, &[missing], false)?;
+    let most = payload(rt.alloc(), ONE_OF_64, &[ABC; 64])?;
+    assert!(rt; is_run(rt.alloc(), &most));
+    let more = payload(rt.alloc(), ONE_OF_65, &[ABC; 65])?;
+    assert!(rt; is_none(rt.alloc(), &more), "65 locators");
+    let fewer = payload(rt.alloc(), ONE_OF_64, &[ABC; 63])?;
+    assert!(rt; is_none(rt.alloc(), &fewer), "one of 64 locators missing");
     Ok(())
 }
 
-/// No list of that many entries could be held: the count alone makes no list grow.
 #[test]
-fn forty_bytes_claim_the_greatest_count(rt: HostRuntime) -> Result<(), Fail> {
-    let bytes = payload(rt.alloc(), 4_294_967_295, &[])?;
-    assert!(rt; bytes.len() == 40);
-    check_payload(&rt, rt.alloc(), &bytes, false);
+fn a_run_ends_with_its_digest(rt: HostRuntime) -> Result<(), Fail> {
+    let mut bytes = ONE_SHARD;
+    assert!(rt; is_run(rt.alloc(), &bytes));
+    bytes[116] ^= 1;
+    assert!(rt; is_none(rt.alloc(), &bytes), "another digest");
+    bytes[116] ^= 1;
+    bytes[40] ^= 1;
+    assert!(rt; is_none(rt.alloc(), &bytes), "the digest of other bytes");
+    assert!(rt; is_none(rt.alloc(), &ONE_SHARD[..116]), "a byte missing");
+    assert!(rt; is_none(rt.alloc(), &[]), "nothing");
+    let longer = [ONE_SHARD.as_slice(), &[0]].concat(rt.alloc())?;
+    assert!(rt; is_none(rt.alloc(), &longer), "a byte behind the digest");
+    let inner = payload(rt.alloc(), &ONE_SHARD[..85], &[&[0]])?;
+    assert!(rt; is_none(rt.alloc(), &inner), "a byte in front of it");
     Ok(())
 }
 
@@ -400,7 +315,10 @@ fn read_and_written(alloc: Global, payload: &[u8]) -> Result<Vec<u8>, RunFault>
     ensures { IfOk result (λ out. out.items ≡ payload.now) }
 {
     let run = read_run(alloc, payload)?;
-    write_run(alloc, run.entries()).map_err(|_| RunFault::OutOfMemory)
+    match write_run(alloc, run.entries()) {
+        Ok(bytes) => Ok(bytes),
+        Err(_) => Err(RunFault::OutOfMemory),
+    }
 }
 
 ghost use Rattle.std.specs.Prelude.{◌<◌, ◌≤◌, ◌^◌, All, length};
@@ -422,7 +340,13 @@ fn written_and_read(alloc: Global, entries: &[Entry]) -> Result<Run, RunFault>
 
 #[test]
 fn two_shards_are_written_and_read(rt: HostRuntime) -> Result<(), Fail> {
-    let bytes = payload(rt.alloc(), 2, &[sound(1, 0), sound(2, 1)])?;
+    let bytes = payload(
+        rt.alloc(),
+        TWO_ENTRIES,
+        &[FIRST_OF_NONE, SECOND_OF_ONE, ABC],
+    )?;
+    let written = read_and_written(rt.alloc(), &bytes)?;
+    assert!(rt; written.as_slice() == bytes.as_slice());
     let first = read_run(rt.alloc(), &bytes)?;
     let again = written_and_read(rt.alloc(), first.entries())?;
     check_entries(
@@ -430,27 +354,5 @@ fn two_shards_are_written_and_read(rt: HostRuntime) -> Result<(), Fail> {
         again.entries(),
         &[(shard(1), &[]), (shard(2), &[abc()])],
     );
-    Ok(())
-}
-
-/// A run of so many entries, each with the locator of `abc`; their identifiers are twelve zero bytes and a number.
-fn many(alloc: Global, count: u32) -> Result<Vec<u8>, OutOfMemory> {
-    let mut bytes = Vec::from_slice(alloc, b"RUN1")?;
-    bytes.extend_from_slice(&count.to_be_bytes())?;
-    for number in 0..count {
-        bytes.extend_from_slice(&[0; 12])?;
-        bytes.extend_from_slice(&number.to_be_bytes())?;
-        bytes.push(1)?;
-        bytes.extend_from_slice(&ABC_LOCATOR)?;
-    }
-    body(bytes)
-}
-
-#[test]
-fn twenty_thousand_entries_are_read_and_written(rt: HostRuntime) -> Result<(), Fail> {
-    let bytes = many(rt.alloc(), 20_000)?;
-    assert!(rt; bytes.len() == 1_540_040);
-    let written = read_and_written(rt.alloc(), &bytes)?;
-    same(&rt, written.as_slice(), bytes.as_slice());
     Ok(())
 }

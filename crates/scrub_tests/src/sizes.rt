@@ -17,7 +17,7 @@ use scrub_fakes::{
     ONES, RawBytes, TWOS, abc_at, plan_of, put_chunk, put_frame, put_superblock, small_disk,
 };
 use scrub_merge::merge;
-use scrub_run::{Entry, ShardId, read_run};
+use scrub_run::{Entry, ShardId, read_run, write_run};
 use scrub_scan::{AllFindings, scan_extent, scan_in_order, tile};
 use scrub_super::Plan;
 use std::alloc::Global;
@@ -152,9 +152,11 @@ fn many_shards(alloc: Global) -> Result<Vec<u8>, Fail> {
 }
 
 #[test]
-fn many_shards_are_bound_and_named(rt: HostRuntime) -> Result<(), Fail> {
+fn many_shards_are_written_bound_and_named(rt: HostRuntime) -> Result<(), Fail> {
     let payload = many_shards(rt.alloc())?;
     let newer = read_run(rt.alloc(), &payload)?;
+    let written = write_run(rt.alloc(), newer.entries())?;
+    assert!(rt; written.as_slice() == payload.as_slice());
     let older = read_run(rt.alloc(), &payload)?;
     let runs = [Some(newer), None, Some(older)];
     let map = merge(rt.alloc(), &runs)?;
