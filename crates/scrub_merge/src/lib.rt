@@ -10,6 +10,3 @@ pub use binding::Binding;
 pub use merging::{merge, one_shard_map};
 pub use scrub_run::OutOfMemory;
 pub use shard_map::ShardMap;
-
-#[cfg(test)]
-mod tests;

@@ -173,6 +173,13 @@ pub(crate) fn one_shard_without(
     Ok(disk)
 }
 
+/// The identifier of twelve zero bytes and a number.
+pub(crate) fn shard(number: u32) -> ShardId {
+    let mut bytes = [0; 16];
+    bytes[12..].copy_from_slice(&number.to_be_bytes());
+    ShardId(bytes)
+}
+
 /// The payload of the run of these entries.
 pub(crate) fn payload_of(alloc: Global, entries: &[Entry]) -> Result<Vec<u8>, Fail> {
     let mut payload = Vec::from_slice(alloc, b"RUN1")?;
@@ -196,7 +203,7 @@ fn append_entry(payload: &mut Vec<u8>, entry: &Entry) -> Result<(), Fail> {
 }
 
 /// An entry of one locator.
-fn entry_of(alloc: Global, id: ShardId, locator: Locator) -> Result<Entry, Fail> {
+pub(crate) fn entry_of(alloc: Global, id: ShardId, locator: Locator) -> Result<Entry, Fail> {
     let locators = Vec::from_slice(alloc, slice::from_ref(&locator))?;
     Ok(Entry::new(id, locators))
 }

@@ -5,7 +5,7 @@ ghost use Rattle.std.specs.Prelude.{◌≡◌, ◌<◌, All, Contains, IsTrue, O
 ghost use Rattle.scrub_disk.specs.Memory.{image_of};
 
 use crate::compare::same;
-use crate::disks::{payload_of, put_abc_and_its_run};
+use crate::disks::{payload_of, put_abc_and_its_run, shard};
 use crate::told::{scrubbed, told_of};
 use scrub_book::Book;
 use scrub_check::{
@@ -17,20 +17,13 @@ use scrub_fakes::{
     ONES, RawBytes, TWOS, abc_at, plan_of, put_chunk, put_frame, put_superblock, small_disk,
 };
 use scrub_merge::merge;
-use scrub_run::{Entry, ShardId, read_run, write_run};
+use scrub_run::{Entry, read_run, write_run};
 use scrub_scan::{AllFindings, scan_extent, scan_in_order, tile};
 use scrub_super::Plan;
 use std::alloc::Global;
 use std::process::Abort;
 use std::slice;
 use std::test::Fail;
-
-/// The identifier of twelve zero bytes and a number.
-fn shard(number: u32) -> ShardId {
-    let mut bytes = [0; 16];
-    bytes[12..].copy_from_slice(&number.to_be_bytes());
-    ShardId(bytes)
-}
 
 /// The entry of a shard of 64 chunks of `abc`, which stand in extent 1 one behind another.
 fn entry_of_64(alloc: Global, number: u32) -> Result<Entry, Fail> {
