@@ -12,7 +12,6 @@ use scrub_fakes::{
 };
 use scrub_super::Plan;
 use std::alloc::Global;
-use std::fmt::Debug;
 use std::process::Abort;
 use std::slice;
 use std::test::Fail;
@@ -22,12 +21,6 @@ mod all_findings;
 mod findings;
 mod items;
 mod standing;
-
-/// Requires that what was found is what was wanted, and else prints both. That it can be printed is proved here, once, and
-/// not in each test.
-fn same<T: PartialEq + Debug + Drop>(rt: &impl Abort, found: T, wanted: T) {
-    assert_eq!(rt; found, wanted);
-}
 
 /// A frame to put: its offset in extent 1, its UUID and its payload.
 type Written<'a> = (u32, [u8; 16], &'a [u8]);
@@ -66,9 +59,9 @@ fn disk_with(alloc: Global, frames: &[Written], bad_pages: &[u32]) -> Result<Mem
 
 /// Compares items by their lines.
 fn check_lines(rt: &impl Abort, alloc: Global, items: &[Item], lines: &[&str]) -> Result<(), Fail> {
-    same(rt, items.len(), lines.len());
+    assert!(rt; items.len() == lines.len());
     for (item, line) in items.iter().zip(lines) {
-        same(rt, item_line(alloc, item)?.as_str(), *line);
+        assert_eq!(rt; item_line(alloc, item)?.as_str(), *line);
     }
     Ok(())
 }
@@ -92,6 +85,15 @@ fn full<'a>(lines: &'a [&'a str]) -> Expected<'a> {
     }
 }
 
+/// What is to be found in a readable extent that has so many bytes past its pointer, the first of them at a place.
+fn with_tail<'a>(lines: &'a [&'a str], tail_count: u32, tail_first: u32) -> Expected<'a> {
+    Expected {
+        tail_count,
+        tail_first: Some(tail_first),
+        ..full(lines)
+    }
+}
+
 /// Compares what was found in an extent.
 fn check_findings(
     rt: &impl Abort,
@@ -99,14 +101,10 @@ fn check_findings(
     findings: &Findings,
     expected: &Expected,
 ) -> Result<(), Fail> {
-    check_lines(rt, alloc, findings.items(), expected.lines)?;
-    same(
-        rt,
-        (findings.tail_count(), findings.tail_first()),
-        (expected.tail_count, expected.tail_first),
-    );
-    same(rt, findings.bad_pages(), expected.bad_pages);
-    Ok(())
+    assert!(rt; findings.tail_count() == expected.tail_count);
+    assert!(rt; findings.tail_first() == expected.tail_first);
+    assert!(rt; findings.bad_pages() == expected.bad_pages);
+    check_lines(rt, alloc, findings.items(), expected.lines)
 }
 
 /// Compares what a scan of an extent finds under the write pointer of a plan.
@@ -123,6 +121,7 @@ fn check_extent(
 {
     assert!(rt; plan.planned().contains(&extent));
     let scanned = scan_extent(alloc, disk, plan, extent)?;
-    same(rt, (scanned.extent(), scanned.pointer()), (extent, pointer));
+    assert!(rt; scanned.extent() == extent);
+    assert!(rt; scanned.pointer() == pointer);
     check_findings(rt, alloc, scanned.findings(), expected)
 }

@@ -8,21 +8,34 @@ use super::*;
 /// Four pages of zeros.
 const PADS: [&str; 4] = ["pad 0 64", "pad 64 128", "pad 128 192", "pad 192 256"];
 
-/// Compares the findings of one reader: of these extents, each with its lines.
-fn check_all<D: PageSource>(
+/// Compares the findings of one reader: of these extents, in this order, each with its lines.
+fn check_all(
     rt: &impl Abort,
     alloc: Global,
-    all: &AllFindings<'_, D>,
-    wanted: &[(u32, &[&str])],
+    all: &AllFindings<'_, MemDisk>,
+    extents: &[u32],
+    lines: &[&[&str]],
 ) -> Result<(), Fail> {
-    assert!(rt; all.len() == wanted.len());
+    assert!(rt; all.len() == extents.len());
+    assert!(rt; all.len() == lines.len());
     for i in 0..all.len() {
-        let (extent, lines) = wanted[i];
-        same(rt, all.extent_at(i), extent);
-        let findings = all.of_extent(extent).ok_or("the findings of an extent")?;
-        check_findings(rt, alloc, findings, &full(lines))?;
+        assert!(rt; all.extent_at(i) == extents[i]);
+        let findings = all
+            .of_extent(extents[i])
+            .ok_or("the findings of an extent")?;
+        check_findings(rt, alloc, findings, &full(lines[i]))?;
     }
     Ok(())
+}
+
+/// Requires that one reader has findings of these extents, and of no other.
+fn check_extents(rt: &impl Abort, all: &AllFindings<'_, MemDisk>, extents: &[u32], count: u32) {
+    for other in 0..=count {
+        assert!(rt;
+            extents.contains(&other) == all.of_extent(other).is_some(),
+            "extent {other}"
+        );
+    }
 }
 
 /// Compares the findings of one reader of the extents that a plan has: of these, each with its lines, and of no other.
@@ -31,20 +44,14 @@ fn check_planned(
     alloc: Global,
     disk: &MemDisk,
     plan: &Plan,
-    wanted: &[(u32, &[&str])],
+    extents: &[u32],
+    lines: &[&[&str]],
 ) -> Result<(), Fail>
     requires { plan.now.geometry ≡ (image_of disk.now).geometry }
 {
     let all = scan_in_order(alloc, disk, plan)?;
-    check_all(rt, alloc, &all, wanted)?;
-    for other in 0..=disk.geometry().extents() {
-        let is_wanted = wanted.iter().any(|(extent, _)| *extent == other);
-        assert!(rt;
-            is_wanted == all.of_extent(other).is_some(),
-            "extent {other}"
-        );
-    }
-    Ok(())
+    check_extents(rt, &all, extents, disk.geometry().extents());
+    check_all(rt, alloc, &all, extents, lines)
 }
 
 /// Compares the findings of one reader of all planned extents, which are 1 and 2.
@@ -52,17 +59,16 @@ fn check_both(
     rt: &impl Abort,
     alloc: Global,
     disk: &MemDisk,
-    first: &[&str],
-    second: &[&str],
+    lines: &[&[&str]],
 ) -> Result<(), Fail> {
     let plan = plan_of(alloc, disk)?;
-    check_planned(rt, alloc, disk, &plan, &[(1, first), (2, second)])
+    check_planned(rt, alloc, disk, &plan, &[1, 2], lines)
 }
 
 #[test]
 fn one_reader_of_a_blank_disk(rt: HostRuntime) -> Result<(), Fail> {
     let disk = small_disk(rt.alloc())?;
-    check_both(&rt, rt.alloc(), &disk, &PADS, &PADS)
+    check_both(&rt, rt.alloc(), &disk, &[&PADS, &PADS])
 }
 
 /// A disk with the chunk `abc` in extent 1, the run that names it in extent 2, and the superblock of both.
@@ -75,31 +81,30 @@ fn chunk_and_its_run(alloc: Global) -> Result<MemDisk, Fail> {
     Ok(disk)
 }
 
-#[test]
-fn one_reader_of_a_chunk_and_its_run(rt: HostRuntime) -> Result<(), Fail> {
-    let disk = chunk_and_its_run(rt.alloc())?;
-    let first = ["chunk 0 41 11111111-1111-1111-1111-111111111111 3"];
-    let second = ["chunk 0 155 22222222-2222-2222-2222-222222222222 117"];
-    check_both(&rt, rt.alloc(), &disk, &first, &second)
-}
+/// The lines of extent 1 of that disk: of its chunk, and of the zeros behind it, which no superblock leaves out.
+const FIRST: [&str; 5] = [
+    "chunk 0 41 11111111-1111-1111-1111-111111111111 3",
+    "pad 41 64",
+    "pad 64 128",
+    "pad 128 192",
+    "pad 192 256",
+];
+
+/// The lines of extent 2 of that disk, of its chunk and of the zeros behind it.
+const SECOND: [&str; 3] = [
+    "chunk 0 155 22222222-2222-2222-2222-222222222222 117",
+    "pad 155 192",
+    "pad 192 256",
+];
 
 #[test]
-fn one_reader_of_a_disk_whose_extent_0_is_unreadable(rt: HostRuntime) -> Result<(), Fail> {
+fn one_reader_of_a_chunk_and_its_run_with_and_without_extent_0(
+    rt: HostRuntime,
+) -> Result<(), Fail> {
     let mut disk = chunk_and_its_run(rt.alloc())?;
+    check_both(&rt, rt.alloc(), &disk, &[&FIRST[..1], &SECOND[..1]])?;
     mark_all(&mut disk, 0, &[0, 1, 2, 3])?;
-    let first = [
-        "chunk 0 41 11111111-1111-1111-1111-111111111111 3",
-        "pad 41 64",
-        "pad 64 128",
-        "pad 128 192",
-        "pad 192 256",
-    ];
-    let second = [
-        "chunk 0 155 22222222-2222-2222-2222-222222222222 117",
-        "pad 155 192",
-        "pad 192 256",
-    ];
-    check_both(&rt, rt.alloc(), &disk, &first, &second)
+    check_both(&rt, rt.alloc(), &disk, &[&FIRST, &SECOND])
 }
 
 #[test]
@@ -107,6 +112,6 @@ fn one_reader_of_two_of_three_extents(rt: HostRuntime) -> Result<(), Fail> {
     let disk = MemDisk::blank(rt.alloc(), Geometry::new(64, 4, 4)?)?;
     let whole = plan_of(rt.alloc(), &disk)?;
     let plan = whole.restrict(rt.alloc(), &[1, 3])?;
-    check_planned(&rt, rt.alloc(), &disk, &plan, &[(1, &PADS), (3, &PADS)])?;
+    check_planned(&rt, rt.alloc(), &disk, &plan, &[1, 3], &[&PADS, &PADS])?;
     check_extent(&rt, rt.alloc(), &disk, &plan, 3, 256, &full(&PADS))
 }

@@ -3,6 +3,14 @@
 
 use super::*;
 
+/// The tiling of extent 1 under a pointer.
+fn tiling_of(rt: &impl Abort, alloc: Global, disk: &MemDisk, pointer: u32) -> Result<Items, Fail> {
+    let geometry = disk.geometry();
+    assert!(rt; geometry.extents() > 1);
+    assert!(rt; pointer <= geometry.extent_bytes());
+    Ok(tile(alloc, disk, 1, pointer)?)
+}
+
 /// Compares the lines of the tiling of extent 1 under a pointer.
 fn check_tiling(
     rt: &impl Abort,
@@ -11,66 +19,65 @@ fn check_tiling(
     pointer: u32,
     lines: &[&str],
 ) -> Result<(), Fail> {
-    let geometry = disk.geometry();
-    assert!(rt; geometry.extents() > 1);
-    assert!(rt; pointer <= geometry.extent_bytes());
-    let items = tile(alloc, disk, 1, pointer)?;
+    let items = tiling_of(rt, alloc, disk, pointer)?;
     check_lines(rt, alloc, items.as_slice(), lines)
 }
 
-/// Compares the lines of the tiling of extent 1 of a small disk that has these frames and unreadable pages.
-fn check_frames(
-    rt: &impl Abort,
-    alloc: Global,
-    frames: &[Written],
-    bad_pages: &[u32],
+/// A tiling of extent 1 of a small disk: the frames and the unreadable pages there, the pointer, and the lines.
+struct Tiled<'a> {
+    frames: &'a [Written<'a>],
+    bad_pages: &'a [u32],
     pointer: u32,
-    lines: &[&str],
-) -> Result<(), Fail> {
-    let disk = disk_with(alloc, frames, bad_pages)?;
-    check_tiling(rt, alloc, &disk, pointer, lines)
+    lines: &'a [&'a str],
+}
+
+/// Tilings of a frame whose last page is unreadable, of one that hides the chunk at the page bound by the collision, of two
+/// frames end to end, and of a frame of no payload.
+const TILINGS: [Tiled<'static>; 4] = [
+    Tiled {
+        frames: &[(0, TWOS, &[0x78; 117])],
+        bad_pages: &[2, 3],
+        pointer: 155,
+        lines: &["torn 0 64", "noise 64 128", "lost 128 155"],
+    },
+    Tiled {
+        frames: &[(0, ENDS_IN_MAGIC, &[0x78; 28]), (64, ONES, b"abc")],
+        bad_pages: &[],
+        pointer: 105,
+        lines: &[
+            "chunk 0 66 33333333-3333-3333-3333-33333333c55e 28",
+            "noise 66 105",
+        ],
+    },
+    Tiled {
+        frames: &[(0, ONES, &[0x78; 12]), (50, ONES, b"abc")],
+        bad_pages: &[],
+        pointer: 91,
+        lines: &[
+            "chunk 0 50 11111111-1111-1111-1111-111111111111 12",
+            "chunk 50 91 11111111-1111-1111-1111-111111111111 3",
+        ],
+    },
+    Tiled {
+        frames: &[(0, ONES, b"")],
+        bad_pages: &[],
+        pointer: 38,
+        lines: &["chunk 0 38 11111111-1111-1111-1111-111111111111 0"],
+    },
+];
+
+/// Compares the lines of a tiling.
+fn check_tiled(rt: &impl Abort, alloc: Global, tiled: &Tiled) -> Result<(), Fail> {
+    let disk = disk_with(alloc, tiled.frames, tiled.bad_pages)?;
+    check_tiling(rt, alloc, &disk, tiled.pointer, tiled.lines)
 }
 
 #[test]
-fn a_frame_whose_last_page_is_unreadable(rt: HostRuntime) -> Result<(), Fail> {
-    let lines = ["torn 0 64", "noise 64 128", "lost 128 155"];
-    check_frames(
-        &rt,
-        rt.alloc(),
-        &[(0, TWOS, &[0x78; 117])],
-        &[2, 3],
-        155,
-        &lines,
-    )
-}
-
-#[test]
-fn the_collision_hides_the_chunk_at_the_page_bound(rt: HostRuntime) -> Result<(), Fail> {
-    let frames = [
-        (0, ENDS_IN_MAGIC, [0x78; 28].as_slice()),
-        (64, ONES, b"abc"),
-    ];
-    let lines = [
-        "chunk 0 66 33333333-3333-3333-3333-33333333c55e 28",
-        "noise 66 105",
-    ];
-    check_frames(&rt, rt.alloc(), &frames, &[], 105, &lines)
-}
-
-#[test]
-fn two_frames_end_to_end(rt: HostRuntime) -> Result<(), Fail> {
-    let frames = [(0, ONES, [0x78; 12].as_slice()), (50, ONES, b"abc")];
-    let lines = [
-        "chunk 0 50 11111111-1111-1111-1111-111111111111 12",
-        "chunk 50 91 11111111-1111-1111-1111-111111111111 3",
-    ];
-    check_frames(&rt, rt.alloc(), &frames, &[], 91, &lines)
-}
-
-#[test]
-fn a_frame_of_no_payload(rt: HostRuntime) -> Result<(), Fail> {
-    let lines = ["chunk 0 38 11111111-1111-1111-1111-111111111111 0"];
-    check_frames(&rt, rt.alloc(), &[(0, ONES, b"")], &[], 38, &lines)
+fn tilings_of_frames_cut_short_hiding_touching_and_empty(rt: HostRuntime) -> Result<(), Fail> {
+    for tiled in &TILINGS {
+        check_tiled(&rt, rt.alloc(), tiled)?;
+    }
+    Ok(())
 }
 
 #[test]
@@ -86,12 +93,12 @@ fn a_head_that_claims_the_greatest_length(rt: HostRuntime) -> Result<(), Fail> {
 
 #[test]
 fn damage_between_frames_ends_at_the_page_bound(rt: HostRuntime) -> Result<(), Fail> {
+    let mut disk = MemDisk::blank(rt.alloc(), Geometry::new(128, 2, 3)?)?;
     let frames = [
         (0, ONES, b"abc".as_slice()),
         (44, TWOS, b""),
         (128, THREES, b"abc"),
     ];
-    let mut disk = MemDisk::blank(rt.alloc(), Geometry::new(128, 2, 3)?)?;
     put_frames(rt.alloc(), &mut disk, &frames)?;
     let lines = [
         "chunk 0 41 11111111-1111-1111-1111-111111111111 3",
@@ -138,16 +145,15 @@ fn an_item_has_a_start_and_a_stop(rt: HostRuntime) {
         start: 66,
         stop: 105,
     };
-    same(&rt, (noise.start(), noise.stop()), (66, 105));
+    assert!(rt; noise.start() == 66);
+    assert!(rt; noise.stop() == 105);
 }
 
 #[test]
 fn a_chunk_has_the_digest_of_its_payload(rt: HostRuntime) -> Result<(), Fail> {
     let disk = disk_with(rt.alloc(), &[(0, ONES, b"abc")], &[])?;
-    let geometry = disk.geometry();
-    assert!(rt; geometry.extents() > 1 && geometry.extent_bytes() >= 41);
-    let items = tile(rt.alloc(), &disk, 1, 41)?;
-    same(&rt, items.as_slice(), [abc_chunk()].as_slice());
+    let items = tiling_of(&rt, rt.alloc(), &disk, 41)?;
+    assert!(rt; items.as_slice() == [abc_chunk()].as_slice());
     one_tiling();
     Ok(())
 }

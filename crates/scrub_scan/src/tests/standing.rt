@@ -53,6 +53,20 @@ fn check_stands(
     Ok(())
 }
 
+/// Requires that a frame stands at its place under a pointer.
+fn check_standing(
+    rt: &impl Abort,
+    alloc: Global,
+    disk: &MemDisk,
+    pointer: u32,
+    standing: &Standing,
+) -> Result<(), Fail> {
+    let (extent, offset) = (standing.extent, standing.offset);
+    let found = standing_at(rt, alloc, disk, pointer, extent, offset)?;
+    assert!(rt; found == Some(*standing), "at {offset} of extent {extent}");
+    Ok(())
+}
+
 /// The frame of `abc` at a place.
 fn standing_abc(extent: u32, offset: u32) -> Standing {
     Standing {
@@ -64,72 +78,86 @@ fn standing_abc(extent: u32, offset: u32) -> Standing {
     }
 }
 
-#[test]
-fn frames_stand_at_their_places(rt: HostRuntime) -> Result<(), Fail> {
-    let disk = two_extents(rt.alloc())?;
-    let long = Standing {
+/// The frame of 258 bytes at 0 of extent 2.
+fn standing_long() -> Standing {
+    Standing {
         extent: 2,
         offset: 0,
         uuid: Uuid::from_bytes(ENDS_IN_MAGIC),
         length: 220,
         digest: LONG_DIGEST,
-    };
-    let cases = [
-        (512, standing_abc(1, 0)),
-        (297, long),
-        (297, standing_abc(2, 256)),
-    ];
-    for (pointer, standing) in cases {
-        let found = standing_at(
-            &rt,
-            rt.alloc(),
-            &disk,
-            pointer,
-            standing.extent,
-            standing.offset,
-        )?;
-        same(&rt, found, Some(standing));
+    }
+}
+
+#[test]
+fn frames_stand_at_their_places(rt: HostRuntime) -> Result<(), Fail> {
+    let disk = two_extents(rt.alloc())?;
+    check_standing(&rt, rt.alloc(), &disk, 512, &standing_abc(1, 0))?;
+    check_standing(&rt, rt.alloc(), &disk, 297, &standing_long())?;
+    check_standing(&rt, rt.alloc(), &disk, 297, &standing_abc(2, 256))
+}
+
+/// A pointer, a place, as the number of an extent and a byte of it, and whether a frame stands there.
+type Place = (u32, u32, u32, bool);
+
+/// Places where none was written, and the end of each frame as the pointer and one byte less.
+const PLACES: [Place; 10] = [
+    (512, 1, 41, false),
+    (512, 1, 300, false),
+    (512, 1, 2048, false),
+    (0, 3, 0, false),
+    (41, 1, 0, true),
+    (40, 1, 0, false),
+    (258, 2, 0, true),
+    (257, 2, 0, false),
+    (297, 2, 256, true),
+    (296, 2, 256, false),
+];
+
+#[test]
+fn frames_stand_where_they_were_written_and_end_at_the_pointer(
+    rt: HostRuntime,
+) -> Result<(), Fail> {
+    let disk = two_extents(rt.alloc())?;
+    for (pointer, extent, offset, stands) in &PLACES {
+        check_stands(&rt, rt.alloc(), &disk, *pointer, *extent, *offset, *stands)?;
     }
     Ok(())
 }
 
-#[test]
-fn no_frame_stands_where_none_was_written(rt: HostRuntime) -> Result<(), Fail> {
-    let disk = two_extents(rt.alloc())?;
-    for (pointer, extent, offset) in [(512, 1, 41), (512, 1, 300), (512, 1, 2048), (0, 3, 0)] {
-        check_stands(&rt, rt.alloc(), &disk, pointer, extent, offset, false)?;
-    }
-    Ok(())
-}
-
-#[test]
-fn a_frame_that_ends_one_byte_past_the_pointer_does_not_stand(rt: HostRuntime) -> Result<(), Fail> {
-    let disk = two_extents(rt.alloc())?;
-    for (end, extent, offset) in [(41, 1, 0), (258, 2, 0), (297, 2, 256)] {
-        check_stands(&rt, rt.alloc(), &disk, end, extent, offset, true)?;
-        check_stands(&rt, rt.alloc(), &disk, end - 1, extent, offset, false)?;
-    }
-    Ok(())
+/// Puts the frame of `abc` into extent 1, and requires that it stands there, or that none does.
+fn check_put(
+    rt: &impl Abort,
+    alloc: Global,
+    disk: &mut MemDisk,
+    offset: u32,
+    stands: bool,
+) -> Result<(), Fail> {
+    put_frame(alloc, disk, 1, offset, ONES, b"abc")?;
+    check_stands(rt, alloc, disk, 512, 1, offset, stands)
 }
 
 #[test]
 fn a_frame_with_a_byte_on_an_unreadable_page_does_not_stand(rt: HostRuntime) -> Result<(), Fail> {
     let mut disk = two_extents(rt.alloc())?;
     // Frames of 41 bytes. The first ends with page 0; of the others the last byte, part of the head and all lie on page 1.
-    for (offset, stands) in [(215, true), (216, false), (240, false), (300, false)] {
-        put_frame(rt.alloc(), &mut disk, 1, offset, ONES, b"abc")?;
-        check_stands(&rt, rt.alloc(), &disk, 512, 1, offset, stands)?;
+    for (offset, stands) in &[(215, true), (216, false), (240, false), (300, false)] {
+        check_put(&rt, rt.alloc(), &mut disk, *offset, *stands)?;
     }
+    Ok(())
+}
+
+/// Compares the payload of the frame of `abc` at 256 of extent 2.
+fn check_payload(rt: &impl Abort, alloc: Global, disk: &MemDisk) -> Result<(), Fail> {
+    let geometry = disk.geometry();
+    assert!(rt; geometry.extents() > 2 && geometry.extent_bytes() >= 297);
+    let standing = frame_stands(alloc, disk, 297, 2, 256)?.ok_or("a frame")?;
+    let payload = read_payload(alloc, disk, &standing)?;
+    assert!(rt; payload.as_slice() == b"abc".as_slice());
     Ok(())
 }
 
 #[test]
 fn the_payload_of_a_frame_that_was_stepped_past(rt: HostRuntime) -> Result<(), Fail> {
-    let disk = two_extents(rt.alloc())?;
-    let geometry = disk.geometry();
-    assert!(rt; geometry.extents() > 2 && geometry.extent_bytes() >= 297);
-    let standing = frame_stands(rt.alloc(), &disk, 297, 2, 256)?.ok_or("a frame")?;
-    let payload = read_payload(rt.alloc(), &disk, &standing)?;
-    same(&rt, payload.as_slice(), b"abc".as_slice());
-    Ok(())
+    check_payload(&rt, rt.alloc(), &two_extents(rt.alloc())?)
 }
