@@ -50,7 +50,7 @@ module _ {D : Type 0} {s : _} where
       pass.planned ≡ planned → HasTakenAll pass → IsPermutation (extents_of all) planned
   all_scanned pass all theirs mine planned is joined own same whole =
       subst (λ (l : List ℕ). IsPermutation l planned) (sym (extents_append all theirs mine (one_list pass.joined) pass.own is joined own))
-        (IsPermutation-trans (one_list pass.joined ++ pass.own) (taken_in pass) planned (IsPermutation-append_comm (one_list pass.joined) pass.own) (subst (λ (l : List ℕ). IsPermutation (taken_in pass) l) same whole))
+      (IsPermutation-trans (one_list pass.joined ++ pass.own) (taken_in pass) planned (IsPermutation-append_comm (one_list pass.joined) pass.own) (subst (λ (l : List ℕ). IsPermutation (taken_in pass) l) same whole))
 
   pub long_append : (all found more : List (ExtentResult D s)) → all ≡ found ++ more → length all ≡ length found + length more
   long_append all found more is = ap (λ (rs : List (ExtentResult D s)). length rs) is ∙ length-append found more

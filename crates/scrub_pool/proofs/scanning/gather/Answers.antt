@@ -14,7 +14,7 @@ returns-clause-lists g c =
     let pass = c.work.new.pass in
     let joined : pass.joined ≡ lists_in c.in_ok-lists.lists.items = search rules in
     items_push c.in_ok-lists.lists.items c.push.new.self.items c.in_ok-own.own pass.own c.in_ok-push.ensures.items (c.in_ok-own.ensures.list ∙ sym c.in_ok-work.ensures.work.1)
-      ∙ ap (λ l. l ++ pass.own ∷ []) (sym joined)
+    ∙ ap (λ l. l ++ pass.own ∷ []) (sym joined)
 
 pub returns-clause-partition : goal.returns-clause-partition
 returns-clause-partition g c =
@@ -37,7 +37,7 @@ returns-clause-extents g c =
     let pass = c.work.new.pass in
     let joined : pass.joined ≡ lists_in c.in_ok-lists.lists.items = search rules in
     all_scanned pass c.take_over.new.found.items c.collect.new.found.items (results_of c.work.new.core) c.args.plan.now.planned c.in_ok-own.ensures.found
-      (c.in_ok-lists.ensures.found ∙ ap one_list (sym joined)) (c.in_ok-own.ensures.matched ∙ sym c.in_ok-work.ensures.work.1) (search rules) (c.in_ok-work.ensures.all (search rules) (search rules))
+    (c.in_ok-lists.ensures.found ∙ ap one_list (sym joined)) (c.in_ok-own.ensures.matched ∙ sym c.in_ok-work.ensures.work.1) (search rules) (c.in_ok-work.ensures.all (search rules) (search rules))
 
 pub returns-clause-counted : goal.returns-clause-counted
 returns-clause-counted g c =
