@@ -9,6 +9,8 @@ mod compare;
 #[cfg(test)]
 mod disks;
 #[cfg(test)]
+mod events;
+#[cfg(test)]
 mod index_runs;
 #[cfg(test)]
 mod lists;

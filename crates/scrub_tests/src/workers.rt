@@ -4,7 +4,7 @@ ghost use Rattle.std.specs.Prelude.{◌≤◌};
 
 mod watch;
 
-use crate::compare::same;
+use crate::compare::{check_found, same};
 use crate::disks::{many_shards, one_shard};
 use crate::told::scrubbed;
 use crate::workers::watch::Watch;
@@ -12,45 +12,12 @@ use scrub_disk::{Geometry, MemDisk};
 use scrub_fakes::plan_of;
 use scrub_pool::{ExtentQueue, scan_all};
 use scrub_report::{ScrubFault, scrub};
-use scrub_scan::{AllFindings, ExtentResult, Item, scan_in_order};
+use scrub_scan::{Item, scan_in_order};
 use std::alloc::Global;
 use std::process::Abort;
 use std::sync::Wait;
 use std::test::Fail;
 use std::thread::Threads;
-
-/// Compares two results of one extent.
-fn check_result(
-    rt: &impl Abort,
-    found: &ExtentResult<'_, MemDisk>,
-    wanted: &ExtentResult<'_, MemDisk>,
-) {
-    same(
-        rt,
-        (found.extent(), found.pointer()),
-        (wanted.extent(), wanted.pointer()),
-    );
-    let (one, other) = (found.findings(), wanted.findings());
-    same(rt, one.items(), other.items());
-    same(
-        rt,
-        (one.tail_count(), one.tail_first()),
-        (other.tail_count(), other.tail_first()),
-    );
-    same(rt, one.bad_pages(), other.bad_pages());
-}
-
-/// Compares findings, extent by extent.
-fn check_found(
-    rt: &impl Abort,
-    found: &AllFindings<'_, MemDisk>,
-    wanted: &AllFindings<'_, MemDisk>,
-) {
-    assert!(rt; found.len() == wanted.len());
-    for i in 0..found.len() {
-        check_result(rt, found.result_at(i), wanted.result_at(i));
-    }
-}
 
 /// Scans a disk by so many workers and the caller, each of whose first extents is held until so many have passed with
 /// one, and compares what is found with what one reader finds, and who took what with what the gate was told.

@@ -1,17 +1,14 @@
-//! What a pool of workers does, event by event.
+//! What a pool of workers does, event by event, as the pure machine tells it.
 
-use super::*;
-
-/// A disk of three extents: `abc` at the start of extent 1, the run that names it at the start of extent 2, and the
-/// superblock of both.
-fn one_shard(alloc: Global) -> Result<MemDisk, Fail> {
-    let mut disk = small_disk(alloc)?;
-    put_frame(alloc, &mut disk, 1, 0, ONES, b"abc")?;
-    let payload = run_of(alloc, SHARD, &[abc_at(1, 0)])?;
-    let run = put_chunk(alloc, &mut disk, 2, 0, TWOS, &payload)?;
-    put_superblock(alloc, &mut disk, &[41, 155], slice::from_ref(&run))?;
-    Ok(disk)
-}
+use crate::compare::{check_found, same};
+use crate::disks::one_shard;
+use scrub_book::{Event, PoolCore, StepRefused};
+use scrub_disk::{Geometry, MemDisk};
+use scrub_fakes::{ONES, plan_of, put_frame, put_superblock};
+use scrub_scan::scan_in_order;
+use std::alloc::Global;
+use std::process::Abort;
+use std::test::Fail;
 
 /// Compares what comes of these steps, one after another.
 fn check_steps(
@@ -20,34 +17,7 @@ fn check_steps(
     steps: &[(Event, Option<StepRefused>)],
 ) {
     for (event, wanted) in steps {
-        assert_eq!(rt; pool.step(*event).err(), *wanted);
-    }
-}
-
-/// Compares two results of one extent.
-fn check_result(
-    rt: &impl Abort,
-    found: &ExtentResult<'_, MemDisk>,
-    wanted: &ExtentResult<'_, MemDisk>,
-) {
-    assert!(rt; found.extent() == wanted.extent() && found.pointer() == wanted.pointer());
-    let (one, other) = (found.findings(), wanted.findings());
-    assert!(rt; one.items() == other.items(), "what one reader finds");
-    assert!(rt;
-        one.bad_pages() == other.bad_pages(),
-        "what one reader can't read"
-    );
-}
-
-/// Compares findings, extent by extent.
-fn check_found(
-    rt: &impl Abort,
-    found: &AllFindings<'_, MemDisk>,
-    wanted: &AllFindings<'_, MemDisk>,
-) {
-    assert!(rt; found.len() == wanted.len());
-    for i in 0..found.len() {
-        check_result(rt, found.result_at(i), wanted.result_at(i));
+        same(rt, pool.step(*event).err(), *wanted);
     }
 }
 
