@@ -119,60 +119,48 @@ fn check_entries(rt: &impl Abort, entries: &[Entry], wanted: &[(ShardId, &[Locat
     }
 }
 
+/// Compares the entries of the run that a payload is.
+fn check_read(
+    rt: &impl Abort,
+    alloc: Global,
+    payload: &[u8],
+    wanted: &[(ShardId, &[Locator])],
+) -> Result<(), Fail> {
+    let run = read_run(alloc, payload)?;
+    check_entries(rt, run.entries(), wanted);
+    Ok(())
+}
+
 #[test]
 fn the_run_of_one_shard_is_written_and_read(rt: HostRuntime) -> Result<(), Fail> {
-    let locators = [abc()];
-    let entry = Entry::new(shard(1), Vec::from_slice(rt.alloc(), &locators)?);
+    let entry = Entry::new(shard(1), Vec::from_slice(rt.alloc(), &[abc()])?);
     let bytes = write_run(rt.alloc(), slice::from_ref(&entry))?;
     assert!(rt; bytes.as_slice() == ONE_SHARD.as_slice());
-    let run = read_run(rt.alloc(), &ONE_SHARD)?;
-    check_entries(&rt, run.entries(), &[(shard(1), &locators)]);
-    Ok(())
+    check_read(&rt, rt.alloc(), &ONE_SHARD, &[(shard(1), &[abc()])])
 }
 
-/// No list of as many entries as the last head claims could be held: the count alone makes no list grow.
 #[test]
-fn forty_bytes_are_a_run_of_no_entries(rt: HostRuntime) -> Result<(), Fail> {
+fn a_run_of_no_entries_has_40_bytes(rt: HostRuntime) -> Result<(), Fail> {
     let bytes = write_run(rt.alloc(), &[])?;
     assert!(rt; bytes.as_slice() == NO_ENTRIES.as_slice());
-    assert!(rt; read_run(rt.alloc(), &bytes)?.entries().is_empty());
-    let greatest = payload(rt.alloc(), b"RUN1\xFF\xFF\xFF\xFF", &[])?;
-    assert!(rt; greatest.len() == 40);
-    assert!(rt; is_none(rt.alloc(), &greatest), "the greatest count");
-    Ok(())
-}
-
-#[test]
-fn a_deleted_shard_has_no_locators(rt: HostRuntime) -> Result<(), Fail> {
-    let bytes = payload(rt.alloc(), ONE_ENTRY, &[FIRST_OF_NONE])?;
-    assert!(rt; bytes.len() == 57);
-    let run = read_run(rt.alloc(), &bytes)?;
-    check_entries(&rt, run.entries(), &[(shard(1), &[])]);
-    Ok(())
-}
-
-#[test]
-fn an_entry_keeps_its_locators_in_order(rt: HostRuntime) -> Result<(), Fail> {
-    let moved = Locator {
-        offset: 41,
-        ..abc()
-    };
-    let kept = [moved, abc(), moved];
-    let entry = Entry::new(shard(2), Vec::from_slice(rt.alloc(), &kept)?);
-    check_entries(&rt, slice::from_ref(&entry), &[(shard(2), &kept)]);
-    Ok(())
+    check_read(&rt, rt.alloc(), &NO_ENTRIES, &[])
 }
 
 #[test]
 fn identifiers_are_ordered_as_bytes(rt: HostRuntime) {
-    let mut first = [0xFF; 16];
+    let (mut first, mut second) = ([0xFF; 16], [0; 16]);
     first[0] = 0x7F;
-    let mut second = [0; 16];
     second[0] = 0x80;
-    assert!(rt; ShardId(first) < ShardId(second), "the first byte decides");
-    assert!(rt; shard(1) < shard(2), "else a later one");
-    assert!(rt; shard(0x7F) < shard(0x80), "without a sign");
-    assert!(rt; shard(0xFF) < ShardId(first));
+    let rising = [
+        shard(1),
+        shard(2),
+        shard(0x7F),
+        shard(0x80),
+        shard(0xFF),
+        ShardId(first),
+        ShardId(second),
+    ];
+    assert!(rt; rising.is_sorted_by(|one, next| one < next));
 }
 
 /// The identifier of fourteen bytes 7F and these two.
@@ -184,20 +172,25 @@ fn alike(last: [u8; 2]) -> ShardId {
 }
 
 #[test]
-fn identifiers_that_begin_alike_are_told_apart(rt: HostRuntime) -> Result<(), Fail> {
-    let bytes = payload(rt.alloc(), THREE_ENTRIES, &[LOW, MIDDLE, HIGH])?;
-    let run = read_run(rt.alloc(), &bytes)?;
+fn deleted_shards_are_read_in_their_order(rt: HostRuntime) -> Result<(), Fail> {
+    let one = payload(rt.alloc(), ONE_ENTRY, &[FIRST_OF_NONE])?;
+    check_read(&rt, rt.alloc(), &one, &[(shard(1), &[])])?;
+    let three = payload(rt.alloc(), THREE_ENTRIES, &[LOW, MIDDLE, HIGH])?;
     let (low, middle, high) = (alike([0, 2]), alike([1, 1]), alike([1, 2]));
-    check_entries(
+    check_read(
         &rt,
-        run.entries(),
+        rt.alloc(),
+        &three,
         &[(low, &[]), (middle, &[]), (high, &[])],
-    );
-    Ok(())
+    )
 }
 
-/// What makes no run of what would be one else, and the head and the parts behind it.
-const NO_RUNS: [(&str, &[u8], &[&[u8]]); 13] = [
+/// What makes no run of what would be one else, and the head and the parts behind it. No list of as many entries as the
+/// first head claims could be held: the count alone makes no list grow.
+const NO_RUNS: [(&str, &[u8], &[&[u8]]); 16] = [
+    ("the greatest count", b"RUN1\xFF\xFF\xFF\xFF", &[]),
+    ("65 locators", ONE_OF_65, &[ABC; 65]),
+    ("one of 64 locators missing", ONE_OF_64, &[ABC; 63]),
     (
         "another magic",
         b"RUN2\0\0\0\x02",
@@ -274,21 +267,12 @@ fn what_is_no_run(rt: HostRuntime) -> Result<(), Fail> {
     )?;
     assert!(rt; sound.len() == 194);
     assert!(rt; is_run(rt.alloc(), &sound));
+    let most = payload(rt.alloc(), ONE_OF_64, &[ABC; 64])?;
+    assert!(rt; is_run(rt.alloc(), &most), "64 locators");
     for (what, head, parts) in &NO_RUNS {
         let bytes = payload(rt.alloc(), head, parts)?;
         assert!(rt; is_none(rt.alloc(), &bytes), "{what}");
     }
-    Ok(())
-}
-
-#[test]
-fn an_entry_has_at_most_64_locators(rt: HostRuntime) -> Result<(), Fail> {
-    let most = payload(rt.alloc(), ONE_OF_64, &[ABC; 64])?;
-    assert!(rt; is_run(rt.alloc(), &most));
-    let more = payload(rt.alloc(), ONE_OF_65, &[ABC; 65])?;
-    assert!(rt; is_none(rt.alloc(), &more), "65 locators");
-    let fewer = payload(rt.alloc(), ONE_OF_64, &[ABC; 63])?;
-    assert!(rt; is_none(rt.alloc(), &fewer), "one of 64 locators missing");
     Ok(())
 }
 
