@@ -1,5 +1,5 @@
 -- Lists that rise strictly: how that is told, and that nothing stands there twice.
-use Rattle.std.proofs.Common.{◌≡◌, ◌≤◌, ◌+◌, ◌∙◌, ap, sym, refl, arith, ℕ, Bool, true, false, List, [], ◌∷◌, length, get_or, nat_lt, Ordering, Less, Equal, Greater, is_eq, is_lt}
+use Rattle.std.proofs.Common.{◌≡◌, ◌≤◌, ◌+◌, ◌∙◌, ap, sym, refl, arith, ℕ, Bool, true, false, List, [], ◌∷◌, get_or, nat_lt, Ordering, Less, Equal, Greater, is_eq, is_lt}
 use Rattle.std.specs.Prelude.{◌↔◌, IsTrue}
 use Rattle.std.specs.Ordering.{ordering_reverse}
 use Rattle.std.specs.Cmp.{IsTotalOrder}

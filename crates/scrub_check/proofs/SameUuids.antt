@@ -1,5 +1,5 @@
 -- Chunks whose UUID stands on another chunk too, found among the sorted UUIDs.
-use Rattle.std.proofs.Common.{◌≡◌, ◌≤◌, ◌∙◌, ap, sym, refl, arith, ℕ, Bool, false, List, [], ◌∷◌, map, cond, nat_lt, is_eq}
+use Rattle.std.proofs.Common.{◌≡◌, ◌∙◌, ap, sym, refl, arith, ℕ, Bool, false, List, [], ◌∷◌, map, cond, nat_lt, is_eq}
 use Rattle.std.specs.Str.{bytes_eq}
 use Rattle.std.specs.List.{filter, count_by}
 use Rattle.std.specs.List.Sorted.{IsStrictlySortedBy}

@@ -1,5 +1,5 @@
 -- The bytes of the image that a list of bytes and a list of marks hold, and what a write or a mark changes of them.
-use Rattle.std.proofs.Common.{rules, ◌≡◌, ◌<◌, ◌≤◌, ◌+◌, ◌*◌, ◌/◌, ◌%◌, ◌-◌, ℕ, List, Bool, true, false, cond, length, get_or, arith, refl, sym, ◌∙◌, ap, Option, Some, None, nat_lt, slice_get, option_and_then, option_map, set, replicate, get_or-set_same, get_or-set_other, ◌≢◌, ◌⊎◌, inl, inr}
+use Rattle.std.proofs.Common.{◌≡◌, ◌<◌, ◌≤◌, ◌+◌, ◌*◌, ◌/◌, ◌%◌, ◌-◌, ℕ, List, Bool, true, false, cond, length, get_or, arith, refl, sym, ◌∙◌, ap, Option, Some, None, nat_lt, slice_get, option_and_then, option_map, set, replicate, get_or-set_same, get_or-set_other, ◌≢◌, ◌⊎◌, inl, inr}
 use Rattle.std.proofs.Math.Nat.{mul-le-mul_left, mod-lt}
 use Rattle.std.proofs.lemmas.Nat.{div-add-mod', div_below, row_fits, div-mul-add, mod-mul-add}
 use Rattle.std.proofs.lemmas.Option.{slice_get-get_or}

@@ -1,8 +1,7 @@
 -- Images whose pages hold raw bytes, and marks on them.
 use Rattle.std.proofs.Common.{◌≡◌, ◌<◌, ◌≤◌, ◌+◌, ◌-◌, ◌*◌, ◌/◌, ℕ, Bool, true, false, cond, List, length, get_or, arith, refl, sym, ◌∙◌, ap, inl, inr, ◌⊎◌, Option, Some, None, IfSome, subst, All, take}
 use Rattle.std.specs.List.{between}
-use Rattle.std.proofs.lemmas.Nat.{div-mul-add, row_fits}
-use Rattle.std.proofs.Math.Nat.{mul-le-mul_left}
+use Rattle.std.proofs.lemmas.Nat.{div-mul-add}
 use Rattle.std.proofs.lemmas.Bool.{cases_eq}
 use Rattle.std.proofs.lemmas.List.{get_or_default, get_or-take, length-take-le}
 use Rattle.std.proofs.lemmas.List.Elements.{All-more}

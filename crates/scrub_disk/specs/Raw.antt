@@ -1,5 +1,5 @@
 -- Raw bytes: what one read of them gives, and what an image that was loaded from them holds.
-use Rattle.std.specs.Prelude.{◌≡◌, ◌<◌, ◌≤◌, ◌+◌, ◌*◌, ℕ, List, length, take, slice_get, slice_index, Option, Some, None, IfSome, ◌⊎◌, All, Contains}
+use Rattle.std.specs.Prelude.{◌≡◌, ◌<◌, ◌≤◌, ◌+◌, ◌*◌, ℕ, List, length, take, slice_get, Option, None, IfSome, ◌⊎◌, All, Contains}
 use Rattle.scrub_disk.specs.declared.geometry.Geometry.{Geometry}
 use Rattle.scrub_disk.specs.Image.{Image, AreBytesAt, HasWholePages, disk_bytes}
 use Rattle.scrub_disk.specs.Held.{page_number}

@@ -1,7 +1,6 @@
 -- The record was written to an empty list, and put where the page begins.
-use Rattle.std.proofs.Common.{◌≡◌, ◌∙◌}
+use Rattle.std.proofs.Common.{◌∙◌}
 use Rattle.scrub_disk.specs.Memory.{image_of}
-use Rattle.scrub_super.specs.Contents.{Contents}
 use Rattle.scrub_fakes.proofs.Built.{same_contents, puts_record}
 use Rattle.scrub_fakes.proofs.disk.put_record.Goals as goal
 
