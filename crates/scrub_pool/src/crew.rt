@@ -5,13 +5,13 @@ ghost use Rattle.std.specs.Prelude.{◌≡◌, ◌+◌, ◌<◌, false, None, []
 ghost use Rattle.scrub_book.specs.Worker.{held_by, results_of};
 ghost use Rattle.scrub_pool.specs.Work.{AreNewMembers, IsNewMember, HasEnded, AreDone};
 
-use crate::extent_queue::{ExtentQueue, TakePass};
+use crate::extent_queue::TakePass;
 use crate::gate::Gate;
+use crate::job::Job;
 use crate::tally::{Tally, nothing};
 use crate::worker::works;
 use scrub_book::WorkerCore;
 use scrub_disk::PageSource;
-use scrub_super::Plan;
 use std::alloc::Global;
 use std::sync::ledger::{Ledger, Share};
 use std::sync::{Mutex, Wait};
@@ -36,19 +36,17 @@ fn member_works<'d, D: PageSource, L: Ledger + Send + Sync, G: Gate, R: Wait>(
     rt: &R,
     alloc: Global,
     disk: &'d D,
-    plan: &Plan,
-    queue: &ExtentQueue,
-    gate: &G,
+    job: &Job<'_, G>,
     tally: &Mutex<Tally<L>>,
     member: NewMember,
 ) -> (Member<'d, D>, Option<Share<L>>)
-    requires geometry { plan.now.geometry ≡ (D.image disk.now).geometry }
-    requires member { IsNewMember queue.now plan.now.planned member }
-    ensures member { HasEnded queue.now plan.now (D.image disk.now) result.0 }
+    requires geometry { job.now.plan.now.geometry ≡ (D.image disk.now).geometry }
+    requires member { IsNewMember job.now.queue.now job.now.plan.now.planned member }
+    ensures member { HasEnded job.now.queue.now job.now.plan.now (D.image disk.now) result.0 }
     ensures whole { IfSome result.1 (λ s. (held_by result.0.core ≡ None) × (s.parts ≡ 1) × (s.amount ≡ length (results_of result.0.core))) }
 {
     let NewMember { number, mut pass } = member;
-    let (core, share) = works(rt, alloc, disk, plan, queue, gate, tally, number, &mut pass);
+    let (core, share) = works(rt, alloc, disk, job, tally, number, &mut pass);
     (Member { pass, core }, share)
 }
 
@@ -57,24 +55,21 @@ fn last_works<'d, D: PageSource, L: Ledger + Send + Sync, G: Gate, R: Wait>(
     rt: &R,
     alloc: Global,
     disk: &'d D,
-    plan: &Plan,
-    queue: &ExtentQueue,
-    gate: &G,
+    job: &Job<'_, G>,
     tally: &Mutex<Tally<L>>,
-    crew: Vec<NewMember>,
+    mut new_members: Vec<NewMember>,
 ) -> (Vec<Member<'d, D>>, Option<Share<L>>)
-    requires geometry { plan.now.geometry ≡ (D.image disk.now).geometry }
-    requires few { vec_len crew < 2 }
-    requires crew { AreNewMembers queue.now plan.now.planned crew.items }
-    ensures members { All (λ m. HasEnded queue.now plan.now (D.image disk.now) m) result.0.items }
-    ensures whole { IfSome result.1 (λ s. AreDone s.parts s.amount result.0.items × (vec_len result.0 ≡ vec_len crew)) }
+    requires geometry { job.now.plan.now.geometry ≡ (D.image disk.now).geometry }
+    requires few { vec_len new_members < 2 }
+    requires crew { AreNewMembers job.now.queue.now job.now.plan.now.planned new_members.items }
+    ensures members { All (λ m. HasEnded job.now.queue.now job.now.plan.now (D.image disk.now) m) result.0.items }
+    ensures whole { IfSome result.1 (λ s. AreDone s.parts s.amount result.0.items × (vec_len result.0 ≡ vec_len new_members)) }
 {
-    let mut crew = crew;
     let mut members = Vec::new(alloc);
-    let Some(new_member) = crew.pop() else {
+    let Some(new_member) = new_members.pop() else {
         return (members, Some(nothing(rt, tally)));
     };
-    let (member, share) = member_works(rt, alloc, disk, plan, queue, gate, tally, new_member);
+    let (member, share) = member_works(rt, alloc, disk, job, tally, new_member);
     if members.push(member).is_err() {
         return (members, None);
     }
@@ -94,37 +89,42 @@ pub(crate) fn crew_works<
     rt: &R,
     alloc: Global,
     disk: &'d D,
-    plan: &Plan,
-    queue: &ExtentQueue,
-    gate: &G,
+    job: &Job<'_, G>,
     tally: &Mutex<Tally<L>>,
     mut low: Vec<NewMember>,
 ) -> (Vec<Member<'d, D>>, Option<Share<L>>)
-    requires geometry { plan.now.geometry ≡ (D.image disk.now).geometry }
-    requires crew { AreNewMembers queue.now plan.now.planned low.items }
-    ensures members { All (λ m. HasEnded queue.now plan.now (D.image disk.now) m) result.0.items }
+    requires geometry { job.now.plan.now.geometry ≡ (D.image disk.now).geometry }
+    requires crew { AreNewMembers job.now.queue.now job.now.plan.now.planned low.items }
+    ensures members { All (λ m. HasEnded job.now.queue.now job.now.plan.now (D.image disk.now) m) result.0.items }
     ensures whole { IfSome result.1 (λ s. AreDone s.parts s.amount result.0.items × (vec_len result.0 ≡ vec_len low)) }
 {
     if low.len() < 2 {
-        return last_works(rt, alloc, disk, plan, queue, gate, tally, low);
+        return last_works(rt, alloc, disk, job, tally, low);
     }
     let Ok(high) = low.split_off(low.len() / 2) else {
         return (Vec::new(alloc), None);
     };
+    let Job { plan, queue, gate } = *job;
     let front = move || -> (Vec<Member<D>>, Option<Share<L>>)
         requires sync { IsSync R.row }
         requires geometry { plan.now.geometry ≡ (D.image disk.now).geometry }
         requires crew { AreNewMembers queue.now plan.now.planned low.items }
         ensures members { All (λ m. HasEnded queue.entry.now plan.entry.now (D.image disk.entry.now) m) result.0.items }
         ensures whole { IfSome result.1 (λ s. AreDone s.parts s.amount result.0.items × (vec_len result.0 ≡ vec_len low)) }
-    { crew_works(rt, alloc, disk, plan, queue, gate, tally, low) };
+    {
+        let job = Job { plan, queue, gate };
+        crew_works(rt, alloc, disk, &job, tally, low)
+    };
     let back = move || -> (Vec<Member<D>>, Option<Share<L>>)
         requires sync { IsSync R.row }
         requires geometry { plan.now.geometry ≡ (D.image disk.now).geometry }
         requires crew { AreNewMembers queue.now plan.now.planned high.items }
         ensures members { All (λ m. HasEnded queue.entry.now plan.entry.now (D.image disk.entry.now) m) result.0.items }
         ensures whole { IfSome result.1 (λ s. AreDone s.parts s.amount result.0.items × (vec_len result.0 ≡ vec_len high)) }
-    { crew_works(rt, alloc, disk, plan, queue, gate, tally, high) };
+    {
+        let job = Job { plan, queue, gate };
+        crew_works(rt, alloc, disk, &job, tally, high)
+    };
     let ((mut members, mine), (mut rest, other)) = join(rt, front, back);
     if members.append(&mut rest).is_err() {
         return (members, None);

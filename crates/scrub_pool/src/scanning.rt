@@ -17,6 +17,7 @@ use crate::crew::{Member, NewMember, crew_works};
 use crate::extent_queue::{ExtentQueue, TakePass};
 use crate::fault::PoolFault;
 use crate::gate::Gate;
+use crate::job::Job;
 use crate::takings::Takings;
 use crate::tally::Tally;
 use crate::worker::{work, works};
@@ -61,55 +62,50 @@ fn all_work<'d, D: PageSource, L: Ledger + Send + Sync, G: Gate, R: Threads + Wa
     rt: &R,
     alloc: Global,
     disk: &'d D,
-    plan: &Plan,
-    queue: &ExtentQueue,
-    gate: &G,
+    job: &Job<'_, G>,
     tally: &Mutex<Tally<L>>,
+    crew: Vec<NewMember>,
     number: u32,
     first: &mut TakePass,
-    crew: Vec<NewMember>,
 ) -> (
     (Vec<Member<'d, D>>, Option<Share<L>>),
     (WorkerCore<'d, D>, Option<Share<L>>),
 )
-    requires geometry { plan.now.geometry ≡ (D.image disk.now).geometry }
-    requires first { IsPassFor queue.now plan.now.planned first.old }
+    requires geometry { job.now.plan.now.geometry ≡ (D.image disk.now).geometry }
+    requires first { IsPassFor job.now.queue.now job.now.plan.now.planned first.old }
     requires nothing { first.old.own ≡ [] }
-    requires crew { AreNewMembers queue.now plan.now.planned crew.items }
-    ensures members { All (λ m. HasEnded queue.now plan.now (D.image disk.now) m) result.0.0.items }
+    requires crew { AreNewMembers job.now.queue.now job.now.plan.now.planned crew.items }
+    ensures members { All (λ m. HasEnded job.now.queue.now job.now.plan.now (D.image disk.now) m) result.0.0.items }
     ensures theirs { IfSome result.0.1 (λ s. AreDone s.parts s.amount result.0.0.items × (vec_len result.0.0 ≡ vec_len crew)) }
     ensures pass { IsSamePart first.old first.new }
-    ensures core { IsAtWork queue.now plan.now (D.image disk.now) first.new result.1.0 }
+    ensures core { IsAtWork job.now.queue.now job.now.plan.now (D.image disk.now) first.new result.1.0 }
     ensures mine { IfSome result.1.1 (λ s. (held_by result.1.0 ≡ None) × (s.parts ≡ 1) × (s.amount ≡ length (results_of result.1.0))) }
 {
     if crew.is_empty() {
-        let none = crew_works(rt, alloc, disk, plan, queue, gate, tally, crew);
-        return (
-            none,
-            works(rt, alloc, disk, plan, queue, gate, tally, number, first),
-        );
+        let none = crew_works(rt, alloc, disk, job, tally, crew);
+        return (none, works(rt, alloc, disk, job, tally, number, first));
     }
     let mut crew = crew;
     join_mut(
         rt,
         &mut || -> (Vec<Member<D>>, Option<Share<L>>)
             requires sync { IsSync R.row }
-            requires geometry { plan.now.geometry ≡ (D.image disk.now).geometry }
-            requires crew { AreNewMembers queue.now plan.now.planned crew.items }
-            ensures members { All (λ m. HasEnded queue.entry.now plan.entry.now (D.image disk.entry.now) m) result.0.items }
+            requires geometry { job.now.plan.now.geometry ≡ (D.image disk.now).geometry }
+            requires crew { AreNewMembers job.now.queue.now job.now.plan.now.planned crew.items }
+            ensures members { All (λ m. HasEnded job.entry.now.queue.now job.entry.now.plan.now (D.image disk.entry.now) m) result.0.items }
             ensures theirs { IfSome result.1 (λ s. AreDone s.parts s.amount result.0.items × (vec_len result.0 ≡ vec_len crew.entry)) }
         {
             let all = mem::replace(&mut crew, Vec::new(alloc));
-            crew_works(rt, alloc, disk, plan, queue, gate, tally, all)
+            crew_works(rt, alloc, disk, job, tally, all)
         },
         &mut || -> (WorkerCore<D>, Option<Share<L>>)
-            requires geometry { plan.now.geometry ≡ (D.image disk.now).geometry }
-            requires first { IsPassFor queue.now plan.now.planned first.now }
+            requires geometry { job.now.plan.now.geometry ≡ (D.image disk.now).geometry }
+            requires first { IsPassFor job.now.queue.now job.now.plan.now.planned first.now }
             requires nothing { first.now.own ≡ [] }
             ensures pass { IsSamePart first.entry.now first.exit.now }
-            ensures core { IsAtWork queue.entry.now plan.entry.now (D.image disk.entry.now) first.exit.now result.0 }
+            ensures core { IsAtWork job.entry.now.queue.now job.entry.now.plan.now (D.image disk.entry.now) first.exit.now result.0 }
             ensures mine { IfSome result.1 (λ s. (held_by result.0 ≡ None) × (s.parts ≡ 1) × (s.amount ≡ length (results_of result.0))) }
-        { works(rt, alloc, disk, plan, queue, gate, tally, number, first) },
+        { works(rt, alloc, disk, job, tally, number, first) },
     )
 }
 
@@ -179,83 +175,50 @@ fn collect<'d, D: PageSource, R: Wait>(
 }
 
 /// All work until no extent is left. Gives who took what, by the workers' numbers, the caller's last; what was found; and the
-/// part of the ledger by which it was counted.
+/// total of the ledger in which it was counted.
 fn gather<'d, D: PageSource, L: Ledger + Send + Sync, G: Gate, R: Threads + Wait + Sync>(
     rt: &R,
     alloc: Global,
     disk: &'d D,
-    plan: &Plan,
-    queue: &ExtentQueue,
+    job: &Job<'_, G>,
     first: &mut TakePass,
     workers: u32,
-    gate: &G,
-    tally: &Mutex<Tally<L>>,
-) -> Result<(Vec<Vec<u32>>, Vec<ExtentResult<'d, D>>, Share<L>), OutOfMemory>
+    blank: Blank,
+) -> Result<(Vec<Vec<u32>>, Vec<ExtentResult<'d, D>>, u64), OutOfMemory>
     requires workers { workers ≤ 64 }
-    requires geometry { plan.now.geometry ≡ (D.image disk.now).geometry }
-    requires first { first.old ≡ new_pass queue.now plan.now.planned }
-    ensures first { OnOk result (IsFirstAlone queue.now plan.now.planned first.new) }
+    requires geometry { job.now.plan.now.geometry ≡ (D.image disk.now).geometry }
+    requires first { first.old ≡ new_pass job.now.queue.now job.now.plan.now.planned }
+    requires name { blank.name ≡ L.name }
+    requires parts { (blank.parts ≡ L.parts) × (blank.parts ≡ workers + 1) }
+    ensures first { OnOk result (IsFirstAlone job.now.queue.now job.now.plan.now.planned first.new) }
     ensures workers { IfOk result (λ r. vec_len r.0 ≡ workers + 1) }
     ensures lists { IfOk result (λ r. lists_in r.0.items ≡ first.new.joined ++ first.new.own ∷ []) }
-    ensures partition { IfOk result (λ r. IsPartition plan.now.planned (lists_in r.0.items)) }
-    ensures found { IfOk result (λ r. AreResults (D.image disk.now) plan.now r.1.items) }
-    ensures extents { IfOk result (λ r. IsPermutation (extents_of r.1.items) plan.now.planned) }
-    ensures parts { IfOk result (λ r. r.2.parts ≡ workers + 1) }
-    ensures counted { IfOk result (λ r. r.2.amount ≡ length r.1.items) }
+    ensures partition { IfOk result (λ r. IsPartition job.now.plan.now.planned (lists_in r.0.items)) }
+    ensures found { IfOk result (λ r. AreResults (D.image disk.now) job.now.plan.now r.1.items) }
+    ensures extents { IfOk result (λ r. IsPermutation (extents_of r.1.items) job.now.plan.now.planned) }
+    ensures counted { IfOk result (λ r. r.2 ≡ length r.1.items) }
 {
-    let crew = new_crew(rt, alloc, queue, first, workers)?;
+    let parts = u64::from(workers) + 1;
+    let (ledger, unclaimed) = blank.open::<L>();
+    let tally = Mutex::new(Tally::new(ledger, unclaimed, parts));
+    let crew = new_crew(rt, alloc, job.queue, first, workers)?;
     let ((members, theirs), (core, mine)) = all_work(
-        rt, alloc, disk, plan, queue, gate, tally, workers, first, crew,
+        rt, alloc, disk, job, &tally, crew, workers, first,
     );
     let (Some(theirs), Some(mine)) = (theirs, mine) else {
         return Err(OutOfMemory);
     };
     let (mut core, mut share) = (core, mine);
     let mut found = Vec::new(alloc);
-    let mut lists = collect(rt, alloc, queue, first, members, &mut found)?;
+    let mut lists = collect(rt, alloc, job.queue, first, members, &mut found)?;
     work(
-        rt, alloc, disk, plan, queue, gate, tally, workers, first, &mut core, &mut share,
+        rt, alloc, disk, job, &tally, &mut core, &mut share, workers, first,
     )?;
     let own = take_over(core, &mut found)?;
     lists.push(own)?;
     share.merge(theirs);
-    Ok((lists, found, share))
-}
-
-/// Scans all planned extents, and counts them in this ledger.
-fn scan_under<'d, D: PageSource, L: Ledger + Send + Sync, G: Gate, R: Threads + Wait + Sync>(
-    rt: &R,
-    alloc: Global,
-    disk: &'d D,
-    plan: &Plan,
-    queue: &ExtentQueue,
-    first: &mut TakePass,
-    workers: u32,
-    gate: &G,
-    blank: Blank,
-) -> Result<(AllFindings<'d, D>, Takings), OutOfMemory>
-    requires workers { workers ≤ 64 }
-    requires geometry { plan.now.geometry ≡ (D.image disk.now).geometry }
-    requires first { first.old ≡ new_pass queue.now plan.now.planned }
-    requires name { blank.name ≡ L.name }
-    requires parts { (blank.parts ≡ L.parts) × (blank.parts ≡ workers + 1) }
-    ensures image { IfOk result (λ r. D.image r.0.source ≡ D.image disk.now) }
-    ensures findings { IfOk result (λ r. AreAllFindings (D.image disk.now) plan.now r.0.extents) }
-    ensures workers { IfOk result (λ r. length r.1.lists ≡ workers + 1) }
-    ensures first { OnOk result (IsFirstAlone queue.now plan.now.planned first.new) }
-    ensures lists { IfOk result (λ r. r.1.lists ≡ first.new.joined ++ first.new.own ∷ []) }
-    ensures partition { IfOk result (λ r. IsPartition plan.now.planned r.1.lists) }
-    ensures counted { IfOk result (λ r. r.1.counted ≡ length plan.now.planned) }
-{
-    let book = Book::new(alloc, disk, plan)?;
-    let parts = u64::from(workers) + 1;
-    let (ledger, unclaimed) = blank.open::<L>();
-    let tally = Mutex::new(Tally::new(ledger, unclaimed, parts));
-    let (lists, results, mut share) = gather(
-        rt, alloc, disk, plan, queue, first, workers, gate, &tally,
-    )?;
     let counted = tally.into_inner().last(&mut share);
-    Ok((assemble(book, results), Takings::new(lists, counted)))
+    Ok((lists, found, counted))
 }
 
 /// What one reader finds in the planned extents, scanned by this many workers (0 to 64) and the caller, each taking from this
@@ -283,9 +246,11 @@ pub fn scan_all<'d, D: PageSource, G: Gate, R: Threads + Wait + Sync>(
     ensures partition { IfOk result (λ r. IsPartition plan.now.planned r.1.lists) }
     ensures counted { IfOk result (λ r. r.1.counted ≡ length plan.now.planned) }
 {
+    let book = Book::new(alloc, disk, plan)?;
     let blank = Blank::new(u64::from(workers) + 1);
-    let answer = scan_under::<D, Brand, G, R>(
-        rt, alloc, disk, plan, queue, first, workers, gate, blank,
+    let job = Job { plan, queue, gate };
+    let (lists, results, counted) = gather::<D, Brand, G, R>(
+        rt, alloc, disk, &job, first, workers, blank,
     )?;
-    Ok(answer)
+    Ok((assemble(book, results), Takings::new(lists, counted)))
 }

@@ -7,13 +7,13 @@ ghost use Rattle.scrub_pool.specs.Passes.{HasTakenAll};
 ghost use Rattle.scrub_pool.specs.Work.{IsPassFor, IsSamePart, IsAtWork};
 
 use crate::OutOfMemory;
-use crate::extent_queue::{ExtentQueue, TakePass};
+use crate::extent_queue::TakePass;
 use crate::gate::Gate;
+use crate::job::Job;
 use crate::tally::{Tally, claim, count};
 use scrub_book::WorkerCore;
 use scrub_disk::PageSource;
 use scrub_scan::scan_extent;
-use scrub_super::Plan;
 use std::alloc::Global;
 use std::sync::ledger::{Ledger, Share};
 use std::sync::{Mutex, Wait};
@@ -23,22 +23,20 @@ pub(crate) fn work<'d, D: PageSource, L: Ledger + Send + Sync, G: Gate, R: Wait>
     rt: &R,
     alloc: Global,
     disk: &'d D,
-    plan: &Plan,
-    queue: &ExtentQueue,
-    gate: &G,
+    job: &Job<'_, G>,
     tally: &Mutex<Tally<L>>,
-    number: u32,
-    pass: &mut TakePass,
     core: &mut WorkerCore<'d, D>,
     share: &mut Share<L>,
+    number: u32,
+    pass: &mut TakePass,
 ) -> Result<(), OutOfMemory>
-    requires geometry { plan.now.geometry ≡ (D.image disk.now).geometry }
+    requires geometry { job.now.plan.now.geometry ≡ (D.image disk.now).geometry }
     requires free { held_by core.old ≡ None }
     requires part { share.old.parts ≡ 1 }
     requires counted { share.old.amount ≡ length (results_of core.old) }
-    requires work { IsAtWork queue.now plan.now (D.image disk.now) pass.old core.old }
+    requires work { IsAtWork job.now.queue.now job.now.plan.now (D.image disk.now) pass.old core.old }
     ensures pass { IsSamePart pass.old pass.new }
-    ensures work { IsAtWork queue.now plan.now (D.image disk.now) pass.new core.new }
+    ensures work { IsAtWork job.now.queue.now job.now.plan.now (D.image disk.now) pass.new core.new }
     ensures part { share.new.parts ≡ 1 }
     ensures free { OnOk result (held_by core.new ≡ None) }
     ensures counted { OnOk result (share.new.amount ≡ length (results_of core.new)) }
@@ -47,17 +45,17 @@ pub(crate) fn work<'d, D: PageSource, L: Ledger + Send + Sync, G: Gate, R: Wait>
 {
     for _ in rt.forever() {
         core.reserve(1)?;
-        let Some(extent) = queue.take(rt, pass) else {
+        let Some(extent) = job.queue.take(rt, pass) else {
             return Ok(());
         };
         core.took(extent);
-        gate.passed(number, extent);
-        let found = scan_extent(alloc, disk, plan, extent)?;
+        job.gate.passed(number, extent);
+        let found = scan_extent(alloc, disk, job.plan, extent)?;
         core.done(found);
         let Some(total) = count(rt, tally, share) else {
             return Err(OutOfMemory);
         };
-        gate.counted(number, total);
+        job.gate.counted(number, total);
     }
     unreachable!()
 }
@@ -67,18 +65,16 @@ pub(crate) fn works<'d, D: PageSource, L: Ledger + Send + Sync, G: Gate, R: Wait
     rt: &R,
     alloc: Global,
     disk: &'d D,
-    plan: &Plan,
-    queue: &ExtentQueue,
-    gate: &G,
+    job: &Job<'_, G>,
     tally: &Mutex<Tally<L>>,
     number: u32,
     pass: &mut TakePass,
 ) -> (WorkerCore<'d, D>, Option<Share<L>>)
-    requires geometry { plan.now.geometry ≡ (D.image disk.now).geometry }
-    requires pass { IsPassFor queue.now plan.now.planned pass.old }
+    requires geometry { job.now.plan.now.geometry ≡ (D.image disk.now).geometry }
+    requires pass { IsPassFor job.now.queue.now job.now.plan.now.planned pass.old }
     requires nothing { pass.old.own ≡ [] }
     ensures pass { IsSamePart pass.old pass.new }
-    ensures work { IsAtWork queue.now plan.now (D.image disk.now) pass.new result.0 }
+    ensures work { IsAtWork job.now.queue.now job.now.plan.now (D.image disk.now) pass.new result.0 }
     ensures whole { IfSome result.1 (λ s. (held_by result.0 ≡ None) × (s.parts ≡ 1) × (s.amount ≡ length (results_of result.0))) }
 {
     let mut core = WorkerCore::new(alloc);
@@ -86,7 +82,7 @@ pub(crate) fn works<'d, D: PageSource, L: Ledger + Send + Sync, G: Gate, R: Wait
         return (core, None);
     };
     match work(
-        rt, alloc, disk, plan, queue, gate, tally, number, pass, &mut core, &mut share,
+        rt, alloc, disk, job, tally, &mut core, &mut share, number, pass,
     ) {
         Ok(()) => (core, Some(share)),
         Err(_) => (core, None),

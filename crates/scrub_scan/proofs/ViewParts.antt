@@ -6,10 +6,16 @@ use Rattle.std.proofs.lemmas.List.Edits.{length-between, get_or-between}
 use Rattle.std.specs.List.{between}
 use Rattle.scrub_frame.specs.Frame.{frame_magic}
 use Rattle.scrub_scan.specs.declared.buffer.ScanView.{ScanView}
-use Rattle.scrub_scan.specs.Extent.{bound, IsUnreadableAt, IsZero, HasMagic}
+use Rattle.scrub_scan.specs.Extent.{Extent, bound, IsUnreadableAt, IsZero, HasMagic}
+use Rattle.scrub_scan.specs.declared.item.Item.{Item}
+use Rattle.scrub_scan.specs.Item.{Fits, IsItem, start_of}
 use Rattle.scrub_scan.specs.View.{viewed_extent}
 use Rattle.scrub_scan.proofs.PlacePages.{page_of}
 use Rattle.scrub_scan.proofs.ViewFrames.{readable_byte, byte_reads}
+
+-- an item is what is there where it begins, below the pointer
+pub item_of : {x : Extent} {item : Item} → start_of item < x.pointer → Fits x (start_of item) item → IsItem x item
+item_of below fits = record { below = below; fits = fits }
 
 -- q is the bound above p
 abbrev pub IsBound : ScanView → ℕ → ℕ → Type 0

@@ -22,24 +22,6 @@ use std::cmp::Reverse;
 use std::process::Abort;
 use std::test::Fail;
 
-/// The place of an item, if it is a chunk.
-fn place_of(extent: u32, item: &Item) -> Option<Place> {
-    match item {
-        Item::Chunk {
-            start,
-            uuid,
-            length,
-            ..
-        } => Some(Place {
-            extent,
-            offset: *start,
-            length: *length,
-            uuid: *uuid,
-        }),
-        _ => None,
-    }
-}
-
 /// The chunks of a disk, by extent and then start.
 fn walk_chunks(alloc: Global, all: &AllFindings<'_, MemDisk>) -> Result<Vec<Place>, Fail> {
     let mut places = Vec::new(alloc);
@@ -52,8 +34,14 @@ fn walk_chunks(alloc: Global, all: &AllFindings<'_, MemDisk>) -> Result<Vec<Plac
 /// Adds the chunks of an extent, by start.
 fn add_chunks(places: &mut Vec<Place>, one: &ExtentResult<'_, MemDisk>) -> Result<(), Fail> {
     for item in one.findings().items() {
-        if let Some(place) = place_of(one.extent(), item) {
-            places.push(place)?;
+        if let Item::Chunk { uuid, length, .. } = *item {
+            let (extent, offset) = (one.extent(), item.start());
+            places.push(Place {
+                extent,
+                offset,
+                length,
+                uuid,
+            })?;
         }
     }
     Ok(())
@@ -141,7 +129,7 @@ fn walk_live(
     let mut starts = Vec::new(alloc);
     let mut bytes: u32 = 0;
     for item in found.findings().items() {
-        let is_chunk = place_of(found.extent(), item).is_some();
+        let is_chunk = matches!(item, Item::Chunk { .. });
         if is_chunk && sound_at(checked, found.extent(), item.start()) > 0 {
             starts.push(item.start())?;
             bytes = bytes.saturating_add(item.stop().saturating_sub(item.start()));

@@ -1,7 +1,6 @@
 //! What a scan finds in one extent: its items, its tail and its unreadable pages.
 
 use super::*;
-use crate::findings::PageNumbers;
 
 /// The line of the chunk of `abc` at the start of an extent.
 const ABC: [&str; 1] = ["chunk 0 41 11111111-1111-1111-1111-111111111111 3"];
@@ -63,11 +62,4 @@ fn check_unreadable(rt: &impl Abort, alloc: Global, bad_pages: &[u32]) -> Result
 fn unreadable_pages_on_both_sides_of_the_pointer(rt: HostRuntime) -> Result<(), Fail> {
     check_unreadable(&rt, rt.alloc(), &[1])?;
     check_unreadable(&rt, rt.alloc(), &[1, 3])
-}
-
-#[test]
-fn the_numbers_of_pages_as_a_slice(rt: HostRuntime) -> Result<(), Fail> {
-    let pages = PageNumbers::from_vec(Vec::from_slice(rt.alloc(), &[1, 3])?);
-    assert!(rt; pages.as_slice() == [1, 3].as_slice());
-    Ok(())
 }

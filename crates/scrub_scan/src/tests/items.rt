@@ -140,16 +140,6 @@ fn an_item_of_each_kind_has_its_line(rt: HostRuntime) -> Result<(), Fail> {
 }
 
 #[test]
-fn an_item_has_a_start_and_a_stop(rt: HostRuntime) {
-    let noise = Item::Noise {
-        start: 66,
-        stop: 105,
-    };
-    assert!(rt; noise.start() == 66);
-    assert!(rt; noise.stop() == 105);
-}
-
-#[test]
 fn a_chunk_has_the_digest_of_its_payload(rt: HostRuntime) -> Result<(), Fail> {
     let disk = disk_with(rt.alloc(), &[(0, ONES, b"abc")], &[])?;
     let items = tiling_of(&rt, rt.alloc(), &disk, 41)?;

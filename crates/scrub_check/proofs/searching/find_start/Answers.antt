@@ -15,12 +15,11 @@ loop-low-preserved-then-other-start-2 c =
     let l = c.loop-low in
     let items = c.args.items.now in
     let middle = l.low + (l.high - l.low) / 2 in
-    let some : l.low < l.high = c.loop-low-test.true in
     let inside = l.invariant.0.inside in
-    let at : get_or (map start_of items) middle 0 ≡ c.start-other.result = get_or-map start_of items middle _ 0 (omega (arith, some, inside, length-map items start_of)) ∙ sym (c.start-other.ensures ∙ ap start_of c.index-items-middle.is) in
+    let at : get_or (map start_of items) middle 0 ≡ c.start-other.result = get_or-map start_of items middle _ 0 (omega (arith, c.loop-low-test.true, inside, length-map items start_of)) ∙ sym (c.start-other.ensures ∙ ap start_of c.index-items-middle.is) in
     let less : c.start-other.result < c.args.start = c.if-other-start-2.true in (
-      lies_above (map start_of items) c.args.start l.low l.high middle c.requires l.invariant.0 (omega (arith, some)) (omega arith) (omega (arith, at, less)),
-      halves_more (length items) l.probes (l.high - l.low) (l.high - (middle + 1)) l.invariant.1 (omega (arith, some)) (omega (arith, some)),
+      lies_above (map start_of items) c.args.start l.low l.high middle c.requires l.invariant.0 (omega (arith, c.loop-low-test.true)) (omega arith) (omega (arith, at, less)),
+      halves_more (length items) l.probes (l.high - l.low) (l.high - (middle + 1)) l.invariant.1 (omega (arith, c.loop-low-test.true)) (omega (arith, c.loop-low-test.true)),
       l.invariant.2,
     )
 
@@ -30,13 +29,12 @@ loop-low-preserved c =
     let l = c.loop-low in
     let items = c.args.items.now in
     let middle = l.low + (l.high - l.low) / 2 in
-    let some : l.low < l.high = c.loop-low-test.true in
     let inside = l.invariant.0.inside in
-    let at : get_or (map start_of items) middle 0 ≡ c.start-other.result = get_or-map start_of items middle _ 0 (omega (arith, some, inside, length-map items start_of)) ∙ sym (c.start-other.ensures ∙ ap start_of c.index-items-middle.is) in
+    let at : get_or (map start_of items) middle 0 ≡ c.start-other.result = get_or-map start_of items middle _ 0 (omega (arith, c.loop-low-test.true, inside, length-map items start_of)) ∙ sym (c.start-other.ensures ∙ ap start_of c.index-items-middle.is) in
     let differ = c.if-other-start.false in
     let more = c.if-other-start-2.false in (
-      lies_below (map start_of items) c.args.start l.low l.high middle c.requires l.invariant.0 (omega (arith, some)) (omega arith) (omega (arith, at, differ, more)),
-      halves_more (length items) l.probes (l.high - l.low) (middle - l.low) l.invariant.1 (omega (arith, some)) (omega (arith, some)),
+      lies_below (map start_of items) c.args.start l.low l.high middle c.requires l.invariant.0 (omega (arith, c.loop-low-test.true)) (omega arith) (omega (arith, at, differ, more)),
+      halves_more (length items) l.probes (l.high - l.low) (middle - l.low) l.invariant.1 (omega (arith, c.loop-low-test.true)) (omega (arith, c.loop-low-test.true)),
       l.invariant.2,
     )
 

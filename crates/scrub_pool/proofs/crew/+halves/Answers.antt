@@ -6,7 +6,7 @@ use Rattle.scrub_pool.proofs.crew.+halves.Goals as goal
 pub returns-clause-members : goal.returns-clause-members
 returns-clause-members g t c =
     let is : c.append.new.self.items ≡ c.join-members.result.0.0.items ++ c.join-members.result.1.0.items = search rules in
-    all_both (λ m. HasEnded c.args.queue.now c.args.plan.now (g.D.PageSource.image c.args.disk.now) m) c.join-members.result.0.0.items c.join-members.result.1.0.items c.append.new.self.items is (search rules) (search rules)
+    all_both (λ m. HasEnded c.args.job.now.queue.now c.args.job.now.plan.now (g.D.PageSource.image c.args.disk.now) m) c.join-members.result.0.0.items c.join-members.result.1.0.items c.append.new.self.items is (search rules) (search rules)
 
 pub returns-clause-whole : goal.returns-clause-whole
 returns-clause-whole g t c =

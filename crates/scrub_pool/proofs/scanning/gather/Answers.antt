@@ -22,13 +22,13 @@ returns-clause-partition g c =
     let ended = c.in_ok-work.ensures in
     let joined : pass.joined ≡ lists_in c.in_ok-lists.lists.items = search rules in
     let pushed = items_push c.in_ok-lists.lists.items c.push.new.self.items c.in_ok-own.own pass.own c.in_ok-push.ensures.items (c.in_ok-own.ensures.list ∙ sym ended.work.1) in
-    partition_of c.args.plan.now.planned pass.own pass.joined (lists_in c.push.new.self.items) (pushed ∙ ap (λ l. l ++ pass.own ∷ []) (sym joined)) ended.rising.0 ended.rising.1
+    partition_of c.args.job.now.plan.now.planned pass.own pass.joined (lists_in c.push.new.self.items) (pushed ∙ ap (λ l. l ++ pass.own ∷ []) (sym joined)) ended.rising.0 ended.rising.1
     (subst (λ (l : List ℕ). IsPermutation (taken_in pass) l) (search rules) (ended.all (search rules) (search rules)))
 
 pub returns-clause-found : goal.returns-clause-found
 returns-clause-found g c =
     let image = g.D.PageSource.image c.args.disk.now in
-    let plan = c.args.plan.now in
+    let plan = c.args.job.now.plan.now in
     let theirs = c.in_ok-lists.ensures.results image plan (λ k d below. (c.all_work-members.ensures.members k d below).1.2) in
     results_append image plan c.take_over.new.found.items c.collect.new.found.items (results_of c.work.new.core) c.in_ok-own.ensures.found theirs c.in_ok-work.ensures.work.2
 
@@ -36,7 +36,7 @@ pub returns-clause-extents : goal.returns-clause-extents
 returns-clause-extents g c =
     let pass = c.work.new.pass in
     let joined : pass.joined ≡ lists_in c.in_ok-lists.lists.items = search rules in
-    all_scanned pass c.take_over.new.found.items c.collect.new.found.items (results_of c.work.new.core) c.args.plan.now.planned c.in_ok-own.ensures.found
+    all_scanned pass c.take_over.new.found.items c.collect.new.found.items (results_of c.work.new.core) c.args.job.now.plan.now.planned c.in_ok-own.ensures.found
     (c.in_ok-lists.ensures.found ∙ ap one_list (sym joined)) (c.in_ok-own.ensures.matched ∙ sym c.in_ok-work.ensures.work.1) (search rules) (c.in_ok-work.ensures.all (search rules) (search rules))
 
 pub returns-clause-counted : goal.returns-clause-counted
@@ -45,4 +45,4 @@ returns-clause-counted g c =
     let own : c.work.new.share.amount ≡ length (results_of core) = c.in_ok-work.ensures.counted in
     let others : c.in-Some-Some.theirs.amount ≡ length c.collect.new.found.items = search rules in
     let whole : c.merge.new.self.amount ≡ c.work.new.share.amount + c.in-Some-Some.theirs.amount = search rules in
-    omega (arith, whole, own, others, long_append c.take_over.new.found.items c.collect.new.found.items (results_of core) c.in_ok-own.ensures.found)
+    omega (arith, c.last-counted.ensures, whole, own, others, long_append c.take_over.new.found.items c.collect.new.found.items (results_of core) c.in_ok-own.ensures.found)

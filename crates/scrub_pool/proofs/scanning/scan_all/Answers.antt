@@ -1,23 +1,20 @@
--- What was answered is the answer of scan_under, whose clauses these are.
+use Rattle.std.proofs.Common.{◌≡◌, arith, sym, subst, All, Some}
+use Rattle.std.proofs.lemmas.List.{length-map}
+use Rattle.std.proofs.lemmas.List.Sorted.{length_permutation}
+use Rattle.scrub_super.specs.Plan.{pointer_of}
+use Rattle.scrub_scan.specs.Scanned.{result_image, scanned}
+use Rattle.scrub_book.specs.Extents.{extents_of}
 use Rattle.scrub_pool.proofs.scanning.scan_all.Goals as goal
 
-pub returns-clause-image : goal.returns-clause-image
-returns-clause-image g c = c.in_ok-answer.ensures.image
+pub assemble-requires-clause-images : goal.assemble-requires-clause-images
+assemble-requires-clause-images g c κs within =
+    subst (λ s. All (λ r. result_image r ≡ g.D.PageSource.image s) c.in_ok-lists.results.items) (sym c.in_ok-book.ensures.source_is) c.in_ok-lists.ensures.found.0
 
-pub returns-clause-findings : goal.returns-clause-findings
-returns-clause-findings g c = c.in_ok-answer.ensures.findings
-
-pub returns-clause-workers : goal.returns-clause-workers
-returns-clause-workers g c = c.in_ok-answer.ensures.workers
-
-pub returns-clause-first : goal.returns-clause-first
-returns-clause-first g c = c.in_ok-answer.ensures.first
-
-pub returns-clause-lists : goal.returns-clause-lists
-returns-clause-lists g c = c.in_ok-answer.ensures.lists
-
-pub returns-clause-partition : goal.returns-clause-partition
-returns-clause-partition g c = c.in_ok-answer.ensures.partition
+pub assemble-requires-clause-pointers : goal.assemble-requires-clause-pointers
+assemble-requires-clause-pointers g c κs within =
+    subst (λ p. All (λ r. pointer_of p r.extent ≡ Some r.pointer) c.in_ok-lists.results.items) (sym c.in_ok-book.ensures.plan_is) c.in_ok-lists.ensures.found.1
 
 pub returns-clause-counted : goal.returns-clause-counted
-returns-clause-counted g c = c.in_ok-answer.ensures.counted
+returns-clause-counted g c =
+    let results = c.in_ok-lists.results.items in
+    omega (arith, c.in_ok-lists.ensures.counted, length_permutation (extents_of results) c.args.plan.now.planned c.in_ok-lists.ensures.extents, length-map results (λ r. (scanned r).extent))

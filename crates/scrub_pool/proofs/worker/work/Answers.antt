@@ -8,7 +8,7 @@ returns-in_default-count-clause-work g c =
     let found = c.in_ok-found in (
       search rules,
       search rules,
-      results_push (g.D.PageSource.image c.args.disk.now) c.args.plan.now (results_of c.loop.core) (results_of c.done.new.self) found.found c.in-Some-take.extent (search rules) (search rules) found.ensures.image found.ensures.extent found.ensures.pointer,
+      results_push (g.D.PageSource.image c.args.disk.now) c.args.job.now.plan.now (results_of c.loop.core) (results_of c.done.new.self) found.found c.in-Some-take.extent (search rules) (search rules) found.ensures.image found.ensures.extent found.ensures.pointer,
     )
 
 pub loop-preserved : goal.loop-preserved
@@ -24,6 +24,6 @@ loop-preserved g c =
       (
         search rules,
         search rules,
-        results_push (g.D.PageSource.image c.args.disk.now) c.args.plan.now (results_of c.loop.core) (results_of c.done.new.self) found.found c.in-Some-take.extent more (search rules) found.ensures.image found.ensures.extent found.ensures.pointer,
+        results_push (g.D.PageSource.image c.args.disk.now) c.args.job.now.plan.now (results_of c.loop.core) (results_of c.done.new.self) found.found c.in-Some-take.extent more (search rules) found.ensures.image found.ensures.extent found.ensures.pointer,
       ),
     )

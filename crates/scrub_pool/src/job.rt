@@ -1,0 +1,13 @@
+//! What all workers of a scan have in common. What one of them does with it is left to it.
+
+use crate::extent_queue::ExtentQueue;
+use crate::gate::Gate;
+use scrub_super::Plan;
+
+/// The plan, the queue of its planned extents, and who is told of each.
+#[derive(Drop)]
+pub(crate) struct Job<'j, G: Gate> {
+    pub plan: &'j Plan,
+    pub queue: &'j ExtentQueue,
+    pub gate: &'j G,
+}
