@@ -4,7 +4,7 @@
 use crate::*;
 use scrub_disk::{Geometry, MemDisk};
 use scrub_fakes::{plan_of, put_superblock, small_disk};
-use scrub_scan::{AllFindings, ExtentResult, scan_extent};
+use scrub_scan::{AllFindings, ExtentResult, scan_extent, scan_in_order};
 use scrub_super::Plan;
 use std::alloc::Global;
 use std::process::Abort;

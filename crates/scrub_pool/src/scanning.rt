@@ -19,7 +19,7 @@ use crate::fault::PoolFault;
 use crate::gate::Gate;
 use crate::job::Job;
 use crate::takings::Takings;
-use crate::tally::Tally;
+use crate::tally::{Tally, audit};
 use crate::worker::{work, works};
 use scrub_book::{Book, WorkerCore, assemble};
 use scrub_disk::PageSource;
@@ -216,8 +216,7 @@ fn gather<'d, D: PageSource, L: Ledger + Send + Sync, G: Gate, R: Threads + Wait
     )?;
     let own = take_over(core, &mut found)?;
     lists.push(own)?;
-    share.merge(theirs);
-    let counted = tally.into_inner().last(&mut share);
+    let counted = audit(tally, theirs, share);
     Ok((lists, found, counted))
 }
 

@@ -110,3 +110,13 @@ pub(crate) fn count<L: Ledger, R: Wait>(
 {
     tally.lock(rt).count(share)
 }
+
+/// What was counted by both shares, once one of them has every part that the other has not.
+pub(crate) fn audit<L: Ledger>(tally: Mutex<Tally<L>>, theirs: Share<L>, mine: Share<L>) -> u64
+    requires { mine.parts + theirs.parts ≡ L.parts }
+    ensures { result ≡ mine.amount + theirs.amount }
+{
+    let mut all = mine;
+    all.merge(theirs);
+    tally.into_inner().last(&mut all)
+}

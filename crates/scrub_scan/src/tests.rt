@@ -61,7 +61,8 @@ fn disk_with(alloc: Global, frames: &[Written], bad_pages: &[u32]) -> Result<Mem
 fn check_lines(rt: &impl Abort, alloc: Global, items: &[Item], lines: &[&str]) -> Result<(), Fail> {
     assert!(rt; items.len() == lines.len());
     for (item, line) in items.iter().zip(lines) {
-        assert_eq!(rt; item_line(alloc, item)?.as_str(), *line);
+        let found = item_line(alloc, item)?;
+        assert!(rt; found.as_str() == *line, "{line}");
     }
     Ok(())
 }
@@ -82,15 +83,6 @@ fn full<'a>(lines: &'a [&'a str]) -> Expected<'a> {
         tail_count: 0,
         tail_first: None,
         bad_pages: &[],
-    }
-}
-
-/// What is to be found in a readable extent that has so many bytes past its pointer, the first of them at a place.
-fn with_tail<'a>(lines: &'a [&'a str], tail_count: u32, tail_first: u32) -> Expected<'a> {
-    Expected {
-        tail_count,
-        tail_first: Some(tail_first),
-        ..full(lines)
     }
 }
 

@@ -83,7 +83,7 @@ fn came_back<'d>(rt: &impl Abort, book: Book<'d, MemDisk>) -> Result<Book<'d, Me
     Ok(back)
 }
 
-/// What comes of the results of these extents, of which the plan has 1 and 3.
+/// What comes of the results of these extents, of which the plan has 1 and 3, and that one reader finds these too.
 fn check_1_and_3(
     rt: &impl Abort,
     alloc: Global,
@@ -102,6 +102,7 @@ fn check_1_and_3(
     assert!(rt; book.missing().is_none());
     let all = book.finish().ok().ok_or("the findings of both extents")?;
     check_extents(rt, &all);
+    check_extents(rt, &scan_in_order(alloc, disk, plan)?);
     Ok(())
 }
 

@@ -1,8 +1,5 @@
 //! What one reader finds in the planned extents.
 
-ghost use Rattle.std.specs.Prelude.{◌≡◌};
-ghost use Rattle.scrub_disk.specs.Memory.{image_of};
-
 use super::*;
 
 /// Four pages of zeros.
@@ -31,27 +28,8 @@ fn check_all(
 /// Requires that one reader has findings of these extents, and of no other.
 fn check_extents(rt: &impl Abort, all: &AllFindings<'_, MemDisk>, extents: &[u32], count: u32) {
     for other in 0..=count {
-        assert!(rt;
-            extents.contains(&other) == all.of_extent(other).is_some(),
-            "extent {other}"
-        );
+        assert!(rt; extents.contains(&other) == all.of_extent(other).is_some());
     }
-}
-
-/// Compares the findings of one reader of the extents that a plan has: of these, each with its lines, and of no other.
-fn check_planned(
-    rt: &impl Abort,
-    alloc: Global,
-    disk: &MemDisk,
-    plan: &Plan,
-    extents: &[u32],
-    lines: &[&[&str]],
-) -> Result<(), Fail>
-    requires { plan.now.geometry ≡ (image_of disk.now).geometry }
-{
-    let all = scan_in_order(alloc, disk, plan)?;
-    check_extents(rt, &all, extents, disk.geometry().extents());
-    check_all(rt, alloc, &all, extents, lines)
 }
 
 /// Compares the findings of one reader of all planned extents, which are 1 and 2.
@@ -62,7 +40,9 @@ fn check_both(
     lines: &[&[&str]],
 ) -> Result<(), Fail> {
     let plan = plan_of(alloc, disk)?;
-    check_planned(rt, alloc, disk, &plan, &[1, 2], lines)
+    let all = scan_in_order(alloc, disk, &plan)?;
+    check_extents(rt, &all, &[1, 2], disk.geometry().extents());
+    check_all(rt, alloc, &all, &[1, 2], lines)
 }
 
 #[test]
@@ -105,13 +85,4 @@ fn one_reader_of_a_chunk_and_its_run_with_and_without_extent_0(
     check_both(&rt, rt.alloc(), &disk, &[&FIRST[..1], &SECOND[..1]])?;
     mark_all(&mut disk, 0, &[0, 1, 2, 3])?;
     check_both(&rt, rt.alloc(), &disk, &[&FIRST, &SECOND])
-}
-
-#[test]
-fn one_reader_of_two_of_three_extents(rt: HostRuntime) -> Result<(), Fail> {
-    let disk = MemDisk::blank(rt.alloc(), Geometry::new(64, 4, 4)?)?;
-    let whole = plan_of(rt.alloc(), &disk)?;
-    let plan = whole.restrict(rt.alloc(), &[1, 3])?;
-    check_planned(&rt, rt.alloc(), &disk, &plan, &[1, 3], &[&PADS, &PADS])?;
-    check_extent(&rt, rt.alloc(), &disk, &plan, 3, 256, &full(&PADS))
 }

@@ -20,16 +20,50 @@ fn check_under(
     check_extent(rt, alloc, disk, &plan, 2, 0, &full(&[]))
 }
 
+/// What a scan finds of the chunk of `abc` under a pointer.
+const TAILS: [(u32, Expected<'static>); 4] = [
+    (
+        41,
+        Expected {
+            lines: &ABC,
+            tail_count: 0,
+            tail_first: None,
+            bad_pages: &[],
+        },
+    ),
+    (
+        40,
+        Expected {
+            lines: &["torn 0 40"],
+            tail_count: 1,
+            tail_first: Some(40),
+            bad_pages: &[],
+        },
+    ),
+    (
+        1,
+        Expected {
+            lines: &["noise 0 1"],
+            tail_count: 37,
+            tail_first: Some(1),
+            bad_pages: &[],
+        },
+    ),
+    (
+        0,
+        Expected {
+            lines: &[],
+            tail_count: 38,
+            tail_first: Some(0),
+            bad_pages: &[],
+        },
+    ),
+];
+
 #[test]
 fn the_tails_of_abc_under_pointers_41_40_1_and_0(rt: HostRuntime) -> Result<(), Fail> {
     let mut disk = disk_with(rt.alloc(), &[(0, ONES, b"abc")], &[])?;
-    let cases = [
-        (41, full(&ABC)),
-        (40, with_tail(&["torn 0 40"], 1, 40)),
-        (1, with_tail(&["noise 0 1"], 37, 1)),
-        (0, with_tail(&[], 38, 0)),
-    ];
-    for (pointer, expected) in &cases {
+    for (pointer, expected) in &TAILS {
         check_under(&rt, rt.alloc(), &mut disk, *pointer, expected)?;
     }
     Ok(())
@@ -41,8 +75,10 @@ fn a_tail_behind_an_unreadable_page(rt: HostRuntime) -> Result<(), Fail> {
     // The bytes on page 1 can't be read, and of those on pages 2 and 3 three aren't zero.
     put_all(&mut disk, &[(64, &[7; 64]), (130, &[7, 0, 9]), (255, &[7])])?;
     let expected = Expected {
+        lines: &ABC,
+        tail_count: 3,
+        tail_first: Some(130),
         bad_pages: &[1],
-        ..with_tail(&ABC, 3, 130)
     };
     check_under(&rt, rt.alloc(), &mut disk, 41, &expected)
 }

@@ -19,51 +19,27 @@ fn two_extents(alloc: Global) -> Result<MemDisk, Fail> {
     Ok(disk)
 }
 
-/// The frame that stands at a place under a pointer.
-fn standing_at(
-    rt: &impl Abort,
-    alloc: Global,
-    disk: &MemDisk,
-    pointer: u32,
-    extent: u32,
-    offset: u32,
-) -> Result<Option<Standing>, Fail> {
-    let geometry = disk.geometry();
-    assert!(rt; extent < geometry.extents());
-    assert!(rt; pointer <= geometry.extent_bytes());
-    assert!(rt; offset <= geometry.extent_bytes());
-    Ok(frame_stands(alloc, disk, pointer, extent, offset)?)
-}
+/// A pointer, and a place under it: the number of an extent and a byte of it.
+type Place = (u32, u32, u32);
 
-/// Requires that a frame stands at an offset of an extent under a pointer, or that none does.
+/// Compares the frame that stands at a place.
 fn check_stands(
     rt: &impl Abort,
     alloc: Global,
     disk: &MemDisk,
-    pointer: u32,
-    extent: u32,
-    offset: u32,
-    stands: bool,
+    place: Place,
+    expected: Option<Standing>,
 ) -> Result<(), Fail> {
-    let found = standing_at(rt, alloc, disk, pointer, extent, offset)?;
+    let (pointer, extent, offset) = place;
+    let geometry = disk.geometry();
+    assert!(rt; extent < geometry.extents());
+    assert!(rt; pointer <= geometry.extent_bytes());
+    assert!(rt; offset <= geometry.extent_bytes());
+    let found = frame_stands(alloc, disk, pointer, extent, offset)?;
     assert!(rt;
-        found.is_some() == stands,
+        found == expected,
         "at {offset} of extent {extent} under {pointer}"
     );
-    Ok(())
-}
-
-/// Requires that a frame stands at its place under a pointer.
-fn check_standing(
-    rt: &impl Abort,
-    alloc: Global,
-    disk: &MemDisk,
-    pointer: u32,
-    standing: &Standing,
-) -> Result<(), Fail> {
-    let (extent, offset) = (standing.extent, standing.offset);
-    let found = standing_at(rt, alloc, disk, pointer, extent, offset)?;
-    assert!(rt; found == Some(*standing), "at {offset} of extent {extent}");
     Ok(())
 }
 
@@ -89,38 +65,47 @@ fn standing_long() -> Standing {
     }
 }
 
-#[test]
-fn frames_stand_at_their_places(rt: HostRuntime) -> Result<(), Fail> {
-    let disk = two_extents(rt.alloc())?;
-    check_standing(&rt, rt.alloc(), &disk, 512, &standing_abc(1, 0))?;
-    check_standing(&rt, rt.alloc(), &disk, 297, &standing_long())?;
-    check_standing(&rt, rt.alloc(), &disk, 297, &standing_abc(2, 256))
+/// Requires that a frame stands at its place under each of these pointers.
+fn check_standing(
+    rt: &impl Abort,
+    alloc: Global,
+    disk: &MemDisk,
+    standing: &Standing,
+    pointers: &[u32],
+) -> Result<(), Fail> {
+    for pointer in pointers {
+        let place = (*pointer, standing.extent, standing.offset);
+        check_stands(rt, alloc, disk, place, Some(*standing))?;
+    }
+    Ok(())
 }
-
-/// A pointer, a place, as the number of an extent and a byte of it, and whether a frame stands there.
-type Place = (u32, u32, u32, bool);
-
-/// Places where none was written, and the end of each frame as the pointer and one byte less.
-const PLACES: [Place; 10] = [
-    (512, 1, 41, false),
-    (512, 1, 300, false),
-    (512, 1, 2048, false),
-    (0, 3, 0, false),
-    (41, 1, 0, true),
-    (40, 1, 0, false),
-    (258, 2, 0, true),
-    (257, 2, 0, false),
-    (297, 2, 256, true),
-    (296, 2, 256, false),
-];
 
 #[test]
 fn frames_stand_where_they_were_written_and_end_at_the_pointer(
     rt: HostRuntime,
 ) -> Result<(), Fail> {
     let disk = two_extents(rt.alloc())?;
-    for (pointer, extent, offset, stands) in &PLACES {
-        check_stands(&rt, rt.alloc(), &disk, *pointer, *extent, *offset, *stands)?;
+    check_standing(&rt, rt.alloc(), &disk, &standing_abc(1, 0), &[512, 41])?;
+    check_standing(&rt, rt.alloc(), &disk, &standing_long(), &[297, 258])?;
+    check_standing(&rt, rt.alloc(), &disk, &standing_abc(2, 256), &[512, 297])
+}
+
+/// Places where none was written, and those of the frames under a pointer one byte before their ends.
+const BARE: [Place; 7] = [
+    (512, 1, 41),
+    (512, 1, 300),
+    (512, 1, 2048),
+    (0, 3, 0),
+    (40, 1, 0),
+    (257, 2, 0),
+    (296, 2, 256),
+];
+
+#[test]
+fn no_frame_stands_where_none_was_written_or_past_the_pointer(rt: HostRuntime) -> Result<(), Fail> {
+    let disk = two_extents(rt.alloc())?;
+    for place in &BARE {
+        check_stands(&rt, rt.alloc(), &disk, *place, None)?;
     }
     Ok(())
 }
@@ -134,7 +119,12 @@ fn check_put(
     stands: bool,
 ) -> Result<(), Fail> {
     put_frame(alloc, disk, 1, offset, ONES, b"abc")?;
-    check_stands(rt, alloc, disk, 512, 1, offset, stands)
+    let expected = if stands {
+        Some(standing_abc(1, offset))
+    } else {
+        None
+    };
+    check_stands(rt, alloc, disk, (512, 1, offset), expected)
 }
 
 #[test]

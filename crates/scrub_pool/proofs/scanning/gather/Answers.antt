@@ -44,5 +44,4 @@ returns-clause-counted g c =
     let core = c.work.new.core in
     let own : c.work.new.share.amount ≡ length (results_of core) = c.in_ok-work.ensures.counted in
     let others : c.in-Some-Some.theirs.amount ≡ length c.collect.new.found.items = search rules in
-    let whole : c.merge.new.self.amount ≡ c.work.new.share.amount + c.in-Some-Some.theirs.amount = search rules in
-    omega (arith, c.last-counted.ensures, whole, own, others, long_append c.take_over.new.found.items c.collect.new.found.items (results_of core) c.in_ok-own.ensures.found)
+    omega (arith, c.audit-counted.ensures, own, others, long_append c.take_over.new.found.items c.collect.new.found.items (results_of core) c.in_ok-own.ensures.found)
