@@ -12,7 +12,7 @@ ghost use Rattle.scrub_fakes.specs.Builders.{IsSmall, IsLocatorOf, PutsRecord, I
 
 use crate::OutOfMemory;
 use scrub_disk::{Geometry, MemDisk, PageSource};
-use scrub_frame::{FrameFault, Locator, MAX_PAYLOAD, locate, write_frame};
+use scrub_frame::{FrameFault, Locator, locate, write_frame};
 use scrub_run::{Entry, ShardId, write_run};
 use scrub_super::{MAX_RUNS, Plan, Superblock, choose, write_record};
 use std::alloc::Global;
@@ -33,6 +33,15 @@ pub enum Misfit {
 impl From<OutOfMemory> for Misfit {
     fn from(_fault: OutOfMemory) -> Misfit {
         Misfit::OutOfMemory
+    }
+}
+
+impl From<FrameFault> for Misfit {
+    fn from(fault: FrameFault) -> Misfit {
+        match fault {
+            FrameFault::TooLong => Misfit::DoesNotFit,
+            FrameFault::OutOfMemory => Misfit::OutOfMemory,
+        }
     }
 }
 
@@ -78,25 +87,6 @@ pub fn mark_bad(disk: &mut MemDisk, extent: u32, page: u32) -> Result<(), Misfit
     Ok(())
 }
 
-/// Puts the frame of a UUID and a payload into an extent.
-pub fn put_frame(
-    alloc: Global,
-    disk: &mut MemDisk,
-    extent: u32,
-    offset: u32,
-    uuid: [u8; 16],
-    payload: &[u8],
-) -> Result<(), Misfit>
-    ensures { OnOk result (Puts (image_of disk.old) (image_of disk.new) extent offset (frame uuid payload.now)) }
-{
-    let mut bytes = Vec::new(alloc);
-    match write_frame(&mut bytes, Uuid::from_bytes(uuid), payload) {
-        Ok(()) => put(disk, extent, offset, &bytes),
-        Err(FrameFault::TooLong) => Err(Misfit::DoesNotFit),
-        Err(FrameFault::OutOfMemory) => Err(Misfit::OutOfMemory),
-    }
-}
-
 /// Puts the frame of a UUID and a payload into an extent, and tells its locator.
 pub fn put_chunk(
     alloc: Global,
@@ -109,11 +99,11 @@ pub fn put_chunk(
     ensures put { IfOk result (λ _. Puts (image_of disk.old) (image_of disk.new) extent offset (frame uuid payload.now)) }
     ensures locator { IfOk result (IsLocatorOf extent offset uuid payload.now) }
 {
-    if payload.len() > MAX_PAYLOAD {
-        return Err(Misfit::DoesNotFit);
-    }
-    put_frame(alloc, disk, extent, offset, uuid, payload)?;
-    Ok(locate(extent, offset, Uuid::from_bytes(uuid), payload))
+    let uuid = Uuid::from_bytes(uuid);
+    let mut bytes = Vec::new(alloc);
+    write_frame(&mut bytes, uuid, payload)?;
+    put(disk, extent, offset, &bytes)?;
+    Ok(locate(extent, offset, uuid, payload))
 }
 
 /// The payload of the run of one shard, 64 locators at most: without any it says that the shard was deleted.

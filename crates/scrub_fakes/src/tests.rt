@@ -1,7 +1,7 @@
-//! What the fakes do, each called once.
+//! What the fakes do, and the builders beside each other. Those that put bytes and marks alone are called by the tests above.
 
 use crate::*;
-use scrub_disk::{PageSource, RawFault, RawImage, Unreadable};
+use scrub_disk::{PageSource, RawFault, RawImage};
 use std::fmt::Debug;
 use std::io::Write;
 use std::process::Abort;
@@ -75,17 +75,5 @@ fn a_chunk_its_run_and_the_superblock_of_both_are_put(rt: HostRuntime) -> Result
     same(&rt, plan.runs(), slice::from_ref(&run));
     assert!(rt; plan.has_superblock());
     assert!(rt; shard_of(1) == SHARD);
-    Ok(())
-}
-
-#[test]
-fn a_marked_page_is_unreadable(rt: HostRuntime) -> Result<(), Fail> {
-    let mut disk = small_disk(rt.alloc())?;
-    mark_bad(&mut disk, 2, 3)?;
-    let geometry = disk.geometry();
-    assert!(rt; geometry.extents() == 3 && geometry.pages() == 4 && geometry.page() == 64);
-    let mut out = [7; 64];
-    same(&rt, disk.read_page(2, 3, &mut out), Err(Unreadable));
-    same(&rt, disk.read_page(2, 2, &mut out), Ok(()));
     Ok(())
 }

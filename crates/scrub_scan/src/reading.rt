@@ -2,7 +2,8 @@
 
 ghost use Rattle.std.specs.Prelude.{◌≡◌, ◌+◌, ◌<◌, ◌≤◌, IfOk, IfSome, IfNone, None, length};
 ghost use Rattle.scrub_disk.specs.Image.{byte, extent_bytes, AreBytesAt};
-ghost use Rattle.scrub_scan.specs.Extent.{HasGap, AppendsAtMost};
+ghost use Rattle.scrub_scan.specs.Extent.{HasGap};
+ghost use Rattle.scrub_scan.specs.FrameRead.{AppendsAtMost};
 
 use scrub_disk::{OutOfMemory, PageSource};
 use std::alloc::Global;

@@ -4,7 +4,8 @@ ghost use Rattle.std.specs.Prelude.{◌≡◌, ◌+◌, ◌<◌, ◌≤◌, ◌^
 ghost use Rattle.scrub_disk.specs.Image.{Image, extent_bytes};
 ghost use Rattle.scrub_frame.specs.Frame.{head_size, frame_overhead};
 ghost use Rattle.scrub_scan.specs.Extent.{extent_of, FrameAt, NoFrameAt};
-ghost use Rattle.scrub_scan.specs.Standing.{IsStandingAt, IsClaimedSize, Stands, HasPayload};
+ghost use Rattle.scrub_scan.specs.Standing.{IsStandingAt, Stands, HasPayload};
+ghost use Rattle.scrub_scan.specs.FrameRead.{IsClaimedSize};
 
 use crate::reading::read_bytes;
 use scrub_disk::{OutOfMemory, PageSource};

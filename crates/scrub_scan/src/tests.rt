@@ -8,7 +8,7 @@ use crate::*;
 use scrub_disk::{Geometry, MemDisk, PageSource};
 use scrub_fakes::{
     ABC_DIGEST, ENDS_IN_MAGIC, ONES, SHARD, THREES, TWOS, mark_bad, plan_of, put, put_chunk,
-    put_frame, put_superblock, run_of, small_disk,
+    put_superblock, run_of, small_disk,
 };
 use scrub_super::Plan;
 use std::alloc::Global;
@@ -28,7 +28,7 @@ type Written<'a> = (u32, [u8; 16], &'a [u8]);
 /// Puts frames into extent 1.
 fn put_frames(alloc: Global, disk: &mut MemDisk, frames: &[Written]) -> Result<(), Fail> {
     for (offset, uuid, payload) in frames {
-        put_frame(alloc, disk, 1, *offset, *uuid, payload)?;
+        put_chunk(alloc, disk, 1, *offset, *uuid, payload)?;
     }
     Ok(())
 }

@@ -4,8 +4,8 @@
 use scrub_check::Status;
 use scrub_disk::{Geometry, MemDisk, PageSource};
 use scrub_fakes::{
-    ENDS_IN_MAGIC, FOURS, ONES, SHARD, THREES, TWOS, abc_at, mark_bad, put, put_chunk, put_frame,
-    put_record, put_superblock, run_of, shard_of, small_disk,
+    ENDS_IN_MAGIC, FOURS, ONES, SHARD, THREES, TWOS, abc_at, mark_bad, put, put_chunk, put_record,
+    put_superblock, run_of, shard_of, small_disk,
 };
 use scrub_frame::{Locator, digest_of, write_locator};
 use scrub_run::{Entry, ShardId};
@@ -31,7 +31,7 @@ pub(crate) fn put_run(
 /// Writes to a blank disk of three extents `abc` at the start of extent 1, the run of one shard that names it in extent
 /// 2, and the superblock of both. Tells the run's locator.
 pub(crate) fn put_abc_and_its_run(alloc: Global, disk: &mut MemDisk) -> Result<Locator, Fail> {
-    put_frame(alloc, disk, 1, 0, ONES, b"abc")?;
+    put_chunk(alloc, disk, 1, 0, ONES, b"abc")?;
     let run = put_run(alloc, disk, 2, 0, TWOS, &[abc_at(1, 0)])?;
     put_superblock(alloc, disk, &[41, 155], slice::from_ref(&run))?;
     Ok(run)
@@ -40,7 +40,7 @@ pub(crate) fn put_abc_and_its_run(alloc: Global, disk: &mut MemDisk) -> Result<L
 /// A disk of four extents with `abc` at the start of extent 1.
 pub(crate) fn abc_on_four_extents(alloc: Global) -> Result<MemDisk, Fail> {
     let mut disk = MemDisk::blank(alloc, Geometry::new(64, 4, 4)?)?;
-    put_frame(alloc, &mut disk, 1, 0, ONES, b"abc")?;
+    put_chunk(alloc, &mut disk, 1, 0, ONES, b"abc")?;
     Ok(disk)
 }
 
@@ -114,7 +114,7 @@ pub(crate) fn judged_locators() -> [(Locator, Status); 9] {
 /// magic of the frame of `abc` at 256. Extent 3 has the run of one shard with the nine locators. Tells the run's locator.
 pub(crate) fn nine_locators(rt: &impl Abort, alloc: Global) -> Result<(MemDisk, Locator), Fail> {
     let mut disk = collision(alloc)?;
-    put_frame(alloc, &mut disk, 1, 0, ONES, b"abc")?;
+    put_chunk(alloc, &mut disk, 1, 0, ONES, b"abc")?;
     mark_bad(&mut disk, 1, 1)?;
     let locators = judged_locators().map(|judged| judged.0);
     let run = put_run(alloc, &mut disk, 3, 0, TWOS, &locators)?;
@@ -127,8 +127,8 @@ pub(crate) fn nine_locators(rt: &impl Abort, alloc: Global) -> Result<(MemDisk, 
 /// last two bytes are the magic of the frame of `abc` at 256.
 pub(crate) fn collision(alloc: Global) -> Result<MemDisk, Fail> {
     let mut disk = MemDisk::blank(alloc, Geometry::new(256, 8, 4)?)?;
-    put_frame(alloc, &mut disk, 2, 0, ENDS_IN_MAGIC, &[0x78; 220])?;
-    put_frame(alloc, &mut disk, 2, 256, ONES, b"abc")?;
+    put_chunk(alloc, &mut disk, 2, 0, ENDS_IN_MAGIC, &[0x78; 220])?;
+    put_chunk(alloc, &mut disk, 2, 256, ONES, b"abc")?;
     Ok(disk)
 }
 
@@ -136,8 +136,8 @@ pub(crate) fn collision(alloc: Global) -> Result<MemDisk, Fail> {
 /// over its last two bytes. Extent 2 has the run of one shard with this `abc`.
 pub(crate) fn overwritten_end(alloc: Global, uuid: [u8; 16]) -> Result<MemDisk, Fail> {
     let mut disk = small_disk(alloc)?;
-    put_frame(alloc, &mut disk, 1, 0, uuid, &[0x78; 28])?;
-    put_frame(alloc, &mut disk, 1, 64, ONES, b"abc")?;
+    put_chunk(alloc, &mut disk, 1, 0, uuid, &[0x78; 28])?;
+    put_chunk(alloc, &mut disk, 1, 64, ONES, b"abc")?;
     let run = put_run(alloc, &mut disk, 2, 0, TWOS, &[abc_at(1, 64)])?;
     put_superblock(alloc, &mut disk, &[105, 155], slice::from_ref(&run))?;
     Ok(disk)
@@ -146,8 +146,8 @@ pub(crate) fn overwritten_end(alloc: Global, uuid: [u8; 16]) -> Result<MemDisk, 
 /// A disk of three extents with `abc` at 0 and 41 of extent 1, and a run that names the second alone.
 pub(crate) fn half_garbage(alloc: Global) -> Result<MemDisk, Fail> {
     let mut disk = small_disk(alloc)?;
-    put_frame(alloc, &mut disk, 1, 0, ONES, b"abc")?;
-    put_frame(alloc, &mut disk, 1, 41, ONES, b"abc")?;
+    put_chunk(alloc, &mut disk, 1, 0, ONES, b"abc")?;
+    put_chunk(alloc, &mut disk, 1, 41, ONES, b"abc")?;
     let run = put_run(alloc, &mut disk, 2, 0, TWOS, &[abc_at(1, 41)])?;
     put_superblock(alloc, &mut disk, &[82, 155], slice::from_ref(&run))?;
     Ok(disk)
@@ -212,8 +212,8 @@ pub(crate) fn entry_of(alloc: Global, id: ShardId, locator: Locator) -> Result<E
 /// name the second, in extent 2. Tells the run's payload.
 pub(crate) fn twins_and_shared(rt: &impl Abort, alloc: Global) -> Result<(MemDisk, Vec<u8>), Fail> {
     let mut disk = small_disk(alloc)?;
-    put_frame(alloc, &mut disk, 1, 0, ONES, b"abc")?;
-    put_frame(alloc, &mut disk, 1, 41, ONES, b"abc")?;
+    put_chunk(alloc, &mut disk, 1, 0, ONES, b"abc")?;
+    put_chunk(alloc, &mut disk, 1, 41, ONES, b"abc")?;
     let mut entries = Vec::new(alloc);
     for id in [SHARD, shard_of(2)] {
         entries.push(entry_of(alloc, id, abc_at(1, 41))?)?;
@@ -228,7 +228,7 @@ pub(crate) fn twins_and_shared(rt: &impl Abort, alloc: Global) -> Result<(MemDis
 /// A disk of three extents with `abc` in extent 1, which is behind its write pointer.
 pub(crate) fn behind_the_pointer(alloc: Global) -> Result<MemDisk, Fail> {
     let mut disk = small_disk(alloc)?;
-    put_frame(alloc, &mut disk, 1, 0, ONES, b"abc")?;
+    put_chunk(alloc, &mut disk, 1, 0, ONES, b"abc")?;
     put_superblock(alloc, &mut disk, &[0, 0], &[])?;
     Ok(disk)
 }
@@ -236,7 +236,7 @@ pub(crate) fn behind_the_pointer(alloc: Global) -> Result<MemDisk, Fail> {
 /// A disk of three extents with a frame of 98 bytes at the start of extent 1, of which page 1 is unreadable.
 pub(crate) fn torn_frame(alloc: Global) -> Result<MemDisk, Fail> {
     let mut disk = small_disk(alloc)?;
-    put_frame(alloc, &mut disk, 1, 0, ONES, &[0x78; 60])?;
+    put_chunk(alloc, &mut disk, 1, 0, ONES, &[0x78; 60])?;
     put_superblock(alloc, &mut disk, &[98, 0], &[])?;
     mark_bad(&mut disk, 1, 1)?;
     Ok(disk)

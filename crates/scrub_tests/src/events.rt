@@ -4,7 +4,7 @@ use crate::compare::{check_found, same};
 use crate::disks::one_shard;
 use scrub_book::{Event, PoolCore, StepRefused};
 use scrub_disk::{Geometry, MemDisk};
-use scrub_fakes::{ONES, plan_of, put_frame, put_superblock};
+use scrub_fakes::{ONES, plan_of, put_chunk, put_superblock};
 use scrub_scan::scan_in_order;
 use std::alloc::Global;
 use std::process::Abort;
@@ -150,7 +150,7 @@ fn check_schedule(
 #[test]
 fn two_schedules_find_the_same(rt: HostRuntime) -> Result<(), Fail> {
     let mut disk = MemDisk::blank(rt.alloc(), Geometry::new(64, 4, 4)?)?;
-    put_frame(rt.alloc(), &mut disk, 2, 0, ONES, b"abc")?;
+    put_chunk(rt.alloc(), &mut disk, 2, 0, ONES, b"abc")?;
     put_superblock(rt.alloc(), &mut disk, &[64, 41, 256], &[])?;
     for (events, arrivals) in &SCHEDULES {
         check_schedule(&rt, rt.alloc(), &disk, events, arrivals)?;

@@ -8,7 +8,7 @@ use crate::told::judge;
 use scrub_check::{ReadRuns, RunState, Status, read_runs};
 use scrub_disk::MemDisk;
 use scrub_fakes::{
-    ENDS_IN_MAGIC, ONES, SHARD, TWOS, abc_at, mark_bad, plan_of, put_frame, put_superblock,
+    ENDS_IN_MAGIC, ONES, SHARD, TWOS, abc_at, mark_bad, plan_of, put_chunk, put_superblock,
     small_disk,
 };
 use scrub_frame::Locator;
@@ -156,7 +156,7 @@ fn a_run_is_lost_for_the_reason_of_its_locator(rt: HostRuntime) -> Result<(), Fa
 #[test]
 fn a_hidden_run_is_read(rt: HostRuntime) -> Result<(), Fail> {
     let mut disk = small_disk(rt.alloc())?;
-    put_frame(rt.alloc(), &mut disk, 1, 0, ENDS_IN_MAGIC, &[0x78; 28])?;
+    put_chunk(rt.alloc(), &mut disk, 1, 0, ENDS_IN_MAGIC, &[0x78; 28])?;
     let run = put_run(rt.alloc(), &mut disk, 1, 64, TWOS, &[abc_at(1, 0)])?;
     put_superblock(rt.alloc(), &mut disk, &[219, 0], slice::from_ref(&run))?;
     same(&rt, judge(rt.alloc(), &disk, &run)?, Status::Hidden);
@@ -167,7 +167,7 @@ fn a_hidden_run_is_read(rt: HostRuntime) -> Result<(), Fail> {
 #[test]
 fn a_chunk_whose_payload_is_no_run_is_no_run(rt: HostRuntime) -> Result<(), Fail> {
     let mut disk = small_disk(rt.alloc())?;
-    put_frame(rt.alloc(), &mut disk, 1, 0, ONES, b"abc")?;
+    put_chunk(rt.alloc(), &mut disk, 1, 0, ONES, b"abc")?;
     put_superblock(rt.alloc(), &mut disk, &[41, 0], &[abc_at(1, 0)])?;
     check_lost(&rt, rt.alloc(), &disk, RunState::NotARun)
 }

@@ -6,16 +6,14 @@ ghost use Rattle.scrub_disk.specs.Memory.{image_of};
 
 use crate::compare::same;
 use crate::disks::{payload_of, put_abc_and_its_run, shard};
-use crate::told::{scrubbed, told_of};
+use crate::told::{lists_of, scrubbed};
 use scrub_book::Book;
 use scrub_check::{
     Checked, Owner, SharedPlace, Status, broken_shards, dangling, hidden, named_locators, shared,
     twins,
 };
 use scrub_disk::{Geometry, MemDisk, PageSource, load};
-use scrub_fakes::{
-    ONES, RawBytes, TWOS, abc_at, plan_of, put_chunk, put_frame, put_superblock, small_disk,
-};
+use scrub_fakes::{ONES, RawBytes, TWOS, abc_at, plan_of, put_chunk, put_superblock, small_disk};
 use scrub_merge::merge;
 use scrub_run::{Entry, read_run, write_run};
 use scrub_scan::{AllFindings, scan_extent, scan_in_order, tile};
@@ -49,7 +47,7 @@ fn run_of_shards(alloc: Global, shards: u32) -> Result<Vec<u8>, Fail> {
 fn filled(alloc: Global, geometry: Geometry, chunks: u32, shards: u32) -> Result<MemDisk, Fail> {
     let mut disk = MemDisk::blank(alloc, geometry)?;
     for number in 0..chunks {
-        put_frame(alloc, &mut disk, 1, number.saturating_mul(41), ONES, b"abc")?;
+        put_chunk(alloc, &mut disk, 1, number.saturating_mul(41), ONES, b"abc")?;
     }
     let payload = run_of_shards(alloc, shards)?;
     let run = put_chunk(alloc, &mut disk, 2, 0, TWOS, &payload)?;
@@ -80,7 +78,7 @@ fn of_many_chunks_half_are_garbage(rt: HostRuntime) -> Result<(), Fail> {
     let disk = filled(rt.alloc(), geometry, 25_000, 195)?;
     let plan = plan_of(rt.alloc(), &disk)?;
     let all = scan_in_order(rt.alloc(), &disk, &plan)?;
-    let told = told_of(&rt, rt.alloc(), &disk)?;
+    let told = lists_of(&rt, rt.alloc(), &disk)?;
     assert!(rt; told.checked.len() == 12_481);
     assert!(rt; told.orphans.len() == 12_520);
     assert!(rt; told.candidates.len() == 1);
@@ -95,7 +93,7 @@ fn many_extents_may_be_reclaimed(rt: HostRuntime) -> Result<(), Fail> {
     let mut disk = MemDisk::blank(rt.alloc(), Geometry::new(64, 128, 2_001)?)?;
     let pointers = [64; 2_000];
     put_superblock(rt.alloc(), &mut disk, &pointers, &[])?;
-    let told = told_of(&rt, rt.alloc(), &disk)?;
+    let told = lists_of(&rt, rt.alloc(), &disk)?;
     assert!(rt; told.live.len() == 2_000);
     assert!(rt; told.candidates.len() == 2_000);
     same(&rt, told.candidates[1_999].extent(), 2_000);

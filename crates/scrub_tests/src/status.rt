@@ -6,7 +6,7 @@ use crate::told::judge;
 use scrub_check::Status;
 use scrub_disk::MemDisk;
 use scrub_fakes::{
-    ABC_DIGEST, ENDS_IN_MAGIC, ONES, TWOS, abc_at, mark_bad, put_frame, put_superblock, small_disk,
+    ABC_DIGEST, ENDS_IN_MAGIC, ONES, TWOS, abc_at, mark_bad, put_chunk, put_superblock, small_disk,
 };
 use scrub_frame::{Locator, locate};
 use std::alloc::Global;
@@ -31,14 +31,14 @@ fn check(
 fn abc_under(alloc: Global, pointer: u32) -> Result<MemDisk, Fail> {
     let mut disk = small_disk(alloc)?;
     put_superblock(alloc, &mut disk, &[pointer, 0], &[])?;
-    put_frame(alloc, &mut disk, 1, 0, ONES, b"abc")?;
+    put_chunk(alloc, &mut disk, 1, 0, ONES, b"abc")?;
     Ok(disk)
 }
 
 /// A disk of three extents with the frame of a payload at a place of extent 1, without a superblock.
 fn long_at(alloc: Global, offset: u32, payload: &[u8]) -> Result<MemDisk, Fail> {
     let mut disk = small_disk(alloc)?;
-    put_frame(alloc, &mut disk, 1, offset, ONES, payload)?;
+    put_chunk(alloc, &mut disk, 1, offset, ONES, payload)?;
     Ok(disk)
 }
 
@@ -55,7 +55,7 @@ fn a_chunk_in_extent_0_or_past_the_last_extent_is_out_of_range(
 ) -> Result<(), Fail> {
     let mut disk = small_disk(rt.alloc())?;
     for extent in [0, 1, 2] {
-        put_frame(rt.alloc(), &mut disk, extent, 0, ONES, b"abc")?;
+        put_chunk(rt.alloc(), &mut disk, extent, 0, ONES, b"abc")?;
     }
     let cases = [
         (abc_at(0, 0), Status::OutOfRange),
@@ -131,7 +131,7 @@ fn a_frame_that_ends_with_the_last_byte_of_the_last_extent_is_sound(
     rt: HostRuntime,
 ) -> Result<(), Fail> {
     let mut disk = small_disk(rt.alloc())?;
-    put_frame(rt.alloc(), &mut disk, 2, 192, ONES, &[0x78; 26])?;
+    put_chunk(rt.alloc(), &mut disk, 2, 192, ONES, &[0x78; 26])?;
     let cases = [
         (long_of(2, 192, 26), Status::Sound),
         (long_of(2, 192, 27), Status::OutOfRange),

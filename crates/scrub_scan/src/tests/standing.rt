@@ -12,10 +12,10 @@ const LONG_DIGEST: [u8; 32] = [
 /// unreadable. Extent 2 has a frame of 258 bytes at 0, whose last two bytes are the magic of the frame of `abc` at 256.
 fn two_extents(alloc: Global) -> Result<MemDisk, Fail> {
     let mut disk = MemDisk::blank(alloc, Geometry::new(256, 8, 4)?)?;
-    put_frame(alloc, &mut disk, 1, 0, ONES, b"abc")?;
+    put_chunk(alloc, &mut disk, 1, 0, ONES, b"abc")?;
     mark_bad(&mut disk, 1, 1)?;
-    put_frame(alloc, &mut disk, 2, 0, ENDS_IN_MAGIC, &[0x78; 220])?;
-    put_frame(alloc, &mut disk, 2, 256, ONES, b"abc")?;
+    put_chunk(alloc, &mut disk, 2, 0, ENDS_IN_MAGIC, &[0x78; 220])?;
+    put_chunk(alloc, &mut disk, 2, 256, ONES, b"abc")?;
     Ok(disk)
 }
 
@@ -118,7 +118,7 @@ fn check_put(
     offset: u32,
     stands: bool,
 ) -> Result<(), Fail> {
-    put_frame(alloc, disk, 1, offset, ONES, b"abc")?;
+    put_chunk(alloc, disk, 1, offset, ONES, b"abc")?;
     let expected = if stands {
         Some(standing_abc(1, offset))
     } else {

@@ -6,8 +6,8 @@ use crate::running::run;
 use scrub_disk::{MemDisk, PageSource};
 use scrub_fakes::published::{COLLISION, NO_SHARDS, ONE_SHARD, TWINS, ZEROS};
 use scrub_fakes::{
-    ENDS_IN_MAGIC, NarrowWriter, ONES, SHARD, TWOS, abc_at, put_chunk, put_frame, put_superblock,
-    run_of, shard_of, small_disk,
+    ENDS_IN_MAGIC, NarrowWriter, ONES, SHARD, TWOS, abc_at, put_chunk, put_superblock, run_of,
+    shard_of, small_disk,
 };
 use scrub_frame::{digest_of, write_locator};
 use std::alloc::Global;
@@ -46,7 +46,7 @@ fn disk_with_run(
 ) -> Result<Vec<u8>, Fail> {
     let mut disk = small_disk(alloc)?;
     for (offset, uuid, payload) in frames {
-        put_frame(alloc, &mut disk, 1, *offset, *uuid, payload)?;
+        put_chunk(alloc, &mut disk, 1, *offset, *uuid, payload)?;
     }
     let run = put_chunk(alloc, &mut disk, 2, 0, TWOS, payload)?;
     put_superblock(alloc, &mut disk, &pointers, slice::from_ref(&run))?;
