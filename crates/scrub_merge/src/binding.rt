@@ -4,14 +4,13 @@ ghost use Rattle.std.specs.Prelude.{◌≡◌};
 ghost use Rattle.scrub_merge.specs.Binding.{BindingValue};
 
 use scrub_frame::Locator;
-use scrub_run::ShardId;
+use scrub_run::{Entry, ShardId};
 use std::marker::Model;
 
 /// What one index run says of a shard.
 #[derive(Debug, Drop)]
 pub struct Binding {
-    id: ShardId,
-    locators: Vec<Locator>,
+    entry: Entry,
     run: u32,
     doubtful: bool,
 }
@@ -21,17 +20,16 @@ impl Model for Binding {
 
     ghost Value = { BindingValue };
 
-    ghost view = { λ b. record { id = b.id; locators = b.locators.items; run = b.run; doubtful = b.doubtful } };
+    ghost view = { λ b. record { id = b.entry.id; locators = b.entry.locators; run = b.run; doubtful = b.doubtful } };
 }
 
 impl Binding {
-    /// A binding of what is handed in.
-    pub(crate) fn new(id: ShardId, locators: Vec<Locator>, run: u32, doubtful: bool) -> Binding
-        ensures { result ≡ record { id = id; locators = locators.items; run = run; doubtful = doubtful } }
+    /// The binding by an entry of the run of this number.
+    pub(crate) fn new(entry: Entry, run: u32, doubtful: bool) -> Binding
+        ensures { result ≡ record { id = entry.id; locators = entry.locators; run = run; doubtful = doubtful } }
     {
         Binding {
-            id,
-            locators,
+            entry,
             run,
             doubtful,
         }
@@ -41,14 +39,14 @@ impl Binding {
     pub fn id(&self) -> ShardId
         ensures { result ≡ self.now.id }
     {
-        self.id
+        self.entry.id()
     }
 
     /// The locators of the shard's chunks in order: one or more, in a shard map.
     pub fn locators(&self) -> &[Locator]
         ensures { result.now ≡ self.now.locators }
     {
-        self.locators.as_slice()
+        self.entry.locators()
     }
 
     /// The number of the index run that says so, from 0, the newest.

@@ -33,8 +33,8 @@ fn bind_entry(
     if newest.contains_key(&id) {
         return Ok(());
     }
-    let locators = Vec::from_slice(alloc, entry.locators())?;
-    newest.insert(id, Binding::new(id, locators, number, doubtful))?;
+    let copy = Entry::new(id, Vec::from_slice(alloc, entry.locators())?);
+    newest.insert(id, Binding::new(copy, number, doubtful))?;
     Ok(())
 }
 

@@ -13,7 +13,8 @@ returns-then-contains_key-clause-bound c = λ id.
 pub returns-clause-bound : goal.returns-clause-bound
 returns-clause-bound c = λ id.
     let made : c.new.result ≡ binding_by c.args.number c.args.doubtful c.args.entry.now =
-    c.new.ensures ∙ (λ i. binding_by c.args.number c.args.doubtful (record { id = c.id-id.ensures i; locators = (c.in_ok-locators.ensures.items ∙ c.locators.ensures) i })) in
+    c.new.ensures
+    ∙ ap (binding_by c.args.number c.args.doubtful) (c.new-copy.ensures ∙ (λ i. record { id = c.id-id.ensures i; locators = (c.in_ok-from_slice.ensures.items ∙ c.locators.ensures) i })) in
     bound_step c.args.number c.args.doubtful id c.args.entry.now (value_at c.args.newest.now) (value_at c.insert.new.self id)
     (ap (λ q. is_some (value_at c.args.newest.now q)) (sym c.id-id.ensures) ∙ sym c.contains_key.ensures ∙ c.if-contains_key.false)
     (c.in_ok-insert.ensures.updates.0 id
