@@ -5,6 +5,7 @@ use Rattle.std.specs.Ordering.{nat_cmp, eq_by_cmp, is_eq}
 use Rattle.std.specs.Cmp.{IsEquivalence}
 use Rattle.std.specs.Cmp.Lexicographic.{slice_cmp}
 use Rattle.std.specs.List.{All, AllPairs, Contains, IsDistinct, flat_map, list_any, slice_get}
+use Rattle.std.proofs.lemmas.Bool.{or_left, or_right}
 use Rattle.std.proofs.lemmas.Cmp.{eq_by_cmp_equiv, nat_list_cmp_total}
 use Rattle.std.proofs.lemmas.List.{length-append, length-map}
 use Rattle.std.proofs.lemmas.List.Concat.{length-flat_map}
@@ -70,13 +71,6 @@ ids_of_runs runs = flat_map ids_of_run runs
 
 abbrev bound_ids : List BindingValue → List (List ℕ)
 bound_ids bindings = map (λ b. b.id.0) bindings
-
-or_left : (a b : Bool) → a ≡ true → (a || b) ≡ true
-or_left a b h = ap (λ x. x || b) h
-
-or_right : (a b : Bool) → b ≡ true → (a || b) ≡ true
-or_right true b h = refl
-or_right false b h = h
 
 id_among : (p : List ℕ → Bool) (es : List EntryValue) (e : EntryValue) → Contains es e → p e.id.0 ≡ true → list_any p (map (λ f. f.id.0) es) ≡ true
 id_among p [] e there h = absurd (let no : ⊥ = omega (arith, there.1) in no)

@@ -2,19 +2,17 @@
 
 ghost use Rattle.std.specs.Prelude.{◌≡◌, ◌+◌, ◌≤◌, length, IfOk};
 ghost use Rattle.scrub_disk.specs.Image.{Image};
-ghost use Rattle.scrub_scan.specs.AllFindings.{AreAllFindings};
-ghost use Rattle.scrub_super.specs.Chosen.{IsChoice};
-ghost use Rattle.scrub_super.specs.Plan.{IsPlanOf};
 ghost use Rattle.scrub_pool.specs.Takings.{IsPartition};
 ghost use Rattle.scrub_report.specs.Answer.{AnswerValue, IsScrubAnswer, planned_extents};
+ghost use Rattle.scrub_report.specs.Parts.{IsScan};
 
 use crate::index::index_bytes;
 use crate::report::{report_text, report_value};
-use crate::scrubbing::{is_clean, parts_of};
+use crate::scrubbing::{Scan, is_clean, parts_of};
 use scrub_disk::{OutOfMemory, PageSource};
 use scrub_pool::{ExtentQueue, Gate, PoolFault, Takings, scan_all};
-use scrub_scan::{AllFindings, scan_in_order};
-use scrub_super::{Chosen, Plan, choose};
+use scrub_scan::scan_in_order;
+use scrub_super::{Plan, choose};
 use std::alloc::Global;
 use std::marker::Model;
 use std::sync::Wait;
@@ -93,20 +91,15 @@ impl ScrubAnswer {
 }
 
 /// The answer of a scrub, from what was chosen, planned and scanned.
-fn answer_of<'d, R, D: PageSource>(
+fn answer_of<R, D: PageSource>(
     rt: &R,
     alloc: Global,
-    disk: &'d D,
-    chosen: Chosen,
-    plan: Plan,
-    all: AllFindings<'d, D>,
+    scan: Scan<'_, D>,
 ) -> Result<ScrubAnswer, OutOfMemory>
-    requires chosen { IsChoice (D.image disk.now) chosen }
-    requires planned { IsPlanOf chosen plan }
-    requires scanned { AreAllFindings (D.image disk.now) plan all.extents }
-    ensures { IfOk result (IsScrubAnswer (D.image disk.now)) }
+    requires { IsScan (D.image scan.disk.now) scan.chosen scan.plan scan.all.extents }
+    ensures { IfOk result (IsScrubAnswer (D.image scan.entry.disk.now)) }
 {
-    let parts = parts_of(rt, alloc, disk, chosen, plan, all)?;
+    let parts = parts_of(rt, alloc, scan)?;
     let index = index_bytes(alloc, parts.map.bindings(), &parts.checked, &parts.broken)?;
     let is_clean = is_clean(&parts);
     let object = report_value(alloc, &parts, is_clean)?;
@@ -131,7 +124,13 @@ pub fn scrub_in_order<R, D: PageSource>(
     let chosen = choose(alloc, disk)?;
     let plan = Plan::make(alloc, &chosen, disk.geometry())?;
     let all = scan_in_order(alloc, disk, &plan)?;
-    Ok(answer_of(rt, alloc, disk, chosen, plan, all)?)
+    let scan = Scan {
+        disk,
+        chosen,
+        plan,
+        all,
+    };
+    Ok(answer_of(rt, alloc, scan)?)
 }
 
 /// Scrubs a disk as `scrub_in_order` does, with this many workers (0 to 64) beside the caller, who scan its planned extents at
@@ -154,7 +153,13 @@ pub fn scrub<D: PageSource, G: Gate, R: Threads + Wait + Sync>(
     let plan = Plan::make(alloc, &chosen, disk.geometry())?;
     let (queue, mut first) = ExtentQueue::new(rt, alloc, &plan)?;
     let (all, takings) = scan_all(rt, alloc, disk, &plan, &queue, &mut first, workers, gate)?;
-    let answer = answer_of(rt, alloc, disk, chosen, plan, all)?;
+    let scan = Scan {
+        disk,
+        chosen,
+        plan,
+        all,
+    };
+    let answer = answer_of(rt, alloc, scan)?;
     Ok((answer, takings))
 }
 

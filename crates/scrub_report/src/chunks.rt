@@ -4,17 +4,17 @@ ghost use Rattle.std.specs.Prelude.{◌≡◌};
 ghost use Rattle.scrub_report.specs.Report.{candidate_data, place_data, shared_data};
 
 use crate::texts::uuid_text;
-use crate::values::{Told, list_value};
+use crate::values::{ToJson, list_value};
 use scrub_check::{Candidate, Place, SharedPlace};
 use scrub_disk::OutOfMemory;
 use serde_json::{Value, json};
 use std::alloc::Global;
 
 /// One of `orphans`, or of `twins`.
-impl Told for Place {
+impl ToJson for Place {
     ghost shown = { place_data };
 
-    fn told(&self, alloc: Global) -> Result<Value, OutOfMemory> {
+    fn to_json(&self, alloc: Global) -> Result<Value, OutOfMemory> {
         let uuid = uuid_text(alloc, self.uuid)?;
         json!(in alloc; {
             "extent": self.extent,
@@ -26,10 +26,10 @@ impl Told for Place {
 }
 
 /// One of `shared`.
-impl Told for SharedPlace {
+impl ToJson for SharedPlace {
     ghost shown = { shared_data };
 
-    fn told(&self, alloc: Global) -> Result<Value, OutOfMemory> {
+    fn to_json(&self, alloc: Global) -> Result<Value, OutOfMemory> {
         json!(in alloc; {
             "count": self.count,
             "extent": self.extent,
@@ -39,10 +39,10 @@ impl Told for SharedPlace {
 }
 
 /// One of `candidates`.
-impl Told for Candidate {
+impl ToJson for Candidate {
     ghost shown = { candidate_data };
 
-    fn told(&self, alloc: Global) -> Result<Value, OutOfMemory> {
+    fn to_json(&self, alloc: Global) -> Result<Value, OutOfMemory> {
         let keep = list_value(alloc, self.keep())?;
         json!(in alloc; {
             "extent": self.extent(),

@@ -7,20 +7,20 @@ ghost use Rattle.scrub_check.specs.declared.checked.Checked.{Checked};
 ghost use Rattle.scrub_check.specs.Live.{live_bytes};
 ghost use Rattle.scrub_report.specs.Report.{extent_data, extents_data};
 
-use crate::values::{Told, list_value};
+use crate::values::{ToJson, list_value};
 use scrub_disk::{OutOfMemory, PageSource};
 use scrub_scan::{AllFindings, ExtentResult, Item, item_line};
 use serde_json::{Value, json};
 use std::alloc::Global;
 
 /// Its line.
-impl Told for Item {
+impl ToJson for Item {
     ghost use Rattle.serde_json.specs.Data.{string};
     ghost use Rattle.scrub_scan.specs.Line.{line_of};
 
     ghost shown = { λ item. string (line_of item) };
 
-    fn told(&self, alloc: Global) -> Result<Value, OutOfMemory> {
+    fn to_json(&self, alloc: Global) -> Result<Value, OutOfMemory> {
         Ok(Value::String(item_line(alloc, self)?))
     }
 }

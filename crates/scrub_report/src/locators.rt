@@ -7,7 +7,7 @@ ghost use Rattle.scrub_report.specs.Keys.{locator_data};
 ghost use Rattle.scrub_report.specs.Report.{locator_members};
 
 use crate::texts::{owner_text, status_text, uuid_text};
-use crate::values::Told;
+use crate::values::ToJson;
 use scrub_check::{Checked, Status};
 use scrub_disk::OutOfMemory;
 use serde_json::{Map, Value, put};
@@ -50,10 +50,10 @@ fn locator_members(alloc: Global, one: &Checked) -> Result<Map<String, Value>, O
 }
 
 /// One of `hidden`, or of `dangling`, which tells what is wrong with it too.
-impl Told for Checked {
+impl ToJson for Checked {
     ghost shown = { locator_data };
 
-    fn told(&self, alloc: Global) -> Result<Value, OutOfMemory> {
+    fn to_json(&self, alloc: Global) -> Result<Value, OutOfMemory> {
         let mut members = locator_members(alloc, self)?;
         if is_hidden(self.status) {
             return Ok(Value::Object(members));

@@ -2,11 +2,8 @@
 
 ghost use Rattle.std.specs.Prelude.{◌≡◌, IfOk, is_none, is_some};
 ghost use Rattle.std.specs.List.{list_all, list_any};
-ghost use Rattle.scrub_scan.specs.AllFindings.{AreAllFindings};
-ghost use Rattle.scrub_super.specs.Chosen.{IsChoice};
-ghost use Rattle.scrub_super.specs.Plan.{IsPlanOf};
 ghost use Rattle.scrub_check.specs.Checked.{is_sound};
-ghost use Rattle.scrub_report.specs.Parts.{found_in};
+ghost use Rattle.scrub_report.specs.Parts.{IsScan, found_in};
 ghost use Rattle.scrub_report.specs.Scrubbed.{IsScrubbed, is_clean, is_clean_list, is_in_doubt};
 
 use crate::order::{are_clean_extents, is_clean_choice};
@@ -20,6 +17,19 @@ use scrub_run::ShardId;
 use scrub_scan::AllFindings;
 use scrub_super::{Chosen, Plan};
 use std::alloc::Global;
+
+/// A disk, and what was chosen, planned and scanned of it.
+#[derive(Drop)]
+pub(crate) struct Scan<'d, D: PageSource> {
+    /// The disk.
+    pub disk: &'d D,
+    /// Which superblock counts.
+    pub chosen: Chosen,
+    /// The plan that follows from it.
+    pub plan: Plan,
+    /// What lies in each planned extent.
+    pub all: AllFindings<'d, D>,
+}
 
 /// What was found on a disk.
 #[derive(Drop)]
@@ -62,16 +72,17 @@ fn is_in_doubt(chosen: &Chosen, read: &ReadRuns) -> bool
 pub(crate) fn parts_of<'d, R, D: PageSource>(
     rt: &R,
     alloc: Global,
-    disk: &'d D,
-    chosen: Chosen,
-    plan: Plan,
-    all: AllFindings<'d, D>,
+    scan: Scan<'d, D>,
 ) -> Result<Parts<'d, D>, OutOfMemory>
-    requires chosen { IsChoice (D.image disk.now) chosen }
-    requires planned { IsPlanOf chosen plan }
-    requires scanned { AreAllFindings (D.image disk.now) plan all.extents }
-    ensures { IfOk result (λ p. IsScrubbed (D.image disk.now) (found_in p)) }
+    requires { IsScan (D.image scan.disk.now) scan.chosen scan.plan scan.all.extents }
+    ensures { IfOk result (λ p. IsScrubbed (D.image scan.entry.disk.now) (found_in p)) }
 {
+    let Scan {
+        disk,
+        chosen,
+        plan,
+        all,
+    } = scan;
     let read = read_runs(alloc, disk, &plan, &all)?;
     let map = merge(alloc, read.runs())?;
     let named = named_locators(alloc, &plan, &map)?;

@@ -12,44 +12,44 @@ use scrub_run::ShardId;
 use serde_json::Value;
 use std::alloc::Global;
 
-/// What a list of the report has a value of.
-pub(crate) trait Told {
+/// What the report has as a JSON value.
+pub(crate) trait ToJson {
     /// Which value it is.
     ghost shown: { Self → Data };
 
     /// The value.
-    fn told(&self, alloc: Global) -> Result<Value, OutOfMemory>
+    fn to_json(&self, alloc: Global) -> Result<Value, OutOfMemory>
         ensures { IfOk result (λ v. view v ≡ shown self.now) };
 }
 
 /// The values of some elements, in their order.
-pub(crate) fn list_value<T: Told>(alloc: Global, items: &[T]) -> Result<Value, OutOfMemory>
+pub(crate) fn list_value<T: ToJson>(alloc: Global, items: &[T]) -> Result<Value, OutOfMemory>
     ensures { IfOk result (λ v. view v ≡ list (map T.shown items.now)) }
 {
     let mut values = Vec::with_capacity(alloc, items.len())?;
     for item in items {
-        values.push(item.told(alloc)?)?;
+        values.push(item.to_json(alloc)?)?;
     }
     Ok(Value::Array(values))
 }
 
-impl Told for u32 {
+impl ToJson for u32 {
     ghost use Rattle.scrub_report.specs.Json.{natural};
 
     ghost shown = { natural };
 
-    fn told(&self, _alloc: Global) -> Result<Value, OutOfMemory> {
+    fn to_json(&self, _alloc: Global) -> Result<Value, OutOfMemory> {
         Ok(Value::from(*self))
     }
 }
 
-impl Told for ShardId {
+impl ToJson for ShardId {
     ghost use Rattle.serde_json.specs.Data.{string};
     ghost use Rattle.scrub_report.specs.Texts.{id_text};
 
     ghost shown = { λ id. string (id_text id) };
 
-    fn told(&self, alloc: Global) -> Result<Value, OutOfMemory> {
+    fn to_json(&self, alloc: Global) -> Result<Value, OutOfMemory> {
         Ok(Value::String(id_text(alloc, *self)?))
     }
 }

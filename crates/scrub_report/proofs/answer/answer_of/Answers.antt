@@ -12,12 +12,12 @@ use Rattle.scrub_report.proofs.answer.answer_of.Goals as goal
 pub index_bytes-requires-clause-few : goal.index_bytes-requires-clause-few
 index_bytes-requires-clause-few g c =
     subst (λ (bs : List BindingValue). All (λ b. length b.locators ≤ 64) bs) (sym c.bindings.ensures.bindings)
-    (entries_fit (g.D.PageSource.image c.args.disk.now) (found_in c.in_ok-parts.parts) c.in_ok-parts.ensures)
+    (entries_fit (g.D.PageSource.image c.args.scan.disk.now) (found_in c.in_ok-parts.parts) c.in_ok-parts.ensures)
 
 pub index_bytes-requires-clause-count : goal.index_bytes-requires-clause-count
 index_bytes-requires-clause-count g c =
     subst (λ (bs : List BindingValue). length bs < 2 ^ 32) (sym c.bindings.ensures.bindings)
-    (countable (g.D.PageSource.image c.args.disk.now) (found_in c.in_ok-parts.parts) c.in_ok-parts.ensures)
+    (countable (g.D.PageSource.image c.args.scan.disk.now) (found_in c.in_ok-parts.parts) c.in_ok-parts.ensures)
 
 pub returns : goal.returns
 returns g c = record {

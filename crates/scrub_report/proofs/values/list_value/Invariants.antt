@@ -4,4 +4,4 @@ use Rattle.serde_json.specs.View.{view}
 use Rattle.scrub_report.proofs.values.list_value.Given as goal
 
 abbrev pub invariant-loop-item : goal.invariant-loop-item
-invariant-loop-item g l = map view l.values.items ≡ map g.T.Told.shown (take l.item-index l.items)
+invariant-loop-item g l = map view l.values.items ≡ map g.T.ToJson.shown (take l.item-index l.items)
