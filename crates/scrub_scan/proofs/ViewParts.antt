@@ -3,6 +3,7 @@
 use Rattle.std.proofs.Common.{◌≡◌, ◌<◌, ◌≤◌, ◌+◌, ◌/◌, ◌-◌, ℕ, List, true, false, length, get_or, arith, sym, ◌∙◌, ap, zero, suc, lit<, Some, None}
 use Rattle.std.proofs.Math.Nat.{div-mul-le_self}
 use Rattle.std.proofs.lemmas.List.Edits.{length-between, get_or-between}
+use Rattle.std.proofs.lemmas.Option.{same_Some}
 use Rattle.std.specs.List.{between}
 use Rattle.scrub_frame.specs.Frame.{frame_magic}
 use Rattle.scrub_scan.specs.declared.buffer.ScanView.{ScanView}
@@ -61,10 +62,7 @@ not_zero_part x p q readable part other zeros =
     other (λ k hk.
     let within : p + k < q = omega (arith, size, hk) in
     get_or-between x.bytes.now p q k 0 within
-    ∙ some_same (get_or x.bytes.now (p + k) 0) 0 (sym (part_byte x p (p + k) readable (omega arith) (omega (arith, within, part))) ∙ zeros (p + k) (omega arith) (omega (arith, within, part))))
-  where
-    some_same : (a b : ℕ) → Some a ≡ Some b → a ≡ b
-    some_same a b e = cc
+    ∙ same_Some (get_or x.bytes.now (p + k) 0) 0 (sym (part_byte x p (p + k) readable (omega arith) (omega (arith, within, part))) ∙ zeros (p + k) (omega arith) (omega (arith, within, part))))
 
 pub magic_part : (x : ScanView) (p q : ℕ) → IsReadable x p → IsBound x p q → BeginsWithMagic (between p q x.bytes.now) → HasMagic (viewed_extent x) p
 magic_part x p q readable part m =

@@ -1,5 +1,5 @@
 -- One extent under its write pointer, and what stands at a place of it.
-use Rattle.std.specs.Prelude.{◌≡◌, ◌<◌, ◌≤◌, ◌+◌, ◌*◌, ◌/◌, ℕ, min, List, ◌++◌, length, Option, Some, None}
+use Rattle.std.specs.Prelude.{◌≡◌, ◌<◌, ◌≤◌, ◌+◌, ◌*◌, ◌/◌, ℕ, min, List, length, Option, Some, None}
 use Rattle.scrub_disk.specs.Image.{Image, byte, AreBytesAt}
 use Rattle.scrub_frame.specs.Frame.{frame, frame_magic, frame_overhead, HasFrame}
 
@@ -44,15 +44,3 @@ pub record HasGap (at : ℕ → Option ℕ) (p n : ℕ) : Type 0 where
   pub low : p ≤ place
   pub high : place < p + n
   pub unreadable : at place ≡ None
-
--- n bytes or more stand at p, and the list has grown by the first n of them, one or more
-pub record AppendsBytesAt (at : ℕ → Option ℕ) (p n : ℕ) (old new : List ℕ) : Type 0 where
-  pub some : 0 < n
-  pub part : List ℕ
-  pub count : length part ≡ n
-  pub bytes : AreBytesAt at p part
-  pub appended : new ≡ old ++ part
-
--- the same of n bytes that are at most as many as a size
-abbrev pub AppendsAtMost : (ℕ → Option ℕ) → ℕ → ℕ → List ℕ → List ℕ → ℕ → Type 0
-AppendsAtMost at p size old new n = (n ≤ size) × AppendsBytesAt at p n old new

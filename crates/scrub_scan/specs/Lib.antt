@@ -12,6 +12,7 @@ pub use Rattle.scrub_disk.specs.Image
 pub use Rattle.scrub_frame.specs.Frame
 pub use Rattle.scrub_super.specs.Plan
 -- The steps of the code.
+pub mod FrameRead
 pub mod Buffer
 pub mod View
 -- The lemmas that types need.

@@ -3,7 +3,6 @@ use Rattle.std.specs.Prelude.{◌≡◌, ◌<◌, ◌+◌, ℕ, List}
 use Rattle.std.specs.Prelude.{length as len}
 use Rattle.sha2.specs.Sha256.{sha256}
 use Rattle.scrub_disk.specs.Image.{Image, extent_bytes}
-use Rattle.scrub_frame.specs.Frame.{frame_overhead}
 use Rattle.scrub_scan.specs.declared.standing.Standing.{Standing}
 use Rattle.scrub_scan.specs.Extent.{extent_of, FrameAt}
 
@@ -29,7 +28,3 @@ pub record HasPayload (image : Image) (s : Standing) (payload : List ℕ) : Type
 pub record Stands (image : Image) (s : Standing) : Type 0 where
   pub payload : List ℕ
   pub has : HasPayload image s payload
-
--- so many bytes has whatever frame stands at this place, under whichever pointer
-abbrev pub IsClaimedSize : Image → ℕ → ℕ → ℕ → Type 0
-IsClaimedSize image e offset n = (w : ℕ) (u b : List ℕ) → FrameAt (extent_of image e w) offset u b → n ≡ len b + frame_overhead

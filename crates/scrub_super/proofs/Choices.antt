@@ -1,7 +1,7 @@
 -- The choice that follows from what was found in extent 0.
 use Rattle.std.proofs.Common.{◌≡◌, ◌≢◌, ◌<◌, ◌≤◌, ◌+◌, ◌*◌, ◌/◌, ◌%◌, ◌-◌, ℕ, List, [], Bool, true, false, cond, length, drop, get_or, arith, refl, sym, ◌∙◌, ap, Option, Some, None, inl, inr, ◌⊎◌, IsTrue, filter, not, is_none, length-drop, option_and_then, slice_get}
 use Rattle.std.specs.List.{between, range_with_len}
-use Rattle.std.proofs.lemmas.Bool.{cases_lt, le-ltb, false≢true}
+use Rattle.std.proofs.lemmas.Bool.{cases_eq, cases_lt, le-ltb, false≢true}
 use Rattle.std.proofs.lemmas.Option.{same_Some, none-some}
 use Rattle.std.proofs.lemmas.List.{get_or-drop}
 use Rattle.std.proofs.lemmas.List.Prefix.{front_from_reads}
@@ -87,13 +87,6 @@ choice_without image f bad found is hb = record {
     absent : (g n : ℕ) → 0 ≤ g → StandsFrom image g n → ⊥
     absent = rw is at found.newest
 
--- a number is another, or not
-same_or_not : (m n : ℕ) → (m ≡ n) ⊎ (m ≢ n)
-same_or_not m n = elim (cases_lt m n) [
-  | inl less ↦ inr (λ e. omega (arith, less, e))
-  | inr most ↦ elim (cases_lt n m) [ inl more ↦ inr (λ e. omega (arith, more, e)) | inr least ↦ inl (omega (arith, most, least)) ]
-]
-
 -- the newest that was found, read where it stands
 pub choice_by : (image : Image) (bytes : List ℕ) (readable : List Bool) (f : RecordsSeen) (b : Newest) (c : Contents) (bad : List ℕ) →
     IsBuffered image 0 bytes readable → AreSeenFrom (StandsFrom image) 0 f → f.newest ≡ Some b →
@@ -153,7 +146,7 @@ choice_by image bytes readable f b c bad h found is begins hb = record {
     untied t =
         let top : t.contents.generation ≡ b.generation =
         omega (arith, newest.greatest t.one t.contents.generation (omega arith) (t.contents, t.stands, refl), t.greatest b.page c stands, generation) in
-        elim (same_or_not t.one b.page) [
+        elim (cases_eq t.one b.page) [
           | inl here ↦ newest.tied.1 (t.other, (λ e. t.apart (here ∙ sym e)), omega arith, (t.contents_of_other, t.other_stands, t.same ∙ top))
           | inr elsewhere ↦ newest.tied.1 (t.one, elsewhere, omega arith, (t.contents, t.stands, top))
         ]

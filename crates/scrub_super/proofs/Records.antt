@@ -15,7 +15,8 @@ use Rattle.scrub_frame.specs.Locator.{locator_bytes, IsLocator}
 use Rattle.scrub_frame.proofs.Bytes.{bytes-number, number-bytes, number-take, bytes-injective}
 use Rattle.scrub_frame.proofs.Locators.{fields_read, length-locators, same_locators}
 use Rattle.scrub_super.specs.Contents.{Contents}
-use Rattle.scrub_super.specs.Record.{head_bytes, record_body, record_bytes, IsHead, ArePointers, AreRunLocators, AreContents, BeginsWithRecord, BeginsWithSome}
+use Rattle.scrub_super.specs.Record.{head_bytes, record_body, record_bytes, ArePointers, AreRunLocators, AreContents, BeginsWithRecord}
+use Rattle.scrub_super.specs.RecordRead.{IsHead, BeginsWithSome}
 use Rattle.scrub_super.proofs.Parts.{AreBytes, AreBytes-drop, AreBytes-take, values, length-values, get_or-values, flat_map-values, part-flat_map}
 use Rattle.scrub_frame.proofs.Parts.{length-flat_map_of, flat_map-injective}
 use Rattle.scrub_super.proofs.Cuts.{AreParts, parts_of, whole_of, body_of, three_parts}

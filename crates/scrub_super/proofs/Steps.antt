@@ -5,7 +5,8 @@ use Rattle.std.proofs.lemmas.Bool.{cases_lt}
 use Rattle.scrub_disk.specs.Image.{Image}
 use Rattle.scrub_super.specs.declared.choosing.RecordsSeen.{RecordsSeen}
 use Rattle.scrub_super.specs.Contents.{Contents}
-use Rattle.scrub_super.specs.Record.{BeginsWithRecord, BeginsWithSome}
+use Rattle.scrub_super.specs.Record.{BeginsWithRecord}
+use Rattle.scrub_super.specs.RecordRead.{BeginsWithSome}
 use Rattle.scrub_disk.specs.Buffered.{IsBuffered}
 use Rattle.scrub_disk.specs.NextUnreadable.{IsNextUnreadable}
 use Rattle.scrub_super.specs.RecordsSeen.{StandsFrom, AreSeenFrom, AddsRecord}

@@ -4,7 +4,8 @@ pub mod Record
 pub mod Chosen
 pub mod Planned
 pub mod Plan
--- A step of the choice, which no public clause speaks of.
+-- The steps of the code: of reading a record, and of the choice.
+pub mod RecordRead
 pub mod RecordsSeen
 -- Words of the crates below that public clauses cite.
 pub use Rattle.scrub_disk.specs.Image

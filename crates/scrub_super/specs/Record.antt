@@ -19,12 +19,6 @@ abbrev pub head_bytes : Geometry → ℕ → ℕ → List ℕ
 head_bytes g generation runs =
     record_magic ++ (big_bytes 8 generation ++ (big_bytes 4 g.page ++ (big_bytes 4 g.pages ++ (big_bytes 4 g.extents ++ big_bytes 2 runs))))
 
--- the head of a record of this geometry that tells of so many index runs
-pub record IsHead (g : Geometry) (bytes : List ℕ) (generation runs : ℕ) : Type 0 where
-  pub fits : generation < 2 ^ 64
-  pub few : runs ≤ 32
-  pub spelled : bytes ≡ head_bytes g generation runs
-
 -- what the digest is taken of
 abbrev pub record_body : Geometry → Contents → List ℕ
 record_body g c = head_bytes g c.generation (len c.runs) ++ (flat_map (big_bytes 4) c.pointers ++ flat_map locator_bytes c.runs)
@@ -54,10 +48,3 @@ pub record BeginsWithRecord (g : Geometry) (bytes : List ℕ) (c : Contents) : T
   pub contents : AreContents g c
   pub rest : List ℕ
   pub spelled : bytes ≡ record_bytes g c ++ rest
-
--- a front of the bytes is some record of this generation and this number of index runs
-pub record BeginsWithSome (g : Geometry) (bytes : List ℕ) (n runs : ℕ) : Type 0 where
-  pub contents : Contents
-  pub begins : BeginsWithRecord g bytes contents
-  pub generation : contents.generation ≡ n
-  pub count : len contents.runs ≡ runs

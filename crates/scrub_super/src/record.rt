@@ -7,7 +7,8 @@ ghost use Rattle.sha2.specs.Sha256.{sha256};
 ghost use Rattle.scrub_frame.specs.Locator.{IsLocator};
 ghost use Rattle.scrub_disk.specs.declared.geometry.Geometry.{Geometry};
 ghost use Rattle.scrub_super.specs.Contents.{Contents};
-ghost use Rattle.scrub_super.specs.Record.{ArePointers, IsHead, BeginsWithRecord, BeginsWithSome, head_bytes, record_body, record_bytes};
+ghost use Rattle.scrub_super.specs.Record.{ArePointers, BeginsWithRecord, head_bytes, record_body, record_bytes};
+ghost use Rattle.scrub_super.specs.RecordRead.{IsHead, BeginsWithSome};
 
 use crate::superblock::Superblock;
 use byteorder::{BigEndian, ByteOrder};

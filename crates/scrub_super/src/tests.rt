@@ -46,12 +46,11 @@ fn run_locator() -> Locator {
     }
 }
 
-/// The record of a generation, pointers and runs.
+/// The record of generation 1 with these pointers and runs.
 fn record_of(
     rt: &impl Abort,
     alloc: Global,
     geometry: Geometry,
-    generation: u64,
     pointers: &[u32],
     runs: &[Locator],
 ) -> Result<Vec<u8>, Fail> {
@@ -63,7 +62,7 @@ fn record_of(
     );
     assert!(rt; runs.len() <= MAX_RUNS);
     let superblock = Superblock::new(
-        generation,
+        1,
         Vec::from_slice(alloc, pointers)?,
         Vec::from_slice(alloc, runs)?,
     );
@@ -83,7 +82,7 @@ fn end_with_digest(rt: &impl Abort, record: &mut [u8]) {
 #[test]
 fn a_record_of_one_run_is_written_and_read(rt: HostRuntime) -> Result<(), Fail> {
     let geometry = Geometry::new(64, 4, 3)?;
-    let record = record_of(&rt, rt.alloc(), geometry, 1, &[41, 155], &[run_locator()])?;
+    let record = record_of(&rt, rt.alloc(), geometry, &[41, 155], &[run_locator()])?;
     same(&rt, record.as_slice(), RECORD.as_slice());
     let superblock = read_record(rt.alloc(), &RECORD, geometry)?.ok_or("a record")?;
     same(&rt, superblock.generation(), 1);
@@ -142,7 +141,7 @@ fn what_is_no_record_of_the_geometry_is_not_read(rt: HostRuntime) -> Result<(), 
 fn a_record_names_32_runs_at_most(rt: HostRuntime) -> Result<(), Fail> {
     let geometry = Geometry::new(64, 64, 3)?;
     let runs = [run_locator(); 32];
-    let most = record_of(&rt, rt.alloc(), geometry, 1, &[41, 155], &runs)?;
+    let most = record_of(&rt, rt.alloc(), geometry, &[41, 155], &runs)?;
     assert!(rt; most.len() == 1986);
     let found = read_record(rt.alloc(), &most, geometry)?.ok_or("a record")?;
     same(&rt, found.runs(), runs.as_slice());
@@ -161,7 +160,7 @@ fn a_record_names_32_runs_at_most(rt: HostRuntime) -> Result<(), Fail> {
 fn a_record_of_65535_pointers_is_read(rt: HostRuntime) -> Result<(), Fail> {
     let geometry = Geometry::new(64, 1, 65536)?;
     let pointers = vec![in rt.alloc(); 64u32; 65535]?;
-    let record = record_of(&rt, rt.alloc(), geometry, 1, &pointers, &[])?;
+    let record = record_of(&rt, rt.alloc(), geometry, &pointers, &[])?;
     assert!(rt; record.len() == 262_198);
     let found = read_record(rt.alloc(), &record, geometry)?.ok_or("a record")?;
     same(&rt, found.pointers(), pointers.as_slice());

@@ -16,22 +16,15 @@ moved_found : {D : Type 0} {s : _} (slots : List (Option (ExtentResult D s))) (e
 moved_found slots e None full h = tt
 moved_found slots e (Some i) full h = (omega (arith, h.0, slot_count slots full), ap (λ ns. slice_index ns i) (sym (slot_numbers slots full)) ∙ h.1)
 
-pub returns-clause-found : goal.returns-clause-found
-returns-clause-found g c =
+pub returns : goal.returns
+returns g c =
     let facts = c.binary_search_by_key.ensures in
     let slots = c.args.slots.now in
     let number = λ (slot : Option (ExtentResult g.row.D.Denot g.D.PageSource)). option_map_or (λ r. r.extent) slot 0 in
     let by_key = facts.position number (answers_always _ _ _ (λ f a r h called. search rules)) in
     let rising = subst (λ (ns : List ℕ). IsStrictlyIncreasing ns) (sym (slot_numbers slots c.requires.full)) c.requires.rising in
-    moved_found slots c.args.extent c.ok.result c.requires.full
-    (rw c.ok.ensures.value (searched number slots rising c.args.extent c.binary_search_by_key.result facts.bound by_key).0)
-
-pub returns-clause-none : goal.returns-clause-none
-returns-clause-none g c =
-    let facts = c.binary_search_by_key.ensures in
-    let slots = c.args.slots.now in
-    let number = λ (slot : Option (ExtentResult g.row.D.Denot g.D.PageSource)). option_map_or (λ r. r.extent) slot 0 in
-    let by_key = facts.position number (answers_always _ _ _ (λ f a r h called. search rules)) in
-    let rising = subst (λ (ns : List ℕ). IsStrictlyIncreasing ns) (sym (slot_numbers slots c.requires.full)) c.requires.rising in
-    subst (λ (ns : List ℕ). IfNone c.ok.result (¬ Contains ns c.args.extent)) (slot_numbers slots c.requires.full)
-    (rw c.ok.ensures.value (searched number slots rising c.args.extent c.binary_search_by_key.result facts.bound by_key).1)
+    let there = searched number slots rising c.args.extent c.binary_search_by_key.result facts.bound by_key in
+    record {
+      found = moved_found slots c.args.extent c.ok.result c.requires.full (rw c.ok.ensures.value there.0);
+      none = subst (λ (ns : List ℕ). IfNone c.ok.result (¬ Contains ns c.args.extent)) (slot_numbers slots c.requires.full) (rw c.ok.ensures.value there.1);
+    }

@@ -1,0 +1,21 @@
+-- How a frame is read from its place: as many bytes as its head claims, each page's put behind those before it.
+use Rattle.std.specs.Prelude.{◌≡◌, ◌<◌, ◌≤◌, ◌+◌, ◌++◌, ℕ, List, Option, length}
+use Rattle.scrub_disk.specs.Image.{Image, AreBytesAt}
+use Rattle.scrub_frame.specs.Frame.{frame_overhead}
+use Rattle.scrub_scan.specs.Extent.{extent_of, FrameAt}
+
+-- so many bytes has whatever frame stands at this place, under whichever pointer
+abbrev pub IsClaimedSize : Image → ℕ → ℕ → ℕ → Type 0
+IsClaimedSize image e offset n = (w : ℕ) (u b : List ℕ) → FrameAt (extent_of image e w) offset u b → n ≡ length b + frame_overhead
+
+-- n bytes or more stand at p, and the list has grown by the first n of them, one or more
+pub record AppendsBytesAt (at : ℕ → Option ℕ) (p n : ℕ) (old new : List ℕ) : Type 0 where
+  pub some : 0 < n
+  pub part : List ℕ
+  pub count : length part ≡ n
+  pub bytes : AreBytesAt at p part
+  pub appended : new ≡ old ++ part
+
+-- the same of n bytes that are at most as many as a size
+abbrev pub AppendsAtMost : (ℕ → Option ℕ) → ℕ → ℕ → List ℕ → List ℕ → ℕ → Type 0
+AppendsAtMost at p size old new n = (n ≤ size) × AppendsBytesAt at p n old new
