@@ -26,12 +26,9 @@ use Rattle.scrub_check.specs.SoundStarts.{AreSoundStarts, is_live_by}
 use Rattle.scrub_check.specs.Verdicts.{AreUnsoundExtents}
 use Rattle.scrub_check.specs.Candidates.{CandidateValue, is_reclaimable, candidate_of, by_free, reclaimable, AreCandidates}
 use Rattle.scrub_check.proofs.Sizes.{sum_of_kept}
-use Rattle.scrub_check.proofs.SortedStarts.{live_sizes}
+use Rattle.scrub_check.proofs.SortedStarts.{live_sizes, same_number}
 
 -- ---- the extents that locators name which aren't sound
-
-same_number : (a b : ℕ) → is_eq (nat_cmp a b) ≡ (a == b)
-same_number a b = grind (arith, common_steps)
 
 -- a search among sorted numbers
 pub found_number : (xs : List ℕ) (n : ℕ) (r : Result ℕ ℕ) → IsSorted nat_cmp xs → IsSearchInRange r (length xs) → IsBinarySearchResult (λ y. nat_cmp y n) xs r → is_ok r ≡ list_any (λ m. m == n) xs

@@ -1,5 +1,5 @@
 -- How many bytes the items of a tiling take: what was written, and those of them that pass a test no more than that.
-use Rattle.std.proofs.Common.{◌≡◌, ◌<◌, ◌≤◌, ◌+◌, ℕ, Bool, true, false, cond, List, [], ◌∷◌, arith, ◌==◌, Option, Some, None, refl, ◌∙◌, ap, subst}
+use Rattle.std.proofs.Common.{◌≡◌, ◌<◌, ◌≤◌, ◌+◌, ◌^◌, ℕ, Bool, true, false, cond, List, [], ◌∷◌, arith, ◌==◌, Option, Some, None, refl, ◌∙◌, ap, subst}
 use Rattle.std.specs.List.{filter, sum_by, All, Contains}
 use Rattle.std.proofs.lemmas.List.Sums.{sum_by-cons}
 use Rattle.std.proofs.lemmas.List.Elements.{All-head, All-tail}
@@ -34,6 +34,13 @@ sizes_of_tiling x items pos h = let all : 0 + sum_by size_of items ≡ x.pointer
 -- so do those of what was found under the pointer
 pub sizes_found : (image : Image) (e w : ℕ) (found : Findings) → IsFindings image e w found → sum_by size_of found.items ≡ w
 sizes_found image e w found h = sizes_of_tiling (extent_of image e w) found.items (omega (arith, image.geometry.page_size.least)) h.tiled
+
+-- so a word counts what the items take that findings show, as it counts the pointer
+pub sizes_fit : (image : Image) (e w : ℕ) (found : Findings) (items : List Item) (pointer : ℕ) → IsFindings image e w found → items ≡ found.items → pointer ≡ w → pointer < 2 ^ 32 →
+    sum_by size_of items < 2 ^ 32
+sizes_fit image e w found items pointer h shown at below =
+    let sizes : sum_by size_of items ≡ w = ap (sum_by size_of) shown ∙ sizes_found image e w found h in
+    omega (arith, sizes, at, below)
 
 -- what passes a test sums to no more
 pub sum_of_kept : {X : Type 0} (f : X → ℕ) (p : X → Bool) (xs : List X) → sum_by f (filter p xs) ≤ sum_by f xs

@@ -26,8 +26,8 @@ use Rattle.scrub_check.proofs.Counts.{count_out, count_between, any_counts, any_
 pub start_total : IsTotalOrder start_cmp
 start_total = then_total (on_total (λ s. s.extent) nat_cmp_total) (on_total (λ s. s.offset) nat_cmp_total)
 
-one_number : (a b : ℕ) → is_eq (nat_cmp a b) ≡ (a == b)
-one_number a b = grind (arith, common_steps)
+pub same_number : (a b : ℕ) → is_eq (nat_cmp a b) ≡ (a == b)
+same_number a b = grind (arith, common_steps)
 
 both : (r q : Ordering) → is_eq (ordering_then r q) ≡ (is_eq r && is_eq q)
 both Less q = refl
@@ -49,10 +49,10 @@ start_exact a b e = λ i. record { extent = extent i; offset = offset i }
 
 -- places are equal exactly where the order doesn't tell them apart
 pub start_ties : (a b : Start) → ((a.extent == b.extent) && (a.offset == b.offset)) ≡ eq_by_cmp start_cmp a b
-start_ties a b = sym (both (nat_cmp a.extent b.extent) (nat_cmp a.offset b.offset) ∙ ap₂ (λ x y. x && y) (one_number a.extent b.extent) (one_number a.offset b.offset))
+start_ties a b = sym (both (nat_cmp a.extent b.extent) (nat_cmp a.offset b.offset) ∙ ap₂ (λ x y. x && y) (same_number a.extent b.extent) (same_number a.offset b.offset))
 
 named_there : (e p : ℕ) (c : Checked) → is_start (record { extent = e; offset = p }) (start_named c) ≡ ((c.locator.extent == e) && (c.locator.offset == p))
-named_there e p c = both (nat_cmp c.locator.extent e) (nat_cmp c.locator.offset p) ∙ ap₂ (λ a b. a && b) (one_number c.locator.extent e) (one_number c.locator.offset p)
+named_there e p c = both (nat_cmp c.locator.extent e) (nat_cmp c.locator.offset p) ∙ ap₂ (λ a b. a && b) (same_number c.locator.extent e) (same_number c.locator.offset p)
 
 -- the sound ones
 abbrev pub sound_ones : List Checked → List Checked

@@ -66,9 +66,9 @@ front_at {X} xs i k d le hk =
     let small : k < i = omega (arith, hk, length-take-le {A = X} i xs le) in
     (small, get_or-take i xs k d small)
 
--- page p of extent e, as it is named
+-- page q of extent e, as it is named
 abbrev at : ℕ → ℕ → ℕ × ℕ
-at e p = (e, p)
+at e q = (e, q)
 
 -- what one more mark changes
 marks_step : (mid new : Image) (e p f q : ℕ) → Marks mid new e p → f < mid.geometry.extents → q < mid.geometry.pages →

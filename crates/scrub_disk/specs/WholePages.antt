@@ -10,19 +10,19 @@ use Rattle.scrub_disk.specs.Held.{held}
 use Rattle.scrub_disk.specs.Memory.{image_of}
 use Rattle.scrub_disk.specs.declared.memory.MemDisk.{MemDisk}
 
--- page p of extent e is among all pages, and its bytes are among all bytes, for P bytes a page, N pages an extent and
+-- page q of extent e is among all pages, and its bytes are among all bytes, for P bytes a page, N pages an extent and
 -- E extents
-pub page_room : (P N E e p : ℕ) → e < E → p < N → (e * N + p < N * E) × ((e * N + p) * P + P ≤ P * N * E)
-page_room P N E e p he hp =
+pub page_room : (P N E e q : ℕ) → e < E → q < N → (e * N + q < N * E) × ((e * N + q) * P + P ≤ P * N * E)
+page_room P N E e q he hq =
     let r : e * N + N ≤ E * N = row_fits e N E N he (omega arith) in
-    let below : e * N + p + 1 ≤ N * E = omega (arith, r, hp) in
-    let t : P * (e * N + p + 1) ≤ P * (N * E) = mul-le-mul_left P below in
+    let below : e * N + q + 1 ≤ N * E = omega (arith, r, hq) in
+    let t : P * (e * N + q + 1) ≤ P * (N * E) = mul-le-mul_left P below in
     (omega (arith, below), omega (arith, t))
 
 -- each page of what bytes of that length hold is whole
 pub held_whole : (g : Geometry) (bytes : List ℕ) (bad : List Bool) → length bytes ≡ g.page * g.pages * g.extents → HasWholePages (held g bytes bad)
-held_whole g bytes bad l e p page he hp is =
-    by_mark (get_or bad (e * g.pages + p) false) ((e * g.pages + p) * g.page) (omega (arith, (page_room g.page g.pages g.extents e p he hp).1, l)) is
+held_whole g bytes bad l e q page he hq is =
+    by_mark (get_or bad (e * g.pages + q) false) ((e * g.pages + q) * g.page) (omega (arith, (page_room g.page g.pages g.extents e q he hq).1, l)) is
   where
     by_mark : (b : Bool) (from : ℕ) → from + g.page ≤ length bytes → cond b None (Some (between from (from + g.page) bytes)) ≡ Some page → length page ≡ g.page
     by_mark true from fits e = let none : None ≡ Some page = e in absurd (let no_such : ⊥ = cc in no_such)

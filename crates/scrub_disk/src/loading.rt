@@ -118,7 +118,7 @@ fn mark_all(disk: &mut MemDisk, named: &[(u32, u32)])
     }
 }
 
-/// Loads an image of this geometry from raw bytes, in which page p of extent e stands at byte (e × N + p) × P, for N
+/// Loads an image of this geometry from raw bytes, in which page q of extent e stands at byte (e × N + q) × P, for N
 /// pages an extent of P bytes each. A page is unreadable where a read of it failed, where the bytes end before it does,
 /// or where it is named in `bad`, which lists pairs of an extent and a page of it. It makes at most P + 1 reads for each
 /// page and one more, and a failed read costs one page at most. The bytes are found to be no longer than the disk, unless

@@ -12,21 +12,17 @@ pub run_in_chunk-requires-after_bounds : goal.run_in_chunk-requires-after_bounds
 run_in_chunk-requires-after_bounds g c κs within =
     stands_there (g.D.PageSource.image c.args.disk.now) c.args.plan.now c.args.locator.now c.in_ok-status.status c.in-Sound.is c.in_ok-status.ensures
 
-pub returns-in-Sound-clause-run : goal.returns-in-Sound-clause-run
-returns-in-Sound-clause-run g c =
+pub returns-in-Sound : goal.returns-in-Sound
+returns-in-Sound g c =
     let image = g.D.PageSource.image c.args.disk.now in
     let plan = c.args.plan.now in
     let l = c.args.locator.now in
-    IfOk-weaker c.run_in_chunk.result (λ (r : Option Run × RunState). IsToldOf image l r.0 r.1) (λ (r : Option Run × RunState). IsRunIn image plan l r.0)
-    (λ r told. (told_in image plan l c.in_ok-status.status r.0 r.1 c.in-Sound.is c.in_ok-status.ensures told).0) c.run_in_chunk.ensures
-
-pub returns-in-Sound-clause-state : goal.returns-in-Sound-clause-state
-returns-in-Sound-clause-state g c =
-    let image = g.D.PageSource.image c.args.disk.now in
-    let plan = c.args.plan.now in
-    let l = c.args.locator.now in
-    IfOk-weaker c.run_in_chunk.result (λ (r : Option Run × RunState). IsToldOf image l r.0 r.1) (λ (r : Option Run × RunState). HasRunStateIn image plan l r.1)
-    (λ r told. (told_in image plan l c.in_ok-status.status r.0 r.1 c.in-Sound.is c.in_ok-status.ensures told).1) c.run_in_chunk.ensures
+    let Told : Option Run × RunState → Type 0 = λ r. IsToldOf image l r.0 r.1 in
+    let in_both = λ (r : Option Run × RunState) (told : Told r). told_in image plan l c.in_ok-status.status r.0 r.1 c.in-Sound.is c.in_ok-status.ensures told in
+    record {
+      run = IfOk-weaker c.run_in_chunk.result Told (λ (r : Option Run × RunState). IsRunIn image plan l r.0) (λ r told. (in_both r told).0) c.run_in_chunk.ensures;
+      state = IfOk-weaker c.run_in_chunk.result Told (λ (r : Option Run × RunState). HasRunStateIn image plan l r.1) (λ r told. (in_both r told).1) c.run_in_chunk.ensures;
+    }
 
 pub returns-in_default : goal.returns-in_default
 returns-in_default g c =

@@ -1,4 +1,4 @@
-use Rattle.std.proofs.Common.{rules, ◌+◌, ◌≡◌, ◌++◌, ◌∷◌, ◌∙◌, [], List, ℕ, length, arith, sym, ap, subst}
+use Rattle.std.proofs.Common.{rules, ◌≡◌, ◌++◌, ◌∷◌, ◌∙◌, [], List, ℕ, length, arith, sym, ap, subst}
 use Rattle.std.specs.List.Sorted.{IsPermutation}
 use Rattle.scrub_book.specs.Worker.{results_of}
 use Rattle.scrub_pool.specs.Passes.{one_list, taken_in}
