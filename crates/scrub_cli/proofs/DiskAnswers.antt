@@ -29,22 +29,22 @@ bad_page_fault known words g TooLong first = absurd first
 bad_page_fault known words g (Output written) first = absurd first
 
 -- what holds of a word that names no page, of an image that can't be opened or is too long, and of want of memory holds of each fault of the image
-pub of_disk_fault : (Told : Fault → Type 0) (known : KnownRaw) (words : ImageWords) (g : Sizes) →
-    ((word : Bor (List ℕ)) → IsDiskFault known words g (BadPage word) → Told (BadPage word)) →
-    ((name : Bor (List ℕ)) → IsDiskFault known words g (NoImage name) → Told (NoImage name)) →
-    (IsDiskFault known words g TooLong → Told TooLong) → Told OutOfMemory →
-    (fault : Fault) → IsDiskFault known words g fault → Told fault
-of_disk_fault Told known words g bad none long memory NotUtf8 is = absurd is
-of_disk_fault Told known words g bad none long memory (Help text) is = absurd is
-of_disk_fault Told known words g bad none long memory (Words text) is = absurd is
-of_disk_fault Told known words g bad none long memory (Geometry fault) is = absurd is
-of_disk_fault Told known words g bad none long memory Extent is = absurd is
-of_disk_fault Told known words g bad none long memory Pointer is = absurd is
-of_disk_fault Told known words g bad none long memory (BadPage word) is = bad word is
-of_disk_fault Told known words g bad none long memory (NoImage name) is = none name is
-of_disk_fault Told known words g bad none long memory TooLong is = long is
-of_disk_fault Told known words g bad none long memory (Output written) is = absurd is
-of_disk_fault Told known words g bad none long memory OutOfMemory is = memory
+pub of_disk_fault : (Holds : Fault → Type 0) (known : KnownRaw) (words : ImageWords) (g : Sizes) →
+    ((word : Bor (List ℕ)) → IsDiskFault known words g (BadPage word) → Holds (BadPage word)) →
+    ((name : Bor (List ℕ)) → IsDiskFault known words g (NoImage name) → Holds (NoImage name)) →
+    (IsDiskFault known words g TooLong → Holds TooLong) → Holds OutOfMemory →
+    (fault : Fault) → IsDiskFault known words g fault → Holds fault
+of_disk_fault Holds known words g bad none long memory NotUtf8 is = absurd is
+of_disk_fault Holds known words g bad none long memory (Help text) is = absurd is
+of_disk_fault Holds known words g bad none long memory (Words text) is = absurd is
+of_disk_fault Holds known words g bad none long memory (Geometry fault) is = absurd is
+of_disk_fault Holds known words g bad none long memory Extent is = absurd is
+of_disk_fault Holds known words g bad none long memory Pointer is = absurd is
+of_disk_fault Holds known words g bad none long memory (BadPage word) is = bad word is
+of_disk_fault Holds known words g bad none long memory (NoImage name) is = none name is
+of_disk_fault Holds known words g bad none long memory TooLong is = long is
+of_disk_fault Holds known words g bad none long memory (Output written) is = absurd is
+of_disk_fault Holds known words g bad none long memory OutOfMemory is = memory
 
 pub load_fault : (known : KnownRaw) (was : Option (List ℕ)) (words : ImageWords) (g : Sizes) (pages : List (ℕ × ℕ)) (fault : LoadFault) →
     NamePages g words.bad_pages.items pages → was ≡ known.bytes →

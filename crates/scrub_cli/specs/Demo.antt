@@ -10,7 +10,7 @@ use Rattle.scrub_run.specs.declared.shard_id.ShardId.{ShardId}
 use Rattle.scrub_run.specs.Run.{run_bytes}
 use Rattle.scrub_super.specs.Contents.{Contents}
 use Rattle.scrub_super.specs.Record.{record_bytes}
-use Rattle.scrub_cli.specs.declared.answer.Told.TheVariants.{Report}
+use Rattle.scrub_cli.specs.declared.answer.Wanted.TheVariants.{Report}
 use Rattle.scrub_cli.specs.Scan.{IsDiskAnswer}
 
 -- the UUIDs of the chunk and of the run: sixteen bytes 11, and sixteen bytes 22 hexadecimal

@@ -5,8 +5,8 @@ use Rattle.scrub_disk.specs.Faults.{HasSizes, IsFirstBroken}
 use Rattle.scrub_disk.specs.Image.{Image}
 use Rattle.scrub_report.specs.Index.{IsIndex}
 use Rattle.scrub_report.specs.Report.{IsReport}
-use Rattle.scrub_cli.specs.declared.answer.Told.{Told}
-use Rattle.scrub_cli.specs.declared.answer.Told.TheVariants.{Report, Index}
+use Rattle.scrub_cli.specs.declared.answer.Wanted.{Wanted}
+use Rattle.scrub_cli.specs.declared.answer.Wanted.TheVariants.{Report, Index}
 use Rattle.scrub_cli.specs.declared.fault.Fault.{Fault}
 use Rattle.scrub_cli.specs.declared.fault.Fault.TheVariants.{Geometry, OutOfMemory}
 use Rattle.scrub_cli.specs.declared.words.ImageWords.{ImageWords}
@@ -22,22 +22,22 @@ pub record IsStatusOfImage (image : Image) (status : ℕ) : Type 0 where
   pub ended : status ≡ status_of_clean is_clean
 
 -- the text is the report of the image, or its index
-abbrev pub Tells : Told → Image → List ℕ → Type 0
+abbrev pub Tells : Wanted → Image → List ℕ → Type 0
 Tells Report image text = IsReport image text
 Tells Index image text = IsIndex image text
 
--- what is told of an image, with the status of its report
-pub record IsDiskAnswer (told : Told) (image : Image) (text : List ℕ) (status : ℕ) : Type 0 where
-  pub tells : Tells told image text
+-- what is wanted of an image, with the status of its report
+pub record IsDiskAnswer (wanted : Wanted) (image : Image) (text : List ℕ) (status : ℕ) : Type 0 where
+  pub tells : Tells wanted image text
   pub ended : IsStatusOfImage image status
 
--- what is told of an image of the sizes that are given, which was loaded from this raw image
-pub record IsScanAnswer (told : Told) (known : KnownRaw) (words : ImageWords) (text : List ℕ) (status : ℕ) : Type 0 where
+-- what is wanted of an image of the sizes that are given, which was loaded from this raw image
+pub record IsScanAnswer (wanted : Wanted) (known : KnownRaw) (words : ImageWords) (text : List ℕ) (status : ℕ) : Type 0 where
   pub geometry : Sizes
   pub sizes : HasSizes geometry words.page words.pages words.extents
   pub image : Image
   pub loaded : IsLoadedDisk known words geometry image
-  pub answered : IsDiskAnswer told image text status
+  pub answered : IsDiskAnswer wanted image text status
 
 -- Why nothing is told: each fault comes only where none before it does, and want of memory comes anywhere.
 abbrev pub IsScanFault : KnownRaw → ImageWords → Fault → Type 0

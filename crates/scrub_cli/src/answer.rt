@@ -24,9 +24,9 @@ pub struct Answer {
     pub status: u8,
 }
 
-/// What is told of a whole disk.
+/// What is wanted of a whole disk.
 #[derive(Debug, Clone, Copy)]
-pub enum Told {
+pub enum Wanted {
     /// What was found on it.
     Report,
     /// The index that is recovered from it.
@@ -71,22 +71,22 @@ pub fn extent_answer<D: PageSource>(
     Ok(Answer { text, status })
 }
 
-/// What is told of a disk that this many workers scan beside the caller, with the status of its report.
+/// What is wanted of a disk that this many workers scan beside the caller, with the status of its report.
 pub fn disk_answer<R: Threads + Wait + Sync, D: PageSource>(
     rt: &R,
     alloc: Global,
     disk: &D,
     workers: u32,
-    told: Told,
+    wanted: Wanted,
 ) -> Result<Answer, ScrubFault>
     requires { workers ≤ 64 }
-    ensures { IfOk result (λ a. IsDiskAnswer told (D.image disk.now) a.text.items a.status) }
+    ensures { IfOk result (λ a. IsDiskAnswer wanted (D.image disk.now) a.text.items a.status) }
 {
     let (found, _) = scrub(rt, alloc, disk, workers, &NoGate)?;
     let status = status_of(found.is_clean());
-    let text = match told {
-        Told::Report => found.into_report(),
-        Told::Index => found.into_index(),
+    let text = match wanted {
+        Wanted::Report => found.into_report(),
+        Wanted::Index => found.into_index(),
     };
     Ok(Answer { text, status })
 }

@@ -8,7 +8,7 @@ ghost use Rattle.scrub_run.specs.Run.{run_bytes};
 ghost use Rattle.scrub_super.specs.Record.{record_bytes};
 ghost use Rattle.scrub_cli.specs.Demo.{demo_shard, demo_pointers, IsDemoDisk, IsDemoAnswer};
 
-use crate::answer::{Answer, Told, disk_answer};
+use crate::answer::{Answer, Wanted, disk_answer};
 use scrub_disk::{Geometry, MemDisk, OutOfMemory};
 use scrub_frame::{FrameFault, Locator, locate, write_frame};
 use scrub_report::ScrubFault;
@@ -92,5 +92,5 @@ pub fn demo<R: Threads + Wait + Sync>(rt: &R, alloc: Global) -> Result<Answer, S
     ensures { IfOk result (λ a. IsDemoAnswer a.text.items a.status) }
 {
     let disk = demo_disk(alloc)?;
-    disk_answer(rt, alloc, &disk, WORKERS, Told::Report)
+    disk_answer(rt, alloc, &disk, WORKERS, Wanted::Report)
 }

@@ -4,7 +4,7 @@ ghost use Rattle.std.specs.Prelude.{MatchResult};
 ghost use Rattle.scrub_cli.specs.Answer.{IsAnswer, IsFault, RunWrites, WritesAnswer};
 ghost use Rattle.scrub_cli.specs.Words.{texts};
 
-use crate::answer::{Answer, Told};
+use crate::answer::{Answer, Wanted};
 use crate::demo::demo;
 use crate::fault::Fault;
 use crate::images::Images;
@@ -31,8 +31,8 @@ fn answer<'a, R: Threads + Wait + Sync, I: Images>(
     match read_words(alloc, words)? {
         Request::Demo => Ok(demo(rt, alloc)?),
         Request::Items(words) => items(alloc, &words, images),
-        Request::Scan(words) => scan(rt, alloc, &words, images, Told::Report),
-        Request::Index(words) => scan(rt, alloc, &words, images, Told::Index),
+        Request::Scan(words) => scan(rt, alloc, &words, images, Wanted::Report),
+        Request::Index(words) => scan(rt, alloc, &words, images, Wanted::Index),
     }
 }
 

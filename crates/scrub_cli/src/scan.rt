@@ -3,7 +3,7 @@
 ghost use Rattle.std.specs.Prelude.{◌≤◌, MatchResult};
 ghost use Rattle.scrub_cli.specs.Scan.{IsScanAnswer, IsScanFault};
 
-use crate::answer::{Answer, Told, disk_answer};
+use crate::answer::{Answer, Wanted, disk_answer};
 use crate::disk_image::load_disk;
 use crate::fault::Fault;
 use crate::images::Images;
@@ -13,21 +13,21 @@ use std::alloc::Global;
 use std::sync::Wait;
 use std::thread::Threads;
 
-/// What is to be told of the disk that the words name. Faults are found in the order of `Fault`.
+/// What is wanted of the disk that the words name. Faults are found in the order of `Fault`.
 pub fn scan<'a, R: Threads + Wait + Sync, I: Images>(
     rt: &R,
     alloc: Global,
     words: &ScanWords<'a>,
     images: &mut I,
-    told: Told,
+    wanted: Wanted,
 ) -> Result<Answer, Fault<'a>>
     requires { words.now.workers ≤ 64 }
     ensures { MatchResult result
-        (λ a. IsScanAnswer told (I.known images.old words.now.image.name.now) words.now.image a.text.items a.status)
+        (λ a. IsScanAnswer wanted (I.known images.old words.now.image.name.now) words.now.image a.text.items a.status)
         (IsScanFault (I.known images.old words.now.image.name.now) words.now.image) }
 {
     let image = &words.image;
     let geometry = Geometry::new(image.page, image.pages, image.extents)?;
     let disk = load_disk(alloc, geometry, image, images)?;
-    Ok(disk_answer(rt, alloc, &disk, words.workers, told)?)
+    Ok(disk_answer(rt, alloc, &disk, words.workers, wanted)?)
 }

@@ -74,20 +74,6 @@ fn scan_and_index_with_their_words(rt: HostRuntime) -> Result<(), Fail> {
 }
 
 #[test]
-fn items_without_a_pointer_or_bad_pages(rt: HostRuntime) -> Result<(), Fail> {
-    let words = "items --page=4294967295 --pages=0 --extents=3 --extent=1 disk.img";
-    let split: Vec<&str> = words.split_whitespace().collect(rt.alloc())?;
-    let Request::Items(items) = read_words(rt.alloc(), &split)? else {
-        panic!(rt; "not items");
-    };
-    assert_eq!(rt; items.pointer, None);
-    assert_eq!(rt; items.image.page, 4294967295);
-    assert_eq!(rt; items.image.pages, 0);
-    assert!(rt; items.image.bad_pages.is_empty());
-    Ok(())
-}
-
-#[test]
 fn a_refusal_says_what_is_wrong(rt: HostRuntime) -> Result<(), Fail> {
     for (words, part) in [
         ("repair", "'repair'"),

@@ -1,14 +1,14 @@
 -- All of the answer was written, or the fault of the output is told.
 use Rattle.std.proofs.Common.{◌<◌, inl, inr, length, refl, subst, take}
 use Rattle.std.specs.Io.KnownBytes.{Appends}
-use Rattle.scrub_cli.proofs.RunAnswers.{keeps}
+use Rattle.std.proofs.KnownBytes.{Keeps-refl}
 use Rattle.scrub_cli.proofs.running.give.Goals as goal
 
 pub returns-in-Ok : goal.returns-in-Ok
 returns-in-Ok g c = inl (record {
   status = refl;
   whole = subst (λ l. Appends (g.O.Write.contents c.args.out.now) (g.O.Write.contents c.write_out.new.writer) l) c.deref.ensures.value c.in-Ok.ensures.whole;
-  silent = keeps (g.E.Write.contents c.args.err.now);
+  silent = Keeps-refl (g.E.Write.contents c.args.err.now);
 })
 
 pub returns-in-Err : goal.returns-in-Err

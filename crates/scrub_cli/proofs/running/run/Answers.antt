@@ -1,7 +1,7 @@
 -- A fault is told, and nothing is written.
 use Rattle.std.proofs.Common.{inr}
-use Rattle.scrub_cli.proofs.RunAnswers.{keeps}
+use Rattle.std.proofs.KnownBytes.{Keeps-refl}
 use Rattle.scrub_cli.proofs.running.run.Goals as goal
 
 pub returns-in-Err : goal.returns-in-Err
-returns-in-Err g c = inr (c.in-Err.fault, c.in-Err.ensures, record { kept = keeps (g.O.Write.contents c.args.out.now); told = c.end.ensures })
+returns-in-Err g c = inr (c.in-Err.fault, c.in-Err.ensures, record { kept = Keeps-refl (g.O.Write.contents c.args.out.now); told = c.end.ensures })
