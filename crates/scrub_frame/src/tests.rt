@@ -3,9 +3,6 @@
 ghost use Rattle.std.specs.Prelude.{◌≡◌};
 
 use crate::*;
-use std::alloc::Global;
-use std::fmt::Debug;
-use std::process::Abort;
 use std::test::Fail;
 use uuid::Uuid;
 
@@ -28,7 +25,14 @@ const ABC_FRAME: [u8; 41] = [
     0x11, 0x11, 0x11, 0x11, 0x11, 0x11, 0x11, 0x11, 0x11,
 ];
 
-/// The locator of that chunk at extent 1, offset 0.
+/// The frame of no payload with that UUID.
+const EMPTY_FRAME: [u8; 38] = [
+    0xc5, 0x5e, 0x11, 0x11, 0x11, 0x11, 0x11, 0x11, 0x11, 0x11, 0x11, 0x11, 0x11, 0x11, 0x11, 0x11,
+    0x11, 0x11, 0x00, 0x00, 0x00, 0x00, 0x11, 0x11, 0x11, 0x11, 0x11, 0x11, 0x11, 0x11, 0x11, 0x11,
+    0x11, 0x11, 0x11, 0x11, 0x11, 0x11,
+];
+
+/// The locator of the chunk `abc` at extent 1, offset 0.
 const ABC_LOCATOR: [u8; 60] = [
     0x00, 0x00, 0x00, 0x01, 0x00, 0x00, 0x00, 0x00, 0x00, 0x00, 0x00, 0x03, 0x11, 0x11, 0x11, 0x11,
     0x11, 0x11, 0x11, 0x11, 0x11, 0x11, 0x11, 0x11, 0x11, 0x11, 0x11, 0x11, 0xba, 0x78, 0x16, 0xbf,
@@ -36,120 +40,99 @@ const ABC_LOCATOR: [u8; 60] = [
     0x96, 0x17, 0x7a, 0x9c, 0xb4, 0x10, 0xff, 0x61, 0xf2, 0x00, 0x15, 0xad,
 ];
 
-/// Requires that what was found is what was wanted, and else prints both. That it can be printed is proved here, once, and
-/// not in each test.
-fn same<T: PartialEq + Debug + Drop>(rt: &impl Abort, found: T, wanted: T) {
-    assert_eq!(rt; found, wanted);
-}
-
 /// The UUID of sixteen bytes 11.
 fn ones() -> Uuid {
     Uuid::from_bytes([0x11; 16])
 }
 
-/// The byte 7, and these parts behind it.
-fn behind_seven(alloc: Global, parts: &[&[u8]]) -> Result<Vec<u8>, Fail> {
-    let mut bytes = Vec::from_slice(alloc, &[7])?;
-    for part in parts {
-        bytes.extend_from_slice(part)?;
+/// Whether the bytes begin with a frame of that UUID whose payload has this length.
+fn begin_with_frame(bytes: &[u8], length: u32) -> bool {
+    let frame = Frame {
+        uuid: ones(),
+        length,
+    };
+    read_frame(bytes) == Some(frame)
+}
+
+/// Whether such a frame is read, and nothing without its last byte.
+fn is_read_whole(frame: &[u8], length: u32) -> bool {
+    match frame.split_last() {
+        Some((_, front)) => begin_with_frame(frame, length) && read_frame(front).is_none(),
+        None => false,
     }
-    Ok(bytes)
+}
+
+/// The frame of `abc`, and behind it the magic and a byte 0.
+fn followed_frame() -> [u8; 44] {
+    let mut bytes = [0; 44];
+    bytes[..41].copy_from_slice(&ABC_FRAME);
+    bytes[41..43].copy_from_slice(&MAGIC);
+    bytes
+}
+
+/// The frame of `abc` with another last byte.
+fn changed_frame() -> [u8; 41] {
+    let mut bytes = ABC_FRAME;
+    bytes[40] = 0x10;
+    bytes
+}
+
+/// A head of these two bytes, and else of bytes FF: it claims the greatest length.
+fn head_bytes(first: u8, second: u8) -> [u8; 22] {
+    let mut bytes = [0xFF; 22];
+    bytes[0] = first;
+    bytes[1] = second;
+    bytes
+}
+
+/// A page of that head and bytes FF: a place past that length, if it wrapped, would hold the UUID once more.
+fn page_of(head: &[u8; 22]) -> [u8; 64] {
+    let mut page = [0xFF; 64];
+    page[..22].copy_from_slice(head);
+    page
 }
 
 #[test]
 fn digests_of_abc_and_of_no_bytes(rt: HostRuntime) {
-    for (bytes, digest) in [
-        (b"abc".as_slice(), ABC_DIGEST),
-        (b"".as_slice(), EMPTY_DIGEST),
-    ] {
-        same(&rt, digest_of(bytes), digest);
-    }
+    assert!(rt; digest_of(b"abc") == ABC_DIGEST);
+    assert!(rt; digest_of(b"") == EMPTY_DIGEST);
 }
 
 #[test]
-fn the_frame_of_abc_is_appended(rt: HostRuntime) -> Result<(), Fail> {
-    let mut out = behind_seven(rt.alloc(), &[])?;
-    write_frame(&mut out, ones(), b"abc")?;
-    let wanted = behind_seven(rt.alloc(), &[&ABC_FRAME])?;
-    same(&rt, out.as_slice(), wanted.as_slice());
+fn the_frame_of_abc_is_appended_and_one_too_long_is_not(rt: HostRuntime) -> Result<(), Fail> {
+    let mut out = Vec::with_capacity(rt.alloc(), 1)?;
+    append(&mut out, &[7]);
+    let too_long = vec![in rt.alloc(); 0u8; 67_108_827]?;
+    assert!(rt; write_frame(&mut out, ones(), &too_long) == Err(FrameFault::TooLong));
+    assert!(rt; write_frame(&mut out, ones(), b"abc").is_ok());
+    assert!(rt; out.len() == 42 && out.starts_with(&[7]) && out.ends_with(&ABC_FRAME));
     Ok(())
 }
 
 #[test]
-fn a_payload_one_byte_too_long_is_refused(rt: HostRuntime) -> Result<(), Fail> {
-    let mut out = Vec::from_slice(rt.alloc(), &[7])?;
-    let payload = vec![in rt.alloc(); 0u8; 67_108_827]?;
-    same(
-        &rt,
-        write_frame(&mut out, ones(), &payload),
-        Err(FrameFault::TooLong),
-    );
-    same(&rt, out.as_slice(), [7].as_slice());
-    Ok(())
-}
-
-#[test]
-fn the_frame_of_abc_is_read_whole_or_not_at_all(rt: HostRuntime) -> Result<(), Fail> {
-    let found = Some(Frame {
-        uuid: ones(),
-        length: 3,
-    });
-    same(&rt, read_frame(&ABC_FRAME), found);
-    let mut longer = Vec::from_slice(rt.alloc(), &ABC_FRAME)?;
-    longer.extend_from_slice(&[0xC5, 0x5E, 0])?;
-    same(&rt, read_frame(&longer), read_frame(&ABC_FRAME));
-    let mut changed = ABC_FRAME;
-    changed[40] = 0x10;
-    same(&rt, read_frame(&changed), None);
-    same(&rt, read_frame(&ABC_FRAME[..40]), None);
-    same(&rt, read_frame(b""), None);
-    Ok(())
+fn the_frame_of_abc_is_read_whole_or_not_at_all(rt: HostRuntime) {
+    assert!(rt; is_read_whole(&ABC_FRAME, 3));
+    assert!(rt; begin_with_frame(&followed_frame(), 3));
+    assert!(rt; read_frame(&changed_frame()).is_none() && read_frame(b"").is_none());
 }
 
 #[test]
 fn a_frame_of_no_payload_has_38_bytes(rt: HostRuntime) {
-    let mut bytes = [0x11; 38];
-    bytes[..2].copy_from_slice(&MAGIC);
-    bytes[18..22].copy_from_slice(&[0; 4]);
-    let found = Some(Frame {
-        uuid: ones(),
-        length: 0,
-    });
-    same(&rt, read_frame(&bytes), found);
-    same(&rt, read_frame(&bytes[..37]), None);
+    assert!(rt; is_read_whole(&EMPTY_FRAME, 0));
 }
 
 #[test]
-fn a_head_claims_the_greatest_length(rt: HostRuntime) {
-    let mut page = [0u8; 256];
-    page[0] = 0xC5;
-    page[1] = 0x5E;
-    page[18..22].copy_from_slice(&[0xFF; 4]);
+fn a_head_begins_with_the_magic_and_claims_any_length(rt: HostRuntime) {
+    assert!(rt; read_head(&head_bytes(0xFF, 0xFF)).is_none());
+    assert!(rt; read_head(&head_bytes(0xC5, 0xFF)).is_none());
+    let bytes = head_bytes(0xC5, 0x5E);
     let head = Head {
-        uuid: Uuid::from_bytes([0; 16]),
+        uuid: Uuid::from_bytes([0xFF; 16]),
         length: 4_294_967_295,
     };
-    same(
-        &rt,
-        page.first_chunk::<22>().and_then(|first| read_head(first)),
-        Some(head),
-    );
+    assert!(rt; read_head(&bytes) == Some(head));
     // The page ends before that payload.
-    same(&rt, read_frame(&page), None);
-}
-
-#[test]
-fn a_head_begins_with_the_magic(rt: HostRuntime) {
-    let mut bytes = [0x11; 22];
-    same(&rt, read_head(&bytes), None);
-    bytes[0] = 0xC5;
-    same(&rt, read_head(&bytes), None);
-    bytes[1] = 0x5E;
-    let head = Head {
-        uuid: ones(),
-        length: 0x1111_1111,
-    };
-    same(&rt, read_head(&bytes), Some(head));
+    assert!(rt; read_frame(&page_of(&bytes)).is_none());
 }
 
 #[test]
@@ -162,10 +145,10 @@ fn the_locator_of_abc_is_read_and_written(rt: HostRuntime) {
         uuid: ones(),
         digest: ABC_DIGEST,
     };
-    same(&rt, locator, fields);
-    same(&rt, write_locator(&locator), ABC_LOCATOR);
-    same(&rt, read_locator(&ABC_LOCATOR), locator);
-    same(&rt, written_and_read(&locator), locator);
+    assert!(rt; locator == fields);
+    assert!(rt; write_locator(&locator) == ABC_LOCATOR);
+    assert!(rt; read_locator(&ABC_LOCATOR) == locator);
+    assert!(rt; written_and_read(&locator) == locator);
 }
 
 /// A locator that was written is read back, whatever it is: this follows from the contracts alone.
@@ -185,7 +168,7 @@ fn read_and_written(bytes: &[u8; 60]) -> [u8; 60]
 #[test]
 fn any_sixty_bytes_are_a_locator(rt: HostRuntime) {
     let bytes = [0xFF; 60];
-    same(&rt, read_and_written(&bytes), bytes);
+    assert!(rt; read_and_written(&bytes) == bytes);
 }
 
 /// The bytes of the locator of `abc` at offset 41.
@@ -195,40 +178,19 @@ fn moved_locator() -> [u8; 60] {
     bytes
 }
 
-#[test]
-fn two_locators_are_written_in_their_order(rt: HostRuntime) -> Result<(), Fail> {
-    let locators = [ABC_LOCATOR, moved_locator()].map(|bytes| read_locator(&bytes));
-    let mut out = behind_seven(rt.alloc(), &[])?;
-    out.reserve(2 * LOCATOR_BYTES)?;
-    append_locators(&mut out, &locators);
-    let wanted = behind_seven(rt.alloc(), &[&ABC_LOCATOR, &moved_locator()])?;
-    same(&rt, out.as_slice(), wanted.as_slice());
-    Ok(())
-}
-
-#[test]
-fn two_locators_are_read_in_their_order(rt: HostRuntime) -> Result<(), Fail> {
-    let bytes = behind_seven(rt.alloc(), &[&ABC_LOCATOR, &moved_locator()])?;
-    assert!(rt; bytes.len() == 121);
-    let read = read_locators(rt.alloc(), &bytes[1..], 2)?;
+/// Whether the locators are that of `abc` and the one at offset 41.
+fn are_in_order(locators: &[Locator]) -> bool {
     let abc = read_locator(&ABC_LOCATOR);
-    same(
-        &rt,
-        read.as_slice(),
-        [abc, Locator { offset: 41, ..abc }].as_slice(),
-    );
-    let none = read_locators(rt.alloc(), &[], 0)?;
-    assert!(rt; none.is_empty());
-    Ok(())
+    locators == [abc, Locator { offset: 41, ..abc }].as_slice()
 }
 
 #[test]
-fn bytes_are_appended_where_there_is_room(rt: HostRuntime) -> Result<(), Fail> {
-    let mut out = behind_seven(rt.alloc(), &[])?;
-    out.reserve(3)?;
-    append(&mut out, b"abc");
-    append(&mut out, b"");
-    let wanted = behind_seven(rt.alloc(), &[b"abc"])?;
-    same(&rt, out.as_slice(), wanted.as_slice());
+fn two_locators_are_written_and_read_in_their_order(rt: HostRuntime) -> Result<(), Fail> {
+    let bytes = [ABC_LOCATOR, moved_locator()];
+    let read = read_locators(rt.alloc(), bytes.as_flattened(), 2)?;
+    assert!(rt; are_in_order(&read));
+    let mut out = Vec::with_capacity(rt.alloc(), 120)?;
+    append_locators(&mut out, &read);
+    assert!(rt; out.as_slice() == bytes.as_flattened());
     Ok(())
 }

@@ -1,6 +1,7 @@
 //! How tests compare what they found with what they wanted.
 
 use scrub_disk::MemDisk;
+use scrub_report::ScrubAnswer;
 use scrub_scan::{AllFindings, ExtentResult};
 use std::fmt::Debug;
 use std::process::Abort;
@@ -42,4 +43,11 @@ pub(crate) fn check_found(
     for i in 0..found.len() {
         check_result(rt, found.result_at(i), wanted.result_at(i));
     }
+}
+
+/// Compares the answers of two scrubs.
+pub(crate) fn check_answer(rt: &impl Abort, found: &ScrubAnswer, wanted: &ScrubAnswer) {
+    same(rt, found.report(), wanted.report());
+    same(rt, found.index(), wanted.index());
+    same(rt, found.is_clean(), wanted.is_clean());
 }

@@ -3,6 +3,8 @@
 #![tactic(auto)]
 
 #[cfg(test)]
+mod asking;
+#[cfg(test)]
 mod bindings;
 #[cfg(test)]
 mod compare;
@@ -10,6 +12,8 @@ mod compare;
 mod disks;
 #[cfg(test)]
 mod events;
+#[cfg(test)]
+mod faults;
 #[cfg(test)]
 mod index_runs;
 #[cfg(test)]

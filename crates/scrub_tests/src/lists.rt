@@ -4,7 +4,7 @@ use crate::compare::same;
 use crate::disks::{
     deleted_in_the_newest_run, half_garbage, judged_locators, nine_locators, run_named_twice,
 };
-use crate::told::told_of;
+use crate::told::lists_of;
 use scrub_check::{
     Candidate, Checked, Found, Owner, Place, Status, dangling, find_start, hidden, live_bytes,
 };
@@ -69,7 +69,7 @@ fn no_more_items_are_looked_at_than_their_number_has_digits(rt: HostRuntime) {
 #[test]
 fn named_locators_are_checked_in_their_order(rt: HostRuntime) -> Result<(), Fail> {
     let (disk, run) = nine_locators(&rt, rt.alloc())?;
-    let told = told_of(&rt, rt.alloc(), &disk)?;
+    let told = lists_of(&rt, rt.alloc(), &disk)?;
     assert!(rt; told.checked.len() == 10);
     same(&rt, told.checked[0].owner, Owner::Run(0));
     same(&rt, told.checked[0].locator, run);
@@ -83,7 +83,7 @@ fn named_locators_are_checked_in_their_order(rt: HostRuntime) -> Result<(), Fail
 #[test]
 fn of_nine_locators_seven_dangle_and_one_is_hidden(rt: HostRuntime) -> Result<(), Fail> {
     let (disk, _) = nine_locators(&rt, rt.alloc())?;
-    let told = told_of(&rt, rt.alloc(), &disk)?;
+    let told = lists_of(&rt, rt.alloc(), &disk)?;
     let dangling = dangling(rt.alloc(), &told.checked)?;
     assert!(rt; dangling.len() == 7);
     same(&rt, dangling[0].status, Status::OutOfRange);
@@ -97,7 +97,7 @@ fn of_nine_locators_seven_dangle_and_one_is_hidden(rt: HostRuntime) -> Result<()
 #[test]
 fn a_chunk_that_a_hidden_locator_names_is_not_live(rt: HostRuntime) -> Result<(), Fail> {
     let (disk, _) = nine_locators(&rt, rt.alloc())?;
-    let told = told_of(&rt, rt.alloc(), &disk)?;
+    let told = lists_of(&rt, rt.alloc(), &disk)?;
     same(&rt, told.live.as_slice(), [41, 0, 635].as_slice());
     let orphan = Place {
         extent: 2,
@@ -117,7 +117,7 @@ fn a_chunk_that_a_hidden_locator_names_is_not_live(rt: HostRuntime) -> Result<()
 #[test]
 fn what_a_deleted_shard_had_is_an_orphan(rt: HostRuntime) -> Result<(), Fail> {
     let disk = deleted_in_the_newest_run(&rt, rt.alloc())?;
-    let told = told_of(&rt, rt.alloc(), &disk)?;
+    let told = lists_of(&rt, rt.alloc(), &disk)?;
     same(&rt, told.live.as_slice(), [0, 250, 155].as_slice());
     let orphan = Place {
         extent: 1,
@@ -132,7 +132,7 @@ fn what_a_deleted_shard_had_is_an_orphan(rt: HostRuntime) -> Result<(), Fail> {
 #[test]
 fn a_chunk_that_two_locators_name_is_live_once(rt: HostRuntime) -> Result<(), Fail> {
     let disk = run_named_twice(&rt, rt.alloc())?;
-    let told = told_of(&rt, rt.alloc(), &disk)?;
+    let told = lists_of(&rt, rt.alloc(), &disk)?;
     assert!(rt; told.checked.len() == 3);
     same(&rt, told.live.as_slice(), [41, 155].as_slice());
     assert!(rt; told.orphans.is_empty());
@@ -156,7 +156,7 @@ fn check_candidate(
 #[test]
 fn an_extent_that_no_locator_names_may_be_reclaimed(rt: HostRuntime) -> Result<(), Fail> {
     let disk = deleted_in_the_newest_run(&rt, rt.alloc())?;
-    let told = told_of(&rt, rt.alloc(), &disk)?;
+    let told = lists_of(&rt, rt.alloc(), &disk)?;
     check_candidate(&rt, &told.candidates, 1, 41, &[]);
     assert!(rt; told.candidates_in_doubt.is_empty());
     Ok(())
@@ -167,7 +167,7 @@ fn an_extent_that_is_half_live_may_be_reclaimed_but_for_what_lives(
     rt: HostRuntime,
 ) -> Result<(), Fail> {
     let disk = half_garbage(rt.alloc())?;
-    let told = told_of(&rt, rt.alloc(), &disk)?;
+    let told = lists_of(&rt, rt.alloc(), &disk)?;
     check_candidate(&rt, &told.candidates, 1, 41, &[41]);
     Ok(())
 }
@@ -175,7 +175,7 @@ fn an_extent_that_is_half_live_may_be_reclaimed_but_for_what_lives(
 #[test]
 fn what_a_locator_dangles_into_or_hides_in_is_not_reclaimed(rt: HostRuntime) -> Result<(), Fail> {
     let (disk, _) = nine_locators(&rt, rt.alloc())?;
-    let told = told_of(&rt, rt.alloc(), &disk)?;
+    let told = lists_of(&rt, rt.alloc(), &disk)?;
     assert!(rt; told.candidates.is_empty());
     Ok(())
 }

@@ -30,7 +30,7 @@ pub(crate) fn scrubbed<R>(rt: &R, alloc: Global, disk: &MemDisk) -> Result<Scrub
 
 /// What is told of the locators that a disk names, and of its chunks.
 #[derive(Drop)]
-pub(crate) struct Told {
+pub(crate) struct Lists {
     pub(crate) checked: Vec<Checked>,
     pub(crate) live: Vec<u32>,
     pub(crate) orphans: Vec<Place>,
@@ -49,11 +49,11 @@ pub(crate) fn checked_of<R>(rt: &R, alloc: Global, disk: &MemDisk) -> Result<Vec
 }
 
 /// All that is told of a disk.
-pub(crate) fn told_of<R>(rt: &R, alloc: Global, disk: &MemDisk) -> Result<Told, Fail> {
+pub(crate) fn lists_of<R>(rt: &R, alloc: Global, disk: &MemDisk) -> Result<Lists, Fail> {
     let plan = plan_of(alloc, disk)?;
     let all = scan_in_order(alloc, disk, &plan)?;
     let checked = checked_of(rt, alloc, disk)?;
-    Ok(Told {
+    Ok(Lists {
         live: all_live_bytes(alloc, &all, &checked)?,
         orphans: orphans(alloc, &all, &checked)?,
         candidates: candidates(alloc, &plan, &all, &checked, false)?,

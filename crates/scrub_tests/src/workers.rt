@@ -4,7 +4,7 @@ ghost use Rattle.std.specs.Prelude.{◌≤◌};
 
 mod watch;
 
-use crate::compare::{check_found, same};
+use crate::compare::{check_answer, check_found, same};
 use crate::disks::{many_shards, one_shard};
 use crate::told::scrubbed;
 use crate::workers::watch::Watch;
@@ -19,9 +19,10 @@ use std::sync::Wait;
 use std::test::Fail;
 use std::thread::Threads;
 
-/// Scans a disk by so many workers and the caller, each of whose first extents is held until so many have passed with
-/// one, and compares what is found with what one reader finds, and who took what with what the gate was told.
-fn check_scan<R: Threads + Wait + Abort + Sync>(
+/// Scans and scrubs a disk by so many workers and the caller, each of whose first extents is held until so many have
+/// passed with one. Compares what is found and answered with what one reader finds and answers, and who took what with
+/// what the gates were told.
+fn check_workers<R: Threads + Wait + Abort + Sync>(
     rt: &R,
     alloc: Global,
     disk: &MemDisk,
@@ -35,34 +36,13 @@ fn check_scan<R: Threads + Wait + Abort + Sync>(
     let watch = Watch::new(alloc, workers + 1, held)?;
     let (found, takings) = scan_all(rt, alloc, disk, &plan, &queue, &mut first, workers, &watch)?;
     check_found(rt, &found, &scan_in_order(alloc, disk, &plan)?);
-    same(rt, takings.workers(), workers);
-    same(rt, takings.counted(), plan.planned().len() as u64);
     watch.check(rt, &takings, plan.planned());
-    Ok(())
-}
-
-/// The same of a whole scrub, whose answer is that of one reader.
-fn check_scrub<R: Threads + Wait + Abort + Sync>(
-    rt: &R,
-    alloc: Global,
-    disk: &MemDisk,
-    workers: u32,
-    held: usize,
-) -> Result<(), Fail>
-    requires { workers ≤ 64 }
-{
-    let plan = plan_of(alloc, disk)?;
     let watch = Watch::new(alloc, workers + 1, held)?;
     let (answer, takings) = match scrub(rt, alloc, disk, workers, &watch) {
         Ok(found) => found,
         Err(ScrubFault::OutOfMemory) => return Err(Fail::from("out of memory")),
     };
-    let wanted = scrubbed(rt, alloc, disk)?;
-    same(rt, answer.report(), wanted.report());
-    same(rt, answer.index(), wanted.index());
-    same(rt, answer.is_clean(), wanted.is_clean());
-    same(rt, takings.workers(), workers);
-    same(rt, takings.counted(), plan.planned().len() as u64);
+    check_answer(rt, &answer, &scrubbed(rt, alloc, disk)?);
     watch.check(rt, &takings, plan.planned());
     Ok(())
 }
@@ -70,15 +50,13 @@ fn check_scrub<R: Threads + Wait + Abort + Sync>(
 #[test]
 fn extent_1_is_held_until_another_worker_passed_with_extent_2(rt: HostRuntime) -> Result<(), Fail> {
     let disk = one_shard(rt.alloc())?;
-    check_scan(&rt, rt.alloc(), &disk, 1, 2)?;
-    check_scrub(&rt, rt.alloc(), &disk, 1, 2)
+    check_workers(&rt, rt.alloc(), &disk, 1, 2)
 }
 
 #[test]
 fn four_workers_are_held_until_each_has_passed_with_an_extent(rt: HostRuntime) -> Result<(), Fail> {
     let (disk, _) = many_shards(&rt, rt.alloc())?;
-    check_scan(&rt, rt.alloc(), &disk, 3, 4)?;
-    check_scrub(&rt, rt.alloc(), &disk, 3, 4)
+    check_workers(&rt, rt.alloc(), &disk, 3, 4)
 }
 
 #[test]
@@ -89,8 +67,7 @@ fn any_number_of_workers_answers_what_one_reader_answers(rt: HostRuntime) -> Res
     let report = str::from_utf8(answer.report())?;
     assert!(&rt; answer.is_clean() && report.contains(r#""shards":38,"#));
     for workers in [0, 1, 2, 7, 64] {
-        check_scan(&rt, rt.alloc(), &disk, workers, 0)?;
-        check_scrub(&rt, rt.alloc(), &disk, workers, 0)?;
+        check_workers(&rt, rt.alloc(), &disk, workers, 0)?;
     }
     Ok(())
 }
@@ -109,8 +86,7 @@ fn a_disk_of_one_extent_of_one_page(rt: HostRuntime) -> Result<(), Fail> {
         &[Item::Pad { start: 0, stop: 64 }],
     );
     for workers in [0, 64] {
-        check_scan(&rt, rt.alloc(), &disk, workers, 0)?;
-        check_scrub(&rt, rt.alloc(), &disk, workers, 0)?;
+        check_workers(&rt, rt.alloc(), &disk, workers, 0)?;
     }
     Ok(())
 }

@@ -88,16 +88,6 @@ fn a_worker_that_holds_an_extent_comes_back(rt: HostRuntime) -> Result<(), Fail>
     Ok(())
 }
 
-#[test]
-fn a_worker_that_took_nothing_retires(rt: HostRuntime) -> Result<(), Fail> {
-    let core: WorkerCore<'_, MemDisk> = WorkerCore::new(rt.alloc());
-    assert!(&rt; core.held().is_none());
-    let retired = core.retire().ok().ok_or("a worker that took nothing")?;
-    check_retired(&rt, &retired, &[], &[]);
-    assert!(&rt; retired.into_results().is_empty());
-    Ok(())
-}
-
 /// A worker that took these three extents of a disk, one after another, and then retired.
 fn retired_after<'d>(
     rt: &impl Abort,

@@ -84,9 +84,12 @@ impl Watch {
         passed.count() >= self.wanted
     }
 
-    /// Requires that the gate was told what the workers took, each worker's extents in the order in which it took them,
-    /// and as many totals; and that the planned extents stand in one list each, and the totals count them, one by one.
+    /// Requires that there are as many workers as the gate is for, that it was told what they took, each worker's extents
+    /// in the order in which it took them, and as many totals; and that the planned extents stand in one list each, and
+    /// the totals count them, one by one.
     pub(super) fn check(&self, rt: &impl Abort, takings: &Takings, planned: &[u32]) {
+        same(rt, takings.workers() as usize + 1, self.passed.len());
+        same(rt, takings.counted(), planned.len() as u64);
         let mut taken = 0;
         let mut totals = 0;
         for worker in 0..=takings.workers() {
