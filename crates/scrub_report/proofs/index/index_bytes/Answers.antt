@@ -1,7 +1,7 @@
 -- The entries that are kept rise, have few locators each, and are no more than the bindings.
-use Rattle.std.proofs.Common.{◌≡◌, ◌≤◌, ◌<◌, ◌^◌, IfOk, List, All, length, subst, sym, ◌∙◌}
+use Rattle.std.proofs.Common.{◌≤◌, ◌<◌, ◌^◌, List, All, length, subst, sym, ◌∙◌}
 use Rattle.scrub_run.specs.Entry.{EntryValue}
-use Rattle.scrub_run.specs.Run.{RisesById, run_bytes}
+use Rattle.scrub_run.specs.Run.{RisesById}
 use Rattle.scrub_report.proofs.RunEntries.{entries_rise, entries_few, entries_count}
 use Rattle.scrub_report.proofs.index.index_bytes.Goals as goal
 
@@ -19,8 +19,3 @@ pub write_run-requires-clause-count : goal.write_run-requires-clause-count
 write_run-requires-clause-count c =
     let same = c.deref.ensures.value ∙ c.in_ok-entries.ensures c.args.checked.now c.requires.broken in
     subst (λ (es : List EntryValue). length es < 2 ^ 32) (sym same) (entries_count c.args.checked.now c.args.bindings.now c.requires.count)
-
-pub returns : goal.returns
-returns c =
-    let same = c.deref.ensures.value ∙ c.in_ok-entries.ensures c.args.checked.now c.requires.broken in
-    subst (λ (es : List EntryValue). IfOk c.write_run.result (λ bytes. bytes.items ≡ run_bytes es)) same c.write_run.ensures.written
