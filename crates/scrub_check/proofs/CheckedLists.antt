@@ -1,6 +1,6 @@
 -- Lists of checked locators, as they grow.
-use Rattle.std.proofs.Common.{◌≡◌, ◌<◌, ◌≤◌, ◌+◌, ℕ, List, [], ◌∷◌, ◌++◌, length, take, get_or, sym, ◌∙◌, ap, subst, arith}
-use Rattle.std.proofs.lemmas.List.{take_more, take_all, map-append}
+use Rattle.std.proofs.Common.{◌≡◌, ◌<◌, ◌+◌, ℕ, List, [], ◌∷◌, ◌++◌, length, take, get_or, sym, ◌∙◌, ap, subst, arith}
+use Rattle.std.proofs.lemmas.List.{take_more, map-append}
 use Rattle.std.proofs.lemmas.List.Elements.{All-append, All-cons}
 use Rattle.scrub_disk.specs.Image.{Image}
 use Rattle.scrub_super.specs.Plan.{PlanValue}
@@ -17,6 +17,3 @@ checked_more image plan names old new i d one below h same status grown =
       same = map-append named_of old (one ∷ []) ∙ ap (λ ns. ns ++ named_of one ∷ []) h.same ∙ ap (λ n. take i names ++ n ∷ []) same ∙ sym (take_more names i d below);
       statuses = All-append (λ c. HasStatusIn image plan c.locator c.status) old (one ∷ []) h.statuses (All-cons (λ c. HasStatusIn image plan c.locator c.status) one [] status (λ k d lt. absurd (omega (arith, lt))));
     })
-
-pub all_checked : (image : Image) (plan : PlanValue) (names : List Named) (checked : List Checked) (i : ℕ) → length names ≤ i → AreChecked image plan (take i names) checked → AreChecked image plan names checked
-all_checked image plan names checked i end h = subst (λ (ns : List Named). AreChecked image plan ns checked) (take_all i names end) h

@@ -35,7 +35,7 @@ sizes_of_tiling x items pos h = let all : 0 + sum_by size_of items ≡ x.pointer
 pub sizes_found : (image : Image) (e w : ℕ) (found : Findings) → IsFindings image e w found → sum_by size_of found.items ≡ w
 sizes_found image e w found h = sizes_of_tiling (extent_of image e w) found.items (omega (arith, image.geometry.page_size.least)) h.tiled
 
--- so a word counts what the items take that findings show, as it counts the pointer
+-- so 32 bits count what the items take that findings show, as they count the pointer
 pub sizes_fit : (image : Image) (e w : ℕ) (found : Findings) (items : List Item) (pointer : ℕ) → IsFindings image e w found → items ≡ found.items → pointer ≡ w → pointer < 2 ^ 32 →
     sum_by size_of items < 2 ^ 32
 sizes_fit image e w found items pointer h shown at below =

@@ -17,14 +17,6 @@ pub record LiesWithin (xs : List ℕ) (x low high : ℕ) : Type 0 where
 abbrev pub HalvesIn : ℕ → ℕ → ℕ → Type 0
 HalvesIn n steps width = (digits : ℕ) → n < 2 ^ digits → (left : ℕ) × (steps + left ≡ digits) × (width < 2 ^ left)
 
-pub lies_at_first : (xs : List ℕ) (x : ℕ) → LiesWithin xs x 0 (length xs)
-lies_at_first xs x = record {
-  ordered = omega arith;
-  inside = omega arith;
-  below = λ k lt. absurd (omega (arith, lt));
-  above = λ k le lt. absurd (omega (arith, le, lt));
-}
-
 pub lies_above : (xs : List ℕ) (x low high middle : ℕ) → IsStrictlyIncreasing xs → LiesWithin xs x low high → middle < high → low ≤ middle → get_or xs middle 0 < x → LiesWithin xs x (middle + 1) high
 lies_above xs x low high middle rising h lt le less = record {
   ordered = omega (arith, lt);
@@ -59,9 +51,6 @@ lies_nowhere xs x low high h end (i, inside, is) =
       | inl less ↦ let b = h.below i less in absurd (let e : get_or xs i 0 ≡ x = at ∙ is in omega (arith, b, e))
       | inr more ↦ let a = h.above i (omega (arith, more, end)) inside in absurd (let e : get_or xs i 0 ≡ x = at ∙ is in omega (arith, a, e))
     ]
-
-pub halves_at_first : (n : ℕ) → HalvesIn n 0 n
-halves_at_first n digits lt = (digits, omega arith, lt)
 
 -- one more step leaves at most half
 pub halves_more : (n steps width less : ℕ) → HalvesIn n steps width → 0 < width → 2 * less ≤ width → HalvesIn n (steps + 1) less

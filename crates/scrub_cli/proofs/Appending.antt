@@ -1,7 +1,7 @@
 -- What a writer holds after several writes.
 use Rattle.std.proofs.Common.{◌≡◌, List, ◌++◌, ℕ, ◌+◌, length, take, drop, Option, append_assoc, ap, subst, refl, ◌∙◌, sym, OnOk, Result, Ok, Err}
 use Rattle.std.proofs.lemmas.List.{take-append-drop}
-use Rattle.std.proofs.Math.Seq.{take-append_seam, take-append-add, take-length}
+use Rattle.std.proofs.Math.Seq.{take-append_seam, take-append-add}
 use Rattle.std.specs.Io.KnownBytes.{Appends}
 use Rattle.scrub_report.proofs.Appending.{appends_twice}
 use Rattle.scrub_report.specs.Writing.{AppendsFront}
@@ -20,10 +20,6 @@ pub front_then : (old mid new : Option (List ℕ)) (first second : List ℕ) →
     AppendsFront old new (first ++ second)
 front_then old mid new first second before front =
     (length first + front.0, appends_twice old mid new first (take front.0 second) _ before front.1 (take-append-add first second front.0))
-
--- all of it
-pub front_all : (old new : Option (List ℕ)) (text : List ℕ) → Appends old new text → AppendsFront old new text
-front_all old new text all = (length text, subst (Appends old new) (sym (take-length text)) all)
 
 -- the same of a write that went well
 pub ok_then : {T E : Type 0} (r : Result T E) (old mid new : Option (List ℕ)) (first second : List ℕ) → Appends old mid first →

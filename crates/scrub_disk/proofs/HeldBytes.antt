@@ -5,7 +5,7 @@ use Rattle.std.proofs.lemmas.Nat.{div-add-mod', div_below, row_fits, div-mul-add
 use Rattle.std.proofs.lemmas.Option.{slice_get-get_or}
 use Rattle.std.proofs.lemmas.List.Edits.{length-between, get_or-between}
 use Rattle.std.specs.List.{between}
-use Rattle.std.proofs.lemmas.List.{get_or-replicate, length-replicate, same_lists, get_or_read, places, with_items_is}
+use Rattle.std.proofs.lemmas.List.{get_or-replicate, length-replicate, same_lists, get_or_read, with_items_is}
 use borrow.Rule.Slice.PartMut.{put_mid}
 use Rattle.std.specs.Vec.{with_items}
 use Rattle.std.proofs.Common.{Vec, Global}

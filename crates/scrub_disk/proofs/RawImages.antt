@@ -20,27 +20,23 @@ use Rattle.scrub_disk.specs.Marked.{HoldsUnmarked, MarksAll}
 -- a disk whose unmarked bytes are the raw ones has the raw pages
 pub holds_raw : (g : Geometry) (told bytes : List ℕ) (marks : List Bool) → length bytes ≡ g.page * g.pages * g.extents → length marks ≡ g.pages * g.extents →
     HoldsUnmarked told g.page marks bytes → HoldsRaw told (held g bytes marks)
-holds_raw g told bytes marks lb lm h e p he hp = by_mark (get_or marks (e * g.pages + p) false) (λ f. f)
+holds_raw g told bytes marks lb lm h e q he hq = by_mark (get_or marks (e * g.pages + q) false) (λ f. f)
   where
-    n : ℕ
-    n = e * g.pages + p
-
-    by_mark : (b : Bool) → (b ≡ false → get_or marks (e * g.pages + p) false ≡ false) →
-        IfSome (cond b None (Some (between ((e * g.pages + p) * g.page) ((e * g.pages + p) * g.page + g.page) bytes))) (IsPageAt told ((e * g.pages + p) * g.page) g.page)
+    by_mark : (b : Bool) → (b ≡ false → get_or marks (e * g.pages + q) false ≡ false) →
+        IfSome (cond b None (Some (between ((e * g.pages + q) * g.page) ((e * g.pages + q) * g.page + g.page) bytes))) (IsPageAt told ((e * g.pages + q) * g.page) g.page)
     by_mark true f = tt
     by_mark false f =
-        let room = page_room g.page g.pages g.extents e p he hp in
-        let from : ℕ = (e * g.pages + p) * g.page in
-        let l : length (between ((e * g.pages + p) * g.page) ((e * g.pages + p) * g.page + g.page) bytes) ≡ g.page =
-        length-between bytes ((e * g.pages + p) * g.page) ((e * g.pages + p) * g.page + g.page) (omega (arith, room.1, lb)) ∙ (let z : (e * g.pages + p) * g.page + g.page - (e * g.pages + p) * g.page ≡ g.page = omega arith in z) in
+        let room = page_room g.page g.pages g.extents e q he hq in
+        let l : length (between ((e * g.pages + q) * g.page) ((e * g.pages + q) * g.page + g.page) bytes) ≡ g.page =
+        length-between bytes ((e * g.pages + q) * g.page) ((e * g.pages + q) * g.page + g.page) (omega (arith, room.1, lb)) ∙ (let z : (e * g.pages + q) * g.page + g.page - (e * g.pages + q) * g.page ≡ g.page = omega arith in z) in
         record {
           whole = l;
           stands = λ k hk.
               let small : k < g.page = omega (arith, hk, l) in
-              let q : ((e * g.pages + p) * g.page + k) / g.page ≡ e * g.pages + p = div-mul-add (e * g.pages + p) g.page k small in
-              h ((e * g.pages + p) * g.page + k) (omega (arith, room.1, lb, small))
-              (ap (λ m. get_or marks m true) q ∙ get_or_default marks (e * g.pages + p) true false (omega (arith, room.0, lm)) ∙ f refl)
-              ∙ ap Some (sym (get_or-between bytes ((e * g.pages + p) * g.page) ((e * g.pages + p) * g.page + g.page) k 0 (omega (arith, small))));
+              let own : ((e * g.pages + q) * g.page + k) / g.page ≡ e * g.pages + q = div-mul-add (e * g.pages + q) g.page k small in
+              h ((e * g.pages + q) * g.page + k) (omega (arith, room.1, lb, small))
+              (ap (λ m. get_or marks m true) own ∙ get_or_default marks (e * g.pages + q) true false (omega (arith, room.0, lm)) ∙ f refl)
+              ∙ ap Some (sym (get_or-between bytes ((e * g.pages + q) * g.page) ((e * g.pages + q) * g.page + g.page) k 0 (omega (arith, small))));
         }
 
 -- the image of two vectors that were written through slices
@@ -58,7 +54,7 @@ pub holds_loaded : (g : Geometry) (raw : Option (List ℕ)) (bytes : List ℕ) (
 holds_loaded g None bytes marks page image is same lb lm h = tt
 holds_loaded g (Some told) bytes marks page image is same lb lm h =
     subst (λ (d : Image). HoldsRaw told d) (sym is)
-    (holds_raw g told bytes marks (omega (arith, lb)) lm (subst (λ (p : ℕ). HoldsUnmarked told p marks bytes) same h))
+    (holds_raw g told bytes marks (omega (arith, lb)) lm (subst (λ (size : ℕ). HoldsUnmarked told size marks bytes) same h))
 
 -- an element of a front of a list
 front_at : {X : Type 0} (xs : List X) (i k : ℕ) (d : X) → i ≤ length xs → k < length (take i xs) → (k < i) × (get_or (take i xs) k d ≡ get_or xs k d)
@@ -71,24 +67,24 @@ abbrev at : ℕ → ℕ → ℕ × ℕ
 at e q = (e, q)
 
 -- what one more mark changes
-marks_step : (mid new : Image) (e p f q : ℕ) → Marks mid new e p → f < mid.geometry.extents → q < mid.geometry.pages →
-    (new.page f q ≡ mid.page f q) ⊎ ((new.page f q ≡ None) × (at f q ≡ at e p))
-marks_step mid new e p f q m hf hq = elim (cases_eq f e) [
-  | inr ne ↦ inl (m.others f q hf hq (inl ne))
-  | inl fe ↦ elim (cases_eq q p) [
-    | inr ne ↦ inl (m.others f q hf hq (inr ne))
-    | inl qp ↦ inr (ap (λ x. new.page x q) fe ∙ ap (λ y. new.page e y) qp ∙ m.marked, ap (λ x. at x q) fe ∙ ap (λ y. at e y) qp)
+marks_step : (mid new : Image) (e q f w : ℕ) → Marks mid new e q → f < mid.geometry.extents → w < mid.geometry.pages →
+    (new.page f w ≡ mid.page f w) ⊎ ((new.page f w ≡ None) × (at f w ≡ at e q))
+marks_step mid new e q f w m hf hr = elim (cases_eq f e) [
+  | inr ne ↦ inl (m.others f w hf hr (inl ne))
+  | inl fe ↦ elim (cases_eq w q) [
+    | inr ne ↦ inl (m.others f w hf hr (inr ne))
+    | inl rq ↦ inr (ap (λ x. new.page x w) fe ∙ ap (λ y. new.page e y) rq ∙ m.marked, ap (λ x. at x w) fe ∙ ap (λ y. at e y) rq)
   ]
 ]
 
 -- one more named page was marked
-pub marks_more : (old mid new : Image) (named : List (ℕ × ℕ)) (i e p : ℕ) (d : ℕ × ℕ) →
-    All (λ (x : ℕ × ℕ). (x.0 < old.geometry.extents) × (x.1 < old.geometry.pages)) named → MarksAll old mid (take i named) → Marks mid new e p → i < length named → get_or named i d ≡ at e p →
+pub marks_more : (old mid new : Image) (named : List (ℕ × ℕ)) (i e q : ℕ) (d : ℕ × ℕ) →
+    All (λ (x : ℕ × ℕ). (x.0 < old.geometry.extents) × (x.1 < old.geometry.pages)) named → MarksAll old mid (take i named) → Marks mid new e q → i < length named → get_or named i d ≡ at e q →
     MarksAll old new (take (i + 1) named)
-marks_more old mid new named i e p d range h m below is =
+marks_more old mid new named i e q d range h m below is =
     let same : mid.geometry ≡ old.geometry = h.geometry in
-    let step : (f q : ℕ) → f < old.geometry.extents → q < old.geometry.pages → (new.page f q ≡ mid.page f q) ⊎ ((new.page f q ≡ None) × (at f q ≡ at e p)) =
-    λ f q hf hq. marks_step mid new e p f q m (subst (λ (g : Geometry). f < g.extents) (sym same) hf) (subst (λ (g : Geometry). q < g.pages) (sym same) hq) in
+    let step : (f w : ℕ) → f < old.geometry.extents → w < old.geometry.pages → (new.page f w ≡ mid.page f w) ⊎ ((new.page f w ≡ None) × (at f w ≡ at e q)) =
+    λ f w hf hr. marks_step mid new e q f w m (subst (λ (g : Geometry). f < g.extents) (sym same) hf) (subst (λ (g : Geometry). w < g.pages) (sym same) hr) in
     let before : All (λ (x : ℕ × ℕ). new.page x.0 x.1 ≡ None) (take i named) =
     λ k z hk.
     let front = front_at named i k z (omega (arith, below)) hk in
@@ -97,14 +93,14 @@ marks_more old mid new named i e p d range h m below is =
     record {
       geometry = m.geometry ∙ h.geometry;
       marked = All-more (λ (x : ℕ × ℕ). new.page x.0 x.1 ≡ None) named i d below before (subst (λ (x : ℕ × ℕ). new.page x.0 x.1 ≡ None) (sym is) m.marked);
-      others = λ f q hf hq. elim (step f q hf hq) [
-        | inl kept ↦ elim (h.others f q hf hq) [
+      others = λ f w hf hr. elim (step f w hf hr) [
+        | inl kept ↦ elim (h.others f w hf hr) [
           | inl was ↦ inl (kept ∙ was)
           | inr gone ↦
               let k : ℕ = gone.1.0 in
-              let front = front_at named i gone.1.0 (f, q) (omega (arith, below)) gone.1.1 in
-              inr (kept ∙ gone.0, (gone.1.0, omega (arith, front.0, below, length-take-le {A = ℕ × ℕ} (i + 1) named (omega (arith, below))), get_or-take (i + 1) named gone.1.0 (f, q) (omega (arith, front.0)) ∙ sym front.1 ∙ gone.1.2))
+              let front = front_at named i gone.1.0 (f, w) (omega (arith, below)) gone.1.1 in
+              inr (kept ∙ gone.0, (gone.1.0, omega (arith, front.0, below, length-take-le {A = ℕ × ℕ} (i + 1) named (omega (arith, below))), get_or-take (i + 1) named gone.1.0 (f, w) (omega (arith, front.0)) ∙ sym front.1 ∙ gone.1.2))
         ]
-        | inr gone ↦ inr (gone.0, (i, omega (arith, below, length-take-le {A = ℕ × ℕ} (i + 1) named (omega (arith, below))), get_or-take (i + 1) named i (f, q) (omega arith) ∙ get_or_default named i (f, q) d below ∙ is ∙ sym gone.1))
+        | inr gone ↦ inr (gone.0, (i, omega (arith, below, length-take-le {A = ℕ × ℕ} (i + 1) named (omega (arith, below))), get_or-take (i + 1) named i (f, w) (omega arith) ∙ get_or_default named i (f, w) d below ∙ is ∙ sym gone.1))
       ];
     }

@@ -9,6 +9,5 @@ pub mod Raw
 -- The steps of the code: marks while an image is loaded, and the search for the next unreadable page.
 pub mod Marked
 pub mod NextUnreadable
--- Lemmas that types need: pages are whole, and images are equal in one way.
+-- Lemmas that types need: pages are whole.
 pub mod WholePages
-pub mod Sets

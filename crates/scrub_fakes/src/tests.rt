@@ -1,4 +1,4 @@
-//! What the fakes do, and the builders beside each other. Those that put bytes and marks alone are called by the tests above.
+//! What the fakes do, and what the builders put on one disk. Those that put bytes and marks alone are called by the crates above.
 
 use crate::*;
 use scrub_disk::{PageSource, RawFault, RawImage};

@@ -8,7 +8,7 @@ ghost use Rattle.scrub_pool.specs.Account.{view_of};
 ghost use Rattle.scrub_pool.specs.Known.{known};
 
 use crate::OutOfMemory;
-use crate::rule::{Parts, Pushes, RuledQueue, Takes, View};
+use crate::rule::{Pushes, RuledQueue, Splits, Takes, View};
 use crossbeam_queue::Pass;
 use scrub_super::Plan;
 use std::alloc::Global;
@@ -77,7 +77,7 @@ impl ExtentQueue {
         ensures out { IfOk result (λ p. pass.new ≡ record pass.old { out = pass.old.out + 1 }) }
         ensures same { OnErr result (pass.new ≡ pass.old) }
     {
-        let other = self.queue.another::<Parts>(&mut pass.pass);
+        let other = self.queue.another::<Splits>(&mut pass.pass);
         Ok(TakePass { pass: other })
     }
 
@@ -90,7 +90,7 @@ impl ExtentQueue {
         ensures { pass.new ≡ record pass.old { joined = pass.old.joined ++ other.own ∷ []; out = pass.old.out - 1 } }
     {
         let TakePass { pass: theirs } = other;
-        self.queue.absorb::<Parts>(&mut pass.pass, theirs);
+        self.queue.absorb::<Splits>(&mut pass.pass, theirs);
     }
 
     /// Takes the next extent out of the queue, above all that this pass took. None means that the queue was empty at one

@@ -64,9 +64,9 @@ impl Lesson<u32, View> for Takes {
 }
 
 /// A pass is split off, or joined back.
-pub struct Parts;
+pub struct Splits;
 
-impl Split<View> for Parts {
+impl Split<View> for Splits {
     ghost use Rattle.std.specs.Prelude.{◌+◌, []};
     ghost use Rattle.scrub_pool.specs.Account.{view_of};
 
@@ -75,7 +75,7 @@ impl Split<View> for Parts {
     ghost right = { λ v. view_of 0 1 0 v.pushed [] [] };
 }
 
-impl Join<View> for Parts {
+impl Join<View> for Splits {
     ghost use Rattle.std.specs.Prelude.{◌-◌, ◌++◌, ◌∷◌, []};
     ghost use Rattle.scrub_pool.specs.Account.{view_of};
 

@@ -7,9 +7,9 @@ use Rattle.std.proofs.lemmas.Option.{same_Some}
 use Rattle.std.specs.List.{between}
 use Rattle.scrub_frame.specs.Frame.{frame_magic}
 use Rattle.scrub_scan.specs.declared.buffer.ScanView.{ScanView}
-use Rattle.scrub_scan.specs.Extent.{Extent, bound, IsUnreadableAt, IsZero, HasMagic}
+use Rattle.scrub_scan.specs.Extent.{Extent, NoFrameAt, bound, IsUnreadableAt, IsZero, HasMagic}
 use Rattle.scrub_scan.specs.declared.item.Item.{Item}
-use Rattle.scrub_scan.specs.Item.{Fits, IsItem, start_of}
+use Rattle.scrub_scan.specs.Item.{Fits, IsItem, Spans, start_of}
 use Rattle.scrub_scan.specs.View.{viewed_extent}
 use Rattle.scrub_scan.proofs.PlacePages.{page_of}
 use Rattle.scrub_scan.proofs.ViewFrames.{readable_byte, byte_reads}
@@ -43,7 +43,7 @@ part_byte x p i readable low high =
     let h : (i / x.page ≡ p / x.page) × (i < length x.bytes.now) = same_page x p i low high in
     readable_byte x i (ap (λ n. get_or x.readable.now n false) h.0 ∙ readable) h.1
 
-pub not_unreadable : (x : ScanView) (p : ℕ) → p < x.pointer → IsReadable x p → ¬ IsUnreadableAt (viewed_extent x) p
+not_unreadable : (x : ScanView) (p : ℕ) → p < x.pointer → IsReadable x p → ¬ IsUnreadableAt (viewed_extent x) p
 not_unreadable x p below readable none =
     let e : Some (get_or x.bytes.now p 0) ≡ None = sym (readable_byte x p readable (omega (arith, below, x.within))) ∙ none in
     absurd (let f : ⊥ = cc in f)
@@ -56,7 +56,7 @@ zero_part x p q readable part zeros i low high =
     part_byte x p i readable low high
     ∙ ap Some (ap (λ n. get_or x.bytes.now n 0) (sym place) ∙ sym (get_or-between x.bytes.now p q (i - p) 0 within) ∙ zeros (i - p) (omega (arith, size, within, low)))
 
-pub not_zero_part : (x : ScanView) (p q : ℕ) → IsReadable x p → IsBound x p q → (AllZero (between p q x.bytes.now) → ⊥) → ¬ IsZero (viewed_extent x) p
+not_zero_part : (x : ScanView) (p q : ℕ) → IsReadable x p → IsBound x p q → (AllZero (between p q x.bytes.now) → ⊥) → ¬ IsZero (viewed_extent x) p
 not_zero_part x p q readable part other zeros =
     let size : length (between p q x.bytes.now) ≡ q - p = length-between x.bytes.now p q (omega (arith, part, x.within)) in
     other (λ k hk.
@@ -85,3 +85,9 @@ not_magic_part x p q part other h =
       get_or-between x.bytes.now p q 0 0 (omega (arith, h.0, part)) ∙ (byte_reads x (p + 0) 0xC5 (h.1 0 (lit< tt))).1,
       get_or-between x.bytes.now p q 1 0 (omega (arith, h.0, part)) ∙ (byte_reads x (p + 1) 0x5E (h.1 1 (lit< tt))).1,
     )
+
+-- what Torn and Noise share: no frame stands there, and the part is readable and not zeros
+pub behind_zeros : {rest : Type 0} (x : ScanView) (p q : ℕ) {start stop : ℕ} → p < x.pointer → IsReadable x p → IsBound x p q → (AllZero (between p q x.bytes.now) → ⊥) →
+    Spans (viewed_extent x) p start stop → NoFrameAt (viewed_extent x) p → rest →
+    Spans (viewed_extent x) p start stop × NoFrameAt (viewed_extent x) p × (¬ IsUnreadableAt (viewed_extent x) p) × (¬ IsZero (viewed_extent x) p) × rest
+behind_zeros x p q below readable part other spans unframed rest = (spans, unframed, not_unreadable x p below readable, not_zero_part x p q readable part other, rest)

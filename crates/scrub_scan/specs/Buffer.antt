@@ -4,9 +4,9 @@ use Rattle.scrub_disk.specs.Image.{Image, byte}
 use Rattle.scrub_disk.specs.NextUnreadable.{IsNextUnreadable}
 use Rattle.scrub_scan.specs.Extent.{Extent}
 
--- byte i, where its page is readable
+-- byte p, where its page is readable
 abbrev pub buffered_byte : ℕ → List ℕ → List Bool → ℕ → Option ℕ
-buffered_byte page bytes readable i = if slice_index_or readable (i / page) false then slice_get bytes i else None
+buffered_byte page bytes readable p = if slice_index_or readable (p / page) false then slice_get bytes p else None
 
 abbrev pub buffered_extent : ℕ → List ℕ → List Bool → ℕ → Extent
 buffered_extent page bytes readable pointer = record { byte = buffered_byte page bytes readable; page = page; pointer = pointer }

@@ -1,12 +1,11 @@
 -- The choice that follows from what was found in extent 0.
-use Rattle.std.proofs.Common.{◌≡◌, ◌≢◌, ◌<◌, ◌≤◌, ◌+◌, ◌*◌, ◌/◌, ◌%◌, ◌-◌, ℕ, List, [], Bool, true, false, cond, length, drop, get_or, arith, refl, sym, ◌∙◌, ap, Option, Some, None, inl, inr, ◌⊎◌, IsTrue, filter, not, is_none, length-drop, option_and_then, slice_get}
+use Rattle.std.proofs.Common.{◌≡◌, ◌≢◌, ◌<◌, ◌≤◌, ◌+◌, ◌*◌, ◌/◌, ◌%◌, ◌-◌, ℕ, List, [], Bool, true, false, cond, length, drop, get_or, arith, refl, sym, ◌∙◌, ap, Option, Some, None, inl, inr, IsTrue, filter, not, is_none, length-drop, option_and_then, slice_get}
 use Rattle.std.specs.List.{between, range_with_len}
 use Rattle.std.proofs.lemmas.Bool.{cases_eq, cases_lt, le-ltb, false≢true}
 use Rattle.std.proofs.lemmas.Option.{same_Some, none-some}
 use Rattle.std.proofs.lemmas.List.{get_or-drop}
 use Rattle.std.proofs.lemmas.List.Prefix.{front_from_reads}
 use Rattle.std.proofs.lemmas.Nat.{div_below}
-use Rattle.std.proofs.Math.Nat.{mul-le-mul_left}
 use Rattle.scrub_disk.specs.declared.geometry.Geometry.{Geometry}
 use Rattle.scrub_disk.specs.Image.{Image, byte, extent_bytes}
 use Rattle.scrub_disk.proofs.HeldBytes.{byte-unreadable}
@@ -156,15 +155,6 @@ pub found_of : (image : Image) (g : Geometry) (xs bytes : List ℕ) (ys readable
     ((page : ℕ → ℕ → Option (List ℕ)) → IsBuffered (record { geometry = g; page = page }) 0 xs ys → AreSeenFrom (StandsFrom (record { geometry = g; page = page })) 0 f) →
     AreSeenFrom (StandsFrom image) 0 f
 found_of image g xs bytes ys readable f hg hx hy h all = (rw (hg, hx, hy) at all) image.page h
-
--- where the newest that was found stands
-pub newest_page : (image : Image) (bytes : List ℕ) (readable : List Bool) (f : RecordsSeen) (b : Newest) → IsBuffered image 0 bytes readable → AreSeenFrom (StandsFrom image) 0 f → f.newest ≡ Some b →
-    b.page * image.geometry.page ≤ length bytes
-newest_page image bytes readable f b h found is =
-    let newest : IsNewestFrom (StandsFrom image) 0 b = rw is at found.newest in
-    let next : b.page + 1 ≤ image.geometry.pages = omega (arith, newest.there.1.within) in
-    let room : image.geometry.page * (b.page + 1) ≤ image.geometry.page * image.geometry.pages = mul-le-mul_left image.geometry.page next in
-    omega (arith, room, h.size)
 
 -- a record is read there
 pub newest_begins : (image : Image) (bytes : List ℕ) (readable : List Bool) (f : RecordsSeen) (b : Newest) → IsBuffered image 0 bytes readable → AreSeenFrom (StandsFrom image) 0 f → f.newest ≡ Some b →

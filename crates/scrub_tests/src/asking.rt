@@ -11,7 +11,7 @@ use std::alloc::Global;
 use std::process::Abort;
 use std::test::Fail;
 
-/// Requires that the choice of a superblock and one reader ask for each page of a disk once.
+/// Requires that the choice of a superblock and the scan by one reader ask for each page of a disk once.
 fn check_asked(rt: &impl Abort, alloc: Global, disk: &MemDisk) -> Result<(), Fail> {
     let source = CountingSource::new(alloc, disk)?;
     let geometry = source.geometry();
@@ -25,8 +25,8 @@ fn check_asked(rt: &impl Abort, alloc: Global, disk: &MemDisk) -> Result<(), Fai
     Ok(())
 }
 
-/// A disk of one extent of eight pages beside the superblocks, each of which begins with the head of a frame that would
-/// end with the extent.
+/// A disk of one extent beside a blank extent 0. Each of its eight pages begins with the head of a frame that would end
+/// with the extent.
 fn heads(alloc: Global) -> Result<MemDisk, Fail> {
     let mut disk = MemDisk::blank(alloc, Geometry::new(64, 8, 2)?)?;
     for page in 0u8..8 {

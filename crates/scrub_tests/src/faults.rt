@@ -1,30 +1,53 @@
-//! The texts of faults, which no clause says.
+//! The texts of faults, which no clause says. Those of a refused geometry stand in what the program prints.
 
 use crate::compare::same;
-use scrub_disk::LoadFault;
+use scrub_disk::{LoadFault, RawFault, Unreadable};
+use scrub_fakes::Misfit;
 use scrub_frame::FrameFault;
 use scrub_run::RunFault;
+use std::alloc::Global;
+use std::fmt::Display;
+use std::process::Abort;
 use std::test::Fail;
+
+/// Requires that a fault prints as this text.
+fn check_text<F: Display + Drop>(
+    rt: &impl Abort,
+    alloc: Global,
+    fault: F,
+    text: &str,
+) -> Result<(), Fail> {
+    same(rt, format!(in alloc; "{fault}")?.as_str(), text);
+    Ok(())
+}
 
 #[test]
 fn each_fault_is_told_by_its_own_text(rt: HostRuntime) -> Result<(), Fail> {
+    let alloc = rt.alloc();
     for (fault, text) in [
         (RunFault::OutOfMemory, "out of memory"),
         (RunFault::NotARun, "the payload isn't an index run"),
     ] {
-        same(&rt, format!(in rt.alloc(); "{fault}")?.as_str(), text);
+        check_text(&rt, alloc, fault, text)?;
     }
     for (fault, text) in [
         (FrameFault::TooLong, "the payload is too long for a frame"),
         (FrameFault::OutOfMemory, "out of memory"),
     ] {
-        same(&rt, format!(in rt.alloc(); "{fault}")?.as_str(), text);
+        check_text(&rt, alloc, fault, text)?;
     }
     for (fault, text) in [
         (LoadFault::OutOfMemory, "out of memory"),
         (LoadFault::TooLong, "the raw image is too long"),
     ] {
-        same(&rt, format!(in rt.alloc(); "{fault}")?.as_str(), text);
+        check_text(&rt, alloc, fault, text)?;
     }
-    Ok(())
+    for (fault, text) in [
+        (Misfit::DoesNotFit, "it doesn't fit"),
+        (Misfit::OutOfMemory, "out of memory"),
+    ] {
+        check_text(&rt, alloc, fault, text)?;
+    }
+    check_text(&rt, alloc, RawFault, "the raw image could not be read")?;
+    check_text(&rt, alloc, Unreadable, "unreadable")
 }

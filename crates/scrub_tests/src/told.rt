@@ -48,7 +48,7 @@ pub(crate) fn checked_of<R>(rt: &R, alloc: Global, disk: &MemDisk) -> Result<Vec
     Ok(check_all(rt, alloc, disk, &plan, &all, &named)?)
 }
 
-/// All that is told of a disk.
+/// The lists that are told of a disk.
 pub(crate) fn lists_of<R>(rt: &R, alloc: Global, disk: &MemDisk) -> Result<Lists, Fail> {
     let plan = plan_of(alloc, disk)?;
     let all = scan_in_order(alloc, disk, &plan)?;

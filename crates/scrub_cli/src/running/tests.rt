@@ -431,7 +431,7 @@ fn want_of_memory_has_a_status_and_a_text(rt: HostRuntime) -> Result<(), Fail> {
     Ok(())
 }
 
-/// The name of a file, of more than 64 bytes.
+/// The name of a file. It has more than 64 bytes, as no clause says that a long name is opened whole.
 const FILE: &str = "scrub_cli_test_of_an_image_file_whose_name_has_more_than_sixty_four_bytes.img";
 
 /// Runs the program on words of a process, the first of which is its name, and compares all that comes of it.

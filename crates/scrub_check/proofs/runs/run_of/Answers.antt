@@ -17,11 +17,11 @@ returns-in-Sound g c =
     let image = g.D.PageSource.image c.args.disk.now in
     let plan = c.args.plan.now in
     let l = c.args.locator.now in
-    let Told : Option Run × RunState → Type 0 = λ r. IsToldOf image l r.0 r.1 in
-    let in_both = λ (r : Option Run × RunState) (told : Told r). told_in image plan l c.in_ok-status.status r.0 r.1 c.in-Sound.is c.in_ok-status.ensures told in
+    let Holds : Option Run × RunState → Type 0 = λ r. IsToldOf image l r.0 r.1 in
+    let in_both = λ (r : Option Run × RunState) (told : Holds r). told_in image plan l c.in_ok-status.status r.0 r.1 c.in-Sound.is c.in_ok-status.ensures told in
     record {
-      run = IfOk-weaker c.run_in_chunk.result Told (λ (r : Option Run × RunState). IsRunIn image plan l r.0) (λ r told. (in_both r told).0) c.run_in_chunk.ensures;
-      state = IfOk-weaker c.run_in_chunk.result Told (λ (r : Option Run × RunState). HasRunStateIn image plan l r.1) (λ r told. (in_both r told).1) c.run_in_chunk.ensures;
+      run = IfOk-weaker c.run_in_chunk.result Holds (λ (r : Option Run × RunState). IsRunIn image plan l r.0) (λ r told. (in_both r told).0) c.run_in_chunk.ensures;
+      state = IfOk-weaker c.run_in_chunk.result Holds (λ (r : Option Run × RunState). HasRunStateIn image plan l r.1) (λ r told. (in_both r told).1) c.run_in_chunk.ensures;
     }
 
 pub returns-in_default : goal.returns-in_default

@@ -8,10 +8,8 @@ use Rattle.scrub_cli.proofs.running.answer.Goals as goal
 
 pub returns-in-Items : goal.returns-in-Items
 returns-in-Items g c =
-    let words = map (λ word. word.now) c.args.words.now in
-    let request = Items c.in-Items.words in
-    let asked : AskFor words request = rw c.in-Items.is at c.in_ok-read_words.ensures in
-    answered (g.I.Images.known c.args.images.now) words request c.items.result asked c.items.ensures
+    answered (g.I.Images.known c.args.images.now) (map (λ word. word.now) c.args.words.now) (Items c.in-Items.words) c.items.result
+    (rw c.in-Items.is at c.in_ok-read_words.ensures) c.items.ensures
 
 pub scan-requires : goal.scan-requires
 scan-requires g c =
@@ -25,14 +23,10 @@ scan-requires-in-Index g c =
 
 pub returns-in-Scan : goal.returns-in-Scan
 returns-in-Scan g c =
-    let words = map (λ word. word.now) c.args.words.now in
-    let request = Scan c.in-Scan.words in
-    let asked : AskFor words request = rw c.in-Scan.is at c.in_ok-read_words.ensures in
-    answered (g.I.Images.known c.args.images.now) words request c.scan.result asked c.scan.ensures
+    answered (g.I.Images.known c.args.images.now) (map (λ word. word.now) c.args.words.now) (Scan c.in-Scan.words) c.scan.result
+    (rw c.in-Scan.is at c.in_ok-read_words.ensures) c.scan.ensures
 
 pub returns-in-Index : goal.returns-in-Index
 returns-in-Index g c =
-    let words = map (λ word. word.now) c.args.words.now in
-    let request = Index c.in-Index.words in
-    let asked : AskFor words request = rw c.in-Index.is at c.in_ok-read_words.ensures in
-    answered (g.I.Images.known c.args.images.now) words request c.scan-in-Index.result asked c.scan-in-Index.ensures
+    answered (g.I.Images.known c.args.images.now) (map (λ word. word.now) c.args.words.now) (Index c.in-Index.words) c.scan-in-Index.result
+    (rw c.in-Index.is at c.in_ok-read_words.ensures) c.scan-in-Index.ensures
