@@ -133,8 +133,8 @@ impl<'d, D: PageSource> PoolCore<'d, D> {
         plan: &Plan,
         workers: u32,
     ) -> Result<PoolCore<'d, D>, OutOfMemory>
-        requires geometry { plan.now.geometry ≡ (D.image disk.now).geometry }
         requires workers { workers ≤ 65 }
+        requires geometry { plan.now.geometry ≡ (D.image disk.now).geometry }
         ensures { IfOk result (IsNewPool disk.now plan.now workers) }
     {
         let planned = plan.planned();

@@ -16,7 +16,8 @@ use Rattle.scrub_scan.specs.Tiling.{IsTiling}
 use Rattle.scrub_check.specs.declared.status.Status.{Status}
 use Rattle.scrub_check.specs.declared.status.Status.TheVariants.{OutOfRange, PastPointer, Unreadable, NoFrame, WrongUuid, WrongLength, WrongDigest, Hidden, Sound}
 use Rattle.scrub_check.specs.Status.{end_of, InRange, HasUnreadableByte, CanStand, FindsFrame, NamesChunk, HasStatus}
-use Rattle.scrub_check.specs.Judged.{IsMismatch, Agrees, frame_of_item, IsJudged}
+use Rattle.scrub_check.specs.Chunks.{frame_of_item}
+use Rattle.scrub_check.specs.Judged.{IsMismatch, Agrees, IsJudged}
 use Rattle.scrub_check.proofs.Searches.{LiesBetween}
 use Rattle.scrub_check.proofs.Starts.{begins, begins_among}
 use Rattle.scrub_check.proofs.Gaps.{gap_pages, pages_gap}

@@ -1,18 +1,24 @@
 -- The chunks of a disk at their places, and which of them are garbage or stand twice.
 use Rattle.std.specs.Prelude.{ℕ, not, nat_lt, Option, Some, None, List}
 use Rattle.std.specs.Str.{bytes_eq}
+use Rattle.std.specs.Option.{option_map}
 use Rattle.std.specs.List.{filter, filter_map, flat_map, count_by}
 use Rattle.scrub_scan.specs.declared.item.Item.{Item}
 use Rattle.scrub_scan.specs.declared.item.Item.TheVariants.{Chunk}
+use Rattle.scrub_scan.specs.declared.standing.Standing.{Standing}
 use Rattle.scrub_scan.specs.Scanned.{Scanned}
 use Rattle.scrub_check.specs.declared.place.Place.{Place}
 use Rattle.scrub_check.specs.declared.checked.Checked.{Checked}
 use Rattle.scrub_check.specs.Live.{has_sound_at}
 
--- an item of extent e as a place, where it is a chunk
+-- an item of extent e as the frame that stands at its start, where it is a chunk
+abbrev pub frame_of_item : ℕ → Item → Option Standing
+frame_of_item e (Chunk start stop uuid length digest) = Some (record { extent = e; offset = start; uuid = uuid; length = length; digest = digest })
+frame_of_item e _ = None
+
+-- and as the place of that chunk
 abbrev pub place_of : ℕ → Item → Option Place
-place_of e (Chunk start stop uuid length digest) = Some (record { extent = e; offset = start; length = length; uuid = uuid })
-place_of e _ = None
+place_of e item = option_map (λ s. record { extent = s.extent; offset = s.offset; length = s.length; uuid = s.uuid }) (frame_of_item e item)
 
 -- the places of the chunks of an extent, and of all extents, by extent and then start
 abbrev pub chunks_in : Scanned → List Place

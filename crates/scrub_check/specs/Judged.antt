@@ -1,8 +1,6 @@
 -- How the frame that stands at a locator's place is held against the locator.
-use Rattle.std.specs.Prelude.{◌≡◌, ◌≢◌, ◌⊎◌, ℕ, Option, Some, None}
+use Rattle.std.specs.Prelude.{◌≡◌, ◌≢◌, ◌⊎◌, Option, Some, None}
 use Rattle.scrub_frame.specs.declared.locator.Locator.{Locator}
-use Rattle.scrub_scan.specs.declared.item.Item.{Item}
-use Rattle.scrub_scan.specs.declared.item.Item.TheVariants.{Chunk}
 use Rattle.scrub_scan.specs.declared.standing.Standing.{Standing}
 use Rattle.scrub_check.specs.declared.status.Status.{Status}
 use Rattle.scrub_check.specs.declared.status.Status.TheVariants.{NoFrame, WrongUuid, WrongLength, WrongDigest}
@@ -19,11 +17,6 @@ pub record Agrees (l : Locator) (s : Standing) : Type 0 where
   pub uuid : s.uuid ≡ l.uuid
   pub length : s.length ≡ l.length
   pub digest : s.digest ≡ l.digest
-
--- an item of extent e as the frame that stands at its start, where it is a chunk
-abbrev pub frame_of_item : ℕ → Item → Option Standing
-frame_of_item e (Chunk start stop uuid length digest) = Some (record { extent = e; offset = start; uuid = uuid; length = length; digest = digest })
-frame_of_item e _ = None
 
 -- what the locator is worth where this frame stands at its place, or none: `agreeing` where it is the one that it names
 abbrev pub IsJudged : Locator → Option Standing → Status → Status → Type 0

@@ -26,26 +26,6 @@ pub struct Checked {
     pub status: Status,
 }
 
-/// A named locator with its status.
-fn check<D: PageSource>(
-    alloc: Global,
-    disk: &D,
-    plan: &Plan,
-    all: &AllFindings<'_, D>,
-    named: &Named,
-) -> Result<Checked, OutOfMemory>
-    requires { IsWholeScan (D.image disk.now) plan.now all.now.extents }
-    ensures same { IfOk result (λ c. named_of c ≡ named.now) }
-    ensures status { IfOk result (λ c. HasStatusIn (D.image disk.now) plan.now c.locator c.status) }
-{
-    let status = status_of(alloc, disk, plan, all, &named.locator)?;
-    Ok(Checked {
-        owner: named.owner,
-        locator: named.locator,
-        status,
-    })
-}
-
 /// What each of these locators is worth, in their order.
 pub fn check_all<R, D: PageSource>(
     _rt: &R,
@@ -60,7 +40,12 @@ pub fn check_all<R, D: PageSource>(
 {
     let mut checked = Vec::with_capacity(alloc, named.len())?;
     for one in named {
-        checked.push(check(alloc, disk, plan, all, one)?)?;
+        let status = status_of(alloc, disk, plan, all, &one.locator)?;
+        checked.push(Checked {
+            owner: one.owner,
+            locator: one.locator,
+            status,
+        })?;
     }
     Ok(checked)
 }

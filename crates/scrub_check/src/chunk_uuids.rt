@@ -6,8 +6,8 @@ ghost use Rattle.std.specs.List.{count_by};
 ghost use Rattle.std.specs.List.Sorted.{IsStrictlySortedBy};
 ghost use Rattle.scrub_check.specs.ChunkUuids.{uuid_cmp, AreUuidsOf, is_twin_by};
 
-use crate::counting::count_of;
 use crate::place::Place;
+use crate::sorted_list::{count_of, rises_strictly, sorted};
 use scrub_disk::OutOfMemory;
 use std::alloc::Global;
 use std::marker::Model;
@@ -43,16 +43,8 @@ impl ChunkUuids {
     pub(crate) fn of(alloc: Global, chunks: &[Place]) -> Result<ChunkUuids, OutOfMemory>
         ensures { IfOk result (AreUuidsOf chunks.now) }
     {
-        let mut uuids = uuids_of(alloc, chunks)?;
-        uuids.sort()?;
+        let uuids = sorted(uuids_of(alloc, chunks)?)?;
         Ok(ChunkUuids { uuids })
-    }
-
-    /// Whether no two of the chunks have one UUID.
-    pub(crate) fn are_distinct(&self) -> bool
-        ensures { IsTrue result ↔ IsStrictlySortedBy uuid_cmp self.now }
-    {
-        self.uuids.is_sorted_by(|one, next| one.cmp(next).is_lt())
     }
 
     /// How many of the chunks have a UUID.
@@ -67,5 +59,12 @@ impl ChunkUuids {
         ensures { result ≡ is_twin_by self.now chunk.now }
     {
         self.count(chunk.uuid) > 1
+    }
+
+    /// Whether no two of the chunks have one UUID.
+    pub(crate) fn are_distinct(&self) -> bool
+        ensures { IsTrue result ↔ IsStrictlySortedBy uuid_cmp self.now }
+    {
+        rises_strictly(&self.uuids)
     }
 }

@@ -4,34 +4,48 @@ ghost use Rattle.std.specs.Prelude.{◌≡◌, not, IfOk};
 ghost use Rattle.std.specs.List.{filter, filter_map};
 ghost use Rattle.scrub_check.specs.SoundStarts.{is_named_by};
 ghost use Rattle.scrub_check.specs.ChunkUuids.{is_twin_by};
-ghost use Rattle.scrub_check.specs.Chunks.{place_of, chunks, orphans, twins};
+ghost use Rattle.scrub_check.specs.Chunks.{frame_of_item, place_of, chunks, orphans, twins};
 
 use crate::checked::Checked;
 use crate::chunk_uuids::ChunkUuids;
 use crate::place::Place;
 use crate::sound_starts::{SoundStarts, Start};
 use scrub_disk::{OutOfMemory, PageSource};
-use scrub_scan::{AllFindings, Item};
+use scrub_scan::{AllFindings, Item, Standing};
 use std::alloc::Global;
 
-/// The place of an item of an extent, where it is a chunk.
-fn place_of(extent: u32, item: &Item) -> Option<Place>
-    ensures { result ≡ place_of extent item.now }
+/// An item of an extent as the frame that stands at its start, or `None` where it is no chunk.
+pub(crate) fn frame_of_item(extent: u32, item: &Item) -> Option<Standing>
+    ensures { result ≡ frame_of_item extent item.now }
 {
     match item {
         Item::Chunk {
             start,
             uuid,
             length,
+            digest,
             ..
-        } => Some(Place {
+        } => Some(Standing {
             extent,
             offset: *start,
-            length: *length,
             uuid: *uuid,
+            length: *length,
+            digest: *digest,
         }),
         _ => None,
     }
+}
+
+/// The place of an item of an extent, where it is a chunk.
+fn place_of(extent: u32, item: &Item) -> Option<Place>
+    ensures { result ≡ place_of extent item.now }
+{
+    frame_of_item(extent, item).map(|frame| Place {
+        extent: frame.extent,
+        offset: frame.offset,
+        length: frame.length,
+        uuid: frame.uuid,
+    })
 }
 
 /// Whether one of these places is that of a chunk.

@@ -4,8 +4,8 @@ ghost use Rattle.std.specs.Prelude.{◌≡◌, ◌<◌, ◌^◌, IfOk, List, map
 ghost use Rattle.std.specs.List.{filter, sum_by};
 ghost use Rattle.scrub_scan.specs.Scanned.{scanned};
 ghost use Rattle.scrub_check.specs.declared.checked.Checked.{Checked};
-ghost use Rattle.scrub_check.specs.Live.{is_sound_at, has_sound_at, is_chunk, is_live, size_of, live_bytes, HasLiveBytes};
-ghost use Rattle.scrub_check.specs.SoundStarts.{AreSoundStarts, is_live_by};
+ghost use Rattle.scrub_check.specs.Live.{is_sound_at, has_sound_at, is_chunk, size_of, live_bytes, HasLiveBytes};
+ghost use Rattle.scrub_check.specs.SoundStarts.{AreSoundStarts};
 
 use crate::checked::Checked;
 use crate::sound_starts::{SoundStarts, Start};
@@ -43,45 +43,57 @@ fn has_sound_at(checked: &[Checked], extent: u32, offset: u32) -> bool
     checked.iter().any(|one| is_sound_at(one, extent, offset))
 }
 
-/// Whether an item of an extent is a chunk that a sound locator points to, by a walk over all of them.
-fn is_live(checked: &[Checked], extent: u32, item: &Item) -> bool
-    ensures { result ≡ is_live checked.now extent item.now }
-{
-    is_chunk(item) && has_sound_at(checked, extent, item.start())
+/// What tells which items of an extent are live.
+pub(crate) trait TellsLive {
+    ghost use Rattle.std.specs.Prelude.{ℕ, Bool};
+    ghost use Rattle.scrub_scan.specs.declared.item.Item.{Item};
+
+    /// Which items of which extent are chunks that a sound locator points to.
+    ghost is_live: { Self → ℕ → Item → Bool };
+
+    /// Whether an item of an extent is a chunk that a sound locator points to.
+    fn is_live(&self, extent: u32, item: &Item) -> bool
+        ensures { result ≡ is_live self.now extent item.now };
 }
 
-/// The same by a search.
-pub(crate) fn is_live_in(sound: &SoundStarts, extent: u32, item: &Item) -> bool
-    ensures by_starts { result ≡ is_live_by sound.now extent item.now }
-    ensures live { (checked : List Checked) → AreSoundStarts checked sound.now → result ≡ is_live checked extent item.now }
-{
-    is_chunk(item)
-        && sound.has(Start {
-            extent,
-            offset: item.start(),
-        })
+/// The named locators, over all of which a walk tells it without memory.
+#[derive(Drop)]
+struct Walked<'a> {
+    checked: &'a [Checked],
 }
 
-/// How many bytes the live ones among items of an extent take, by walks over all locators.
-fn sum_of_live(items: &[Item], checked: &[Checked], extent: u32) -> u32
+impl TellsLive for Walked<'_> {
+    ghost use Rattle.scrub_check.specs.Live.{is_live};
+
+    ghost is_live = { λ w. is_live w.checked.now };
+
+    fn is_live(&self, extent: u32, item: &Item) -> bool {
+        is_chunk(item) && has_sound_at(self.checked, extent, item.start())
+    }
+}
+
+impl TellsLive for SoundStarts {
+    ghost use Rattle.scrub_check.specs.SoundStarts.{is_live_by};
+
+    ghost is_live = { λ s. is_live_by s };
+
+    fn is_live(&self, extent: u32, item: &Item) -> bool {
+        is_chunk(item)
+            && self.has(Start {
+                extent,
+                offset: item.start(),
+            })
+    }
+}
+
+/// How many bytes the live ones among items of an extent take.
+pub(crate) fn sum_of_live<L: TellsLive>(items: &[Item], live: &L, extent: u32) -> u32
     requires { sum_by size_of items.now < 2 ^ 32 }
-    ensures { result ≡ sum_by size_of (filter (is_live checked.now extent) items.now) }
+    ensures { result ≡ sum_by size_of (filter (L.is_live live.now extent) items.now) }
 {
     items
         .iter()
-        .filter(|item| is_live(checked, extent, item))
-        .map(|item| size_of(item))
-        .sum()
-}
-
-/// The same by searches.
-pub(crate) fn sum_of_live_in(items: &[Item], sound: &SoundStarts, extent: u32) -> u32
-    requires { sum_by size_of items.now < 2 ^ 32 }
-    ensures { result ≡ sum_by size_of (filter (is_live_by sound.now extent) items.now) }
-{
-    items
-        .iter()
-        .filter(|item| is_live_in(sound, extent, item))
+        .filter(|item| live.is_live(extent, item))
         .map(|item| size_of(item))
         .sum()
 }
@@ -92,7 +104,7 @@ fn live_bytes_of<D: PageSource>(one: &ExtentResult<'_, D>, checked: &[Checked]) 
 {
     let pointer = one.pointer();
     let items = one.findings().items();
-    sum_of_live(items, checked, one.extent())
+    sum_of_live(items, &Walked { checked }, one.extent())
 }
 
 /// The same by searches.
@@ -101,7 +113,7 @@ pub(crate) fn live_bytes_in<D: PageSource>(one: &ExtentResult<'_, D>, sound: &So
 {
     let pointer = one.pointer();
     let items = one.findings().items();
-    sum_of_live_in(items, sound, one.extent())
+    sum_of_live(items, sound, one.extent())
 }
 
 /// How many bytes the live chunks of an extent take: 0 where the extent wasn't scanned. It takes no memory, and walks over

@@ -18,7 +18,7 @@ ghost use Rattle.scrub_check.specs.Kept.{CandidatesAreSafe};
 
 use crate::candidate::Candidate;
 use crate::checked::Checked;
-use crate::live::{is_live_in, sum_of_live_in};
+use crate::live::{TellsLive, sum_of_live};
 use crate::sound_starts::SoundStarts;
 use crate::verdicts::Verdicts;
 use scrub_disk::{Geometry, OutOfMemory, PageSource};
@@ -41,7 +41,7 @@ fn free_bytes<D: PageSource>(verdicts: &Verdicts, found: &ExtentResult<'_, D>) -
     ensures free { (checked : List Checked) → AreVerdicts checked verdicts.now → result ≡ free_bytes checked (scanned found.now) }
     ensures within { (checked : List Checked) → live_bytes checked (scanned found.now) ≤ (scanned found.now).pointer }
 {
-    found.pointer() - sum_of_live_in(found.findings().items(), &verdicts.sound, found.extent())
+    found.pointer() - sum_of_live(found.findings().items(), &verdicts.sound, found.extent())
 }
 
 /// Whether each locator that names an extent is sound.
@@ -87,7 +87,7 @@ fn starts_to_keep(
 {
     items
         .iter()
-        .filter(|item| is_live_in(sound, extent, item))
+        .filter(|item| sound.is_live(extent, item))
         .map(|item| item.start())
         .collect(alloc)
 }

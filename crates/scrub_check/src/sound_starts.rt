@@ -9,7 +9,7 @@ ghost use Rattle.scrub_check.specs.Distinct.{AreDistinct};
 ghost use Rattle.scrub_check.specs.SoundStarts.{start_cmp, is_start, start_named, AreSoundStarts, has_sound_to};
 
 use crate::checked::Checked;
-use crate::counting::count_of;
+use crate::sorted_list::{count_of, rises_strictly, sorted};
 use crate::status::Status;
 use scrub_disk::OutOfMemory;
 use std::alloc::Global;
@@ -60,8 +60,7 @@ impl SoundStarts {
     pub(crate) fn of(alloc: Global, checked: &[Checked]) -> Result<SoundStarts, OutOfMemory>
         ensures { IfOk result (AreSoundStarts checked.now) }
     {
-        let mut starts = starts_of(alloc, checked)?;
-        starts.sort()?;
+        let starts = sorted(starts_of(alloc, checked)?)?;
         Ok(SoundStarts { starts })
     }
 
@@ -69,7 +68,7 @@ impl SoundStarts {
     pub(crate) fn are_distinct(&self) -> bool
         ensures { IsTrue result ↔ IsStrictlySortedBy start_cmp self.now }
     {
-        self.starts.is_sorted_by(|one, next| one.cmp(next).is_lt())
+        rises_strictly(&self.starts)
     }
 
     /// The places, each once, by extent and then byte.

@@ -7,9 +7,10 @@ ghost use Rattle.scrub_super.specs.Plan.{PlanValue};
 ghost use Rattle.scrub_scan.specs.Findings.{IsFindings};
 ghost use Rattle.scrub_check.specs.WholeScan.{IsWholeScan};
 ghost use Rattle.scrub_check.specs.Status.{end_of, InRange, HasUnreadableByte, CanStand, HasStatus, HasStatusIn, ExactlyOne};
-ghost use Rattle.scrub_check.specs.Judged.{IsMismatch, Agrees, frame_of_item, IsJudged};
+ghost use Rattle.scrub_check.specs.Judged.{IsMismatch, Agrees, IsJudged};
 ghost use Rattle.scrub_scan.specs.AllFindings.{extent_numbers, findings_in};
 
+use crate::chunks::frame_of_item;
 use crate::searching::find_start;
 use scrub_disk::{Geometry, OutOfMemory, PageSource};
 use scrub_frame::{FRAME_OVERHEAD, Locator};
@@ -80,28 +81,6 @@ fn mismatch(locator: &Locator, standing: &Standing) -> Option<Status>
         return Some(Status::WrongDigest);
     }
     None
-}
-
-/// An item of an extent as the frame that stands at its start, or `None` where it is no chunk.
-fn frame_of_item(extent: u32, item: &Item) -> Option<Standing>
-    ensures { result ≡ frame_of_item extent item.now }
-{
-    match item {
-        Item::Chunk {
-            start,
-            uuid,
-            length,
-            digest,
-            ..
-        } => Some(Standing {
-            extent,
-            offset: *start,
-            uuid: *uuid,
-            length: *length,
-            digest: *digest,
-        }),
-        _ => None,
-    }
 }
 
 /// What a locator is worth where this frame stands at its place, or none: `agreeing` where it is the one that it names.

@@ -9,6 +9,7 @@ ghost use Rattle.scrub_check.specs.Checked.{is_sound};
 ghost use Rattle.scrub_check.specs.Verdicts.{AreUnsoundExtents, AreVerdicts};
 
 use crate::checked::Checked;
+use crate::sorted_list::sorted;
 use crate::sound_starts::SoundStarts;
 use crate::status::Status;
 use scrub_disk::OutOfMemory;
@@ -72,8 +73,7 @@ impl UnsoundExtents {
     fn of(alloc: Global, checked: &[Checked]) -> Result<UnsoundExtents, OutOfMemory>
         ensures { IfOk result (AreUnsoundExtents checked.now) }
     {
-        let mut extents = unsound_extents(alloc, checked)?;
-        extents.sort()?;
+        let extents = sorted(unsound_extents(alloc, checked)?)?;
         Ok(UnsoundExtents { extents })
     }
 

@@ -1,16 +1,16 @@
 //! What a command answers: the lines of an extent, or the report or the index of a disk, and the status that it ends with.
 //! How the disk came to be read is left to the commands, and where the answer goes to the run.
 
-ghost use Rattle.std.specs.Prelude.{◌≡◌, ◌≤◌, ◌<◌, IfOk};
-ghost use Rattle.scrub_disk.specs.Image.{extent_bytes};
-ghost use Rattle.scrub_scan.specs.Extent.{extent_of};
-ghost use Rattle.scrub_cli.specs.Lines.{lines_of, status_of_clean, IsListing};
+ghost use Rattle.std.specs.Prelude.{◌≡◌, ◌≤◌, IfOk};
+ghost use Rattle.std.specs.List.{list_all};
+ghost use Rattle.scrub_report.specs.Scrubbed.{is_clean_item};
+ghost use Rattle.scrub_cli.specs.Lines.{lines_of, status_of_clean};
 ghost use Rattle.scrub_cli.specs.Scan.{IsDiskAnswer};
 
 use scrub_disk::{OutOfMemory, PageSource};
 use scrub_pool::NoGate;
 use scrub_report::{ScrubFault, are_clean_items, scrub};
-use scrub_scan::{Item, item_line, tile};
+use scrub_scan::{Item, item_line};
 use std::alloc::Global;
 use std::sync::Wait;
 use std::thread::Threads;
@@ -53,19 +53,11 @@ fn lines(alloc: Global, items: &[Item]) -> Result<Vec<u8>, OutOfMemory>
     Ok(text)
 }
 
-/// The lines of the items of an extent under a write pointer, in bytes. It is clean where no item is torn, noise or lost.
-pub fn extent_answer<D: PageSource>(
-    alloc: Global,
-    disk: &D,
-    extent: u32,
-    pointer: u32,
-) -> Result<Answer, OutOfMemory>
-    requires in_extents { extent < (D.image disk.now).geometry.extents }
-    requires in_extent { pointer ≤ extent_bytes (D.image disk.now).geometry }
-    ensures { IfOk result (λ a. IsListing (extent_of (D.image disk.now) extent pointer) a.text.items a.status) }
+/// The lines of the items of an extent. It is clean where no item is torn, noise or lost.
+pub fn listing(alloc: Global, items: &[Item]) -> Result<Answer, OutOfMemory>
+    ensures text { IfOk result (λ a. a.text.items ≡ lines_of items.now) }
+    ensures status { IfOk result (λ a. a.status ≡ status_of_clean (list_all is_clean_item items.now)) }
 {
-    let items = tile(alloc, disk, extent, pointer)?;
-    let items = items.as_slice();
     let status = status_of(are_clean_items(items));
     let text = lines(alloc, items)?;
     Ok(Answer { text, status })

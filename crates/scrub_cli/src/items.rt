@@ -3,12 +3,13 @@
 ghost use Rattle.std.specs.Prelude.{MatchResult};
 ghost use Rattle.scrub_cli.specs.Items.{IsItemsAnswer, IsItemsFault};
 
-use crate::answer::{Answer, extent_answer};
+use crate::answer::{Answer, listing};
 use crate::disk_image::load_disk;
 use crate::fault::Fault;
 use crate::images::Images;
 use crate::words::ItemsWords;
 use scrub_disk::Geometry;
+use scrub_scan::tile;
 use std::alloc::Global;
 
 /// The items of the extent that the words name. Faults are found in the order of `Fault`.
@@ -31,5 +32,6 @@ pub fn items<'a, I: Images>(
         return Err(Fault::Pointer);
     }
     let disk = load_disk(alloc, geometry, image, images)?;
-    Ok(extent_answer(alloc, &disk, words.extent, pointer)?)
+    let tiling = tile(alloc, &disk, words.extent, pointer)?;
+    Ok(listing(alloc, tiling.as_slice())?)
 }

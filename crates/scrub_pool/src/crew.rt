@@ -1,4 +1,4 @@
-//! The workers beside the caller, each half of them on a thread of its own. What one worker does is left to it.
+//! The workers beside the caller, each on a thread of its own. What one worker does is left to it.
 
 ghost use Rattle.std.specs.Thread.{IsSync};
 ghost use Rattle.std.specs.Prelude.{◌≡◌, ◌+◌, ◌<◌, false, None, [], All, length, IfSome, vec_len};
@@ -12,7 +12,6 @@ use crate::tally::{Tally, nothing};
 use crate::worker::works;
 use scrub_book::WorkerCore;
 use scrub_disk::PageSource;
-use std::alloc::Global;
 use std::sync::ledger::{Ledger, Share};
 use std::sync::{Mutex, Wait};
 use std::thread::{Threads, join};
@@ -34,7 +33,6 @@ pub(crate) struct Member<'d, D: PageSource> {
 /// One member works.
 fn member_works<'d, D: PageSource, L: Ledger + Send + Sync, G: Gate, R: Wait>(
     rt: &R,
-    alloc: Global,
     disk: &'d D,
     job: &Job<'_, G>,
     tally: &Mutex<Tally<L>>,
@@ -46,39 +44,14 @@ fn member_works<'d, D: PageSource, L: Ledger + Send + Sync, G: Gate, R: Wait>(
     ensures whole { IfSome result.1 (λ s. (held_by result.0.core ≡ None) × (s.parts ≡ 1) × (s.amount ≡ length (results_of result.0.core))) }
 {
     let NewMember { number, mut pass } = member;
-    let (core, share) = works(rt, alloc, disk, job, tally, number, &mut pass);
+    let (core, share) = works(rt, disk, job, tally, number, &mut pass);
     (Member { pass, core }, share)
 }
 
-/// The only member works, or none. No share means want of memory.
-fn last_works<'d, D: PageSource, L: Ledger + Send + Sync, G: Gate, R: Wait>(
-    rt: &R,
-    alloc: Global,
-    disk: &'d D,
-    job: &Job<'_, G>,
-    tally: &Mutex<Tally<L>>,
-    mut new_members: Vec<NewMember>,
-) -> (Vec<Member<'d, D>>, Option<Share<L>>)
-    requires geometry { job.now.plan.now.geometry ≡ (D.image disk.now).geometry }
-    requires few { vec_len new_members < 2 }
-    requires crew { AreNewMembers job.now.queue.now job.now.plan.now.planned new_members.items }
-    ensures members { All (λ m. HasEnded job.now.queue.now job.now.plan.now (D.image disk.now) m) result.0.items }
-    ensures whole { IfSome result.1 (λ s. AreDone s.parts s.amount result.0.items × (vec_len result.0 ≡ vec_len new_members)) }
-{
-    let mut members = Vec::new(alloc);
-    let Some(new_member) = new_members.pop() else {
-        return (members, Some(nothing(rt, tally)));
-    };
-    let (member, share) = member_works(rt, alloc, disk, job, tally, new_member);
-    if members.push(member).is_err() {
-        return (members, None);
-    }
-    (members, share)
-}
-
-/// All members work at once: the list is cut in halves, and one half goes to a new thread. No share means that one of them
-/// lacked memory.
-#[cycle(halves)]
+/// All members work at once: the last one on this thread, and the crew of the rest on a new one, and so on, so that each member
+/// but the last has a thread of its own. The thread for no members ends at once. Where no thread can be made, the rest work
+/// here once the last one is through. No share means that one of them lacked memory.
+#[cycle(rest)]
 pub(crate) fn crew_works<
     'd,
     D: PageSource,
@@ -87,54 +60,51 @@ pub(crate) fn crew_works<
     R: Threads + Wait + Sync,
 >(
     rt: &R,
-    alloc: Global,
     disk: &'d D,
     job: &Job<'_, G>,
     tally: &Mutex<Tally<L>>,
-    mut low: Vec<NewMember>,
+    mut new_members: Vec<NewMember>,
 ) -> (Vec<Member<'d, D>>, Option<Share<L>>)
     requires geometry { job.now.plan.now.geometry ≡ (D.image disk.now).geometry }
-    requires crew { AreNewMembers job.now.queue.now job.now.plan.now.planned low.items }
+    requires crew { AreNewMembers job.now.queue.now job.now.plan.now.planned new_members.items }
     ensures members { All (λ m. HasEnded job.now.queue.now job.now.plan.now (D.image disk.now) m) result.0.items }
-    ensures whole { IfSome result.1 (λ s. AreDone s.parts s.amount result.0.items × (vec_len result.0 ≡ vec_len low)) }
+    ensures whole { IfSome result.1 (λ s. AreDone s.parts s.amount result.0.items × (vec_len result.0 ≡ vec_len new_members)) }
 {
-    if low.len() < 2 {
-        return last_works(rt, alloc, disk, job, tally, low);
-    }
-    let Ok(high) = low.split_off(low.len() / 2) else {
-        return (Vec::new(alloc), None);
+    let Some(new_member) = new_members.pop() else {
+        return (Vec::new(job.alloc), Some(nothing(rt, tally)));
     };
-    let Job { plan, queue, gate } = *job;
-    let front = move || -> (Vec<Member<D>>, Option<Share<L>>)
+    let Job {
+        alloc,
+        plan,
+        queue,
+        gate,
+    } = *job;
+    let rest = move || -> (Vec<Member<D>>, Option<Share<L>>)
         requires sync { IsSync R.row }
         requires geometry { plan.now.geometry ≡ (D.image disk.now).geometry }
-        requires crew { AreNewMembers queue.now plan.now.planned low.items }
+        requires crew { AreNewMembers queue.now plan.now.planned new_members.items }
         ensures members { All (λ m. HasEnded queue.entry.now plan.entry.now (D.image disk.entry.now) m) result.0.items }
-        ensures whole { IfSome result.1 (λ s. AreDone s.parts s.amount result.0.items × (vec_len result.0 ≡ vec_len low)) }
+        ensures whole { IfSome result.1 (λ s. AreDone s.parts s.amount result.0.items × (vec_len result.0 ≡ vec_len new_members)) }
     {
-        let job = Job { plan, queue, gate };
-        crew_works(rt, alloc, disk, &job, tally, low)
+        let job = Job::new(alloc, plan, queue, gate);
+        crew_works(rt, disk, &job, tally, new_members)
     };
-    let back = move || -> (Vec<Member<D>>, Option<Share<L>>)
-        requires sync { IsSync R.row }
+    let last = move || -> (Member<D>, Option<Share<L>>)
         requires geometry { plan.now.geometry ≡ (D.image disk.now).geometry }
-        requires crew { AreNewMembers queue.now plan.now.planned high.items }
-        ensures members { All (λ m. HasEnded queue.entry.now plan.entry.now (D.image disk.entry.now) m) result.0.items }
-        ensures whole { IfSome result.1 (λ s. AreDone s.parts s.amount result.0.items × (vec_len result.0 ≡ vec_len high)) }
+        requires member { IsNewMember queue.now plan.now.planned new_member }
+        ensures member { HasEnded queue.entry.now plan.entry.now (D.image disk.entry.now) result.0 }
+        ensures whole { IfSome result.1 (λ s. (held_by result.0.core ≡ None) × (s.parts ≡ 1) × (s.amount ≡ length (results_of result.0.core))) }
     {
-        let job = Job { plan, queue, gate };
-        crew_works(rt, alloc, disk, &job, tally, high)
+        let job = Job::new(alloc, plan, queue, gate);
+        member_works(rt, disk, &job, tally, new_member)
     };
-    let ((mut members, mine), (mut rest, other)) = join(rt, front, back);
-    if members.append(&mut rest).is_err() {
+    let ((mut members, theirs), (member, mine)) = join(rt, rest, last);
+    let (Some(mut theirs), Some(mine)) = (theirs, mine) else {
+        return (members, None);
+    };
+    theirs.merge(mine);
+    if members.push(member).is_err() {
         return (members, None);
     }
-    let Some(mut mine) = mine else {
-        return (members, None);
-    };
-    let Some(other) = other else {
-        return (members, None);
-    };
-    mine.merge(other);
-    (members, Some(mine))
+    (members, Some(theirs))
 }

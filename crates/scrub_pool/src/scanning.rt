@@ -60,7 +60,6 @@ fn new_crew<R: Wait>(
 /// them lacked memory.
 fn all_work<'d, D: PageSource, L: Ledger + Send + Sync, G: Gate, R: Threads + Wait + Sync>(
     rt: &R,
-    alloc: Global,
     disk: &'d D,
     job: &Job<'_, G>,
     tally: &Mutex<Tally<L>>,
@@ -82,8 +81,8 @@ fn all_work<'d, D: PageSource, L: Ledger + Send + Sync, G: Gate, R: Threads + Wa
     ensures mine { IfSome result.1.1 (λ s. (held_by result.1.0 ≡ None) × (s.parts ≡ 1) × (s.amount ≡ length (results_of result.1.0))) }
 {
     if crew.is_empty() {
-        let none = crew_works(rt, alloc, disk, job, tally, crew);
-        return (none, works(rt, alloc, disk, job, tally, number, first));
+        let none = crew_works(rt, disk, job, tally, crew);
+        return (none, works(rt, disk, job, tally, number, first));
     }
     let mut crew = crew;
     join_mut(
@@ -95,8 +94,8 @@ fn all_work<'d, D: PageSource, L: Ledger + Send + Sync, G: Gate, R: Threads + Wa
             ensures members { All (λ m. HasEnded job.entry.now.queue.now job.entry.now.plan.now (D.image disk.entry.now) m) result.0.items }
             ensures theirs { IfSome result.1 (λ s. AreDone s.parts s.amount result.0.items × (vec_len result.0 ≡ vec_len crew.entry)) }
         {
-            let all = mem::replace(&mut crew, Vec::new(alloc));
-            crew_works(rt, alloc, disk, job, tally, all)
+            let all = mem::replace(&mut crew, Vec::new(job.alloc));
+            crew_works(rt, disk, job, tally, all)
         },
         &mut || -> (WorkerCore<D>, Option<Share<L>>)
             requires geometry { job.now.plan.now.geometry ≡ (D.image disk.now).geometry }
@@ -105,7 +104,7 @@ fn all_work<'d, D: PageSource, L: Ledger + Send + Sync, G: Gate, R: Threads + Wa
             ensures pass { IsSamePart first.entry.now first.exit.now }
             ensures core { IsAtWork job.entry.now.queue.now job.entry.now.plan.now (D.image disk.entry.now) first.exit.now result.0 }
             ensures mine { IfSome result.1 (λ s. (held_by result.0 ≡ None) × (s.parts ≡ 1) × (s.amount ≡ length (results_of result.0))) }
-        { works(rt, alloc, disk, job, tally, number, first) },
+        { works(rt, disk, job, tally, number, first) },
     )
 }
 
@@ -178,7 +177,6 @@ fn collect<'d, D: PageSource, R: Wait>(
 /// total of the ledger in which it was counted.
 fn gather<'d, D: PageSource, L: Ledger + Send + Sync, G: Gate, R: Threads + Wait + Sync>(
     rt: &R,
-    alloc: Global,
     disk: &'d D,
     job: &Job<'_, G>,
     first: &mut TakePass,
@@ -201,19 +199,15 @@ fn gather<'d, D: PageSource, L: Ledger + Send + Sync, G: Gate, R: Threads + Wait
     let parts = u64::from(workers) + 1;
     let (ledger, unclaimed) = blank.open::<L>();
     let tally = Mutex::new(Tally::new(ledger, unclaimed, parts));
-    let crew = new_crew(rt, alloc, job.queue, first, workers)?;
-    let ((members, theirs), (core, mine)) = all_work(
-        rt, alloc, disk, job, &tally, crew, workers, first,
-    );
+    let crew = new_crew(rt, job.alloc, job.queue, first, workers)?;
+    let ((members, theirs), (core, mine)) = all_work(rt, disk, job, &tally, crew, workers, first);
     let (Some(theirs), Some(mine)) = (theirs, mine) else {
         return Err(OutOfMemory);
     };
     let (mut core, mut share) = (core, mine);
-    let mut found = Vec::new(alloc);
-    let mut lists = collect(rt, alloc, job.queue, first, members, &mut found)?;
-    work(
-        rt, alloc, disk, job, &tally, &mut core, &mut share, workers, first,
-    )?;
+    let mut found = Vec::new(job.alloc);
+    let mut lists = collect(rt, job.alloc, job.queue, first, members, &mut found)?;
+    work(rt, disk, job, &tally, &mut core, &mut share, workers, first)?;
     let own = take_over(core, &mut found)?;
     lists.push(own)?;
     let counted = audit(tally, theirs, share);
@@ -247,9 +241,9 @@ pub fn scan_all<'d, D: PageSource, G: Gate, R: Threads + Wait + Sync>(
 {
     let book = Book::new(alloc, disk, plan)?;
     let blank = Blank::new(u64::from(workers) + 1);
-    let job = Job { plan, queue, gate };
+    let job = Job::new(alloc, plan, queue, gate);
     let (lists, results, counted) = gather::<D, Brand, G, R>(
-        rt, alloc, disk, &job, first, workers, blank,
+        rt, disk, &job, first, workers, blank,
     )?;
     Ok((assemble(book, results), Takings::new(lists, counted)))
 }

@@ -14,14 +14,12 @@ use crate::tally::{Tally, claim, count};
 use scrub_book::WorkerCore;
 use scrub_disk::PageSource;
 use scrub_scan::scan_extent;
-use std::alloc::Global;
 use std::sync::ledger::{Ledger, Share};
 use std::sync::{Mutex, Wait};
 
 /// Takes extents until none is left, and scans and counts each. An Err is want of memory.
 pub(crate) fn work<'d, D: PageSource, L: Ledger + Send + Sync, G: Gate, R: Wait>(
     rt: &R,
-    alloc: Global,
     disk: &'d D,
     job: &Job<'_, G>,
     tally: &Mutex<Tally<L>>,
@@ -50,7 +48,7 @@ pub(crate) fn work<'d, D: PageSource, L: Ledger + Send + Sync, G: Gate, R: Wait>
         };
         core.took(extent);
         job.gate.passed(number, extent);
-        let found = scan_extent(alloc, disk, job.plan, extent)?;
+        let found = scan_extent(job.alloc, disk, job.plan, extent)?;
         core.done(found);
         let Some(total) = count(rt, tally, share) else {
             return Err(OutOfMemory);
@@ -63,7 +61,6 @@ pub(crate) fn work<'d, D: PageSource, L: Ledger + Send + Sync, G: Gate, R: Wait>
 /// Works with a core and a part of the ledger of its own. No share means that it lacked memory.
 pub(crate) fn works<'d, D: PageSource, L: Ledger + Send + Sync, G: Gate, R: Wait>(
     rt: &R,
-    alloc: Global,
     disk: &'d D,
     job: &Job<'_, G>,
     tally: &Mutex<Tally<L>>,
@@ -77,13 +74,11 @@ pub(crate) fn works<'d, D: PageSource, L: Ledger + Send + Sync, G: Gate, R: Wait
     ensures work { IsAtWork job.now.queue.now job.now.plan.now (D.image disk.now) pass.new result.0 }
     ensures whole { IfSome result.1 (λ s. (held_by result.0 ≡ None) × (s.parts ≡ 1) × (s.amount ≡ length (results_of result.0))) }
 {
-    let mut core = WorkerCore::new(alloc);
+    let mut core = WorkerCore::new(job.alloc);
     let Some(mut share) = claim(rt, tally) else {
         return (core, None);
     };
-    match work(
-        rt, alloc, disk, job, tally, &mut core, &mut share, number, pass,
-    ) {
+    match work(rt, disk, job, tally, &mut core, &mut share, number, pass) {
         Ok(()) => (core, Some(share)),
         Err(_) => (core, None),
     }

@@ -36,10 +36,7 @@ ids_data ids = list (map (λ id. string (id_text id)) ids)
 
 -- `geometry`
 abbrev pub geometry_data : Geometry → Data
-geometry_data g = with_keys (
-    (codes "extents", natural g.extents) ∷
-    (codes "page", natural g.page) ∷
-    (codes "pages", natural g.pages) ∷ [])
+geometry_data g = with_keys ((codes "extents", natural g.extents) ∷ (codes "page", natural g.page) ∷ (codes "pages", natural g.pages) ∷ [])
 
 -- `super`: generation and page are null where there is no record
 abbrev pub super_data : Choice → Data
@@ -109,17 +106,11 @@ place_data p = with_keys (
 
 -- one of `shared`: a place, and how many point to it
 abbrev pub shared_data : SharedPlace → Data
-shared_data s = with_keys (
-    (codes "count", natural s.count) ∷
-    (codes "extent", natural s.extent) ∷
-    (codes "offset", natural s.offset) ∷ [])
+shared_data s = with_keys ((codes "count", natural s.count) ∷ (codes "extent", natural s.extent) ∷ (codes "offset", natural s.offset) ∷ [])
 
 -- one of `candidates`
 abbrev pub candidate_data : CandidateValue → Data
-candidate_data c = with_keys (
-    (codes "extent", natural c.extent) ∷
-    (codes "free", natural c.free) ∷
-    (codes "keep", numbers_data c.keep) ∷ [])
+candidate_data c = with_keys ((codes "extent", natural c.extent) ∷ (codes "free", natural c.free) ∷ (codes "keep", numbers_data c.keep) ∷ [])
 
 -- `extents`, each with its live bytes
 abbrev pub extents_data : List Checked → List Scanned → Data

@@ -30,7 +30,7 @@ pub(crate) struct ScanBuffer {
     ghost next: { AreNextUnreadable readable.items next_unreadable.items },
 }
 
-/// An extent in memory under a write pointer, with the fields of its `ExtentBuffer`.
+/// An extent in memory under a write pointer, with the fields of its `ScanBuffer`.
 #[derive(Clone, Copy)]
 pub(crate) struct ScanView<'a> {
     pub page: usize,
@@ -64,11 +64,7 @@ fn next_unreadable(alloc: Global, readable: &[bool]) -> Result<Vec<u32>, OutOfMe
 
 impl ScanBuffer {
     /// Reads an extent whole, each page once.
-    pub fn read<D: PageSource>(
-        alloc: Global,
-        disk: &D,
-        extent: u32,
-    ) -> Result<ScanBuffer, OutOfMemory>
+    pub fn read<D: PageSource>(alloc: Global, disk: &D, extent: u32) -> Result<Self, OutOfMemory>
         requires { extent < (D.image disk.now).geometry.extents }
         ensures page { IfOk result (λ b. b.page ≡ (D.image disk.now).geometry.page) }
         ensures bytes { IfOk result (λ b. length b.bytes.items ≡ extent_bytes (D.image disk.now).geometry) }

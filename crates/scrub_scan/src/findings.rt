@@ -8,7 +8,7 @@ use std::marker::Model;
 /// Numbers of pages of an extent, rising.
 #[derive(Drop)]
 pub struct PageNumbers {
-    pages: Vec<u32>,
+    pub(crate) pages: Vec<u32>,
 }
 
 impl Model for PageNumbers {
@@ -20,12 +20,6 @@ impl Model for PageNumbers {
 }
 
 impl PageNumbers {
-    pub(crate) fn from_vec(pages: Vec<u32>) -> PageNumbers
-        ensures { result ≡ pages.items }
-    {
-        PageNumbers { pages }
-    }
-
     /// The numbers as a slice.
     pub fn as_slice(&self) -> &[u32]
         ensures { result.now ≡ self.now }

@@ -46,7 +46,7 @@ pub enum Item {
 /// The items of an extent in rising order, without gap or overlap. Contracts see them as a list.
 #[derive(Drop)]
 pub struct Items {
-    items: Vec<Item>,
+    pub(crate) items: Vec<Item>,
 }
 
 impl Model for Items {
@@ -59,32 +59,33 @@ impl Model for Items {
 }
 
 impl Item {
-    ghost use Rattle.scrub_scan.specs.Item.{start_of, stop_of};
+    ghost use Rattle.scrub_scan.specs.Item.{span_of, start_of, stop_of};
+
+    /// The byte of the extent that the item begins at, and the one behind its last.
+    fn span(&self) -> (u32, u32)
+        ensures { result ≡ span_of self.now }
+    {
+        match self {
+            Item::Chunk { start, stop, .. } => (*start, *stop),
+            Item::Pad { start, stop } => (*start, *stop),
+            Item::Torn { start, stop } => (*start, *stop),
+            Item::Noise { start, stop } => (*start, *stop),
+            Item::Lost { start, stop } => (*start, *stop),
+        }
+    }
 
     /// The byte of the extent that the item begins at.
     pub fn start(&self) -> u32
         ensures { result ≡ start_of self.now }
     {
-        match self {
-            Item::Chunk { start, .. } => *start,
-            Item::Pad { start, .. } => *start,
-            Item::Torn { start, .. } => *start,
-            Item::Noise { start, .. } => *start,
-            Item::Lost { start, .. } => *start,
-        }
+        self.span().0
     }
 
     /// The byte of the extent behind the item's last one.
     pub fn stop(&self) -> u32
         ensures { result ≡ stop_of self.now }
     {
-        match self {
-            Item::Chunk { stop, .. } => *stop,
-            Item::Pad { stop, .. } => *stop,
-            Item::Torn { stop, .. } => *stop,
-            Item::Noise { stop, .. } => *stop,
-            Item::Lost { stop, .. } => *stop,
-        }
+        self.span().1
     }
 }
 
@@ -122,13 +123,6 @@ pub fn item_line(alloc: Global, item: &Item) -> Result<String, OutOfMemory>
 }
 
 impl Items {
-    /// These items, whose order is the caller's affair.
-    pub(crate) fn from_vec(items: Vec<Item>) -> Items
-        ensures { result ≡ items.items }
-    {
-        Items { items }
-    }
-
     /// The items as a slice, by rising start.
     pub fn as_slice(&self) -> &[Item]
         ensures { result.now ≡ self.now }

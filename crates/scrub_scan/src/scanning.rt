@@ -38,7 +38,7 @@ fn scan_under<'d, D: PageSource>(
         items,
         tail_count: tail.count,
         tail_first: tail.first,
-        bad_pages: PageNumbers::from_vec(bad_pages),
+        bad_pages: PageNumbers { pages: bad_pages },
     };
     Ok(ExtentResult::new(disk, extent, pointer, findings))
 }

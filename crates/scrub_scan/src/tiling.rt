@@ -94,7 +94,7 @@ pub(crate) fn tile_buffer(alloc: Global, extent: &ScanView) -> Result<Items, Out
         items.push(item)?;
         start = item.stop() as usize;
     }
-    Ok(Items::from_vec(items))
+    Ok(Items { items })
 }
 
 /// What lies in an extent below its write pointer (in bytes): items from byte 0 to the pointer, none where it is 0. A chunk

@@ -11,8 +11,8 @@ use Rattle.scrub_check.proofs.Reclaimable.{told_of_live, same_difference}
 use Rattle.scrub_check.proofs.reclaiming.free_bytes.Goals as goal
 
 -- the items take what was written
-pub sum_of_live_in-requires : goal.sum_of_live_in-requires
-sum_of_live_in-requires g c =
+pub sum_of_live-requires : goal.sum_of_live-requires
+sum_of_live-requires g c =
     let f : Scanned = scanned c.args.found.now in
     let all = sizes_found (result_image c.args.found.now) f.extent f.pointer c.findings.result.now c.findings.ensures.found in
     let same : sum_by size_of c.items.result.now ≡ sum_by size_of c.findings.result.now.items = ap (sum_by size_of) c.items.ensures in
@@ -25,7 +25,7 @@ overflow_sub-result g c =
     let live : Item → Bool = is_live_by c.args.verdicts.now.sound c.extent.result in
     let some = kept_sizes (result_image c.args.found.now) f.extent f.pointer c.findings.result.now live c.findings.ensures.found in
     let same : sum_by size_of (filter live c.items.result.now) ≡ sum_by size_of (filter live c.findings.result.now.items) = ap (λ (is : List Item). sum_by size_of (filter live is)) c.items.ensures in
-    omega (arith, some, same, c.pointer.ensures, c.sum_of_live_in.ensures)
+    omega (arith, some, same, c.pointer.ensures, c.sum_of_live.ensures)
 
 -- nor do the live ones
 pub returns-clause-within : goal.returns-clause-within
@@ -37,6 +37,6 @@ returns-clause-within g c checked =
 pub returns-clause-free : goal.returns-clause-free
 returns-clause-free g c checked verdicts =
     let f : Scanned = scanned c.args.found.now in
-    same_difference c.pointer.result c.sum_of_live_in.result f.pointer (live_bytes checked f) c.pointer.ensures
-    (told_of_live (sum_by size_of) c.sum_of_live_in.result checked c.args.verdicts.now.sound c.extent.result f.extent c.items.result.now f.findings.items verdicts.sound c.extent.ensures
-    (c.items.ensures ∙ ap (λ (x : Findings). x.items) c.findings.ensures.value) c.sum_of_live_in.ensures)
+    same_difference c.pointer.result c.sum_of_live.result f.pointer (live_bytes checked f) c.pointer.ensures
+    (told_of_live (sum_by size_of) c.sum_of_live.result checked c.args.verdicts.now.sound c.extent.result f.extent c.items.result.now f.findings.items verdicts.sound c.extent.ensures
+    (c.items.ensures ∙ ap (λ (x : Findings). x.items) c.findings.ensures.value) c.sum_of_live.ensures)
