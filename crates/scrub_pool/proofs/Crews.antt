@@ -1,6 +1,6 @@
 -- One more result of a worker; one more member of a crew.
 use Rattle.std.proofs.Common.{◌≡◌, Some, ◌+◌, ◌++◌, ◌∷◌, ℕ, List, [], All, None, length, sum_by, arith, length-append, ap, sym, subst}
-use Rattle.std.proofs.lemmas.List.Elements.{All-push, All-same}
+use Rattle.std.proofs.lemmas.List.Elements.{All-head, All-push, All-same, All-tail}
 use Rattle.std.proofs.lemmas.List.Sums.{sum_by-append, sum_by-cons}
 use Rattle.scrub_disk.specs.Image.{Image}
 use Rattle.scrub_super.specs.Plan.{PlanValue, pointer_of}
@@ -17,6 +17,14 @@ one_longer xs ys x is = let long : length ys ≡ length (xs ++ x ∷ []) = ap (�
 -- a fact of a list and of one element more is one of both
 pub all_more : {X : Type 0} (P : X → Type 0) (xs ys : List X) (x : X) → ys ≡ xs ++ x ∷ [] → All P xs → P x → All P ys
 all_more P xs ys x is all one = All-same P ys (xs ++ x ∷ []) is (All-push P xs x all one)
+
+-- a fact of all is one of the last one
+pub all_last : {X : Type 0} (P : X → Type 0) (xs ys : List X) (x : X) → ys ≡ xs ++ x ∷ [] → All P ys → P x
+all_last P xs ys x is all = go xs (All-same P (xs ++ x ∷ []) ys (sym is) all)
+  where
+    go : (zs : List _) → All P (zs ++ x ∷ []) → P x
+    go [] h = All-head P x [] h
+    go (z ∷ zs) h = go zs (All-tail P z (zs ++ x ∷ []) h)
 
 -- a crew with one member more counts for what both count
 pub counted_more : {D : Type 0} {s : _} (p q r a b t : ℕ) (xs ys : List (Member D s)) (m : Member D s) → ys ≡ xs ++ m ∷ [] → AreDone p a xs →

@@ -3,7 +3,7 @@
 ghost use Rattle.std.specs.Thread.{IsSync};
 ghost use Rattle.std.specs.Prelude.{◌≡◌, ◌+◌, ◌<◌, false, None, [], All, length, IfSome, vec_len};
 ghost use Rattle.scrub_book.specs.Worker.{held_by, results_of};
-ghost use Rattle.scrub_pool.specs.Work.{AreNewMembers, IsNewMember, HasEnded, AreDone};
+ghost use Rattle.scrub_pool.specs.Work.{IsPassFor, IsSamePart, IsAtWork, AreNewMembers, HasEnded, AreDone};
 
 use crate::extent_queue::TakePass;
 use crate::gate::Gate;
@@ -12,9 +12,10 @@ use crate::tally::{Tally, nothing};
 use crate::worker::works;
 use scrub_book::WorkerCore;
 use scrub_disk::PageSource;
+use std::mem;
 use std::sync::ledger::{Ledger, Share};
 use std::sync::{Mutex, Wait};
-use std::thread::{Threads, join};
+use std::thread::{Threads, join_mut};
 
 /// A worker that didn't begin: its number, and a pass by which nothing was taken.
 #[derive(Drop)]
@@ -30,35 +31,69 @@ pub(crate) struct Member<'d, D: PageSource> {
     pub(crate) core: WorkerCore<'d, D>,
 }
 
-/// One member works.
-fn member_works<'d, D: PageSource, L: Ledger + Send + Sync, G: Gate, R: Wait>(
-    rt: &R,
-    disk: &'d D,
-    job: &Job<'_, G>,
-    tally: &Mutex<Tally<L>>,
-    member: NewMember,
-) -> (Member<'d, D>, Option<Share<L>>)
-    requires geometry { job.now.plan.now.geometry ≡ (D.image disk.now).geometry }
-    requires member { IsNewMember job.now.queue.now job.now.plan.now.planned member }
-    ensures member { HasEnded job.now.queue.now job.now.plan.now (D.image disk.now) result.0 }
-    ensures whole { IfSome result.1 (λ s. (held_by result.0.core ≡ None) × (s.parts ≡ 1) × (s.amount ≡ length (results_of result.0.core))) }
-{
-    let NewMember { number, mut pass } = member;
-    let (core, share) = works(rt, disk, job, tally, number, &mut pass);
-    (Member { pass, core }, share)
-}
-
-/// All members work at once: the last one on this thread, and the crew of the rest on a new one, and so on, so that each member
-/// but the last has a thread of its own. The thread for no members ends at once. Where no thread can be made, the rest work
-/// here once the last one is through. No share means that one of them lacked memory.
-#[cycle(rest)]
-pub(crate) fn crew_works<
+/// A crew, which begins on a new thread, and one more worker, on this one, work at the same time; where there is no crew, no
+/// thread is started. No share means that one of them lacked memory.
+#[cycle(crew)]
+pub(crate) fn all_work<
     'd,
     D: PageSource,
     L: Ledger + Send + Sync,
     G: Gate,
     R: Threads + Wait + Sync,
 >(
+    rt: &R,
+    disk: &'d D,
+    job: &Job<'_, G>,
+    tally: &Mutex<Tally<L>>,
+    crew: Vec<NewMember>,
+    number: u32,
+    first: &mut TakePass,
+) -> (
+    (Vec<Member<'d, D>>, Option<Share<L>>),
+    (WorkerCore<'d, D>, Option<Share<L>>),
+)
+    requires geometry { job.now.plan.now.geometry ≡ (D.image disk.now).geometry }
+    requires first { IsPassFor job.now.queue.now job.now.plan.now.planned first.old }
+    requires nothing { first.old.own ≡ [] }
+    requires crew { AreNewMembers job.now.queue.now job.now.plan.now.planned crew.items }
+    ensures members { All (λ m. HasEnded job.now.queue.now job.now.plan.now (D.image disk.now) m) result.0.0.items }
+    ensures theirs { IfSome result.0.1 (λ s. AreDone s.parts s.amount result.0.0.items × (vec_len result.0.0 ≡ vec_len crew)) }
+    ensures pass { IsSamePart first.old first.new }
+    ensures core { IsAtWork job.now.queue.now job.now.plan.now (D.image disk.now) first.new result.1.0 }
+    ensures mine { IfSome result.1.1 (λ s. (held_by result.1.0 ≡ None) × (s.parts ≡ 1) × (s.amount ≡ length (results_of result.1.0))) }
+{
+    if crew.is_empty() {
+        let none = crew_works(rt, disk, job, tally, crew);
+        return (none, works(rt, disk, job, tally, number, first));
+    }
+    let mut crew = crew;
+    join_mut(
+        rt,
+        &mut || -> (Vec<Member<D>>, Option<Share<L>>)
+            requires sync { IsSync R.row }
+            requires geometry { job.now.plan.now.geometry ≡ (D.image disk.now).geometry }
+            requires crew { AreNewMembers job.now.queue.now job.now.plan.now.planned crew.items }
+            ensures members { All (λ m. HasEnded job.entry.now.queue.now job.entry.now.plan.now (D.image disk.entry.now) m) result.0.items }
+            ensures theirs { IfSome result.1 (λ s. AreDone s.parts s.amount result.0.items × (vec_len result.0 ≡ vec_len crew.entry)) }
+        {
+            let all = mem::replace(&mut crew, Vec::new(job.alloc));
+            crew_works(rt, disk, job, tally, all)
+        },
+        &mut || -> (WorkerCore<D>, Option<Share<L>>)
+            requires geometry { job.now.plan.now.geometry ≡ (D.image disk.now).geometry }
+            requires first { IsPassFor job.now.queue.now job.now.plan.now.planned first.now }
+            requires nothing { first.now.own ≡ [] }
+            ensures pass { IsSamePart first.entry.now first.exit.now }
+            ensures core { IsAtWork job.entry.now.queue.now job.entry.now.plan.now (D.image disk.entry.now) first.exit.now result.0 }
+            ensures mine { IfSome result.1 (λ s. (held_by result.0 ≡ None) × (s.parts ≡ 1) × (s.amount ≡ length (results_of result.0))) }
+        { works(rt, disk, job, tally, number, first) },
+    )
+}
+
+/// All members of a crew work at once: the last one on this thread, and those before it as a crew beside it, so that each has
+/// a thread of its own. No share means that one of them lacked memory.
+#[cycle(crew)]
+fn crew_works<'d, D: PageSource, L: Ledger + Send + Sync, G: Gate, R: Threads + Wait + Sync>(
     rt: &R,
     disk: &'d D,
     job: &Job<'_, G>,
@@ -70,40 +105,23 @@ pub(crate) fn crew_works<
     ensures members { All (λ m. HasEnded job.now.queue.now job.now.plan.now (D.image disk.now) m) result.0.items }
     ensures whole { IfSome result.1 (λ s. AreDone s.parts s.amount result.0.items × (vec_len result.0 ≡ vec_len new_members)) }
 {
-    let Some(new_member) = new_members.pop() else {
+    let Some(NewMember { number, mut pass }) = new_members.pop() else {
         return (Vec::new(job.alloc), Some(nothing(rt, tally)));
     };
-    let Job {
-        alloc,
-        plan,
-        queue,
-        gate,
-    } = *job;
-    let rest = move || -> (Vec<Member<D>>, Option<Share<L>>)
-        requires sync { IsSync R.row }
-        requires geometry { plan.now.geometry ≡ (D.image disk.now).geometry }
-        requires crew { AreNewMembers queue.now plan.now.planned new_members.items }
-        ensures members { All (λ m. HasEnded queue.entry.now plan.entry.now (D.image disk.entry.now) m) result.0.items }
-        ensures whole { IfSome result.1 (λ s. AreDone s.parts s.amount result.0.items × (vec_len result.0 ≡ vec_len new_members)) }
-    {
-        let job = Job::new(alloc, plan, queue, gate);
-        crew_works(rt, disk, &job, tally, new_members)
-    };
-    let last = move || -> (Member<D>, Option<Share<L>>)
-        requires geometry { plan.now.geometry ≡ (D.image disk.now).geometry }
-        requires member { IsNewMember queue.now plan.now.planned new_member }
-        ensures member { HasEnded queue.entry.now plan.entry.now (D.image disk.entry.now) result.0 }
-        ensures whole { IfSome result.1 (λ s. (held_by result.0.core ≡ None) × (s.parts ≡ 1) × (s.amount ≡ length (results_of result.0.core))) }
-    {
-        let job = Job::new(alloc, plan, queue, gate);
-        member_works(rt, disk, &job, tally, new_member)
-    };
-    let ((mut members, theirs), (member, mine)) = join(rt, rest, last);
+    let ((mut members, theirs), (core, mine)) = all_work(
+        rt,
+        disk,
+        job,
+        tally,
+        new_members,
+        number,
+        &mut pass,
+    );
     let (Some(mut theirs), Some(mine)) = (theirs, mine) else {
         return (members, None);
     };
     theirs.merge(mine);
-    if members.push(member).is_err() {
+    if members.push(Member { pass, core }).is_err() {
         return (members, None);
     }
     (members, Some(theirs))

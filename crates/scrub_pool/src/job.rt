@@ -1,7 +1,5 @@
 //! What all workers of a scan have in common. What one of them does with it is left to it.
 
-ghost use Rattle.std.specs.Prelude.{◌≡◌};
-
 use crate::extent_queue::ExtentQueue;
 use crate::gate::Gate;
 use scrub_super::Plan;
@@ -14,23 +12,4 @@ pub(crate) struct Job<'j, G: Gate> {
     pub plan: &'j Plan,
     pub queue: &'j ExtentQueue,
     pub gate: &'j G,
-}
-
-impl<'j, G: Gate> Job<'j, G> {
-    /// The job over these four.
-    pub(crate) fn new(
-        alloc: Global,
-        plan: &'j Plan,
-        queue: &'j ExtentQueue,
-        gate: &'j G,
-    ) -> Job<'j, G>
-        ensures { result ≡ record { alloc = alloc; plan = plan.entry; queue = queue.entry; gate = gate.entry } }
-    {
-        Job {
-            alloc,
-            plan,
-            queue,
-            gate,
-        }
-    }
 }

@@ -1,6 +1,5 @@
 //! Scanning all planned extents by many workers and the caller. What one worker does is left to it.
 
-ghost use Rattle.std.specs.Thread.{IsSync};
 ghost use Rattle.std.specs.Prelude.{◌≡◌, ℕ, ◌+◌, ◌-◌, ◌<◌, ◌≤◌, ◌++◌, [], ◌∷◌, true, false, None, All, length, map, OnOk, IfOk, IfSome, sum_by, vec_len};
 ghost use Rattle.std.specs.List.Sorted.{IsPermutation, IsStrictlyIncreasing};
 ghost use Rattle.scrub_disk.specs.Image.{Image};
@@ -13,24 +12,23 @@ ghost use Rattle.scrub_pool.specs.Takings.{IsPartition};
 ghost use Rattle.scrub_pool.specs.Work.{IsPassFor, IsSamePart, IsAtWork, AreResults, AreNewMembers, HasEnded, HaveResults, IsThrough, AreDone, AreFoundBy, after_joins, lists_in};
 
 use crate::OutOfMemory;
-use crate::crew::{Member, NewMember, crew_works};
+use crate::crew::{Member, NewMember, all_work};
 use crate::extent_queue::{ExtentQueue, TakePass};
 use crate::fault::PoolFault;
 use crate::gate::Gate;
 use crate::job::Job;
 use crate::takings::Takings;
 use crate::tally::{Tally, audit};
-use crate::worker::{work, works};
+use crate::worker::work;
 use scrub_book::{Book, WorkerCore, assemble};
 use scrub_disk::PageSource;
 use scrub_scan::{AllFindings, ExtentResult};
 use scrub_super::Plan;
 use std::alloc::Global;
 use std::marker::Brand;
-use std::mem;
 use std::sync::ledger::{Blank, Ledger, Share};
 use std::sync::{Mutex, Wait};
-use std::thread::{Threads, join_mut};
+use std::thread::Threads;
 
 /// As many members as workers were asked for, each with a pass of its own.
 fn new_crew<R: Wait>(
@@ -54,58 +52,6 @@ fn new_crew<R: Wait>(
         crew.push(NewMember { number, pass })?;
     }
     Ok(crew)
-}
-
-/// The crew and the caller work at the same time; where there is no crew, no thread is started. No share means that one of
-/// them lacked memory.
-fn all_work<'d, D: PageSource, L: Ledger + Send + Sync, G: Gate, R: Threads + Wait + Sync>(
-    rt: &R,
-    disk: &'d D,
-    job: &Job<'_, G>,
-    tally: &Mutex<Tally<L>>,
-    crew: Vec<NewMember>,
-    number: u32,
-    first: &mut TakePass,
-) -> (
-    (Vec<Member<'d, D>>, Option<Share<L>>),
-    (WorkerCore<'d, D>, Option<Share<L>>),
-)
-    requires geometry { job.now.plan.now.geometry ≡ (D.image disk.now).geometry }
-    requires first { IsPassFor job.now.queue.now job.now.plan.now.planned first.old }
-    requires nothing { first.old.own ≡ [] }
-    requires crew { AreNewMembers job.now.queue.now job.now.plan.now.planned crew.items }
-    ensures members { All (λ m. HasEnded job.now.queue.now job.now.plan.now (D.image disk.now) m) result.0.0.items }
-    ensures theirs { IfSome result.0.1 (λ s. AreDone s.parts s.amount result.0.0.items × (vec_len result.0.0 ≡ vec_len crew)) }
-    ensures pass { IsSamePart first.old first.new }
-    ensures core { IsAtWork job.now.queue.now job.now.plan.now (D.image disk.now) first.new result.1.0 }
-    ensures mine { IfSome result.1.1 (λ s. (held_by result.1.0 ≡ None) × (s.parts ≡ 1) × (s.amount ≡ length (results_of result.1.0))) }
-{
-    if crew.is_empty() {
-        let none = crew_works(rt, disk, job, tally, crew);
-        return (none, works(rt, disk, job, tally, number, first));
-    }
-    let mut crew = crew;
-    join_mut(
-        rt,
-        &mut || -> (Vec<Member<D>>, Option<Share<L>>)
-            requires sync { IsSync R.row }
-            requires geometry { job.now.plan.now.geometry ≡ (D.image disk.now).geometry }
-            requires crew { AreNewMembers job.now.queue.now job.now.plan.now.planned crew.items }
-            ensures members { All (λ m. HasEnded job.entry.now.queue.now job.entry.now.plan.now (D.image disk.entry.now) m) result.0.items }
-            ensures theirs { IfSome result.1 (λ s. AreDone s.parts s.amount result.0.items × (vec_len result.0 ≡ vec_len crew.entry)) }
-        {
-            let all = mem::replace(&mut crew, Vec::new(job.alloc));
-            crew_works(rt, disk, job, tally, all)
-        },
-        &mut || -> (WorkerCore<D>, Option<Share<L>>)
-            requires geometry { job.now.plan.now.geometry ≡ (D.image disk.now).geometry }
-            requires first { IsPassFor job.now.queue.now job.now.plan.now.planned first.now }
-            requires nothing { first.now.own ≡ [] }
-            ensures pass { IsSamePart first.entry.now first.exit.now }
-            ensures core { IsAtWork job.entry.now.queue.now job.entry.now.plan.now (D.image disk.entry.now) first.exit.now result.0 }
-            ensures mine { IfSome result.1 (λ s. (held_by result.0 ≡ None) × (s.parts ≡ 1) × (s.amount ≡ length (results_of result.0))) }
-        { works(rt, disk, job, tally, number, first) },
-    )
 }
 
 /// Retires a worker that holds no extent: adds its results to those found, and gives the list of what it took.
@@ -241,7 +187,12 @@ pub fn scan_all<'d, D: PageSource, G: Gate, R: Threads + Wait + Sync>(
 {
     let book = Book::new(alloc, disk, plan)?;
     let blank = Blank::new(u64::from(workers) + 1);
-    let job = Job::new(alloc, plan, queue, gate);
+    let job = Job {
+        alloc,
+        plan,
+        queue,
+        gate,
+    };
     let (lists, results, counted) = gather::<D, Brand, G, R>(
         rt, disk, &job, first, workers, blank,
     )?;

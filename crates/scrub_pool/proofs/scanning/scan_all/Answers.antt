@@ -1,4 +1,4 @@
-use Rattle.std.proofs.Common.{rules, ◌≡◌, ◌∙◌, ℕ, List, IsPermutation, arith, sym, subst, All, Some}
+use Rattle.std.proofs.Common.{◌≡◌, arith, sym, subst, All, Some}
 use Rattle.std.proofs.lemmas.List.{length-map}
 use Rattle.std.proofs.lemmas.List.Sorted.{length_permutation}
 use Rattle.scrub_super.specs.Plan.{pointer_of}
@@ -12,12 +12,9 @@ assemble-requires-clause-images g c κs within =
 
 pub assemble-requires-clause-pointers : goal.assemble-requires-clause-pointers
 assemble-requires-clause-pointers g c κs within =
-    let plan : c.new-job.result.plan.now ≡ c.args.plan.now = search rules in
-    subst (λ p. All (λ r. pointer_of p r.extent ≡ Some r.pointer) c.in_ok-lists.results.items) (plan ∙ sym c.in_ok-book.ensures.plan_is) c.in_ok-lists.ensures.found.1
+    subst (λ p. All (λ r. pointer_of p r.extent ≡ Some r.pointer) c.in_ok-lists.results.items) (sym c.in_ok-book.ensures.plan_is) c.in_ok-lists.ensures.found.1
 
 pub returns-clause-counted : goal.returns-clause-counted
 returns-clause-counted g c =
     let results = c.in_ok-lists.results.items in
-    let planned : c.new-job.result.plan.now.planned ≡ c.args.plan.now.planned = search rules in
-    let all = subst (λ (l : List ℕ). IsPermutation (extents_of results) l) planned c.in_ok-lists.ensures.extents in
-    omega (arith, c.in_ok-lists.ensures.counted, length_permutation (extents_of results) c.args.plan.now.planned all, length-map results (λ r. (scanned r).extent))
+    omega (arith, c.in_ok-lists.ensures.counted, length_permutation (extents_of results) c.args.plan.now.planned c.in_ok-lists.ensures.extents, length-map results (λ r. (scanned r).extent))
