@@ -1,7 +1,6 @@
 -- Which fault comes of a fault below; the status of each, and its text.
 use Rattle.std.specs.Prelude.{◌≡◌, ◌++◌, ◌∷◌, [], ℕ, List, codes}
 use Rattle.std.specs.Fmt.{decimal}
-use Rattle.scrub_disk.specs.declared.geometry.GeometryFault.{GeometryFault}
 use Rattle.scrub_disk.specs.declared.geometry.GeometryFault.TheVariants.{PageSize, Pages, Extents, ExtentBytes, TotalBytes}
 use Rattle.scrub_disk.specs.declared.loading.LoadFault.{LoadFault}
 use Rattle.scrub_disk.specs.declared.loading.LoadFault.TheVariants.{TooLong as too_long, OutOfMemory as no_memory_to_load}
@@ -38,19 +37,16 @@ status_of OutOfMemory = 4
 abbrev pub line : List ℕ → List ℕ
 line told = codes "shardscrub: " ++ told ++ 10 ∷ []
 
-abbrev pub limit_of : GeometryFault → List ℕ
-limit_of PageSize = codes "PageSize"
-limit_of Pages = codes "Pages"
-limit_of Extents = codes "Extents"
-limit_of ExtentBytes = codes "ExtentBytes"
-limit_of TotalBytes = codes "TotalBytes"
-
 -- what a fault is told with, up to its line feed; a text of `clap` has its own
 abbrev pub text_of : Fault → List ℕ
 text_of NotUtf8 = line (codes "a word is not UTF-8")
 text_of (Help text) = text.bytes.items
 text_of (Words text) = text.bytes.items
-text_of (Geometry fault) = line (codes "geometry refused: " ++ limit_of fault)
+text_of (Geometry PageSize) = line (codes "geometry refused: PageSize")
+text_of (Geometry Pages) = line (codes "geometry refused: Pages")
+text_of (Geometry Extents) = line (codes "geometry refused: Extents")
+text_of (Geometry ExtentBytes) = line (codes "geometry refused: ExtentBytes")
+text_of (Geometry TotalBytes) = line (codes "geometry refused: TotalBytes")
 text_of Extent = line (codes "extent out of range")
 text_of Pointer = line (codes "pointer out of range")
 text_of (BadPage word) = line (codes "bad page refused: " ++ word.now)

@@ -1,8 +1,8 @@
 //! Why a run ends without an answer: for each reason its status and its line on the error stream, in one place.
 
-ghost use Rattle.std.specs.Prelude.{◌≡◌, ◌++◌};
+ghost use Rattle.std.specs.Prelude.{◌≡◌, ◌++◌, codes};
 ghost use Rattle.scrub_cli.specs.declared.fault.Fault.TheVariants.{Geometry, Output, OutOfMemory};
-ghost use Rattle.scrub_cli.specs.Fault.{limit_of, line, text_of};
+ghost use Rattle.scrub_cli.specs.Fault.{line, text_of};
 ghost use Rattle.scrub_report.specs.Writing.{AppendsFront};
 
 use crate::words::WordsFault;
@@ -150,9 +150,9 @@ impl Fault<'_> {
     }
 }
 
-/// The limit that sizes break, by its name.
+/// The limit that sizes break, by its name, with which the line ends.
 fn limit(fault: GeometryFault) -> &'static str
-    ensures { result.now ≡ limit_of fault }
+    ensures { text_of (Geometry fault) ≡ line (codes "geometry refused: " ++ result.now) }
 {
     match fault {
         GeometryFault::PageSize => "PageSize",

@@ -14,7 +14,7 @@ use Rattle.scrub_run.specs.declared.shard_id.ShardId.{ShardId}
 use Rattle.scrub_run.specs.Entry.{EntryValue, IsBelow}
 use Rattle.scrub_run.specs.Run.{RisesById}
 use Rattle.scrub_merge.specs.Binding.{BindingValue}
-use Rattle.scrub_merge.specs.NewestMap.{id_cmp, binding_in}
+use Rattle.scrub_merge.specs.NewestMap.{id_cmp, binding_by, binding_in}
 
 pub id_cmp_total : IsTotalOrder id_cmp
 id_cmp_total = on_texts (λ s. s.0)
@@ -32,10 +32,6 @@ itself a = ap is_eq (tied_itself id_cmp_total a)
 -- no identifier is below itself
 pub not_below_itself : (a : ShardId) → IsBelow a a → ⊥
 not_below_itself a h = false≢true (ap is_eq (sym h) ∙ itself a)
-
--- the binding that an entry of the run of this number makes
-abbrev pub binding_by : ℕ → Bool → EntryValue → BindingValue
-binding_by number doubtful e = record { id = e.id; locators = e.locators; run = number; doubtful = doubtful }
 
 some_or : {X : Type 0} (o p q : Option X) → is_some o ≡ true → option_or o p ≡ option_or o q
 some_or None p q h = absurd (false≢true h)

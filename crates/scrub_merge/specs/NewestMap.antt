@@ -19,10 +19,13 @@ id_cmp a b = slice_cmp nat_cmp a.0 b.0
 abbrev pub value_at : BTreeMap ShardId BindingValue → ShardId → Option BindingValue
 value_at m id = tree.get id_cmp m id
 
--- what the run of this number says of an identifier
+-- the binding that an entry of the run of this number makes
+abbrev pub binding_by : ℕ → Bool → EntryValue → BindingValue
+binding_by number doubtful e = record { id = e.id; locators = e.locators; run = number; doubtful = doubtful }
+
+-- what that run says of an identifier
 abbrev pub binding_in : ℕ → Bool → ShardId → List EntryValue → Option BindingValue
-binding_in number doubtful id entries =
-    option_map (λ e. record { id = e.id; locators = e.locators; run = number; doubtful = doubtful }) (find (λ e. is_eq (id_cmp e.id id)) entries)
+binding_in number doubtful id entries = option_map (binding_by number doubtful) (find (λ e. is_eq (id_cmp e.id id)) entries)
 
 -- a binding that doesn't say that its shard was deleted
 abbrev pub has_locator : BindingValue → Bool

@@ -1,14 +1,14 @@
 //! The newest binding of each identifier over a list of index runs, by an ordered map. Which runs are lost is left to the
 //! crates above.
 
-ghost use Rattle.std.specs.Prelude.{◌≡◌, List, ◌<◌, ◌^◌, [], ◌∷◌, IfOk, OnOk, length, filter};
+ghost use Rattle.std.specs.Prelude.{◌≡◌, List, ◌<◌, ◌^◌, IfOk, OnOk, length, filter};
 ghost use Rattle.std.specs.Option.{option_or};
 ghost use Rattle.std.specs.BTreeMap.{IsOrdered, values};
 ghost use Rattle.scrub_run.specs.Run.{AreEntries};
 ghost use Rattle.scrub_run.specs.declared.shard_id.ShardId.{ShardId};
 ghost use Rattle.scrub_merge.specs.Binding.{BindingValue, Runs};
 ghost use Rattle.scrub_merge.specs.ShardMap.{AreRuns, IsShardMap};
-ghost use Rattle.scrub_merge.specs.NewestMap.{id_cmp, value_at, binding_in, has_locator, HoldsNewest};
+ghost use Rattle.scrub_merge.specs.NewestMap.{id_cmp, value_at, binding_by, binding_in, has_locator, HoldsNewest};
 
 use crate::binding::Binding;
 use crate::shard_map::ShardMap;
@@ -16,26 +16,17 @@ use scrub_run::{Entry, OutOfMemory, Run, ShardId};
 use std::alloc::Global;
 use std::collections::BTreeMap;
 
-/// Binds the identifier of an entry, if it isn't bound yet.
-fn bind_entry(
+/// The binding by a copy of an entry.
+fn binding_of(
     alloc: Global,
-    newest: &mut BTreeMap<ShardId, Binding>,
     entry: &Entry,
     number: u32,
     doubtful: bool,
-) -> Result<(), OutOfMemory>
-    requires { IsOrdered id_cmp newest.old }
-    ensures ordered { OnOk result (IsOrdered id_cmp newest.new) }
-    ensures bound { OnOk result ((id : ShardId) →
-        value_at newest.new id ≡ option_or (value_at newest.old id) (binding_in number doubtful id (entry.now ∷ []))) }
+) -> Result<Binding, OutOfMemory>
+    ensures { IfOk result (λ b. b ≡ binding_by number doubtful entry.now) }
 {
-    let id = entry.id();
-    if newest.contains_key(&id) {
-        return Ok(());
-    }
-    let copy = Entry::new(id, Vec::from_slice(alloc, entry.locators())?);
-    newest.insert(id, Binding::new(copy, number, doubtful))?;
-    Ok(())
+    let copy = Entry::new(entry.id(), Vec::from_slice(alloc, entry.locators())?);
+    Ok(Binding::new(copy, number, doubtful))
 }
 
 /// Binds each identifier of a run that isn't bound yet.
@@ -53,7 +44,12 @@ fn bind_run(
         value_at newest.new id ≡ option_or (value_at newest.old id) (binding_in number doubtful id run.now)) }
 {
     for entry in run.entries() {
-        bind_entry(alloc, newest, entry, number, doubtful)?;
+        let id = entry.id();
+        if newest.contains_key(&id) {
+            continue;
+        }
+        let binding = binding_of(alloc, entry, number, doubtful)?;
+        newest.insert(id, binding)?;
     }
     Ok(())
 }

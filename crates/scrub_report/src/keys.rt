@@ -115,32 +115,22 @@ pub(crate) fn put_locators<D: PageSource>(
     put(report, alloc, "shared", shared)
 }
 
-/// Puts the values of the chunks to the report.
-pub(crate) fn put_chunks<D: PageSource>(
+/// Puts the values of the chunks to the report, and those of the disk and of its extents. That of the extents is by far the
+/// greatest, so it comes last: by then the others need no lists any more.
+pub(crate) fn put_extents<D: PageSource>(
     report: &mut Map<String, Value>,
     alloc: Global,
     parts: &Parts<'_, D>,
 ) -> Result<(), OutOfMemory>
     ensures { OnOk result (members_view report.new.entries ≡
-        with_chunks (found_in parts.now) (members_view report.old.entries)) }
+        with_disk (found_in parts.now) (with_chunks (found_in parts.now) (members_view report.old.entries))) }
 {
     let candidates = list_value(alloc, &parts.candidates)?;
     put(report, alloc, "candidates", candidates)?;
     let orphans = orphans_key(alloc, &parts.all, &parts.checked)?;
     put(report, alloc, "orphans", orphans)?;
     let twins = twins_key(alloc, &parts.all)?;
-    put(report, alloc, "twins", twins)
-}
-
-/// Puts the values of the disk and of its extents to the report.
-pub(crate) fn put_disk<D: PageSource>(
-    report: &mut Map<String, Value>,
-    alloc: Global,
-    parts: &Parts<'_, D>,
-) -> Result<(), OutOfMemory>
-    ensures { OnOk result (members_view report.new.entries ≡
-        with_disk (found_in parts.now) (members_view report.old.entries)) }
-{
+    put(report, alloc, "twins", twins)?;
     let geometry = geometry_value(alloc, parts.plan.geometry())?;
     put(report, alloc, "geometry", geometry)?;
     put(report, alloc, "retired", Value::Array(Vec::new(alloc)))?;

@@ -6,7 +6,7 @@ ghost use Rattle.scrub_report.specs.Parts.{found_in};
 ghost use Rattle.scrub_report.specs.Report.{report_data, report_text};
 ghost use Rattle.scrub_report.specs.Scrubbed.{Scrubbed, is_clean};
 
-use crate::keys::{put_chunks, put_disk, put_index, put_locators};
+use crate::keys::{put_extents, put_index, put_locators};
 use crate::scrubbing::Parts;
 use scrub_disk::{OutOfMemory, PageSource};
 use serde_json::{Map, Value};
@@ -25,9 +25,7 @@ pub(crate) fn report_value<D: PageSource>(
     let mut report = Map::new(alloc);
     put_index(&mut report, alloc, parts)?;
     put_locators(&mut report, alloc, parts, clean)?;
-    put_chunks(&mut report, alloc, parts)?;
-    // The extents' value is by far the greatest: by now the others need no lists any more.
-    put_disk(&mut report, alloc, parts)?;
+    put_extents(&mut report, alloc, parts)?;
     Ok(Value::Object(report))
 }
 

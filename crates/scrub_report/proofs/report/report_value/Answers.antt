@@ -11,12 +11,11 @@ use Rattle.scrub_report.proofs.report.report_value.Goals as goal
 
 pub returns : goal.returns
 returns g c =
-    view-Object c.put_disk.new.report
-    ∙ ap object (c.in_ok-put_disk.ensures
-    ∙ ap (with_disk found) (c.in_ok-put_chunks.ensures
-    ∙ ap (with_chunks found) (c.in_ok-put_locators.ensures
+    view-Object c.put_extents.new.report
+    ∙ ap object (c.in_ok-put_extents.ensures
+    ∙ ap (λ ms. with_disk found (with_chunks found ms)) (c.in_ok-put_locators.ensures
     ∙ ap (with_locators found) (c.in_ok-put_index.ensures
-    ∙ ap (λ entries. with_index found (members_view entries)) c.new-report.ensures.empty))))
+    ∙ ap (λ entries. with_index found (members_view entries)) c.new-report.ensures.empty)))
     ∙ keys_are found
   where
     found : Scrubbed
