@@ -2,15 +2,13 @@
 //! is left to the lists of chunks.
 
 ghost use Rattle.std.specs.Prelude.{◌≡◌, IfOk};
-ghost use Rattle.scrub_check.specs.Checked.{named_of, AreChecked, is_dangling, dangling, hidden};
-ghost use Rattle.scrub_check.specs.Status.{HasStatusIn};
+ghost use Rattle.scrub_check.specs.Checked.{AreChecked, is_dangling, dangling, hidden};
 ghost use Rattle.scrub_check.specs.WholeScan.{IsWholeScan};
 
 use crate::named::{Named, Owner};
 use crate::status::{Status, status_of};
 use scrub_disk::{OutOfMemory, PageSource};
 use scrub_frame::Locator;
-use scrub_run::ShardId;
 use scrub_scan::AllFindings;
 use scrub_super::Plan;
 use std::alloc::Global;

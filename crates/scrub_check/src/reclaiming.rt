@@ -1,7 +1,7 @@
 //! Which extents may be reclaimed: those that hold garbage by half or more, and nothing that a locator might still need.
 //! What a locator is worth, and which chunks are live, is left to the modules beside it.
 
-ghost use Rattle.std.specs.Prelude.{◌≡◌, ◌≤◌, ◌&&◌, ◌*◌, ℕ, Bool, not, nat_lt, IfOk, OnOk, List, map};
+ghost use Rattle.std.specs.Prelude.{◌≡◌, ◌≤◌, ◌&&◌, ◌*◌, Bool, not, nat_lt, IfOk, OnOk, List, map};
 ghost use Rattle.std.specs.List.{filter, list_all};
 ghost use Rattle.std.specs.List.Sorted.{IsPermutation, IsSorted, IsStrictlyIncreasing};
 ghost use Rattle.scrub_disk.specs.Image.{Image};
@@ -13,7 +13,7 @@ ghost use Rattle.scrub_check.specs.declared.checked.Checked.{Checked};
 ghost use Rattle.scrub_check.specs.Live.{live_bytes};
 ghost use Rattle.scrub_check.specs.SoundStarts.{is_live_by};
 ghost use Rattle.scrub_check.specs.Verdicts.{AreVerdicts, free_bytes, with_reclaimable};
-ghost use Rattle.scrub_check.specs.Candidates.{CandidateValue, is_readable, has_sound_alone, is_half_garbage, is_reclaimable, candidate_of, by_free, reclaimable, AreCandidates};
+ghost use Rattle.scrub_check.specs.Candidates.{CandidateValue, has_sound_alone, is_half_garbage, is_reclaimable, candidate_of, by_free, reclaimable, AreCandidates};
 ghost use Rattle.scrub_check.specs.Kept.{CandidatesAreSafe};
 
 use crate::candidate::Candidate;

@@ -1,6 +1,6 @@
 //! The places that sound named locators point to, sorted, so that whether one points to a place is found by search.
 
-ghost use Rattle.std.specs.Prelude.{◌≡◌, ◌↔◌, ℕ, nat_lt, IsTrue, IfOk, List, map};
+ghost use Rattle.std.specs.Prelude.{◌≡◌, ◌↔◌, nat_lt, IsTrue, IfOk, List, map};
 ghost use Rattle.std.specs.List.{count_by, filter};
 ghost use Rattle.std.specs.List.Sorted.{IsStrictlySortedBy};
 ghost use Rattle.scrub_check.specs.declared.checked.Checked.{Checked};

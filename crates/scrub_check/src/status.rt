@@ -14,7 +14,7 @@ use crate::chunks::frame_of_item;
 use crate::searching::find_start;
 use scrub_disk::{Geometry, OutOfMemory, PageSource};
 use scrub_frame::{FRAME_OVERHEAD, Locator};
-use scrub_scan::{AllFindings, Findings, Item, Standing, frame_stands};
+use scrub_scan::{AllFindings, Findings, Standing, frame_stands};
 use scrub_super::Plan;
 use std::alloc::Global;
 

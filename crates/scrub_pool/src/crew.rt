@@ -1,7 +1,7 @@
 //! The workers beside the caller, each on a thread of its own. What one worker does is left to it.
 
 ghost use Rattle.std.specs.Thread.{IsSync};
-ghost use Rattle.std.specs.Prelude.{◌≡◌, ◌+◌, ◌<◌, false, None, [], All, length, IfSome, vec_len};
+ghost use Rattle.std.specs.Prelude.{◌≡◌, ◌+◌, ◌<◌, None, [], All, length, IfSome, vec_len};
 ghost use Rattle.scrub_book.specs.Worker.{held_by, results_of};
 ghost use Rattle.scrub_pool.specs.Work.{IsPassFor, IsSamePart, IsAtWork, AreNewMembers, HasEnded, AreDone};
 

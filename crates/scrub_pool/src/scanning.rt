@@ -1,15 +1,13 @@
 //! Scanning all planned extents by many workers and the caller. What one worker does is left to it.
 
-ghost use Rattle.std.specs.Prelude.{◌≡◌, ℕ, ◌+◌, ◌-◌, ◌<◌, ◌≤◌, ◌++◌, [], ◌∷◌, true, false, None, All, length, map, OnOk, IfOk, IfSome, sum_by, vec_len};
-ghost use Rattle.std.specs.List.Sorted.{IsPermutation, IsStrictlyIncreasing};
-ghost use Rattle.scrub_disk.specs.Image.{Image};
-ghost use Rattle.scrub_super.specs.Plan.{PlanValue};
+ghost use Rattle.std.specs.Prelude.{◌≡◌, ◌+◌, ◌-◌, ◌<◌, ◌≤◌, ◌++◌, [], ◌∷◌, true, None, All, length, OnOk, IfOk, sum_by, vec_len};
+ghost use Rattle.std.specs.List.Sorted.{IsPermutation};
 ghost use Rattle.scrub_scan.specs.AllFindings.{AreAllFindings};
 ghost use Rattle.scrub_book.specs.Extents.{extents_of};
 ghost use Rattle.scrub_book.specs.Worker.{held_by, taken_by, results_of};
 ghost use Rattle.scrub_pool.specs.Passes.{one_list, new_pass, IsFirstAlone};
 ghost use Rattle.scrub_pool.specs.Takings.{IsPartition};
-ghost use Rattle.scrub_pool.specs.Work.{IsPassFor, IsSamePart, IsAtWork, AreResults, AreNewMembers, HasEnded, HaveResults, IsThrough, AreDone, AreFoundBy, after_joins, lists_in};
+ghost use Rattle.scrub_pool.specs.Work.{AreResults, AreNewMembers, IsThrough, AreFoundBy, after_joins, lists_in};
 
 use crate::OutOfMemory;
 use crate::crew::{Member, NewMember, all_work};
@@ -26,7 +24,7 @@ use scrub_scan::{AllFindings, ExtentResult};
 use scrub_super::Plan;
 use std::alloc::Global;
 use std::marker::Brand;
-use std::sync::ledger::{Blank, Ledger, Share};
+use std::sync::ledger::{Blank, Ledger};
 use std::sync::{Mutex, Wait};
 use std::thread::Threads;
 
