@@ -6,6 +6,7 @@ use Rattle.std.proofs.lemmas.List.Elements.{All-get_or}
 use Rattle.scrub_disk.specs.Image.{Image, unreadable_pages, HasWholePages}
 use Rattle.scrub_frame.specs.Frame.{frame_overhead}
 use Rattle.scrub_frame.specs.declared.locator.Locator.{Locator}
+use Rattle.scrub_super.specs.Plan.{PlanValue, pointer_of}
 use Rattle.scrub_scan.specs.declared.standing.Standing.{Standing}
 use Rattle.scrub_scan.specs.Extent.{extent_of, FrameAt, NoFrameAt}
 use Rattle.scrub_scan.specs.declared.item.Item.{Item}
@@ -15,9 +16,10 @@ use Rattle.scrub_scan.specs.Standing.{IsStandingAt}
 use Rattle.scrub_scan.specs.Tiling.{IsTiling}
 use Rattle.scrub_check.specs.declared.status.Status.{Status}
 use Rattle.scrub_check.specs.declared.status.Status.TheVariants.{OutOfRange, PastPointer, Unreadable, NoFrame, WrongUuid, WrongLength, WrongDigest, Hidden, Sound}
-use Rattle.scrub_check.specs.Status.{end_of, InRange, HasUnreadableByte, CanStand, FindsFrame, NamesChunk, HasStatus}
+use Rattle.scrub_check.specs.Status.{end_of, InRange, HasUnreadableByte, CanStand, FindsFrame, NamesChunk, HasStatus, HasStatusIn}
 use Rattle.scrub_check.specs.Chunks.{frame_of_item}
 use Rattle.scrub_check.specs.Judged.{IsMismatch, Agrees, IsJudged}
+use Rattle.scrub_check.specs.Looks.{IsFoundAt, IsOpen, IsSeenAt, IsToldByItems}
 use Rattle.scrub_check.proofs.Searches.{LiesBetween}
 use Rattle.scrub_check.proofs.Starts.{begins, begins_among}
 use Rattle.scrub_check.proofs.Gaps.{gap_pages, pages_gap}
@@ -78,7 +80,7 @@ mismatched image w l s Sound can h m = absurd m
 
 -- what was found at the locator's place: a frame that stands there, or none, and then none stands there
 abbrev pub IsFoundThere : Image → ℕ → Locator → Option Standing → Type 0
-IsFoundThere image w l found = MatchOption found (NoFrameAt (extent_of image l.extent w) l.offset) (IsStandingAt image w l.extent l.offset)
+IsFoundThere image w l found = IsFoundAt image w l.extent l.offset found
 
 -- it tells the status, where the chunk that the locator names has the status that is given for it
 judged_status : (image : Image) (w : ℕ) (l : Locator) (found : Option Standing) (agreeing status : Status) → CanStand image w l → IsFoundThere image w l found →
@@ -86,12 +88,6 @@ judged_status : (image : Image) (w : ℕ) (l : Locator) (found : Option Standing
 judged_status image w l None agreeing status can none chunk judged = subst (λ (s : Status). HasStatus image w l s) (sym judged) (can, none)
 judged_status image w l (Some s) agreeing status can there chunk (inl mismatch) = mismatched image w l s status can there mismatch
 judged_status image w l (Some s) agreeing status can there chunk (inr judged) = subst (λ (t : Status). HasStatus image w l t) (sym judged.1) (chunk (names_chunk image w l s can there judged.0))
-
--- what a look at the place comes to
-pub looked_there : (image : Image) (w : ℕ) (l : Locator) (found : Option Standing) → IfSome found (IsStandingAt image w l.extent l.offset) → IfNone found (NoFrameAt (extent_of image l.extent w) l.offset) →
-    IsFoundThere image w l found
-looked_there image w l None some none = none
-looked_there image w l (Some s) some none = some
 
 -- what an item that begins there tells
 item_there : (image : Image) (w : ℕ) (l : Locator) (item : Item) → IsItem (extent_of image l.extent w) item → start_of item ≡ l.offset → IsFoundThere image w l (frame_of_item l.extent item)
@@ -116,9 +112,19 @@ judged_by_item image w l items i item status can tiled at is judged =
     let start : start_of item ≡ l.offset = ap start_of is ∙ sym (get_or-map start_of items i item 0 at.0) ∙ at.1 in
     judged_status image w l (frame_of_item l.extent item) Sound status can (item_there image w l item fits start) (λ chunk. (chunk, begins x items i l.offset tiled at.0 at.1)) judged
 
--- and what was found by a look, where no item begins
-pub judged_by_look : (image : Image) (w : ℕ) (l : Locator) (items : List Item) (found : Option Standing) (status : Status) → CanStand image w l → IsTiling (extent_of image l.extent w) items →
-    ¬ Contains (map start_of items) l.offset → IsFoundThere image w l found → IsJudged l found Hidden status → HasStatus image w l status
-judged_by_look image w l items found status can tiled apart there judged =
-    judged_status image w l found Hidden status can there
-    (λ chunk. (chunk, λ b. apart (begins_among (extent_of image l.extent w) items l.offset (omega (arith, image.geometry.page_size.least)) tiled b))) judged
+-- and there being none that begins there, that the place is left to be looked at
+pub none_begins : (image : Image) (w : ℕ) (l : Locator) (items : List Item) → IsTiling (extent_of image l.extent w) items → ¬ Contains (map start_of items) l.offset → IsToldByItems image w l None
+none_begins image w l items tiled apart b = apart (begins_among (extent_of image l.extent w) items l.offset (omega (arith, image.geometry.page_size.least)) tiled b)
+
+-- what items tell under the pointer of an extent, by a plan
+pub told_in_plan : (image : Image) (plan : PlanValue) (w : ℕ) (l : Locator) (told : Option Status) → pointer_of plan l.extent ≡ Some w → CanStand image w l → IsToldByItems image w l told →
+    IfSome told (HasStatusIn image plan l) × IfNone told (IsOpen image plan l)
+told_in_plan image plan w l None at can h = (tt, record { pointer = w; is = at; can = can; apart = h })
+told_in_plan image plan w l (Some s) at can h = (subst (λ (o : Option ℕ). MatchOption o (s ≡ OutOfRange) (λ v. HasStatus image v l s)) (sym at) h, tt)
+
+-- and what a look tells of a locator that was left
+pub judged_by_look : (image : Image) (plan : PlanValue) (l : Locator) (found : Option Standing) (status : Status) → IsOpen image plan l → IsSeenAt image plan (record { extent = l.extent; offset = l.offset }) found →
+    IsJudged l found Hidden status → HasStatusIn image plan l status
+judged_by_look image plan l found status left seen judged =
+    subst (λ (o : Option ℕ). MatchOption o (status ≡ OutOfRange) (λ v. HasStatus image v l status)) (sym left.is)
+    (judged_status image left.pointer l found Hidden status left.can (seen left.pointer left.is) (λ chunk. (chunk, left.apart)) judged)

@@ -7,7 +7,9 @@ pub mod SameUuids
 pub mod SortedStarts
 pub mod Sizes
 pub mod StartSearch
+pub mod Collected
 pub mod CheckedLists
+pub mod SeenPlaces
 pub mod ExtentsSoFar
 pub mod Reclaimable
 pub mod Rising

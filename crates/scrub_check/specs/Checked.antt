@@ -18,6 +18,11 @@ use Rattle.scrub_check.specs.Status.{HasStatusIn}
 abbrev pub named_of : Checked → Named
 named_of c = record { owner = c.owner; locator = c.locator }
 
+-- this locator and its owner, with its status
+pub record IsChecked (image : Image) (plan : PlanValue) (name : Named) (c : Checked) : Type 0 where
+  pub same : named_of c ≡ name
+  pub status : HasStatusIn image plan c.locator c.status
+
 -- each locator has the status of its own
 abbrev pub HaveStatuses : Image → PlanValue → List Checked → Type 0
 HaveStatuses image plan checked = All (λ c. HasStatusIn image plan c.locator c.status) checked

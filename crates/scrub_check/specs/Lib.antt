@@ -16,6 +16,7 @@ pub use Rattle.scrub_scan.specs.AllFindings
 pub use Rattle.scrub_merge.specs.Binding
 -- The steps of the code.
 pub mod Judged
+pub mod Looks
 pub mod ChunkRun
 pub mod SoundStarts
 pub mod Distinct

@@ -8,6 +8,7 @@ pub mod checked;
 mod chunk_uuids;
 mod chunks;
 mod live;
+mod looks;
 pub mod named;
 pub mod place;
 pub mod reclaiming;

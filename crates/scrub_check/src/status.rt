@@ -1,20 +1,25 @@
 //! What a locator is worth: whether the chunk that it names stands at its place.
 
-ghost use Rattle.std.specs.Prelude.{◌≡◌, ◌≤◌, ◌<◌, ◌+◌, ◌/◌, ◌↔◌, ℕ, Some, IfOk, IfSome, IfNone, IsTrue, Contains};
+ghost use Rattle.std.specs.Prelude.{◌≡◌, ◌≤◌, ◌<◌, ◌+◌, ◌/◌, ◌↔◌, ℕ, Some, IfOk, IfSome, IfNone, IsTrue, Contains, map};
 ghost use Rattle.std.specs.List.Sorted.{IsStrictlyIncreasing};
-ghost use Rattle.scrub_disk.specs.Image.{Image, extent_bytes, unreadable_pages};
+ghost use Rattle.scrub_disk.specs.Image.{Image, unreadable_pages};
 ghost use Rattle.scrub_super.specs.Plan.{PlanValue};
-ghost use Rattle.scrub_scan.specs.Findings.{IsFindings};
 ghost use Rattle.scrub_check.specs.WholeScan.{IsWholeScan};
 ghost use Rattle.scrub_check.specs.Status.{end_of, InRange, HasUnreadableByte, CanStand, HasStatus, HasStatusIn, ExactlyOne};
 ghost use Rattle.scrub_check.specs.Judged.{IsMismatch, Agrees, IsJudged};
 ghost use Rattle.scrub_scan.specs.AllFindings.{extent_numbers, findings_in};
+ghost use Rattle.scrub_scan.specs.Extent.{extent_of};
+ghost use Rattle.scrub_scan.specs.Item.{start_of};
+ghost use Rattle.scrub_scan.specs.Tiling.{IsTiling};
+ghost use Rattle.scrub_check.specs.Looks.{CanBeLookedAt, AreLooks, IsOpen, IsToldByItems};
 
 use crate::chunks::frame_of_item;
+use crate::looks::{Look, standing_at};
 use crate::searching::find_start;
+use crate::sound_starts::Start;
 use scrub_disk::{Geometry, OutOfMemory, PageSource};
 use scrub_frame::{FRAME_OVERHEAD, Locator};
-use scrub_scan::{AllFindings, Findings, Standing, frame_stands};
+use scrub_scan::{AllFindings, Findings, Item, Standing};
 use scrub_super::Plan;
 use std::alloc::Global;
 
@@ -119,26 +124,85 @@ fn is_unreadable<D: PageSource>(disk: &D, bad_pages: &[u32], locator: &Locator) 
     has_page_between(bad_pages, first, last as u32)
 }
 
-/// What a locator is worth whose frame would lie where it can be read, by what was found in its extent: where an item begins
-/// at its place, that tells which frame stands there; anywhere else the place itself is looked at.
-fn status_where_readable<D: PageSource>(
-    alloc: Global,
-    disk: &D,
-    pointer: u32,
-    findings: &Findings,
-    locator: &Locator,
-) -> Result<Status, OutOfMemory>
-    requires readable { CanStand (D.image disk.now) pointer locator.now }
-    requires pointer { pointer ≤ extent_bytes (D.image disk.now).geometry }
-    requires findings { IsFindings (D.image disk.now) locator.now.extent pointer findings.now }
-    ensures { IfOk result (HasStatus (D.image disk.now) pointer locator.now) }
+/// What a locator is worth whose frame would lie where it can be read, by the item that begins at its place; `None` where
+/// none does.
+fn told_by_item(items: &[Item], locator: &Locator) -> Option<Status>
+    requires { IsStrictlyIncreasing (map start_of items.now) }
+    ensures { (image : Image) (w : ℕ) → CanStand image w locator.now → IsTiling (extent_of image locator.now.extent w) items.now → IsToldByItems image w locator.now result }
 {
-    let items = findings.items();
     if let Some(i) = find_start(items, locator.offset).at {
         let standing = frame_of_item(locator.extent, &items[i]);
-        return Ok(judged(locator, standing, Status::Sound));
+        return Some(judged(locator, standing, Status::Sound));
     }
-    let standing = frame_stands(alloc, disk, pointer, locator.extent, locator.offset)?;
+    None
+}
+
+/// What a locator is worth, where the findings tell it; `None` where its place has to be looked at.
+fn told_by_findings<D: PageSource>(
+    disk: &D,
+    plan: &Plan,
+    all: &AllFindings<'_, D>,
+    locator: &Locator,
+) -> Option<Status>
+    requires { IsWholeScan (D.image disk.now) plan.now all.now.extents }
+    ensures told { IfSome result (HasStatusIn (D.image disk.now) plan.now locator.now) }
+    ensures open { IfNone result (IsOpen (D.image disk.now) plan.now locator.now) }
+{
+    let geometry = plan.geometry();
+    if !lies_in_range(geometry, locator) {
+        return Some(Status::OutOfRange);
+    }
+    let pointer = plan.pointer(locator.extent);
+    if end_of(locator) > pointer as u64 {
+        return Some(Status::PastPointer);
+    }
+    let findings = findings_of(all, locator.extent);
+    if is_unreadable(disk, findings.bad_pages(), locator) {
+        return Some(Status::Unreadable);
+    }
+    told_by_item(findings.items(), locator)
+}
+
+/// The place of a locator, where it has to be looked at.
+pub(crate) fn open_start<D: PageSource>(
+    disk: &D,
+    plan: &Plan,
+    all: &AllFindings<'_, D>,
+    locator: &Locator,
+) -> Option<Start>
+    requires { IsWholeScan (D.image disk.now) plan.now all.now.extents }
+    ensures { IfSome result (CanBeLookedAt (D.image disk.now) plan.now) }
+{
+    match told_by_findings(disk, plan, all, locator) {
+        Some(_) => None,
+        None => Some(Start {
+            extent: locator.extent,
+            offset: locator.offset,
+        }),
+    }
+}
+
+/// What a locator is worth in the image of a disk, of which some places were looked at before.
+pub(crate) fn status_by<D: PageSource>(
+    alloc: Global,
+    disk: &D,
+    plan: &Plan,
+    all: &AllFindings<'_, D>,
+    looks: &[Look],
+    locator: &Locator,
+) -> Result<Status, OutOfMemory>
+    requires scan { IsWholeScan (D.image disk.now) plan.now all.now.extents }
+    requires looks { AreLooks (D.image disk.now) plan.now looks.now }
+    ensures { IfOk result (HasStatusIn (D.image disk.now) plan.now locator.now) }
+{
+    if let Some(status) = told_by_findings(disk, plan, all, locator) {
+        return Ok(status);
+    }
+    let start = Start {
+        extent: locator.extent,
+        offset: locator.offset,
+    };
+    let standing = standing_at(alloc, disk, plan, looks, start)?;
     Ok(judged(locator, standing, Status::Hidden))
 }
 
@@ -154,19 +218,7 @@ pub fn status_of<D: PageSource>(
     requires { IsWholeScan (D.image disk.now) plan.now all.now.extents }
     ensures { IfOk result (HasStatusIn (D.image disk.now) plan.now locator.now) }
 {
-    let geometry = plan.geometry();
-    if !lies_in_range(geometry, locator) {
-        return Ok(Status::OutOfRange);
-    }
-    let pointer = plan.pointer(locator.extent);
-    if end_of(locator) > pointer as u64 {
-        return Ok(Status::PastPointer);
-    }
-    let findings = findings_of(all, locator.extent);
-    if is_unreadable(disk, findings.bad_pages(), locator) {
-        return Ok(Status::Unreadable);
-    }
-    status_where_readable(alloc, disk, pointer, findings, locator)
+    status_by(alloc, disk, plan, all, &[], locator)
 }
 
 /// A law: exactly one status applies to a locator, under a write pointer and by a plan. Two that do are one, and it can't

@@ -6,6 +6,7 @@
 pub mod digest;
 pub mod frame;
 pub mod locator;
+pub mod matcher;
 pub mod writing;
 
 pub use digest::digest_of;
@@ -14,9 +15,10 @@ pub use frame::{
     read_head,
 };
 pub use locator::{
-    LOCATOR_BYTES, Locator, append_locators, locate, one_locator, read_locator, read_locators,
-    write_locator,
+    LOCATOR_BYTES, Locator, append_locators, locate, one_locator, put_part, read_locator,
+    read_locators, write_locator,
 };
+pub use matcher::{Fed, Matcher};
 pub use std::alloc::AllocError as OutOfMemory;
 pub use writing::{FrameFault, MAX_PAYLOAD, append, write_frame};
 

@@ -1,5 +1,8 @@
--- Lemmas on elements of lists, on what a run binds, on newest bindings run by run, and on the map that is made of them.
+-- Lemmas on elements of lists, on identifiers, on newest bindings and the one map of them, on what is left of runs behind
+-- their cursors, on what is bound as these move on, and on walks over them.
 pub mod Elements
 pub mod Identifiers
-pub mod Steps
 pub mod Maps
+pub mod Left
+pub mod NextBound
+pub mod Walks

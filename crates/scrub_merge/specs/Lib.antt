@@ -3,5 +3,5 @@ pub mod Binding
 pub mod ShardMap
 pub use Rattle.scrub_run.specs.Entry
 pub use Rattle.scrub_run.specs.Run
--- The steps of the code: the map as it is filled, run by run.
-pub mod NewestMap
+-- The steps of the code: the cursors, as they move on.
+pub mod Cursors

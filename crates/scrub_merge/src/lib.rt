@@ -3,6 +3,7 @@
 #![tactic(auto)]
 
 pub mod binding;
+mod cursors;
 pub mod merging;
 pub mod shard_map;
 

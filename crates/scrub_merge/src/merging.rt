@@ -1,20 +1,17 @@
-//! The newest binding of each identifier over a list of index runs, by an ordered map. Which runs are lost is left to the
+//! The newest binding of each identifier over a list of index runs, by one cursor for each run: the least identifier under
+//! them is bound by the newest run that has it, and every cursor that has it moves on. Which runs are lost is left to the
 //! crates above.
 
-ghost use Rattle.std.specs.Prelude.{◌≡◌, List, ◌<◌, ◌^◌, IfOk, OnOk, length, filter};
-ghost use Rattle.std.specs.Option.{option_or};
-ghost use Rattle.std.specs.BTreeMap.{IsOrdered, values};
-ghost use Rattle.scrub_run.specs.Run.{AreEntries};
-ghost use Rattle.scrub_run.specs.declared.shard_id.ShardId.{ShardId};
-ghost use Rattle.scrub_merge.specs.Binding.{BindingValue, Runs};
+ghost use Rattle.std.specs.Prelude.{◌≡◌, List, ◌<◌, ◌≤◌, ◌^◌, ◌↔◌, IsTrue, IfOk, OnOk, length};
+ghost use Rattle.scrub_merge.specs.Binding.{BindingValue, Runs, LostBefore};
+ghost use Rattle.scrub_merge.specs.Cursors.{left, IsLeast, IsBound, AreRising};
 ghost use Rattle.scrub_merge.specs.ShardMap.{AreRuns, IsShardMap};
-ghost use Rattle.scrub_merge.specs.NewestMap.{id_cmp, value_at, binding_by, binding_in, has_locator, HoldsNewest};
 
 use crate::binding::Binding;
+use crate::cursors::{entry_under, least_under, move_on, newest_with};
 use crate::shard_map::ShardMap;
 use scrub_run::{Entry, OutOfMemory, Run, ShardId};
 use std::alloc::Global;
-use std::collections::BTreeMap;
 
 /// The binding by a copy of an entry.
 fn binding_of(
@@ -23,67 +20,47 @@ fn binding_of(
     number: u32,
     doubtful: bool,
 ) -> Result<Binding, OutOfMemory>
-    ensures { IfOk result (λ b. b ≡ binding_by number doubtful entry.now) }
+    ensures { IfOk result (λ b. b ≡ record { id = entry.now.id; locators = entry.now.locators; run = number; doubtful = doubtful }) }
 {
     let copy = Entry::new(entry.id(), Vec::from_slice(alloc, entry.locators())?);
     Ok(Binding::new(copy, number, doubtful))
 }
 
-/// Binds each identifier of a run that isn't bound yet.
-fn bind_run(
-    alloc: Global,
-    newest: &mut BTreeMap<ShardId, Binding>,
-    run: &Run,
-    number: u32,
-    doubtful: bool,
-) -> Result<(), OutOfMemory>
-    requires { IsOrdered id_cmp newest.old }
-    ensures ordered { OnOk result (IsOrdered id_cmp newest.new) }
-    ensures run { AreEntries run.now }
-    ensures bound { OnOk result ((id : ShardId) →
-        value_at newest.new id ≡ option_or (value_at newest.old id) (binding_in number doubtful id run.now)) }
+/// Whether a run before the one of this number is lost.
+fn is_doubtful(runs: &[Option<Run>], number: usize) -> bool
+    requires { number ≤ length runs.now }
+    ensures { IsTrue result ↔ LostBefore runs.now number }
 {
-    for entry in run.entries() {
-        let id = entry.id();
-        if newest.contains_key(&id) {
-            continue;
-        }
-        let binding = binding_of(alloc, entry, number, doubtful)?;
-        newest.insert(id, binding)?;
-    }
-    Ok(())
+    runs[..number].iter().any(|run| run.is_none())
 }
 
-/// The newest binding of each identifier, the deleted ones too.
-fn newest_bindings(
+/// Binds the least identifier under the cursors by the newest run that has it: appends the binding, if it has a locator.
+fn bind_newest(
     alloc: Global,
     runs: &[Option<Run>],
-) -> Result<BTreeMap<ShardId, Binding>, OutOfMemory>
-    requires { length runs.now < 2 ^ 32 }
-    ensures { IfOk result (HoldsNewest runs.now) }
+    places: &[usize],
+    id: ShardId,
+    bindings: &mut Vec<Binding>,
+) -> Result<(), OutOfMemory>
+    requires few { length runs.now < 2 ^ 32 }
+    requires places { length places.now ≡ length runs.now }
+    requires rising { AreRising runs.now }
+    requires least { IsLeast (left runs.now places.now) id }
+    ensures { OnOk result (IsBound (left runs.now places.now) id bindings.old.items bindings.new.items) }
 {
-    let mut newest = BTreeMap::new(alloc);
-    let mut doubtful = false;
-    for (number, run) in runs.iter().enumerate() {
-        match run {
-            None => doubtful = true,
-            Some(run) => bind_run(alloc, &mut newest, run, number as u32, doubtful)?,
-        }
+    let Some(number) = newest_with(runs, places, id) else {
+        return Ok(());
+    };
+    let Some(entry) = entry_under(&runs[number], places[number]) else {
+        return Ok(());
+    };
+    let doubtful = is_doubtful(runs, number);
+    if entry.locators().is_empty() {
+        return Ok(());
     }
-    Ok(newest)
-}
-
-/// The bindings that have a locator, in order of identifier: what was deleted is taken out.
-fn bound_bindings(
-    alloc: Global,
-    newest: BTreeMap<ShardId, Binding>,
-) -> Result<Vec<Binding>, OutOfMemory>
-    ensures { IfOk result (λ v. v.items ≡ filter has_locator (values newest)) }
-{
-    newest
-        .into_values()
-        .filter(|binding| !binding.locators().is_empty())
-        .collect(alloc)
+    let binding = binding_of(alloc, entry, number as u32, doubtful)?;
+    bindings.push(binding)?;
+    Ok(())
 }
 
 /// The shard map of a list of runs, newest first; `None` is a run that could not be read. A shard whose newest binding
@@ -92,8 +69,12 @@ pub fn merge(alloc: Global, runs: &[Option<Run>]) -> Result<ShardMap, OutOfMemor
     requires { length runs.now < 2 ^ 32 }
     ensures { IfOk result (IsShardMap runs.now) }
 {
-    let newest = newest_bindings(alloc, runs)?;
-    let bindings = bound_bindings(alloc, newest)?;
+    let mut bindings = Vec::new(alloc);
+    let mut places = vec![in alloc; 0; runs.len()]?;
+    while let Some(id) = least_under(runs, &places) {
+        bind_newest(alloc, runs, &places, id, &mut bindings)?;
+        move_on(runs, &mut places, id);
+    }
     Ok(ShardMap::new(bindings))
 }
 

@@ -12,7 +12,7 @@ use Rattle.std.proofs.lemmas.List.Sorted.{searchable_from_sorted}
 use Rattle.scrub_run.specs.declared.shard_id.ShardId.{ShardId}
 use Rattle.scrub_run.specs.Entry.{IsBelow, EntryValue}
 use Rattle.scrub_merge.specs.Binding.{BindingValue}
-use Rattle.scrub_merge.specs.NewestMap.{id_cmp}
+use Rattle.scrub_merge.specs.Cursors.{id_cmp}
 use Rattle.scrub_merge.proofs.Identifiers.{id_cmp_total, id_cmp_exact, itself}
 use Rattle.scrub_check.specs.declared.checked.Checked.{Checked}
 use Rattle.scrub_check.specs.Checked.{AreBrokenShards, is_broken}

@@ -91,7 +91,7 @@ impl ScrubAnswer {
 }
 
 /// The answer of a scrub, from what was chosen, planned and scanned.
-fn answer_of<R, D: PageSource>(
+fn answer_of<R: Threads + Sync, D: PageSource>(
     rt: &R,
     alloc: Global,
     scan: Scan<'_, D>,
@@ -113,8 +113,9 @@ fn answer_of<R, D: PageSource>(
 }
 
 /// Scrubs a disk: which superblock counts, what lies in each planned extent, in the order of their numbers, and what the
-/// index that the superblock names is worth. `rt` is for calls that wait, of which there is none yet.
-pub fn scrub_in_order<R, D: PageSource>(
+/// index that the superblock names is worth. One thread reads the extents; what the locators are worth is found by as many
+/// threads as there are processors.
+pub fn scrub_in_order<R: Threads + Sync, D: PageSource>(
     rt: &R,
     alloc: Global,
     disk: &D,

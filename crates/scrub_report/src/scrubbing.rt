@@ -17,6 +17,7 @@ use scrub_run::ShardId;
 use scrub_scan::AllFindings;
 use scrub_super::{Chosen, Plan};
 use std::alloc::Global;
+use std::thread::Threads;
 
 /// A disk, and what was chosen, planned and scanned of it.
 #[derive(Drop)]
@@ -69,7 +70,7 @@ fn is_in_doubt(chosen: &Chosen, read: &ReadRuns) -> bool
 }
 
 /// What is found on a disk, from what was chosen, planned and scanned.
-pub(crate) fn parts_of<'d, R, D: PageSource>(
+pub(crate) fn parts_of<'d, R: Threads + Sync, D: PageSource>(
     rt: &R,
     alloc: Global,
     scan: Scan<'d, D>,

@@ -1,12 +1,6 @@
--- How a frame is read from its place: as many bytes as its head claims, each page's put behind those before it.
+-- How bytes are read from their place: each page's are put behind those before it.
 use Rattle.std.specs.Prelude.{◌≡◌, ◌<◌, ◌≤◌, ◌+◌, ◌++◌, ℕ, List, Option, length}
-use Rattle.scrub_disk.specs.Image.{Image, AreBytesAt}
-use Rattle.scrub_frame.specs.Frame.{frame_overhead}
-use Rattle.scrub_scan.specs.Extent.{extent_of, FrameAt}
-
--- so many bytes has whatever frame stands at this place, under whichever pointer
-abbrev pub IsClaimedSize : Image → ℕ → ℕ → ℕ → Type 0
-IsClaimedSize image e offset n = (w : ℕ) (u b : List ℕ) → FrameAt (extent_of image e w) offset u b → n ≡ length b + frame_overhead
+use Rattle.scrub_disk.specs.Image.{AreBytesAt}
 
 -- n bytes or more stand at p, and the list has grown by the first n of them, one or more
 pub record AppendsBytesAt (at : ℕ → Option ℕ) (p n : ℕ) (old new : List ℕ) : Type 0 where

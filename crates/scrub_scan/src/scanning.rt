@@ -1,4 +1,4 @@
-//! Scanning planned extents: of each its items, its tail and its unreadable pages, from one reading.
+//! Scanning planned extents: of each its items, its tail and its unreadable pages, read page by page.
 
 ghost use Rattle.std.specs.Prelude.{◌≡◌, ◌≤◌, ◌<◌, Contains, IfOk, Some};
 ghost use Rattle.scrub_disk.specs.Image.{extent_bytes};
@@ -7,12 +7,13 @@ ghost use Rattle.scrub_scan.specs.Scanned.{result_image, scanned};
 ghost use Rattle.scrub_scan.specs.AllFindings.{AreAllFindings};
 
 use crate::all_findings::AllFindings;
-use crate::buffer::ScanBuffer;
 use crate::extent_result::ExtentResult;
 use crate::findings::{Findings, PageNumbers};
-use crate::tail::tail_of;
-use crate::tiling::tile_buffer;
-use scrub_disk::{OutOfMemory, PageSource, unreadable_pages};
+use crate::pages::Target;
+use crate::scanner::Scanner;
+use crate::tail::{Surveyed, survey};
+use crate::tiling::tile_by;
+use scrub_disk::{OutOfMemory, PageSource};
 use scrub_super::Plan;
 use std::alloc::Global;
 
@@ -29,21 +30,21 @@ fn scan_under<'d, D: PageSource>(
     ensures extent { IfOk result (λ r. (scanned r).extent ≡ extent) }
     ensures pointer { IfOk result (λ r. (scanned r).pointer ≡ pointer) }
 {
-    let buffer = ScanBuffer::read(alloc, disk, extent)?;
-    let view = buffer.under(pointer as usize);
-    let items = tile_buffer(alloc, &view)?;
-    let tail = tail_of(&view);
-    let bad_pages = unreadable_pages(alloc, view.readable)?;
+    let target = Target::new(disk, extent, pointer);
+    let mut scanner = Scanner::new(alloc, target.page)?;
+    let items = tile_by(alloc, disk, &target, &mut scanner)?;
+    let Surveyed { tail, bad_pages } = survey(alloc, disk, &target, &mut scanner.pages)?;
     let findings = Findings {
         items,
         tail_count: tail.count,
         tail_first: tail.first,
         bad_pages: PageNumbers { pages: bad_pages },
     };
-    Ok(ExtentResult::new(disk, extent, pointer, findings))
+    Ok(ExtentResult::new(disk, extent, pointer, findings, scanner.pages.asked))
 }
 
-/// What a planned extent of a source's image holds under the plan's write pointer. It reads each page of the extent once.
+/// What a planned extent of a source's image holds under the plan's write pointer. Its result tells how often a page was
+/// asked for.
 pub fn scan_extent<'d, D: PageSource>(
     alloc: Global,
     disk: &'d D,

@@ -1,15 +1,15 @@
 //! The frame at a given place of an extent, without the tiling. Whether an item begins there is left to the crates above.
 
-ghost use Rattle.std.specs.Prelude.{◌≡◌, ◌+◌, ◌<◌, ◌≤◌, ◌^◌, ℕ, List, IfOk, IfSome, IfNone};
+ghost use Rattle.std.specs.Prelude.{◌≡◌, ◌<◌, ◌≤◌, ℕ, List, IfOk, IfSome, IfNone};
 ghost use Rattle.scrub_disk.specs.Image.{Image, extent_bytes};
-ghost use Rattle.scrub_frame.specs.Frame.{head_size, frame_overhead};
 ghost use Rattle.scrub_scan.specs.Extent.{extent_of, FrameAt, NoFrameAt};
 ghost use Rattle.scrub_scan.specs.Standing.{IsStandingAt, Stands, HasPayload};
-ghost use Rattle.scrub_scan.specs.FrameRead.{IsClaimedSize};
 
+use crate::pages::Target;
 use crate::reading::read_bytes;
+use crate::scanner::{Found, Scanner};
 use scrub_disk::{OutOfMemory, PageSource};
-use scrub_frame::{FRAME_OVERHEAD, HEAD_BYTES, digest_of, read_frame, read_head};
+use scrub_frame::HEAD_BYTES;
 use std::alloc::Global;
 use uuid::Uuid;
 
@@ -28,32 +28,6 @@ pub struct Standing {
     pub digest: [u8; 32],
 }
 
-/// The bytes that a head at a place claims for its frame, where the magic stands there and all of the head can be read.
-fn claimed_size<D: PageSource>(
-    alloc: Global,
-    disk: &D,
-    extent: u32,
-    offset: u32,
-) -> Result<Option<usize>, OutOfMemory>
-    requires in_extents { extent < (D.image disk.now).geometry.extents }
-    requires in_extent { offset + head_size ≤ extent_bytes (D.image disk.now).geometry }
-    ensures claimed { IfOk result (λ size. IfSome size (IsClaimedSize (D.image disk.now) extent offset)) }
-    ensures none { IfOk result (λ size. IfNone size ((w : ℕ) → NoFrameAt (extent_of (D.image disk.now) extent w) offset)) }
-    ensures some { IfOk result (λ size. IfSome size (λ n. frame_overhead ≤ n)) }
-    ensures small { IfOk result (λ size. IfSome size (λ n. n < 2 ^ 33)) }
-{
-    let Some(bytes) = read_bytes(alloc, disk, extent, offset as usize, HEAD_BYTES)? else {
-        return Ok(None);
-    };
-    let Some(head) = bytes.first_chunk::<HEAD_BYTES>() else {
-        return Ok(None);
-    };
-    match read_head(head) {
-        Some(head) => Ok(Some(head.length as usize + FRAME_OVERHEAD)),
-        None => Ok(None),
-    }
-}
-
 /// The frame that stands at a place of an extent: it ends at or before the pointer, and every byte of it can be read.
 /// Places are bytes of the extent. Only the pages that the frame claims are read.
 pub fn frame_stands<D: PageSource>(
@@ -69,26 +43,26 @@ pub fn frame_stands<D: PageSource>(
     ensures found { IfOk result (λ found. IfSome found (IsStandingAt (D.image disk.now) pointer extent offset)) }
     ensures none { IfOk result (λ found. IfNone found (NoFrameAt (extent_of (D.image disk.now) extent pointer) offset)) }
 {
-    if (offset as usize) + FRAME_OVERHEAD > pointer as usize {
+    if offset >= pointer {
         return Ok(None);
     }
-    let Some(size) = claimed_size(alloc, disk, extent, offset)? else {
-        return Ok(None);
-    };
-    if offset as usize + size > pointer as usize {
-        return Ok(None);
-    }
-    let Some(bytes) = read_bytes(alloc, disk, extent, offset as usize, size)? else {
-        return Ok(None);
-    };
-    match read_frame(&bytes) {
-        Some(frame) => Ok(Some(Standing {
-            extent,
-            offset,
-            uuid: frame.uuid,
-            length: frame.length,
-            digest: digest_of(&bytes[HEAD_BYTES..HEAD_BYTES + frame.length as usize]),
-        })),
+    let target = Target::new(disk, extent, pointer);
+    let mut scanner = Scanner::new(alloc, target.page)?;
+    match scanner.frame_at(disk, &target, offset as usize) {
+        Some(found) => {
+            let Found {
+                uuid,
+                length,
+                digest,
+            } = found;
+            Ok(Some(Standing {
+                extent,
+                offset,
+                uuid,
+                length,
+                digest,
+            }))
+        }
         None => Ok(None),
     }
 }

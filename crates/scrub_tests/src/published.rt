@@ -9,10 +9,11 @@ use scrub_fakes::{ENDS_IN_MAGIC, SHARD, abc_at, mark_bad, run_of, small_disk};
 use std::alloc::Global;
 use std::process::Abort;
 use std::test::Fail;
+use std::thread::Threads;
 
 /// Compares the report and the index of a disk, and whether it is clean.
 fn check(
-    rt: &impl Abort,
+    rt: &(impl Abort + Threads + Sync),
     alloc: Global,
     disk: &MemDisk,
     report: &str,

@@ -12,10 +12,11 @@ use scrub_report::ScrubAnswer;
 use std::alloc::Global;
 use std::process::Abort;
 use std::test::Fail;
+use std::thread::Threads;
 
 /// Requires that a disk is clean or not, and that its report has these pieces.
 fn check(
-    rt: &impl Abort,
+    rt: &(impl Abort + Threads + Sync),
     alloc: Global,
     disk: &MemDisk,
     is_clean: bool,

@@ -12,6 +12,7 @@ use scrub_report::{ScrubAnswer, ScrubFault, scrub_in_order};
 use scrub_scan::scan_in_order;
 use std::alloc::Global;
 use std::test::Fail;
+use std::thread::Threads;
 
 /// What a locator is worth on a disk.
 pub(crate) fn judge(alloc: Global, disk: &MemDisk, locator: &Locator) -> Result<Status, Fail> {
@@ -21,7 +22,11 @@ pub(crate) fn judge(alloc: Global, disk: &MemDisk, locator: &Locator) -> Result<
 }
 
 /// What the scrub of a disk by one reader answers.
-pub(crate) fn scrubbed<R>(rt: &R, alloc: Global, disk: &MemDisk) -> Result<ScrubAnswer, Fail> {
+pub(crate) fn scrubbed<R: Threads + Sync>(
+    rt: &R,
+    alloc: Global,
+    disk: &MemDisk,
+) -> Result<ScrubAnswer, Fail> {
     match scrub_in_order(rt, alloc, disk) {
         Ok(answer) => Ok(answer),
         Err(ScrubFault::OutOfMemory) => Err(Fail::from("out of memory")),
@@ -39,7 +44,11 @@ pub(crate) struct Lists {
 }
 
 /// The locators that a disk names, with what they are worth.
-pub(crate) fn checked_of<R>(rt: &R, alloc: Global, disk: &MemDisk) -> Result<Vec<Checked>, Fail> {
+pub(crate) fn checked_of<R: Threads + Sync>(
+    rt: &R,
+    alloc: Global,
+    disk: &MemDisk,
+) -> Result<Vec<Checked>, Fail> {
     let plan = plan_of(alloc, disk)?;
     let all = scan_in_order(alloc, disk, &plan)?;
     let read = read_runs(alloc, disk, &plan, &all)?;
@@ -49,7 +58,11 @@ pub(crate) fn checked_of<R>(rt: &R, alloc: Global, disk: &MemDisk) -> Result<Vec
 }
 
 /// The lists that are told of a disk.
-pub(crate) fn lists_of<R>(rt: &R, alloc: Global, disk: &MemDisk) -> Result<Lists, Fail> {
+pub(crate) fn lists_of<R: Threads + Sync>(
+    rt: &R,
+    alloc: Global,
+    disk: &MemDisk,
+) -> Result<Lists, Fail> {
     let plan = plan_of(alloc, disk)?;
     let all = scan_in_order(alloc, disk, &plan)?;
     let checked = checked_of(rt, alloc, disk)?;

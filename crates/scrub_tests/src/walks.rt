@@ -21,6 +21,7 @@ use std::alloc::Global;
 use std::cmp::Reverse;
 use std::process::Abort;
 use std::test::Fail;
+use std::thread::Threads;
 
 /// The chunks of a disk, by extent and then start.
 fn walk_chunks(alloc: Global, all: &AllFindings<'_, MemDisk>) -> Result<Vec<Place>, Fail> {
@@ -232,7 +233,7 @@ fn check_starts(
 }
 
 /// Compares the lists of a disk with what the walks find.
-fn check(rt: &impl Abort, alloc: Global, disk: &MemDisk) -> Result<(), Fail> {
+fn check(rt: &(impl Abort + Threads + Sync), alloc: Global, disk: &MemDisk) -> Result<(), Fail> {
     let plan = plan_of(alloc, disk)?;
     let all = scan_in_order(alloc, disk, &plan)?;
     let checked = checked_of(rt, alloc, disk)?;
@@ -283,7 +284,11 @@ fn copy_page(
 }
 
 /// Compares the lists of a disk, and of each disk that has one more page unreadable, with what the walks find.
-fn check_each(rt: &impl Abort, alloc: Global, disk: &MemDisk) -> Result<(), Fail> {
+fn check_each(
+    rt: &(impl Abort + Threads + Sync),
+    alloc: Global,
+    disk: &MemDisk,
+) -> Result<(), Fail> {
     check(rt, alloc, disk)?;
     let geometry = disk.geometry();
     for extent in 0..geometry.extents() {

@@ -1,0 +1,32 @@
+-- What many threads collect, where each piece is there.
+use Rattle.std.proofs.Common.{◌≡◌, List, [], ◌∷◌, map, Option, Some, None, IfSome, Result, Ok, Err, IfOk, MatchResult, sym, subst, All}
+use Rattle.std.specs.List.{AllZip, Contains, filter_map}
+use Rattle.std.proofs.lemmas.List.Elements.{All-nil, All-cons}
+
+zipped : (X T E : Type 0) (R : X → T → Type 0) (xs : List X) (ys : List T) → AllZip (λ (x : X) (r : Result T E). IfOk r (R x)) xs (map Ok ys) → AllZip R xs ys
+zipped X T E R [] [] h = tt
+zipped X T E R [] (y ∷ ys) h = absurd h
+zipped X T E R (x ∷ xs) [] h = absurd h
+zipped X T E R (x ∷ xs) (y ∷ ys) h = (h.0, zipped X T E R xs ys h.1)
+
+-- what was tried of each element is collected, or one of them wasn't there
+pub collected : {X T E V : Type 0} (items : V → List T) (R : X → T → Type 0) (xs : List X) (tried : List (Result T E)) (r : Result V E) → AllZip (λ (x : X) (t : Result T E). IfOk t (R x)) xs tried →
+    MatchResult r (λ v. (ys : List T) × (tried ≡ map Ok ys) × (items v ≡ ys)) (λ e. Contains tried (Err e)) → IfOk r (λ v. AllZip R xs (items v))
+collected {X} {T} {E} items R xs tried (Ok v) each is =
+    subst (λ (ys : List T). AllZip R xs ys) (sym is.2) (zipped X T E R xs is.0 (subst (λ (rs : List (Result T E)). AllZip (λ (x : X) (t : Result T E). IfOk t (R x)) xs rs) is.1 each))
+collected items R xs tried (Err e) each is = tt
+
+-- what holds of each result, whatever it was made of
+pub all_zipped : {X T : Type 0} (P : T → Type 0) (xs : List X) (ys : List T) → AllZip (λ x y. P y) xs ys → All P ys
+all_zipped P [] [] h = All-nil P
+all_zipped P [] (y ∷ ys) h = absurd h
+all_zipped P (x ∷ xs) [] h = absurd h
+all_zipped P (x ∷ xs) (y ∷ ys) h = All-cons P y ys h.0 (all_zipped P xs ys h.1)
+
+-- and of each one that is there
+pub all_there : {X T : Type 0} (P : T → Type 0) (xs : List X) (os : List (Option T)) → AllZip (λ x o. IfSome o P) xs os → All P (filter_map (λ o. o) os)
+all_there P [] [] h = All-nil P
+all_there P [] (o ∷ os) h = absurd h
+all_there P (x ∷ xs) [] h = absurd h
+all_there P (x ∷ xs) (None ∷ os) h = all_there P xs os h.1
+all_there P (x ∷ xs) (Some y ∷ os) h = All-cons P y (filter_map (λ o. o) os) h.0 (all_there P xs os h.1)

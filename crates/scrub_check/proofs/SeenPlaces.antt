@@ -1,0 +1,22 @@
+-- Looks at places, and the search for one.
+use Rattle.std.proofs.Common.{◌≡◌, ℕ, List, get_or, Result, Ok, Err, Some, All, sym, ◌∙◌, ap}
+use Rattle.std.specs.declared.cmp.Ordering.{Ordering}
+use Rattle.std.specs.List.Sorted.{IsBinarySearchResult}
+use Rattle.std.specs.Result.{result_ok}
+use Rattle.std.proofs.lemmas.List.Elements.{All-contains, Contains-get_or}
+use Rattle.scrub_check.specs.declared.sound_starts.Start.{Start}
+use Rattle.scrub_check.specs.declared.looks.Look.{Look}
+use Rattle.scrub_check.specs.Distinct.{AreDistinct}
+use Rattle.scrub_check.specs.SoundStarts.{start_cmp}
+use Rattle.scrub_check.proofs.SortedStarts.{start_exact}
+
+-- what holds of each place holds of each that is left once
+pub all_once : {X : Type 0} {R : X → X → Ordering} (P : X → Type 0) (xs once : List X) → AreDistinct R xs once → All P xs → All P once
+all_once P xs once d h k e lt = All-contains P xs (get_or once k e) h ((d.same (get_or once k e)).0 (Contains-get_or once k e lt))
+
+-- a look that a search finds is at the place
+pub look_found : (looks : List Look) (s : Start) (r : Result ℕ ℕ) (i : ℕ) (look : Look) → result_ok r ≡ Some i → IsBinarySearchResult (λ look. start_cmp look.start s) looks r → look ≡ get_or looks i look → look.start ≡ s
+look_found looks s (Ok j) i look is found at =
+    let same : j ≡ i = cc in
+    ap (λ x. x.start) at ∙ sym (ap (λ n. (get_or looks n look).start) same) ∙ start_exact (get_or looks j look).start s (found look)
+look_found looks s (Err j) i look is found at = absurd cc

@@ -1,0 +1,14 @@
+-- Whatever is bound by what is left, behind the bindings so far it is the shard map; and ever less is left.
+use Rattle.std.proofs.Common.{◌≡◌, length}
+use Rattle.scrub_merge.specs.Cursors.{left, Continues}
+use Rattle.scrub_merge.proofs.Left.{entries_left}
+use Rattle.scrub_merge.proofs.merging.merge.Given as goal
+
+abbrev pub invariant-loop-id : goal.invariant-loop-id
+invariant-loop-id l = record {
+  places : length l.places.items ≡ length l.runs;
+  continues : Continues l.runs (left l.runs l.places.items) l.bindings.items;
+}
+
+abbrev pub decreases-loop-id : goal.decreases-loop-id
+decreases-loop-id l = entries_left (left l.runs l.places.items)

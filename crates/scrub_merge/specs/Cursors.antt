@@ -1,0 +1,90 @@
+-- Cursors over index runs, one for each: what they have not passed yet, what stands under them, and how they move on.
+use Rattle.std.specs.Prelude.{◌≡◌, ◌+◌, ◌<◌, ◌++◌, ℕ, zero, suc, Bool, false, cond, Option, Some, None, List, [], ◌∷◌, length, drop, filter, not, ◌==◌, slice_get}
+use Rattle.std.specs.Option.{option_map}
+use Rattle.std.specs.Cmp.Lexicographic.{slice_cmp}
+use Rattle.std.specs.declared.cmp.Ordering.{Ordering}
+use Rattle.std.specs.Ordering.{nat_cmp, is_eq}
+use Rattle.scrub_run.specs.declared.shard_id.ShardId.{ShardId}
+use Rattle.scrub_run.specs.Entry.{EntryValue, IsBelow}
+use Rattle.scrub_run.specs.Run.{RisesById}
+use Rattle.scrub_merge.specs.Binding.{BindingValue, Runs, IsNewestBinding}
+use Rattle.scrub_merge.specs.ShardMap.{IsShardMap}
+
+-- identifiers in the order of their bytes
+abbrev pub id_cmp : ShardId → ShardId → Ordering
+id_cmp a b = slice_cmp nat_cmp a.0 b.0
+
+-- a binding that doesn't say that its shard was deleted
+abbrev pub has_locator : BindingValue → Bool
+has_locator b = not (length b.locators == 0)
+
+-- the entry at a place of a run: none in a lost run, none behind the last entry
+abbrev pub entry_at : Option (List EntryValue) → ℕ → Option EntryValue
+entry_at None place = None
+entry_at (Some entries) place = slice_get entries place
+
+-- whether it has this identifier
+abbrev pub has_id : ShardId → Option EntryValue → Bool
+has_id id None = false
+has_id id (Some e) = is_eq (id_cmp e.id id)
+
+-- what each run has from the place of its cursor on
+abbrev pub left : Runs → List ℕ → Runs
+left [] places = []
+left (run ∷ runs) [] = run ∷ left runs []
+left (run ∷ runs) (place ∷ places) = option_map (drop place) run ∷ left runs places
+
+-- where the cursor of a run stands once it was moved on past an identifier
+abbrev pub place_behind : ShardId → Option (List EntryValue) → ℕ → ℕ
+place_behind id run place = cond (has_id id (entry_at run place)) (place + 1) place
+
+-- where all of them stand then
+abbrev pub places_behind : ShardId → Runs → List ℕ → List ℕ
+places_behind id [] places = places
+places_behind id (run ∷ runs) [] = []
+places_behind id (run ∷ runs) (place ∷ places) = place_behind id run place ∷ places_behind id runs places
+
+-- the entry that stands first in the run of this number
+abbrev pub first_of : Runs → ℕ → Option EntryValue
+first_of [] number = None
+first_of (run ∷ runs) zero = entry_at run 0
+first_of (run ∷ runs) (suc number) = first_of runs number
+
+-- an identifier stands first in a run, and no lesser one does
+pub record IsLeast (runs : Runs) (id : ShardId) : Type 0 where
+  pub number : ℕ
+  pub entry : EntryValue
+  pub stands : first_of runs number ≡ Some entry
+  pub own : entry.id ≡ id
+  pub least : (k : ℕ) (e : EntryValue) → first_of runs k ≡ Some e → IsBelow e.id id → ⊥
+
+-- the newest run in which an identifier stands first
+pub record IsFirstWith (runs : Runs) (id : ShardId) (number : ℕ) : Type 0 where
+  pub entry : EntryValue
+  pub stands : first_of runs number ≡ Some entry
+  pub own : entry.id ≡ id
+  pub newest : (k : ℕ) (e : EntryValue) → k < number → first_of runs k ≡ Some e → e.id ≡ id → ⊥
+
+-- an identifier is at most another
+abbrev pub IsAtMost : Option ShardId → ShardId → Type 0
+IsAtMost None id = ⊥
+IsAtMost (Some least) id = IsBelow id least → ⊥
+
+-- no run has an entry
+abbrev pub AreEmpty : Runs → Type 0
+AreEmpty runs = (k : ℕ) → first_of runs k ≡ None
+
+-- the identifiers of each run rise
+abbrev pub AreRising : Runs → Type 0
+AreRising runs = (k : ℕ) (entries : List EntryValue) → slice_get runs k ≡ Some (Some entries) → RisesById entries
+
+-- whatever is bound by what is left, behind the bindings so far it is the shard map of the runs
+abbrev pub Continues : Runs → Runs → List BindingValue → Type 0
+Continues runs rest so_far = (later : List BindingValue) → IsShardMap rest later → IsShardMap runs (so_far ++ later)
+
+-- an identifier was bound over what is left: its newest binding is the next of all, where that has a locator
+pub record IsBound (rest : Runs) (id : ShardId) (old new : List BindingValue) : Type 0 where
+  pub binding : BindingValue
+  pub newest : IsNewestBinding rest binding
+  pub own : binding.id ≡ id
+  pub appended : new ≡ old ++ filter has_locator (binding ∷ [])

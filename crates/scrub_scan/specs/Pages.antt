@@ -1,0 +1,92 @@
+-- Two pages of an extent in buffers, and what is scanned through them.
+use Rattle.std.specs.Prelude.{◌≡◌, ◌<◌, ◌≤◌, ◌+◌, ◌-◌, ◌/◌, ◌⊎◌, ℕ, List, Some, None, IfSome, if◌then◌else◌, nat_lt, length}
+use Rattle.scrub_disk.specs.Image.{Image, extent_bytes, AreBytesAt}
+use Rattle.sha2.specs.Sha256.{sha256}
+use Rattle.scrub_scan.specs.declared.pages.HeldPage.{HeldPage}
+use Rattle.scrub_scan.specs.declared.pages.TwoPages.{TwoPages}
+use Rattle.scrub_scan.specs.declared.pages.Target.{Target}
+use Rattle.scrub_scan.specs.declared.scanner.Scanner.{Scanner}
+use Rattle.scrub_scan.specs.declared.scanner.Found.{Found}
+use Rattle.scrub_frame.specs.Frame.{head, frame_overhead}
+use Rattle.scrub_frame.specs.declared.matcher.Matcher.{Matcher}
+use Rattle.scrub_frame.specs.declared.matcher.Fed.{Fed}
+use Rattle.scrub_frame.specs.declared.matcher.Fed.TheVariants.{More, Whole, No}
+use Rattle.scrub_frame.specs.Matching.{StandsFor, NoFrameYet}
+use Rattle.scrub_scan.specs.Extent.{Extent, extent_of, FrameAt, NoFrameAt}
+
+-- the buffer has page q of extent e, or the page can't be read
+pub record HasPage (image : Image) (e q : ℕ) (h : HeldPage) : Type 0 where
+  pub in_pages : q < image.geometry.pages
+  pub content : image.page e q ≡ (if h.readable then Some h.bytes.items else None)
+
+-- the buffer is a page long, and has the page that it says
+pub record Holds (image : Image) (e : ℕ) (h : HeldPage) : Type 0 where
+  pub size : length h.bytes.items ≡ image.geometry.page
+  pub page : IfSome h.number (λ q. HasPage image e q h)
+
+-- so do both
+pub record HoldBoth (image : Image) (e : ℕ) (p : TwoPages) : Type 0 where
+  pub size : p.page ≡ image.geometry.page
+  pub near : Holds image e p.near
+  pub far : Holds image e p.far
+
+-- one of them says page q
+abbrev pub Reaches : TwoPages → ℕ → Type 0
+Reaches p q = (p.near.number ≡ Some q) ⊎ (p.far.number ≡ Some q)
+
+-- the source was asked n times at most, and once more where page q is the near one
+pub record AskedBy (p : TwoPages) (q n : ℕ) : Type 0 where
+  pub most : p.asked ≤ n + 1
+  pub unread : (p.near.number ≡ Some q → ⊥) → p.asked ≤ n
+
+-- an extent of the image, and a pointer into it
+pub record IsTarget (image : Image) (t : Target) : Type 0 where
+  pub in_extents : t.extent < image.geometry.extents
+  pub page : t.page ≡ image.geometry.page
+  pub in_extent : t.pointer ≤ extent_bytes image.geometry
+
+-- the page of the last byte of a frame at p whose payload has n bytes
+abbrev pub last_page : Target → ℕ → ℕ → ℕ
+last_page t p n = (p + n + frame_overhead - 1) / t.page
+
+-- what a frame costs beside its first page g, where its last is page b: nothing where these are one
+abbrev pub frame_cost : ℕ → ℕ → ℕ
+frame_cost g b = if nat_lt g b then 4 + (b - g) else 0
+
+-- the extent under that pointer
+abbrev pub target_of : Image → Target → Extent
+target_of image t = extent_of image t.extent t.pointer
+
+-- the scanner has pages of the extent, and what it takes for an unreadable page is one
+pub record Scans (image : Image) (t : Target) (s : Scanner) : Type 0 where
+  pub pages : HoldBoth image t.extent s.pages
+  pub gap : IfSome s.gap (λ q. image.page t.extent q ≡ None)
+
+-- a frame with these fields stands at p
+pub record IsFound (x : Extent) (p : ℕ) (f : Found) : Type 0 where
+  pub payload : List ℕ
+  pub frame : FrameAt x p f.uuid payload
+  pub size : f.length ≡ length payload
+  pub digest : f.digest ≡ sha256 payload
+
+-- the matcher was fed the bytes of the extent from start up to place, and no frame ends among them
+pub record Passes (x : Extent) (start place : ℕ) (m : Matcher) : Type 0 where
+  pub bytes : List ℕ
+  pub stands : AreBytesAt x.byte start bytes
+  pub here : start + length bytes ≡ place
+  pub fed : StandsFor m (x.pointer - start) bytes
+  pub none : NoFrameYet bytes
+
+-- what an answer says, once the bytes up to stop were fed too
+abbrev pub IsPassed : Extent → ℕ → ℕ → Matcher → Fed → Type 0
+IsPassed x start stop m More = Passes x start stop m × (stop < x.pointer)
+IsPassed x start stop m (Whole used u n d) = IsFound x start (record { uuid = u; length = n; digest = d })
+IsPassed x start stop m No = NoFrameAt x start
+
+-- a head stands at p whose frame would end at or before the pointer, and its UUID stands once more where that would end
+pub record Claims (x : Extent) (p : ℕ) : Type 0 where
+  pub uuid : List ℕ
+  pub size : ℕ
+  pub head_stands : AreBytesAt x.byte p (head uuid size)
+  pub fits : p + size + frame_overhead ≤ x.pointer
+  pub close : AreBytesAt x.byte (p + (size + frame_overhead) - 16) uuid
