@@ -12,13 +12,14 @@ import sys
 import tempfile
 from collections import Counter
 sys.path.insert(0, os.path.dirname(os.path.abspath(__file__)))
-from reference import Image, MAGIC, scrub, report_text, sha, write_locator, write_run
+from reference import Image, MAGIC, PLAIN, SEALED, scrub, report_text, sha, write_locator, write_run
 
 DIFFERENCE = os.path.join(tempfile.gettempdir(), "hold-difference")
 
 
-def frame(u, b):
-    return MAGIC + u + len(b).to_bytes(4, "big") + b + u
+def frame(u, b, form=PLAIN):
+    seal = sha(b) if form.seal else b""
+    return form.magic + u + len(b).to_bytes(4, "big") + seal + b + u + form.mark
 
 
 class Made:
@@ -59,10 +60,11 @@ class Made:
                 if c.random() < .5:
                     self.known.append(self.locator(e, w, over, v))
                 w = bound
-        if w + len(b) + 38 > self.size:
+        t = frame(u, b, c.choice([PLAIN, PLAIN, SEALED]))
+        if w + len(t) > self.size:
             return None
-        self.put(e, w, frame(u, b))
-        self.w[e - 1] = max(self.w[e - 1], w + len(b) + 38)
+        self.put(e, w, t)
+        self.w[e - 1] = max(self.w[e - 1], w + len(t))
         return self.locator(e, w, b, u)
 
     def spoilt(self, l):

@@ -10,6 +10,8 @@ from hashlib import sha256
 from pathlib import Path
 
 MAGIC = b"\xc5\x5e"
+SEALED_MAGIC = b"\xc5\x5f"
+CLOSING_MARK = b"\x3a\xa3"
 PAGE = 64
 
 
@@ -29,6 +31,10 @@ def shard(number):
 
 def frame(name, payload):
     return MAGIC + name + be(4, len(payload)) + payload + name
+
+
+def sealed_frame(name, payload):
+    return SEALED_MAGIC + name + be(4, len(payload)) + sha256(payload).digest() + payload + name + CLOSING_MARK
 
 
 def sealed(body):
@@ -55,10 +61,10 @@ class Disk:
         assert offset + len(text) <= PAGE * self.pages
         self.bytes[place:place + len(text)] = text
 
-    def chunk(self, extent, offset, name, payload):
+    def chunk(self, extent, offset, name, payload, form=frame):
         """Puts a chunk there, moves the write pointer behind it, and returns its locator."""
-        self.put(extent, offset, frame(name, payload))
-        self.pointers[extent - 1] = max(self.pointers[extent - 1], offset + len(frame(name, payload)))
+        self.put(extent, offset, form(name, payload))
+        self.pointers[extent - 1] = max(self.pointers[extent - 1], offset + len(form(name, payload)))
         return be(4, extent) + be(4, offset) + be(4, len(payload)) + name + sha256(payload).digest()
 
     def superblock(self, page, generation, *runs):
@@ -105,6 +111,15 @@ def collision():
     return disk
 
 
+def closed_collision():
+    """The same with a sealed chunk of 130 bytes as the first: what the crash lost is its closing mark."""
+    disk = Disk(4, 3)
+    disk.chunk(1, 0, b"\x33" * 14 + MAGIC, b"x" * 58, sealed_frame)
+    chunk = disk.chunk(1, 128, uuid(0x11), b"abc")
+    disk.superblock(0, 1, disk.chunk(2, 0, uuid(0x22), run((shard(1), [chunk]))))
+    return disk
+
+
 def lost_run():
     """The newer of two runs, which deletes shard 1 and tells nothing else, is damaged in one bit."""
     disk = Disk(4, 4)
@@ -142,7 +157,7 @@ def several_findings():
     return disk
 
 
-IMAGES = (one_chunk, one_shard, no_superblock, collision, lost_run, twins, several_findings)
+IMAGES = (one_chunk, one_shard, no_superblock, collision, closed_collision, lost_run, twins, several_findings)
 
 
 def main(arguments):

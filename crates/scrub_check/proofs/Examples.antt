@@ -3,6 +3,7 @@ use Rattle.std.proofs.Common.{◌≡◌, ◌≢◌, ◌<◌, ◌≤◌, ◌+◌,
 use Rattle.std.proofs.lemmas.List.Elements.{All-cons, All-nil}
 use Rattle.sha2.specs.Sha256.{sha256}
 use Rattle.scrub_disk.specs.Image.{Image, byte, AreBytesAt, extent_bytes}
+use Rattle.scrub_frame.specs.declared.form.Form.TheVariants.{Plain}
 use Rattle.scrub_frame.specs.Frame.{frame}
 use Rattle.scrub_frame.specs.declared.locator.Locator.{Locator}
 use Rattle.scrub_scan.specs.declared.item.Item.TheVariants.{Chunk}
@@ -38,13 +39,13 @@ record HoldsAbc (image : Image) : Type 0 where
   page : image.geometry.page ≡ 64
   pages : image.geometry.pages ≡ 4
   extents : image.geometry.extents ≡ 3
-  stands : AreBytesAt (byte image 1) 0 (frame ones abc)
+  stands : AreBytesAt (byte image 1) 0 (frame Plain ones abc)
 
 -- a locator of the start of an extent
 abbrev start_of_extent : ℕ → ℕ → List ℕ → List ℕ → Locator
 start_of_extent e n u d = record { extent = e; offset = 0; length = n; uuid = u; digest = d }
 
-stands : (image : Image) (w : ℕ) → HoldsAbc image → 41 ≤ w → FrameAt (extent_of image 1 w) 0 ones abc
+stands : (image : Image) (w : ℕ) → HoldsAbc image → 41 ≤ w → FrameAt (extent_of image 1 w) 0 Plain ones abc
 unfolding ones abc
 stands image w a h = record {
   has_frame = record { sixteen = refl; short = lit< tt };
@@ -67,6 +68,7 @@ finds image n u d a h = record {
     below = omega (arith, h);
     readable = λ gap. readable gap.place (omega (arith, gap.high, h)) gap.unreadable;
   };
+  form = Plain;
   frame = stands image 41 a (omega arith);
 }
   where
@@ -76,9 +78,9 @@ finds image n u d a h = record {
     readable : (i : ℕ) → i < 41 → byte image 1 i ≡ None → ⊥
     readable i low none =
         let at : 0 + i ≡ i = omega arith in
-        let there : byte image 1 (0 + i) ≡ Some (slice_index (frame ones abc) i) = a.stands i (omega (arith, low)) in
-        let same : Some (slice_index (frame ones abc) i) ≡ None = sym there ∙ ap (byte image 1) at ∙ none in
-        some_not_none (slice_index (frame ones abc) i) same
+        let there : byte image 1 (0 + i) ≡ Some (slice_index (frame Plain ones abc) i) = a.stands i (omega (arith, low)) in
+        let same : Some (slice_index (frame Plain ones abc) i) ≡ None = sym there ∙ ap (byte image 1) at ∙ none in
+        some_not_none (slice_index (frame Plain ones abc) i) same
 
 in_extent_0 : (image : Image) (d : List ℕ) → HasStatus image 41 (start_of_extent 0 3 ones d) OutOfRange
 in_extent_0 image d h = omega (arith, h.from_one)
@@ -105,13 +107,13 @@ sound : (image : Image) → HoldsAbc image → HasStatus image 41 (start_of_exte
 unfolding abc
 sound image a = (
   record { payload = abc; found = finds image 3 ones (sha256 abc) a (omega arith); length = refl; digest = refl },
-  record { items = Chunk 0 41 ones 3 (sha256 abc) ∷ []; tiled = tiled; begins = (0, omega arith, refl) },
+  record { items = Chunk Plain 0 41 ones 3 (sha256 abc) ∷ []; tiled = tiled; begins = (0, omega arith, refl) },
 )
   where
-    tiled : IsTiling (extent_of image 1 41) (Chunk 0 41 ones 3 (sha256 abc) ∷ [])
+    tiled : IsTiling (extent_of image 1 41) (Chunk Plain 0 41 ones 3 (sha256 abc) ∷ [])
     tiled = record {
       joined = (refl, refl);
-      each = All-cons (IsItem (extent_of image 1 41)) (Chunk 0 41 ones 3 (sha256 abc)) [] (record {
+      each = All-cons (IsItem (extent_of image 1 41)) (Chunk Plain 0 41 ones 3 (sha256 abc)) [] (record {
         below = lit< tt;
         fits = (refl, (abc, record { frame = stands image 41 a (omega arith); length = refl; stop = refl; digest_is = refl }));
       }) (All-nil (IsItem (extent_of image 1 41)));

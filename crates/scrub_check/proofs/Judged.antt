@@ -4,7 +4,7 @@ use Rattle.std.specs.List.{Contains}
 use Rattle.std.proofs.lemmas.List.{get_or-map}
 use Rattle.std.proofs.lemmas.List.Elements.{All-get_or}
 use Rattle.scrub_disk.specs.Image.{Image, unreadable_pages, HasWholePages}
-use Rattle.scrub_frame.specs.Frame.{frame_overhead}
+use Rattle.scrub_frame.specs.Frame.{least_overhead}
 use Rattle.scrub_frame.specs.declared.locator.Locator.{Locator}
 use Rattle.scrub_super.specs.Plan.{PlanValue, pointer_of}
 use Rattle.scrub_scan.specs.declared.standing.Standing.{Standing}
@@ -30,15 +30,15 @@ pub record OnPages (image : Image) (l : Locator) (page first last : ℕ) : Type 
   pub from : first ≡ l.offset / page
   pub upto : last ≡ (end_of l - 1) / page
 
-last_byte : (l : Locator) → end_of l - 1 ≡ l.offset + (l.length + frame_overhead) - 1
+last_byte : (l : Locator) → end_of l - 1 ≡ l.offset + (l.length + least_overhead) - 1
 last_byte l = omega arith
 
 pub unreadable : (image : Image) (l : Locator) (page first last : ℕ) → HasWholePages image → InRange image.geometry l → OnPages image l page first last →
     LiesBetween (unreadable_pages image l.extent) first last ↔ HasUnreadableByte image l
 unreadable image l page first last whole in_range on =
     let upto = on.upto ∙ ap (λ n. n / page) (last_byte l) in (
-      λ there. gap_pages image l.extent l.offset (l.length + frame_overhead) page first last whole in_range.in_disk (omega (arith, in_range.in_extent)) (omega arith) on.size on.from upto there,
-      λ gap. pages_gap image l.extent l.offset (l.length + frame_overhead) page first last whole in_range.in_disk (omega (arith, in_range.in_extent)) (omega arith) on.size on.from upto gap,
+      λ there. gap_pages image l.extent l.offset (l.length + least_overhead) page first last whole in_range.in_disk (omega (arith, in_range.in_extent)) (omega arith) on.size on.from upto there,
+      λ gap. pages_gap image l.extent l.offset (l.length + least_overhead) page first last whole in_range.in_disk (omega (arith, in_range.in_extent)) (omega arith) on.size on.from upto gap,
     )
 
 -- what a clause says of the value that there is
@@ -53,9 +53,10 @@ at_none P o is h = subst (λ r. IfNone r P) is h
 finds : (image : Image) (w : ℕ) (l : Locator) (s : Standing) (u : List ℕ) → CanStand image w l → (h : IsStandingAt image w l.extent l.offset s) → s.uuid ≡ u → FindsFrame image w l u h.payload
 finds image w l s u can h uuid = record {
   can = can;
-  frame = subst (λ (v : List ℕ). FrameAt (extent_of image l.extent w) l.offset v h.payload) uuid
-      (subst (λ (o : ℕ). FrameAt (extent_of image l.extent w) o s.uuid h.payload) h.at_offset
-      (subst (λ (e : ℕ). FrameAt (extent_of image e w) s.offset s.uuid h.payload) h.in_extent h.frame.frame));
+  form = s.form;
+  frame = subst (λ (v : List ℕ). FrameAt (extent_of image l.extent w) l.offset s.form v h.payload) uuid
+      (subst (λ (o : ℕ). FrameAt (extent_of image l.extent w) o s.form s.uuid h.payload) h.at_offset
+      (subst (λ (e : ℕ). FrameAt (extent_of image e w) s.offset s.form s.uuid h.payload) h.in_extent h.frame.frame));
 }
 
 names_chunk : (image : Image) (w : ℕ) (l : Locator) (s : Standing) → CanStand image w l → IsStandingAt image w l.extent l.offset s → Agrees l s → NamesChunk image w l
@@ -91,8 +92,8 @@ judged_status image w l (Some s) agreeing status can there chunk (inr judged) = 
 
 -- what an item that begins there tells
 item_there : (image : Image) (w : ℕ) (l : Locator) (item : Item) → IsItem (extent_of image l.extent w) item → start_of item ≡ l.offset → IsFoundThere image w l (frame_of_item l.extent item)
-item_there image w l (Chunk start stop u n digest) h at =
-    let chunk : IsChunk (extent_of image l.extent w) start stop n u digest h.fits.1.0 = h.fits.1.1 in
+item_there image w l (Chunk f start stop u n digest) h at =
+    let chunk : IsChunk (extent_of image l.extent w) start f stop n u digest h.fits.1.0 = h.fits.1.1 in
     record { in_extent = refl; at_offset = at; payload = h.fits.1.0; frame = record { frame = chunk.frame; length = chunk.length; digest = chunk.digest_is } }
 item_there image w l (Pad start stop) h at = subst (λ (p : ℕ). NoFrameAt (extent_of image l.extent w) p) at h.fits.1
 item_there image w l (Torn start stop) h at = subst (λ (p : ℕ). NoFrameAt (extent_of image l.extent w) p) at h.fits.1

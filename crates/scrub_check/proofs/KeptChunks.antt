@@ -8,6 +8,7 @@ use Rattle.std.proofs.lemmas.List.Folds.{list_any_at}
 use Rattle.std.proofs.lemmas.List.Sums.{AllPass-from_list_all}
 use Rattle.std.proofs.lemmas.List.Sorted.{All-permutation}
 use Rattle.scrub_disk.specs.Image.{Image}
+use Rattle.scrub_frame.specs.declared.form.Form.{Form}
 use Rattle.scrub_frame.specs.declared.locator.Locator.{Locator}
 use Rattle.scrub_super.specs.Plan.{PlanValue, pointer_of}
 use Rattle.scrub_merge.proofs.Elements.{Contains-cases, Contains-behind}
@@ -29,19 +30,19 @@ use Rattle.scrub_check.specs.Kept.{IsKept, AreSafe}
 use Rattle.scrub_check.proofs.Starts.{begins_among}
 
 -- the item where a frame stands is a chunk
-chunk_at : (x : Extent) (i : Item) (u b : List ℕ) → Fits x (start_of i) i → FrameAt x (start_of i) u b → is_chunk i ≡ true
-chunk_at x (Chunk start stop v n digest) u b fits frame = refl
-chunk_at x (Pad start stop) u b fits frame = absurd (fits.1 u b frame)
-chunk_at x (Torn start stop) u b fits frame = absurd (fits.1 u b frame)
-chunk_at x (Noise start stop) u b fits frame = absurd (fits.1 u b frame)
-chunk_at x (Lost start stop) u b fits frame = absurd (fits.1 u b frame)
+chunk_at : (x : Extent) (i : Item) (f : Form) (u b : List ℕ) → Fits x (start_of i) i → FrameAt x (start_of i) f u b → is_chunk i ≡ true
+chunk_at x (Chunk g start stop v n digest) f u b fits frame = refl
+chunk_at x (Pad start stop) f u b fits frame = absurd (fits.1 f u b frame)
+chunk_at x (Torn start stop) f u b fits frame = absurd (fits.1 f u b frame)
+chunk_at x (Noise start stop) f u b fits frame = absurd (fits.1 f u b frame)
+chunk_at x (Lost start stop) f u b fits frame = absurd (fits.1 f u b frame)
 
 -- so where a sound locator points to it, it is among the live ones
-live_there : (x : Extent) (checked : List Checked) (e p : ℕ) (u b : List ℕ) (items : List Item) → All (IsItem x) items → FrameAt x p u b → has_sound_at checked e p ≡ true →
+live_there : (x : Extent) (checked : List Checked) (e p : ℕ) (f : Form) (u b : List ℕ) (items : List Item) → All (IsItem x) items → FrameAt x p f u b → has_sound_at checked e p ≡ true →
     Contains (map start_of items) p → Contains (map start_of (filter (is_live checked e) items)) p
-live_there x checked e p u b [] each frame named (i, below, is) = absurd (omega (arith, below))
-live_there x checked e p u b (item ∷ items) each frame named there =
-    by (is_live checked e item) refl (live_there x checked e p u b items (All-tail (IsItem x) item items each) frame named) (Contains-cases (start_of item) (map start_of items) p there)
+live_there x checked e p f u b [] each frame named (i, below, is) = absurd (omega (arith, below))
+live_there x checked e p f u b (item ∷ items) each frame named there =
+    by (is_live checked e item) refl (live_there x checked e p f u b items (All-tail (IsItem x) item items each) frame named) (Contains-cases (start_of item) (map start_of items) p there)
   where
     live : List Item
     live = filter (is_live checked e) items
@@ -49,7 +50,7 @@ live_there x checked e p u b (item ∷ items) each frame named there =
     here : start_of item ≡ p → is_live checked e item ≡ true
     here is =
         let one : IsItem x item = All-head (IsItem x) item items each in
-        let chunk : is_chunk item ≡ true = chunk_at x item u b one.fits (subst (λ (q : ℕ). FrameAt x q u b) (sym is) frame) in
+        let chunk : is_chunk item ≡ true = chunk_at x item f u b one.fits (subst (λ (q : ℕ). FrameAt x q f u b) (sym is) frame) in
         ap (λ t. t && has_sound_at checked e (start_of item)) chunk ∙ ap (has_sound_at checked e) is ∙ named
 
     by : (t : Bool) → is_live checked e item ≡ t → (Contains (map start_of items) p → Contains (map start_of live) p) → (start_of item ≡ p) ⊎ Contains (map start_of items) p → Contains (map start_of (cond t (item ∷ live) live)) p
@@ -95,7 +96,7 @@ kept_there : (image : Image) (w : ℕ) (f : Scanned) (checked : List Checked) (c
     Contains (map start_of (filter (is_live checked c.locator.extent) f.findings.items)) c.locator.offset
 kept_there image w f checked c found h there sound =
     let x : Extent = extent_of image c.locator.extent w in
-    live_there x checked c.locator.extent c.locator.offset c.locator.uuid h.0.payload f.findings.items found.tiled.each h.0.found.frame (names_its_place checked c there sound)
+    live_there x checked c.locator.extent c.locator.offset h.0.found.form c.locator.uuid h.0.payload f.findings.items found.tiled.each h.0.found.frame (names_its_place checked c there sound)
     (begins_among x f.findings.items c.locator.offset (omega (arith, image.geometry.page_size.least)) found.tiled h.1)
 
 kept : (image : Image) (plan : PlanValue) (all : List Scanned) (checked : List Checked) (f : Scanned) (c : Checked) → IsWholeScan image plan all → HaveStatuses image plan checked →

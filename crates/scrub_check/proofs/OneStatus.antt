@@ -2,6 +2,7 @@
 -- same for all.
 use Rattle.std.proofs.Common.{◌≡◌, ◌⊎◌, ℕ, List, Option, Some, None, MatchOption, length, inl, inr, sym, ◌∙◌, ap, subst, refl}
 use Rattle.scrub_disk.specs.Image.{Image}
+use Rattle.scrub_frame.specs.declared.form.Form.{Form}
 use Rattle.scrub_frame.specs.declared.locator.Locator.{Locator}
 use Rattle.scrub_super.specs.Plan.{PlanValue, pointer_of}
 use Rattle.scrub_scan.specs.Extent.{extent_of, FrameAt, NoFrameAt}
@@ -11,13 +12,13 @@ use Rattle.scrub_check.specs.declared.status.Status.TheVariants.{OutOfRange, Pas
 use Rattle.scrub_check.specs.Status.{InRange, BelowPointer, HasUnreadableByte, CanStand, FindsFrame, NamesChunk, BeginsAt, HasStatus, HasStatusIn, ExactlyOne}
 use Rattle.scrub_check.proofs.RunStates.{unnamed}
 
--- a frame of the locator's UUID stands there
+-- a frame of the locator's UUID, of either form, stands there
 abbrev HasUuid : Image → ℕ → Locator → Type 0
-HasUuid image w l = (b : List ℕ) × FrameAt (extent_of image l.extent w) l.offset l.uuid b
+HasUuid image w l = (f : Form) × ((b : List ℕ) × FrameAt (extent_of image l.extent w) l.offset f l.uuid b)
 
 -- one whose payload has the locator's length
 abbrev HasLength : Image → ℕ → Locator → Type 0
-HasLength image w l = (b : List ℕ) × FrameAt (extent_of image l.extent w) l.offset l.uuid b × (length b ≡ l.length)
+HasLength image w l = (f : Form) × ((b : List ℕ) × FrameAt (extent_of image l.extent w) l.offset f l.uuid b × (length b ≡ l.length))
 
 -- the status is that of a test which fails, or the test is passed and more is known
 abbrev Tested : Status → Status → Type 0 → Type 0 → Type 0
@@ -43,10 +44,10 @@ from_can : (image : Image) (w : ℕ) (l : Locator) (s : Status) → CanStand ima
 from_can image w l s can more = inr (can.in_range, inr (can.below, inr (can.readable, more)))
 
 from_frame : (image : Image) (w : ℕ) (l : Locator) (s : Status) (b : List ℕ) → FindsFrame image w l l.uuid b → ByLength image w l s → ByTests image w l s
-from_frame image w l s b f more = from_can image w l s f.can (inr (λ none. none l.uuid b f.frame, inr ((b, f.frame), more)))
+from_frame image w l s b f more = from_can image w l s f.can (inr (λ none. none f.form l.uuid b f.frame, inr ((f.form, (b, f.frame)), more)))
 
 from_chunk : (image : Image) (w : ℕ) (l : Locator) (s : Status) → NamesChunk image w l → ByTiling image w l s → ByTests image w l s
-from_chunk image w l s n more = from_frame image w l s n.payload n.found (inr ((n.payload, n.found.frame, n.length), inr (n, more)))
+from_chunk image w l s n more = from_frame image w l s n.payload n.found (inr ((n.found.form, (n.payload, n.found.frame, n.length)), inr (n, more)))
 
 by_tests : (image : Image) (w : ℕ) (l : Locator) (s : Status) → HasStatus image w l s → ByTests image w l s
 by_tests image w l OutOfRange h = inl (refl, h)
@@ -55,13 +56,13 @@ by_tests image w l Unreadable h = inr (h.0, inr (h.1, inl (refl, λ readable. re
 by_tests image w l NoFrame h = from_can image w l NoFrame h.0 (inl (refl, λ some. some h.1))
 by_tests image w l WrongUuid (u, (b, f, other)) =
     from_can image w l WrongUuid f.can
-    (inr (λ none. none u b f.frame, inl (refl, λ h. other (one_frame_at (extent_of image l.extent w) l.offset u l.uuid b h.0 f.frame h.1).0)))
+    (inr (λ none. none f.form u b f.frame, inl (refl, λ h. other (one_frame_at (extent_of image l.extent w) l.offset f.form u b h.0 l.uuid h.1.0 f.frame h.1.1).1)))
 by_tests image w l WrongLength (b, f, other) =
     from_frame image w l WrongLength b f
-    (inl (refl, λ h. other (ap (λ (xs : List ℕ). length xs) (one_frame_at (extent_of image l.extent w) l.offset l.uuid l.uuid b h.0 f.frame h.1).1 ∙ h.2)))
+    (inl (refl, λ h. other (ap (λ (xs : List ℕ). length xs) (one_frame_at (extent_of image l.extent w) l.offset f.form l.uuid b h.0 l.uuid h.1.0 f.frame h.1.1).2 ∙ h.1.2)))
 by_tests image w l WrongDigest (b, f, same, other) =
     from_frame image w l WrongDigest b f
-    (inr ((b, f.frame, same), inl (refl, unnamed image w l WrongDigest (λ e. cc) (λ e. cc) (b, f, same, other))))
+    (inr ((f.form, (b, f.frame, same)), inl (refl, unnamed image w l WrongDigest (λ e. cc) (λ e. cc) (b, f, same, other))))
 by_tests image w l Hidden h = from_chunk image w l Hidden h.0 (inl (refl, h.1))
 by_tests image w l Sound h = from_chunk image w l Sound h.0 (inr (h.1, refl))
 
@@ -108,13 +109,13 @@ place_judged : (image : Image) (w : ℕ) (l : Locator) → NoStatus image w l �
 place_judged image w l none can =
     none NoFrame (
       can,
-      λ u b f. none WrongUuid (
+      λ g u b f. none WrongUuid (
         u,
         (
           b,
-          record { can = can; frame = f },
+          record { can = can; form = g; frame = f },
           λ same.
-              frame_judged image w l b none (record { can = can; frame = subst (λ (v : List ℕ). FrameAt (extent_of image l.extent w) l.offset v b) same f }),
+              frame_judged image w l b none (record { can = can; form = g; frame = subst (λ (v : List ℕ). FrameAt (extent_of image l.extent w) l.offset g v b) same f }),
         ),
       ),
     )

@@ -1,44 +1,84 @@
 -- The payload of the chunk that a locator names, and the run that it is.
-use Rattle.std.proofs.Common.{◌≡◌, ◌⊎◌, ◌≤◌, ◌+◌, ℕ, List, Option, Some, None, MatchOption, length, arith, refl, sym, ◌∙◌, ap, subst, inl, inr}
-use Rattle.scrub_disk.specs.Image.{Image, extent_bytes}
-use Rattle.scrub_frame.specs.Frame.{frame_overhead}
+use Rattle.std.proofs.Common.{◌≡◌, ◌⊎◌, ◌<◌, ◌+◌, ◌-◌, ◌/◌, ◌%◌, ℕ, Bool, true, false, cond, nat_lt, List, Option, Some, None, MatchOption, option_and_then, slice_get, slice_index, length, arith, refl, sym, ◌∙◌, ap, subst, inl, inr}
+use Rattle.std.proofs.lemmas.Bool.Decides.{nat_tests}
+use Rattle.std.proofs.lemmas.Option.{none-some}
+use Rattle.scrub_disk.specs.Image.{Image, byte, extent_bytes}
+use Rattle.scrub_frame.specs.declared.form.Form.{Form}
+use Rattle.scrub_frame.specs.Frame.{frame, frame_overhead}
+use Rattle.scrub_frame.proofs.Frames.{length-frame}
 use Rattle.scrub_frame.specs.declared.locator.Locator.{Locator}
 use Rattle.scrub_super.specs.Plan.{PlanValue, pointer_of}
 use Rattle.scrub_scan.specs.Extent.{extent_of, FrameAt}
 use Rattle.scrub_scan.specs.OneFrame.{one_frame_at}
-use Rattle.scrub_scan.specs.Standing.{Stands, HasPayload}
+use Rattle.scrub_scan.specs.declared.standing.Standing.{Standing}
+use Rattle.scrub_scan.specs.Standing.{IsStandingAt, Stands, HasPayload}
 use Rattle.scrub_run.specs.Entry.{EntryValue}
 use Rattle.scrub_run.specs.Run.{IsRun}
 use Rattle.scrub_check.specs.declared.status.Status.{Status}
 use Rattle.scrub_check.specs.declared.status.Status.TheVariants.{OutOfRange, Hidden, Sound}
 use Rattle.scrub_check.specs.declared.runs.RunState.{RunState}
 use Rattle.scrub_check.specs.declared.runs.RunState.TheVariants.{Read, BadChunk, NotARun}
-use Rattle.scrub_check.specs.ChunkRun.{standing_of, HoldsRun, IsToldOf}
+use Rattle.scrub_check.specs.ChunkRun.{standing_of, StandsThere, HasPayloadThere, HoldsRun, IsToldOf}
 use Rattle.scrub_check.specs.Status.{NamesChunk, HasStatus, HasStatusIn}
 use Rattle.scrub_check.specs.Runs.{NamesRun, IsRunOf, HasRunState, IsRunIn, HasRunStateIn}
 use Rattle.scrub_check.proofs.RunStates.{named, unnamed}
 
--- a frame that stands under one pointer stands under each that it ends at or before
-under : (image : Image) (e w p v : ℕ) (u b : List ℕ) → FrameAt (extent_of image e w) p u b → p + length b + frame_overhead ≤ v → FrameAt (extent_of image e v) p u b
-under image e w p v u b h fits = record { has_frame = h.has_frame; fits = fits; stands = h.stands }
+-- a byte that is there lies in the extent
+in_extent : (image : Image) (e place x : ℕ) → byte image e place ≡ Some x → place < extent_bytes image.geometry
+in_extent image e place x there = by (nat_lt place (extent_bytes image.geometry)) refl there
+  where
+    read : Option ℕ
+    read = option_and_then (λ bytes. slice_get bytes (place % image.geometry.page)) (image.page e (place / image.geometry.page))
+
+    by : (b : Bool) → nat_lt place (extent_bytes image.geometry) ≡ b → cond b read None ≡ Some x → place < extent_bytes image.geometry
+    by true less h = grind (arith, nat_tests)
+    by false less h = absurd (none-some x h)
+
+-- so a frame that stands under whichever pointer stands in the extent
+within : (image : Image) (e w p : ℕ) (f : Form) (u b : List ℕ) → FrameAt (extent_of image e w) p f u b → FrameAt (extent_of image e (extent_bytes image.geometry)) p f u b
+within image e w p f u b h =
+    let long : length (frame f u b) ≡ frame_overhead f + length b = length-frame f u b h.has_frame.sixteen in
+    let last : p + (length b + frame_overhead f - 1) < extent_bytes image.geometry =
+    in_extent image e (p + (length b + frame_overhead f - 1)) (slice_index (frame f u b) (length b + frame_overhead f - 1)) (h.stands (length b + frame_overhead f - 1) (omega (arith, long))) in
+    record { has_frame = h.has_frame; fits = omega (arith, last); stands = h.stands }
 
 -- the chunk has its payload in the image
-has_payload : (image : Image) (w : ℕ) (l : Locator) (n : NamesChunk image w l) → HasPayload image (standing_of l) n.payload
+has_payload : (image : Image) (w : ℕ) (l : Locator) (n : NamesChunk image w l) → HasPayloadThere image l n.payload
 has_payload image w l n = record {
-  in_disk = n.found.can.in_range.in_disk;
-  frame = record {
-    frame = under image l.extent w l.offset (extent_bytes image.geometry) l.uuid n.payload n.found.frame (omega (arith, n.length, n.found.can.in_range.in_extent));
-    length = sym n.length;
-    digest = sym n.digest;
+  form = n.found.form;
+  has = record {
+    in_disk = n.found.can.in_range.in_disk;
+    frame = record {
+      frame = within image l.extent w l.offset n.found.form l.uuid n.payload n.found.frame;
+      length = sym n.length;
+      digest = sym n.digest;
+    };
   };
 }
 
 -- and no other one
-pub one_payload : (image : Image) (l : Locator) (a b : List ℕ) → HasPayload image (standing_of l) a → HasPayload image (standing_of l) b → a ≡ b
-one_payload image l a b h k = (one_frame_at (extent_of image l.extent (extent_bytes image.geometry)) l.offset l.uuid l.uuid a b h.frame.frame k.frame.frame).1
+pub one_payload : (image : Image) (l : Locator) (a b : List ℕ) → HasPayloadThere image l a → HasPayloadThere image l b → a ≡ b
+one_payload image l a b h k = (one_frame_at (extent_of image l.extent (extent_bytes image.geometry)) l.offset h.form l.uuid a k.form l.uuid b h.has.frame.frame k.has.frame.frame).2
+
+-- so what is read of what stands there is its payload
+pub read_there : (image : Image) (l : Locator) (s : Standing) (b : List ℕ) → StandsThere image l → s.extent ≡ l.extent → s.offset ≡ l.offset → HasPayload image s b → HasPayloadThere image l b
+read_there image l s b there extent offset h =
+    let has = there.stands.has in
+    let here : FrameAt (extent_of image l.extent (extent_bytes image.geometry)) l.offset s.form s.uuid b =
+    subst (λ (o : ℕ). FrameAt (extent_of image l.extent (extent_bytes image.geometry)) o s.form s.uuid b) offset
+    (subst (λ (e : ℕ). FrameAt (extent_of image e (extent_bytes image.geometry)) s.offset s.form s.uuid b) extent h.frame.frame) in
+    let same : there.stands.payload ≡ b = (one_frame_at (extent_of image l.extent (extent_bytes image.geometry)) l.offset there.form l.uuid there.stands.payload s.form s.uuid b has.frame.frame here).2 in
+    record { form = there.form; has = subst (λ (x : List ℕ). HasPayload image (standing_of l there.form) x) same has }
+
+-- and what stands there stands in the image
+pub standing_there : (image : Image) (l : Locator) (s : Standing) → StandsThere image l → IsStandingAt image (extent_bytes image.geometry) l.extent l.offset s → Stands image s
+standing_there image l s there h = record {
+  payload = h.payload;
+  has = record { in_disk = omega (arith, h.in_extent, there.stands.has.in_disk); frame = h.frame };
+}
 
 -- so where the payload that is read is no run, the chunk holds none
-pub holds_none : (image : Image) (l : Locator) (b c : List ℕ) → HasPayload image (standing_of l) b → c ≡ b → ((entries : List EntryValue) → ¬ IsRun c entries) → (entries : List EntryValue) → ¬ HoldsRun image l entries
+pub holds_none : (image : Image) (l : Locator) (b c : List ℕ) → HasPayloadThere image l b → c ≡ b → ((entries : List EntryValue) → ¬ IsRun c entries) → (entries : List EntryValue) → ¬ HoldsRun image l entries
 holds_none image l b c has is none entries h = none entries (subst (λ (p : List ℕ). IsRun p entries) (one_payload image l h.payload b h.has has ∙ sym is) h.run)
 
 -- what is told of a chunk that stands is the run of its locator, and what became of it
@@ -70,10 +110,11 @@ named_under image None l s (inr e) h = absurd (let f : ⊥ = cc in f)
 named_under image (Some w) l s is h = record { pointer = w; is = refl; names = named image w l s is h }
 
 -- so it stands
-pub stands_there : (image : Image) (plan : PlanValue) (l : Locator) (s : Status) → (s ≡ Sound) ⊎ (s ≡ Hidden) → HasStatusIn image plan l s → Stands image (standing_of l)
+pub stands_there : (image : Image) (plan : PlanValue) (l : Locator) (s : Status) → (s ≡ Sound) ⊎ (s ≡ Hidden) → HasStatusIn image plan l s → StandsThere image l
 stands_there image plan l s is h =
     let n : NamedUnder image (pointer_of plan l.extent) l = named_under image (pointer_of plan l.extent) l s is h in
-    record { payload = n.names.payload; has = has_payload image n.pointer l n.names }
+    let has = has_payload image n.pointer l n.names in
+    record { form = has.form; stands = record { payload = n.names.payload; has = has.has } }
 
 pub told_in : (image : Image) (plan : PlanValue) (l : Locator) (s : Status) (run : Option (List EntryValue)) (state : RunState) → (s ≡ Sound) ⊎ (s ≡ Hidden) → HasStatusIn image plan l s →
     IsToldOf image l run state → IsRunIn image plan l run × HasRunStateIn image plan l state

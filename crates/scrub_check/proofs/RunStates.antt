@@ -17,11 +17,11 @@ pub unnamed : (image : Image) (w : ℕ) (l : Locator) (s : Status) → ¬ (s ≡
 unnamed image w l OutOfRange a b h n = h n.found.can.in_range
 unnamed image w l PastPointer a b h n = h.1 n.found.can.below
 unnamed image w l Unreadable a b h n = n.found.can.readable h.2
-unnamed image w l NoFrame a b h n = h.1 l.uuid n.payload n.found.frame
-unnamed image w l WrongUuid a b (u, (c, f, other)) n = other (one_frame_at (extent_of image l.extent w) l.offset u l.uuid c n.payload f.frame n.found.frame).0
+unnamed image w l NoFrame a b h n = h.1 n.found.form l.uuid n.payload n.found.frame
+unnamed image w l WrongUuid a b (u, (c, f, other)) n = other (one_frame_at (extent_of image l.extent w) l.offset f.form u c n.found.form l.uuid n.payload f.frame n.found.frame).1
 unnamed image w l WrongLength a b (c, f, other) n =
-    other (ap (λ (xs : List ℕ). length xs) (one_frame_at (extent_of image l.extent w) l.offset l.uuid l.uuid c n.payload f.frame n.found.frame).1 ∙ n.length)
+    other (ap (λ (xs : List ℕ). length xs) (one_frame_at (extent_of image l.extent w) l.offset f.form l.uuid c n.found.form l.uuid n.payload f.frame n.found.frame).2 ∙ n.length)
 unnamed image w l WrongDigest a b (c, f, same, other) n =
-    other (ap (λ (xs : List ℕ). sha256 xs) (one_frame_at (extent_of image l.extent w) l.offset l.uuid l.uuid c n.payload f.frame n.found.frame).1 ∙ n.digest)
+    other (ap (λ (xs : List ℕ). sha256 xs) (one_frame_at (extent_of image l.extent w) l.offset f.form l.uuid c n.found.form l.uuid n.payload f.frame n.found.frame).2 ∙ n.digest)
 unnamed image w l Hidden a b h n = b refl
 unnamed image w l Sound a b h n = a refl

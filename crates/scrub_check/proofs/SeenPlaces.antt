@@ -1,11 +1,16 @@
 -- Looks at places, and the search for one.
-use Rattle.std.proofs.Common.{◌≡◌, ℕ, List, get_or, Result, Ok, Err, Some, All, sym, ◌∙◌, ap}
+use Rattle.std.proofs.Common.{◌≡◌, ℕ, List, get_or, Result, Ok, Err, Option, Some, None, IfSome, IfNone, All, sym, ◌∙◌, ap, subst}
 use Rattle.std.specs.declared.cmp.Ordering.{Ordering}
 use Rattle.std.specs.List.Sorted.{IsBinarySearchResult}
 use Rattle.std.specs.Result.{result_ok}
 use Rattle.std.proofs.lemmas.List.Elements.{All-contains, Contains-get_or}
 use Rattle.scrub_check.specs.declared.sound_starts.Start.{Start}
 use Rattle.scrub_check.specs.declared.looks.Look.{Look}
+use Rattle.scrub_disk.specs.Image.{Image}
+use Rattle.scrub_scan.specs.declared.standing.Standing.{Standing}
+use Rattle.scrub_scan.specs.Extent.{extent_of, NoFrameAt}
+use Rattle.scrub_scan.specs.Standing.{IsStandingAt}
+use Rattle.scrub_check.specs.Looks.{IsFoundAt}
 use Rattle.scrub_check.specs.Distinct.{AreDistinct}
 use Rattle.scrub_check.specs.SoundStarts.{start_cmp}
 use Rattle.scrub_check.proofs.SortedStarts.{start_exact}
@@ -20,3 +25,8 @@ look_found looks s (Ok j) i look is found at =
     let same : j ≡ i = cc in
     ap (λ x. x.start) at ∙ sym (ap (λ n. (get_or looks n look).start) same) ∙ start_exact (get_or looks j look).start s (found look)
 look_found looks s (Err j) i look is found at = absurd cc
+
+-- what was found under a pointer is found under the same one
+pub found_at : (image : Image) (e p v w : ℕ) (found : Option Standing) → v ≡ w → IfSome found (IsStandingAt image v e p) → IfNone found (NoFrameAt (extent_of image e v) p) → IsFoundAt image w e p found
+found_at image e p v w (Some s) same some none = subst (λ (x : ℕ). IsStandingAt image x e p s) same some
+found_at image e p v w None same some none = subst (λ (x : ℕ). NoFrameAt (extent_of image e x) p) same none

@@ -13,7 +13,7 @@ use Rattle.scrub_check.specs.Live.{has_sound_at}
 
 -- an item of extent e as the frame that stands at its start, where it is a chunk
 abbrev pub frame_of_item : ℕ → Item → Option Standing
-frame_of_item e (Chunk start stop uuid length digest) = Some (record { extent = e; offset = start; uuid = uuid; length = length; digest = digest })
+frame_of_item e (Chunk form start stop uuid length digest) = Some (record { extent = e; offset = start; form = form; uuid = uuid; length = length; digest = digest })
 frame_of_item e _ = None
 
 -- and as the place of that chunk

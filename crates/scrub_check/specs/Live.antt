@@ -21,7 +21,7 @@ abbrev pub has_sound_at : List Checked → ℕ → ℕ → Bool
 has_sound_at checked e p = list_any (is_sound_at e p) checked
 
 abbrev pub is_chunk : Item → Bool
-is_chunk (Chunk start stop uuid length digest) = true
+is_chunk (Chunk form start stop uuid length digest) = true
 is_chunk _ = false
 
 -- an item of extent e is a live chunk

@@ -5,7 +5,8 @@ use Rattle.std.specs.Prelude.{length as len}
 use Rattle.sha2.specs.Sha256.{sha256}
 use Rattle.scrub_disk.specs.declared.geometry.Geometry.{Geometry}
 use Rattle.scrub_disk.specs.Image.{Image, byte, extent_bytes}
-use Rattle.scrub_frame.specs.Frame.{frame_overhead}
+use Rattle.scrub_frame.specs.declared.form.Form.{Form}
+use Rattle.scrub_frame.specs.Frame.{least_overhead}
 use Rattle.scrub_frame.specs.declared.locator.Locator.{Locator}
 use Rattle.scrub_super.specs.Plan.{PlanValue, pointer_of}
 use Rattle.scrub_scan.specs.declared.item.Item.{Item}
@@ -15,9 +16,9 @@ use Rattle.scrub_scan.specs.Tiling.{IsTiling}
 use Rattle.scrub_check.specs.declared.status.Status.{Status}
 use Rattle.scrub_check.specs.declared.status.Status.TheVariants.{OutOfRange, PastPointer, Unreadable, NoFrame, WrongUuid, WrongLength, WrongDigest, Hidden, Sound}
 
--- where the frame that a locator names would end
+-- where the frame that a locator names would end at the least
 abbrev pub end_of : Locator → ℕ
-end_of l = l.offset + l.length + frame_overhead
+end_of l = l.offset + l.length + least_overhead
 
 -- it would lie in one of the extents that chunks are written to
 pub record InRange (g : Geometry) (l : Locator) : Type 0 where
@@ -31,7 +32,7 @@ BelowPointer w l = end_of l ≤ w
 
 -- one of its bytes can't be read
 abbrev pub HasUnreadableByte : Image → Locator → Type 0
-HasUnreadableByte image l = HasGap (byte image l.extent) l.offset (l.length + frame_overhead)
+HasUnreadableByte image l = HasGap (byte image l.extent) l.offset (l.length + least_overhead)
 
 -- it would lie where it can be read, in range and below the pointer
 pub record CanStand (image : Image) (w : ℕ) (l : Locator) : Type 0 where
@@ -39,10 +40,11 @@ pub record CanStand (image : Image) (w : ℕ) (l : Locator) : Type 0 where
   pub below : BelowPointer w l
   pub readable : ¬ HasUnreadableByte image l
 
--- the frame of u and b stands at its place
+-- a frame of u and b, of either form, stands at its place
 pub record FindsFrame (image : Image) (w : ℕ) (l : Locator) (u b : List ℕ) : Type 0 where
   pub can : CanStand image w l
-  pub frame : FrameAt (extent_of image l.extent w) l.offset u b
+  pub form : Form
+  pub frame : FrameAt (extent_of image l.extent w) l.offset form u b
 
 -- an item of the tiling begins at a place
 pub record BeginsAt (x : Extent) (p : ℕ) : Type 0 where

@@ -20,6 +20,7 @@ pub(crate) fn frame_of_item(extent: u32, item: &Item) -> Option<Standing>
 {
     match item {
         Item::Chunk {
+            form,
             start,
             uuid,
             length,
@@ -28,6 +29,7 @@ pub(crate) fn frame_of_item(extent: u32, item: &Item) -> Option<Standing>
         } => Some(Standing {
             extent,
             offset: *start,
+            form: *form,
             uuid: *uuid,
             length: *length,
             digest: *digest,

@@ -2,16 +2,15 @@
 //! crates above.
 
 ghost use Rattle.std.specs.Prelude.{◌≡◌, IfOk};
-ghost use Rattle.scrub_scan.specs.Standing.{Stands, HasPayload};
 ghost use Rattle.scrub_check.specs.WholeScan.{IsWholeScan};
-ghost use Rattle.scrub_check.specs.ChunkRun.{standing_of, IsToldOf};
+ghost use Rattle.scrub_check.specs.ChunkRun.{StandsThere, HasPayloadThere, IsToldOf};
 ghost use Rattle.scrub_check.specs.Runs.{IsRunIn, HasRunStateIn, AreReadRuns};
 
 use crate::status::{Status, status_of};
 use scrub_disk::{OutOfMemory, PageSource};
 use scrub_frame::Locator;
 use scrub_run::{Run, RunFault, read_run};
-use scrub_scan::{AllFindings, Standing, read_payload};
+use scrub_scan::{AllFindings, frame_stands, read_payload};
 use scrub_super::Plan;
 use std::alloc::Global;
 use std::marker::Model;
@@ -66,23 +65,21 @@ impl ReadRuns {
     }
 }
 
-/// The payload of the chunk that a locator names, where it stands.
+/// The payload of the chunk that a locator names, where it stands. The locator doesn't tell the form of the frame, so this
+/// is looked up first.
 fn payload_of<D: PageSource>(
     alloc: Global,
     disk: &D,
     locator: &Locator,
 ) -> Result<Vec<u8>, OutOfMemory>
-    requires { Stands (D.image disk.now) (standing_of locator.now) }
-    ensures { IfOk result (λ b. HasPayload (D.image disk.now) (standing_of locator.now) b.items) }
+    requires { StandsThere (D.image disk.now) locator.now }
+    ensures { IfOk result (λ b. HasPayloadThere (D.image disk.now) locator.now b.items) }
 {
-    let standing = Standing {
-        extent: locator.extent,
-        offset: locator.offset,
-        uuid: locator.uuid,
-        length: locator.length,
-        digest: locator.digest,
-    };
-    read_payload(alloc, disk, &standing)
+    let end = disk.geometry().extent_bytes();
+    match frame_stands(alloc, disk, end, locator.extent, locator.offset)? {
+        Some(standing) => read_payload(alloc, disk, &standing),
+        None => unreachable!(),
+    }
 }
 
 /// The run in the chunk that a locator names, where it stands, or why it isn't one.
@@ -91,7 +88,7 @@ fn run_in_chunk<D: PageSource>(
     disk: &D,
     locator: &Locator,
 ) -> Result<(Option<Run>, RunState), OutOfMemory>
-    requires { Stands (D.image disk.now) (standing_of locator.now) }
+    requires { StandsThere (D.image disk.now) locator.now }
     ensures { IfOk result (λ r. IsToldOf (D.image disk.now) locator.now r.0 r.1) }
 {
     let payload = payload_of(alloc, disk, locator)?;

@@ -18,7 +18,7 @@ use crate::looks::{Look, standing_at};
 use crate::searching::find_start;
 use crate::sound_starts::Start;
 use scrub_disk::{Geometry, OutOfMemory, PageSource};
-use scrub_frame::{FRAME_OVERHEAD, Locator};
+use scrub_frame::{LEAST_OVERHEAD, Locator};
 use scrub_scan::{AllFindings, Findings, Item, Standing};
 use scrub_super::Plan;
 use std::alloc::Global;
@@ -26,13 +26,13 @@ use std::alloc::Global;
 /// What a locator is worth: the first of these that applies.
 #[derive(Debug, Clone, Copy, PartialEq, Eq)]
 pub enum Status {
-    /// It names extent 0 or none of the disk, or its frame would end past the extent.
+    /// It names extent 0 or none of the disk, or the least frame of its payload would end past the extent.
     OutOfRange,
-    /// Its frame would end past the write pointer.
+    /// The least frame of its payload would end past the write pointer.
     PastPointer,
-    /// A page with a byte of its frame is unreadable.
+    /// A page with a byte of the least frame of its payload is unreadable.
     Unreadable,
-    /// No frame stands at its place.
+    /// No frame of either form stands at its place.
     NoFrame,
     /// The frame there has another UUID.
     WrongUuid,
@@ -46,11 +46,11 @@ pub enum Status {
     Sound,
 }
 
-/// Where the frame that a locator names would end, in bytes of the extent.
+/// Where the frame that a locator names would end at the least, in bytes of the extent: a locator doesn't tell the form.
 fn end_of(locator: &Locator) -> u64
     ensures { result ≡ end_of locator.now }
 {
-    locator.offset as u64 + locator.length as u64 + FRAME_OVERHEAD as u64
+    locator.offset as u64 + locator.length as u64 + LEAST_OVERHEAD as u64
 }
 
 /// Whether one of the pages from the first through the last is among some that rise.

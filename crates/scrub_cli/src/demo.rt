@@ -3,6 +3,7 @@
 ghost use Rattle.std.specs.Prelude.{◌≡◌, ◌≤◌, ◌∷◌, [], IfOk, length};
 ghost use Rattle.scrub_disk.specs.Faults.{HasSizes};
 ghost use Rattle.scrub_disk.specs.Memory.{image_of};
+ghost use Rattle.scrub_frame.specs.declared.form.Form.{Form};
 ghost use Rattle.scrub_frame.specs.Frame.{frame, longest_payload};
 ghost use Rattle.scrub_run.specs.Run.{run_bytes};
 ghost use Rattle.scrub_super.specs.Record.{record_bytes};
@@ -29,10 +30,10 @@ const POINTERS: [u32; 2] = [41, 155];
 /// How many workers scan the demo's disk beside the caller.
 const WORKERS: u32 = 2;
 
-/// The frame of a UUID and a payload.
+/// The plain frame of a UUID and a payload.
 fn frame_of(alloc: Global, uuid: Uuid, payload: &[u8]) -> Result<Vec<u8>, OutOfMemory>
-    requires { length payload.now ≤ longest_payload }
-    ensures { IfOk result (λ bytes. bytes.items ≡ frame uuid payload.now) }
+    requires { length payload.now ≤ longest_payload Form.Plain }
+    ensures { IfOk result (λ bytes. bytes.items ≡ frame Form.Plain uuid payload.now) }
 {
     let mut bytes = Vec::new(alloc);
     match write_frame(&mut bytes, uuid, payload) {

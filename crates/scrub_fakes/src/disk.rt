@@ -5,6 +5,7 @@ ghost use Rattle.std.specs.Prelude.{◌≡◌, ◌≤◌, ◌-◌, [], ◌∷◌
 ghost use Rattle.std.specs.List.{range_with_len};
 ghost use Rattle.scrub_disk.specs.Faults.{HasSizes};
 ghost use Rattle.scrub_disk.specs.Memory.{image_of, Puts, Marks};
+ghost use Rattle.scrub_frame.specs.declared.form.Form.{Form};
 ghost use Rattle.scrub_frame.specs.Frame.{frame};
 ghost use Rattle.scrub_run.specs.Run.{run_bytes};
 ghost use Rattle.scrub_super.specs.Record.{ArePointers};
@@ -12,7 +13,7 @@ ghost use Rattle.scrub_fakes.specs.Builders.{IsSmall, IsLocatorOf, PutsRecord, I
 
 use crate::OutOfMemory;
 use scrub_disk::{Geometry, MemDisk, PageSource};
-use scrub_frame::{FrameFault, Locator, locate, write_frame};
+use scrub_frame::{FrameFault, Locator, locate, write_frame, write_sealed};
 use scrub_run::{Entry, ShardId, write_run};
 use scrub_super::{MAX_RUNS, Plan, Superblock, choose, write_record};
 use std::alloc::Global;
@@ -87,7 +88,7 @@ pub fn mark_bad(disk: &mut MemDisk, extent: u32, page: u32) -> Result<(), Misfit
     Ok(())
 }
 
-/// Puts the frame of a UUID and a payload into an extent, and tells its locator.
+/// Puts the plain frame of a UUID and a payload into an extent, and tells its locator.
 pub fn put_chunk(
     alloc: Global,
     disk: &mut MemDisk,
@@ -96,12 +97,31 @@ pub fn put_chunk(
     uuid: [u8; 16],
     payload: &[u8],
 ) -> Result<Locator, Misfit>
-    ensures put { IfOk result (λ _. Puts (image_of disk.old) (image_of disk.new) extent offset (frame uuid payload.now)) }
+    ensures put { IfOk result (λ _. Puts (image_of disk.old) (image_of disk.new) extent offset (frame Form.Plain uuid payload.now)) }
     ensures locator { IfOk result (IsLocatorOf extent offset uuid payload.now) }
 {
     let uuid = Uuid::from_bytes(uuid);
     let mut bytes = Vec::new(alloc);
     write_frame(&mut bytes, uuid, payload)?;
+    put(disk, extent, offset, &bytes)?;
+    Ok(locate(extent, offset, uuid, payload))
+}
+
+/// Puts the sealed frame of a UUID and a payload into an extent, and tells its locator.
+pub fn put_sealed(
+    alloc: Global,
+    disk: &mut MemDisk,
+    extent: u32,
+    offset: u32,
+    uuid: [u8; 16],
+    payload: &[u8],
+) -> Result<Locator, Misfit>
+    ensures put { IfOk result (λ _. Puts (image_of disk.old) (image_of disk.new) extent offset (frame Form.Sealed uuid payload.now)) }
+    ensures locator { IfOk result (IsLocatorOf extent offset uuid payload.now) }
+{
+    let uuid = Uuid::from_bytes(uuid);
+    let mut bytes = Vec::new(alloc);
+    write_sealed(&mut bytes, uuid, payload)?;
     put(disk, extent, offset, &bytes)?;
     Ok(locate(extent, offset, uuid, payload))
 }

@@ -1,20 +1,19 @@
 //! Frames, written to the end of a byte list. Where on a disk those bytes go is left to the caller.
 
 ghost use Rattle.std.specs.Prelude.{◌≡◌, ◌+◌, ◌<◌, ◌≤◌, ◌++◌, ◌↔◌, length, vec_len, vec_capacity, OnOk, OnErr};
-ghost use Rattle.scrub_frame.specs.Frame.{frame, longest_payload};
+ghost use Rattle.scrub_frame.specs.declared.form.Form.{Form};
+ghost use Rattle.scrub_frame.specs.Frame.{seal, seal_size, mark, close_size, frame, longest_payload};
 
-use crate::frame::{FRAME_OVERHEAD, MAGIC};
+use crate::digest::digest_of;
+use crate::form::Form;
 use byteorder::{BigEndian, ByteOrder};
 use thiserror::Error;
 use uuid::Uuid;
 
-/// The longest payload that `write_frame` takes, in bytes: its frame fills an extent of 2^26 bytes, the largest.
-pub const MAX_PAYLOAD: usize = 67_108_826;
-
 /// Why a frame was not written.
 #[derive(Debug, Clone, Copy, PartialEq, Eq, Error)]
 pub enum FrameFault {
-    /// The payload has more than `MAX_PAYLOAD` bytes.
+    /// The payload has more bytes than the form's `longest_payload`.
     #[error("the payload is too long for a frame")]
     TooLong,
     /// The list could not grow by the frame.
@@ -22,27 +21,62 @@ pub enum FrameFault {
     OutOfMemory,
 }
 
-/// Appends the frame of a UUID and a payload, `FRAME_OVERHEAD` bytes more than the payload has. Its faults in their
-/// order: `TooLong`, then `OutOfMemory`. After either `out` is as it was.
+/// Appends the plain frame of a UUID and a payload. Its faults in their order: `TooLong`, then `OutOfMemory`. After either
+/// `out` is as it was.
 pub fn write_frame(out: &mut Vec<u8>, uuid: Uuid, payload: &[u8]) -> Result<(), FrameFault>
-    ensures ok { OnOk result (out.new.items ≡ out.old.items ++ frame uuid payload.now) }
-    ensures fits { OnOk result (length payload.now ≤ longest_payload) }
-    ensures too_long { (result ≡ Err FrameFault.TooLong) ↔ (longest_payload < length payload.now) }
+    ensures ok { OnOk result (out.new.items ≡ out.old.items ++ frame Form.Plain uuid payload.now) }
+    ensures fits { OnOk result (length payload.now ≤ longest_payload Form.Plain) }
+    ensures too_long { (result ≡ Err FrameFault.TooLong) ↔ (longest_payload Form.Plain < length payload.now) }
     ensures err { OnErr result (out.new.items ≡ out.old.items) }
 {
-    if payload.len() > MAX_PAYLOAD {
+    write_form(out, Form::Plain, uuid, payload)
+}
+
+/// Appends the sealed frame of a UUID and a payload. Its faults in their order: `TooLong`, then `OutOfMemory`. After either
+/// `out` is as it was.
+pub fn write_sealed(out: &mut Vec<u8>, uuid: Uuid, payload: &[u8]) -> Result<(), FrameFault>
+    ensures ok { OnOk result (out.new.items ≡ out.old.items ++ frame Form.Sealed uuid payload.now) }
+    ensures fits { OnOk result (length payload.now ≤ longest_payload Form.Sealed) }
+    ensures too_long { (result ≡ Err FrameFault.TooLong) ↔ (longest_payload Form.Sealed < length payload.now) }
+    ensures err { OnErr result (out.new.items ≡ out.old.items) }
+{
+    write_form(out, Form::Sealed, uuid, payload)
+}
+
+/// Appends the frame of a UUID and a payload in a form.
+fn write_form(out: &mut Vec<u8>, form: Form, uuid: Uuid, payload: &[u8]) -> Result<(), FrameFault>
+    ensures ok { OnOk result (out.new.items ≡ out.old.items ++ frame form uuid payload.now) }
+    ensures fits { OnOk result (length payload.now ≤ longest_payload form) }
+    ensures too_long { (result ≡ Err FrameFault.TooLong) ↔ (longest_payload form < length payload.now) }
+    ensures err { OnErr result (out.new.items ≡ out.old.items) }
+{
+    if payload.len() > form.longest_payload() {
         return Err(FrameFault::TooLong);
     }
     let mut size = [0u8; 4];
     BigEndian::write_u32(&mut size, payload.len() as u32);
-    out.reserve(payload.len() + FRAME_OVERHEAD)
+    out.reserve(payload.len() + form.overhead())
         .map_err(|_| FrameFault::OutOfMemory)?;
-    append(out, &MAGIC);
+    append(out, &form.magic());
     append(out, uuid.as_bytes());
     append(out, &size);
+    append_seal(out, form, payload);
     append(out, payload);
-    append(out, uuid.as_bytes());
+    append(out, &form.close(&uuid)[..form.close_bytes()]);
     Ok(())
+}
+
+/// Appends what stands before a payload in a frame of the form, for which the list has room.
+fn append_seal(out: &mut Vec<u8>, form: Form, payload: &[u8])
+    requires { vec_len out.old + seal_size form ≤ vec_capacity out.old }
+    ensures items { out.new.items ≡ out.old.items ++ seal form payload.now }
+    ensures size { vec_len out.new ≡ vec_len out.old + seal_size form }
+    ensures capacity { vec_capacity out.old ≤ vec_capacity out.new }
+{
+    match form {
+        Form::Plain => {}
+        Form::Sealed => append(out, &digest_of(payload)),
+    }
 }
 
 /// Appends bytes for which the list has room. Takes no memory.

@@ -39,7 +39,7 @@ same_zipped R one (x ∷ xs) (y ∷ ys) [] h k = absurd k
 same_zipped R one (x ∷ xs) (y ∷ ys) (z ∷ zs) h k = ap₂ (λ b bs. b ∷ bs) (one x y z h.0 k.0) (same_zipped R one xs ys zs h.1 k.1)
 
 same_payload : (image : Image) (w : ℕ) (l : Locator) (es fs : List EntryValue) → (x : NamesRun image w l es) → (y : NamesRun image w l fs) → x.names.payload ≡ y.names.payload
-same_payload image w l es fs x y = (one_frame_at (extent_of image l.extent w) l.offset l.uuid l.uuid x.names.payload y.names.payload x.names.found.frame y.names.found.frame).1
+same_payload image w l es fs x y = (one_frame_at (extent_of image l.extent w) l.offset x.names.found.form l.uuid x.names.payload y.names.found.form l.uuid y.names.payload x.names.found.frame y.names.found.frame).2
 
 one_run_of : (image : Image) (w : ℕ) (l : Locator) (r s : Option (List EntryValue)) → IsRunOf image w l r → IsRunOf image w l s → r ≡ s
 one_run_of image w l None None x y = refl

@@ -50,7 +50,7 @@ pub record IsScrubbed (image : Image) (s : Scrubbed) : Type 0 where
 
 -- neither torn nor noise nor lost
 abbrev pub is_clean_item : Item → Bool
-is_clean_item (Chunk start stop uuid n digest) = true
+is_clean_item (Chunk form start stop uuid n digest) = true
 is_clean_item (Pad start stop) = true
 is_clean_item _ = false
 

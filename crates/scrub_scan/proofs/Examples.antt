@@ -7,7 +7,8 @@ use Rattle.std.proofs.lemmas.Option.{slice_get-get_or}
 use Rattle.std.proofs.lemmas.List.Elements.{All-cons, All-nil}
 use Rattle.uuid.specs.Text.{by_index}
 use Rattle.sha2.specs.Sha256.{sha256}
-use Rattle.scrub_frame.specs.Frame.{frame, frame_magic}
+use Rattle.scrub_frame.specs.declared.form.Form.TheVariants.{Plain, Sealed}
+use Rattle.scrub_frame.specs.Frame.{frame, magic, frame_overhead}
 use Rattle.scrub_frame.proofs.Frames.{length-frame}
 use Rattle.scrub_scan.specs.declared.item.Item.TheVariants.{Chunk, Pad, Torn, Noise, Lost}
 use Rattle.scrub_scan.specs.Extent.{Extent, FrameAt, NoFrameAt, IsZero, IsUnreadableAt, HasMagic}
@@ -22,9 +23,13 @@ ones = replicate 16 0x11
 
 -- ---- lines
 
-line_of_chunk : line_of (Chunk 0 41 ones 3 []) ≡ codes "chunk 0 41 11111111-1111-1111-1111-111111111111 3"
+line_of_chunk : line_of (Chunk Plain 0 41 ones 3 []) ≡ codes "chunk 0 41 11111111-1111-1111-1111-111111111111 3"
 unfolding ones digits by_index
 line_of_chunk = refl
+
+line_of_sealed : line_of (Chunk Sealed 0 75 ones 3 []) ≡ codes "sealed 0 75 11111111-1111-1111-1111-111111111111 3"
+unfolding ones digits by_index
+line_of_sealed = refl
 
 line_of_pad : line_of (Pad 64 128) ≡ codes "pad 64 128"
 unfolding digits
@@ -50,21 +55,21 @@ abc = 0x61 ∷ 0x62 ∷ 0x63 ∷ []
 
 -- an extent with pages of 64 bytes, and under this pointer
 abc_under : ℕ → Extent
-abc_under pointer = record { byte = slice_get (frame ones abc); page = 64; pointer = pointer }
+abc_under pointer = record { byte = slice_get (frame Plain ones abc); page = 64; pointer = pointer }
 
-stands : (w : ℕ) → 41 ≤ w → FrameAt (abc_under w) 0 ones abc
+stands : (w : ℕ) → 41 ≤ w → FrameAt (abc_under w) 0 Plain ones abc
 unfolding abc_under ones abc
 stands w h = record {
   has_frame = record { sixteen = refl; short = lit< tt };
   fits = omega (arith, h);
-  stands = λ k hk. let e : 0 + k ≡ k = omega arith in rw e (slice_get-get_or (frame ones abc) k 0 hk);
+  stands = λ k hk. let e : 0 + k ≡ k = omega arith in rw e (slice_get-get_or (frame Plain ones abc) k 0 hk);
 }
 
-tiling_under_41 : IsTiling (abc_under 41) (Chunk 0 41 ones 3 (sha256 abc) ∷ [])
+tiling_under_41 : IsTiling (abc_under 41) (Chunk Plain 0 41 ones 3 (sha256 abc) ∷ [])
 unfolding abc_under abc
 tiling_under_41 = record {
   joined = (refl, refl);
-  each = All-cons (IsItem (abc_under 41)) (Chunk 0 41 ones 3 (sha256 abc)) [] (record {
+  each = All-cons (IsItem (abc_under 41)) (Chunk Plain 0 41 ones 3 (sha256 abc)) [] (record {
     below = lit< tt;
     fits = (refl, (abc, record { frame = stands 41 (omega arith); length = refl; stop = refl; digest_is = refl }));
   }) (All-nil (IsItem (abc_under 41)));
@@ -73,10 +78,12 @@ tiling_under_41 = record {
 -- a frame that ended at or before the pointer would be the frame of `abc`
 no_frame_under : (w : ℕ) → w < 41 → NoFrameAt (abc_under w) 0
 unfolding abc_under abc
-no_frame_under w h u b f =
-    let longer : FrameAt (abc_under 41) 0 u b = record { has_frame = f.has_frame; fits = omega (arith, f.fits, h); stands = f.stands } in
-    let same : length b ≡ 3 = ap length (one_frame_at (abc_under 41) 0 u ones b abc longer (stands 41 (omega arith))).1 in
-    omega (arith, f.fits, same, h)
+no_frame_under w h f u b k =
+    let here : FrameAt (abc_under (w + 41)) 0 f u b = record { has_frame = k.has_frame; fits = omega (arith, k.fits); stands = k.stands } in
+    let same : (f ≡ Plain) × (u ≡ ones) × (b ≡ abc) = one_frame_at (abc_under (w + 41)) 0 f u b Plain ones abc here (stands (w + 41) (omega arith)) in
+    let long : length b ≡ 3 = ap length same.2 in
+    let round : frame_overhead f ≡ 38 = ap frame_overhead same.0 in
+    omega (arith, k.fits, long, round, h)
 
 is_readable : (w : ℕ) → ¬ IsUnreadableAt (abc_under w) 0
 unfolding abc_under ones abc
@@ -88,9 +95,9 @@ is_not_zero w h zeros = absurd (let e : Some 0xC5 ≡ Some 0 = zeros 0 (omega ar
 
 begins_with_magic : (w : ℕ) → 2 ≤ w → HasMagic (abc_under w) 0
 unfolding abc_under ones abc
-begins_with_magic w h = (omega (arith, h), each)
+begins_with_magic w h = (omega (arith, h), (Plain, each))
   where
-    each : (k : ℕ) → k < 2 → slice_get (frame ones abc) (0 + k) ≡ Some (get_or frame_magic k 0)
+    each : (k : ℕ) → k < 2 → slice_get (frame Plain ones abc) (0 + k) ≡ Some (get_or (magic Plain) k 0)
     each zero hk = refl
     each (suc zero) hk = refl
     each (suc (suc k)) hk = absurd (let f : ⊥ = omega (arith, hk) in f)
@@ -132,7 +139,7 @@ zeros_then_lost = record { byte = λ i. zero_or_lost (nat_lt i 64); page = 64; p
 
 no_frame_in_zeros : (p : ℕ) → NoFrameAt zeros_then_lost p
 unfolding zeros_then_lost zero_or_lost
-no_frame_in_zeros p u b f = first (nat_lt (p + 0) 64) (f.stands 0 (omega (arith, length-frame u b f.has_frame.sixteen)))
+no_frame_in_zeros p f u b k = first (nat_lt (p + 0) 64) (k.stands 0 (omega (arith, length-frame f u b k.has_frame.sixteen)))
   where
     first : (b : Bool) → zero_or_lost b ≡ Some 0xC5 → ⊥
     first true e = cc

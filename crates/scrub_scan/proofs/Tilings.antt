@@ -3,6 +3,7 @@ use Rattle.std.proofs.Common.{◌≡◌, ◌<◌, ◌≤◌, ◌+◌, ◌*◌, �
 use Rattle.std.proofs.Math.Nat.{mod-lt}
 use Rattle.std.proofs.lemmas.Nat.{div-add-mod'}
 use Rattle.std.proofs.lemmas.List.Elements.{All-push, All-head, All-tail}
+use Rattle.scrub_frame.specs.declared.form.Form.{Form}
 use Rattle.scrub_frame.specs.Frame.{frame_overhead}
 use Rattle.scrub_scan.specs.declared.item.Item.{Item}
 use Rattle.scrub_scan.specs.declared.item.Item.TheVariants.{Chunk, Pad, Torn, Noise, Lost}
@@ -31,8 +32,8 @@ bound_above x p pos h =
 
 -- an item stops above its start, and not above the pointer
 pub advances : (x : Extent) (item : Item) → 0 < x.page → IsItem x item → (start_of item < stop_of item) × (stop_of item ≤ x.pointer)
-advances x (Chunk start stop u n digest) pos h =
-    let k : IsChunk x start stop n u digest h.fits.1.0 = h.fits.1.1 in
+advances x (Chunk f start stop u n digest) pos h =
+    let k : IsChunk x start f stop n u digest h.fits.1.0 = h.fits.1.1 in
     (omega (arith, k.stop), omega (arith, k.stop, k.frame.fits))
 advances x (Lost start stop) pos h = let b = bound_above x start pos h.below in (omega (arith, h.fits.0.1, b.0), omega (arith, h.fits.0.1, b.1))
 advances x (Pad start stop) pos h = let b = bound_above x start pos h.below in (omega (arith, h.fits.0.1, b.0), omega (arith, h.fits.0.1, b.1))
@@ -50,14 +51,14 @@ one_more_item x p q items item pos h starts is stops = record {
 same_span : (kind : ℕ → ℕ → Item) (x : Extent) (p a b a' b' : ℕ) → Spans x p a b → Spans x p a' b' → kind a b ≡ kind a' b'
 same_span kind x p a b a' b' h k = ap (λ n. kind n b) (h.0 ∙ sym k.0) ∙ ap (λ n. kind a' n) (h.1 ∙ sym k.1)
 
-same_chunk : (x : Extent) (p a b : ℕ) (u : List ℕ) (n : ℕ) (d : List ℕ) (a' b' : ℕ) (v : List ℕ) (m : ℕ) (f : List ℕ) →
-    Fits x p (Chunk a b u n d) → Fits x p (Chunk a' b' v m f) → Chunk a b u n d ≡ Chunk a' b' v m f
-same_chunk x p a b u n d a' b' v m f h k =
-    let s : (u ≡ v) × (h.1.0 ≡ k.1.0) = one_frame_at x p u v h.1.0 k.1.0 h.1.1.frame k.1.1.frame in
-    let e : n ≡ m = h.1.1.length ∙ ap length s.1 ∙ sym k.1.1.length in
-    let stop : b ≡ b' = h.1.1.stop ∙ ap (λ t. p + length t + frame_overhead) s.1 ∙ sym k.1.1.stop in
-    let sha : d ≡ f = h.1.1.digest_is ∙ ap sha256 s.1 ∙ sym k.1.1.digest_is in
-    ap (λ z. Chunk z b u n d) (h.0 ∙ sym k.0) ∙ ap (λ z. Chunk a' z u n d) stop ∙ ap (λ z. Chunk a' b' z n d) s.0 ∙ ap (λ z. Chunk a' b' v z d) e ∙ ap (λ z. Chunk a' b' v m z) sha
+same_chunk : (x : Extent) (p : ℕ) (f : Form) (a b : ℕ) (u : List ℕ) (n : ℕ) (d : List ℕ) (g : Form) (a' b' : ℕ) (v : List ℕ) (m : ℕ) (c : List ℕ) →
+    Fits x p (Chunk f a b u n d) → Fits x p (Chunk g a' b' v m c) → Chunk f a b u n d ≡ Chunk g a' b' v m c
+same_chunk x p f a b u n d g a' b' v m c h k =
+    let s : (f ≡ g) × (u ≡ v) × (h.1.0 ≡ k.1.0) = one_frame_at x p f u h.1.0 g v k.1.0 h.1.1.frame k.1.1.frame in
+    let e : n ≡ m = h.1.1.length ∙ ap length s.2 ∙ sym k.1.1.length in
+    let stop : b ≡ b' = h.1.1.stop ∙ ap (λ t. p + length t + frame_overhead f) s.2 ∙ ap (λ (o : Form). p + length k.1.0 + frame_overhead o) s.0 ∙ sym k.1.1.stop in
+    let sha : d ≡ c = h.1.1.digest_is ∙ ap sha256 s.2 ∙ sym k.1.1.digest_is in
+    ap (λ z. Chunk z a b u n d) s.0 ∙ ap (λ z. Chunk g z b u n d) (h.0 ∙ sym k.0) ∙ ap (λ z. Chunk g a' z u n d) stop ∙ ap (λ z. Chunk g a' b' z n d) s.1 ∙ ap (λ z. Chunk g a' b' v z d) e ∙ ap (λ z. Chunk g a' b' v m z) sha
 
 -- where zeros stand the page is readable
 zeros_are_readable : (x : Extent) (p : ℕ) → p < bound x p → IsZero x p → IsUnreadableAt x p → ⊥
@@ -68,27 +69,27 @@ zeros_are_readable x p hp z none = some_none 0 (sym (z p (omega arith) hp) ∙ n
 
 -- at most one item fits at a place: the cases exclude one another
 one_item_fits : (x : Extent) (p : ℕ) (i j : Item) → p < bound x p → Fits x p i → Fits x p j → i ≡ j
-one_item_fits x p (Chunk a b u n d) (Chunk a' b' v m f) hp h k = same_chunk x p a b u n d a' b' v m f h k
-one_item_fits x p (Chunk a b u n d) (Lost a' b') hp h k = absurd (k.1 u h.1.0 h.1.1.frame)
-one_item_fits x p (Chunk a b u n d) (Pad a' b') hp h k = absurd (k.1 u h.1.0 h.1.1.frame)
-one_item_fits x p (Chunk a b u n d) (Torn a' b') hp h k = absurd (k.1 u h.1.0 h.1.1.frame)
-one_item_fits x p (Chunk a b u n d) (Noise a' b') hp h k = absurd (k.1 u h.1.0 h.1.1.frame)
-one_item_fits x p (Lost a b) (Chunk a' b' v m f) hp h k = absurd (h.1 v k.1.0 k.1.1.frame)
+one_item_fits x p (Chunk f a b u n d) (Chunk g a' b' v m c) hp h k = same_chunk x p f a b u n d g a' b' v m c h k
+one_item_fits x p (Chunk f a b u n d) (Lost a' b') hp h k = absurd (k.1 f u h.1.0 h.1.1.frame)
+one_item_fits x p (Chunk f a b u n d) (Pad a' b') hp h k = absurd (k.1 f u h.1.0 h.1.1.frame)
+one_item_fits x p (Chunk f a b u n d) (Torn a' b') hp h k = absurd (k.1 f u h.1.0 h.1.1.frame)
+one_item_fits x p (Chunk f a b u n d) (Noise a' b') hp h k = absurd (k.1 f u h.1.0 h.1.1.frame)
+one_item_fits x p (Lost a b) (Chunk g a' b' v m c) hp h k = absurd (h.1 g v k.1.0 k.1.1.frame)
 one_item_fits x p (Lost a b) (Lost a' b') hp h k = same_span Lost x p a b a' b' h.0 k.0
 one_item_fits x p (Lost a b) (Pad a' b') hp h k = absurd (zeros_are_readable x p hp k.2 h.2)
 one_item_fits x p (Lost a b) (Torn a' b') hp h k = absurd (k.2 h.2)
 one_item_fits x p (Lost a b) (Noise a' b') hp h k = absurd (k.2 h.2)
-one_item_fits x p (Pad a b) (Chunk a' b' v m f) hp h k = absurd (h.1 v k.1.0 k.1.1.frame)
+one_item_fits x p (Pad a b) (Chunk g a' b' v m c) hp h k = absurd (h.1 g v k.1.0 k.1.1.frame)
 one_item_fits x p (Pad a b) (Lost a' b') hp h k = absurd (zeros_are_readable x p hp h.2 k.2)
 one_item_fits x p (Pad a b) (Pad a' b') hp h k = same_span Pad x p a b a' b' h.0 k.0
 one_item_fits x p (Pad a b) (Torn a' b') hp h k = absurd (k.3 h.2)
 one_item_fits x p (Pad a b) (Noise a' b') hp h k = absurd (k.3 h.2)
-one_item_fits x p (Torn a b) (Chunk a' b' v m f) hp h k = absurd (h.1 v k.1.0 k.1.1.frame)
+one_item_fits x p (Torn a b) (Chunk g a' b' v m c) hp h k = absurd (h.1 g v k.1.0 k.1.1.frame)
 one_item_fits x p (Torn a b) (Lost a' b') hp h k = absurd (h.2 k.2)
 one_item_fits x p (Torn a b) (Pad a' b') hp h k = absurd (h.3 k.2)
 one_item_fits x p (Torn a b) (Torn a' b') hp h k = same_span Torn x p a b a' b' h.0 k.0
 one_item_fits x p (Torn a b) (Noise a' b') hp h k = absurd (k.4 h.4)
-one_item_fits x p (Noise a b) (Chunk a' b' v m f) hp h k = absurd (h.1 v k.1.0 k.1.1.frame)
+one_item_fits x p (Noise a b) (Chunk g a' b' v m c) hp h k = absurd (h.1 g v k.1.0 k.1.1.frame)
 one_item_fits x p (Noise a b) (Lost a' b') hp h k = absurd (h.2 k.2)
 one_item_fits x p (Noise a b) (Pad a' b') hp h k = absurd (h.3 k.2)
 one_item_fits x p (Noise a b) (Torn a' b') hp h k = absurd (h.4 k.4)

@@ -1,7 +1,8 @@
 -- One extent under its write pointer, and what stands at a place of it.
 use Rattle.std.specs.Prelude.{◌≡◌, ◌<◌, ◌≤◌, ◌+◌, ◌*◌, ◌/◌, ℕ, min, List, length, Option, Some, None}
 use Rattle.scrub_disk.specs.Image.{Image, byte, AreBytesAt}
-use Rattle.scrub_frame.specs.Frame.{frame, frame_magic, frame_overhead, HasFrame}
+use Rattle.scrub_frame.specs.declared.form.Form.{Form}
+use Rattle.scrub_frame.specs.Frame.{frame, magic, frame_overhead, HasFrame}
 
 -- an extent: each byte of it, None where its page is unreadable; the bytes of a page; the write pointer, in bytes
 pub record Extent : Type 0 where
@@ -13,18 +14,19 @@ pub record Extent : Type 0 where
 abbrev pub extent_of : Image → ℕ → ℕ → Extent
 extent_of image e w = record { byte = byte image e; page = image.geometry.page; pointer = w }
 
--- the frame of u and b stands at p, all of it readable, and ends at or before the pointer
-pub record FrameAt (x : Extent) (p : ℕ) (u b : List ℕ) : Type 0 where
+-- the frame of form f, u and b stands at p, all of it readable, and ends at or before the pointer
+pub record FrameAt (x : Extent) (p : ℕ) (f : Form) (u b : List ℕ) : Type 0 where
   pub has_frame : HasFrame u b
-  pub fits : p + length b + frame_overhead ≤ x.pointer
-  pub stands : AreBytesAt x.byte p (frame u b)
+  pub fits : p + length b + frame_overhead f ≤ x.pointer
+  pub stands : AreBytesAt x.byte p (frame f u b)
 
 -- the least of the pointer and the next page bound above p
 abbrev pub bound : Extent → ℕ → ℕ
 bound x p = min x.pointer ((p / x.page + 1) * x.page)
 
+-- a frame of neither form stands at p
 abbrev pub NoFrameAt : Extent → ℕ → Type 0
-NoFrameAt x p = (u b : List ℕ) → ¬ FrameAt x p u b
+NoFrameAt x p = (f : Form) (u b : List ℕ) → ¬ FrameAt x p f u b
 
 -- the page of p, a place of the extent, is unreadable
 abbrev pub IsUnreadableAt : Extent → ℕ → Type 0
@@ -34,9 +36,9 @@ IsUnreadableAt x p = x.byte p ≡ None
 abbrev pub IsZero : Extent → ℕ → Type 0
 IsZero x p = (i : ℕ) → p ≤ i → i < bound x p → x.byte i ≡ Some 0
 
--- the magic stands at p, before the bound
+-- the magic of one of the forms stands at p, before the bound
 abbrev pub HasMagic : Extent → ℕ → Type 0
-HasMagic x p = (p + 2 ≤ bound x p) × AreBytesAt x.byte p frame_magic
+HasMagic x p = (p + 2 ≤ bound x p) × ((f : Form) × AreBytesAt x.byte p (magic f))
 
 -- one of the n bytes from p on can't be read
 pub record HasGap (at : ℕ → Option ℕ) (p n : ℕ) : Type 0 where

@@ -1,5 +1,5 @@
 -- How bytes are read from their place: each page's are put behind those before it.
-use Rattle.std.specs.Prelude.{◌≡◌, ◌<◌, ◌≤◌, ◌+◌, ◌++◌, ℕ, List, Option, length}
+use Rattle.std.specs.Prelude.{◌≡◌, ◌<◌, ◌≤◌, ◌++◌, ℕ, List, Option, length}
 use Rattle.scrub_disk.specs.Image.{AreBytesAt}
 
 -- n bytes or more stand at p, and the list has grown by the first n of them, one or more

@@ -1,7 +1,9 @@
--- The line of an item: the word for its kind and its numbers in decimal, with one space between.
+-- The line of an item: the word for its kind, of a chunk by its form, and its numbers in decimal, with one space between.
 use Rattle.std.specs.Prelude.{ℕ, List, ◌++◌, codes}
 use Rattle.std.specs.Fmt.{decimal}
 use Rattle.uuid.specs.Text.{hyphenated_text, lower}
+use Rattle.scrub_frame.specs.declared.form.Form.{Form}
+use Rattle.scrub_frame.specs.declared.form.Form.TheVariants.{Plain, Sealed}
 use Rattle.scrub_scan.specs.declared.item.Item.{Item}
 use Rattle.scrub_scan.specs.declared.item.Item.TheVariants.{Chunk, Pad, Torn, Noise, Lost}
 
@@ -13,9 +15,14 @@ spaced text = codes " " ++ text
 abbrev pub places : ℕ → ℕ → List ℕ
 places start stop = spaced (decimal start) ++ spaced (decimal stop)
 
+-- the word for a chunk
+abbrev pub chunk_word : Form → List ℕ
+chunk_word Plain = codes "chunk"
+chunk_word Sealed = codes "sealed"
+
 abbrev pub line_of : Item → List ℕ
-line_of (Chunk start stop uuid length digest) =
-    codes "chunk" ++ places start stop ++ spaced (hyphenated_text lower uuid) ++ spaced (decimal length)
+line_of (Chunk form start stop uuid length digest) =
+    chunk_word form ++ places start stop ++ spaced (hyphenated_text lower uuid) ++ spaced (decimal length)
 line_of (Pad start stop) = codes "pad" ++ places start stop
 line_of (Torn start stop) = codes "torn" ++ places start stop
 line_of (Noise start stop) = codes "noise" ++ places start stop

@@ -1,5 +1,5 @@
 -- Two pages of an extent in buffers, and what is scanned through them.
-use Rattle.std.specs.Prelude.{◌≡◌, ◌<◌, ◌≤◌, ◌+◌, ◌-◌, ◌/◌, ◌⊎◌, ℕ, List, Some, None, IfSome, if◌then◌else◌, nat_lt, length}
+use Rattle.std.specs.Prelude.{◌≡◌, ◌<◌, ◌≤◌, ◌+◌, ◌-◌, ◌/◌, ◌⊎◌, ◌++◌, ℕ, List, Some, None, IfSome, if◌then◌else◌, nat_lt, length}
 use Rattle.scrub_disk.specs.Image.{Image, extent_bytes, AreBytesAt}
 use Rattle.sha2.specs.Sha256.{sha256}
 use Rattle.scrub_scan.specs.declared.pages.HeldPage.{HeldPage}
@@ -7,7 +7,8 @@ use Rattle.scrub_scan.specs.declared.pages.TwoPages.{TwoPages}
 use Rattle.scrub_scan.specs.declared.pages.Target.{Target}
 use Rattle.scrub_scan.specs.declared.scanner.Scanner.{Scanner}
 use Rattle.scrub_scan.specs.declared.scanner.Found.{Found}
-use Rattle.scrub_frame.specs.Frame.{head, frame_overhead}
+use Rattle.scrub_frame.specs.declared.form.Form.{Form}
+use Rattle.scrub_frame.specs.Frame.{head, mark, close_size, frame_overhead}
 use Rattle.scrub_frame.specs.declared.matcher.Matcher.{Matcher}
 use Rattle.scrub_frame.specs.declared.matcher.Fed.{Fed}
 use Rattle.scrub_frame.specs.declared.matcher.Fed.TheVariants.{More, Whole, No}
@@ -45,9 +46,9 @@ pub record IsTarget (image : Image) (t : Target) : Type 0 where
   pub page : t.page ≡ image.geometry.page
   pub in_extent : t.pointer ≤ extent_bytes image.geometry
 
--- the page of the last byte of a frame at p whose payload has n bytes
-abbrev pub last_page : Target → ℕ → ℕ → ℕ
-last_page t p n = (p + n + frame_overhead - 1) / t.page
+-- the page of the last byte of a frame of form f at p whose payload has n bytes
+abbrev pub last_page : Target → ℕ → Form → ℕ → ℕ
+last_page t p f n = (p + n + frame_overhead f - 1) / t.page
 
 -- what a frame costs beside its first page g, where its last is page b: nothing where these are one
 abbrev pub frame_cost : ℕ → ℕ → ℕ
@@ -65,7 +66,7 @@ pub record Scans (image : Image) (t : Target) (s : Scanner) : Type 0 where
 -- a frame with these fields stands at p
 pub record IsFound (x : Extent) (p : ℕ) (f : Found) : Type 0 where
   pub payload : List ℕ
-  pub frame : FrameAt x p f.uuid payload
+  pub frame : FrameAt x p f.form f.uuid payload
   pub size : f.length ≡ length payload
   pub digest : f.digest ≡ sha256 payload
 
@@ -80,13 +81,14 @@ pub record Passes (x : Extent) (start place : ℕ) (m : Matcher) : Type 0 where
 -- what an answer says, once the bytes up to stop were fed too
 abbrev pub IsPassed : Extent → ℕ → ℕ → Matcher → Fed → Type 0
 IsPassed x start stop m More = Passes x start stop m × (stop < x.pointer)
-IsPassed x start stop m (Whole used u n d) = IsFound x start (record { uuid = u; length = n; digest = d })
+IsPassed x start stop m (Whole used f u n d) = IsFound x start (record { form = f; uuid = u; length = n; digest = d })
 IsPassed x start stop m No = NoFrameAt x start
 
--- a head stands at p whose frame would end at or before the pointer, and its UUID stands once more where that would end
+-- a head stands at p whose frame would end at or before the pointer, and what closes the frame stands where that would end
 pub record Claims (x : Extent) (p : ℕ) : Type 0 where
+  pub form : Form
   pub uuid : List ℕ
   pub size : ℕ
-  pub head_stands : AreBytesAt x.byte p (head uuid size)
-  pub fits : p + size + frame_overhead ≤ x.pointer
-  pub close : AreBytesAt x.byte (p + (size + frame_overhead) - 16) uuid
+  pub head_stands : AreBytesAt x.byte p (head form uuid size)
+  pub fits : p + size + frame_overhead form ≤ x.pointer
+  pub close : AreBytesAt x.byte (p + (size + frame_overhead form) - close_size form) (uuid ++ mark form)

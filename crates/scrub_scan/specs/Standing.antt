@@ -8,7 +8,7 @@ use Rattle.scrub_scan.specs.Extent.{extent_of, FrameAt}
 
 -- the frame has this payload, and ends at or before the pointer
 pub record IsFrameOf (image : Image) (pointer : ℕ) (s : Standing) (payload : List ℕ) : Type 0 where
-  pub frame : FrameAt (extent_of image s.extent pointer) s.offset s.uuid payload
+  pub frame : FrameAt (extent_of image s.extent pointer) s.offset s.form s.uuid payload
   pub length : s.length ≡ len payload
   pub digest : s.digest ≡ sha256 payload
 

@@ -3,6 +3,7 @@
 ghost use Rattle.std.specs.Prelude.{◌≡◌, IfOk, length, string_bytes};
 
 use scrub_disk::OutOfMemory;
+use scrub_frame::Form;
 use std::alloc::Global;
 use std::fmt;
 use std::marker::Model;
@@ -12,9 +13,11 @@ use uuid::Uuid;
 /// but a chunk stop at the next page bound above their start, or at the write pointer where that comes first.
 #[derive(Debug, Clone, Copy, PartialEq, Eq)]
 pub enum Item {
-    /// A whole frame on readable pages, with its UUID, the length of its payload in bytes (`stop` is
-    /// `FRAME_OVERHEAD` bytes further than that), and the SHA-256 of its payload. Nothing says that the payload is what its writer meant.
+    /// A whole frame on readable pages, with its form, its UUID, the length of its payload in bytes (`stop` is
+    /// `form.overhead()` bytes further than that), and the SHA-256 of its payload. Nothing says that the payload is what its
+    /// writer meant.
     Chunk {
+        form: Form,
         start: u32,
         stop: u32,
         uuid: Uuid,
@@ -26,7 +29,7 @@ pub enum Item {
         start: u32,
         stop: u32,
     },
-    /// A magic with no whole frame behind it, as a write that never ended leaves it.
+    /// A magic of one of the forms with no whole frame behind it, as a write that never ended leaves it.
     Torn {
         start: u32,
         stop: u32,
@@ -89,6 +92,16 @@ impl Item {
     }
 }
 
+/// The word for a chunk of a form.
+fn chunk_word(form: Form) -> &'static str
+    ensures { result.now ≡ chunk_word form }
+{
+    match form {
+        Form::Plain => "chunk",
+        Form::Sealed => "sealed",
+    }
+}
+
 impl fmt::Display for Item {
     ghost use Rattle.std.specs.Prelude.{Some};
     ghost use Rattle.scrub_scan.specs.Line.{line_of};
@@ -98,12 +111,16 @@ impl fmt::Display for Item {
     fn fmt<W: fmt::Write>(&self, f: &mut fmt::Formatter<W>) -> fmt::Result {
         match self {
             Item::Chunk {
+                form,
                 start,
                 stop,
                 uuid,
                 length,
                 ..
-            } => write!(f, "chunk {start} {stop} {uuid} {length}"),
+            } => {
+                let word = chunk_word(*form);
+                write!(f, "{word} {start} {stop} {uuid} {length}")
+            }
             Item::Pad { start, stop } => write!(f, "pad {start} {stop}"),
             Item::Torn { start, stop } => write!(f, "torn {start} {stop}"),
             Item::Noise { start, stop } => write!(f, "noise {start} {stop}"),
@@ -112,9 +129,10 @@ impl fmt::Display for Item {
     }
 }
 
-ghost use Rattle.scrub_scan.specs.Line.{line_of};
+ghost use Rattle.scrub_scan.specs.Line.{chunk_word, line_of};
 
-/// The line of an item, without a line feed: the word for its kind, its start and stop in decimal, and of a chunk its
+/// The line of an item, without a line feed: the word for its kind (of a chunk `chunk` or `sealed`, by its form), its start
+/// and stop in decimal, and of a chunk its
 /// UUID as RFC 9562 writes it, in lower case, and the length of its payload.
 pub fn item_line(alloc: Global, item: &Item) -> Result<String, OutOfMemory>
     ensures { IfOk result (λ line. string_bytes line ≡ line_of item.now) }

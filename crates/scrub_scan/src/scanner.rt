@@ -1,8 +1,9 @@
 //! The item at a place of an extent, found by reading one page at a time. Which places the tiling asks for is left to it.
 
-ghost use Rattle.std.specs.Prelude.{◌≡◌, ◌+◌, ◌-◌, ◌*◌, ◌/◌, ◌^◌, ◌<◌, ◌≤◌, ◌↔◌, ℕ, List, true, false, None, Some, IsTrue, IfOk, IfSome, IfNone, length, slice_index};
+ghost use Rattle.std.specs.Prelude.{◌≡◌, ◌+◌, ◌-◌, ◌*◌, ◌/◌, ◌^◌, ◌<◌, ◌≤◌, ◌↔◌, ◌∷◌, [], ℕ, List, true, false, None, Some, IsTrue, IfOk, IfSome, IfNone, length, slice_index};
 ghost use Rattle.scrub_disk.specs.Image.{Image, byte, extent_bytes, AreBytesAt};
-ghost use Rattle.scrub_frame.specs.Frame.{frame_overhead};
+ghost use Rattle.scrub_frame.specs.declared.form.Form.{Form};
+ghost use Rattle.scrub_frame.specs.Frame.{magic, frame_overhead};
 ghost use Rattle.scrub_frame.specs.Matching.{left};
 ghost use Rattle.scrub_scan.specs.declared.pages.Target.{Target};
 ghost use Rattle.scrub_scan.specs.Extent.{Extent, FrameAt, NoFrameAt, HasGap, bound};
@@ -12,13 +13,16 @@ ghost use Rattle.scrub_scan.specs.Pages.{HoldBoth, IsTarget, target_of, Scans, I
 use crate::item::Item;
 use crate::pages::{Target, TwoPages};
 use scrub_disk::{OutOfMemory, PageSource};
-use scrub_frame::{FRAME_OVERHEAD, Fed, HEAD_BYTES, MAGIC, Matcher, put_part, read_head};
+use scrub_frame::{
+    CLOSE_BYTES, Fed, Form, HEAD_BYTES, LEAST_OVERHEAD, Matcher, put_part, read_head,
+};
 use std::alloc::Global;
 use uuid::Uuid;
 
 /// A frame that stands at a place.
 #[derive(Clone, Copy)]
 pub(crate) struct Found {
+    pub form: Form,
     pub uuid: Uuid,
     /// The length of its payload, in bytes.
     pub length: u32,
@@ -43,11 +47,12 @@ fn is_zero(part: &[u8]) -> bool
     part.iter().all(|b| *b == 0)
 }
 
-/// Whether a part begins with the magic.
+/// Whether a part begins with the magic of one of the forms.
 fn has_magic(part: &[u8]) -> bool
-    ensures { IsTrue result ↔ ((2 ≤ length part.now) × (slice_index part.now 0 ≡ 0xC5) × (slice_index part.now 1 ≡ 0x5E)) }
+    ensures found { IsTrue result → (2 ≤ length part.now) × ((f : Form) × (slice_index part.now 0 ∷ slice_index part.now 1 ∷ [] ≡ magic f)) }
+    ensures none { result ≡ false → 2 ≤ length part.now → (f : Form) → ¬ (slice_index part.now 0 ∷ slice_index part.now 1 ∷ [] ≡ magic f) }
 {
-    part.len() >= 2 && part[0] == MAGIC[0] && part[1] == MAGIC[1]
+    part.len() >= 2 && Form::with_magic(part[0], part[1]).is_some()
 }
 
 /// The item of a part that can be read, from a place where no frame stands up to the bound above it.
@@ -116,7 +121,7 @@ impl Scanner {
         ensures found { IfSome result (IsFound (target_of (D.image disk.now) target.now) start) }
         ensures none { IfNone result (NoFrameAt (target_of (D.image disk.now) target.now) start) }
         ensures asked_found { (n : ℕ) → AskedBy self.old.pages (start / target.now.page) n →
-            IfSome result (λ f. self.new.pages.asked ≤ n + 1 + frame_cost (start / target.now.page) (last_page target.now start f.length)) }
+            IfSome result (λ f. self.new.pages.asked ≤ n + 1 + frame_cost (start / target.now.page) (last_page target.now start f.form f.length)) }
         ensures asked_none { (n : ℕ) → AskedBy self.old.pages (start / target.now.page) n →
             IfNone result (self.new.pages.asked ≤ n + 4 + (D.image disk.now).geometry.pages) }
     {
@@ -131,22 +136,24 @@ impl Scanner {
     /// The chunk of a frame that stands at a place. Where the next item begins on the far page, that becomes the near one.
     fn chunk_of(&mut self, target: &Target, start: usize, found: Found) -> Item
         requires below { start < target.now.pointer }
-        requires fits { start + found.length + frame_overhead ≤ target.now.pointer }
+        requires fits { start + found.length + frame_overhead found.form ≤ target.now.pointer }
         ensures scans { (image : Image) → Scans image target.now self.old → Scans image target.now self.new }
         ensures start { start_of result ≡ start }
-        ensures stop { stop_of result ≡ start + found.length + frame_overhead }
+        ensures stop { stop_of result ≡ start + found.length + frame_overhead found.form }
         ensures item { (image : Image) → IsFound (target_of image target.now) start found → IsItem (target_of image target.now) result }
         ensures near { self.old.pages.near.number ≡ Some (stop_of result / target.now.page) → self.new.pages.near.number ≡ Some (stop_of result / target.now.page) }
         ensures asked { self.new.pages.asked ≡ self.old.pages.asked }
     {
         let Found {
+            form,
             uuid,
             length,
             digest,
         } = found;
-        let stop = start + length as usize + FRAME_OVERHEAD;
+        let stop = start + length as usize + form.overhead();
         self.pages.turn((stop / target.page) as u32);
         Item::Chunk {
+            form,
             start: start as u32,
             stop: stop as u32,
             uuid,
@@ -175,8 +182,8 @@ impl Scanner {
         }
     }
 
-    /// Whether a frame may stand at a place, by its head, by the page that is known to be unreadable, and by its second
-    /// UUID. It is asked before anything is hashed, so that a head which claims a frame that isn't there costs three
+    /// Whether a frame may stand at a place, by its head, by the page that is known to be unreadable, and by what closes it.
+    /// It is asked before anything is hashed, so that a head which claims a frame whose far end isn't there costs three
     /// pages at most.
     fn may_stand<D: PageSource>(&mut self, disk: &D, target: &Target, start: usize) -> bool
         requires target { IsTarget (D.image disk.now) target.now }
@@ -187,11 +194,11 @@ impl Scanner {
         ensures claims { result ≡ true → Claims (target_of (D.image disk.now) target.now) start }
         ensures none { result ≡ false → NoFrameAt (target_of (D.image disk.now) target.now) start }
         ensures asked { self.new.pages.asked ≤ self.old.pages.asked + 4 }
-        ensures known { (u b : List ℕ) → FrameAt (target_of (D.image disk.now) target.now) start u b → last_page target.now start (length b) ≤ start / target.now.page →
+        ensures known { (f : Form) (u b : List ℕ) → FrameAt (target_of (D.image disk.now) target.now) start f u b → last_page target.now start f (length b) ≤ start / target.now.page →
             self.old.pages.near.number ≡ Some (start / target.now.page) → self.new.pages.asked ≡ self.old.pages.asked }
     {
         let room = target.pointer - start;
-        if room < FRAME_OVERHEAD {
+        if room < LEAST_OVERHEAD {
             return false;
         }
         let mut bytes = [0; HEAD_BYTES];
@@ -201,11 +208,19 @@ impl Scanner {
         let Some(head) = read_head(&bytes) else {
             return false;
         };
-        let size = head.length as usize + FRAME_OVERHEAD;
+        let size = head.frame_bytes() as usize;
         if room < size || self.has_gap(start / target.page, (start + size - 1) / target.page) {
             return false;
         }
-        self.has_uuid(disk, target, start + size - 16, &head.uuid)
+        let close = head.form.close_bytes();
+        let mut found = [0; CLOSE_BYTES];
+        self.has_bytes(
+            disk,
+            target,
+            start + size - close,
+            &head.form.close(&head.uuid)[..close],
+            &mut found[..close],
+        )
     }
 
     /// Whether the page that broke off a frame is one of these.
@@ -219,31 +234,32 @@ impl Scanner {
         }
     }
 
-    /// Whether these sixteen bytes stand at a place.
-    fn has_uuid<D: PageSource>(
+    /// Whether these bytes stand at a place. What stands there is put into `out`, where all of it can be read.
+    fn has_bytes<D: PageSource>(
         &mut self,
         disk: &D,
         target: &Target,
         place: usize,
-        uuid: &Uuid,
+        wanted: &[u8],
+        out: &mut [u8],
     ) -> bool
         requires target { IsTarget (D.image disk.now) target.now }
         requires scans { Scans (D.image disk.now) target.now self.old }
-        requires within { place + 16 ≤ target.now.pointer }
-        requires sixteen { length uuid.now ≡ 16 }
+        requires within { place + length wanted.now ≤ target.now.pointer }
+        requires same { length out.old ≡ length wanted.now }
+        requires short { length wanted.now ≤ 64 }
         ensures scans { Scans (D.image disk.now) target.now self.new }
         ensures near { self.new.pages.near ≡ self.old.pages.near }
-        ensures found { result ≡ true → AreBytesAt (target_of (D.image disk.now) target.now).byte place uuid.now }
-        ensures none { result ≡ false → ¬ AreBytesAt (target_of (D.image disk.now) target.now).byte place uuid.now }
+        ensures found { result ≡ true → AreBytesAt (target_of (D.image disk.now) target.now).byte place wanted.now }
+        ensures none { result ≡ false → ¬ AreBytesAt (target_of (D.image disk.now) target.now).byte place wanted.now }
         ensures asked { self.new.pages.asked ≤ self.old.pages.asked + 2 }
-        ensures known { self.old.pages.near.number ≡ Some (place / target.now.page) → place + 16 ≤ (place / target.now.page + 1) * target.now.page →
+        ensures known { self.old.pages.near.number ≡ Some (place / target.now.page) → place + length wanted.now ≤ (place / target.now.page + 1) * target.now.page →
             self.new.pages.asked ≡ self.old.pages.asked }
     {
-        let mut bytes = [0; 16];
-        if !self.fill(disk, target, place, &mut bytes) {
+        if !self.fill(disk, target, place, out) {
             return false;
         }
-        bytes == *uuid.as_bytes()
+        *out == *wanted
     }
 
     /// Fills `out` with the bytes from a place on, and says whether all of them can be read.
@@ -296,7 +312,7 @@ impl Scanner {
         ensures found { IfSome result (IsFound (target_of (D.image disk.now) target.now) start) }
         ensures none { IfNone result (NoFrameAt (target_of (D.image disk.now) target.now) start) }
         ensures asked_found { self.old.pages.near.number ≡ Some (start / target.now.page) →
-            IfSome result (λ f. self.new.pages.asked ≤ self.old.pages.asked + (last_page target.now start f.length - start / target.now.page)) }
+            IfSome result (λ f. self.new.pages.asked ≤ self.old.pages.asked + (last_page target.now start f.form f.length - start / target.now.page)) }
         ensures asked_none { self.old.pages.near.number ≡ Some (start / target.now.page) →
             IfNone result (self.new.pages.asked < self.old.pages.asked + (D.image disk.now).geometry.pages) }
     {
@@ -306,12 +322,14 @@ impl Scanner {
             match self.pass_page(disk, target, place) {
                 Fed::More => place = target.bound(place),
                 Fed::Whole {
+                    form,
                     uuid,
                     length,
                     digest,
                     ..
                 } => {
                     return Some(Found {
+                        form,
                         uuid,
                         length,
                         digest,

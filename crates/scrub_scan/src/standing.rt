@@ -2,6 +2,7 @@
 
 ghost use Rattle.std.specs.Prelude.{◌≡◌, ◌<◌, ◌≤◌, ℕ, List, IfOk, IfSome, IfNone};
 ghost use Rattle.scrub_disk.specs.Image.{Image, extent_bytes};
+ghost use Rattle.scrub_frame.specs.declared.form.Form.{Form};
 ghost use Rattle.scrub_scan.specs.Extent.{extent_of, FrameAt, NoFrameAt};
 ghost use Rattle.scrub_scan.specs.Standing.{IsStandingAt, Stands, HasPayload};
 
@@ -9,7 +10,7 @@ use crate::pages::Target;
 use crate::reading::read_bytes;
 use crate::scanner::{Found, Scanner};
 use scrub_disk::{OutOfMemory, PageSource};
-use scrub_frame::HEAD_BYTES;
+use scrub_frame::Form;
 use std::alloc::Global;
 use uuid::Uuid;
 
@@ -20,6 +21,8 @@ pub struct Standing {
     pub extent: u32,
     /// The byte of the extent that the frame begins at.
     pub offset: u32,
+    /// The form of the frame.
+    pub form: Form,
     /// The UUID of the frame.
     pub uuid: Uuid,
     /// The length of its payload, in bytes.
@@ -51,6 +54,7 @@ pub fn frame_stands<D: PageSource>(
     match scanner.frame_at(disk, &target, offset as usize) {
         Some(found) => {
             let Found {
+                form,
                 uuid,
                 length,
                 digest,
@@ -58,6 +62,7 @@ pub fn frame_stands<D: PageSource>(
             Ok(Some(Standing {
                 extent,
                 offset,
+                form,
                 uuid,
                 length,
                 digest,
@@ -76,7 +81,7 @@ pub fn read_payload<D: PageSource>(
     requires { Stands (D.image disk.now) standing.now }
     ensures { IfOk result (λ payload. HasPayload (D.image disk.now) standing.now payload.items) }
 {
-    let start = standing.offset as usize + HEAD_BYTES;
+    let start = standing.offset as usize + standing.form.payload_start();
     match read_bytes(
         alloc,
         disk,
@@ -92,6 +97,6 @@ pub fn read_payload<D: PageSource>(
 /// A law: at a place of an extent one frame stands at most, under whichever pointers it is judged. So what `frame_stands`
 /// finds and what `read_payload` gives is the frame that stands there.
 pub fn one_frame_stands()
-    ensures { (image : Image) (e v w place : ℕ) (t u b c : List ℕ) →
-        FrameAt (extent_of image e v) place t b → FrameAt (extent_of image e w) place u c → (t ≡ u) × (b ≡ c) }
+    ensures { (image : Image) (e v w place : ℕ) (f : Form) (t b : List ℕ) (g : Form) (u c : List ℕ) →
+        FrameAt (extent_of image e v) place f t b → FrameAt (extent_of image e w) place g u c → (f ≡ g) × (t ≡ u) × (b ≡ c) }
 {}

@@ -4,7 +4,7 @@ use crate::compare::same;
 use crate::disks::one_shard;
 use scrub_disk::{Geometry, MemDisk, PageSource};
 use scrub_fakes::{CountingSource, put};
-use scrub_frame::MAGIC;
+use scrub_frame::Form;
 use scrub_scan::scan_in_order;
 use scrub_super::{Plan, choose};
 use std::alloc::Global;
@@ -40,7 +40,7 @@ fn heads(alloc: Global) -> Result<MemDisk, Fail> {
     let mut disk = MemDisk::blank(alloc, Geometry::new(64, 8, 2)?)?;
     for page in 0u8..8 {
         let mut head = [0x11; 22];
-        head[..2].copy_from_slice(&MAGIC);
+        head[..2].copy_from_slice(&Form::Plain.magic());
         head[18..].copy_from_slice(&(474 - 64 * u32::from(page)).to_be_bytes());
         put(&mut disk, 1, 64 * u32::from(page), &head)?;
     }

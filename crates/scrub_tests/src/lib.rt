@@ -27,6 +27,8 @@ mod published;
 #[cfg(test)]
 mod scrub;
 #[cfg(test)]
+mod sealed;
+#[cfg(test)]
 mod sizes;
 #[cfg(test)]
 mod status;

@@ -12,7 +12,7 @@ fn tiling_of(rt: &impl Abort, alloc: Global, disk: &MemDisk, pointer: u32) -> Re
 }
 
 /// Compares the lines of the tiling of extent 1 under a pointer.
-fn check_tiling(
+pub(super) fn check_tiling(
     rt: &impl Abort,
     alloc: Global,
     disk: &MemDisk,
@@ -111,6 +111,7 @@ fn damage_between_frames_ends_at_the_page_bound(rt: HostRuntime) -> Result<(), F
 /// The chunk of `abc` at the start of an extent.
 fn abc_chunk() -> Item {
     Item::Chunk {
+        form: Form::Plain,
         start: 0,
         stop: 41,
         uuid: Uuid::from_bytes(ONES),

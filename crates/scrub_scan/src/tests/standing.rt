@@ -20,10 +20,10 @@ fn two_extents(alloc: Global) -> Result<MemDisk, Fail> {
 }
 
 /// A pointer, and a place under it: the number of an extent and a byte of it.
-type Place = (u32, u32, u32);
+pub(super) type Place = (u32, u32, u32);
 
 /// Compares the frame that stands at a place.
-fn check_stands(
+pub(super) fn check_stands(
     rt: &impl Abort,
     alloc: Global,
     disk: &MemDisk,
@@ -48,6 +48,7 @@ fn standing_abc(extent: u32, offset: u32) -> Standing {
     Standing {
         extent,
         offset,
+        form: Form::Plain,
         uuid: Uuid::from_bytes(ONES),
         length: 3,
         digest: ABC_DIGEST,
@@ -59,6 +60,7 @@ fn standing_long() -> Standing {
     Standing {
         extent: 2,
         offset: 0,
+        form: Form::Plain,
         uuid: Uuid::from_bytes(ENDS_IN_MAGIC),
         length: 220,
         digest: LONG_DIGEST,

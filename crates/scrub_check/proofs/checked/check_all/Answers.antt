@@ -1,11 +1,25 @@
-use Rattle.std.proofs.Common.{◌∙◌, IfOk, ap, subst}
+use Rattle.std.proofs.Common.{◌∙◌, IfOk, List, ap, sym, subst}
+use Rattle.std.proofs.Crossing.{crosses}
+use denote.Param.Send.{sendable}
 use Rattle.std.specs.List.{AllZip}
 use Rattle.rayon.proofs.ListFacts.{IfOk-then}
 use Rattle.rayon.proofs.ToStd.{slice-AllZip}
+use Rattle.scrub_check.specs.declared.looks.Look.{Look}
 use Rattle.scrub_check.specs.Checked.{IsChecked}
+use Rattle.scrub_check.specs.Looks.{AreLooks}
+use Rattle.scrub_check.specs.WholeScan.{IsWholeScan}
 use Rattle.scrub_check.proofs.CheckedLists.{each_checked}
 use Rattle.scrub_check.proofs.Collected.{collected}
 use Rattle.scrub_check.proofs.checked.check_all.Goals as goal
+
+-- the looks and the scan that the closure asks for are those that it was given
+pub collect-requires-clause-ready : goal.collect-requires-clause-ready
+collect-requires-clause-ready g c κs within =
+    let image = g.D.PageSource.image c.args.disk.now in
+    let plan = c.args.plan.now in
+    let looks : AreLooks image plan c.as_slice-seen.result.now = subst (λ (ls : List Look). AreLooks image plan ls) (sym c.as_slice-seen.ensures.value) c.in_ok-looks.ensures in
+    λ k d lt x is.
+    ((subst (λ f. IsWholeScan (g.D.PageSource.image f.1.now) f.2.now f.3.now.extents × AreLooks (g.D.PageSource.image f.1.now) f.2.now f.4.now) (sym c.map.ensures.f) (c.requires, looks), search (sendable, crosses) depth 40), λ y p. tt)
 
 pub returns : goal.returns
 returns g c =

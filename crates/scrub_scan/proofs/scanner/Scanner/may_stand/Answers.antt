@@ -1,77 +1,99 @@
--- Why no frame stands there: its head can't be read or is none, it claims too much or a page that can't be read, or its
--- second UUID isn't there.
-use Rattle.std.proofs.Common.{arith, sym, ◌∙◌, subst, ℕ, List, ◌≡◌, ◌<◌, ◌+◌, ◌-◌, ◌*◌, ◌/◌, length, ap, Some}
+-- Why no frame stands there: its head can't be read or is none, it claims too much or a page that can't be read, or what
+-- closes it isn't there.
+use Rattle.std.proofs.Common.{arith, sym, ◌∙◌, subst, ℕ, List, ◌≡◌, ◌<◌, ◌+◌, ◌-◌, ◌*◌, ◌/◌, ◌++◌, length, take, ap, Some}
 use Rattle.scrub_disk.specs.Image.{AreBytesAt}
-use Rattle.scrub_frame.specs.Frame.{head_size, frame_overhead}
+use Rattle.scrub_frame.specs.Frame.{head_size, mark, close_size, frame_overhead}
 use Rattle.scrub_scan.specs.Pages.{target_of}
 use Rattle.std.proofs.Math.Nat.{div-mul-le_self}
+use Rattle.std.proofs.lemmas.List.{length-take}
 use Rattle.scrub_scan.proofs.PlacePages.{place_in_page, page_of}
 use Rattle.scrub_scan.proofs.Asked.{below_bound}
 use Rattle.scrub_scan.proofs.Passing.{gap_byte}
-use Rattle.scrub_scan.proofs.FrameBytes.{no_gap, claimed_head, has_magic, second_uuid}
+use Rattle.scrub_scan.proofs.FrameBytes.{no_gap, claimed_head, claimed_frame, has_magic, close_stands}
 use Rattle.scrub_scan.proofs.scanner.Scanner.may_stand.Goals as goal
 use Rattle.scrub_scan.proofs.scanner.Scanner.may_stand.Goals.{then-room-size-via-then-room-size, then-room-size-via-else-room-size+then-has_gap}
 
 pub returns-then-not-fill-clause-none : goal.returns-then-not-fill-clause-none
-returns-then-not-fill-clause-none g c = λ _ u b f.
-    no_gap (target_of (g.D.PageSource.image c.args.disk.now) c.args.target.now) c.args.start head_size u b f (omega arith) (c.fill.ensures.gap c.if-not-fill.true)
+returns-then-not-fill-clause-none g c = λ _ f u b k.
+    no_gap (target_of (g.D.PageSource.image c.args.disk.now) c.args.target.now) c.args.start head_size f u b k (omega arith) (c.fill.ensures.gap c.if-not-fill.true)
 
 pub returns-in_default-clause-none : goal.returns-in_default-clause-none
-returns-in_default-clause-none g c = λ _ u b f.
-    c.in_default.ensures.none
-    (has_magic (target_of (g.D.PageSource.image c.args.disk.now) c.args.target.now) c.args.start u b c.fill.new.out f (omega arith) (c.fill.ensures.filled c.if-not-fill.false))
+returns-in_default-clause-none g c = λ _ f u b k.
+    c.in_default.ensures.none f
+    (has_magic (target_of (g.D.PageSource.image c.args.disk.now) c.args.target.now) c.args.start f u b c.fill.new.out k (omega arith) (c.fill.ensures.filled c.if-not-fill.false))
+
+-- what closes the frame, as the code cuts it out
+closes : (all w : List ℕ) (size n : ℕ) → n ≡ size → take size all ≡ w → take n all ≡ w
+closes all w size n is all_is = ap (λ j. take j all) is ∙ all_is
 
 pub returns-then-room-size-clause-none : goal.returns-then-room-size-clause-none
-returns-then-room-size-clause-none g c = λ _ u b f.
+returns-then-room-size-clause-none g c = λ _ f u b k.
     let image = g.D.PageSource.image c.args.disk.now in
     let x = target_of image c.args.target.now in
+    let form = c.in-Some.head.form in
     let n = c.in-Some.head.length in
     let page = c.args.target.now.page in
     let e = c.args.target.now.extent in
-    let same = claimed_head x c.args.start n u b c.in-Some.head.uuid c.fill.new.out f (omega arith) (c.fill.ensures.filled c.if-not-fill.false) (omega arith) (omega arith) c.in-Some.ensures.found in
+    let same = claimed_frame x c.args.start f u b form c.in-Some.head.uuid c.fill.new.out n k (omega arith) (c.fill.ensures.filled c.if-not-fill.false) (omega arith) (omega arith) c.in-Some.ensures.found in
+    let size : c.frame_bytes-size.result ≡ n + frame_overhead form = c.frame_bytes-size.ensures.value in
     elim c.then-room-size.branch [
-      | then-room-size-via-then-room-size w ↦ omega (arith, w.if-room-size.true, same.1, f.fits)
+      | then-room-size-via-then-room-size w ↦ omega (arith, w.if-room-size.true, same.1, same.0.fits, size)
       | then-room-size-via-else-room-size+then-has_gap w ↦
           let gap = w.has_gap.ensures.found w.if-has_gap.true in
           let none = rw gap.1 at c.fill.ensures.scans.gap in
-          let here = place_in_page gap.0 c.args.start (c.args.start + (n + frame_overhead)) page c.args.target.now.positive (omega arith) gap.2 gap.3 in
-          no_gap x c.args.start (n + frame_overhead) u b f (omega (arith, same.1))
+          let here = place_in_page gap.0 c.args.start (c.args.start + c.frame_bytes-size.result) page c.args.target.now.positive (omega (arith, size)) gap.2 gap.3 in
+          no_gap x c.args.start (n + frame_overhead form) form c.in-Some.head.uuid b same.0 (omega (arith, same.1))
           (record {
             place = here.0;
             low = here.1;
-            high = here.2;
+            high = omega (arith, here.2, size);
             unreadable = gap_byte image e here.0 page c.requires.target.page (ap (λ q. image.page e q) here.3 ∙ none);
           })
     ]
 
 pub returns-clause-none : goal.returns-clause-none
-returns-clause-none g c = λ no u b f.
+returns-clause-none g c = λ no f u b k.
     let x = target_of (g.D.PageSource.image c.args.disk.now) c.args.target.now in
+    let form = c.in-Some.head.form in
+    let v = c.in-Some.head.uuid in
     let n = c.in-Some.head.length in
-    let same = claimed_head x c.args.start n u b c.in-Some.head.uuid c.fill.new.out f (omega arith) (c.fill.ensures.filled c.if-not-fill.false) (omega arith) (omega arith) c.in-Some.ensures.found in
-    c.has_uuid.ensures.none no
-    (subst (λ (v : List ℕ). AreBytesAt x.byte (c.args.start + (n + frame_overhead) - 16) v) (sym same.0) (second_uuid x c.args.start (c.args.start + (n + frame_overhead) - 16) u b f (omega (arith, same.1))))
+    let place = c.args.start + c.frame_bytes-size.result - c.close_bytes-close.result in
+    let same = claimed_frame x c.args.start f u b form v c.fill.new.out n k (omega arith) (c.fill.ensures.filled c.if-not-fill.false) (omega arith) (omega arith) c.in-Some.ensures.found in
+    let wanted : take c.close_bytes-close.result c.close.result ≡ v ++ mark form = closes c.close.result (v ++ mark form) (close_size form) c.close_bytes-close.result c.close_bytes-close.ensures.value c.close.ensures in
+    c.has_bytes.ensures.none no
+    (subst (λ (w : List ℕ). AreBytesAt x.byte place w) (sym wanted)
+    (close_stands x c.args.start place form v b same.0 (omega (arith, same.1, c.frame_bytes-size.ensures.value, c.close_bytes-close.ensures.value))))
 
 pub returns-clause-known : goal.returns-clause-known
-returns-clause-known g c = λ u b f last near.
+returns-clause-known g c = λ f u b k last near.
     let t = c.args.target.now in
     let x = target_of (g.D.PageSource.image c.args.disk.now) t in
+    let form = c.in-Some.head.form in
     let n = c.in-Some.head.length in
     let q = c.args.start / t.page in
-    let same = claimed_head x c.args.start n u b c.in-Some.head.uuid c.fill.new.out f (omega arith) (c.fill.ensures.filled c.if-not-fill.false) (omega arith) (omega arith) c.in-Some.ensures.found in
-    let end : c.args.start + length b + frame_overhead - 1 < (q + 1) * t.page = below_bound (c.args.start + length b + frame_overhead - 1) q t.page t.positive last in
-    let place : (c.args.start + (n + frame_overhead) - 16) / t.page ≡ q = page_of q (c.args.start + (n + frame_overhead) - 16) t.page t.positive (omega (arith, div-mul-le_self c.args.start t.page)) (omega (arith, end, same.1)) in
-    let next : ((c.args.start + (n + frame_overhead) - 16) / t.page + 1) * t.page ≡ (q + 1) * t.page = ap (λ i. (i + 1) * t.page) place in
-    c.has_uuid.ensures.known (ap (λ h. h.number) c.fill.ensures.near ∙ near ∙ ap Some (sym place)) (omega (arith, next, end, same.1))
+    let place = c.args.start + c.frame_bytes-size.result - c.close_bytes-close.result in
+    let same = claimed_head x c.args.start f u b form c.in-Some.head.uuid c.fill.new.out n k (omega arith) (c.fill.ensures.filled c.if-not-fill.false) (omega arith) (omega arith) c.in-Some.ensures.found in
+    let round : frame_overhead form ≡ frame_overhead f = ap frame_overhead same.0 in
+    let size : c.frame_bytes-size.result ≡ n + frame_overhead form = c.frame_bytes-size.ensures.value in
+    let end : c.args.start + length b + frame_overhead f - 1 < (q + 1) * t.page = below_bound (c.args.start + length b + frame_overhead f - 1) q t.page t.positive last in
+    let page : place / t.page ≡ q = page_of q place t.page t.positive (omega (arith, div-mul-le_self c.args.start t.page, size, c.close_bytes-close.ensures.value)) (omega (arith, end, same.2, round, size, c.close_bytes-close.ensures.value)) in
+    let next : (place / t.page + 1) * t.page ≡ (q + 1) * t.page = ap (λ i. (i + 1) * t.page) page in
+    c.has_bytes.ensures.known (ap (λ h. h.number) c.fill.ensures.near ∙ near ∙ ap Some (sym page)) (omega (arith, next, end, same.2, round, size, c.close_bytes-close.ensures.value, length-take c.close_bytes-close.result c.close.result))
     ∙ c.fill.ensures.known near (omega (arith, end))
 
 pub returns-clause-claims : goal.returns-clause-claims
 returns-clause-claims g c = λ holds.
     let x = target_of (g.D.PageSource.image c.args.disk.now) c.args.target.now in
+    let form = c.in-Some.head.form in
+    let v = c.in-Some.head.uuid in
+    let n = c.in-Some.head.length in
+    let wanted : take c.close_bytes-close.result c.close.result ≡ v ++ mark form = closes c.close.result (v ++ mark form) (close_size form) c.close_bytes-close.result c.close_bytes-close.ensures.value c.close.ensures in
     record {
-      uuid = c.in-Some.head.uuid;
-      size = c.in-Some.head.length;
+      form = form;
+      uuid = v;
+      size = n;
       head_stands = subst (λ (b : List ℕ). AreBytesAt x.byte c.args.start b) c.in-Some.ensures.found (c.fill.ensures.filled c.if-not-fill.false);
-      fits = omega (arith, c.if-room-size.false);
-      close = c.has_uuid.ensures.found holds;
+      fits = omega (arith, c.if-room-size.false, c.frame_bytes-size.ensures.value);
+      close = subst (λ (p : ℕ). AreBytesAt x.byte p (v ++ mark form)) (let e : c.args.start + c.frame_bytes-size.result - c.close_bytes-close.result ≡ c.args.start + (n + frame_overhead form) - close_size form = omega (arith, c.frame_bytes-size.ensures.value, c.close_bytes-close.ensures.value) in e)
+          (subst (λ (w : List ℕ). AreBytesAt x.byte (c.args.start + c.frame_bytes-size.result - c.close_bytes-close.result) w) wanted (c.has_bytes.ensures.found holds));
     }

@@ -5,23 +5,23 @@ use Rattle.std.proofs.lemmas.Slice.Eq.{bytes_eq-Decides}
 use Rattle.scrub_disk.specs.Image.{byte, AreBytesAt}
 use Rattle.scrub_scan.specs.Extent.{HasGap}
 use Rattle.scrub_scan.proofs.FrameBytes.{no_gap_in, same_bytes}
-use Rattle.scrub_scan.proofs.scanner.Scanner.has_uuid.Goals as goal
+use Rattle.scrub_scan.proofs.scanner.Scanner.has_bytes.Goals as goal
 
 pub returns-then-not-fill-clause-none : goal.returns-then-not-fill-clause-none
 returns-then-not-fill-clause-none g c = λ _ stands.
     let at = byte (g.D.PageSource.image c.args.disk.now) c.args.target.now.extent in
-    no_gap_in at c.args.place c.args.uuid.now stands
-    (subst (λ (n : ℕ). HasGap at c.args.place n) (sym c.requires.sixteen) (c.fill.ensures.gap c.if-not-fill.true))
+    no_gap_in at c.args.place c.args.wanted.now stands
+    (subst (λ (n : ℕ). HasGap at c.args.place n) c.requires.same (c.fill.ensures.gap c.if-not-fill.true))
 
 pub returns-clause-none : goal.returns-clause-none
 returns-clause-none g c = λ differs stands.
     let at = byte (g.D.PageSource.image c.args.disk.now) c.args.target.now.extent in
-    let same : c.fill.new.out ≡ c.as_bytes.result.now =
-    same_bytes at c.args.place c.fill.new.out c.args.uuid.now (omega arith) (c.fill.ensures.filled c.if-not-fill.false) stands ∙ sym c.as_bytes.ensures in
-    false≢true (sym differs ∙ c.eq.ensures ∙ (bytes_eq-Decides c.fill.new.out c.as_bytes.result.now).1 same)
+    let same : c.fill.new.out ≡ c.args.wanted.now =
+    same_bytes at c.args.place c.fill.new.out c.args.wanted.now (omega arith) (c.fill.ensures.filled c.if-not-fill.false) stands in
+    false≢true (sym differs ∙ c.eq.ensures ∙ (bytes_eq-Decides c.fill.new.out c.args.wanted.now).1 same)
 
 pub returns-clause-found : goal.returns-clause-found
 returns-clause-found g c = λ equal.
     let at = byte (g.D.PageSource.image c.args.disk.now) c.args.target.now.extent in
-    let same : c.fill.new.out ≡ c.args.uuid.now = (bytes_eq-Decides c.fill.new.out c.as_bytes.result.now).0 (sym c.eq.ensures ∙ equal) ∙ c.as_bytes.ensures in
+    let same : c.fill.new.out ≡ c.args.wanted.now = (bytes_eq-Decides c.fill.new.out c.args.wanted.now).0 (sym c.eq.ensures ∙ equal) in
     subst (λ (v : List ℕ). AreBytesAt at c.args.place v) same (c.fill.ensures.filled c.if-not-fill.false)

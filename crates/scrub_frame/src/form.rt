@@ -1,0 +1,112 @@
+//! The two forms of a frame, and all that depends on the form: which magic a frame begins with, where its payload begins,
+//! and what closes it. The bytes themselves are read and written elsewhere.
+
+ghost use Rattle.std.specs.Prelude.{◌≡◌, ◌≤◌, ◌++◌, ◌∷◌, [], IfSome, IfNone, length, take};
+ghost use Rattle.scrub_frame.specs.declared.form.Form.{Form};
+ghost use Rattle.scrub_frame.specs.Frame.{magic, mark, seal_size, payload_start, close_size, frame_overhead, longest_payload};
+
+use uuid::Uuid;
+
+/// The bytes of a head, in either form: a magic (2), a UUID (16), and the payload's length as a big-endian number (4).
+pub const HEAD_BYTES: usize = 22;
+
+/// The bytes of a payload's digest, and so of a sealed frame between its head and its payload.
+pub const SEAL_BYTES: usize = 32;
+
+/// The most bytes that stand behind a payload: the second UUID, and the closing mark of a sealed frame.
+pub const CLOSE_BYTES: usize = 18;
+
+/// The least that a frame of either form has round its payload, in bytes.
+pub const LEAST_OVERHEAD: usize = 38;
+
+/// The bytes of the longest frame that is written: those of the largest extent.
+const LONGEST_FRAME: usize = 67_108_864;
+
+/// The form of a frame.
+#[derive(Debug, Clone, Copy, PartialEq, Eq)]
+pub enum Form {
+    /// The head, the payload, and the UUID once more. Nothing in it tells whether the payload is the one that was written.
+    Plain,
+    /// The head, the payload's SHA-256 (32), the payload, the UUID once more, and a closing mark (2).
+    Sealed,
+}
+
+impl Form {
+    /// The form whose magic these two bytes are.
+    pub fn with_magic(first: u8, second: u8) -> Option<Form>
+        ensures found { IfSome result (λ form. first ∷ second ∷ [] ≡ magic form) }
+        ensures none { IfNone result ((form : Form) → ¬ (first ∷ second ∷ [] ≡ magic form)) }
+    {
+        match (first, second) {
+            (0xC5, 0x5E) => Some(Form::Plain),
+            (0xC5, 0x5F) => Some(Form::Sealed),
+            _ => None,
+        }
+    }
+
+    /// The two bytes that a frame begins with.
+    pub fn magic(self) -> [u8; 2]
+        ensures { result ≡ magic self }
+    {
+        match self {
+            Form::Plain => [0xC5, 0x5E],
+            Form::Sealed => [0xC5, 0x5F],
+        }
+    }
+
+    /// How many bytes stand between the head and the payload.
+    pub fn seal_bytes(self) -> usize
+        ensures value { result ≡ seal_size self }
+        ensures few { result ≤ 32 }
+    {
+        match self {
+            Form::Plain => 0,
+            Form::Sealed => SEAL_BYTES,
+        }
+    }
+
+    /// The byte of a frame at which its payload begins.
+    pub fn payload_start(self) -> usize
+        ensures value { result ≡ payload_start self }
+        ensures few { result ≤ 54 }
+    {
+        HEAD_BYTES + self.seal_bytes()
+    }
+
+    /// How many bytes stand behind the payload.
+    pub fn close_bytes(self) -> usize
+        ensures value { result ≡ close_size self }
+        ensures few { result ≤ 18 }
+    {
+        match self {
+            Form::Plain => 16,
+            Form::Sealed => CLOSE_BYTES,
+        }
+    }
+
+    /// How many bytes stand round the payload.
+    pub fn overhead(self) -> usize
+        ensures value { result ≡ frame_overhead self }
+        ensures few { result ≤ 72 }
+    {
+        self.payload_start() + self.close_bytes()
+    }
+
+    /// The longest payload that is written, in bytes: its frame fills an extent of 2^26 bytes, the largest.
+    pub fn longest_payload(self) -> usize
+        ensures { result ≡ longest_payload self }
+    {
+        LONGEST_FRAME - self.overhead()
+    }
+
+    /// What stands behind the payload of a frame of this UUID: the first `close_bytes` of these bytes.
+    pub fn close(self, uuid: &Uuid) -> [u8; CLOSE_BYTES]
+        ensures { take (close_size self) result ≡ uuid.now ++ mark self }
+    {
+        let mut close = [0u8; CLOSE_BYTES];
+        close[..16].copy_from_slice(uuid.as_bytes());
+        close[16] = 0x3A;
+        close[17] = 0xA3;
+        close
+    }
+}
