@@ -108,9 +108,17 @@ class Made:
             ws = [c.choice([w, w, w, w, w, w, min(self.size, w + c.randrange(40)), max(0, w - c.randrange(40)), self.size + 1 if c.random() < .1 else w]) for w in self.w]
             if c.random() < .15:
                 ws = self.w
-            t = b"SSB1" + c.choice([1, 2, 2, 2 ** 64 - 1]).to_bytes(8, "big")
+            retired = None
+            if c.random() < .4:
+                retired = sorted(c.sample(range(1, self.e), c.choice([0, 0, 1, 1, c.randrange(self.e)])))
+                if c.random() < .05:
+                    retired.append(c.choice([0, 1, self.e]))
+            t = (b"SSB1" if retired is None else b"SSB2") + c.choice([1, 2, 2, 2 ** 64 - 1]).to_bytes(8, "big")
             t += b"".join(x.to_bytes(4, "big") for x in (self.p, self.n, self.e if c.random() < .97 else self.e + 1))
-            t += len(runs).to_bytes(2, "big") + b"".join(x.to_bytes(4, "big") for x in ws) + b"".join(map(write_locator, runs))
+            t += len(runs).to_bytes(2, "big")
+            if retired is not None:
+                t += (len(retired) if c.random() < .97 else c.randrange(2 ** 16)).to_bytes(2, "big")
+            t += b"".join(x.to_bytes(4, "big") for x in ws) + b"".join(x.to_bytes(4, "big") for x in retired or []) + b"".join(map(write_locator, runs))
             t += sha(t)
             g = c.randrange(self.n)
             for g in [g] + ([c.randrange(self.n)] if c.random() < .1 else []):
@@ -143,6 +151,8 @@ def main():
             seen.update({x.split()[0] for e in report["extents"] for x in e["items"]})
             seen["clean"] += clean
             seen["tie"] += report["super"]["tie"]
+            seen["retired"] += bool(report["retired"])
+            seen["nothing planned"] += not report["extents"]
             seen["keep"] += any(x["keep"] for x in report["candidates"])
             seen["tail"] += any(e["tail"] for e in report["extents"])
             seen["no superblock"] += report["super"]["page"] is None

@@ -143,6 +143,7 @@ pub same_plan : (old new : PlanValue) → IsRestricted old old.planned new → n
 same_plan old new h = λ i. record {
   geometry = h.geometry i;
   planned = h.planned i;
+  retired = h.retired i;
   pointers = h.pointers i;
   runs = h.runs i;
   has_superblock = h.has i;

@@ -4,7 +4,7 @@ ghost use Rattle.std.specs.Prelude.{◌≡◌, [], All, Some, map};
 ghost use Rattle.std.specs.List.Sorted.{IsPermutation};
 ghost use Rattle.scrub_super.specs.Plan.{pointer_of};
 ghost use Rattle.scrub_scan.specs.Scanned.{result_image, scanned};
-ghost use Rattle.scrub_scan.specs.AllFindings.{AreAllFindings};
+ghost use Rattle.scrub_scan.specs.AllFindings.{AreAllFindings, IsOfImage};
 ghost use Rattle.scrub_book.specs.Extents.{extents_of};
 
 use crate::book::Book;
@@ -23,7 +23,7 @@ pub fn assemble<'d, D: PageSource>(
     requires pointers { All (λ r. pointer_of book.plan r.extent ≡ Some r.pointer) arrived.items }
     requires each { IsPermutation (extents_of arrived.items) book.plan.planned }
     ensures found { AreAllFindings (D.image book.entry.source) book.entry.plan result.extents }
-    ensures image { D.image result.source ≡ D.image book.entry.source }
+    ensures image { IsOfImage (λ s. D.image s) result (D.image book.entry.source) }
     ensures arrived { IsPermutation (map scanned arrived.entry.items) result.extents }
 {
     // It tells that the planned extents rise.

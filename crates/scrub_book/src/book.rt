@@ -72,7 +72,7 @@ fn first_empty<D: PageSource>(slots: &[Option<ExtentResult<'_, D>>]) -> Option<u
 impl<'d, D: PageSource> Book<'d, D> {
     ghost use Rattle.scrub_super.specs.Plan.{pointer_of};
     ghost use Rattle.scrub_scan.specs.Scanned.{result_image, scanned};
-    ghost use Rattle.scrub_scan.specs.AllFindings.{AreAllFindings};
+    ghost use Rattle.scrub_scan.specs.AllFindings.{AreAllFindings, IsOfImage};
     ghost use Rattle.scrub_book.specs.Book.{IsNewBook, IsAdded, IsAddRefused, IsLeastMissing, HasAll, IsFinished};
 
     /// A book for the planned extents of a disk, to which nothing came yet.
@@ -133,7 +133,7 @@ impl<'d, D: PageSource> Book<'d, D> {
     /// What one reader finds, where each planned extent came; else the book comes back. It takes no memory.
     pub fn finish(self) -> Result<AllFindings<'d, D>, Book<'d, D>>
         ensures all { IfOk result (λ all. IsFinished (D.image self.entry.source) self.entry all.extents) }
-        ensures image { IfOk result (λ all. D.image all.source ≡ D.image self.entry.source) }
+        ensures image { IfOk result (λ all. IsOfImage (λ s. D.image s) all (D.image self.entry.source)) }
         ensures back { IfErr result (λ book. (book ≡ self.entry) × ¬ HasAll self.entry) }
     {
         let _ = self.plan.planned();

@@ -245,7 +245,8 @@ impl<'d, D: PageSource> PoolCore<'d, D> {
         self.numbers.as_slice()
     }
 
-    /// Whether nothing is left to take, nothing is held, and all members have retired. A pool of no workers never is.
+    /// Whether nothing is left to take, nothing is held, and all members have retired. A pool of no workers is so from the
+    /// start where no extent is planned, and else never.
     pub fn is_complete(&self) -> bool
         ensures { result ≡ is_complete self.now.state }
     {

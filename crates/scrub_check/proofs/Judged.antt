@@ -1,5 +1,5 @@
 -- What a locator is worth, from what was found at its place.
-use Rattle.std.proofs.Common.{◌≡◌, ◌<◌, ◌+◌, ◌-◌, ◌/◌, ◌↔◌, ℕ, List, map, length, get_or, slice_index, Option, Some, None, MatchOption, IfSome, IfNone, inl, inr, arith, refl, sym, ◌∙◌, ap, subst}
+use Rattle.std.proofs.Common.{◌≡◌, ◌<◌, ◌+◌, ◌-◌, ◌/◌, ◌↔◌, ℕ, List, map, length, get_or, slice_index, Bool, false, Option, Some, None, MatchBool, MatchOption, IfSome, IfNone, inl, inr, arith, refl, sym, ◌∙◌, ap, subst}
 use Rattle.std.specs.List.{Contains}
 use Rattle.std.proofs.lemmas.List.{get_or-map}
 use Rattle.std.proofs.lemmas.List.Elements.{All-get_or}
@@ -15,8 +15,8 @@ use Rattle.scrub_scan.specs.Item.{start_of, IsChunk, IsItem}
 use Rattle.scrub_scan.specs.Standing.{IsStandingAt}
 use Rattle.scrub_scan.specs.Tiling.{IsTiling}
 use Rattle.scrub_check.specs.declared.status.Status.{Status}
-use Rattle.scrub_check.specs.declared.status.Status.TheVariants.{OutOfRange, PastPointer, Unreadable, NoFrame, WrongUuid, WrongLength, WrongDigest, Hidden, Sound}
-use Rattle.scrub_check.specs.Status.{end_of, InRange, HasUnreadableByte, CanStand, FindsFrame, NamesChunk, HasStatus, HasStatusIn}
+use Rattle.scrub_check.specs.declared.status.Status.TheVariants.{OutOfRange, Retired, PastPointer, Unreadable, NoFrame, WrongUuid, WrongLength, WrongDigest, Hidden, Sound}
+use Rattle.scrub_check.specs.Status.{end_of, InRange, HasUnreadableByte, CanStand, FindsFrame, NamesChunk, HasStatus, HasStatusInRetired, HasStatusInUse, HasStatusIn, is_retired}
 use Rattle.scrub_check.specs.Chunks.{frame_of_item}
 use Rattle.scrub_check.specs.Judged.{IsMismatch, Agrees, IsJudged}
 use Rattle.scrub_check.specs.Looks.{IsFoundAt, IsOpen, IsSeenAt, IsToldByItems}
@@ -73,6 +73,7 @@ mismatched image w l s WrongUuid can h m = (s.uuid, (h.payload, finds image w l 
 mismatched image w l s WrongLength can h m = (h.payload, finds image w l s l.uuid can h m.0, λ e. m.1 (h.frame.length ∙ e))
 mismatched image w l s WrongDigest can h m = (h.payload, finds image w l s l.uuid can h m.0, sym h.frame.length ∙ m.1, λ e. m.2 (h.frame.digest ∙ e))
 mismatched image w l s OutOfRange can h m = absurd m
+mismatched image w l s Retired can h m = absurd m
 mismatched image w l s PastPointer can h m = absurd m
 mismatched image w l s Unreadable can h m = absurd m
 mismatched image w l s NoFrame can h m = absurd m
@@ -117,15 +118,21 @@ judged_by_item image w l items i item status can tiled at is judged =
 pub none_begins : (image : Image) (w : ℕ) (l : Locator) (items : List Item) → IsTiling (extent_of image l.extent w) items → ¬ Contains (map start_of items) l.offset → IsToldByItems image w l None
 none_begins image w l items tiled apart b = apart (begins_among (extent_of image l.extent w) items l.offset (omega (arith, image.geometry.page_size.least)) tiled b)
 
+-- by a plan, a status under the pointer of an extent in use
+pub told_under : (image : Image) (plan : PlanValue) (w : ℕ) (l : Locator) (s : Status) → is_retired plan l.extent ≡ false → pointer_of plan l.extent ≡ Some w → HasStatus image w l s → HasStatusIn image plan l s
+told_under image plan w l s in_use at h =
+    subst (λ (b : Bool). MatchBool b (HasStatusInRetired image l s) (HasStatusInUse image plan l s)) (sym in_use)
+    (subst (λ (o : Option ℕ). MatchOption o (s ≡ OutOfRange) (λ v. HasStatus image v l s)) (sym at) h)
+
 -- what items tell under the pointer of an extent, by a plan
-pub told_in_plan : (image : Image) (plan : PlanValue) (w : ℕ) (l : Locator) (told : Option Status) → pointer_of plan l.extent ≡ Some w → CanStand image w l → IsToldByItems image w l told →
+pub told_in_plan : (image : Image) (plan : PlanValue) (w : ℕ) (l : Locator) (told : Option Status) → is_retired plan l.extent ≡ false → pointer_of plan l.extent ≡ Some w → CanStand image w l → IsToldByItems image w l told →
     IfSome told (HasStatusIn image plan l) × IfNone told (IsOpen image plan l)
-told_in_plan image plan w l None at can h = (tt, record { pointer = w; is = at; can = can; apart = h })
-told_in_plan image plan w l (Some s) at can h = (subst (λ (o : Option ℕ). MatchOption o (s ≡ OutOfRange) (λ v. HasStatus image v l s)) (sym at) h, tt)
+told_in_plan image plan w l None in_use at can h = (tt, record { in_use = in_use; pointer = w; is = at; can = can; apart = h })
+told_in_plan image plan w l (Some s) in_use at can h = (told_under image plan w l s in_use at h, tt)
 
 -- and what a look tells of a locator that was left
 pub judged_by_look : (image : Image) (plan : PlanValue) (l : Locator) (found : Option Standing) (status : Status) → IsOpen image plan l → IsSeenAt image plan (record { extent = l.extent; offset = l.offset }) found →
     IsJudged l found Hidden status → HasStatusIn image plan l status
 judged_by_look image plan l found status left seen judged =
-    subst (λ (o : Option ℕ). MatchOption o (status ≡ OutOfRange) (λ v. HasStatus image v l status)) (sym left.is)
+    told_under image plan left.pointer l status left.in_use left.is
     (judged_status image left.pointer l found Hidden status left.can (seen left.pointer left.is) (λ chunk. (chunk, left.apart)) judged)

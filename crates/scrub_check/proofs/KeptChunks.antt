@@ -20,7 +20,7 @@ use Rattle.scrub_scan.specs.Findings.{IsFindings}
 use Rattle.scrub_scan.specs.Scanned.{Scanned}
 use Rattle.scrub_check.specs.declared.checked.Checked.{Checked}
 use Rattle.scrub_check.specs.declared.status.Status.{Status}
-use Rattle.scrub_check.specs.declared.status.Status.TheVariants.{OutOfRange, PastPointer, Unreadable, NoFrame, WrongUuid, WrongLength, WrongDigest, Hidden, Sound}
+use Rattle.scrub_check.specs.declared.status.Status.TheVariants.{OutOfRange, Retired, PastPointer, Unreadable, NoFrame, WrongUuid, WrongLength, WrongDigest, Hidden, Sound}
 use Rattle.scrub_check.specs.Checked.{is_sound, HaveStatuses}
 use Rattle.scrub_check.specs.Status.{HasStatus, HasStatusIn}
 use Rattle.scrub_check.specs.Live.{is_sound_at, has_sound_at, is_chunk, is_live}
@@ -28,6 +28,7 @@ use Rattle.scrub_check.specs.WholeScan.{IsWholeScan}
 use Rattle.scrub_check.specs.Candidates.{CandidateValue, has_sound_alone, is_readable, is_half_garbage, is_reclaimable, candidate_of, reclaimable, AreCandidates}
 use Rattle.scrub_check.specs.Kept.{IsKept, AreSafe}
 use Rattle.scrub_check.proofs.Starts.{begins_among}
+use Rattle.scrub_check.proofs.RunStates.{named_in_use}
 
 -- the item where a frame stands is a chunk
 chunk_at : (x : Extent) (i : Item) (f : Form) (u b : List ℕ) → Fits x (start_of i) i → FrameAt x (start_of i) f u b → is_chunk i ≡ true
@@ -62,6 +63,7 @@ live_there x checked e p f u b (item ∷ items) each frame named there =
 sound_is : (s : Status) → is_sound s ≡ true → s ≡ Sound
 sound_is Sound e = refl
 sound_is OutOfRange e = absurd (false≢true e)
+sound_is Retired e = absurd (false≢true e)
 sound_is PastPointer e = absurd (false≢true e)
 sound_is Unreadable e = absurd (false≢true e)
 sound_is NoFrame e = absurd (false≢true e)
@@ -106,7 +108,7 @@ kept image plan all checked f c whole statuses among alone there same =
     let status : HasStatusIn image plan c.locator c.status = All-contains (λ (d : Checked). HasStatusIn image plan d.locator d.status) checked c statuses there in
     let pointer : pointer_of plan f.extent ≡ Some f.pointer = All-contains (λ (g : Scanned). pointer_of plan g.extent ≡ Some g.pointer) all f whole.findings.pointers among in
     let found : IsFindings image f.extent f.pointer f.findings = All-contains (λ (g : Scanned). IsFindings image g.extent g.pointer g.findings) all f whole.findings.findings among in
-    let under : HasStatus image f.pointer c.locator Sound = under_pointer image (pointer_of plan c.locator.extent) c.locator f.pointer c.status (ap (pointer_of plan) same ∙ pointer) sound status in
+    let under : HasStatus image f.pointer c.locator Sound = under_pointer image (pointer_of plan c.locator.extent) c.locator f.pointer c.status (ap (pointer_of plan) same ∙ pointer) sound (named_in_use image plan c.locator c.status (inl sound) status).1 in
     record {
       sound = sound;
       kept = subst (λ (e : ℕ). Contains (map start_of (filter (is_live checked e) f.findings.items)) c.locator.offset) same

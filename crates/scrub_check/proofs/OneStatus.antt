@@ -1,6 +1,6 @@
 -- Exactly one status applies to a locator. Each is that of the first test that the locator fails, and the tests are the
 -- same for all.
-use Rattle.std.proofs.Common.{◌≡◌, ◌⊎◌, ℕ, List, Option, Some, None, MatchOption, length, inl, inr, sym, ◌∙◌, ap, subst, refl}
+use Rattle.std.proofs.Common.{◌≡◌, ◌⊎◌, ℕ, Bool, true, false, List, Option, Some, None, MatchBool, MatchOption, length, inl, inr, sym, ◌∙◌, ap, subst, refl}
 use Rattle.scrub_disk.specs.Image.{Image}
 use Rattle.scrub_frame.specs.declared.form.Form.{Form}
 use Rattle.scrub_frame.specs.declared.locator.Locator.{Locator}
@@ -8,8 +8,8 @@ use Rattle.scrub_super.specs.Plan.{PlanValue, pointer_of}
 use Rattle.scrub_scan.specs.Extent.{extent_of, FrameAt, NoFrameAt}
 use Rattle.scrub_scan.specs.OneFrame.{one_frame_at}
 use Rattle.scrub_check.specs.declared.status.Status.{Status}
-use Rattle.scrub_check.specs.declared.status.Status.TheVariants.{OutOfRange, PastPointer, Unreadable, NoFrame, WrongUuid, WrongLength, WrongDigest, Hidden, Sound}
-use Rattle.scrub_check.specs.Status.{InRange, BelowPointer, HasUnreadableByte, CanStand, FindsFrame, NamesChunk, BeginsAt, HasStatus, HasStatusIn, ExactlyOne}
+use Rattle.scrub_check.specs.declared.status.Status.TheVariants.{OutOfRange, Retired, PastPointer, Unreadable, NoFrame, WrongUuid, WrongLength, WrongDigest, Hidden, Sound}
+use Rattle.scrub_check.specs.Status.{InRange, BelowPointer, HasUnreadableByte, CanStand, FindsFrame, NamesChunk, BeginsAt, HasStatus, HasStatusInRetired, HasStatusInUse, HasStatusIn, is_retired, ExactlyOne}
 use Rattle.scrub_check.proofs.RunStates.{unnamed}
 
 -- a frame of the locator's UUID, of either form, stands there
@@ -51,6 +51,7 @@ from_chunk image w l s n more = from_frame image w l s n.payload n.found (inr ((
 
 by_tests : (image : Image) (w : ℕ) (l : Locator) (s : Status) → HasStatus image w l s → ByTests image w l s
 by_tests image w l OutOfRange h = inl (refl, h)
+by_tests image w l Retired h = absurd h
 by_tests image w l PastPointer h = inr (h.0, inl (refl, h.1))
 by_tests image w l Unreadable h = inr (h.0, inr (h.1, inl (refl, λ readable. readable h.2)))
 by_tests image w l NoFrame h = from_can image w l NoFrame h.0 (inl (refl, λ some. some h.1))
@@ -132,9 +133,32 @@ some_status_lem image w l none =
 pub one_under_pointer : (image : Image) (w : ℕ) (l : Locator) → ExactlyOne (HasStatus image w l)
 one_under_pointer image w l = record { one = one_status_lem image w l; some = some_status_lem image w l }
 
+-- in a retired extent there is one test
+by_range : (image : Image) (l : Locator) (s : Status) → HasStatusInRetired image l s → Tested OutOfRange s (InRange image.geometry l) (Retired ≡ s)
+by_range image l OutOfRange h = inl (refl, h)
+by_range image l Retired h = inr (h, refl)
+by_range image l PastPointer h = absurd h
+by_range image l Unreadable h = absurd h
+by_range image l NoFrame h = absurd h
+by_range image l WrongUuid h = absurd h
+by_range image l WrongLength h = absurd h
+by_range image l WrongDigest h = absurd h
+by_range image l Hidden h = absurd h
+by_range image l Sound h = absurd h
+
+pub one_in_retired : (image : Image) (l : Locator) → ExactlyOne (HasStatusInRetired image l)
+one_in_retired image l = record {
+  one = λ s t h k. tested OutOfRange s t _ _ _ (λ a b. sym a ∙ b) (by_range image l s h) (by_range image l t k);
+  some = λ none. none OutOfRange (λ in_range. none Retired in_range);
+}
+
 pub one_in_plan : (image : Image) (plan : PlanValue) (l : Locator) → ExactlyOne (HasStatusIn image plan l)
-one_in_plan image plan l = by (pointer_of plan l.extent)
+one_in_plan image plan l = by (is_retired plan l.extent)
   where
-    by : (o : Option ℕ) → ExactlyOne (λ s. MatchOption o (s ≡ OutOfRange) (λ w. HasStatus image w l s))
-    by None = record { one = λ s t h k. h ∙ sym k; some = λ none. none OutOfRange refl }
-    by (Some w) = one_under_pointer image w l
+    in_use : (o : Option ℕ) → ExactlyOne (λ s. MatchOption o (s ≡ OutOfRange) (λ w. HasStatus image w l s))
+    in_use None = record { one = λ s t h k. h ∙ sym k; some = λ none. none OutOfRange refl }
+    in_use (Some w) = one_under_pointer image w l
+
+    by : (b : Bool) → ExactlyOne (λ s. MatchBool b (HasStatusInRetired image l s) (HasStatusInUse image plan l s))
+    by true = one_in_retired image l
+    by false = in_use (pointer_of plan l.extent)

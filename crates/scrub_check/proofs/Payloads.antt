@@ -1,5 +1,5 @@
 -- The payload of the chunk that a locator names, and the run that it is.
-use Rattle.std.proofs.Common.{◌≡◌, ◌⊎◌, ◌<◌, ◌+◌, ◌-◌, ◌/◌, ◌%◌, ℕ, Bool, true, false, cond, nat_lt, List, Option, Some, None, MatchOption, option_and_then, slice_get, slice_index, length, arith, refl, sym, ◌∙◌, ap, subst, inl, inr}
+use Rattle.std.proofs.Common.{◌≡◌, ◌⊎◌, ◌<◌, ◌+◌, ◌-◌, ◌/◌, ◌%◌, ℕ, Bool, true, false, cond, nat_lt, List, Option, Some, None, MatchBool, MatchOption, option_and_then, slice_get, slice_index, length, arith, refl, sym, ◌∙◌, ap, subst, inl, inr}
 use Rattle.std.proofs.lemmas.Bool.Decides.{nat_tests}
 use Rattle.std.proofs.lemmas.Option.{none-some}
 use Rattle.scrub_disk.specs.Image.{Image, byte, extent_bytes}
@@ -19,9 +19,9 @@ use Rattle.scrub_check.specs.declared.status.Status.TheVariants.{OutOfRange, Hid
 use Rattle.scrub_check.specs.declared.runs.RunState.{RunState}
 use Rattle.scrub_check.specs.declared.runs.RunState.TheVariants.{Read, BadChunk, NotARun}
 use Rattle.scrub_check.specs.ChunkRun.{standing_of, StandsThere, HasPayloadThere, HoldsRun, IsToldOf}
-use Rattle.scrub_check.specs.Status.{NamesChunk, HasStatus, HasStatusIn}
-use Rattle.scrub_check.specs.Runs.{NamesRun, IsRunOf, HasRunState, IsRunIn, HasRunStateIn}
-use Rattle.scrub_check.proofs.RunStates.{named, unnamed}
+use Rattle.scrub_check.specs.Status.{NamesChunk, HasStatus, HasStatusInRetired, HasStatusInUse, HasStatusIn, is_retired}
+use Rattle.scrub_check.specs.Runs.{NamesRun, IsRunOf, HasRunState, IsRunInUse, HasRunStateInUse, IsLostInRetired, IsRunIn, HasRunStateIn}
+use Rattle.scrub_check.proofs.RunStates.{named, unnamed, named_in_use}
 
 -- a byte that is there lies in the extent
 in_extent : (image : Image) (e place x : ℕ) → byte image e place ≡ Some x → place < extent_bytes image.geometry
@@ -112,24 +112,32 @@ named_under image (Some w) l s is h = record { pointer = w; is = refl; names = n
 -- so it stands
 pub stands_there : (image : Image) (plan : PlanValue) (l : Locator) (s : Status) → (s ≡ Sound) ⊎ (s ≡ Hidden) → HasStatusIn image plan l s → StandsThere image l
 stands_there image plan l s is h =
-    let n : NamedUnder image (pointer_of plan l.extent) l = named_under image (pointer_of plan l.extent) l s is h in
+    let n : NamedUnder image (pointer_of plan l.extent) l = named_under image (pointer_of plan l.extent) l s is (named_in_use image plan l s is h).1 in
     let has = has_payload image n.pointer l n.names in
     record { form = has.form; stands = record { payload = n.names.payload; has = has.has } }
 
 pub told_in : (image : Image) (plan : PlanValue) (l : Locator) (s : Status) (run : Option (List EntryValue)) (state : RunState) → (s ≡ Sound) ⊎ (s ≡ Hidden) → HasStatusIn image plan l s →
     IsToldOf image l run state → IsRunIn image plan l run × HasRunStateIn image plan l state
 told_in image plan l s run state is h t =
-    let n : NamedUnder image (pointer_of plan l.extent) l = named_under image (pointer_of plan l.extent) l s is h in
+    let in_use = named_in_use image plan l s is h in
+    let n : NamedUnder image (pointer_of plan l.extent) l = named_under image (pointer_of plan l.extent) l s is in_use.1 in
     let both = told image n.pointer l run state n.names t in (
-      subst (λ (o : Option ℕ). MatchOption o (run ≡ None) (λ w. IsRunOf image w l run)) (sym n.is) both.0,
-      subst (λ (o : Option ℕ). MatchOption o (state ≡ BadChunk OutOfRange) (λ w. HasRunState image w l state)) (sym n.is) both.1,
+      subst (λ (b : Bool). MatchBool b (run ≡ None) (IsRunInUse image plan l run)) (sym in_use.0)
+          (subst (λ (o : Option ℕ). MatchOption o (run ≡ None) (λ w. IsRunOf image w l run)) (sym n.is) both.0),
+      subst (λ (b : Bool). MatchBool b (IsLostInRetired image l state) (HasRunStateInUse image plan l state)) (sym in_use.0)
+          (subst (λ (o : Option ℕ). MatchOption o (state ≡ BadChunk OutOfRange) (λ w. HasRunState image w l state)) (sym n.is) both.1),
     )
 
 -- each other status loses its run
 pub lost_in : (image : Image) (plan : PlanValue) (l : Locator) (s : Status) → ¬ (s ≡ Sound) → ¬ (s ≡ Hidden) → HasStatusIn image plan l s → IsRunIn image plan l None × HasRunStateIn image plan l (BadChunk s)
-lost_in image plan l s not_sound not_hidden = by (pointer_of plan l.extent)
+lost_in image plan l s not_sound not_hidden = in_either (is_retired plan l.extent)
   where
     by : (o : Option ℕ) → MatchOption o (s ≡ OutOfRange) (λ w. HasStatus image w l s) →
         MatchOption o (◌≡◌ {A = Option (List EntryValue)} None None) (λ w. IsRunOf image w l None) × MatchOption o (BadChunk s ≡ BadChunk OutOfRange) (λ w. HasRunState image w l (BadChunk s))
     by None h = (refl, ap (λ (t : Status). BadChunk t) h)
     by (Some w) h = let no = unnamed image w l s not_sound not_hidden h in (λ entries r. no r.names, (h, no))
+
+    in_either : (b : Bool) → MatchBool b (HasStatusInRetired image l s) (HasStatusInUse image plan l s) →
+        MatchBool b (◌≡◌ {A = Option (List EntryValue)} None None) (IsRunInUse image plan l None) × MatchBool b (IsLostInRetired image l (BadChunk s)) (HasRunStateInUse image plan l (BadChunk s))
+    in_either true h = (refl, h)
+    in_either false h = by (pointer_of plan l.extent) h

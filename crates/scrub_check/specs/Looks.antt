@@ -1,5 +1,5 @@
 -- What stands at places of a disk that are looked at, since the findings don't tell it.
-use Rattle.std.specs.Prelude.{◌≡◌, ◌<◌, ◌≤◌, ℕ, List, Option, Some, MatchOption, All}
+use Rattle.std.specs.Prelude.{◌≡◌, ◌<◌, ◌≤◌, ℕ, List, false, Option, Some, MatchOption, All}
 use Rattle.scrub_disk.specs.Image.{Image, extent_bytes}
 use Rattle.scrub_frame.specs.declared.locator.Locator.{Locator}
 use Rattle.scrub_super.specs.Plan.{PlanValue, pointer_of}
@@ -9,7 +9,7 @@ use Rattle.scrub_scan.specs.Standing.{IsStandingAt}
 use Rattle.scrub_check.specs.declared.sound_starts.Start.{Start}
 use Rattle.scrub_check.specs.declared.looks.Look.{Look}
 use Rattle.scrub_check.specs.declared.status.Status.{Status}
-use Rattle.scrub_check.specs.Status.{CanStand, BeginsAt, HasStatus}
+use Rattle.scrub_check.specs.Status.{CanStand, BeginsAt, HasStatus, is_retired}
 
 -- a place that can be looked at: in an extent that chunks are written to
 pub record CanBeLookedAt (image : Image) (plan : PlanValue) (s : Start) : Type 0 where
@@ -30,8 +30,9 @@ IsSeenAt image plan s found = (w : ℕ) → pointer_of plan s.extent ≡ Some w 
 abbrev pub AreLooks : Image → PlanValue → List Look → Type 0
 AreLooks image plan looks = All (λ look. IsSeenAt image plan look.start look.standing) looks
 
--- the frame that a locator names would lie where it can be read, and no item begins at its place
+-- the frame that a locator names would lie in an extent in use, where it can be read, and no item begins at its place
 pub record IsOpen (image : Image) (plan : PlanValue) (l : Locator) : Type 0 where
+  pub in_use : is_retired plan l.extent ≡ false
   pub pointer : ℕ
   pub is : pointer_of plan l.extent ≡ Some pointer
   pub can : CanStand image pointer l

@@ -1,5 +1,5 @@
 -- Which index runs are read, and what becomes of the others.
-use Rattle.std.specs.Prelude.{◌≡◌, ◌≤◌, ℕ, List, Option, Some, None, MatchOption}
+use Rattle.std.specs.Prelude.{◌≡◌, ◌≤◌, ℕ, List, Option, Some, None, MatchBool, MatchOption}
 use Rattle.std.specs.Prelude.{length as len}
 use Rattle.std.specs.List.{AllZip}
 use Rattle.scrub_disk.specs.Image.{Image}
@@ -11,7 +11,7 @@ use Rattle.scrub_merge.specs.Binding.{Runs}
 use Rattle.scrub_check.specs.declared.status.Status.TheVariants.{OutOfRange}
 use Rattle.scrub_check.specs.declared.runs.RunState.{RunState}
 use Rattle.scrub_check.specs.declared.runs.RunState.TheVariants.{Read, BadChunk, NotARun}
-use Rattle.scrub_check.specs.Status.{NamesChunk, HasStatus}
+use Rattle.scrub_check.specs.Status.{NamesChunk, HasStatus, HasStatusInRetired, is_retired}
 
 -- the chunk that a locator names stands, be it hidden or sound, and its payload is the run of these entries
 pub record NamesRun (image : Image) (w : ℕ) (l : Locator) (entries : List EntryValue) : Type 0 where
@@ -29,12 +29,24 @@ HasRunState image w l Read = (entries : List EntryValue) × NamesRun image w l e
 HasRunState image w l (BadChunk status) = HasStatus image w l status × ¬ NamesChunk image w l
 HasRunState image w l NotARun = NamesChunk image w l × ((entries : List EntryValue) → ¬ NamesRun image w l entries)
 
--- the same by a plan: under the write pointer of its extent, and lost where it has none
+-- the same by a plan, in an extent in use: under the write pointer of its extent, and lost where it has none
+abbrev pub IsRunInUse : Image → PlanValue → Locator → Option (List EntryValue) → Type 0
+IsRunInUse image plan l run = MatchOption (pointer_of plan l.extent) (run ≡ None) (λ w. IsRunOf image w l run)
+
+abbrev pub HasRunStateInUse : Image → PlanValue → Locator → RunState → Type 0
+HasRunStateInUse image plan l state = MatchOption (pointer_of plan l.extent) (state ≡ BadChunk OutOfRange) (λ w. HasRunState image w l state)
+
+-- in a retired extent it is lost with the status of its locator
+abbrev pub IsLostInRetired : Image → Locator → RunState → Type 0
+IsLostInRetired image l (BadChunk status) = HasStatusInRetired image l status
+IsLostInRetired image l _ = ⊥
+
+-- and so by a plan, which tells whether its extent is retired
 abbrev pub IsRunIn : Image → PlanValue → Locator → Option (List EntryValue) → Type 0
-IsRunIn image plan l run = MatchOption (pointer_of plan l.extent) (run ≡ None) (λ w. IsRunOf image w l run)
+IsRunIn image plan l run = MatchBool (is_retired plan l.extent) (run ≡ None) (IsRunInUse image plan l run)
 
 abbrev pub HasRunStateIn : Image → PlanValue → Locator → RunState → Type 0
-HasRunStateIn image plan l state = MatchOption (pointer_of plan l.extent) (state ≡ BadChunk OutOfRange) (λ w. HasRunState image w l state)
+HasRunStateIn image plan l state = MatchBool (is_retired plan l.extent) (IsLostInRetired image l state) (HasRunStateInUse image plan l state)
 
 -- index runs, newest first: the entries of each, none where it is lost, and what became of each
 pub record ReadRunsValue : Type 0 where

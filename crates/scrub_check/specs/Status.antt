@@ -1,7 +1,8 @@
 -- What a locator is worth: the first line of the table that applies to it. It is judged at its own place; only the step
 -- from hidden to sound asks the tiling.
-use Rattle.std.specs.Prelude.{◌≡◌, ◌≢◌, ◌<◌, ◌≤◌, ◌+◌, ℕ, List, MatchOption, map, Contains}
+use Rattle.std.specs.Prelude.{◌≡◌, ◌≢◌, ◌<◌, ◌≤◌, ◌+◌, ◌==◌, ℕ, Bool, List, MatchBool, MatchOption, map, Contains}
 use Rattle.std.specs.Prelude.{length as len}
+use Rattle.std.specs.List.{list_any}
 use Rattle.sha2.specs.Sha256.{sha256}
 use Rattle.scrub_disk.specs.declared.geometry.Geometry.{Geometry}
 use Rattle.scrub_disk.specs.Image.{Image, byte, extent_bytes}
@@ -14,7 +15,7 @@ use Rattle.scrub_scan.specs.Extent.{Extent, extent_of, FrameAt, NoFrameAt, HasGa
 use Rattle.scrub_scan.specs.Item.{start_of}
 use Rattle.scrub_scan.specs.Tiling.{IsTiling}
 use Rattle.scrub_check.specs.declared.status.Status.{Status}
-use Rattle.scrub_check.specs.declared.status.Status.TheVariants.{OutOfRange, PastPointer, Unreadable, NoFrame, WrongUuid, WrongLength, WrongDigest, Hidden, Sound}
+use Rattle.scrub_check.specs.declared.status.Status.TheVariants.{OutOfRange, Retired, PastPointer, Unreadable, NoFrame, WrongUuid, WrongLength, WrongDigest, Hidden, Sound}
 
 -- where the frame that a locator names would end at the least
 abbrev pub end_of : Locator → ℕ
@@ -62,6 +63,7 @@ pub record NamesChunk (image : Image) (w : ℕ) (l : Locator) : Type 0 where
 -- the status of a locator in an image, under the write pointer of its extent
 abbrev pub HasStatus : Image → ℕ → Locator → Status → Type 0
 HasStatus image w l OutOfRange = ¬ InRange image.geometry l
+HasStatus image w l Retired = ⊥
 HasStatus image w l PastPointer = InRange image.geometry l × ¬ BelowPointer w l
 HasStatus image w l Unreadable = InRange image.geometry l × BelowPointer w l × HasUnreadableByte image l
 HasStatus image w l NoFrame = CanStand image w l × NoFrameAt (extent_of image l.extent w) l.offset
@@ -71,9 +73,23 @@ HasStatus image w l WrongDigest = (b : List ℕ) × FindsFrame image w l l.uuid 
 HasStatus image w l Hidden = NamesChunk image w l × ¬ BeginsAt (extent_of image l.extent w) l.offset
 HasStatus image w l Sound = NamesChunk image w l × BeginsAt (extent_of image l.extent w) l.offset
 
--- the status of a locator by a plan: under the write pointer of its extent, and out of range where it has none
+-- an extent is retired
+abbrev pub is_retired : PlanValue → ℕ → Bool
+is_retired plan e = list_any (λ r. r == e) plan.retired
+
+-- the status of a locator into a retired extent, whatever stands there
+abbrev pub HasStatusInRetired : Image → Locator → Status → Type 0
+HasStatusInRetired image l OutOfRange = ¬ InRange image.geometry l
+HasStatusInRetired image l Retired = InRange image.geometry l
+HasStatusInRetired image l _ = ⊥
+
+-- the status of one into an extent in use: under the write pointer of its extent, and out of range where it has none
+abbrev pub HasStatusInUse : Image → PlanValue → Locator → Status → Type 0
+HasStatusInUse image plan l status = MatchOption (pointer_of plan l.extent) (status ≡ OutOfRange) (λ w. HasStatus image w l status)
+
+-- the status of a locator by a plan, which tells whether its extent is retired
 abbrev pub HasStatusIn : Image → PlanValue → Locator → Status → Type 0
-HasStatusIn image plan l status = MatchOption (pointer_of plan l.extent) (status ≡ OutOfRange) (λ w. HasStatus image w l status)
+HasStatusIn image plan l status = MatchBool (is_retired plan l.extent) (HasStatusInRetired image l status) (HasStatusInUse image plan l status)
 
 -- exactly one status applies: two that do are one, and it can't be that none does
 pub record ExactlyOne (Applies : Status → Type 0) : Type 0 where

@@ -1,14 +1,14 @@
 -- What the statuses and the lists of this crate rest on.
-use Rattle.std.specs.Prelude.{◌≡◌, ◌-◌, List}
-use Rattle.std.specs.List.{range_with_len}
+use Rattle.std.specs.Prelude.{◌≡◌, List}
 use Rattle.scrub_disk.specs.Image.{Image}
+use Rattle.scrub_super.specs.Planned.{extents_in_use}
 use Rattle.scrub_super.specs.Plan.{PlanValue}
 use Rattle.scrub_scan.specs.Scanned.{Scanned}
 use Rattle.scrub_scan.specs.AllFindings.{AreAllFindings}
 
--- the scan of a whole disk: the plan is of the disk's sizes, each extent but extent 0 is planned, and what was found is
--- what one reader finds
+-- the scan of a whole disk: the plan is of the disk's sizes, each extent is planned but extent 0 and those that it retires,
+-- and what was found is what one reader finds
 pub record IsWholeScan (image : Image) (plan : PlanValue) (all : List Scanned) : Type 0 where
   pub geometry : plan.geometry ≡ image.geometry
-  pub planned : plan.planned ≡ range_with_len 1 (image.geometry.extents - 1)
+  pub planned : plan.planned ≡ extents_in_use image.geometry.extents plan.retired
   pub findings : AreAllFindings image plan all

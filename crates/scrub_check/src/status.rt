@@ -28,6 +28,8 @@ use std::alloc::Global;
 pub enum Status {
     /// It names extent 0 or none of the disk, or the least frame of its payload would end past the extent.
     OutOfRange,
+    /// Its extent is retired: what stands there isn't asked.
+    Retired,
     /// The least frame of its payload would end past the write pointer.
     PastPointer,
     /// A page with a byte of the least frame of its payload is unreadable.
@@ -151,6 +153,9 @@ fn told_by_findings<D: PageSource>(
     let geometry = plan.geometry();
     if !lies_in_range(geometry, locator) {
         return Some(Status::OutOfRange);
+    }
+    if plan.is_retired(locator.extent) {
+        return Some(Status::Retired);
     }
     let pointer = plan.pointer(locator.extent);
     if end_of(locator) > pointer as u64 {

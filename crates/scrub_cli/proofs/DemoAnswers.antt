@@ -1,5 +1,5 @@
 -- The disk of `demo`, from what is put on it.
-use Rattle.std.proofs.Common.{◌≡◌, ℕ, List, [], ◌∷◌, subst, sym, ap, ◌∙◌, codes}
+use Rattle.std.proofs.Common.{◌≡◌, ℕ, List, [], ◌∷◌, None, subst, sym, ap, ◌∙◌, codes}
 use Rattle.scrub_disk.specs.declared.geometry.Geometry.{Geometry}
 use Rattle.scrub_disk.specs.Faults.{HasSizes}
 use Rattle.scrub_disk.specs.Image.{Image}
@@ -14,7 +14,7 @@ use Rattle.scrub_cli.specs.Demo.{demo_pointers, demo_run, demo_shard, demo_super
 pub demo_made : (blank with_chunk with_run image : Image) (g : Geometry) (u v abc payload chunk run superblock : List ℕ) (l m : Locator) →
     IsBlank blank g → HasSizes g 64 4 3 → u ≡ ones → v ≡ twos → abc ≡ codes "abc" →
     chunk ≡ frame Plain u abc → l ≡ located 1 u abc → payload ≡ run_bytes (record { id = demo_shard; locators = l ∷ [] } ∷ []) →
-    run ≡ frame Plain v payload → m ≡ located 2 v payload → superblock ≡ record_bytes g (record { generation = 1; pointers = demo_pointers; runs = m ∷ [] }) →
+    run ≡ frame Plain v payload → m ≡ located 2 v payload → superblock ≡ record_bytes g (record { generation = 1; pointers = demo_pointers; retired = None; runs = m ∷ [] }) →
     Puts blank with_chunk 1 0 chunk → Puts with_chunk with_run 2 0 run → Puts with_run image 0 0 superblock → IsDemoDisk image
 demo_made blank with_chunk with_run image g u v abc payload chunk run superblock l m zero sizes hu hv habc hc hl hp hr hm hs put_chunk put_run put_superblock = record {
   blank = blank;
@@ -38,5 +38,5 @@ demo_made blank with_chunk with_run image g u v abc payload chunk run superblock
 
     record_is : superblock ≡ record_bytes blank.geometry demo_superblock
     record_is =
-        hs ∙ ap (λ (x : Locator). record_bytes g (record { generation = 1; pointers = demo_pointers; runs = x ∷ [] })) named
+        hs ∙ ap (λ (x : Locator). record_bytes g (record { generation = 1; pointers = demo_pointers; retired = None; runs = x ∷ [] })) named
         ∙ ap (λ (x : Geometry). record_bytes x demo_superblock) (sym zero.geometry)

@@ -1,5 +1,5 @@
 -- The disk of the command `demo`, and what it tells of it.
-use Rattle.std.specs.Prelude.{ℕ, List, [], ◌∷◌, ◌++◌, length as len, replicate, codes}
+use Rattle.std.specs.Prelude.{ℕ, List, [], ◌∷◌, ◌++◌, None, length as len, replicate, codes}
 use Rattle.sha2.specs.Sha256.{sha256}
 use Rattle.scrub_disk.specs.Faults.{HasSizes}
 use Rattle.scrub_disk.specs.Image.{Image}
@@ -38,7 +38,7 @@ abbrev pub demo_pointers : List ℕ
 demo_pointers = 41 ∷ 155 ∷ []
 
 abbrev pub demo_superblock : Contents
-demo_superblock = record { generation = 1; pointers = demo_pointers; runs = located 2 twos demo_run ∷ [] }
+demo_superblock = record { generation = 1; pointers = demo_pointers; retired = None; runs = located 2 twos demo_run ∷ [] }
 
 -- three extents of four pages of 64 bytes: zeros, then a chunk at the start of extent 1, then the run that names it at
 -- the start of extent 2, then the record that names the run at the start of extent 0

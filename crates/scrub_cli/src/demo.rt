@@ -1,6 +1,6 @@
 //! The command `demo`: the report of a small disk that the program makes itself.
 
-ghost use Rattle.std.specs.Prelude.{◌≡◌, ◌≤◌, ◌∷◌, [], IfOk, length};
+ghost use Rattle.std.specs.Prelude.{◌≡◌, ◌≤◌, ◌∷◌, [], IfOk, None, length};
 ghost use Rattle.scrub_disk.specs.Faults.{HasSizes};
 ghost use Rattle.scrub_disk.specs.Memory.{image_of};
 ghost use Rattle.scrub_frame.specs.declared.form.Form.{Form};
@@ -57,7 +57,7 @@ fn record_of(alloc: Global, geometry: Geometry, run: Locator) -> Result<Vec<u8>,
     requires { HasSizes geometry 64 4 3 }
     ensures size { IfOk result (λ bytes. length bytes.items ≡ 126) }
     ensures bytes { IfOk result (λ bytes. bytes.items ≡
-        record_bytes geometry (record { generation = 1; pointers = demo_pointers; runs = run ∷ [] })) }
+        record_bytes geometry (record { generation = 1; pointers = demo_pointers; retired = None; runs = run ∷ [] })) }
 {
     let pointers = Vec::from_slice(alloc, &POINTERS)?;
     let superblock = Superblock::new(1, pointers, Vec::from_slice(alloc, &[run])?);

@@ -1,5 +1,5 @@
 -- The sizes of a small disk, and a record that is put.
-use Rattle.std.proofs.Common.{rules, arith, ◌≡◌, ◌*◌, ◌++◌, ℕ, List, [], length, ◌∙◌, ap, subst}
+use Rattle.std.proofs.Common.{rules, arith, ◌≡◌, ◌*◌, ◌++◌, ℕ, List, [], None, length, ◌∙◌, ap, subst}
 use Rattle.scrub_disk.specs.declared.geometry.Geometry.{Geometry}
 use Rattle.scrub_disk.specs.declared.geometry.GeometryFault.{GeometryFault}
 use Rattle.scrub_disk.specs.declared.geometry.GeometryFault.TheVariants.{PageSize, Pages, Extents, ExtentBytes, TotalBytes}
@@ -22,8 +22,8 @@ small_fits TotalBytes broken = omega (arith, broken.4)
 
 -- contents of equal parts are equal
 pub same_contents : (n : ℕ) (ps qs : List ℕ) (ls ms : List Locator) → ps ≡ qs → ls ≡ ms →
-    ◌≡◌ {A = Contents} (record { generation = n; pointers = ps; runs = ls }) (record { generation = n; pointers = qs; runs = ms })
-same_contents n ps qs ls ms p l = λ i. record { generation = n; pointers = p i; runs = l i }
+    ◌≡◌ {A = Contents} (record { generation = n; pointers = ps; retired = None; runs = ls }) (record { generation = n; pointers = qs; retired = None; runs = ms })
+same_contents n ps qs ls ms p l = λ i. record { generation = n; pointers = p i; retired = None; runs = l i }
 
 -- what is put is the record that was written to an empty list
 pub puts_record : (old new : Image) (page size n : ℕ) (g : Geometry) (c d : Contents) (bytes items before : List ℕ) →

@@ -1,7 +1,7 @@
 //! Builders: what tests put on disks in memory. Each refuses what doesn't fit, and says what it put where. What is found
 //! on such disks is left to the tests.
 
-ghost use Rattle.std.specs.Prelude.{◌≡◌, ◌≤◌, ◌-◌, [], ◌∷◌, IfOk, OnOk, IsTrue, length};
+ghost use Rattle.std.specs.Prelude.{◌≡◌, ◌≤◌, ◌-◌, [], ◌∷◌, IfOk, None, OnOk, IsTrue, length};
 ghost use Rattle.std.specs.List.{range_with_len};
 ghost use Rattle.scrub_disk.specs.Faults.{HasSizes};
 ghost use Rattle.scrub_disk.specs.Memory.{image_of, Puts, Marks};
@@ -9,6 +9,7 @@ ghost use Rattle.scrub_frame.specs.declared.form.Form.{Form};
 ghost use Rattle.scrub_frame.specs.Frame.{frame};
 ghost use Rattle.scrub_run.specs.Run.{run_bytes};
 ghost use Rattle.scrub_super.specs.Record.{ArePointers};
+ghost use Rattle.scrub_super.specs.Planned.{AreChunkExtents};
 ghost use Rattle.scrub_fakes.specs.Builders.{IsSmall, IsLocatorOf, PutsRecord, IsPlanOfDisk};
 
 use crate::OutOfMemory;
@@ -148,8 +149,46 @@ fn are_contents(geometry: Geometry, pointers: &[u32], runs: &[Locator]) -> bool
             .all(|pointer| *pointer <= geometry.extent_bytes())
 }
 
+/// Whether extents rise, each from 1 up to `end`, which isn't among them.
+fn are_chunk_extents(extents: &[u32], end: u32) -> bool
+    requires { 1 ≤ end }
+    ensures { IsTrue result → AreChunkExtents end extents.now }
+{
+    let mut next = 1;
+    for i in 0..extents.len() {
+        if extents[i] < next || extents[i] >= end {
+            return false;
+        }
+        next = extents[i] + 1;
+    }
+    true
+}
+
+/// Puts the record of a superblock on a page of extent 0, and tells its length in bytes. It has a pointer for each extent but
+/// extent 0, none past the extent's end, 32 runs at most, and retires extents of the disk by rising numbers, if any.
+pub fn put_contents(
+    alloc: Global,
+    disk: &mut MemDisk,
+    page: u32,
+    superblock: &Superblock,
+) -> Result<usize, Misfit>
+    ensures { IfOk result (PutsRecord (image_of disk.old) (image_of disk.new) page superblock.now) }
+{
+    let geometry = disk.geometry();
+    if page >= geometry.pages()
+        || !are_contents(geometry, superblock.pointers(), superblock.runs())
+        || !are_chunk_extents(superblock.retired(), geometry.extents())
+    {
+        return Err(Misfit::DoesNotFit);
+    }
+    let mut record = Vec::new(alloc);
+    write_record(&mut record, geometry, superblock)?;
+    put(disk, 0, page * geometry.page(), &record)?;
+    Ok(record.len())
+}
+
 /// Puts a superblock record on a page of extent 0, and tells its length in bytes. It has a pointer
-/// for each extent but extent 0, none past the extent's end, and 32 runs at most.
+/// for each extent but extent 0, none past the extent's end, 32 runs at most, and lists no retired extents.
 pub fn put_record(
     alloc: Global,
     disk: &mut MemDisk,
@@ -159,21 +198,14 @@ pub fn put_record(
     runs: &[Locator],
 ) -> Result<usize, Misfit>
     ensures { IfOk result (PutsRecord (image_of disk.old) (image_of disk.new) page
-        (record { generation = generation; pointers = pointers.now; runs = runs.now })) }
+        (record { generation = generation; pointers = pointers.now; retired = None; runs = runs.now })) }
 {
-    let geometry = disk.geometry();
-    if page >= geometry.pages() || !are_contents(geometry, pointers, runs) {
-        return Err(Misfit::DoesNotFit);
-    }
     let superblock = Superblock::new(
         generation,
         Vec::from_slice(alloc, pointers)?,
         Vec::from_slice(alloc, runs)?,
     );
-    let mut record = Vec::new(alloc);
-    write_record(&mut record, geometry, &superblock)?;
-    put(disk, 0, page * geometry.page(), &record)?;
-    Ok(record.len())
+    put_contents(alloc, disk, page, &superblock)
 }
 
 /// Puts a superblock record of generation 1 on page 0 of extent 0, and tells its length in bytes.
@@ -184,17 +216,21 @@ pub fn put_superblock(
     runs: &[Locator],
 ) -> Result<usize, Misfit>
     ensures { IfOk result (PutsRecord (image_of disk.old) (image_of disk.new) 0
-        (record { generation = 1; pointers = pointers.now; runs = runs.now })) }
+        (record { generation = 1; pointers = pointers.now; retired = None; runs = runs.now })) }
 {
     put_record(alloc, disk, 0, 1, pointers, runs)
 }
 
-/// The plan of a disk, by the superblock that counts there.
-pub fn plan_of(alloc: Global, disk: &MemDisk) -> Result<Plan, OutOfMemory>
+/// The plan of a disk, by the superblock that counts there, which has to retire no extent.
+pub fn plan_of(alloc: Global, disk: &MemDisk) -> Result<Plan, Misfit>
     ensures plan { IfOk result (IsPlanOfDisk (image_of disk.now)) }
     ensures geometry { IfOk result (λ plan. plan.geometry ≡ (image_of disk.now).geometry) }
     ensures planned { IfOk result (λ plan. plan.planned ≡ range_with_len 1 ((image_of disk.now).geometry.extents - 1)) }
 {
     let chosen = choose(alloc, disk)?;
-    Plan::make(alloc, &chosen, disk.geometry())
+    let plan = Plan::make(alloc, &chosen, disk.geometry())?;
+    if !plan.retired().is_empty() {
+        return Err(Misfit::DoesNotFit);
+    }
+    Ok(plan)
 }

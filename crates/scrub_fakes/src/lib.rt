@@ -10,8 +10,8 @@ pub mod source;
 pub mod writer;
 
 pub use disk::{
-    Misfit, mark_bad, plan_of, put, put_chunk, put_record, put_sealed, put_superblock, run_of,
-    small_disk, small_geometry,
+    Misfit, mark_bad, plan_of, put, put_chunk, put_contents, put_record, put_sealed,
+    put_superblock, run_of, small_disk, small_geometry,
 };
 pub use raw::RawBytes;
 pub use samples::{ABC_DIGEST, ENDS_IN_MAGIC, FOURS, ONES, SHARD, THREES, TWOS, abc_at, shard_of};

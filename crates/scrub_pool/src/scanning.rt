@@ -2,7 +2,7 @@
 
 ghost use Rattle.std.specs.Prelude.{◌≡◌, ◌+◌, ◌-◌, ◌<◌, ◌≤◌, ◌++◌, [], ◌∷◌, true, None, All, length, OnOk, IfOk, sum_by, vec_len};
 ghost use Rattle.std.specs.List.Sorted.{IsPermutation};
-ghost use Rattle.scrub_scan.specs.AllFindings.{AreAllFindings};
+ghost use Rattle.scrub_scan.specs.AllFindings.{AreAllFindings, IsOfImage};
 ghost use Rattle.scrub_book.specs.Extents.{extents_of};
 ghost use Rattle.scrub_book.specs.Worker.{held_by, taken_by, results_of};
 ghost use Rattle.scrub_pool.specs.Passes.{one_list, new_pass, IsFirstAlone};
@@ -175,7 +175,7 @@ pub fn scan_all<'d, D: PageSource, G: Gate, R: Threads + Wait + Sync>(
     requires workers { workers ≤ 64 }
     requires geometry { plan.now.geometry ≡ (D.image disk.now).geometry }
     requires first { first.old ≡ new_pass queue.now plan.now.planned }
-    ensures image { IfOk result (λ r. D.image r.0.source ≡ D.image disk.now) }
+    ensures image { IfOk result (λ r. IsOfImage (λ s. D.image s) r.0 (D.image disk.now)) }
     ensures findings { IfOk result (λ r. AreAllFindings (D.image disk.now) plan.now r.0.extents) }
     ensures workers { IfOk result (λ r. length r.1.lists ≡ workers + 1) }
     ensures first { OnOk result (IsFirstAlone queue.now plan.now.planned first.new) }

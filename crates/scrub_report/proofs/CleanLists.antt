@@ -5,7 +5,7 @@ use Rattle.std.proofs.Math.Dec.{eqb-suc-zero}
 use Rattle.std.specs.List.{list_all}
 use Rattle.scrub_check.specs.declared.checked.Checked.{Checked}
 use Rattle.scrub_check.specs.declared.status.Status.{Status}
-use Rattle.scrub_check.specs.declared.status.Status.TheVariants.{OutOfRange, PastPointer, Unreadable, NoFrame, WrongUuid, WrongLength, WrongDigest, Hidden, Sound}
+use Rattle.scrub_check.specs.declared.status.Status.TheVariants.{OutOfRange, Retired, PastPointer, Unreadable, NoFrame, WrongUuid, WrongLength, WrongDigest, Hidden, Sound}
 use Rattle.scrub_check.specs.Checked.{is_sound, is_hidden, is_dangling, dangling, hidden}
 
 and_false : (a : Bool) → (a && false) ≡ false
@@ -18,6 +18,7 @@ one_more : (c : Checked) (s : Status) (ds hs : List Checked) (rest : Bool) → (
 one_more c Sound ds hs rest h = h
 one_more c Hidden ds hs rest h = ap (λ none. length ds == 0 && none) (eqb-suc-zero (length hs)) ∙ and_false (length ds == 0)
 one_more c OutOfRange ds hs rest h = ap (λ none. none && length hs == 0) (eqb-suc-zero (length ds))
+one_more c Retired ds hs rest h = ap (λ none. none && length hs == 0) (eqb-suc-zero (length ds))
 one_more c PastPointer ds hs rest h = ap (λ none. none && length hs == 0) (eqb-suc-zero (length ds))
 one_more c Unreadable ds hs rest h = ap (λ none. none && length hs == 0) (eqb-suc-zero (length ds))
 one_more c NoFrame ds hs rest h = ap (λ none. none && length hs == 0) (eqb-suc-zero (length ds))

@@ -66,6 +66,7 @@ report_no_float s =
       extents_no_float s.checked s.all,
       list_no_float hidden_data (λ c. refl) (hidden s.checked),
       list_no_float place_data (λ p. refl) (orphans s.all s.checked),
+      numbers_no_float s.plan.retired,
       runs_no_float s.plan.runs s.read,
       list_no_float shared_data (λ p. refl) s.shared,
       super_no_float s.choice,

@@ -1,5 +1,5 @@
 -- An image has, by its plan, one list of index runs, and one list of named locators with what they are worth.
-use Rattle.std.proofs.Common.{◌≡◌, ℕ, Option, Some, None, MatchOption, List, [], ◌∷◌, map, refl, sym, ◌∙◌, ap, subst}
+use Rattle.std.proofs.Common.{◌≡◌, ℕ, Bool, true, false, Option, Some, None, MatchBool, MatchOption, List, [], ◌∷◌, map, refl, sym, ◌∙◌, ap, subst}
 use Rattle.std.proofs.Math.Path.{ap₂}
 use Rattle.std.specs.List.{AllZip, slice_get}
 use Rattle.std.specs.Option.{IsSomeAnd}
@@ -22,9 +22,9 @@ use Rattle.scrub_check.specs.declared.runs.RunState.TheVariants.{Read, BadChunk,
 use Rattle.scrub_check.specs.declared.status.Status.{Status}
 use Rattle.scrub_check.specs.declared.status.Status.TheVariants.{OutOfRange}
 use Rattle.scrub_check.specs.Checked.{AreChecked, HaveStatuses, named_of}
-use Rattle.scrub_check.specs.Runs.{AreReadRuns, HasRunState, HasRunStateIn, IsRunIn, IsRunOf, NamesRun, ReadRunsValue}
-use Rattle.scrub_check.specs.Status.{HasStatusIn}
-use Rattle.scrub_check.proofs.OneStatus.{one_under_pointer, one_in_plan}
+use Rattle.scrub_check.specs.Runs.{AreReadRuns, HasRunState, HasRunStateInUse, HasRunStateIn, IsLostInRetired, IsRunInUse, IsRunIn, IsRunOf, NamesRun, ReadRunsValue}
+use Rattle.scrub_check.specs.Status.{HasStatusIn, is_retired}
+use Rattle.scrub_check.proofs.OneStatus.{one_under_pointer, one_in_retired, one_in_plan}
 use Rattle.scrub_report.proofs.OneReader.{heads, tails, no_tail}
 
 -- ---- one list of runs
@@ -49,11 +49,15 @@ one_run_of image w l (Some es) (Some fs) x y =
     ap Some (one_run_lem y.names.payload es fs (subst (λ (p : List ℕ). IsRun p es) (same_payload image w l es fs x y) x.run) y.run)
 
 one_run_in : (image : Image) (plan : PlanValue) (l : Locator) (r s : Option (List EntryValue)) → IsRunIn image plan l r → IsRunIn image plan l s → r ≡ s
-one_run_in image plan l r s = under (pointer_of plan l.extent)
+one_run_in image plan l r s = by (is_retired plan l.extent)
   where
     under : (w : Option ℕ) → MatchOption w (r ≡ None) (λ w. IsRunOf image w l r) → MatchOption w (s ≡ None) (λ w. IsRunOf image w l s) → r ≡ s
     under None x y = x ∙ sym y
     under (Some w) x y = one_run_of image w l r s x y
+
+    by : (b : Bool) → MatchBool b (r ≡ None) (IsRunInUse image plan l r) → MatchBool b (s ≡ None) (IsRunInUse image plan l s) → r ≡ s
+    by true x y = x ∙ sym y
+    by false x y = under (pointer_of plan l.extent) x y
 
 one_state : (image : Image) (w : ℕ) (l : Locator) (s t : RunState) → HasRunState image w l s → HasRunState image w l t → s ≡ t
 one_state image w l Read Read x y = refl
@@ -66,12 +70,23 @@ one_state image w l NotARun Read x y = absurd (x.1 y.0 y.1)
 one_state image w l NotARun (BadChunk t) x y = absurd (y.1 x.0)
 one_state image w l NotARun NotARun x y = refl
 
+one_loss : (image : Image) (l : Locator) (s t : RunState) → IsLostInRetired image l s → IsLostInRetired image l t → s ≡ t
+one_loss image l Read t x y = absurd x
+one_loss image l NotARun t x y = absurd x
+one_loss image l (BadChunk s) Read x y = absurd y
+one_loss image l (BadChunk s) NotARun x y = absurd y
+one_loss image l (BadChunk s) (BadChunk t) x y = ap BadChunk ((one_in_retired image l).one s t x y)
+
 one_state_in : (image : Image) (plan : PlanValue) (l : Locator) (s t : RunState) → HasRunStateIn image plan l s → HasRunStateIn image plan l t → s ≡ t
-one_state_in image plan l s t = under (pointer_of plan l.extent)
+one_state_in image plan l s t = by (is_retired plan l.extent)
   where
     under : (w : Option ℕ) → MatchOption w (s ≡ BadChunk OutOfRange) (λ w. HasRunState image w l s) → MatchOption w (t ≡ BadChunk OutOfRange) (λ w. HasRunState image w l t) → s ≡ t
     under None x y = x ∙ sym y
     under (Some w) x y = one_state image w l s t x y
+
+    by : (b : Bool) → MatchBool b (IsLostInRetired image l s) (HasRunStateInUse image plan l s) → MatchBool b (IsLostInRetired image l t) (HasRunStateInUse image plan l t) → s ≡ t
+    by true x y = one_loss image l s t x y
+    by false x y = under (pointer_of plan l.extent) x y
 
 same_read : (r s : ReadRunsValue) → r.runs ≡ s.runs → r.states ≡ s.states → r ≡ s
 same_read r s hr hs = ap (λ x. make x r.states) hr ∙ ap (make s.runs) hs
@@ -87,14 +102,18 @@ one_list_of_runs image plan r s x y =
 
 -- a run that is read names a chunk, whose payload it is
 named_run : (image : Image) (plan : PlanValue) (l : Locator) (es : List EntryValue) → IsRunIn image plan l (Some es) → (w : ℕ) × NamesRun image w l es
-named_run image plan l es = under (pointer_of plan l.extent)
+named_run image plan l es = by (is_retired plan l.extent)
   where
+    some_or_none : Some es ≡ None → ⊥
+    some_or_none e = cc
+
     under : (w : Option ℕ) → MatchOption w (Some es ≡ None) (λ w. IsRunOf image w l (Some es)) → (w : ℕ) × NamesRun image w l es
     under None x = absurd (some_or_none x)
-      where
-        some_or_none : Some es ≡ None → ⊥
-        some_or_none e = cc
     under (Some w) x = (w, x)
+
+    by : (b : Bool) → MatchBool b (Some es ≡ None) (IsRunInUse image plan l (Some es)) → (w : ℕ) × NamesRun image w l es
+    by true x = absurd (some_or_none x)
+    by false x = under (pointer_of plan l.extent) x
 
 pub read_of : (image : Image) (plan : PlanValue) (r : ReadRunsValue) → AreReadRuns image plan r → (k : ℕ) (es : List EntryValue) → slice_get r.runs k ≡ Some (Some es) →
     (l : Locator) × (w : ℕ) × NamesRun image w l es

@@ -1,14 +1,14 @@
 -- A choice has one plan, and one reader finds one thing by it.
-use Rattle.std.proofs.Common.{◌≡◌, ◌<◌, ℕ, Bool, Option, Some, None, MatchOption, List, [], ◌∷◌, arith, refl, sym, ◌∙◌, ap, subst}
+use Rattle.std.proofs.Common.{◌≡◌, ◌<◌, ℕ, Option, Some, None, MatchOption, List, [], ◌∷◌, arith, refl, sym, ◌∙◌, ap, subst}
 use Rattle.std.proofs.Math.Path.{ap₂}
 use Rattle.std.proofs.lemmas.Option.{same_Some}
 use Rattle.std.specs.List.{All}
 use Rattle.std.proofs.lemmas.List.Elements.{All-head, All-tail}
 use Rattle.scrub_disk.specs.declared.geometry.Geometry.{Geometry}
 use Rattle.scrub_disk.specs.Image.{Image}
-use Rattle.scrub_frame.specs.declared.locator.Locator.{Locator}
 use Rattle.scrub_super.specs.Chosen.{Choice}
 use Rattle.scrub_super.specs.Contents.{Contents}
+use Rattle.scrub_super.specs.Planned.{extents_in_use}
 use Rattle.scrub_super.specs.Plan.{PlanValue, IsPlanBy, IsPlanOf, IsPlanWithout, pointer_of}
 use Rattle.scrub_scan.specs.declared.findings.Findings.{Findings}
 use Rattle.scrub_scan.specs.declared.item.Item.{Item}
@@ -20,27 +20,26 @@ use Rattle.scrub_scan.proofs.Tilings.{one_tiling}
 
 -- ---- one plan
 
-same_plan : (p q : PlanValue) → p.geometry ≡ q.geometry → p.planned ≡ q.planned → p.pointers ≡ q.pointers → p.runs ≡ q.runs → p.has_superblock ≡ q.has_superblock → p ≡ q
-same_plan p q hg hp hw hr hs =
-    ap (λ x. make x p.planned p.pointers p.runs p.has_superblock) hg
-    ∙ ap (λ x. make q.geometry x p.pointers p.runs p.has_superblock) hp
-    ∙ ap (λ x. make q.geometry q.planned x p.runs p.has_superblock) hw
-    ∙ ap (λ x. make q.geometry q.planned q.pointers x p.has_superblock) hr
-    ∙ ap (make q.geometry q.planned q.pointers q.runs) hs
-  where
-    make : Geometry → List ℕ → List ℕ → List Locator → Bool → PlanValue
-    make g e w r s = record { geometry = g; planned = e; pointers = w; runs = r; has_superblock = s }
+same_plan : (p q : PlanValue) → p.geometry ≡ q.geometry → p.planned ≡ q.planned → p.retired ≡ q.retired → p.pointers ≡ q.pointers → p.runs ≡ q.runs → p.has_superblock ≡ q.has_superblock → p ≡ q
+same_plan p q hg hp ht hw hr hs = λ i. record {
+  geometry = hg i;
+  planned = hp i;
+  retired = ht i;
+  pointers = hw i;
+  runs = hr i;
+  has_superblock = hs i;
+}
 
 -- what a superblock tells, or the want of one
 same_told : (g : Geometry) (s : Option Contents) (p q : PlanValue) → MatchOption s (IsPlanWithout p g) (IsPlanBy p) → MatchOption s (IsPlanWithout q g) (IsPlanBy q) →
-    (p.pointers ≡ q.pointers) × (p.runs ≡ q.runs) × (p.has_superblock ≡ q.has_superblock)
-same_told g None p q x y = (x.pointers ∙ sym y.pointers, x.runs ∙ sym y.runs, x.has ∙ sym y.has)
-same_told g (Some c) p q x y = (x.pointers ∙ sym y.pointers, x.runs ∙ sym y.runs, x.has ∙ sym y.has)
+    (p.retired ≡ q.retired) × (p.pointers ≡ q.pointers) × (p.runs ≡ q.runs) × (p.has_superblock ≡ q.has_superblock)
+same_told g None p q x y = (x.retired ∙ sym y.retired, x.pointers ∙ sym y.pointers, x.runs ∙ sym y.runs, x.has ∙ sym y.has)
+same_told g (Some c) p q x y = (x.retired ∙ sym y.retired, x.pointers ∙ sym y.pointers, x.runs ∙ sym y.runs, x.has ∙ sym y.has)
 
 pub one_plan : (choice : Choice) (p q : PlanValue) → IsPlanOf choice p → IsPlanOf choice q → p ≡ q
 one_plan choice p q x y =
     let told = same_told choice.geometry choice.superblock p q x.by y.by in
-    same_plan p q (x.geometry ∙ sym y.geometry) (x.all ∙ sym y.all) told.0 told.1 told.2
+    same_plan p q (x.geometry ∙ sym y.geometry) (x.all ∙ ap (extents_in_use choice.geometry.extents) told.0 ∙ sym y.all) told.0 told.1 told.2 told.3
 
 -- ---- one reader
 

@@ -19,7 +19,7 @@ use Rattle.scrub_check.specs.Named.{named}
 use Rattle.scrub_check.specs.Runs.{ReadRunsValue, AreReadRuns}
 use Rattle.scrub_check.specs.Shared.{AreShared}
 use Rattle.scrub_check.proofs.OneList.{one_list, one_shared, one_broken}
-use Rattle.scrub_report.specs.Answer.{AnswerValue, IsScrubAnswer}
+use Rattle.scrub_report.specs.Answer.{AnswerValue, IsScrubAnswer, ArePlannedExtents}
 use Rattle.scrub_report.specs.Index.{index_entries}
 use Rattle.scrub_report.specs.Report.{report_text}
 use Rattle.scrub_report.specs.Scrubbed.{Scrubbed, IsScrubbed, is_clean, is_in_doubt}
@@ -84,6 +84,13 @@ one_scrub image s t x y = same_parts s t choice plan all read bindings checked s
 
     candidates : s.candidates ≡ t.candidates
     candidates = one_list t.plan t.all t.checked (is_in_doubt t.choice t.read) s.candidates t.candidates (same x.candidates) y.candidates
+
+-- and one list of planned extents
+pub one_planned : (image : Image) (planned others : List ℕ) → ArePlannedExtents image planned → ArePlannedExtents image others → planned ≡ others
+one_planned image planned others x y =
+    let choice : x.choice ≡ y.choice = one_choice_lem image x.choice y.choice x.chosen y.chosen in
+    let plan : x.plan ≡ y.plan = one_plan y.choice x.plan y.plan (subst (λ (c : Choice). IsPlanOf c x.plan) choice x.follows) y.follows in
+    x.are ∙ ap (λ (p : PlanValue). p.planned) plan ∙ sym y.are
 
 same_answer : (a b : AnswerValue) → a.report ≡ b.report → a.index ≡ b.index → a.is_clean ≡ b.is_clean → a ≡ b
 same_answer a b hr hi hc = ap (λ x. make x a.index a.is_clean) hr ∙ ap (λ x. make b.report x a.is_clean) hi ∙ ap (make b.report b.index) hc

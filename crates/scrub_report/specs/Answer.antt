@@ -1,8 +1,8 @@
 -- What a scrub answers of a disk.
-use Rattle.std.specs.Prelude.{◌-◌, ℕ, List, Bool}
-use Rattle.std.specs.List.{range_with_len}
-use Rattle.scrub_disk.specs.declared.geometry.Geometry.{Geometry}
+use Rattle.std.specs.Prelude.{◌≡◌, ℕ, List, Bool}
 use Rattle.scrub_disk.specs.Image.{Image}
+use Rattle.scrub_super.specs.Chosen.{Choice, IsChoice}
+use Rattle.scrub_super.specs.Plan.{PlanValue, IsPlanOf}
 use Rattle.scrub_report.specs.Scrubbed.{IsCleanImage}
 use Rattle.scrub_report.specs.Report.{IsReport}
 use Rattle.scrub_report.specs.Index.{IsIndex}
@@ -19,6 +19,10 @@ pub record IsScrubAnswer (image : Image) (a : AnswerValue) : Type 0 where
   pub index : IsIndex image a.index
   pub clean : IsCleanImage image a.is_clean
 
--- the extents that a scrub goes through, rising: all of the disk but extent 0
-abbrev pub planned_extents : Geometry → List ℕ
-planned_extents g = range_with_len 1 (g.extents - 1)
+-- the extents that a scrub goes through, rising: those that are planned by the superblock that counts on the disk
+pub record ArePlannedExtents (image : Image) (planned : List ℕ) : Type 0 where
+  pub choice : Choice
+  pub plan : PlanValue
+  pub chosen : IsChoice image choice
+  pub follows : IsPlanOf choice plan
+  pub are : planned ≡ plan.planned

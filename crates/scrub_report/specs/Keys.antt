@@ -1,12 +1,12 @@
 -- The steps of the code: a locator of either list, and members with some of the report's keys put to them.
-use Rattle.std.specs.Prelude.{[], codes, cond, length, map}
+use Rattle.std.specs.Prelude.{codes, cond, length, map}
 use Rattle.serde_json.specs.Data.{Data, Members, boolean, put}
 use Rattle.scrub_check.specs.declared.checked.Checked.{Checked}
 use Rattle.scrub_check.specs.Checked.{dangling, hidden, is_hidden}
 use Rattle.scrub_check.specs.Chunks.{orphans, twins}
 use Rattle.scrub_report.specs.Json.{natural, list}
 use Rattle.scrub_report.specs.Scrubbed.{Scrubbed, is_clean}
-use Rattle.scrub_report.specs.Report.{ids_data, candidate_data, dangling_data, doubtful_ids, extents_data, geometry_data, hidden_data, place_data, runs_data, shared_data, super_data}
+use Rattle.scrub_report.specs.Report.{ids_data, candidate_data, dangling_data, doubtful_ids, extents_data, geometry_data, hidden_data, numbers_data, place_data, runs_data, shared_data, super_data}
 
 -- one of `hidden`, or of `dangling`
 abbrev pub locator_data : Checked → Data
@@ -40,5 +40,5 @@ abbrev pub with_disk : Scrubbed → Members → Members
 with_disk s ms =
     put (codes "extents") (extents_data s.checked s.all)
     (put (codes "super") (super_data s.choice)
-    (put (codes "retired") (list [])
+    (put (codes "retired") (numbers_data s.plan.retired)
     (put (codes "geometry") (geometry_data s.plan.geometry) ms)))

@@ -128,7 +128,7 @@ report_data s = with_keys (
     (codes "geometry", geometry_data s.plan.geometry) ∷
     (codes "hidden", list (map hidden_data (hidden s.checked))) ∷
     (codes "orphans", list (map place_data (orphans s.all s.checked))) ∷
-    (codes "retired", list []) ∷
+    (codes "retired", numbers_data s.plan.retired) ∷
     (codes "runs", runs_data s.plan.runs s.read) ∷
     (codes "shards", natural (length s.bindings)) ∷
     (codes "shared", list (map shared_data s.shared)) ∷

@@ -8,7 +8,7 @@ use Rattle.scrub_run.specs.declared.shard_id.ShardId.{ShardId}
 use Rattle.scrub_check.specs.declared.named.Owner.{Owner}
 use Rattle.scrub_check.specs.declared.named.Owner.TheVariants.{Run, Shard}
 use Rattle.scrub_check.specs.declared.status.Status.{Status}
-use Rattle.scrub_check.specs.declared.status.Status.TheVariants.{OutOfRange, PastPointer, Unreadable, NoFrame, WrongUuid, WrongLength, WrongDigest, Hidden, Sound}
+use Rattle.scrub_check.specs.declared.status.Status.TheVariants.{OutOfRange, Retired, PastPointer, Unreadable, NoFrame, WrongUuid, WrongLength, WrongDigest, Hidden, Sound}
 use Rattle.scrub_check.specs.declared.runs.RunState.{RunState}
 use Rattle.scrub_check.specs.declared.runs.RunState.TheVariants.{Read, BadChunk, NotARun}
 
@@ -25,9 +25,10 @@ abbrev pub owner_text : Owner → List ℕ
 owner_text (Run number) = codes "run " ++ decimal number
 owner_text (Shard id) = codes "shard " ++ id_text id
 
--- what a locator is worth; only that of the first seven is ever a reason
+-- what a locator is worth; only that of the first eight is ever a reason
 abbrev pub status_text : Status → List ℕ
 status_text OutOfRange = codes "out_of_range"
+status_text Retired = codes "retired"
 status_text PastPointer = codes "past_pointer"
 status_text Unreadable = codes "unreadable"
 status_text NoFrame = codes "no_frame"

@@ -1,9 +1,9 @@
 //! What a scrub answers, and the whole scrub of a disk, by one reader or by many workers.
 
-ghost use Rattle.std.specs.Prelude.{◌≡◌, ◌+◌, ◌≤◌, length, IfOk};
+ghost use Rattle.std.specs.Prelude.{◌≡◌, ◌+◌, ◌≤◌, ℕ, List, length, IfOk};
 ghost use Rattle.scrub_disk.specs.Image.{Image};
 ghost use Rattle.scrub_pool.specs.Takings.{IsPartition};
-ghost use Rattle.scrub_report.specs.Answer.{AnswerValue, IsScrubAnswer, planned_extents};
+ghost use Rattle.scrub_report.specs.Answer.{AnswerValue, IsScrubAnswer, ArePlannedExtents};
 ghost use Rattle.scrub_report.specs.Parts.{IsScan};
 
 use crate::index::index_bytes;
@@ -147,8 +147,8 @@ pub fn scrub<D: PageSource, G: Gate, R: Threads + Wait + Sync>(
     requires { workers ≤ 64 }
     ensures answer { IfOk result (λ r. IsScrubAnswer (D.image disk.now) r.0) }
     ensures workers { IfOk result (λ r. length r.1.lists ≡ workers + 1) }
-    ensures partition { IfOk result (λ r. IsPartition (planned_extents (D.image disk.now).geometry) r.1.lists) }
-    ensures counted { IfOk result (λ r. r.1.counted ≡ length (planned_extents (D.image disk.now).geometry)) }
+    ensures partition { IfOk result (λ r. (planned : List ℕ) × ArePlannedExtents (D.image disk.now) planned × IsPartition planned r.1.lists) }
+    ensures counted { IfOk result (λ r. (planned : List ℕ) × ArePlannedExtents (D.image disk.now) planned × (r.1.counted ≡ length planned)) }
 {
     let chosen = choose(alloc, disk)?;
     let plan = Plan::make(alloc, &chosen, disk.geometry())?;
@@ -163,6 +163,11 @@ pub fn scrub<D: PageSource, G: Gate, R: Threads + Wait + Sync>(
     let answer = answer_of(rt, alloc, scan)?;
     Ok((answer, takings))
 }
+
+/// A law: an image has one list of planned extents.
+pub fn one_list_of_planned_extents()
+    ensures { (image : Image) (planned others : List ℕ) → ArePlannedExtents image planned → ArePlannedExtents image others → planned ≡ others }
+{}
 
 /// A law: an image has one report, one index and one verdict whether it is clean. So whoever scrubs it, with however many
 /// workers, has to answer the same.

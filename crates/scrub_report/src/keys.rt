@@ -133,7 +133,8 @@ pub(crate) fn put_extents<D: PageSource>(
     put(report, alloc, "twins", twins)?;
     let geometry = geometry_value(alloc, parts.plan.geometry())?;
     put(report, alloc, "geometry", geometry)?;
-    put(report, alloc, "retired", Value::Array(Vec::new(alloc)))?;
+    let retired = list_value(alloc, parts.plan.retired())?;
+    put(report, alloc, "retired", retired)?;
     let superblock = super_value(alloc, &parts.chosen)?;
     put(report, alloc, "super", superblock)?;
     let extents = extents_key(alloc, &parts.all, &parts.checked)?;

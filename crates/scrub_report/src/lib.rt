@@ -18,7 +18,9 @@ mod texts;
 mod values;
 pub mod writing;
 
-pub use answer::{ScrubAnswer, ScrubFault, one_report, scrub, scrub_in_order};
+pub use answer::{
+    ScrubAnswer, ScrubFault, one_list_of_planned_extents, one_report, scrub, scrub_in_order,
+};
 pub use order::are_clean_items;
 pub use writing::{WriteFault, write_out};
 

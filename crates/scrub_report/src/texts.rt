@@ -42,6 +42,7 @@ pub(crate) fn status_text(status: Status) -> &'static str
 {
     match status {
         Status::OutOfRange => "out_of_range",
+        Status::Retired => "retired",
         Status::PastPointer => "past_pointer",
         Status::Unreadable => "unreadable",
         Status::NoFrame => "no_frame",

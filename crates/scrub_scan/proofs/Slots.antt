@@ -1,5 +1,5 @@
 -- Places that each have something, and what stands in them.
-use Rattle.std.proofs.Common.{refl, ◌++◌, ◌&&◌, ◌≡◌, ◌<◌, ℕ, List, [], ◌∷◌, true, length, get_or, map, arith, sym, ◌∙◌, ap, Some, None, Option, IfSome, All, zero, suc, subst}
+use Rattle.std.proofs.Common.{refl, ◌++◌, ◌&&◌, ◌≡◌, ◌<◌, ℕ, List, [], ◌∷◌, true, length, get_or, map, arith, sym, ◌∙◌, ap, Some, None, Option, IfSome, MatchOption, All, zero, suc, subst}
 use Rattle.std.specs.List.{AllZip, list_all}
 use Rattle.std.specs.Option.{option_map_or, is_some}
 use Rattle.std.proofs.lemmas.Bool.{true≢false}
@@ -13,8 +13,8 @@ use Rattle.scrub_super.specs.Plan.{PlanValue, pointer_of}
 use Rattle.scrub_scan.specs.declared.extent_result.ExtentResult.{ExtentResult}
 use Rattle.scrub_scan.specs.Findings.{IsFindings}
 use Rattle.scrub_scan.specs.Scanned.{Scanned, result_image, scanned}
-use Rattle.scrub_scan.specs.AllFindings.{extent_numbers, AreAllFindings}
-use Rattle.scrub_scan.specs.Slots.{held_in, AreFull, IsPlannedResult, AreSlots, scanned_in}
+use Rattle.scrub_scan.specs.AllFindings.{extent_numbers, HaveFindings, IsOfImage, AreAllFindings}
+use Rattle.scrub_scan.specs.Slots.{held_in, AreFull, IsPlannedResult, AreSlots, first_source, scanned_in}
 
 -- full places hold each of what stands in them
 pub full_places : {X : Type 0} (slots : List (Option X)) → AreFull slots → slots ≡ map Some (held_in slots)
@@ -87,6 +87,14 @@ module _ {D : Type 0} {s : _} (image : Image) (plan : PlanValue) (slots : List (
   pub of_image : All (λ (r : ExtentResult D s). result_image r ≡ image) (held_in slots)
   of_image = zip_right (IsPlannedResult image plan) (λ r. result_image r ≡ image) (λ e r h. h.image_is) plan.planned (held_in slots) pairs
 
+  -- so that of the first is
+  pub of_first : IsOfImage s.image (record { source = first_source (held_in slots); extents = scanned_in slots }) image
+  of_first = by (held_in slots) of_image
+    where
+      by : (rs : List (ExtentResult D s)) → All (λ (r : ExtentResult D s). result_image r ≡ image) rs → MatchOption (first_source rs) (map (λ (r : ExtentResult D s). scanned r) rs ≡ []) (λ d. s.image d ≡ image)
+      by [] of = refl
+      by (r ∷ rs) of = of 0 r (omega arith)
+
   -- they are what one reader finds
   pub all_found : AreAllFindings image plan (scanned_in slots)
   all_found = record {
@@ -96,3 +104,11 @@ module _ {D : Type 0} {s : _} (image : Image) (plan : PlanValue) (slots : List (
     findings = All-map (λ (f : Scanned). IsFindings image f.extent f.pointer f.findings) (λ (r : ExtentResult D s). scanned r) (held_in slots)
         (zip_right (IsPlannedResult image plan) (λ r. IsFindings image r.extent r.pointer r.findings) (λ e r h. subst (λ (i : Image). IsFindings i r.extent r.pointer r.findings) h.image_is r.found) plan.planned (held_in slots) pairs);
   }
+
+  -- and what the source of the first holds
+  pub held_there : MatchOption (first_source (held_in slots)) (scanned_in slots ≡ []) (λ d. HaveFindings (s.image d) (scanned_in slots))
+  held_there = by (first_source (held_in slots)) of_first
+    where
+      by : (o : Option D) → MatchOption o (scanned_in slots ≡ []) (λ d. s.image d ≡ image) → MatchOption o (scanned_in slots ≡ []) (λ d. HaveFindings (s.image d) (scanned_in slots))
+      by None h = h
+      by (Some d) h = subst (λ (i : Image). HaveFindings i (scanned_in slots)) (sym h) all_found.findings

@@ -1,5 +1,5 @@
 -- The findings of one reader, who goes through the planned extents in the order of their numbers.
-use Rattle.std.specs.Prelude.{◌≡◌, ◌<◌, ◌==◌, ℕ, List, All, map, Some, Option, option_map, length, slice_index}
+use Rattle.std.specs.Prelude.{◌≡◌, ◌<◌, ◌==◌, ℕ, List, [], All, map, Some, Option, MatchOption, option_map, length, slice_index}
 use Rattle.std.specs.List.{find}
 use Rattle.std.specs.List.Sorted.{IsStrictlyIncreasing}
 use Rattle.scrub_disk.specs.Image.{Image}
@@ -8,9 +8,9 @@ use Rattle.scrub_scan.specs.declared.findings.Findings.{Findings}
 use Rattle.scrub_scan.specs.Findings.{IsFindings}
 use Rattle.scrub_scan.specs.Scanned.{Scanned}
 
--- what was found on a disk: the source of its pages, and the extents that were scanned
+-- what was found on a disk: the extents that were scanned, and the source of their pages, none where none was scanned
 pub record ScannedDisk (D : Type 0) : Type 0 where
-  pub source : D
+  pub source : Option D
   pub extents : List Scanned
 
 -- the numbers of the extents
@@ -33,10 +33,14 @@ findings_in all e = option_map (λ f. f.findings) (entry_of all e)
 abbrev pub HaveFindings : Image → List Scanned → Type 0
 HaveFindings image all = All (λ f. IsFindings image f.extent f.pointer f.findings) all
 
--- the extents rise, and each has what the image holds there
-pub record AreScanned (image : Image) (all : List Scanned) : Type 0 where
-  pub rising : IsStrictlyIncreasing (extent_numbers all)
-  pub findings : HaveFindings image all
+-- what was scanned is of this image
+abbrev pub IsOfImage : {D : Type 0} → (D → Image) → ScannedDisk D → Image → Type 0
+IsOfImage image_of all image = MatchOption all.source (all.extents ≡ []) (λ s. image_of s ≡ image)
+
+-- the extents rise, and each has what the image of the source holds there
+pub record AreScannedBy {D : Type 0} (image_of : D → Image) (all : ScannedDisk D) : Type 0 where
+  pub rising : IsStrictlyIncreasing (extent_numbers all.extents)
+  pub findings : MatchOption all.source (all.extents ≡ []) (λ s. HaveFindings (image_of s) all.extents)
 
 -- the planned extents, rising, each with what its image holds under the plan's write pointer
 pub record AreAllFindings (image : Image) (plan : PlanValue) (all : List Scanned) : Type 0 where

@@ -1,5 +1,5 @@
 -- Places for the results of planned extents, each with a result or none yet.
-use Rattle.std.specs.Prelude.{◌≡◌, ℕ, List, true, Option, Some, IfSome, map}
+use Rattle.std.specs.Prelude.{◌≡◌, ℕ, List, [], ◌∷◌, true, Option, Some, None, IfSome, map}
 use Rattle.std.specs.List.{AllZip, filter_map, list_all}
 use Rattle.std.specs.Option.{is_some}
 use Rattle.scrub_disk.specs.Image.{Image}
@@ -25,6 +25,11 @@ module _ {D : Type 0} {s : _} where
   -- one place for each planned extent, in their order, which has that extent's result if any
   abbrev pub AreSlots : Image → PlanValue → List (Option (ExtentResult D s)) → Type 0
   AreSlots image plan slots = AllZip (λ e slot. IfSome slot (λ r. IsPlannedResult image plan e r)) plan.planned slots
+
+  -- the source of some results, that of the first
+  abbrev pub first_source : List (ExtentResult D s) → Option D
+  first_source [] = None
+  first_source (r ∷ rs) = Some r.source.now
 
   -- what was found, of the places that have a result
   abbrev pub scanned_in : List (Option (ExtentResult D s)) → List Scanned

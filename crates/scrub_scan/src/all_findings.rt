@@ -1,11 +1,10 @@
-//! The findings of all planned extents. How those of one extent come about is left to the scan.
+//! The findings of all planned extents, of which there may be none. How those of one extent come about is left to the scan.
 
-ghost use Rattle.std.specs.Prelude.{◌≡◌, ◌<◌, ℕ, map, length, IfSome, IfNone, Contains, All, Some, slice_get, slice_index};
+ghost use Rattle.std.specs.Prelude.{◌≡◌, ◌<◌, ℕ, map, length, IfSome, IfNone, Contains, Some, slice_get, slice_index};
 ghost use Rattle.std.specs.Option.{option_map_or};
 ghost use Rattle.std.specs.List.Sorted.{IsStrictlyIncreasing};
 ghost use Rattle.scrub_disk.specs.Image.{Image};
-ghost use Rattle.scrub_scan.specs.Scanned.{result_image};
-ghost use Rattle.scrub_scan.specs.Slots.{AreFull, held_in, scanned_in};
+ghost use Rattle.scrub_scan.specs.Slots.{AreFull, scanned_in};
 ghost use Rattle.scrub_scan.specs.AllFindings.{IsPlaceOf, extent_numbers};
 
 use crate::extent_result::ExtentResult;
@@ -17,31 +16,19 @@ use std::marker::Model;
 /// What was found in the scanned extents of one source, by the rising numbers of the extents, each once.
 #[derive(Drop)]
 pub struct AllFindings<'d, D: PageSource> {
-    source: &'d D,
     slots: Vec<Option<ExtentResult<'d, D>>>,
 }
 
 impl<'d, D: PageSource> Model for AllFindings<'d, D> {
-    ghost use Rattle.scrub_scan.specs.AllFindings.{ScannedDisk, AreScanned};
-    ghost use Rattle.scrub_scan.specs.Slots.{AreFull, scanned_in};
+    ghost use Rattle.scrub_scan.specs.AllFindings.{ScannedDisk, AreScannedBy};
+    ghost use Rattle.scrub_scan.specs.Slots.{AreFull, first_source, held_in, scanned_in};
 
     ghost Value = { ScannedDisk D };
 
-    ghost view = { λ a. record { source = a.source.now; extents = scanned_in a.slots.items } };
+    ghost view = { λ a. record { source = first_source (held_in a.slots.items); extents = scanned_in a.slots.items } };
 
-    ghost invariant = { λ a. AreFull a.slots.items × AreScanned (D.image a.source.now) (scanned_in a.slots.items) };
-}
-
-/// The source of the results in places that each have one.
-fn source_of<'d, D: PageSource>(slots: &[Option<ExtentResult<'d, D>>]) -> &'d D
-    requires any { 0 < length slots.now }
-    requires full { AreFull slots.now }
-    ensures { (image : Image) → All (λ r. result_image r ≡ image) (held_in slots.now) → D.image result.now ≡ image }
-{
-    match &slots[0] {
-        Some(result) => result.source(),
-        None => unreachable!(),
-    }
+    ghost invariant = { λ a. AreFull a.slots.items × AreScannedBy (λ s. D.image s)
+        (record { source = first_source (held_in a.slots.items); extents = scanned_in a.slots.items }) };
 }
 
 /// The number of the extent whose result stands in a place, 0 where there is none.
@@ -69,7 +56,7 @@ fn position_of<D: PageSource>(slots: &[Option<ExtentResult<'_, D>>], extent: u32
 impl<'d, D: PageSource> AllFindings<'d, D> {
     ghost use Rattle.scrub_scan.specs.Scanned.{scanned};
     ghost use Rattle.scrub_scan.specs.Slots.{AreSlots};
-    ghost use Rattle.scrub_scan.specs.AllFindings.{entry_of, findings_in, AreScanned, AreAllFindings};
+    ghost use Rattle.scrub_scan.specs.AllFindings.{entry_of, findings_in, AreScannedBy, AreAllFindings, IsOfImage};
 
     /// The findings of one reader, of places that have the results of the planned extents, in their order, all there, of
     /// one image and under the plan's pointers. It takes no memory: the places are kept as they are.
@@ -77,21 +64,18 @@ impl<'d, D: PageSource> AllFindings<'d, D> {
         requires slots { (image : Image) × AreSlots image plan.now slots.items }
         requires full { AreFull slots.items }
         ensures extents { result.extents ≡ scanned_in slots.entry.items }
-        ensures image { (image : Image) → AreSlots image plan.now slots.entry.items → D.image result.source ≡ image }
-        ensures findings { AreAllFindings (D.image result.source) plan.now result.extents }
+        ensures image { (image : Image) → AreSlots image plan.now slots.entry.items → IsOfImage (λ s. D.image s) result image }
+        ensures findings { (image : Image) → AreSlots image plan.now slots.entry.items → AreAllFindings image plan.now result.extents }
     {
         let _ = plan.planned();
-        AllFindings {
-            source: source_of(&slots),
-            slots,
-        }
+        AllFindings { slots }
     }
 
     /// How many extents were scanned.
     pub fn len(&self) -> usize
         ensures count { result ≡ length self.now.extents }
         // Every value of the type is such.
-        ensures scanned { AreScanned (D.image self.now.source) self.now.extents }
+        ensures scanned { AreScannedBy (λ s. D.image s) self.now }
     {
         self.slots.len()
     }
@@ -101,7 +85,7 @@ impl<'d, D: PageSource> AllFindings<'d, D> {
         requires { i < length self.now.extents }
         ensures number { result ≡ slice_index (extent_numbers self.now.extents) i }
         // Every value of the type is such.
-        ensures scanned { AreScanned (D.image self.now.source) self.now.extents }
+        ensures scanned { AreScannedBy (λ s. D.image s) self.now }
     {
         self.result_at(i).extent()
     }
@@ -111,7 +95,7 @@ impl<'d, D: PageSource> AllFindings<'d, D> {
         requires { i < length self.now.extents }
         ensures result { slice_get self.now.extents i ≡ Some (scanned result.now) }
         // Every value of the type is such.
-        ensures scanned { AreScanned (D.image self.now.source) self.now.extents }
+        ensures scanned { AreScannedBy (λ s. D.image s) self.now }
     {
         match &self.slots[i] {
             Some(result) => result,
@@ -124,7 +108,7 @@ impl<'d, D: PageSource> AllFindings<'d, D> {
         ensures found { IfSome result (λ r. entry_of self.now.extents extent ≡ Some (scanned r.now)) }
         ensures none { IfNone result (¬ Contains (extent_numbers self.now.extents) extent) }
         // Every value of the type is such.
-        ensures scanned { AreScanned (D.image self.now.source) self.now.extents }
+        ensures scanned { AreScannedBy (λ s. D.image s) self.now }
     {
         let i = position_of(&self.slots, extent)?;
         Some(self.result_at(i))
@@ -135,7 +119,7 @@ impl<'d, D: PageSource> AllFindings<'d, D> {
         ensures found { IfSome result (λ f. findings_in self.now.extents extent ≡ Some f.now) }
         ensures none { IfNone result (¬ Contains (extent_numbers self.now.extents) extent) }
         // Every value of the type is such.
-        ensures scanned { AreScanned (D.image self.now.source) self.now.extents }
+        ensures scanned { AreScannedBy (λ s. D.image s) self.now }
     {
         Some(self.result_of(extent)?.findings())
     }

@@ -4,7 +4,7 @@ ghost use Rattle.std.specs.Prelude.{◌≡◌, ◌≤◌, ◌<◌, Contains, IfO
 ghost use Rattle.scrub_disk.specs.Image.{extent_bytes};
 ghost use Rattle.scrub_super.specs.Plan.{pointer_of};
 ghost use Rattle.scrub_scan.specs.Scanned.{result_image, scanned};
-ghost use Rattle.scrub_scan.specs.AllFindings.{AreAllFindings};
+ghost use Rattle.scrub_scan.specs.AllFindings.{AreAllFindings, IsOfImage};
 
 use crate::all_findings::AllFindings;
 use crate::extent_result::ExtentResult;
@@ -68,7 +68,7 @@ pub fn scan_in_order<'d, D: PageSource>(
     plan: &Plan,
 ) -> Result<AllFindings<'d, D>, OutOfMemory>
     requires { plan.now.geometry ≡ (D.image disk.now).geometry }
-    ensures image { IfOk result (λ all. D.image all.source ≡ D.image disk.now) }
+    ensures image { IfOk result (λ all. IsOfImage (λ s. D.image s) all (D.image disk.now)) }
     ensures findings { IfOk result (λ all. AreAllFindings (D.image disk.now) plan.now all.extents) }
 {
     let mut slots = Vec::new(alloc);

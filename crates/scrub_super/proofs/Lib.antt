@@ -2,6 +2,8 @@
 pub mod Parts
 pub mod Cuts
 pub mod Records
+pub mod Heads
+pub mod Extents
 pub mod Plans
 pub mod Standing
 pub mod RecordsSeenSteps

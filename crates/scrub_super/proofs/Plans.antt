@@ -1,23 +1,27 @@
 -- The lists of a plan.
-use Rattle.std.proofs.Common.{◌≡◌, ◌<◌, ◌≤◌, ◌+◌, ◌*◌, ◌-◌, ℕ, List, [], get_or, arith, sym, All, replicate, Option, Some, IfSome}
+use Rattle.std.proofs.Common.{◌≡◌, ◌<◌, ◌≤◌, ◌+◌, ◌*◌, ◌-◌, ℕ, List, [], ◌∷◌, true, filter, get_or, arith, refl, sym, ap, subst, All, replicate, Option, Some, None, IfSome}
 use Rattle.std.specs.List.{Contains, range_with_len}
 use Rattle.std.specs.List.Sorted.{IsStrictlyIncreasing}
 use Rattle.std.proofs.lemmas.List.{get_or-replicate, length-replicate}
+use Rattle.std.proofs.lemmas.List.Elements.{All-filter, filter_passes}
+use Rattle.std.proofs.lemmas.List.Kept.{IsStrictlyIncreasing-filter}
 use Rattle.std.proofs.lemmas.List.FromFn.{length-range_with_len, get_or-range_with_len}
 use Rattle.scrub_disk.specs.declared.geometry.Geometry.{Geometry}
 use Rattle.scrub_frame.specs.declared.locator.Locator.{Locator}
-use Rattle.scrub_super.specs.Planned.{ArePlanned}
+use Rattle.scrub_super.specs.Planned.{ArePlanned, AreRetired, is_in_use, extents_in_use}
 use Rattle.scrub_super.specs.Record.{ArePointers, AreRunLocators, AreContents}
 use Rattle.scrub_super.specs.Contents.{Contents}
+use Rattle.scrub_super.proofs.Records.{listed_extents}
 
--- all extents but extent 0 can be planned
-pub all_planned : (e : ℕ) → ArePlanned e (range_with_len 1 (e - 1))
-all_planned e = record {
-  rising = λ k hk. rises k (omega (arith, hk, length-range_with_len 1 (e - 1)));
-  from_one = λ k d hk. let v : get_or (range_with_len 1 (e - 1)) k d ≡ 1 + k = value k d (omega (arith, hk, length-range_with_len 1 (e - 1))) in omega (arith, v);
-  below = λ k d hk.
+-- the extents in use can be planned
+pub in_use_planned : (e : ℕ) (retired : List ℕ) → ArePlanned e (extents_in_use e retired)
+in_use_planned e retired = record {
+  rising = IsStrictlyIncreasing-filter (is_in_use retired) (range_with_len 1 (e - 1)) (λ k hk. rises k (omega (arith, hk, length-range_with_len 1 (e - 1))));
+  from_one = All-filter (is_in_use retired) (λ n. 1 ≤ n) (range_with_len 1 (e - 1))
+      (λ k d hk. let v : get_or (range_with_len 1 (e - 1)) k d ≡ 1 + k = value k d (omega (arith, hk, length-range_with_len 1 (e - 1))) in omega (arith, v));
+  below = All-filter (is_in_use retired) (λ n. n < e) (range_with_len 1 (e - 1)) (λ k d hk.
       let v : get_or (range_with_len 1 (e - 1)) k d ≡ 1 + k = value k d (omega (arith, hk, length-range_with_len 1 (e - 1))) in
-      omega (arith, v, hk, length-range_with_len 1 (e - 1));
+      omega (arith, v, hk, length-range_with_len 1 (e - 1)));
 }
   where
     value : (k d : ℕ) → k < e - 1 → get_or (range_with_len 1 (e - 1)) k d ≡ 1 + k
@@ -26,12 +30,28 @@ all_planned e = record {
     rises : (k : ℕ) → k + 1 < e - 1 → get_or (range_with_len 1 (e - 1)) k 0 < get_or (range_with_len 1 (e - 1)) (k + 1) 0
     rises k hk = omega (arith, value k 0 (omega (arith, hk)), value (k + 1) 0 hk)
 
+-- they are all but extent 0 where none is retired
+pub all_kept : (e : ℕ) → extents_in_use e [] ≡ range_with_len 1 (e - 1)
+all_kept e = kept (range_with_len 1 (e - 1))
+  where
+    kept : (xs : List ℕ) → filter (is_in_use []) xs ≡ xs
+    kept [] = refl
+    kept (x ∷ xs) = ap (λ ys. x ∷ ys) (kept xs)
+
+-- and none of them is retired
+pub all_in_use : (e : ℕ) (retired : List ℕ) → All (λ x. is_in_use retired x ≡ true) (extents_in_use e retired)
+all_in_use e retired = filter_passes (is_in_use retired) (range_with_len 1 (e - 1))
+
+-- what holds of each of the planned extents holds of some of them
+pub some_of : {X : Type 0} (P : X → Type 0) (xs ys : List X) → All P xs → All (Contains xs) ys → All P ys
+some_of P xs ys h each = λ k d hk. let there : Contains xs (get_or ys k d) = each k d hk in subst P there.2 (h there.0 (get_or ys k d) there.1)
+
 -- some of the planned extents can be planned
 pub some_planned : (e : ℕ) (xs ys : List ℕ) → ArePlanned e xs → IsStrictlyIncreasing ys → All (Contains xs) ys → ArePlanned e ys
 some_planned e xs ys h rising each = record {
   rising = rising;
-  from_one = λ k d hk. let there : Contains xs (get_or ys k d) = each k d hk in rw (sym there.2) (h.from_one there.0 (get_or ys k d) there.1);
-  below = λ k d hk. let there : Contains xs (get_or ys k d) = each k d hk in rw (sym there.2) (h.below there.0 (get_or ys k d) there.1);
+  from_one = some_of (λ n. 1 ≤ n) xs ys h.from_one each;
+  below = some_of (λ n. n < e) xs ys h.below each;
 }
 
 -- pointers that are all the extent's size
@@ -43,6 +63,9 @@ full_pointers g size n hn hs = record {
   where
     at_most : (k d : ℕ) → k < n → get_or (replicate n size) k d ≤ g.page * g.pages
     at_most k d hk = rw (get_or-replicate n k size d hk) (omega (arith, hs))
+
+pub none_retired : (e : ℕ) (xs : List ℕ) → xs ≡ [] → AreRetired e xs
+none_retired e xs is = rw is (listed_extents e None tt)
 
 pub no_runs : (rs : List Locator) → rs ≡ [] → AreRunLocators rs
 no_runs rs e = rw e (record { count = omega arith; each = λ k d hk. absurd (omega (arith, hk)) })

@@ -1,5 +1,5 @@
 -- One page down in the search for records, over the bytes of an extent 0 that is held in memory.
-use Rattle.std.proofs.Common.{◌≡◌, ◌<◌, ◌+◌, ◌*◌, ℕ, List, Bool, true, false, length, get_or, arith, sym, ◌∙◌, ap, inl, inr}
+use Rattle.std.proofs.Common.{◌≡◌, ◌<◌, ◌+◌, ◌*◌, ℕ, List, Bool, Option, true, false, length, get_or, arith, sym, ◌∙◌, ap, inl, inr}
 use Rattle.std.specs.List.{between}
 use Rattle.std.proofs.lemmas.Bool.{cases_lt}
 use Rattle.scrub_disk.specs.Image.{Image}
@@ -39,10 +39,10 @@ part_is : (image : Image) (bytes part : List ℕ) (q s size : ℕ) → size ≡ 
 part_is image bytes part q s size hs hp = hp ∙ ap (λ k. between (q * k) (s * k) bytes) hs
 
 -- a record at page q
-pub step_more : (image : Image) (bytes part : List ℕ) (readable : List Bool) (p q s size n r : ℕ) (old new : RecordsSeen) → p ≡ q + 1 → size ≡ image.geometry.page →
-    part ≡ between (q * size) (s * size) bytes → IsBuffered image 0 bytes readable → IsNextUnreadable readable q s → BeginsWithSome image.geometry part n r →
+pub step_more : (image : Image) (bytes part : List ℕ) (readable : List Bool) (p q s size n r : ℕ) (k : Option ℕ) (old new : RecordsSeen) → p ≡ q + 1 → size ≡ image.geometry.page →
+    part ≡ between (q * size) (s * size) bytes → IsBuffered image 0 bytes readable → IsNextUnreadable readable q s → BeginsWithSome image.geometry part n r k →
     AddsRecord old new q n → AreSeenFrom (StandsFrom image) p old → AreSeenFrom (StandsFrom image) q new
-step_more image bytes part readable p q s size n r old new hp hs is h up some adds found =
+step_more image bytes part readable p q s size n r k old new hp hs is h up some adds found =
     found_more (StandsFrom image) q n old new
     (some.contents, stands_of_front image bytes readable q s some.contents h up (here some.contents some.begins), some.generation)
     (λ m t. sym t.2 ∙ ap (λ c. c.generation) (one_record_lem image.geometry (readable_bytes image bytes q s) t.0 some.contents

@@ -1,9 +1,25 @@
--- What the planned extents of a plan keep.
-use Rattle.std.specs.Prelude.{◌<◌, ◌≤◌, ℕ, List, All}
+-- Lists of extents of a disk, and which of them are scanned.
+use Rattle.std.specs.Prelude.{◌<◌, ◌≤◌, ◌-◌, ◌==◌, ℕ, Bool, List, All, filter, not}
+use Rattle.std.specs.List.{list_any, range_with_len}
 use Rattle.std.specs.List.Sorted.{IsStrictlyIncreasing}
 
--- rising, each among 1 up to E
-pub record ArePlanned (extents : ℕ) (planned : List ℕ) : Type 0 where
-  pub rising : IsStrictlyIncreasing planned
-  pub from_one : All (λ e. 1 ≤ e) planned
-  pub below : All (λ e. e < extents) planned
+-- rising, each among 1 up to E, where chunks are written
+pub record AreChunkExtents (extents : ℕ) (numbers : List ℕ) : Type 0 where
+  pub rising : IsStrictlyIncreasing numbers
+  pub from_one : All (λ e. 1 ≤ e) numbers
+  pub below : All (λ e. e < extents) numbers
+
+-- those that are planned, and those that are retired
+abbrev pub ArePlanned : ℕ → List ℕ → Type 0
+ArePlanned extents planned = AreChunkExtents extents planned
+
+abbrev pub AreRetired : ℕ → List ℕ → Type 0
+AreRetired extents retired = AreChunkExtents extents retired
+
+-- the extent is none of the retired ones
+abbrev pub is_in_use : List ℕ → ℕ → Bool
+is_in_use retired e = not (list_any (λ r. r == e) retired)
+
+-- all extents but extent 0 and the retired ones, rising
+abbrev pub extents_in_use : ℕ → List ℕ → List ℕ
+extents_in_use extents retired = filter (is_in_use retired) (range_with_len 1 (extents - 1))

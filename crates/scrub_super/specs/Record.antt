@@ -1,6 +1,7 @@
--- Superblock records: `SSB1`, the generation, the disk's sizes, the number of index runs, the write pointers, the
--- locators of the runs, and the SHA-256 of all before it.
-use Rattle.std.specs.Prelude.{◌≡◌, ◌<◌, ◌≤◌, ◌+◌, ◌*◌, ◌^◌, ℕ, List, [], ◌∷◌, ◌++◌, All}
+-- Superblock records, which are of two kinds. The first: `SSB1`, the generation, the disk's sizes, the number of index
+-- runs, the write pointers, the locators of the runs, and the SHA-256 of all before it. The second begins with `SSB2` and
+-- lists retired extents too: their number stands behind that of the runs, and they stand behind the write pointers.
+use Rattle.std.specs.Prelude.{◌≡◌, ◌<◌, ◌≤◌, ◌+◌, ◌*◌, ◌^◌, ℕ, List, [], ◌∷◌, ◌++◌, All, Option, Some, None, IfSome, option_map}
 use Rattle.std.specs.Prelude.{length as len}
 use Rattle.std.specs.List.{flat_map}
 use Rattle.byteorder.specs.Endian.{big_bytes}
@@ -8,20 +9,33 @@ use Rattle.sha2.specs.Sha256.{sha256}
 use Rattle.scrub_disk.specs.declared.geometry.Geometry.{Geometry}
 use Rattle.scrub_frame.specs.declared.locator.Locator.{Locator}
 use Rattle.scrub_frame.specs.Locator.{locator_bytes, IsLocator}
-use Rattle.scrub_super.specs.Contents.{Contents}
+use Rattle.scrub_super.specs.Contents.{Contents, retired_in}
+use Rattle.scrub_super.specs.Planned.{AreRetired}
 
--- `SSB1`, what each record begins with
-abbrev pub record_magic : List ℕ
-record_magic = 0x53 ∷ 0x53 ∷ 0x42 ∷ 0x31 ∷ []
+-- the digit that ends the magic: that of `SSB1`, or of `SSB2` where retired extents are listed
+abbrev pub digit_of : Option ℕ → ℕ
+digit_of None = 0x31
+digit_of (Some retired) = 0x32
+
+-- what both kinds of record begin with: the magic, the generation, the disk's sizes and the number of index runs
+abbrev pub front_bytes : ℕ → Geometry → ℕ → ℕ → List ℕ
+front_bytes digit g generation runs =
+    (0x53 ∷ 0x53 ∷ 0x42 ∷ digit ∷ []) ++ (big_bytes 8 generation ++ (big_bytes 4 g.page ++ (big_bytes 4 g.pages ++ (big_bytes 4 g.extents ++ big_bytes 2 runs))))
+
+-- how many retired extents are listed, if any are
+abbrev pub count_bytes : Option ℕ → List ℕ
+count_bytes None = []
+count_bytes (Some retired) = big_bytes 2 retired
 
 -- what stands before the write pointers
-abbrev pub head_bytes : Geometry → ℕ → ℕ → List ℕ
-head_bytes g generation runs =
-    record_magic ++ (big_bytes 8 generation ++ (big_bytes 4 g.page ++ (big_bytes 4 g.pages ++ (big_bytes 4 g.extents ++ big_bytes 2 runs))))
+abbrev pub head_bytes : Geometry → ℕ → ℕ → Option ℕ → List ℕ
+head_bytes g generation runs retired = front_bytes (digit_of retired) g generation runs ++ count_bytes retired
 
 -- what the digest is taken of
 abbrev pub record_body : Geometry → Contents → List ℕ
-record_body g c = head_bytes g c.generation (len c.runs) ++ (flat_map (big_bytes 4) c.pointers ++ flat_map locator_bytes c.runs)
+record_body g c =
+    head_bytes g c.generation (len c.runs) (option_map len c.retired)
+    ++ (flat_map (big_bytes 4) c.pointers ++ (flat_map (big_bytes 4) (retired_in c) ++ flat_map locator_bytes c.runs))
 
 -- the record of these contents
 abbrev pub record_bytes : Geometry → Contents → List ℕ
@@ -41,6 +55,7 @@ pub record AreRunLocators (runs : List Locator) : Type 0 where
 pub record AreContents (g : Geometry) (c : Contents) : Type 0 where
   pub generation : c.generation < 2 ^ 64
   pub pointers : ArePointers g c.pointers
+  pub retired : IfSome c.retired (AreRetired g.extents)
   pub runs : AreRunLocators c.runs
 
 -- a front of the bytes is the record of these contents

@@ -4,6 +4,7 @@
 
 mod choosing;
 pub mod chosen;
+mod head;
 pub mod plan;
 pub mod record;
 pub mod superblock;

@@ -1,8 +1,9 @@
 //! What is to be scanned, and what is known of it before. What stands in the extents is left to the crates above.
 
-ghost use Rattle.std.specs.Prelude.{◌≡◌, ◌<◌, ◌≤◌, ◌-◌, ◌*◌, All, Contains, IfOk, Some, length};
-ghost use Rattle.std.specs.List.{range_with_len};
+ghost use Rattle.std.specs.Prelude.{◌≡◌, ◌==◌, ◌<◌, ◌≤◌, ◌*◌, All, Contains, IfOk, Some, true};
+ghost use Rattle.std.specs.List.{list_any};
 ghost use Rattle.std.specs.List.Sorted.{IsStrictlyIncreasing};
+ghost use Rattle.scrub_super.specs.Planned.{extents_in_use};
 
 use crate::chosen::Chosen;
 use scrub_disk::{Geometry, OutOfMemory};
@@ -10,11 +11,12 @@ use scrub_frame::Locator;
 use std::alloc::Global;
 use std::marker::Model;
 
-/// The extents to scan, the write pointer of each extent, and where the index runs stand.
+/// The extents to scan, those that are retired, the write pointer of each extent, and where the index runs stand.
 #[derive(Drop)]
 pub struct Plan {
     geometry: Geometry,
     planned: Vec<u32>,
+    retired: Vec<u32>,
     pointers: Vec<u32>,
     runs: Vec<Locator>,
     has_superblock: bool,
@@ -28,6 +30,7 @@ impl Model for Plan {
     ghost view = { λ p. record {
       geometry = p.geometry;
       planned = p.planned.items;
+      retired = p.retired.items;
       pointers = p.pointers.items;
       runs = p.runs.items;
       has_superblock = p.has_superblock;
@@ -36,6 +39,7 @@ impl Model for Plan {
     ghost invariant = { λ p. IsPlan (record {
       geometry = p.geometry;
       planned = p.planned.items;
+      retired = p.retired.items;
       pointers = p.pointers.items;
       runs = p.runs.items;
       has_superblock = p.has_superblock;
@@ -43,28 +47,29 @@ impl Model for Plan {
 }
 
 impl Plan {
-    ghost use Rattle.scrub_super.specs.Planned.{ArePlanned};
+    ghost use Rattle.scrub_super.specs.Planned.{ArePlanned, AreRetired, is_in_use};
     ghost use Rattle.scrub_super.specs.Record.{AreRunLocators};
     ghost use Rattle.scrub_super.specs.Plan.{pointer_of, IsPlanOf, IsRestricted};
 
-    /// The plan of all extents but extent 0, by the superblock that was chosen. Without one each extent is taken for
-    /// full, and no index run is known.
+    /// The plan of all extents but extent 0 and the retired ones, by the superblock that was chosen. Without one each
+    /// extent is taken for full, none for retired, and no index run is known.
     pub fn make(alloc: Global, chosen: &Chosen, geometry: Geometry) -> Result<Plan, OutOfMemory>
         requires same_geometry { chosen.now.geometry ≡ geometry }
         ensures { IfOk result (IsPlanOf chosen.now) }
     {
-        let planned = all_but_first(alloc, geometry.extents())?;
         match chosen.superblock() {
             Some(superblock) => Ok(Plan {
                 geometry,
-                planned,
+                planned: all_in_use(alloc, geometry.extents(), superblock.retired())?,
+                retired: Vec::from_slice(alloc, superblock.retired())?,
                 pointers: Vec::from_slice(alloc, superblock.pointers())?,
                 runs: Vec::from_slice(alloc, superblock.runs())?,
                 has_superblock: true,
             }),
             None => Ok(Plan {
                 geometry,
-                planned,
+                planned: all_in_use(alloc, geometry.extents(), &[])?,
+                retired: Vec::new(alloc),
                 pointers: vec![in alloc; geometry.extent_bytes(); geometry.extents() as usize - 1]?,
                 runs: Vec::new(alloc),
                 has_superblock: false,
@@ -76,12 +81,12 @@ impl Plan {
     pub fn restrict(&self, alloc: Global, extents: &[u32]) -> Result<Plan, OutOfMemory>
         requires rising { IsStrictlyIncreasing extents.now }
         requires each_planned { All (Contains self.now.planned) extents.now }
-        requires any { 0 < length extents.now }
         ensures { IfOk result (IsRestricted self.now extents.now) }
     {
         Ok(Plan {
             geometry: self.geometry,
             planned: Vec::from_slice(alloc, extents)?,
+            retired: Vec::from_slice(alloc, &self.retired)?,
             pointers: Vec::from_slice(alloc, &self.pointers)?,
             runs: Vec::from_slice(alloc, &self.runs)?,
             has_superblock: self.has_superblock,
@@ -95,17 +100,33 @@ impl Plan {
         self.geometry
     }
 
-    /// The extents to scan, rising; there is at least one.
+    /// The extents to scan, rising. There may be none.
     pub fn planned(&self) -> &[u32]
         ensures planned { result.now ≡ self.now.planned }
         // Every value of the type is such.
         ensures extents { ArePlanned self.now.geometry.extents self.now.planned }
-        ensures any { 0 < length self.now.planned }
+        ensures in_use { All (λ e. is_in_use self.now.retired e ≡ true) self.now.planned }
     {
         self.planned.as_slice()
     }
 
-    /// The write pointer of an extent, in bytes from the extent's start.
+    /// The retired extents, rising: none of them is to be read.
+    pub fn retired(&self) -> &[u32]
+        ensures retired { result.now ≡ self.now.retired }
+        // Every value of the type is such.
+        ensures extents { AreRetired self.now.geometry.extents self.now.retired }
+    {
+        self.retired.as_slice()
+    }
+
+    /// Whether an extent is retired.
+    pub fn is_retired(&self, extent: u32) -> bool
+        ensures { result ≡ list_any (λ r. r == extent) self.now.retired }
+    {
+        has_extent(&self.retired, extent)
+    }
+
+    /// The write pointer of an extent, a retired one too, in bytes from the extent's start.
     pub fn pointer(&self, extent: u32) -> u32
         requires from_one { 1 ≤ extent }
         requires in_extents { extent < self.now.geometry.extents }
@@ -132,9 +153,25 @@ impl Plan {
     }
 }
 
-/// The numbers of all extents but extent 0, rising.
-fn all_but_first(alloc: Global, extents: u32) -> Result<Vec<u32>, OutOfMemory>
-    ensures { IfOk result (λ v. v.items ≡ range_with_len 1 (extents - 1)) }
+/// Whether an extent stands among rising ones.
+fn has_extent(extents: &[u32], extent: u32) -> bool
+    requires { IsStrictlyIncreasing extents.now }
+    ensures { result ≡ list_any (λ e. e == extent) extents.now }
 {
-    (1..extents).collect(alloc)
+    extents.binary_search(&extent).is_ok()
+}
+
+/// All extents but extent 0 and the retired ones, rising.
+fn all_in_use(alloc: Global, extents: u32, retired: &[u32]) -> Result<Vec<u32>, OutOfMemory>
+    requires some { 1 ≤ extents }
+    requires rising { IsStrictlyIncreasing retired.now }
+    ensures { IfOk result (λ v. v.items ≡ extents_in_use extents retired.now) }
+{
+    let mut in_use = Vec::new(alloc);
+    for extent in 1..extents {
+        if !has_extent(retired, extent) {
+            in_use.push(extent)?;
+        }
+    }
+    Ok(in_use)
 }

@@ -1,73 +1,24 @@
 //! Superblock records as bytes. Where on a disk records stand, and which of them counts, is left to `chosen`.
 
-ghost use Rattle.std.specs.Prelude.{◌≡◌, ◌+◌, ◌*◌, ◌-◌, ◌≤◌, ◌<◌, ◌^◌, ◌++◌, ◌↔◌, ℕ, List, IsTrue, IfSome, IfNone, IfOk, All, take, drop, length, vec_len, vec_capacity, OnOk, OnErr};
+ghost use Rattle.std.specs.Prelude.{◌≡◌, ◌+◌, ◌*◌, ◌-◌, ◌≤◌, ◌<◌, ◌^◌, ◌++◌, ◌↔◌, ℕ, List, [], Option, IsTrue, IfSome, IfNone, IfOk, All, take, drop, length, vec_len, vec_capacity, option_map, OnOk, OnErr};
 ghost use Rattle.std.specs.List.{flat_map};
+ghost use Rattle.std.specs.Option.{unwrap_or};
 ghost use Rattle.byteorder.specs.Endian.{big_bytes, big_number};
 ghost use Rattle.sha2.specs.Sha256.{sha256};
 ghost use Rattle.scrub_frame.specs.Locator.{IsLocator};
 ghost use Rattle.scrub_disk.specs.declared.geometry.Geometry.{Geometry};
 ghost use Rattle.scrub_super.specs.Contents.{Contents};
-ghost use Rattle.scrub_super.specs.Record.{ArePointers, BeginsWithRecord, head_bytes, record_body, record_bytes};
-ghost use Rattle.scrub_super.specs.RecordRead.{IsHead, BeginsWithSome};
+ghost use Rattle.scrub_super.specs.Planned.{AreRetired};
+ghost use Rattle.scrub_super.specs.Record.{ArePointers, BeginsWithRecord, record_body, record_bytes};
+ghost use Rattle.scrub_super.specs.RecordRead.{BeginsWithSome, SpellExtents, body_size, head_size, retired_count};
 
+pub use crate::head::MAX_RUNS;
+use crate::head::{Head, append_head, cuts_of, head_of, read_head};
 use crate::superblock::Superblock;
 use byteorder::{BigEndian, ByteOrder};
 use scrub_disk::{Geometry, OutOfMemory};
 use scrub_frame::{LOCATOR_BYTES, append, append_locators, digest_of, read_locators};
 use std::alloc::Global;
-
-/// `SSB1`, what each record begins with.
-const MAGIC: [u8; 4] = [0x53, 0x53, 0x42, 0x31];
-
-/// The most index runs that a record names.
-pub const MAX_RUNS: usize = 32;
-
-/// The bytes before the write pointers.
-const HEAD_LEN: usize = 26;
-
-/// What a record tells before its write pointers, the disk's sizes aside.
-#[derive(Clone, Copy)]
-pub(crate) struct Head {
-    pub generation: u64,
-    pub runs: usize,
-}
-
-/// Where the locators of a record begin, behind its write pointers.
-fn runs_start(geometry: Geometry) -> usize
-    ensures { result ≡ 26 + 4 * (geometry.extents - 1) }
-{
-    HEAD_LEN + 4 * (geometry.extents() as usize - 1)
-}
-
-/// The head that the bytes are, if they are one of this geometry.
-fn read_head(bytes: &[u8; 26], geometry: Geometry) -> Option<Head>
-    ensures found { IfSome result (λ h. IsHead geometry bytes.now h.generation h.runs) }
-    ensures none { IfNone result ((generation runs : ℕ) → ¬ IsHead geometry bytes.now generation runs) }
-{
-    let generation = BigEndian::read_u64(&bytes[4..12]);
-    let runs = BigEndian::read_u16(&bytes[24..26]);
-    if runs as usize > MAX_RUNS || *bytes != write_head(geometry, generation, runs) {
-        return None;
-    }
-    Some(Head {
-        generation,
-        runs: runs as usize,
-    })
-}
-
-/// The head of a record.
-fn write_head(geometry: Geometry, generation: u64, runs: u16) -> [u8; 26]
-    ensures { result ≡ head_bytes geometry generation runs }
-{
-    let mut bytes = [0u8; 26];
-    bytes[0..4].copy_from_slice(&MAGIC);
-    bytes[4..12].copy_from_slice(&generation.to_be_bytes());
-    bytes[12..16].copy_from_slice(&geometry.page().to_be_bytes());
-    bytes[16..20].copy_from_slice(&geometry.pages().to_be_bytes());
-    bytes[20..24].copy_from_slice(&geometry.extents().to_be_bytes());
-    bytes[24..26].copy_from_slice(&runs.to_be_bytes());
-    bytes
-}
 
 /// Whether no number of four bytes is over the most.
 fn are_within(bytes: &[u8], most: u32) -> bool
@@ -77,6 +28,21 @@ fn are_within(bytes: &[u8], most: u32) -> bool
         if BigEndian::read_u32(&bytes[4 * i..]) > most {
             return false;
         }
+    }
+    true
+}
+
+/// Whether numbers of four bytes each rise, each among 1 up to the number of extents.
+fn are_extents(bytes: &[u8], extents: u32) -> bool
+    ensures { IsTrue result ↔ SpellExtents extents bytes.now }
+{
+    let mut last = 0;
+    for i in 0..bytes.len() / 4 {
+        let extent = BigEndian::read_u32(&bytes[4 * i..]);
+        if extent <= last || extent >= extents {
+            return false;
+        }
+        last = extent;
     }
     true
 }
@@ -92,35 +58,54 @@ fn has_digest_at(bytes: &[u8], end: usize) -> bool
 /// The head of the record that the bytes begin with, if they begin with one. The digest is taken only where all before
 /// it fits. Takes no memory.
 pub(crate) fn record_at(bytes: &[u8], geometry: Geometry) -> Option<Head>
-    ensures found { IfSome result (λ h. BeginsWithSome geometry bytes.now h.generation h.runs) }
-    ensures within { IfSome result (λ h. 26 + 4 * (geometry.extents - 1) + 60 * h.runs ≤ length bytes.now) }
+    ensures found { IfSome result (λ h. BeginsWithSome geometry bytes.now h.generation h.runs h.retired) }
+    ensures within { IfSome result (λ h. head_size h.retired + 4 * (geometry.extents - 1) + 4 * retired_count h.retired + 60 * h.runs ≤ length bytes.now) }
     ensures none { IfNone result ((c : Contents) → ¬ BeginsWithRecord geometry bytes.now c) }
 {
-    let head = read_head(bytes.first_chunk::<26>()?, geometry)?;
-    let middle = runs_start(geometry);
-    let end = middle + LOCATOR_BYTES * head.runs;
-    if bytes.len() < end + 32 {
+    let head = read_head(bytes, geometry)?;
+    let cuts = cuts_of(geometry, head);
+    if bytes.len() < cuts.digest + 32 {
         return None;
     }
-    if !are_within(&bytes[HEAD_LEN..middle], geometry.extent_bytes()) {
+    if !are_within(&bytes[cuts.pointers..cuts.retired], geometry.extent_bytes()) {
         return None;
     }
-    if !has_digest_at(bytes, end) {
+    if !are_extents(&bytes[cuts.retired..cuts.runs], geometry.extents()) {
+        return None;
+    }
+    if !has_digest_at(bytes, cuts.digest) {
         return None;
     }
     Some(head)
 }
 
 /// The numbers of four bytes each.
-fn read_pointers(alloc: Global, bytes: &[u8], count: usize) -> Result<Vec<u32>, OutOfMemory>
+fn read_numbers(alloc: Global, bytes: &[u8], count: usize) -> Result<Vec<u32>, OutOfMemory>
     requires { length bytes.now ≡ 4 * count }
     ensures count { IfOk result (λ v. length v.items ≡ count) }
     ensures fit { IfOk result (λ v. All (λ w. w < 2 ^ 32) v.items) }
     ensures spelled { IfOk result (λ v. flat_map (big_bytes 4) v.items ≡ bytes.now) }
 {
-    let mut pointers = vec![in alloc; 0u32; count]?;
-    BigEndian::read_u32_into(bytes, &mut pointers);
-    Ok(pointers)
+    let mut numbers = vec![in alloc; 0u32; count]?;
+    BigEndian::read_u32_into(bytes, &mut numbers);
+    Ok(numbers)
+}
+
+/// The retired extents, if there is a list of them.
+fn read_retired(
+    alloc: Global,
+    bytes: &[u8],
+    count: Option<usize>,
+) -> Result<Option<Vec<u32>>, OutOfMemory>
+    requires { length bytes.now ≡ 4 * retired_count count }
+    ensures count { IfOk result (λ o. option_map length (option_map (λ v. v.items) o) ≡ count) }
+    ensures fit { IfOk result (λ o. IfSome (option_map (λ v. v.items) o) (λ ws. All (λ w. w < 2 ^ 32) ws)) }
+    ensures spelled { IfOk result (λ o. flat_map (big_bytes 4) (unwrap_or (option_map (λ v. v.items) o) []) ≡ bytes.now) }
+{
+    match count {
+        None => Ok(None),
+        Some(count) => Ok(Some(read_numbers(alloc, bytes, count)?)),
+    }
 }
 
 /// What the record that the bytes begin with tells, if they begin with a record of this geometry. What follows it
@@ -136,55 +121,51 @@ pub fn read_record(
     let Some(head) = record_at(bytes, geometry) else {
         return Ok(None);
     };
-    let middle = runs_start(geometry);
-    let end = middle + LOCATOR_BYTES * head.runs;
-    let pointers = read_pointers(
-        alloc,
-        &bytes[HEAD_LEN..middle],
-        geometry.extents() as usize - 1,
-    )?;
-    let runs = read_locators(alloc, &bytes[middle..end], head.runs)?;
-    Ok(Some(Superblock::new(head.generation, pointers, runs)))
+    let cuts = cuts_of(geometry, head);
+    let extents = geometry.extents() as usize;
+    let pointers = read_numbers(alloc, &bytes[cuts.pointers..cuts.retired], extents - 1)?;
+    let retired = read_retired(alloc, &bytes[cuts.retired..cuts.runs], head.retired)?;
+    let runs = read_locators(alloc, &bytes[cuts.runs..cuts.digest], head.runs)?;
+    Ok(Some(Superblock::of(head.generation, pointers, retired, runs)))
 }
 
-/// Appends write pointers, four bytes each.
-fn append_pointers(out: &mut Vec<u8>, pointers: &[u32])
-    requires { vec_len out.old + 4 * length pointers.now ≤ vec_capacity out.old }
-    ensures items { out.new.items ≡ out.old.items ++ flat_map (big_bytes 4) pointers.now }
+/// Appends numbers, four bytes each.
+fn append_numbers(out: &mut Vec<u8>, numbers: &[u32])
+    requires { vec_len out.old + 4 * length numbers.now ≤ vec_capacity out.old }
+    ensures items { out.new.items ≡ out.old.items ++ flat_map (big_bytes 4) numbers.now }
     ensures capacity { vec_capacity out.old ≤ vec_capacity out.new }
 {
-    for pointer in pointers {
-        append(out, &pointer.to_be_bytes());
+    for number in numbers {
+        append(out, &number.to_be_bytes());
     }
 }
 
 /// Appends all of a record that stands before its digest, where the list has room for it. Takes no memory.
 fn append_body(out: &mut Vec<u8>, geometry: Geometry, superblock: &Superblock)
     requires few { length superblock.now.runs ≤ MAX_RUNS }
-    requires room { vec_len out.old + 26 + 4 * length superblock.now.pointers + 60 * length superblock.now.runs ≤ vec_capacity out.old }
+    requires retired { IfSome superblock.now.retired (AreRetired geometry.extents) }
+    requires room { vec_len out.old + body_size superblock.now ≤ vec_capacity out.old }
     ensures generation { superblock.now.generation < 2 ^ 64 }
     ensures fit { All IsLocator superblock.now.runs }
     ensures items { out.new.items ≡ out.old.items ++ record_body geometry superblock.now }
-    ensures size { vec_len out.new ≡ vec_len out.old + 26 + 4 * length superblock.now.pointers + 60 * length superblock.now.runs }
+    ensures size { vec_len out.new ≡ vec_len out.old + body_size superblock.now }
     ensures capacity { vec_capacity out.old ≤ vec_capacity out.new }
 {
-    let runs = superblock.runs();
-    append(
-        out,
-        &write_head(geometry, superblock.generation(), runs.len() as u16),
-    );
-    append_pointers(out, superblock.pointers());
-    append_locators(out, runs);
+    append_head(out, geometry, head_of(superblock));
+    append_numbers(out, superblock.pointers());
+    append_numbers(out, superblock.retired());
+    append_locators(out, superblock.runs());
 }
 
-/// Appends the record of a superblock for a disk of this geometry: 58 bytes, 4 for each pointer and 60 for each run. A
-/// refusal leaves `out` as it was.
+/// Appends the record of a superblock for a disk of this geometry: 58 bytes, 4 for each pointer and 60 for each run; with
+/// a list of retired extents 2 more, and 4 for each of them. A refusal leaves `out` as it was.
 pub fn write_record(
     out: &mut Vec<u8>,
     geometry: Geometry,
     superblock: &Superblock,
 ) -> Result<(), OutOfMemory>
     requires pointers { ArePointers geometry superblock.now.pointers }
+    requires retired { IfSome superblock.now.retired (AreRetired geometry.extents) }
     requires runs { length superblock.now.runs ≤ MAX_RUNS }
     ensures ok { OnOk result (out.new.items ≡ out.old.items ++ record_bytes geometry superblock.now) }
     ensures err { OnErr result (out.new.items ≡ out.old.items) }
@@ -194,7 +175,7 @@ pub fn write_record(
         BeginsWithRecord geometry (drop (vec_len out.old) out.new.items ++ rest) superblock.now) }
 {
     let start = out.len();
-    out.reserve(runs_start(geometry) + LOCATOR_BYTES * superblock.runs().len() + 32)?;
+    out.reserve(cuts_of(geometry, head_of(superblock)).digest + 32)?;
     append_body(out, geometry, superblock);
     let digest = digest_of(&out[start..]);
     append(out, &digest);

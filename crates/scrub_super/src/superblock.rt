@@ -1,34 +1,84 @@
 //! What a superblock tells. How it stands on a disk is left to `record`.
 
-ghost use Rattle.std.specs.Prelude.{◌≡◌};
+ghost use Rattle.std.specs.Prelude.{◌≡◌, None, Some, option_map};
 
 use scrub_frame::Locator;
 use std::marker::Model;
 
-/// The write pointers of a disk as they were flushed last, and where its index runs stand.
+/// The write pointers of a disk as they were flushed last, which of its extents are retired, and where its index runs
+/// stand.
 #[derive(Drop)]
 pub struct Superblock {
     generation: u64,
     pointers: Vec<u32>,
+    retired: Option<Vec<u32>>,
     runs: Vec<Locator>,
 }
 
 impl Model for Superblock {
+    ghost use Rattle.std.specs.Prelude.{option_map};
     ghost use Rattle.scrub_super.specs.Contents.{Contents};
 
     ghost Value = { Contents };
 
-    ghost view = { λ s. record { generation = s.generation; pointers = s.pointers.items; runs = s.runs.items } };
+    ghost view = { λ s. record {
+      generation = s.generation;
+      pointers = s.pointers.items;
+      retired = option_map (λ v. v.items) s.retired;
+      runs = s.runs.items;
+    } };
 }
 
 impl Superblock {
-    /// A superblock of what is handed in. Takes no memory.
+    ghost use Rattle.scrub_super.specs.Contents.{retired_in, version_of};
+
+    /// A superblock of what is handed in, with no list of retired extents. Takes no memory.
     pub fn new(generation: u64, pointers: Vec<u32>, runs: Vec<Locator>) -> Superblock
-        ensures { result ≡ record { generation = generation; pointers = pointers.items; runs = runs.items } }
+        ensures { result ≡ record { generation = generation; pointers = pointers.items; retired = None; runs = runs.items } }
     {
         Superblock {
             generation,
             pointers,
+            retired: None,
+            runs,
+        }
+    }
+
+    /// A superblock of what is handed in, with a list of retired extents, which may be empty. Takes no memory.
+    pub fn with_retired(
+        generation: u64,
+        pointers: Vec<u32>,
+        retired: Vec<u32>,
+        runs: Vec<Locator>,
+    ) -> Superblock
+        ensures { result ≡ record { generation = generation; pointers = pointers.items; retired = Some retired.items; runs = runs.items } }
+    {
+        Superblock {
+            generation,
+            pointers,
+            retired: Some(retired),
+            runs,
+        }
+    }
+
+    /// A superblock of what is handed in, with a list of retired extents or without one. Takes no memory.
+    pub(crate) fn of(
+        generation: u64,
+        pointers: Vec<u32>,
+        retired: Option<Vec<u32>>,
+        runs: Vec<Locator>,
+    ) -> Superblock
+        ensures { result ≡ record {
+          generation = generation;
+          pointers = pointers.items;
+          retired = option_map (λ v. v.items) retired;
+          runs = runs.items;
+        } }
+    {
+        Superblock {
+            generation,
+            pointers,
+            retired,
             runs,
         }
     }
@@ -40,11 +90,41 @@ impl Superblock {
         self.generation
     }
 
+    /// Which kind of record tells it: 1 has no list of retired extents, 2 has one.
+    pub fn version(&self) -> u32
+        ensures { result ≡ version_of self.now }
+    {
+        match &self.retired {
+            None => 1,
+            Some(_) => 2,
+        }
+    }
+
     /// The write pointers of extents 1, 2 and so on, in bytes from the extent's start.
     pub fn pointers(&self) -> &[u32]
         ensures { result.now ≡ self.now.pointers }
     {
         self.pointers.as_slice()
+    }
+
+    /// The list of retired extents, if there is one.
+    pub(crate) fn retired_list(&self) -> Option<&[u32]>
+        ensures { option_map (λ list. list.now) result ≡ self.now.retired }
+    {
+        match &self.retired {
+            None => None,
+            Some(list) => Some(list.as_slice()),
+        }
+    }
+
+    /// The retired extents, none where there is no list of them.
+    pub fn retired(&self) -> &[u32]
+        ensures { result.now ≡ retired_in self.now }
+    {
+        match self.retired_list() {
+            None => &[],
+            Some(list) => list,
+        }
     }
 
     /// The locators of the index runs, newest first.

@@ -166,3 +166,56 @@ fn a_record_of_65535_pointers_is_read(rt: HostRuntime) -> Result<(), Fail> {
     same(&rt, found.pointers(), pointers.as_slice());
     Ok(())
 }
+
+/// The record of generation 7 of pages of 64 bytes, four pages an extent and three extents, with pointers 41 and 155, no
+/// runs, and these retired extents, whose number is told as `count`.
+fn listing(alloc: Global, count: u8, retired: &[u8]) -> Result<Vec<u8>, Fail> {
+    let mut record = Vec::new(alloc);
+    record.extend_from_slice(b"SSB2\x00\x00\x00\x00\x00\x00\x00\x07")?;
+    record.extend_from_slice(&[0, 0, 0, 64, 0, 0, 0, 4, 0, 0, 0, 3, 0, 0, 0, count])?;
+    record.extend_from_slice(&[0, 0, 0, 41, 0, 0, 0, 155])?;
+    for extent in retired {
+        record.extend_from_slice(&[0, 0, 0, *extent])?;
+    }
+    let digest = digest_of(&record);
+    record.extend_from_slice(&digest)?;
+    Ok(record)
+}
+
+#[test]
+fn a_record_with_retired_extents_is_read(rt: HostRuntime) -> Result<(), Fail> {
+    let geometry = Geometry::new(64, 4, 3)?;
+    let record = listing(rt.alloc(), 1, &[1])?;
+    let found = read_record(rt.alloc(), &record, geometry)?.ok_or("a record")?;
+    same(&rt, found.version(), 2);
+    same(&rt, found.generation(), 7);
+    same(&rt, found.pointers(), [41, 155].as_slice());
+    same(&rt, found.retired(), [1].as_slice());
+    let record = listing(rt.alloc(), 0, &[])?;
+    let found = read_record(rt.alloc(), &record, geometry)?.ok_or("a record")?;
+    same(&rt, found.version(), 2);
+    assert!(rt; found.retired().is_empty());
+    let found = read_record(rt.alloc(), &RECORD, geometry)?.ok_or("a record")?;
+    same(&rt, found.version(), 1);
+    assert!(rt; found.retired().is_empty());
+    Ok(())
+}
+
+#[test]
+fn retired_extents_rise_and_are_the_disks_own(rt: HostRuntime) -> Result<(), Fail> {
+    let geometry = Geometry::new(64, 4, 3)?;
+    for retired in [&[2, 1], &[1, 1]] {
+        let record = listing(rt.alloc(), 2, retired)?;
+        assert!(rt; read_record(rt.alloc(), &record, geometry)?.is_none());
+    }
+    for retired in [0, 3] {
+        let record = listing(rt.alloc(), 1, &[retired])?;
+        assert!(rt; read_record(rt.alloc(), &record, geometry)?.is_none());
+    }
+    let record = listing(rt.alloc(), 3, &[1, 2, 2])?;
+    assert!(rt; read_record(rt.alloc(), &record, geometry)?.is_none());
+    // The number of them forged: more than stand there.
+    let record = listing(rt.alloc(), 255, &[1])?;
+    assert!(rt; read_record(rt.alloc(), &record, geometry)?.is_none());
+    Ok(())
+}

@@ -25,6 +25,8 @@ mod named;
 #[cfg(test)]
 mod published;
 #[cfg(test)]
+mod retired;
+#[cfg(test)]
 mod scrub;
 #[cfg(test)]
 mod sealed;

@@ -231,10 +231,9 @@ fn a_plan_of_three_extents_is_restricted_to_two(rt: HostRuntime) -> Result<(), F
     let mut disk = MemDisk::blank(rt.alloc(), geometry)?;
     let runs = [abc_at(1, 0)];
     put_record(rt.alloc(), &mut disk, 0, 1, &[41, 250, 155], &runs)?;
-    let chosen = choose(rt.alloc(), &disk)?;
     let geometry = disk.geometry();
     assert!(rt; geometry.extents() == 4);
-    let plan = Plan::make(rt.alloc(), &chosen, geometry)?;
+    let plan = plan_of(rt.alloc(), &disk)?;
     same(&rt, plan.planned(), [1, 2, 3].as_slice());
     let restricted = plan.restrict(rt.alloc(), &[1, 3])?;
     same(&rt, restricted.planned(), [1, 3].as_slice());

@@ -2,6 +2,7 @@
 
 ghost use Rattle.std.specs.Prelude.{◌≡◌, None, Some, OnOk, IfOk};
 ghost use Rattle.scrub_disk.specs.Memory.{image_of};
+ghost use Rattle.scrub_scan.specs.Scanned.{scanned};
 ghost use Rattle.scrub_book.specs.Worker.{held_by};
 
 use super::*;
@@ -65,6 +66,21 @@ fn came_back<'d>(alloc: Global) -> Result<WorkerCore<'d, MemDisk>, Fail>
     Ok(core.retire().err().ok_or("a worker that holds an extent")?)
 }
 
+/// Scans an extent, which has to be planned.
+fn scan_planned<'d>(
+    rt: &impl Abort,
+    alloc: Global,
+    disk: &'d MemDisk,
+    plan: &Plan,
+    extent: u32,
+) -> Result<ExtentResult<'d, MemDisk>, Fail>
+    requires { plan.now.geometry ≡ (image_of disk.now).geometry }
+    ensures { IfOk result (λ r. (scanned r).extent ≡ extent) }
+{
+    assert!(rt; plan.planned().contains(&extent));
+    Ok(scan_extent(alloc, disk, plan, extent)?)
+}
+
 /// A worker that was asked to retire while it held extent 1, and retired once that was scanned.
 fn retired_at_last<'d>(
     rt: &impl Abort,
@@ -72,10 +88,9 @@ fn retired_at_last<'d>(
     disk: &'d MemDisk,
 ) -> Result<Retired<'d, MemDisk>, Fail> {
     let plan = plan_of(alloc, disk)?;
-    assert!(rt; plan.planned().contains(&1));
     let mut core = came_back(alloc)?;
     assert!(rt; core.held() == Some(1));
-    core.done(scan_extent(alloc, disk, &plan, 1)?);
+    core.done(scan_planned(rt, alloc, disk, &plan, 1)?);
     Ok(core.retire().ok().ok_or("a worker that holds none")?)
 }
 

@@ -6,7 +6,7 @@ use Rattle.scrub_scan.specs.Extent.{extent_of, FrameAt, NoFrameAt}
 use Rattle.scrub_scan.specs.Standing.{IsStandingAt, HasPayload}
 use Rattle.scrub_check.specs.ChunkRun.{HasPayloadThere}
 use Rattle.scrub_check.proofs.Judged.{at_some, at_none}
-use Rattle.scrub_check.proofs.Payloads.{read_there, standing_there}
+use Rattle.scrub_check.proofs.Payloads.{read_there}
 use Rattle.scrub_check.proofs.runs.payload_of.Goals as goal
 
 pub unreachable-requires : goal.unreachable-requires

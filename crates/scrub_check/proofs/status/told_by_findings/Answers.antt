@@ -17,7 +17,7 @@ pub findings_of-findings-requires-after_bounds : goal.findings_of-findings-requi
 findings_of-findings-requires-after_bounds g c κs within =
     let image = g.D.PageSource.image c.args.disk.now in
     let range : InRange c.geometry-geometry.result c.args.locator.now = c.lies_in_range.ensures.0 (search rules) in
-    each_listed image c.args.plan.now c.args.all.now.extents c.args.locator.now.extent c.requires range.from_one
+    each_listed image c.args.plan.now c.args.all.now.extents c.args.locator.now.extent c.requires (sym c.is_retired.ensures ∙ c.if-is_retired.false) range.from_one
     (let e : c.geometry-geometry.result.extents ≡ image.geometry.extents = ap (λ x. x.extents) (c.geometry-geometry.ensures ∙ c.requires.geometry) in omega (arith, range.in_disk, e))
 
 -- the unreadable pages that were found there are those of the image
@@ -47,7 +47,7 @@ returns-clause-told g c =
     let range : InRange image.geometry l = subst (λ (geometry : Geometry). InRange geometry l) (c.geometry-geometry.ensures ∙ c.requires.geometry) (c.lies_in_range.ensures.0 (search rules)) in
     let can : CanStand image w l = record { in_range = range; below = omega (arith, c.end_of.ensures, c.if-end_of-pointer.false); readable = search rules } in
     let tiled = subst (λ (is : List Item). IsTiling (extent_of image l.extent w) is) (sym c.items.ensures) found.tiled in
-    (told_in_plan image c.args.plan.now w l c.told_by_item.result c.pointer-pointer.ensures.value can (c.told_by_item.ensures image w can tiled)).0
+    (told_in_plan image c.args.plan.now w l c.told_by_item.result (sym c.is_retired.ensures ∙ c.if-is_retired.false) c.pointer-pointer.ensures.value can (c.told_by_item.ensures image w can tiled)).0
 
 -- or leave its place to be looked at
 pub returns-clause-open : goal.returns-clause-open
@@ -60,4 +60,4 @@ returns-clause-open g c =
     let range : InRange image.geometry l = subst (λ (geometry : Geometry). InRange geometry l) (c.geometry-geometry.ensures ∙ c.requires.geometry) (c.lies_in_range.ensures.0 (search rules)) in
     let can : CanStand image w l = record { in_range = range; below = omega (arith, c.end_of.ensures, c.if-end_of-pointer.false); readable = search rules } in
     let tiled = subst (λ (is : List Item). IsTiling (extent_of image l.extent w) is) (sym c.items.ensures) found.tiled in
-    (told_in_plan image c.args.plan.now w l c.told_by_item.result c.pointer-pointer.ensures.value can (c.told_by_item.ensures image w can tiled)).1
+    (told_in_plan image c.args.plan.now w l c.told_by_item.result (sym c.is_retired.ensures ∙ c.if-is_retired.false) c.pointer-pointer.ensures.value can (c.told_by_item.ensures image w can tiled)).1

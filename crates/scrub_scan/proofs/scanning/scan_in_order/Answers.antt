@@ -5,7 +5,6 @@ use Rattle.scrub_disk.proofs.Zips.{AllZip-take_more}
 use Rattle.scrub_disk.specs.Image.{Image}
 use Rattle.scrub_super.specs.Plan.{PlanValue}
 use Rattle.scrub_scan.specs.declared.extent_result.ExtentResult.{ExtentResult}
-use Rattle.scrub_scan.specs.AllFindings.{AreAllFindings}
 use Rattle.scrub_scan.specs.Slots.{AreSlots, IsPlannedResult}
 use Rattle.scrub_scan.proofs.Slots.{full_push}
 use Rattle.scrub_scan.proofs.scanning.scan_in_order.Goals as goal
@@ -40,4 +39,6 @@ returns-clause-image g c =
     (all_taken (g.D.PageSource.image c.args.disk.now) c.args.plan.now _ c.loop-extent.slots.items (take_all c.loop-extent.extent-index c.planned-extent-items.result.now (omega arith) ∙ c.planned-extent-items.ensures.planned) c.loop-extent.invariant.are)
 
 pub returns-clause-findings : goal.returns-clause-findings
-returns-clause-findings g c = subst (λ (i : Image). AreAllFindings i c.args.plan.now c.from_slots.result.extents) (returns-clause-image g c) c.from_slots.ensures.findings
+returns-clause-findings g c =
+    c.from_slots.ensures.findings (g.D.PageSource.image c.args.disk.now)
+    (all_taken (g.D.PageSource.image c.args.disk.now) c.args.plan.now _ c.loop-extent.slots.items (take_all c.loop-extent.extent-index c.planned-extent-items.result.now (omega arith) ∙ c.planned-extent-items.ensures.planned) c.loop-extent.invariant.are)

@@ -10,7 +10,7 @@ loop-page-preserved-in-Some c =
       up_to = c.readable_end-end.ensures;
       few = omega (arith, c.loop-page.invariant.few, c.with_record-seen.ensures.records, next);
       seen = λ page h. step_more (record { geometry = c.args.geometry; page = page }) c.args.bytes.now _ c.args.readable.now c.loop-page.page (c.loop-page.page - 1) c.readable_end-end.result
-          c.page-size.result c.in-Some.head.generation c.in-Some.head.runs c.loop-page.seen c.with_record-seen.result next c.page-size.ensures refl h c.readable_end-end.ensures c.in-Some.ensures.found
+          c.page-size.result c.in-Some.head.generation c.in-Some.head.runs c.in-Some.head.retired c.loop-page.seen c.with_record-seen.result next c.page-size.ensures refl h c.readable_end-end.ensures c.in-Some.ensures.found
           c.with_record-seen.ensures (c.loop-page.invariant.seen page h);
     }
 

@@ -1,6 +1,7 @@
 -- Extents 1 and 3 are among 1, 2 and 3.
 use Rattle.std.proofs.Common.{◌≡◌, ◌-◌, ◌∙◌, ℕ, zero, suc, [], ◌∷◌, All, arith, refl, sym, ap}
 use Rattle.std.specs.List.{Contains, range_with_len}
+use Rattle.scrub_disk.specs.declared.geometry.Geometry.{Geometry}
 use Rattle.scrub_tests.proofs.superblock.a_plan_of_three_extents_is_restricted_to_two.Goals as goal
 
 two_of_three : All {X = ℕ} (Contains (1 ∷ 2 ∷ 3 ∷ [])) (1 ∷ 3 ∷ [])
@@ -10,6 +11,5 @@ two_of_three (suc (suc k)) d h = absurd (omega (arith, h))
 
 pub restrict-requires-clause-each_planned : goal.restrict-requires-clause-each_planned
 restrict-requires-clause-each_planned g c =
-    let three : c.in_ok-chosen.chosen.geometry.extents - 1 ≡ 3 =
-    omega (arith, ap (λ x. x.extents) (c.in_ok-chosen.ensures.geometry ∙ sym c.geometry-geometry.ensures)) in
-    rw (c.in_ok-plan.ensures.all ∙ ap (range_with_len 1) three) two_of_three
+    let three : c.geometry-geometry.result.extents - 1 ≡ 3 = omega arith in
+    rw (c.in_ok-plan.ensures.planned ∙ ap (λ (x : Geometry). range_with_len 1 (x.extents - 1)) (sym c.geometry-geometry.ensures) ∙ ap (range_with_len 1) three) two_of_three

@@ -1,7 +1,6 @@
 use Rattle.std.proofs.Common.{refl, ◌≡◌, ◌∙◌, sym, ap, subst}
 use Rattle.std.specs.Option.{is_some}
-use Rattle.scrub_disk.specs.Image.{Image}
-use Rattle.scrub_scan.specs.AllFindings.{AreAllFindings}
+use Rattle.scrub_scan.specs.AllFindings.{AreAllFindings, IsOfImage}
 use Rattle.scrub_book.specs.Book.{BookValue, HasAll}
 use Rattle.scrub_book.proofs.Places.{first_empty_is, none_empty, has_all, not_all}
 use Rattle.scrub_book.proofs.book.Book.finish.Goals as goal
@@ -29,10 +28,10 @@ returns-clause-all g c =
     subst (λ (b : BookValue g.row.D.Denot). HasAll b × (c.from_slots.result.extents ≡ b.came) × AreAllFindings (g.D.PageSource.image b.source) b.plan c.from_slots.result.extents) c.self.view_is (
       has_all image plan slots c.self.invariant c.self.inside.source.now (none_empty slots none),
       c.from_slots.ensures.extents,
-      subst (λ (i : Image). AreAllFindings i plan c.from_slots.result.extents) (c.from_slots.ensures.image image c.self.invariant) c.from_slots.ensures.findings,
+      c.from_slots.ensures.findings image c.self.invariant,
     )
 
 pub returns-clause-image : goal.returns-clause-image
 returns-clause-image g c =
-    subst (λ (b : BookValue g.row.D.Denot). g.D.PageSource.image c.from_slots.result.source ≡ g.D.PageSource.image b.source) c.self.view_is
+    subst (λ (b : BookValue g.row.D.Denot). IsOfImage (λ s. g.D.PageSource.image s) c.from_slots.result (g.D.PageSource.image b.source)) c.self.view_is
     (c.from_slots.ensures.image (g.D.PageSource.image c.self.inside.source.now) c.self.invariant)
