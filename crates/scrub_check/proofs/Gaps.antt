@@ -1,10 +1,10 @@
 -- Unreadable pages, and the bytes on them.
-use Rattle.std.proofs.Common.{◌≡◌, ◌<◌, ◌≤◌, ◌+◌, ◌-◌, ◌/◌, ◌%◌, ℕ, List, true, length, get_or, arith, refl, sym, ◌∙◌, ap, Option, Some, None, is_none}
-use Rattle.std.proofs.Math.Nat.{mod-lt}
-use Rattle.std.proofs.lemmas.Nat.{div-add-mod', div_below}
+use Rattle.std.proofs.Common.{◌≡◌, ◌<◌, ◌≤◌, ◌+◌, ◌-◌, ◌/◌, ℕ, true, arith, refl, sym, ◌∙◌, ap, Option, Some, None, is_none}
+use Rattle.std.proofs.lemmas.Nat.{div_below}
 use Rattle.scrub_disk.specs.Image.{Image, byte, extent_bytes, unreadable_pages, HasWholePages}
-use Rattle.scrub_disk.proofs.HeldBytes.{byte-page, byte-unreadable}
+use Rattle.scrub_disk.proofs.HeldBytes.{byte-unreadable}
 use Rattle.scrub_scan.specs.Extent.{HasGap}
+use Rattle.scrub_scan.proofs.BytesAt.{page_byte}
 use Rattle.scrub_scan.proofs.PlacePages.{page_rises, place_in_page}
 use Rattle.scrub_check.proofs.Filtered.{filtered_has, filtered_is}
 use Rattle.scrub_check.proofs.Searches.{LiesBetween}
@@ -12,17 +12,6 @@ use Rattle.scrub_check.proofs.Searches.{LiesBetween}
 none_is : {A : Type 0} (o : Option A) → is_none o ≡ true → o ≡ None
 none_is None e = refl
 none_is (Some x) e = absurd (let no_such : ⊥ = cc in no_such)
-
--- a byte of a whole page can be read
-page_byte : (image : Image) (e i : ℕ) (o : Option (List ℕ)) → HasWholePages image → e < image.geometry.extents → i < extent_bytes image.geometry → image.page e (i / image.geometry.page) ≡ o → byte image e i ≡ None → is_none o ≡ true
-page_byte image e i None whole he hi is gap = refl
-page_byte image e i (Some bytes) whole he hi is gap =
-    let pos : 0 < image.geometry.page = omega (arith, image.geometry.page_size.least) in
-    let q : i / image.geometry.page < image.geometry.pages = div_below i image.geometry.page image.geometry.pages pos (omega (arith, hi)) in
-    let l : length bytes ≡ image.geometry.page = whole e (i / image.geometry.page) bytes he q is in
-    let there : byte image e i ≡ Some (get_or bytes (i % image.geometry.page) 0) =
-    ap (byte image e) (sym (div-add-mod' i image.geometry.page)) ∙ byte-page image e (i / image.geometry.page) (i % image.geometry.page) bytes is l q (mod-lt i pos) in
-    let no_such : Some (get_or bytes (i % image.geometry.page) 0) ≡ None = sym there ∙ gap in absurd (let f : ⊥ = cc in f)
 
 -- one of the bytes from `start` up to `end` can't be read exactly where one of their pages can't
 pub gap_pages : (image : Image) (e start size page first last : ℕ) → HasWholePages image → e < image.geometry.extents → start + size ≤ extent_bytes image.geometry → 0 < size →

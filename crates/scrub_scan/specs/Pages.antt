@@ -1,5 +1,7 @@
 -- Two pages of an extent in buffers, and what is scanned through them.
-use Rattle.std.specs.Prelude.{◌≡◌, ◌<◌, ◌≤◌, ◌+◌, ◌-◌, ◌/◌, ◌⊎◌, ◌++◌, ℕ, List, Some, None, IfSome, if◌then◌else◌, nat_lt, length}
+use Rattle.std.specs.Prelude.{◌≡◌, ◌<◌, ◌≤◌, ◌+◌, ◌-◌, ◌/◌, ◌⊎◌, ◌++◌, ℕ, List, Option, Some, None, IfSome, ◌^◌, if◌then◌else◌, nat_lt, length}
+use Rattle.std.specs.Option.{option_map_or}
+use Rattle.std.specs.List.{Contains}
 use Rattle.scrub_disk.specs.Image.{Image, extent_bytes, AreBytesAt}
 use Rattle.sha2.specs.Sha256.{sha256}
 use Rattle.scrub_scan.specs.declared.pages.HeldPage.{HeldPage}
@@ -40,6 +42,14 @@ pub record AskedBy (p : TwoPages) (q n : ℕ) : Type 0 where
   pub most : p.asked ≤ n + 1
   pub unread : (p.near.number ≡ Some q → ⊥) → p.asked ≤ n
 
+-- the source was asked for these pages, by a call for each: for those in the buffers, and for every page below n
+pub record HasRead (p : TwoPages) (n : ℕ) : Type 0 where
+  pub calls : List ℕ
+  pub each : p.asked < 2 ^ 32 → length calls ≤ p.asked
+  pub near : IfSome p.near.number (Contains calls)
+  pub far : IfSome p.far.number (Contains calls)
+  pub below : (q : ℕ) → q < n → Contains calls q
+
 -- an extent of the image, and a pointer into it
 pub record IsTarget (image : Image) (t : Target) : Type 0 where
   pub in_extents : t.extent < image.geometry.extents
@@ -70,6 +80,10 @@ pub record IsFound (x : Extent) (p : ℕ) (f : Found) : Type 0 where
   pub size : f.length ≡ length payload
   pub digest : f.digest ≡ sha256 payload
 
+-- the place behind the frame that was found at p, p itself where there is none
+abbrev pub place_behind : ℕ → Option Found → ℕ
+place_behind p found = option_map_or (λ f. p + f.length + frame_overhead f.form) found p
+
 -- the matcher was fed the bytes of the extent from start up to place, and no frame ends among them
 pub record Passes (x : Extent) (start place : ℕ) (m : Matcher) : Type 0 where
   pub bytes : List ℕ
@@ -78,10 +92,10 @@ pub record Passes (x : Extent) (start place : ℕ) (m : Matcher) : Type 0 where
   pub fed : StandsFor m (x.pointer - start) bytes
   pub none : NoFrameYet bytes
 
--- what an answer says, once the bytes up to stop were fed too
+-- what an answer says, once the bytes up to stop were fed too, among which a frame that is whole has ended
 abbrev pub IsPassed : Extent → ℕ → ℕ → Matcher → Fed → Type 0
 IsPassed x start stop m More = Passes x start stop m × (stop < x.pointer)
-IsPassed x start stop m (Whole used f u n d) = IsFound x start (record { form = f; uuid = u; length = n; digest = d })
+IsPassed x start stop m (Whole used f u n d) = IsFound x start (record { form = f; uuid = u; length = n; digest = d }) × (start + n + frame_overhead f ≤ stop)
 IsPassed x start stop m No = NoFrameAt x start
 
 -- a head stands at p whose frame would end at or before the pointer, and what closes the frame stands where that would end

@@ -8,7 +8,7 @@ ghost use Rattle.scrub_frame.specs.Matching.{left};
 ghost use Rattle.scrub_scan.specs.declared.pages.Target.{Target};
 ghost use Rattle.scrub_scan.specs.Extent.{Extent, FrameAt, NoFrameAt, HasGap, bound};
 ghost use Rattle.scrub_scan.specs.Item.{start_of, stop_of, IsItem};
-ghost use Rattle.scrub_scan.specs.Pages.{HoldBoth, IsTarget, target_of, Scans, IsFound, Passes, IsPassed, Claims, AskedBy, last_page, frame_cost};
+ghost use Rattle.scrub_scan.specs.Pages.{HoldBoth, IsTarget, target_of, Scans, IsFound, Passes, IsPassed, Claims, AskedBy, HasRead, Reaches, place_behind, last_page, frame_cost};
 
 use crate::item::Item;
 use crate::pages::{Target, TwoPages};
@@ -78,6 +78,7 @@ impl Scanner {
         requires { 0 < page }
         ensures scans { (image : Image) (t : Target) → page ≡ image.geometry.page → IfOk result (Scans image t) }
         ensures asked { IfOk result (λ s. s.pages.asked ≡ 0) }
+        ensures read { IfOk result (λ s. HasRead s.pages 0) }
     {
         let pages = TwoPages::new(alloc, page)?;
         Ok(Scanner {
@@ -99,6 +100,7 @@ impl Scanner {
             self.new.pages.asked ≤ n + 4 + (D.image disk.now).geometry.pages }
         ensures asked_next { (n : ℕ) → AskedBy self.old.pages (start / target.now.page) n → stop_of result < target.now.pointer →
             AskedBy self.new.pages (stop_of result / target.now.page) (n + (stop_of result / target.now.page - start / target.now.page) * ((D.image disk.now).geometry.pages + 5)) }
+        ensures read { HasRead self.old.pages (start / target.now.page) → HasRead self.new.pages (stop_of result / target.now.page) }
     {
         match self.frame_at(disk, target, start) {
             Some(found) => self.chunk_of(target, start, found),
@@ -124,6 +126,7 @@ impl Scanner {
             IfSome result (λ f. self.new.pages.asked ≤ n + 1 + frame_cost (start / target.now.page) (last_page target.now start f.form f.length)) }
         ensures asked_none { (n : ℕ) → AskedBy self.old.pages (start / target.now.page) n →
             IfNone result (self.new.pages.asked ≤ n + 4 + (D.image disk.now).geometry.pages) }
+        ensures read { HasRead self.old.pages (start / target.now.page) → HasRead self.new.pages (place_behind start result / target.now.page) }
     {
         self.pages
             .approach(disk, target.extent, (start / target.page) as u32);
@@ -143,6 +146,7 @@ impl Scanner {
         ensures item { (image : Image) → IsFound (target_of image target.now) start found → IsItem (target_of image target.now) result }
         ensures near { self.old.pages.near.number ≡ Some (stop_of result / target.now.page) → self.new.pages.near.number ≡ Some (stop_of result / target.now.page) }
         ensures asked { self.new.pages.asked ≡ self.old.pages.asked }
+        ensures read { (n : ℕ) → HasRead self.old.pages n → HasRead self.new.pages n }
     {
         let Found {
             form,
@@ -196,6 +200,7 @@ impl Scanner {
         ensures asked { self.new.pages.asked ≤ self.old.pages.asked + 4 }
         ensures known { (f : Form) (u b : List ℕ) → FrameAt (target_of (D.image disk.now) target.now) start f u b → last_page target.now start f (length b) ≤ start / target.now.page →
             self.old.pages.near.number ≡ Some (start / target.now.page) → self.new.pages.asked ≡ self.old.pages.asked }
+        ensures read { (n : ℕ) → HasRead self.old.pages n → HasRead self.new.pages n }
     {
         let room = target.pointer - start;
         if room < LEAST_OVERHEAD {
@@ -255,6 +260,7 @@ impl Scanner {
         ensures asked { self.new.pages.asked ≤ self.old.pages.asked + 2 }
         ensures known { self.old.pages.near.number ≡ Some (place / target.now.page) → place + length wanted.now ≤ (place / target.now.page + 1) * target.now.page →
             self.new.pages.asked ≡ self.old.pages.asked }
+        ensures read { (n : ℕ) → HasRead self.old.pages n → HasRead self.new.pages n }
     {
         if !self.fill(disk, target, place, out) {
             return false;
@@ -281,6 +287,7 @@ impl Scanner {
         ensures asked { self.new.pages.asked ≤ self.old.pages.asked + 2 }
         ensures known { self.old.pages.near.number ≡ Some (place / target.now.page) → place + length out.old ≤ (place / target.now.page + 1) * target.now.page →
             self.new.pages.asked ≡ self.old.pages.asked }
+        ensures read { (n : ℕ) → HasRead self.old.pages n → HasRead self.new.pages n }
     {
         let mut done = 0;
         while done < out.len() {
@@ -315,6 +322,7 @@ impl Scanner {
             IfSome result (λ f. self.new.pages.asked ≤ self.old.pages.asked + (last_page target.now start f.form f.length - start / target.now.page)) }
         ensures asked_none { self.old.pages.near.number ≡ Some (start / target.now.page) →
             IfNone result (self.new.pages.asked < self.old.pages.asked + (D.image disk.now).geometry.pages) }
+        ensures read { HasRead self.old.pages (start / target.now.page) → HasRead self.new.pages (place_behind start result / target.now.page) }
     {
         self.matcher = Matcher::new((target.pointer - start) as u64);
         let mut place = start;
@@ -353,6 +361,8 @@ impl Scanner {
             IsPassed (target_of (D.image disk.now) target.now) start (bound (target_of (D.image disk.now) target.now) place) self.new.matcher result }
         ensures asked { self.new.pages.asked ≤ self.old.pages.asked + 1 }
         ensures known { self.old.pages.near.number ≡ Some (place / target.now.page) → self.new.pages.asked ≡ self.old.pages.asked }
+        ensures read { (n : ℕ) → HasRead self.old.pages n → HasRead self.new.pages n }
+        ensures reached { Reaches self.new.pages (place / target.now.page) }
     {
         let stop = target.bound(place);
         let page = (place / target.page) as u32;

@@ -33,7 +33,13 @@ fn scan_under<'d, D: PageSource>(
     let target = Target::new(disk, extent, pointer);
     let mut scanner = Scanner::new(alloc, target.page)?;
     let items = tile_by(alloc, disk, &target, &mut scanner)?;
-    let Surveyed { tail, bad_pages } = survey(alloc, disk, &target, &mut scanner.pages)?;
+    let Surveyed { tail, bad_pages } = survey(
+        alloc,
+        disk,
+        &target,
+        items.as_slice(),
+        &mut scanner.pages,
+    )?;
     let findings = Findings {
         items,
         tail_count: tail.count,

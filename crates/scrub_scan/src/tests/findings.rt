@@ -83,19 +83,28 @@ fn a_tail_behind_an_unreadable_page(rt: HostRuntime) -> Result<(), Fail> {
     check_under(&rt, rt.alloc(), &mut disk, 41, &expected)
 }
 
-/// Compares what a scan of extent 1 finds of a frame on two pages, where these pages are unreadable, its second one among
-/// them.
-fn check_unreadable(rt: &impl Abort, alloc: Global, bad_pages: &[u32]) -> Result<(), Fail> {
+/// Compares what a scan of extent 1 finds under a pointer of a frame on two pages, where these pages are unreadable, its
+/// second one among them.
+fn check_unreadable(
+    rt: &impl Abort,
+    alloc: Global,
+    bad_pages: &[u32],
+    pointer: u32,
+    lines: &[&str],
+) -> Result<(), Fail> {
     let mut disk = disk_with(alloc, &[(0, ONES, &[0x78; 60])], bad_pages)?;
     let expected = Expected {
         bad_pages,
-        ..full(&["torn 0 64", "lost 64 98"])
+        ..full(lines)
     };
-    check_under(rt, alloc, &mut disk, 98, &expected)
+    check_under(rt, alloc, &mut disk, pointer, &expected)
 }
 
 #[test]
 fn unreadable_pages_on_both_sides_of_the_pointer(rt: HostRuntime) -> Result<(), Fail> {
-    check_unreadable(&rt, rt.alloc(), &[1])?;
-    check_unreadable(&rt, rt.alloc(), &[1, 3])
+    let cut_off = ["torn 0 64", "lost 64 98"];
+    check_unreadable(&rt, rt.alloc(), &[1], 98, &cut_off)?;
+    check_unreadable(&rt, rt.alloc(), &[1, 3], 98, &cut_off)?;
+    let whole = ["torn 0 64", "lost 64 128"];
+    check_unreadable(&rt, rt.alloc(), &[1, 2], 128, &whole)
 }
