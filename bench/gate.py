@@ -3,15 +3,13 @@
 
 usage: bench/gate.py [--print]      at the top of the repository
 
-It keeps the last three columns, the processor minutes, which a run of the gate tells and no count. With --print it
-prints the rows and writes nothing.
+With --print it prints the rows and writes nothing.
 """
 import pathlib
 import re
 import sys
 
 PAGE = pathlib.Path("docs/GATE.md")
-KEPT = 3
 
 
 def crates():
@@ -50,20 +48,10 @@ def row(crate):
     return [f"`{crate}`", *map(str, counts)]
 
 
-def total(cells):
-    """The sum of a column, or nothing where a cell is open."""
-    return f"{sum(map(float, cells)):.10g}" if all(cells) else ""
-
-
 def main(words):
-    kept = {}
     page = PAGE.read_text().splitlines()
-    for line in page:
-        cells = [cell.strip() for cell in line.strip("|").split("|")]
-        if line.startswith("| `"):
-            kept[cells[0]] = cells[-KEPT:]
-    table = [cells + kept.get(cells[0], [""] * KEPT) for cells in map(row, crates())]
-    table.append(["all", *(total(cells) for cells in list(zip(*table))[1:])])
+    table = [*map(row, crates())]
+    table.append(["all", *(str(sum(map(int, cells))) for cells in list(zip(*table))[1:])])
     rows = ["| " + " | ".join(cells) + " |" for cells in table]
     if "--print" in words:
         print("\n".join(rows))

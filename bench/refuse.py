@@ -1,5 +1,5 @@
 #!/usr/bin/env python3
-"""Refuses each allocation of the program in turn, and looks at what it answers. It is no part of the gate.
+"""Refuses each allocation of the program in turn, and looks at what it answers. `./check` runs it.
 
 usage: bench/refuse.py [PROGRAM]    (default: crates/scrub_cli/out/scrub_cli)
 
@@ -7,8 +7,9 @@ For each line of words below the program is run with its first allocation refuse
 a run meets no refusal; then the same with all later allocations refused too. Each run has to end with status 4, nothing
 on the output and the text for want of memory on the error stream, or with the right answer whole; and so only where later
 allocations aren't refused, since some refused requests are made once more. The refusals come of
-a library of C that is made by `cc` and put before the C library. Prints a line for each line of words. Exit status: 0
-where each answer was such, 1 where one wasn't, 2 where `cc` can't make the library.
+a library of C that is made by `cc` and put before the C library. Prints a line for each line of words and each of the two
+ways; the last line is 'N passed, M failed'. Exit status: 0 where each answer was such, 1 where one wasn't, 2 where `cc`
+can't make the library.
 """
 import os
 import subprocess
@@ -113,7 +114,7 @@ def answer(program, words, library=None, refused=0, all_later=False):
 
 def main():
     program = Path(sys.argv[1] if len(sys.argv) > 1 else TOP / "crates/scrub_cli/out/scrub_cli").resolve()
-    wrong = 0
+    passed = failed = 0
     with tempfile.TemporaryDirectory() as folder:
         library = made(folder)
         for words in WORDS:
@@ -126,10 +127,12 @@ def main():
                     if met < refused:
                         break
                     counts["refused" if got == OUT_OF_MEMORY else "whole" if got == whole else "wrong"] += 1
-                wrong += counts["wrong"] + (counts["whole"] if all_later else 0)
+                wrong = counts["wrong"] + (counts["whole"] if all_later else 0)
+                passed, failed = passed + (wrong == 0), failed + (wrong > 0)
                 which = "it and all later ones" if all_later else "one"
                 print(f"'{words}', {which}: {dict(counts)} of {refused - 1} allocations", flush=True)
-    sys.exit(1 if wrong else 0)
+    print(f"{passed} passed, {failed} failed")
+    sys.exit(1 if failed else 0)
 
 
 main()

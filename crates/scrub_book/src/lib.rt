@@ -17,6 +17,3 @@ pub use pool_core::{PoolCore, one_answer_in_every_schedule};
 pub use retired::Retired;
 pub use scrub_disk::OutOfMemory;
 pub use worker_core::WorkerCore;
-
-#[cfg(test)]
-mod tests;

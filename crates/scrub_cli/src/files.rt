@@ -6,8 +6,8 @@ ghost use Rattle.scrub_cli.specs.Known.{file};
 
 use crate::images::Images;
 use scrub_disk::{RawFault, RawImage};
-use std::fs::{File, Files};
-use std::os::unix::fs::FileExt;
+use std::fs::{File, Files, metadata};
+use std::os::unix::fs::{FileExt, FileTypeExt};
 
 /// A file that is read as a raw image.
 #[derive(Drop)]
@@ -55,12 +55,14 @@ impl<R: Files<File = File>> Images for NamedFiles<'_, R> {
 
     ghost known = { λ _ _. file };
 
-    /// The file of this path. A directory can't be read as an image, so it isn't opened as one.
+    /// The file or the block device of this path. Nothing else can be read as a disk, so nothing else is opened: not a
+    /// directory, of which every read fails, and not a pipe, which would be waited for until somebody writes to it.
     fn image(&mut self, name: &str) -> Option<FileImage> {
-        let file = File::open(self.runtime, name).ok()?;
-        if file.metadata().ok()?.is_dir() {
+        let kind = metadata(self.runtime, name).ok()?.file_type();
+        if !kind.is_file() && !kind.is_block_device() {
             return None;
         }
+        let file = File::open(self.runtime, name).ok()?;
         Some(FileImage {
             file,
             reads: 0,
@@ -75,9 +77,11 @@ mod tests {
     use crate::images::Images;
 
     #[test]
-    fn neither_a_folder_nor_a_name_without_a_file_is_an_image(rt: HostRuntime) {
+    fn neither_a_folder_nor_a_device_without_blocks_nor_a_name_without_a_file_is_an_image(
+        rt: HostRuntime,
+    ) {
         let mut files = NamedFiles { runtime: &rt };
-        for name in [".", "no-such-folder/disk.img", ""] {
+        for name in [".", "/dev/null", "no-such-folder/disk.img", ""] {
             assert!(rt; files.image(name).is_none(), "{name}");
         }
     }

@@ -50,6 +50,3 @@ pub fn unreadable_pages(alloc: Global, readable: &[bool]) -> Result<Vec<u32>, Ou
     }
     Ok(unreadable)
 }
-
-#[cfg(test)]
-mod tests;

@@ -99,6 +99,3 @@ impl Geometry {
         self.page * self.pages
     }
 }
-
-#[cfg(test)]
-mod tests;

@@ -16,6 +16,3 @@ pub use memory::MemDisk;
 pub use raw::{RawFault, RawImage};
 pub use source::{PageSource, Unreadable};
 pub use std::alloc::AllocError as OutOfMemory;
-
-#[cfg(test)]
-mod checks;

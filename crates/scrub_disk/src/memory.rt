@@ -92,6 +92,3 @@ impl PageSource for MemDisk {
         Ok(())
     }
 }
-
-#[cfg(test)]
-mod tests;

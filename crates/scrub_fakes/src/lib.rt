@@ -18,6 +18,3 @@ pub use samples::{ABC_DIGEST, ENDS_IN_MAGIC, FOURS, ONES, SHARD, THREES, TWOS, a
 pub use source::CountingSource;
 pub use std::alloc::AllocError as OutOfMemory;
 pub use writer::NarrowWriter;
-
-#[cfg(test)]
-mod tests;

@@ -21,6 +21,3 @@ pub use locator::{
 pub use matcher::{Fed, Matcher};
 pub use std::alloc::AllocError as OutOfMemory;
 pub use writing::{FrameFault, append, write_frame, write_sealed};
-
-#[cfg(test)]
-mod tests;

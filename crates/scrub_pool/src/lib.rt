@@ -19,6 +19,3 @@ pub use gate::{Gate, NoGate};
 pub use scanning::scan_all;
 pub use scrub_disk::OutOfMemory;
 pub use takings::{Takings, some_schedule_takes_so};
-
-#[cfg(test)]
-mod tests;

@@ -23,6 +23,3 @@ pub use answer::{
 };
 pub use order::are_clean_items;
 pub use writing::{WriteFault, write_out};
-
-#[cfg(test)]
-mod tests;

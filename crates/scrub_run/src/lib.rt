@@ -15,6 +15,3 @@ pub use run::{Run, one_run};
 pub use scrub_frame::OutOfMemory;
 pub use shard_id::ShardId;
 pub use writing::write_run;
-
-#[cfg(test)]
-mod tests;

@@ -14,6 +14,3 @@ pub use chosen::Chosen;
 pub use plan::Plan;
 pub use record::{MAX_RUNS, one_record, read_record, write_record};
 pub use superblock::Superblock;
-
-#[cfg(test)]
-mod tests;

@@ -7,13 +7,23 @@ mod asking;
 #[cfg(test)]
 mod bindings;
 #[cfg(test)]
+mod books;
+#[cfg(test)]
 mod compare;
 #[cfg(test)]
 mod disks;
 #[cfg(test)]
 mod events;
 #[cfg(test)]
+mod extents;
+#[cfg(test)]
+mod fakes;
+#[cfg(test)]
 mod faults;
+#[cfg(test)]
+mod frames;
+#[cfg(test)]
+mod geometries;
 #[cfg(test)]
 mod index_runs;
 #[cfg(test)]
@@ -21,24 +31,58 @@ mod lists;
 #[cfg(test)]
 mod loading;
 #[cfg(test)]
+mod locators;
+#[cfg(test)]
+mod matching;
+#[cfg(test)]
+mod memory_disk;
+#[cfg(test)]
 mod named;
+#[cfg(test)]
+mod one_reader;
+#[cfg(test)]
+mod one_worker;
+#[cfg(test)]
+mod ordered_map;
+#[cfg(test)]
+mod plain_scan;
 #[cfg(test)]
 mod published;
 #[cfg(test)]
+mod records;
+#[cfg(test)]
 mod retired;
+#[cfg(test)]
+mod run_payloads;
+#[cfg(test)]
+mod scanned;
 #[cfg(test)]
 mod scrub;
 #[cfg(test)]
 mod sealed;
 #[cfg(test)]
+mod sealed_frames;
+#[cfg(test)]
 mod sizes;
+#[cfg(test)]
+mod standing_frames;
 #[cfg(test)]
 mod status;
 #[cfg(test)]
 mod superblock;
 #[cfg(test)]
+mod swept;
+#[cfg(test)]
+mod taking;
+#[cfg(test)]
+mod tiling;
+#[cfg(test)]
 mod told;
 #[cfg(test)]
 mod walks;
 #[cfg(test)]
+mod whole_extents;
+#[cfg(test)]
 mod workers;
+#[cfg(test)]
+mod writing;

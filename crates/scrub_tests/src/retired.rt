@@ -133,6 +133,35 @@ fn no_page_of_a_retired_extent_is_asked_for(rt: HostRuntime) -> Result<(), Fail>
     Ok(())
 }
 
+/// Requires that a scrub by so many workers asks for pages of extent 2, and for none of extent 3.
+fn check_unasked<R: Threads + Wait + Abort + Sync>(
+    rt: &R,
+    alloc: Global,
+    disk: &MemDisk,
+    workers: u32,
+) -> Result<(), Fail>
+    requires { workers ≤ 64 }
+{
+    let source = CountingSource::new(alloc, disk)?;
+    assert!(rt; source.geometry().extents() == 4);
+    match scrub(rt, alloc, &source, workers, &NoGate) {
+        Ok((answer, _)) => assert!(rt; answer.is_clean()),
+        Err(ScrubFault::OutOfMemory) => return Err(Fail::from("out of memory")),
+    }
+    assert!(rt; source.asked(2) >= 4);
+    same(rt, source.asked(3), 0);
+    Ok(())
+}
+
+#[test]
+fn no_worker_asks_for_a_page_of_a_retired_extent(rt: HostRuntime) -> Result<(), Fail> {
+    let disk = broken_and_retired(&rt, rt.alloc())?;
+    for workers in [0, 2, 64] {
+        check_unasked(&rt, rt.alloc(), &disk, workers)?;
+    }
+    Ok(())
+}
+
 #[test]
 fn a_locator_into_a_retired_extent_dangles(rt: HostRuntime) -> Result<(), Fail> {
     let disk = one_shard_retiring(&rt, rt.alloc(), &[1], 132)?;
@@ -167,7 +196,7 @@ fn with_all_extents_retired_nothing_is_scanned(rt: HostRuntime) -> Result<(), Fa
         r#""shards":0,"#,
     ];
     check_pieces(&rt, &answer, &pieces)?;
-    for workers in [0, 2] {
+    for workers in [0, 2, 64] {
         let takings = check_workers(&rt, rt.alloc(), &disk, workers)?;
         same(&rt, takings.counted(), 0);
         for worker in 0..=takings.workers() {

@@ -1,4 +1,5 @@
-//! The lists of the checks and of chunks once more, by plain walks straight from their definitions, as a slow reference.
+//! The lists of the checks and of chunks once more, by plain walks straight from their definitions, as a slow reference;
+//! and with them the items of each extent and the shard map, on each disk whole and with each page unreadable in turn.
 
 ghost use Rattle.std.specs.Prelude.{map};
 ghost use Rattle.std.specs.List.Sorted.{IsStrictlyIncreasing};
@@ -10,6 +11,8 @@ use crate::disks::{
     half_garbage, nine_locators, one_shard, overwritten_end, run_named_twice, torn_frame,
     twins_and_shared, two_superblocks,
 };
+use crate::ordered_map::check_map;
+use crate::plain_scan::check_scan;
 use crate::told::checked_of;
 use scrub_check::{
     Candidate, Checked, Place, SharedPlace, Status, candidates, find_start, orphans, shared, twins,
@@ -232,8 +235,10 @@ fn check_starts(
     Ok(())
 }
 
-/// Compares the lists of a disk with what the walks find.
+/// Compares what is found on a disk, its shard map and its lists with what the plain walks find.
 fn check(rt: &(impl Abort + Threads + Sync), alloc: Global, disk: &MemDisk) -> Result<(), Fail> {
+    check_scan(rt, alloc, disk)?;
+    check_map(rt, alloc, disk)?;
     let plan = plan_of(alloc, disk)?;
     let all = scan_in_order(alloc, disk, &plan)?;
     let checked = checked_of(rt, alloc, disk)?;
@@ -252,7 +257,7 @@ fn check(rt: &(impl Abort + Threads + Sync), alloc: Global, disk: &MemDisk) -> R
 }
 
 /// A copy of a disk, page by page.
-fn copy_of(alloc: Global, disk: &MemDisk) -> Result<MemDisk, Fail> {
+pub(crate) fn copy_of(alloc: Global, disk: &MemDisk) -> Result<MemDisk, Fail> {
     let geometry = disk.geometry();
     let mut copy = MemDisk::blank(alloc, geometry)?;
     for extent in 0..geometry.extents() {
@@ -283,7 +288,7 @@ fn copy_page(
     Ok(())
 }
 
-/// Compares the lists of a disk, and of each disk that has one more page unreadable, with what the walks find.
+/// Does so for a disk, and for each disk that has one more page of it unreadable.
 fn check_each(
     rt: &(impl Abort + Threads + Sync),
     alloc: Global,

@@ -1,0 +1,48 @@
+//! Sizes of disks at the limits and past them, and the texts of broken limits.
+
+use crate::compare::same;
+use scrub_disk::{Geometry, GeometryFault};
+use std::test::Fail;
+
+#[test]
+fn sizes_within_the_limits(rt: HostRuntime) -> Result<(), Fail> {
+    let small = Geometry::new(64, 4, 3)?;
+    same(
+        &rt,
+        (small.page(), small.pages(), small.extents()),
+        (64, 4, 3),
+    );
+    same(&rt, small.extent_bytes(), 256);
+    let largest = Geometry::new(65536, 1024, 64)?;
+    same(&rt, largest.extent_bytes(), 67_108_864);
+    Ok(())
+}
+
+#[test]
+fn the_first_broken_limit_is_told(rt: HostRuntime) {
+    let refused = [
+        (96, 4, 3, GeometryFault::PageSize),
+        (64, 0, 3, GeometryFault::Pages),
+        (64, 4, 1, GeometryFault::Extents),
+        (65536, 65536, 2, GeometryFault::ExtentBytes),
+        (65536, 1024, 65, GeometryFault::TotalBytes),
+    ];
+    for (page, pages, extents, fault) in refused {
+        same(&rt, Geometry::new(page, pages, extents), Err(fault));
+    }
+}
+
+#[test]
+fn a_fault_is_told_by_the_name_of_its_limit(rt: HostRuntime) -> Result<(), Fail> {
+    let texts = [
+        (GeometryFault::PageSize, "PageSize"),
+        (GeometryFault::Pages, "Pages"),
+        (GeometryFault::Extents, "Extents"),
+        (GeometryFault::ExtentBytes, "ExtentBytes"),
+        (GeometryFault::TotalBytes, "TotalBytes"),
+    ];
+    for (fault, text) in texts {
+        same(&rt, format!(in rt.alloc(); "{fault}")?.as_str(), text);
+    }
+    Ok(())
+}
