@@ -1,5 +1,5 @@
 -- Cursors over index runs, one for each: what they have not passed yet, what stands under them, and how they move on.
-use Rattle.std.specs.Prelude.{◌≡◌, ◌+◌, ◌<◌, ◌++◌, ℕ, zero, suc, Bool, false, cond, Option, Some, None, List, [], ◌∷◌, length, drop, filter, not, ◌==◌, slice_get}
+use Rattle.std.specs.Prelude.{◌≡◌, ◌+◌, ◌<◌, ◌++◌, ℕ, zero, suc, Bool, false, cond, Option, Some, None, IfSome, List, [], ◌∷◌, length, drop, filter, not, ◌==◌, slice_get}
 use Rattle.std.specs.Option.{option_map}
 use Rattle.std.specs.Cmp.Lexicographic.{slice_cmp}
 use Rattle.std.specs.declared.cmp.Ordering.{Ordering}
@@ -9,6 +9,7 @@ use Rattle.scrub_run.specs.Entry.{EntryValue, IsBelow}
 use Rattle.scrub_run.specs.Run.{RisesById}
 use Rattle.scrub_merge.specs.Binding.{BindingValue, Runs, IsNewestBinding}
 use Rattle.scrub_merge.specs.ShardMap.{IsShardMap}
+use Rattle.scrub_merge.specs.declared.cursors.Under.{Under}
 
 -- identifiers in the order of their bytes
 abbrev pub id_cmp : ShardId → ShardId → Ordering
@@ -65,10 +66,18 @@ pub record IsFirstWith (runs : Runs) (id : ShardId) (number : ℕ) : Type 0 wher
   pub own : entry.id ≡ id
   pub newest : (k : ℕ) (e : EntryValue) → k < number → first_of runs k ≡ Some e → e.id ≡ id → ⊥
 
--- an identifier is at most another
-abbrev pub IsAtMost : Option ShardId → ShardId → Type 0
+-- what stands under the cursor of the run of this number
+abbrev pub under_by : ℕ → EntryValue → Under
+under_by number e = record { number = number; id = e.id }
+
+-- the identifier that was met is at most another
+abbrev pub IsAtMost : Option Under → ShardId → Type 0
 IsAtMost None id = ⊥
-IsAtMost (Some least) id = IsBelow id least → ⊥
+IsAtMost (Some least) id = IsBelow id least.id → ⊥
+
+-- an identifier is below the one that was met, if any
+abbrev pub IsBeforeAll : Option Under → ShardId → Type 0
+IsBeforeAll least id = IfSome least (λ u. IsBelow id u.id)
 
 -- no run has an entry
 abbrev pub AreEmpty : Runs → Type 0

@@ -1,12 +1,12 @@
-//! Cursors over index runs, one for each run, by the place of the entry under it: the least identifier under them, the
+//! Cursors over index runs, one for each run, by the place of the entry under it: the least identifier under them, by the
 //! newest run that has it there, and all that have it moved on. What is bound by it is left to `merging`.
 
 ghost use Rattle.std.specs.Prelude.{◌≡◌, ◌<◌, ◌⊎◌, ◌^◌, IsTrue, Some, IfSome, IfNone, length};
 ghost use Rattle.std.specs.Option.{option_map};
-ghost use Rattle.scrub_run.specs.Entry.{EntryValue};
 ghost use Rattle.scrub_run.specs.Run.{AreEntries};
 ghost use Rattle.scrub_run.specs.declared.shard_id.ShardId.{ShardId};
-ghost use Rattle.scrub_merge.specs.Cursors.{entry_at, has_id, left, place_behind, places_behind, IsLeast, IsFirstWith, AreEmpty, AreRising, IsAtMost};
+ghost use Rattle.scrub_merge.specs.declared.cursors.Under.{Under};
+ghost use Rattle.scrub_merge.specs.Cursors.{entry_at, has_id, left, place_behind, places_behind, under_by, IsLeast, IsFirstWith, AreEmpty, AreRising, IsAtMost, IsBeforeAll};
 
 use scrub_run::{Entry, Run, ShardId};
 
@@ -22,40 +22,52 @@ pub(crate) fn entry_under(run: &Option<Run>, place: usize) -> Option<&Entry>
     }
 }
 
-/// Its identifier.
-fn id_under(run: &Option<Run>, place: usize) -> Option<ShardId>
-    ensures id { result ≡ option_map (λ (e : EntryValue). e.id) (entry_at run.now place) }
+/// The identifier of the entry under a cursor.
+#[derive(Clone, Copy)]
+pub(crate) struct Under {
+    /// The number of its run.
+    pub number: usize,
+    pub id: ShardId,
+}
+
+/// What stands under the cursor of the run of this number.
+fn under_cursor(run: &Option<Run>, number: usize, place: usize) -> Option<Under>
+    ensures under { result ≡ option_map (under_by number) (entry_at run.now place) }
     ensures run { IfSome run.now AreEntries }
 {
     match entry_under(run, place) {
         None => None,
-        Some(entry) => Some(entry.id()),
+        Some(entry) => Some(Under {
+            number,
+            id: entry.id(),
+        }),
     }
 }
 
-/// The lesser of two identifiers, or of the one that there is.
-fn lesser(first: Option<ShardId>, second: Option<ShardId>) -> Option<ShardId>
+/// The one with the lesser identifier, or the only one. Of two with the same identifier it is the first.
+fn lesser(first: Option<Under>, second: Option<Under>) -> Option<Under>
     ensures first { (id : ShardId) → IsAtMost first id → IsAtMost result id }
-    ensures second { (id : ShardId) → second ≡ Some id → IsAtMost result id }
-    ensures one { (id : ShardId) → result ≡ Some id → (first ≡ Some id) ⊎ (second ≡ Some id) }
+    ensures second { (u : Under) → second ≡ Some u → IsAtMost result u.id }
+    ensures one { (u : Under) → result ≡ Some u → (first ≡ Some u) ⊎ ((second ≡ Some u) × IsBeforeAll first u.id) }
 {
     match (first, second) {
-        (Some(one), Some(other)) => Some(if other < one { other } else { one }),
+        (Some(one), Some(other)) => Some(if other.id < one.id { other } else { one }),
         (None, only) => only,
         (only, None) => only,
     }
 }
 
-/// The least identifier under the cursors: none where all runs were passed.
-pub(crate) fn least_under(runs: &[Option<Run>], places: &[usize]) -> Option<ShardId>
+/// The least identifier under the cursors, by the newest run that has it there: none where all runs were passed.
+pub(crate) fn least_under(runs: &[Option<Run>], places: &[usize]) -> Option<Under>
     requires { length places.now ≡ length runs.now }
-    ensures least { IfSome result (IsLeast (left runs.now places.now)) }
+    ensures least { IfSome result (λ u. IsLeast (left runs.now places.now) u.id) }
+    ensures newest { IfSome result (λ u. IsFirstWith (left runs.now places.now) u.id u.number) }
     ensures none { IfNone result (AreEmpty (left runs.now places.now)) }
     ensures rising { AreRising runs.now }
 {
     let mut least = None;
     for (number, run) in runs.iter().enumerate() {
-        least = lesser(least, id_under(run, places[number]));
+        least = lesser(least, under_cursor(run, number, places[number]));
     }
     least
 }
@@ -69,20 +81,6 @@ fn is_under(run: &Option<Run>, place: usize, id: ShardId) -> bool
         None => false,
         Some(entry) => entry.id().cmp(&id).is_eq(),
     }
-}
-
-/// The newest run that has an identifier under its cursor.
-pub(crate) fn newest_with(runs: &[Option<Run>], places: &[usize], id: ShardId) -> Option<usize>
-    requires { length places.now ≡ length runs.now }
-    ensures found { IfSome result (IsFirstWith (left runs.now places.now) id) }
-    ensures none { IfNone result (IsLeast (left runs.now places.now) id → ⊥) }
-{
-    for (number, run) in runs.iter().enumerate() {
-        if is_under(run, places[number], id) {
-            return Some(number);
-        }
-    }
-    None
 }
 
 /// Where the cursor of a run stands once it was moved on past an identifier.

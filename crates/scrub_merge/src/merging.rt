@@ -4,13 +4,13 @@
 
 ghost use Rattle.std.specs.Prelude.{◌≡◌, List, ◌<◌, ◌≤◌, ◌^◌, ◌↔◌, IsTrue, IfOk, OnOk, length};
 ghost use Rattle.scrub_merge.specs.Binding.{BindingValue, Runs, LostBefore};
-ghost use Rattle.scrub_merge.specs.Cursors.{left, IsLeast, IsBound, AreRising};
+ghost use Rattle.scrub_merge.specs.Cursors.{left, IsLeast, IsFirstWith, IsBound, AreRising};
 ghost use Rattle.scrub_merge.specs.ShardMap.{AreRuns, IsShardMap};
 
 use crate::binding::Binding;
-use crate::cursors::{entry_under, least_under, move_on, newest_with};
+use crate::cursors::{Under, entry_under, least_under, move_on};
 use crate::shard_map::ShardMap;
-use scrub_run::{Entry, OutOfMemory, Run, ShardId};
+use scrub_run::{Entry, OutOfMemory, Run};
 use std::alloc::Global;
 
 /// The binding by a copy of an entry.
@@ -34,23 +34,22 @@ fn is_doubtful(runs: &[Option<Run>], number: usize) -> bool
     runs[..number].iter().any(|run| run.is_none())
 }
 
-/// Binds the least identifier under the cursors by the newest run that has it: appends the binding, if it has a locator.
+/// Binds the least identifier under the cursors, of the newest run that has it: appends the binding, if it has a locator.
 fn bind_newest(
     alloc: Global,
     runs: &[Option<Run>],
     places: &[usize],
-    id: ShardId,
+    least: &Under,
     bindings: &mut Vec<Binding>,
 ) -> Result<(), OutOfMemory>
     requires few { length runs.now < 2 ^ 32 }
     requires places { length places.now ≡ length runs.now }
     requires rising { AreRising runs.now }
-    requires least { IsLeast (left runs.now places.now) id }
-    ensures { OnOk result (IsBound (left runs.now places.now) id bindings.old.items bindings.new.items) }
+    requires least { IsLeast (left runs.now places.now) least.now.id }
+    requires newest { IsFirstWith (left runs.now places.now) least.now.id least.now.number }
+    ensures { OnOk result (IsBound (left runs.now places.now) least.now.id bindings.old.items bindings.new.items) }
 {
-    let Some(number) = newest_with(runs, places, id) else {
-        return Ok(());
-    };
+    let number = least.number;
     let Some(entry) = entry_under(&runs[number], places[number]) else {
         return Ok(());
     };
@@ -71,9 +70,9 @@ pub fn merge(alloc: Global, runs: &[Option<Run>]) -> Result<ShardMap, OutOfMemor
 {
     let mut bindings = Vec::new(alloc);
     let mut places = vec![in alloc; 0; runs.len()]?;
-    while let Some(id) = least_under(runs, &places) {
-        bind_newest(alloc, runs, &places, id, &mut bindings)?;
-        move_on(runs, &mut places, id);
+    while let Some(least) = least_under(runs, &places) {
+        bind_newest(alloc, runs, &places, &least, &mut bindings)?;
+        move_on(runs, &mut places, least.id);
     }
     Ok(ShardMap::new(bindings))
 }
