@@ -1,10 +1,14 @@
--- A frame that stands at a place of an extent, and its payload.
-use Rattle.std.specs.Prelude.{◌≡◌, ◌<◌, ℕ, List}
+-- A frame that stands at a place of an extent, and its payload; and what is told of one by its ends alone.
+use Rattle.std.specs.Prelude.{◌≡◌, ◌<◌, ◌≤◌, ◌+◌, ◌^◌, ◌++◌, ℕ, List}
 use Rattle.std.specs.Prelude.{length as len}
 use Rattle.sha2.specs.Sha256.{sha256}
-use Rattle.scrub_disk.specs.Image.{Image, extent_bytes}
+use Rattle.scrub_disk.specs.Image.{Image, extent_bytes, AreBytesAt}
+use Rattle.scrub_frame.specs.declared.form.Form.{Form}
+use Rattle.scrub_frame.specs.declared.form.Form.TheVariants.{Plain}
+use Rattle.scrub_frame.specs.declared.frame.Head.{Head}
+use Rattle.scrub_frame.specs.Frame.{head, mark, payload_start, frame_overhead}
 use Rattle.scrub_scan.specs.declared.standing.Standing.{Standing}
-use Rattle.scrub_scan.specs.Extent.{extent_of, FrameAt}
+use Rattle.scrub_scan.specs.Extent.{Extent, extent_of, FrameAt}
 
 -- the frame has this payload, and ends at or before the pointer
 pub record IsFrameOf (image : Image) (pointer : ℕ) (s : Standing) (payload : List ℕ) : Type 0 where
@@ -28,3 +32,22 @@ pub record HasPayload (image : Image) (s : Standing) (payload : List ℕ) : Type
 pub record Stands (image : Image) (s : Standing) : Type 0 where
   pub payload : List ℕ
   pub has : HasPayload image s payload
+
+-- a frame of these fields is claimed at p: its head stands there, it would end at or before the pointer, and what closes it
+-- stands where it would end
+pub record IsClaimedAt (x : Extent) (p : ℕ) (h : Head) : Type 0 where
+  pub sixteen : len h.uuid ≡ 16
+  pub short : h.length < 2 ^ 32
+  pub head_stands : AreBytesAt x.byte p (head h.form h.uuid h.length)
+  pub fits : p + h.length + frame_overhead h.form ≤ x.pointer
+  pub close_stands : AreBytesAt x.byte (p + h.length + payload_start h.form) (h.uuid ++ mark h.form)
+
+-- a frame that stands at p has these fields
+abbrev pub IsOnlyFrame : Extent → ℕ → Head → Type 0
+IsOnlyFrame x p h = (f : Form) (u b : List ℕ) → FrameAt x p f u b → (h.form ≡ f) × (h.uuid ≡ u) × (h.length ≡ len b)
+
+-- a plain frame of this UUID and this length stands at p
+pub record HasPlainFrame (x : Extent) (p : ℕ) (h : Head) : Type 0 where
+  pub payload : List ℕ
+  pub frame : FrameAt x p Plain h.uuid payload
+  pub length : h.length ≡ len payload

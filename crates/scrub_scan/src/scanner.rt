@@ -12,6 +12,7 @@ ghost use Rattle.scrub_scan.specs.Pages.{HoldBoth, IsTarget, target_of, Scans, I
 
 use crate::item::Item;
 use crate::pages::{Target, TwoPages};
+use crate::zeros::is_zero;
 use scrub_disk::{OutOfMemory, PageSource};
 use scrub_frame::{
     CLOSE_BYTES, Fed, Form, HEAD_BYTES, LEAST_OVERHEAD, Matcher, put_part, read_head,
@@ -38,13 +39,6 @@ pub(crate) struct Scanner {
     matcher: Matcher,
     /// The last page that broke off a frame. Other frames that claim it are refused without being read.
     gap: Option<u32>,
-}
-
-/// Whether all bytes of a part are zero.
-fn is_zero(part: &[u8]) -> bool
-    ensures { IsTrue result ↔ ((k : ℕ) → k < length part.now → slice_index part.now k ≡ 0) }
-{
-    part.iter().all(|b| *b == 0)
 }
 
 /// Whether a part begins with the magic of one of the forms.

@@ -1,16 +1,18 @@
 //! The frame at a given place of an extent, without the tiling. Whether an item begins there is left to the crates above.
 
-ghost use Rattle.std.specs.Prelude.{◌≡◌, ◌<◌, ◌≤◌, ℕ, List, IfOk, IfSome, IfNone};
-ghost use Rattle.scrub_disk.specs.Image.{Image, extent_bytes};
+ghost use Rattle.std.specs.Prelude.{◌≡◌, ◌<◌, ◌≤◌, ◌+◌, ◌++◌, ℕ, List, true, false, take, length, IfOk, IfSome, IfNone};
+ghost use Rattle.scrub_disk.specs.Image.{Image, byte, extent_bytes, AreBytesAt};
 ghost use Rattle.scrub_frame.specs.declared.form.Form.{Form};
-ghost use Rattle.scrub_scan.specs.Extent.{extent_of, FrameAt, NoFrameAt};
-ghost use Rattle.scrub_scan.specs.Standing.{IsStandingAt, Stands, HasPayload};
+ghost use Rattle.scrub_frame.specs.declared.frame.Head.{Head};
+ghost use Rattle.scrub_frame.specs.Frame.{magic, head, head_size, mark, payload_start, frame_overhead};
+ghost use Rattle.scrub_scan.specs.Extent.{Extent, extent_of, FrameAt, NoFrameAt, HasGap};
+ghost use Rattle.scrub_scan.specs.Standing.{IsStandingAt, Stands, HasPayload, IsClaimedAt, IsOnlyFrame, HasPlainFrame};
 
 use crate::pages::Target;
 use crate::reading::read_bytes;
 use crate::scanner::{Found, Scanner};
 use scrub_disk::{OutOfMemory, PageSource};
-use scrub_frame::Form;
+use scrub_frame::{Form, HEAD_BYTES, Head, LEAST_OVERHEAD, read_head};
 use std::alloc::Global;
 use uuid::Uuid;
 
@@ -72,6 +74,92 @@ pub fn frame_stands<D: PageSource>(
     }
 }
 
+/// The head that the bytes of one are.
+fn head_in(bytes: &[u8]) -> Option<Head>
+    requires { length bytes.now ≡ head_size }
+    ensures found { IfSome result (λ h. bytes.now ≡ head h.form h.uuid h.length) }
+    ensures none { IfNone result ((form : Form) → ¬ (take 2 bytes.now ≡ magic form)) }
+{
+    read_head(bytes.first_chunk::<HEAD_BYTES>()?)
+}
+
+/// The head that stands at a place of an extent, where it can be read.
+fn head_at<D: PageSource>(
+    alloc: Global,
+    disk: &D,
+    extent: u32,
+    start: usize,
+) -> Result<Option<Head>, OutOfMemory>
+    requires in_extents { extent < (D.image disk.now).geometry.extents }
+    requires in_extent { start + head_size ≤ extent_bytes (D.image disk.now).geometry }
+    ensures found { IfOk result (λ found. IfSome found (λ h. AreBytesAt (byte (D.image disk.now) extent) start (head h.form h.uuid h.length))) }
+    ensures none { IfOk result (λ found. IfNone found ((w : ℕ) → NoFrameAt (extent_of (D.image disk.now) extent w) start)) }
+{
+    match read_bytes(alloc, disk, extent, start, HEAD_BYTES)? {
+        Some(bytes) => Ok(head_in(&bytes)),
+        None => Ok(None),
+    }
+}
+
+/// Whether what closes the frame that a head claims stands where that frame would end.
+fn is_closed<D: PageSource>(
+    alloc: Global,
+    disk: &D,
+    extent: u32,
+    start: usize,
+    head: Head,
+) -> Result<bool, OutOfMemory>
+    requires in_extents { extent < (D.image disk.now).geometry.extents }
+    requires fits { start + head.length + frame_overhead head.form ≤ extent_bytes (D.image disk.now).geometry }
+    ensures found { IfOk result (λ closed. closed ≡ true →
+        AreBytesAt (byte (D.image disk.now) extent) (start + head.length + payload_start head.form) (head.uuid ++ mark head.form)) }
+    ensures none { IfOk result (λ closed. closed ≡ false →
+        ¬ AreBytesAt (byte (D.image disk.now) extent) (start + head.length + payload_start head.form) (head.uuid ++ mark head.form)) }
+{
+    let close = head.form.close_bytes();
+    match read_bytes(
+        alloc,
+        disk,
+        extent,
+        start + head.payload_end() as usize,
+        close,
+    )? {
+        Some(found) => Ok(found.as_slice() == &head.form.close(&head.uuid)[..close]),
+        None => Ok(false),
+    }
+}
+
+/// The head at a place of an extent, where what closes the frame that it claims stands too, at or before the pointer. A
+/// frame that stands there has the form, the UUID and the length that it says. Whether one does is another question: what
+/// lies between the head and the close isn't read, and no payload is hashed. At most four pages are read.
+pub fn claimed_frame<D: PageSource>(
+    alloc: Global,
+    disk: &D,
+    pointer: u32,
+    extent: u32,
+    offset: u32,
+) -> Result<Option<Head>, OutOfMemory>
+    requires in_extents { extent < (D.image disk.now).geometry.extents }
+    requires pointer { pointer ≤ extent_bytes (D.image disk.now).geometry }
+    requires offset { offset ≤ extent_bytes (D.image disk.now).geometry }
+    ensures found { IfOk result (λ found. IfSome found (IsClaimedAt (extent_of (D.image disk.now) extent pointer) offset)) }
+    ensures none { IfOk result (λ found. IfNone found (NoFrameAt (extent_of (D.image disk.now) extent pointer) offset)) }
+{
+    if (pointer as usize) < offset as usize + LEAST_OVERHEAD {
+        return Ok(None);
+    }
+    let Some(head) = head_at(alloc, disk, extent, offset as usize)? else {
+        return Ok(None);
+    };
+    if head.frame_bytes() > (pointer - offset) as u64 {
+        return Ok(None);
+    }
+    if !is_closed(alloc, disk, extent, offset as usize, head)? {
+        return Ok(None);
+    }
+    Ok(Some(head))
+}
+
 /// The payload of a frame that stands in the disk's image.
 pub fn read_payload<D: PageSource>(
     alloc: Global,
@@ -99,4 +187,12 @@ pub fn read_payload<D: PageSource>(
 pub fn one_frame_stands()
     ensures { (image : Image) (e v w place : ℕ) (f : Form) (t b : List ℕ) (g : Form) (u c : List ℕ) →
         FrameAt (extent_of image e v) place f t b → FrameAt (extent_of image e w) place g u c → (f ≡ g) × (t ≡ u) × (b ≡ c) }
+{}
+
+/// A law: what stands at a place where `claimed_frame` finds a head is a frame of the fields that it says, or none; and a
+/// plain one does stand there, where all its bytes can be read.
+pub fn a_claim_is_of_one_frame()
+    ensures only { (x : Extent) (place : ℕ) (h : Head) → IsClaimedAt x place h → IsOnlyFrame x place h }
+    ensures plain { (x : Extent) (place : ℕ) (h : Head) → IsClaimedAt x place h → h.form ≡ Form.Plain →
+        ¬ HasGap x.byte place (h.length + frame_overhead h.form) → HasPlainFrame x place h }
 {}

@@ -1,0 +1,11 @@
+//! Whether bytes are zero, told by comparing slices, which goes many bytes at a time. What zeros mean is left to the
+//! scanner and the tail.
+
+ghost use Rattle.std.specs.Prelude.{◌≡◌, ◌<◌, ◌↔◌, ℕ, IsTrue, length, slice_index};
+
+/// Whether all bytes of a part are zero: the first is, and every other is the same as the one before it.
+pub(crate) fn is_zero(part: &[u8]) -> bool
+    ensures { IsTrue result ↔ ((k : ℕ) → k < length part.now → slice_index part.now k ≡ 0) }
+{
+    part.is_empty() || (part[0] == 0 && part[1..] == part[..part.len() - 1])
+}
