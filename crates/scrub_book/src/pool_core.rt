@@ -8,7 +8,7 @@ ghost use Rattle.scrub_disk.specs.Image.{Image};
 ghost use Rattle.scrub_super.specs.Plan.{PlanValue, pointer_of};
 ghost use Rattle.scrub_super.specs.Planned.{ArePlanned};
 ghost use Rattle.scrub_scan.specs.Scanned.{result_image};
-ghost use Rattle.scrub_scan.specs.AllFindings.{extent_numbers, AreAllFindings};
+ghost use Rattle.scrub_scan.specs.AllFindings.{extent_numbers, AreAllFindings, IsOfImage};
 ghost use Rattle.scrub_book.specs.Extents.{extents_of};
 ghost use Rattle.scrub_book.specs.Member.{member_value, IsReady};
 ghost use Rattle.scrub_book.specs.Pool.{idle, MemberValue, member_refusal, worker_of, EveryScheduleFinds};
@@ -258,6 +258,7 @@ impl<'d, D: PageSource> PoolCore<'d, D> {
         ensures complete { IfOk result (λ all. is_complete self.entry.state ≡ true) }
         ensures assembly { IfOk result (λ all. IsAssembly self.entry.plan self.entry.state all.extents) }
         ensures found { IfOk result (λ all. AreAllFindings (D.image self.entry.source) self.entry.plan all.extents) }
+        ensures image { IfOk result (λ all. IsOfImage (λ s. D.image s) all (D.image self.entry.source)) }
         ensures back { IfErr result (λ pool. (is_complete self.entry.state ≡ false) × (pool ≡ self.entry)) }
     {
         if !self.is_complete() {

@@ -30,6 +30,10 @@ new_pass queue planned = record { queue = queue; planned = planned; first = true
 abbrev pub split_pass : TableId → List ℕ → PassValue
 split_pass queue planned = record { queue = queue; planned = planned; first = false; own = []; joined = []; out = 0 }
 
+-- the first pass of a queue, whatever was taken by it and whichever passes are out
+abbrev pub IsFirst : TableId → List ℕ → PassValue → Type 0
+IsFirst queue planned p = (p.queue ≡ queue) × (p.planned ≡ planned) × (p.first ≡ true)
+
 -- the first pass of a queue, with no other out
 abbrev pub IsFirstAlone : TableId → List ℕ → PassValue → Type 0
 IsFirstAlone queue planned p = (p.queue ≡ queue) × (p.planned ≡ planned) × (p.first ≡ true) × (p.out ≡ 0)

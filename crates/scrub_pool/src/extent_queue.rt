@@ -1,7 +1,7 @@
 //! The queue of the planned extents, and the passes of those that take from it. What is done with an extent is left to who
 //! took it.
 
-ghost use Rattle.std.specs.Prelude.{◌≡◌, ◌+◌, ◌-◌, ◌<◌, ◌≤◌, length, [], ◌∷◌, ◌++◌, true, false, All, IfOk, IfSome, IfNone, OnErr, Contains};
+ghost use Rattle.std.specs.Prelude.{◌≡◌, ◌+◌, ◌-◌, ◌<◌, ◌≤◌, length, take, [], ◌∷◌, ◌++◌, true, false, All, IfOk, IfSome, IfNone, OnErr, Contains};
 ghost use Rattle.std.specs.List.Sorted.{IsStrictlyIncreasing};
 ghost use Rattle.crossbeam_queue.specs.Passes.{IsSamePass, IsPassOf, ruled_capacity};
 ghost use Rattle.scrub_pool.specs.Account.{view_of};
@@ -108,7 +108,7 @@ impl ExtentQueue {
     }
 }
 
-/// Pushes the extents. Nobody else has a pass, so the queue has room for each.
+/// Pushes the planned extents. Nobody else has a pass, so the queue has room for each.
 fn fill<R: Wait>(rt: &R, queue: &RuledQueue, pass: &mut Pass<u32, View>, extents: &[u32])
     requires room { length extents.now ≤ ruled_capacity queue.now }
     requires rising { IsStrictlyIncreasing extents.now }
@@ -117,9 +117,29 @@ fn fill<R: Wait>(rt: &R, queue: &RuledQueue, pass: &mut Pass<u32, View>, extents
     ensures same { IsSamePass pass.old pass.new }
     ensures pushed { known pass.new ≡ view_of 1 0 0 extents.now [] [] }
 {
-    for extent in extents {
-        let Ok(()) = queue.push_as::<Pushes, R>(rt, pass, *extent) else {
-            unreachable!()
-        };
+    for number in 0..extents.len() {
+        push_next(rt, queue, pass, extents, number);
     }
+}
+
+/// Pushes the planned extent of this number, behind those before it: at every moment what was pushed so far is a front of
+/// the planned extents.
+fn push_next<R: Wait>(
+    rt: &R,
+    queue: &RuledQueue,
+    pass: &mut Pass<u32, View>,
+    planned: &[u32],
+    number: usize,
+)
+    requires room { length planned.now ≤ ruled_capacity queue.now }
+    requires rising { IsStrictlyIncreasing planned.now }
+    requires next { number < length planned.now }
+    requires pass { IsPassOf queue.now pass.old }
+    requires front { known pass.old ≡ view_of 1 0 0 (take number planned.now) [] [] }
+    ensures same { IsSamePass pass.old pass.new }
+    ensures front { known pass.new ≡ view_of 1 0 0 (take (number + 1) planned.now) [] [] }
+{
+    let Ok(()) = queue.push_as::<Pushes, R>(rt, pass, planned[number]) else {
+        unreachable!()
+    };
 }

@@ -7,7 +7,7 @@ pub mod extent_queue;
 pub mod fault;
 pub mod gate;
 mod job;
-pub mod rule;
+mod rule;
 pub mod scanning;
 pub mod takings;
 mod tally;

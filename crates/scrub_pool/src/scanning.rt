@@ -5,7 +5,7 @@ ghost use Rattle.std.specs.List.Sorted.{IsPermutation};
 ghost use Rattle.scrub_scan.specs.AllFindings.{AreAllFindings, IsOfImage};
 ghost use Rattle.scrub_book.specs.Extents.{extents_of};
 ghost use Rattle.scrub_book.specs.Worker.{held_by, taken_by, results_of};
-ghost use Rattle.scrub_pool.specs.Passes.{one_list, new_pass, IsFirstAlone};
+ghost use Rattle.scrub_pool.specs.Passes.{one_list, new_pass, IsFirst, IsFirstAlone};
 ghost use Rattle.scrub_pool.specs.Takings.{IsPartition};
 ghost use Rattle.scrub_pool.specs.Work.{AreResults, AreNewMembers, IsThrough, AreFoundBy, after_joins, lists_in};
 
@@ -42,6 +42,7 @@ fn new_crew<R: Wait>(
     requires workers { workers ≤ 64 }
     ensures count { IfOk result (λ v. vec_len v ≡ workers) }
     ensures crew { IfOk result (λ v. AreNewMembers queue.now first.old.planned v.items) }
+    ensures kept { IsFirst queue.now first.old.planned first.new }
     ensures first { OnOk result (first.new ≡ record first.old { out = workers }) }
 {
     let mut crew = Vec::with_capacity(alloc, workers as usize)?;
@@ -104,6 +105,7 @@ fn collect<'d, D: PageSource, R: Wait>(
     requires first { first.old.first ≡ true }
     requires nothing { found.old.items ≡ [] }
     requires members { All (λ m. IsThrough queue.now m) members.items }
+    ensures kept { IsFirst queue.now first.old.planned first.new }
     ensures first { IfOk result (λ v. first.new ≡ after_joins first.old (lists_in v.items) (vec_len members.entry)) }
     ensures count { IfOk result (λ v. vec_len v ≡ vec_len members.entry) }
     ensures found { IfOk result (λ v. extents_of found.new.items ≡ one_list (lists_in v.items)) }
@@ -132,6 +134,7 @@ fn gather<'d, D: PageSource, L: Ledger + Send + Sync, G: Gate, R: Threads + Wait
     requires first { first.old ≡ new_pass job.now.queue.now job.now.plan.now.planned }
     requires name { blank.name ≡ L.name }
     requires parts { (blank.parts ≡ L.parts) × (blank.parts ≡ workers + 1) }
+    ensures kept { IsFirst job.now.queue.now job.now.plan.now.planned first.new }
     ensures first { OnOk result (IsFirstAlone job.now.queue.now job.now.plan.now.planned first.new) }
     ensures workers { IfOk result (λ r. vec_len r.0 ≡ workers + 1) }
     ensures lists { IfOk result (λ r. lists_in r.0.items ≡ first.new.joined ++ first.new.own ∷ []) }
@@ -160,8 +163,8 @@ fn gather<'d, D: PageSource, L: Ledger + Send + Sync, G: Gate, R: Threads + Wait
 
 /// What one reader finds in the planned extents, scanned by this many workers (0 to 64) and the caller, each taking from this
 /// queue until none is left, and who took what. The caller takes with the first pass, as worker number `workers`; with no
-/// others no thread is started. The one fault is `OutOfMemory`, told once every worker that was started has ended; the queue
-/// and the pass are then for dropping.
+/// others no thread is started. The one fault is `OutOfMemory`, told once every worker that was started has ended. The pass is
+/// then still the first one of this queue, so that what was taken is told by the queue's rule; both are for dropping.
 pub fn scan_all<'d, D: PageSource, G: Gate, R: Threads + Wait + Sync>(
     rt: &R,
     alloc: Global,
@@ -178,6 +181,8 @@ pub fn scan_all<'d, D: PageSource, G: Gate, R: Threads + Wait + Sync>(
     ensures image { IfOk result (λ r. IsOfImage (λ s. D.image s) r.0 (D.image disk.now)) }
     ensures findings { IfOk result (λ r. AreAllFindings (D.image disk.now) plan.now r.0.extents) }
     ensures workers { IfOk result (λ r. length r.1.lists ≡ workers + 1) }
+    // After the fault too.
+    ensures kept { IsFirst queue.now plan.now.planned first.new }
     ensures first { OnOk result (IsFirstAlone queue.now plan.now.planned first.new) }
     ensures lists { IfOk result (λ r. r.1.lists ≡ first.new.joined ++ first.new.own ∷ []) }
     ensures partition { IfOk result (λ r. IsPartition plan.now.planned r.1.lists) }
