@@ -1,10 +1,9 @@
 -- What a locator is worth, from what was found at its place.
-use Rattle.std.proofs.Common.{◌≡◌, ◌<◌, ◌+◌, ◌-◌, ◌/◌, ◌↔◌, ℕ, List, map, length, get_or, slice_index, Bool, false, Option, Some, None, MatchBool, MatchOption, IfSome, IfNone, inl, inr, arith, refl, sym, ◌∙◌, ap, subst}
+use Rattle.std.proofs.Common.{◌≡◌, ◌<◌, ◌-◌, ℕ, List, map, length, get_or, slice_index, Bool, false, Option, Some, None, MatchBool, MatchOption, IfSome, IfNone, inl, inr, arith, refl, sym, ◌∙◌, ap, subst}
 use Rattle.std.specs.List.{Contains}
 use Rattle.std.proofs.lemmas.List.{get_or-map}
 use Rattle.std.proofs.lemmas.List.Elements.{All-get_or}
-use Rattle.scrub_disk.specs.Image.{Image, unreadable_pages, HasWholePages}
-use Rattle.scrub_frame.specs.Frame.{least_overhead}
+use Rattle.scrub_disk.specs.Image.{Image}
 use Rattle.scrub_frame.specs.declared.locator.Locator.{Locator}
 use Rattle.scrub_super.specs.Plan.{PlanValue, pointer_of}
 use Rattle.scrub_scan.specs.declared.standing.Standing.{Standing}
@@ -16,30 +15,11 @@ use Rattle.scrub_scan.specs.Standing.{IsStandingAt}
 use Rattle.scrub_scan.specs.Tiling.{IsTiling}
 use Rattle.scrub_check.specs.declared.status.Status.{Status}
 use Rattle.scrub_check.specs.declared.status.Status.TheVariants.{OutOfRange, Retired, PastPointer, Unreadable, NoFrame, WrongUuid, WrongLength, WrongDigest, Hidden, Sound}
-use Rattle.scrub_check.specs.Status.{end_of, InRange, HasUnreadableByte, CanStand, FindsFrame, NamesChunk, HasStatus, HasStatusInRetired, HasStatusInUse, HasStatusIn, is_retired}
+use Rattle.scrub_check.specs.Status.{CanStand, FindsFrame, NamesChunk, HasStatus, HasStatusInRetired, HasStatusInUse, HasStatusIn, is_retired}
 use Rattle.scrub_check.specs.Chunks.{frame_of_item}
-use Rattle.scrub_check.specs.Judged.{IsMismatch, Agrees, IsJudged}
+use Rattle.scrub_check.specs.Judged.{IsOther, IsMismatch, Agrees, IsJudged}
 use Rattle.scrub_check.specs.Looks.{IsFoundAt, IsOpen, IsSeenAt, IsToldByItems}
-use Rattle.scrub_check.proofs.Searches.{LiesBetween}
 use Rattle.scrub_check.proofs.Starts.{begins, begins_among}
-use Rattle.scrub_check.proofs.Gaps.{gap_pages, pages_gap}
-
--- the pages that a locator's frame would lie on
-pub record OnPages (image : Image) (l : Locator) (page first last : ℕ) : Type 0 where
-  pub size : page ≡ image.geometry.page
-  pub from : first ≡ l.offset / page
-  pub upto : last ≡ (end_of l - 1) / page
-
-last_byte : (l : Locator) → end_of l - 1 ≡ l.offset + (l.length + least_overhead) - 1
-last_byte l = omega arith
-
-pub unreadable : (image : Image) (l : Locator) (page first last : ℕ) → HasWholePages image → InRange image.geometry l → OnPages image l page first last →
-    LiesBetween (unreadable_pages image l.extent) first last ↔ HasUnreadableByte image l
-unreadable image l page first last whole in_range on =
-    let upto = on.upto ∙ ap (λ n. n / page) (last_byte l) in (
-      λ there. gap_pages image l.extent l.offset (l.length + least_overhead) page first last whole in_range.in_disk (omega (arith, in_range.in_extent)) (omega arith) on.size on.from upto there,
-      λ gap. pages_gap image l.extent l.offset (l.length + least_overhead) page first last whole in_range.in_disk (omega (arith, in_range.in_extent)) (omega arith) on.size on.from upto gap,
-    )
 
 -- what a clause says of the value that there is
 pub at_some : {A : Type 0} (P : A → Type 0) (o : Option A) (x : A) → o ≡ Some x → IfSome o P → P x
@@ -66,6 +46,19 @@ names_chunk image w l s can h a = record {
   length = sym h.frame.length ∙ a.length;
   digest = sym h.frame.digest ∙ a.digest;
 }
+
+-- a frame of another UUID or length isn't the one that the locator names
+pub other_is_mismatch : (l : Locator) (s : Standing) (status : Status) → IsOther l s.uuid s.length status → IsMismatch l s status
+other_is_mismatch l s WrongUuid other = other
+other_is_mismatch l s WrongLength other = other
+other_is_mismatch l s WrongDigest other = absurd other
+other_is_mismatch l s OutOfRange other = absurd other
+other_is_mismatch l s Retired other = absurd other
+other_is_mismatch l s PastPointer other = absurd other
+other_is_mismatch l s Unreadable other = absurd other
+other_is_mismatch l s NoFrame other = absurd other
+other_is_mismatch l s Hidden other = absurd other
+other_is_mismatch l s Sound other = absurd other
 
 -- what isn't the chunk that it names is told by the first reason
 mismatched : (image : Image) (w : ℕ) (l : Locator) (s : Standing) (status : Status) → CanStand image w l → IsStandingAt image w l.extent l.offset s → IsMismatch l s status → HasStatus image w l status

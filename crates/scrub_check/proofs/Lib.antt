@@ -20,6 +20,9 @@ pub mod Starts
 pub mod Gaps
 pub mod PlannedFindings
 pub mod Judged
+pub mod ClaimedFrames
+pub mod LeftPlaces
+pub mod RunLocators
 pub mod Payloads
 pub mod RunStates
 pub mod OneStatus

@@ -10,15 +10,13 @@ use Rattle.scrub_frame.specs.declared.locator.Locator.{Locator}
 use Rattle.scrub_super.specs.Plan.{PlanValue, pointer_of}
 use Rattle.scrub_scan.specs.Extent.{extent_of, FrameAt}
 use Rattle.scrub_scan.specs.OneFrame.{one_frame_at}
-use Rattle.scrub_scan.specs.declared.standing.Standing.{Standing}
-use Rattle.scrub_scan.specs.Standing.{IsStandingAt, Stands, HasPayload}
 use Rattle.scrub_run.specs.Entry.{EntryValue}
 use Rattle.scrub_run.specs.Run.{IsRun}
 use Rattle.scrub_check.specs.declared.status.Status.{Status}
 use Rattle.scrub_check.specs.declared.status.Status.TheVariants.{OutOfRange, Hidden, Sound}
 use Rattle.scrub_check.specs.declared.runs.RunState.{RunState}
 use Rattle.scrub_check.specs.declared.runs.RunState.TheVariants.{Read, BadChunk, NotARun}
-use Rattle.scrub_check.specs.ChunkRun.{standing_of, StandsThere, HasPayloadThere, HoldsRun, IsToldOf}
+use Rattle.scrub_check.specs.ChunkRun.{StandsThere, HasPayloadThere, HoldsRun, IsToldOf}
 use Rattle.scrub_check.specs.Status.{NamesChunk, HasStatus, HasStatusInRetired, HasStatusInUse, HasStatusIn, is_retired}
 use Rattle.scrub_check.specs.Runs.{NamesRun, IsRunOf, HasRunState, IsRunInUse, HasRunStateInUse, IsLostInRetired, IsRunIn, HasRunStateIn}
 use Rattle.scrub_check.proofs.RunStates.{named, unnamed, named_in_use}
@@ -59,23 +57,6 @@ has_payload image w l n = record {
 -- and no other one
 pub one_payload : (image : Image) (l : Locator) (a b : List ℕ) → HasPayloadThere image l a → HasPayloadThere image l b → a ≡ b
 one_payload image l a b h k = (one_frame_at (extent_of image l.extent (extent_bytes image.geometry)) l.offset h.form l.uuid a k.form l.uuid b h.has.frame.frame k.has.frame.frame).2
-
--- so what is read of what stands there is its payload
-pub read_there : (image : Image) (l : Locator) (s : Standing) (b : List ℕ) → StandsThere image l → s.extent ≡ l.extent → s.offset ≡ l.offset → HasPayload image s b → HasPayloadThere image l b
-read_there image l s b there extent offset h =
-    let has = there.stands.has in
-    let here : FrameAt (extent_of image l.extent (extent_bytes image.geometry)) l.offset s.form s.uuid b =
-    subst (λ (o : ℕ). FrameAt (extent_of image l.extent (extent_bytes image.geometry)) o s.form s.uuid b) offset
-    (subst (λ (e : ℕ). FrameAt (extent_of image e (extent_bytes image.geometry)) s.offset s.form s.uuid b) extent h.frame.frame) in
-    let same : there.stands.payload ≡ b = (one_frame_at (extent_of image l.extent (extent_bytes image.geometry)) l.offset there.form l.uuid there.stands.payload s.form s.uuid b has.frame.frame here).2 in
-    record { form = there.form; has = subst (λ (x : List ℕ). HasPayload image (standing_of l there.form) x) same has }
-
--- and what stands there stands in the image
-pub standing_there : (image : Image) (l : Locator) (s : Standing) → StandsThere image l → IsStandingAt image (extent_bytes image.geometry) l.extent l.offset s → Stands image s
-standing_there image l s there h = record {
-  payload = h.payload;
-  has = record { in_disk = omega (arith, h.in_extent, there.stands.has.in_disk); frame = h.frame };
-}
 
 -- so where the payload that is read is no run, the chunk holds none
 pub holds_none : (image : Image) (l : Locator) (b c : List ℕ) → HasPayloadThere image l b → c ≡ b → ((entries : List EntryValue) → ¬ IsRun c entries) → (entries : List EntryValue) → ¬ HoldsRun image l entries

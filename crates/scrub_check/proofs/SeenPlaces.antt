@@ -5,6 +5,7 @@ use Rattle.std.specs.List.Sorted.{IsBinarySearchResult}
 use Rattle.std.specs.Result.{result_ok}
 use Rattle.std.proofs.lemmas.List.Elements.{All-contains, Contains-get_or}
 use Rattle.scrub_check.specs.declared.sound_starts.Start.{Start}
+use Rattle.scrub_check.specs.declared.claims.Claim.{Claim}
 use Rattle.scrub_check.specs.declared.looks.Look.{Look}
 use Rattle.scrub_disk.specs.Image.{Image}
 use Rattle.scrub_scan.specs.declared.standing.Standing.{Standing}
@@ -25,6 +26,13 @@ look_found looks s (Ok j) i look is found at =
     let same : j ≡ i = cc in
     ap (λ x. x.start) at ∙ sym (ap (λ n. (get_or looks n look).start) same) ∙ start_exact (get_or looks j look).start s (found look)
 look_found looks s (Err j) i look is found at = absurd cc
+
+-- and so is a claim
+pub claim_found : (claims : List Claim) (s : Start) (r : Result ℕ ℕ) (i : ℕ) (claim : Claim) → result_ok r ≡ Some i → IsBinarySearchResult (λ claim. start_cmp claim.start s) claims r → claim ≡ get_or claims i claim → claim.start ≡ s
+claim_found claims s (Ok j) i claim is found at =
+    let same : j ≡ i = cc in
+    ap (λ x. x.start) at ∙ sym (ap (λ n. (get_or claims n claim).start) same) ∙ start_exact (get_or claims j claim).start s (found claim)
+claim_found claims s (Err j) i claim is found at = absurd cc
 
 -- what was found under a pointer is found under the same one
 pub found_at : (image : Image) (e p v w : ℕ) (found : Option Standing) → v ≡ w → IfSome found (IsStandingAt image v e p) → IfNone found (NoFrameAt (extent_of image e v) p) → IsFoundAt image w e p found

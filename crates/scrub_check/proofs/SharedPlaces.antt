@@ -20,7 +20,7 @@ use Rattle.scrub_check.specs.Shared.{by_place, IsShared, AreShared}
 use Rattle.scrub_check.specs.SoundStarts.{start_cmp, is_start, AreSoundStarts, place_counted, shared_by}
 use Rattle.scrub_check.proofs.Counts.{any_counts}
 use Rattle.scrub_check.proofs.Rising.{once_at_most}
-use Rattle.scrub_check.proofs.SortedStarts.{start_total, start_exact, count_sound}
+use Rattle.scrub_check.proofs.SortedStarts.{start_total, start_exact}
 
 pub by_place_total : IsTotalOrder by_place
 by_place_total = then_total (on_total (λ p. p.extent) nat_cmp_total) (on_total (λ p. p.offset) nat_cmp_total)
@@ -59,12 +59,12 @@ shared_found checked starts once places are distinct is = subst (λ (ps : List S
     several p = nat_lt 1 p.count
 
     counted : All (λ (p : SharedPlace). p.count ≡ sound_at checked p.extent p.offset) (map (place_counted starts) once)
-    counted = All-map (λ (p : SharedPlace). p.count ≡ sound_at checked p.extent p.offset) (place_counted starts) once (λ k d lt. count_sound checked starts _ _ are)
+    counted = All-map (λ (p : SharedPlace). p.count ≡ sound_at checked p.extent p.offset) (place_counted starts) once (λ k d lt. are _)
 
     there : (s : SharedPlace) → IsShared checked s → Contains (map (place_counted starts) once) s
     there s shared =
         let start : Start = record { extent = s.extent; offset = s.offset } in
-        let so_often : count_by (is_start start) starts ≡ s.count = count_sound checked starts s.extent s.offset are ∙ sym shared.counted in
+        let so_often : count_by (is_start start) starts ≡ s.count = are start ∙ sym shared.counted in
         let among : Contains once start = (distinct.same start).1 (counted_there starts start (omega (arith, so_often, shared.several))) in
         let itself : place_counted starts start ≡ s = λ i. record { extent = s.extent; offset = s.offset; count = so_often i } in
         subst (λ (p : SharedPlace). Contains (map (place_counted starts) once) p) itself (mapped_there (place_counted starts) once start among)
@@ -80,7 +80,7 @@ none_shared checked starts are rising = record {
   each = λ k d lt. absurd (omega (arith, lt));
   all = λ s shared.
       let start : Start = record { extent = s.extent; offset = s.offset } in
-      let so_often : count_by (is_start start) starts ≡ s.count = count_sound checked starts s.extent s.offset are ∙ sym shared.counted in
+      let so_often : count_by (is_start start) starts ≡ s.count = are start ∙ sym shared.counted in
       let few : count_by (is_start start) starts ≤ 1 = once_at_most start_total starts start rising in
       absurd (omega (arith, so_often, few, shared.several));
 }

@@ -4,7 +4,7 @@ use Rattle.std.proofs.Math.Path.{ap₂}
 use Rattle.std.specs.Ordering.{ordering_then, eq_by_cmp}
 use Rattle.std.specs.Cmp.{IsTotalOrder, nat_cmp_total}
 use Rattle.std.specs.List.{filter, count_by}
-use Rattle.std.specs.List.Sorted.{IsSorted, IsSearchInRange, IsBinarySearchResult}
+use Rattle.std.specs.List.Sorted.{IsPermutation, IsSorted, IsSearchInRange, IsBinarySearchResult}
 use Rattle.std.proofs.lemmas.Cmp.{then_total, on_total}
 use Rattle.std.proofs.lemmas.Bool.{and_parts, cases_lt}
 use Rattle.std.proofs.lemmas.Grind.{common_steps}
@@ -19,7 +19,7 @@ use Rattle.scrub_check.specs.Checked.{is_sound}
 use Rattle.scrub_scan.specs.declared.item.Item.{Item}
 use Rattle.scrub_scan.specs.Item.{start_of}
 use Rattle.scrub_check.specs.Live.{is_sound_at, sound_at, has_sound_at, is_chunk, is_live}
-use Rattle.scrub_check.specs.SoundStarts.{start_cmp, is_start, start_named, AreSoundStarts, is_live_by, is_named_by}
+use Rattle.scrub_check.specs.SoundStarts.{start_cmp, is_start, start_named, sound_starts, AreSoundStarts, is_live_by, is_named_by}
 use Rattle.scrub_check.proofs.Counts.{count_out, count_between, any_counts, any_at, rises_against}
 
 -- places are in a total order
@@ -78,9 +78,9 @@ pub count_named : (checked : List Checked) (e p : ℕ) → count_by (is_start (r
 count_named [] e p = refl
 count_named (c ∷ cs) e p = one_named c cs e p (is_sound c.status) refl (count_named cs e p)
 
-pub count_sound : (checked : List Checked) (starts : List Start) (e p : ℕ) → AreSoundStarts checked starts → count_by (is_start (record { extent = e; offset = p })) starts ≡ sound_at checked e p
-count_sound checked starts e p are =
-    sum_by-IsPermutation (λ t. cond (is_start (record { extent = e; offset = p }) t) 1 0) (map start_named (filter (λ c. is_sound c.status) checked)) starts are ∙ count_named checked e p
+-- so it is in whatever order they stand
+pub sound_in_order : (checked : List Checked) (starts : List Start) → IsPermutation (sound_starts checked) starts → AreSoundStarts checked starts
+sound_in_order checked starts same s = sum_by-IsPermutation (λ t. cond (is_start s t) 1 0) (sound_starts checked) starts same ∙ count_named checked s.extent s.offset
 
 -- a search finds a place exactly where it stands there
 pub found_counts : (starts : List Start) (s : Start) (r : Result ℕ ℕ) → IsSorted start_cmp starts → IsSearchInRange r (length starts) → IsBinarySearchResult (λ t. start_cmp t s) starts r →
@@ -97,7 +97,7 @@ found_counts starts s (Err i) sorted inside found =
 -- so it does where a sound locator points there
 pub found_sound : (checked : List Checked) (starts : List Start) (e p : ℕ) (found : Bool) → AreSoundStarts checked starts →
     found ≡ nat_lt 0 (count_by (is_start (record { extent = e; offset = p })) starts) → found ≡ has_sound_at checked e p
-found_sound checked starts e p found are is = is ∙ ap (λ n. nat_lt 0 n) (count_sound checked starts e p are) ∙ sym (any_counts (is_sound_at e p) checked)
+found_sound checked starts e p found are is = is ∙ ap (λ n. nat_lt 0 n) (are (record { extent = e; offset = p })) ∙ sym (any_counts (is_sound_at e p) checked)
 
 -- a live chunk is found by its start
 pub live_found : (checked : List Checked) (starts : List Start) (e : ℕ) (item : Item) → AreSoundStarts checked starts → is_live_by starts e item ≡ is_live checked e item

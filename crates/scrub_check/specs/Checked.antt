@@ -1,5 +1,5 @@
 -- The named locators with what they are worth, and the lists that are drawn from them alone.
-use Rattle.std.specs.Prelude.{◌≡◌, ◌&&◌, Bool, true, false, not, List, All, AllPairs, Contains, map}
+use Rattle.std.specs.Prelude.{◌≡◌, ◌&&◌, Bool, true, false, not, List, Option, MatchOption, All, AllPairs, Contains, map}
 use Rattle.std.specs.Str.{bytes_eq}
 use Rattle.std.specs.List.{filter, list_any}
 use Rattle.scrub_disk.specs.Image.{Image}
@@ -12,6 +12,7 @@ use Rattle.scrub_check.specs.declared.named.Named.{Named}
 use Rattle.scrub_check.specs.declared.checked.Checked.{Checked}
 use Rattle.scrub_check.specs.declared.status.Status.{Status}
 use Rattle.scrub_check.specs.declared.status.Status.TheVariants.{Hidden, Sound}
+use Rattle.scrub_check.specs.Looks.{IsOpen}
 use Rattle.scrub_check.specs.Status.{HasStatusIn}
 
 -- the locator and its owner
@@ -26,6 +27,10 @@ pub record IsChecked (image : Image) (plan : PlanValue) (name : Named) (c : Chec
 -- each locator has the status of its own
 abbrev pub HaveStatuses : Image → PlanValue → List Checked → Type 0
 HaveStatuses image plan checked = All (λ c. HasStatusIn image plan c.locator c.status) checked
+
+-- what is told of a named locator before its place is seen: its status, or that its place has to be
+abbrev pub IsToldBefore : Image → PlanValue → Named → Option Status → Type 0
+IsToldBefore image plan name told = MatchOption told (IsOpen image plan name.locator) (HasStatusIn image plan name.locator)
 
 -- these locators in their order, each with its status
 pub record AreChecked (image : Image) (plan : PlanValue) (names : List Named) (checked : List Checked) : Type 0 where

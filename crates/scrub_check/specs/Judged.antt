@@ -1,9 +1,17 @@
--- How the frame that stands at a locator's place is held against the locator.
-use Rattle.std.specs.Prelude.{◌≡◌, ◌≢◌, ◌⊎◌, Option, Some, None}
+-- How the frame that stands at a locator's place, or is claimed there, is held against the locator.
+use Rattle.std.specs.Prelude.{◌≡◌, ◌≢◌, ◌⊎◌, ℕ, List, Option, Some, None, MatchOption}
+use Rattle.scrub_frame.specs.declared.form.Form.TheVariants.{Plain}
+use Rattle.scrub_frame.specs.declared.frame.Head.{Head}
 use Rattle.scrub_frame.specs.declared.locator.Locator.{Locator}
 use Rattle.scrub_scan.specs.declared.standing.Standing.{Standing}
 use Rattle.scrub_check.specs.declared.status.Status.{Status}
 use Rattle.scrub_check.specs.declared.status.Status.TheVariants.{NoFrame, WrongUuid, WrongLength, WrongDigest}
+
+-- a frame of this UUID and this length isn't the one that the locator names, for the first reason that applies
+abbrev pub IsOther : Locator → List ℕ → ℕ → Status → Type 0
+IsOther l u n WrongUuid = u ≢ l.uuid
+IsOther l u n WrongLength = (u ≡ l.uuid) × (n ≢ l.length)
+IsOther l u n _ = ⊥
 
 -- the frame isn't the one that the locator names, for the first reason that applies
 abbrev pub IsMismatch : Locator → Standing → Status → Type 0
@@ -22,3 +30,9 @@ pub record Agrees (l : Locator) (s : Standing) : Type 0 where
 abbrev pub IsJudged : Locator → Option Standing → Status → Status → Type 0
 IsJudged l None agreeing status = status ≡ NoFrame
 IsJudged l (Some s) agreeing status = IsMismatch l s status ⊎ (Agrees l s × (status ≡ agreeing))
+
+-- what the frame that is claimed at the locator's place tells of it: no frame stands there where none is claimed, a plain one
+-- of another UUID or length is another one, and the rest is left to a look at the payload
+abbrev pub IsToldByClaim : Locator → Option Head → Option Status → Type 0
+IsToldByClaim l None told = told ≡ Some NoFrame
+IsToldByClaim l (Some h) told = MatchOption told (h.form ≡ Plain → (h.uuid ≡ l.uuid) × (h.length ≡ l.length)) (λ status. (h.form ≡ Plain) × IsOther l h.uuid h.length status)

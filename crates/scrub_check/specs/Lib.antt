@@ -9,6 +9,7 @@ pub mod Chunks
 pub mod Shared
 pub mod Candidates
 pub mod Kept
+pub mod SoundStarts
 pub use Rattle.scrub_disk.specs.Image
 pub use Rattle.scrub_super.specs.Plan
 pub use Rattle.scrub_scan.specs.Scanned
@@ -17,8 +18,8 @@ pub use Rattle.scrub_merge.specs.Binding
 -- The steps of the code.
 pub mod Judged
 pub mod Looks
+pub mod Seen
 pub mod ChunkRun
-pub mod SoundStarts
 pub mod Distinct
 pub mod ChunkUuids
 pub mod BrokenShards

@@ -1,22 +1,31 @@
--- What stands at places of a disk that are looked at, since the findings don't tell it.
-use Rattle.std.specs.Prelude.{◌≡◌, ◌<◌, ◌≤◌, ℕ, List, false, Option, Some, MatchOption, All}
-use Rattle.scrub_disk.specs.Image.{Image, extent_bytes}
+-- What stands at places of a disk that are looked at, since the findings don't tell it; and what is claimed there.
+use Rattle.std.specs.Prelude.{◌≡◌, ◌<◌, ◌≤◌, ◌+◌, ℕ, List, false, Option, Some, None, MatchOption, All, Contains}
+use Rattle.scrub_disk.specs.Image.{Image, byte, extent_bytes}
 use Rattle.scrub_frame.specs.declared.locator.Locator.{Locator}
 use Rattle.scrub_super.specs.Plan.{PlanValue, pointer_of}
+use Rattle.scrub_frame.specs.declared.frame.Head.{Head}
+use Rattle.scrub_frame.specs.Frame.{frame_overhead}
 use Rattle.scrub_scan.specs.declared.standing.Standing.{Standing}
-use Rattle.scrub_scan.specs.Extent.{extent_of, NoFrameAt}
-use Rattle.scrub_scan.specs.Standing.{IsStandingAt}
+use Rattle.scrub_scan.specs.Extent.{Extent, extent_of, NoFrameAt, HasGap}
+use Rattle.scrub_scan.specs.Standing.{IsStandingAt, IsClaimedAt}
 use Rattle.scrub_check.specs.declared.sound_starts.Start.{Start}
+use Rattle.scrub_check.specs.declared.claims.Claim.{Claim}
 use Rattle.scrub_check.specs.declared.looks.Look.{Look}
 use Rattle.scrub_check.specs.declared.status.Status.{Status}
+use Rattle.scrub_check.specs.Judged.{IsToldByClaim}
 use Rattle.scrub_check.specs.Status.{CanStand, BeginsAt, HasStatus, is_retired}
 
--- a place that can be looked at: in an extent that chunks are written to
+-- where a locator points
+abbrev pub start_named_by : Locator → Start
+start_named_by l = record { extent = l.extent; offset = l.offset }
+
+-- a place that can be looked at: in an extent in use
 pub record CanBeLookedAt (image : Image) (plan : PlanValue) (s : Start) : Type 0 where
   pub geometry : plan.geometry ≡ image.geometry
   pub from_one : 1 ≤ s.extent
   pub in_disk : s.extent < image.geometry.extents
   pub in_extent : s.offset ≤ extent_bytes image.geometry
+  pub in_use : is_retired plan s.extent ≡ false
 
 -- what was found at p of extent e: a frame that stands there, or none, and then none stands there
 abbrev pub IsFoundAt : Image → ℕ → ℕ → ℕ → Option Standing → Type 0
@@ -41,3 +50,33 @@ pub record IsOpen (image : Image) (plan : PlanValue) (l : Locator) : Type 0 wher
 -- what items tell of a locator whose frame would lie where it can be read: its status, or that none begins at its place
 abbrev pub IsToldByItems : Image → ℕ → Locator → Option Status → Type 0
 IsToldByItems image w l told = MatchOption told (¬ BeginsAt (extent_of image l.extent w) l.offset) (HasStatus image w l)
+
+-- the frame that is claimed at a place would end in its extent
+abbrev pub IsClaimedIn : Image → Start → Head → Type 0
+IsClaimedIn image s h = s.offset + h.length + frame_overhead h.form ≤ extent_bytes image.geometry
+
+-- it is claimed at p, and all its bytes can be read
+pub record IsReadableClaim (x : Extent) (p : ℕ) (h : Head) : Type 0 where
+  pub claimed : IsClaimedAt x p h
+  pub readable : ¬ HasGap x.byte p (h.length + frame_overhead h.form)
+
+-- what is claimed at a place: a frame whose bytes can all be read, or none, and then none stands there
+abbrev pub IsClaimSeen : Image → PlanValue → Start → Option Head → Type 0
+IsClaimSeen image plan s found = (w : ℕ) → pointer_of plan s.extent ≡ Some w → MatchOption found (NoFrameAt (extent_of image s.extent w) s.offset) (IsReadableClaim (extent_of image s.extent w) s.offset)
+
+-- claims each tell what is claimed at their place
+abbrev pub AreClaims : Image → PlanValue → List Claim → Type 0
+AreClaims image plan claims = All (λ claim. IsClaimSeen image plan claim.start claim.head) claims
+
+-- of a frame that is claimed, what is left where a byte of it can't be read: nothing
+abbrev pub AreReadableClaims : Image → Start → Option Head → Option Head → Type 0
+AreReadableClaims image s None left = left ≡ None
+AreReadableClaims image s (Some h) left = MatchOption left (HasGap (byte image s.extent) s.offset (h.length + frame_overhead h.form)) (λ k. (k ≡ h) × ¬ HasGap (byte image s.extent) s.offset (h.length + frame_overhead h.form))
+
+-- one of these claims tells the status of a locator
+pub record IsToldAmong (claims : List Claim) (l : Locator) : Type 0 where
+  pub claim : Claim
+  pub among : Contains claims claim
+  pub there : claim.start ≡ start_named_by l
+  pub status : Status
+  pub told : IsToldByClaim l claim.head (Some status)

@@ -1,5 +1,5 @@
 -- Which index runs are read, and what becomes of the others.
-use Rattle.std.specs.Prelude.{◌≡◌, ◌≤◌, ℕ, List, Option, Some, None, MatchBool, MatchOption}
+use Rattle.std.specs.Prelude.{◌≡◌, ◌≤◌, ◌<◌, ℕ, List, Option, Some, None, MatchBool, MatchOption, slice_index_or}
 use Rattle.std.specs.Prelude.{length as len}
 use Rattle.std.specs.List.{AllZip}
 use Rattle.scrub_disk.specs.Image.{Image}
@@ -63,3 +63,7 @@ pub record AreReadRuns (image : Image) (plan : PlanValue) (r : ReadRunsValue) : 
   pub count : len r.runs ≡ len plan.runs
   pub runs : AllZip (IsRunIn image plan) plan.runs r.runs
   pub states : AllZip (HasRunStateIn image plan) plan.runs r.states
+
+-- states told before: those of the runs that a plan names, or of the first of them, or none
+abbrev pub AreRunStates : Image → PlanValue → List RunState → Type 0
+AreRunStates image plan states = (k : ℕ) (l : Locator) (s : RunState) → k < len plan.runs → k < len states → HasRunStateIn image plan (slice_index_or plan.runs k l) (slice_index_or states k s)

@@ -1,9 +1,8 @@
 -- The places that sound locators point to, sorted by the code.
-use Rattle.std.specs.Prelude.{◌&&◌, ℕ, Bool, nat_lt, List, map}
+use Rattle.std.specs.Prelude.{◌≡◌, ◌&&◌, ℕ, Bool, nat_lt, List, map}
 use Rattle.std.specs.declared.cmp.Ordering.{Ordering}
 use Rattle.std.specs.Ordering.{nat_cmp, ordering_then, is_eq}
 use Rattle.std.specs.List.{filter, count_by}
-use Rattle.std.specs.List.Sorted.{IsPermutation}
 use Rattle.scrub_scan.specs.declared.item.Item.{Item}
 use Rattle.scrub_scan.specs.Item.{start_of}
 use Rattle.scrub_check.specs.declared.place.Place.{Place}
@@ -11,7 +10,7 @@ use Rattle.scrub_check.specs.declared.place.SharedPlace.{SharedPlace}
 use Rattle.scrub_check.specs.declared.checked.Checked.{Checked}
 use Rattle.scrub_check.specs.declared.sound_starts.Start.{Start}
 use Rattle.scrub_check.specs.Checked.{is_sound}
-use Rattle.scrub_check.specs.Live.{is_chunk, has_sound_at}
+use Rattle.scrub_check.specs.Live.{is_chunk, sound_at, has_sound_at}
 
 -- by extent, and then by byte
 abbrev pub start_cmp : Start → Start → Ordering
@@ -25,9 +24,13 @@ is_start a b = is_eq (start_cmp b a)
 abbrev pub start_named : Checked → Start
 start_named c = record { extent = c.locator.extent; offset = c.locator.offset }
 
--- the places that the sound ones point to, in some order
+-- the places that the sound ones point to, in their order
+abbrev pub sound_starts : List Checked → List Start
+sound_starts checked = map start_named (filter (λ c. is_sound c.status) checked)
+
+-- the same in some order: each place stands there as often as sound ones point to it
 abbrev pub AreSoundStarts : List Checked → List Start → Type 0
-AreSoundStarts checked starts = IsPermutation (map start_named (filter (λ c. is_sound c.status) checked)) starts
+AreSoundStarts checked starts = (s : Start) → count_by (is_start s) starts ≡ sound_at checked s.extent s.offset
 
 -- a sound locator points there
 abbrev pub has_sound_to : List Checked → Start → Bool

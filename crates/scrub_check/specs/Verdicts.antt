@@ -17,7 +17,7 @@ AreUnsoundExtents checked extents = IsPermutation (map (λ c. c.locator.extent) 
 
 -- both of these locators
 pub record AreVerdicts (checked : List Checked) (v : Verdicts) : Type 0 where
-  pub sound : AreSoundStarts checked v.sound
+  pub sound : AreSoundStarts checked v.sound.now
   pub unsound : AreUnsoundExtents checked v.unsound
 
 -- how many bytes below the write pointer of an extent no live chunk takes

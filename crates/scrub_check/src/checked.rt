@@ -1,15 +1,21 @@
 //! The named locators with what they are worth, and the lists that are drawn from them alone. What the locators point to
 //! is left to the lists of chunks.
 
-ghost use Rattle.std.specs.Prelude.{◌≡◌, IfOk, IfSome};
-ghost use Rattle.scrub_check.specs.Checked.{IsChecked, AreChecked, is_dangling, dangling, hidden};
-ghost use Rattle.scrub_check.specs.Looks.{CanBeLookedAt, AreLooks};
+ghost use Rattle.std.specs.Prelude.{◌≡◌, IfOk, IfSome, true, All, length};
+ghost use Rattle.std.specs.List.{AllZip};
+ghost use Rattle.scrub_disk.specs.Image.{Image};
+ghost use Rattle.scrub_super.specs.Plan.{PlanValue};
+ghost use Rattle.scrub_check.specs.Checked.{IsChecked, AreChecked, IsToldBefore, is_dangling, dangling, hidden};
+ghost use Rattle.scrub_check.specs.Looks.{IsOpen};
+ghost use Rattle.scrub_check.specs.Runs.{AreReadRuns, AreRunStates};
+ghost use Rattle.scrub_check.specs.Seen.{AreSeen};
+ghost use Rattle.scrub_check.specs.Status.{HasStatusIn};
 ghost use Rattle.scrub_check.specs.WholeScan.{IsWholeScan};
 
-use crate::looks::{Look, looks_at};
 use crate::named::{Named, Owner};
-use crate::sound_starts::Start;
-use crate::status::{Status, open_start, status_by};
+use crate::runs::{ReadRuns, RunState};
+use crate::seen::{Seen, see};
+use crate::status::{Status, status_by_looks, told_by_findings};
 use rayon::prelude::*;
 use scrub_disk::{OutOfMemory, PageSource};
 use scrub_frame::Locator;
@@ -29,52 +35,179 @@ pub struct Checked {
     pub status: Status,
 }
 
-/// Looks at the places of those locators of which the findings don't tell what they are worth, at each place once.
-fn looks_for<R: Threads + Sync, D: PageSource>(
+/// Whether two locators are one.
+fn are_one(one: &Locator, other: &Locator) -> bool
+    ensures { result ≡ true → (one.now.extent ≡ other.now.extent) × (one.now.offset ≡ other.now.offset) × (one.now.length ≡ other.now.length) × (one.now.uuid ≡ other.now.uuid) × (one.now.digest ≡ other.now.digest) }
+{
+    if one.extent != other.extent || one.offset != other.offset || one.length != other.length {
+        return false;
+    }
+    if one.uuid != other.uuid {
+        return false;
+    }
+    if one.digest != other.digest {
+        return false;
+    }
+    true
+}
+
+/// What the locator of an index run is worth by what became of the run, where no item begins at its place: it was judged
+/// before.
+fn told_by_run(plan: &Plan, states: &[RunState], one: &Named) -> Option<Status>
+    ensures { (image : Image) → AreRunStates image plan.now states.now → IsOpen image plan.now one.now.locator →
+        IfSome result (HasStatusIn image plan.now one.now.locator) }
+{
+    let Owner::Run(number) = one.owner else {
+        return None;
+    };
+    let runs = plan.runs();
+    let i = number as usize;
+    if i >= runs.len() || i >= states.len() || !are_one(&runs[i], &one.locator) {
+        return None;
+    }
+    match states[i] {
+        RunState::BadChunk(status) => Some(status),
+        RunState::Read | RunState::NotARun => Some(Status::Hidden),
+    }
+}
+
+/// What a named locator is worth, where the findings tell it, or what became of the index run that it is of.
+fn told_before<D: PageSource>(
+    disk: &D,
+    plan: &Plan,
+    all: &AllFindings<'_, D>,
+    states: &[RunState],
+    one: &Named,
+) -> Option<Status>
+    requires scan { IsWholeScan (D.image disk.now) plan.now all.now.extents }
+    requires states { AreRunStates (D.image disk.now) plan.now states.now }
+    ensures { IsToldBefore (D.image disk.now) plan.now one.now result }
+{
+    match told_by_findings(disk, plan, all, &one.locator) {
+        Some(status) => Some(status),
+        None => told_by_run(plan, states, one),
+    }
+}
+
+/// What each of these locators is worth, where that is told before its place is seen.
+fn all_told_before<R: Threads + Sync, D: PageSource>(
     rt: &R,
     alloc: Global,
     disk: &D,
     plan: &Plan,
     all: &AllFindings<'_, D>,
+    states: &[RunState],
     named: &[Named],
-) -> Result<Vec<Look>, OutOfMemory>
-    requires { IsWholeScan (D.image disk.now) plan.now all.now.extents }
-    ensures { IfOk result (λ v. AreLooks (D.image disk.now) plan.now v.items) }
+) -> Result<Vec<Option<Status>>, OutOfMemory>
+    requires scan { IsWholeScan (D.image disk.now) plan.now all.now.extents }
+    requires states { AreRunStates (D.image disk.now) plan.now states.now }
+    ensures count { IfOk result (λ v. length v.items ≡ length named.now) }
+    ensures told { IfOk result (λ v. AllZip (IsToldBefore (D.image disk.now) plan.now) named.now v.items) }
 {
-    let starts = named
+    let told = named
         .par_iter()
-        .filter_map(
-            |one: &Named| -> Option<Start>
-                requires { IsWholeScan (D.image disk.now) plan.now all.now.extents }
-                ensures { IfSome result (CanBeLookedAt (D.image disk.entry.now) plan.entry.now) }
-            { open_start(disk, plan, all, &one.locator) },
+        .map(
+            |one: &Named| -> Option<Status>
+                requires { IsWholeScan (D.image disk.now) plan.now all.now.extents × AreRunStates (D.image disk.now) plan.now states.now }
+                ensures { IsToldBefore (D.image disk.entry.now) plan.entry.now one.now result }
+            { told_before(disk, plan, all, states, one) },
         )
-        .collect::<Vec<Start>>(rt, alloc)?;
-    looks_at(rt, alloc, disk, plan, starts)
+        .collect::<Vec<Option<Status>>>(rt, alloc)?;
+    Ok(told)
 }
 
-/// A named locator with what it is worth, where some places were looked at before.
+/// The locators of which nothing is told yet.
+fn left_locators(
+    alloc: Global,
+    named: &[Named],
+    told: &[Option<Status>],
+) -> Result<Vec<Locator>, OutOfMemory>
+    requires { length told.now ≡ length named.now }
+    ensures { (image : Image) (plan : PlanValue) → AllZip (IsToldBefore image plan) named.now told.now →
+        IfOk result (λ v. All (IsOpen image plan) v.items) }
+{
+    let mut left = Vec::new(alloc);
+    for i in 0..named.len() {
+        if told[i].is_none() {
+            left.push(named[i].locator)?;
+        }
+    }
+    Ok(left)
+}
+
+/// A named locator with what it is worth, by what was told before, or else by what was seen at its place.
 fn check_one<D: PageSource>(
     alloc: Global,
     disk: &D,
     plan: &Plan,
     all: &AllFindings<'_, D>,
-    looks: &[Look],
+    seen: &Seen,
     one: &Named,
+    told: Option<Status>,
 ) -> Result<Checked, OutOfMemory>
     requires scan { IsWholeScan (D.image disk.now) plan.now all.now.extents }
-    requires looks { AreLooks (D.image disk.now) plan.now looks.now }
+    requires seen { AreSeen (D.image disk.now) plan.now seen.now }
+    requires told { IsToldBefore (D.image disk.now) plan.now one.now told }
     ensures { IfOk result (IsChecked (D.image disk.now) plan.now one.now) }
 {
+    let status = match told {
+        Some(status) => status,
+        None => status_by_looks(alloc, disk, plan, all, seen, &one.locator)?,
+    };
     Ok(Checked {
         owner: one.owner,
         locator: one.locator,
-        status: status_by(alloc, disk, plan, all, looks, &one.locator)?,
+        status,
     })
 }
 
-/// What each of these locators is worth, in their order, by as many threads as there are processors. A place that several
-/// of them point to is looked at once.
+/// These locators with what they are worth, in their order.
+fn check_each<D: PageSource>(
+    alloc: Global,
+    disk: &D,
+    plan: &Plan,
+    all: &AllFindings<'_, D>,
+    seen: &Seen,
+    named: &[Named],
+    told: &[Option<Status>],
+) -> Result<Vec<Checked>, OutOfMemory>
+    requires scan { IsWholeScan (D.image disk.now) plan.now all.now.extents }
+    requires seen { AreSeen (D.image disk.now) plan.now seen.now }
+    requires count { length told.now ≡ length named.now }
+    requires told { AllZip (IsToldBefore (D.image disk.now) plan.now) named.now told.now }
+    ensures { IfOk result (λ v. AreChecked (D.image disk.now) plan.now named.now v.items) }
+{
+    let mut checked = Vec::with_capacity(alloc, named.len())?;
+    for i in 0..named.len() {
+        let one = check_one(alloc, disk, plan, all, seen, &named[i], told[i])?;
+        checked.push(one)?;
+    }
+    Ok(checked)
+}
+
+/// What each of these locators is worth, where these states of index runs were told before.
+fn check_by<R: Threads + Sync, D: PageSource>(
+    rt: &R,
+    alloc: Global,
+    disk: &D,
+    plan: &Plan,
+    all: &AllFindings<'_, D>,
+    states: &[RunState],
+    named: &[Named],
+) -> Result<Vec<Checked>, OutOfMemory>
+    requires scan { IsWholeScan (D.image disk.now) plan.now all.now.extents }
+    requires states { AreRunStates (D.image disk.now) plan.now states.now }
+    ensures { IfOk result (λ v. AreChecked (D.image disk.now) plan.now named.now v.items) }
+{
+    let told = all_told_before(rt, alloc, disk, plan, all, states, named)?;
+    let left = left_locators(alloc, named, &told)?;
+    let seen = see(rt, alloc, disk, plan, all, &left)?;
+    check_each(alloc, disk, plan, all, &seen, named, &told)
+}
+
+/// What each of these locators is worth, in their order. The findings are searched, and the disk is looked at, by as many
+/// threads as there are processors. A place that several of them point to is looked at once, and its payload is hashed only
+/// where the UUID and the length in the head of the frame there are those of one of them.
 pub fn check_all<R: Threads + Sync, D: PageSource>(
     rt: &R,
     alloc: Global,
@@ -86,17 +219,25 @@ pub fn check_all<R: Threads + Sync, D: PageSource>(
     requires { IsWholeScan (D.image disk.now) plan.now all.now.extents }
     ensures { IfOk result (λ v. AreChecked (D.image disk.now) plan.now named.now v.items) }
 {
-    let looks = looks_for(rt, alloc, disk, plan, all, named)?;
-    let seen = looks.as_slice();
-    named
-        .par_iter()
-        .map(
-            |one: &Named| -> Result<Checked, OutOfMemory>
-                requires { IsWholeScan (D.image disk.now) plan.now all.now.extents × AreLooks (D.image disk.now) plan.now seen.now }
-                ensures { IfOk result (IsChecked (D.image disk.entry.now) plan.entry.now one.now) }
-            { check_one(alloc, disk, plan, all, seen, one) },
-        )
-        .collect::<Result<Vec<Checked>, OutOfMemory>>(rt, alloc)?
+    check_by(rt, alloc, disk, plan, all, &[], named)
+}
+
+/// What `check_all` gives, where the index runs were read before: what became of a run tells what its locator is worth, so
+/// that its place isn't looked at again.
+pub fn check_named<R: Threads + Sync, D: PageSource>(
+    rt: &R,
+    alloc: Global,
+    disk: &D,
+    plan: &Plan,
+    all: &AllFindings<'_, D>,
+    read: &ReadRuns,
+    named: &[Named],
+) -> Result<Vec<Checked>, OutOfMemory>
+    requires scan { IsWholeScan (D.image disk.now) plan.now all.now.extents }
+    requires read { AreReadRuns (D.image disk.now) plan.now read.now }
+    ensures { IfOk result (λ v. AreChecked (D.image disk.now) plan.now named.now v.items) }
+{
+    check_by(rt, alloc, disk, plan, all, read.states(), named)
 }
 
 /// Neither sound nor hidden.

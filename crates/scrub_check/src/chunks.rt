@@ -1,8 +1,9 @@
 //! The chunks of a disk at their places, which of them no sound locator names, and which have one UUID.
 
-ghost use Rattle.std.specs.Prelude.{◌≡◌, not, IfOk};
+ghost use Rattle.std.specs.Prelude.{◌≡◌, not, IfOk, List};
 ghost use Rattle.std.specs.List.{filter, filter_map};
-ghost use Rattle.scrub_check.specs.SoundStarts.{is_named_by};
+ghost use Rattle.scrub_check.specs.declared.checked.Checked.{Checked};
+ghost use Rattle.scrub_check.specs.SoundStarts.{AreSoundStarts, is_named_by};
 ghost use Rattle.scrub_check.specs.ChunkUuids.{is_twin_by};
 ghost use Rattle.scrub_check.specs.Chunks.{frame_of_item, place_of, chunks, orphans, twins};
 
@@ -110,8 +111,20 @@ pub fn orphans<D: PageSource>(
     ensures { IfOk result (λ v. v.items ≡ orphans all.now.extents checked.now) }
 {
     let sound = SoundStarts::of(alloc, checked)?;
+    orphans_by(alloc, all, &sound)
+}
+
+/// The same, where the places are known that sound locators point to.
+pub fn orphans_by<D: PageSource>(
+    alloc: Global,
+    all: &AllFindings<'_, D>,
+    sound: &SoundStarts,
+) -> Result<Vec<Place>, OutOfMemory>
+    ensures { (checked : List Checked) → AreSoundStarts checked sound.now →
+        IfOk result (λ v. v.items ≡ orphans all.now.extents checked) }
+{
     let chunks = all_chunks(alloc, all)?;
-    orphans_among(alloc, &chunks, &sound)
+    orphans_among(alloc, &chunks, sound)
 }
 
 /// Those of these chunks whose UUID is twice or more among these.

@@ -136,9 +136,21 @@ pub fn all_live_bytes<D: PageSource>(
     ensures { IfOk result (λ v. v.items ≡ map (live_bytes checked.now) all.now.extents) }
 {
     let sound = SoundStarts::of(alloc, checked)?;
+    all_live_bytes_by(alloc, all, &sound)
+}
+
+/// The same, where the places are known that sound locators point to.
+pub fn all_live_bytes_by<D: PageSource>(
+    alloc: Global,
+    all: &AllFindings<'_, D>,
+    sound: &SoundStarts,
+) -> Result<Vec<u32>, OutOfMemory>
+    ensures { (checked : List Checked) → AreSoundStarts checked sound.now →
+        IfOk result (λ v. v.items ≡ map (live_bytes checked) all.now.extents) }
+{
     let mut bytes = Vec::with_capacity(alloc, all.len())?;
     for i in 0..all.len() {
-        bytes.push(live_bytes_in(all.result_at(i), &sound))?;
+        bytes.push(live_bytes_in(all.result_at(i), sound))?;
     }
     Ok(bytes)
 }

@@ -1,5 +1,5 @@
-//! What stands at places of a disk where no item begins. Each place is looked at once, however many locators point to it;
-//! what these are worth is left to `status`.
+//! What stands at places of a disk where no item begins. Each place is looked at once, however many locators point to it,
+//! and its payload is hashed; what the locators are worth is left to `status`.
 
 ghost use Rattle.std.specs.Prelude.{◌≡◌, IfOk, IfSome, All, Contains};
 ghost use Rattle.scrub_check.specs.Distinct.{AreDistinct};
@@ -71,7 +71,7 @@ pub(crate) fn standing_at<D: PageSource>(
 }
 
 /// Some places, each once, by extent and then byte.
-fn each_once(starts: Vec<Start>) -> Result<Vec<Start>, OutOfMemory>
+pub(crate) fn each_once(starts: Vec<Start>) -> Result<Vec<Start>, OutOfMemory>
     ensures { IfOk result (λ v. AreDistinct start_cmp starts.items v.items) }
 {
     let mut starts = sorted(starts)?;

@@ -11,7 +11,7 @@ ghost use Rattle.scrub_scan.specs.Scanned.{Scanned, scanned};
 ghost use Rattle.scrub_scan.specs.AllFindings.{extent_numbers};
 ghost use Rattle.scrub_check.specs.declared.checked.Checked.{Checked};
 ghost use Rattle.scrub_check.specs.Live.{live_bytes};
-ghost use Rattle.scrub_check.specs.SoundStarts.{is_live_by};
+ghost use Rattle.scrub_check.specs.SoundStarts.{AreSoundStarts, is_live_by};
 ghost use Rattle.scrub_check.specs.Verdicts.{AreVerdicts, free_bytes, with_reclaimable};
 ghost use Rattle.scrub_check.specs.Candidates.{CandidateValue, has_sound_alone, is_half_garbage, is_reclaimable, candidate_of, by_free, reclaimable, AreCandidates};
 ghost use Rattle.scrub_check.specs.Kept.{CandidatesAreSafe};
@@ -37,22 +37,22 @@ fn are_past(pages: &[u32], page: u32, pointer: u32) -> bool
 }
 
 /// How many bytes below the write pointer of an extent no live chunk takes.
-fn free_bytes<D: PageSource>(verdicts: &Verdicts, found: &ExtentResult<'_, D>) -> u32
+fn free_bytes<D: PageSource>(verdicts: &Verdicts<'_>, found: &ExtentResult<'_, D>) -> u32
     ensures free { (checked : List Checked) → AreVerdicts checked verdicts.now → result ≡ free_bytes checked (scanned found.now) }
     ensures within { (checked : List Checked) → live_bytes checked (scanned found.now) ≤ (scanned found.now).pointer }
 {
-    found.pointer() - sum_of_live(found.findings().items(), &verdicts.sound, found.extent())
+    found.pointer() - sum_of_live(found.findings().items(), verdicts.sound, found.extent())
 }
 
 /// Whether each locator that names an extent is sound.
-fn has_sound_alone<D: PageSource>(verdicts: &Verdicts, found: &ExtentResult<'_, D>) -> bool
+fn has_sound_alone<D: PageSource>(verdicts: &Verdicts<'_>, found: &ExtentResult<'_, D>) -> bool
     ensures { (checked : List Checked) → AreVerdicts checked verdicts.now → result ≡ has_sound_alone checked (scanned found.now) }
 {
     !verdicts.unsound.has(found.extent())
 }
 
 /// Whether at least half of what was written to an extent is taken by no live chunk.
-fn is_half_garbage<D: PageSource>(verdicts: &Verdicts, found: &ExtentResult<'_, D>) -> bool
+fn is_half_garbage<D: PageSource>(verdicts: &Verdicts<'_>, found: &ExtentResult<'_, D>) -> bool
     ensures { (checked : List Checked) → AreVerdicts checked verdicts.now → result ≡ is_half_garbage checked (scanned found.now) }
 {
     2 * free_bytes(verdicts, found) as u64 >= found.pointer() as u64
@@ -61,7 +61,7 @@ fn is_half_garbage<D: PageSource>(verdicts: &Verdicts, found: &ExtentResult<'_, 
 /// Whether an extent may be reclaimed.
 fn is_reclaimable<D: PageSource>(
     geometry: Geometry,
-    verdicts: &Verdicts,
+    verdicts: &Verdicts<'_>,
     found: &ExtentResult<'_, D>,
 ) -> bool
     ensures { (checked : List Checked) → AreVerdicts checked verdicts.now → result ≡ is_reclaimable geometry checked (scanned found.now) }
@@ -95,14 +95,14 @@ fn starts_to_keep(
 /// An extent as a candidate.
 fn candidate_of<D: PageSource>(
     alloc: Global,
-    verdicts: &Verdicts,
+    verdicts: &Verdicts<'_>,
     found: &ExtentResult<'_, D>,
 ) -> Result<Candidate, OutOfMemory>
     ensures { (checked : List Checked) → AreVerdicts checked verdicts.now →
         IfOk result (λ c. c ≡ candidate_of checked (scanned found.now)) }
 {
     let extent = found.extent();
-    let keep = starts_to_keep(alloc, &verdicts.sound, extent, found.findings().items())?;
+    let keep = starts_to_keep(alloc, verdicts.sound, extent, found.findings().items())?;
     Ok(Candidate::new(extent, free_bytes(verdicts, found), keep))
 }
 
@@ -110,7 +110,7 @@ fn candidate_of<D: PageSource>(
 fn add_reclaimable<D: PageSource>(
     alloc: Global,
     geometry: Geometry,
-    verdicts: &Verdicts,
+    verdicts: &Verdicts<'_>,
     found: &ExtentResult<'_, D>,
     candidates: &mut Vec<Candidate>,
 ) -> Result<(), OutOfMemory>
@@ -128,7 +128,7 @@ fn add_reclaimable<D: PageSource>(
 fn all_reclaimable<D: PageSource>(
     alloc: Global,
     geometry: Geometry,
-    verdicts: &Verdicts,
+    verdicts: &Verdicts<'_>,
     all: &AllFindings<'_, D>,
 ) -> Result<Vec<Candidate>, OutOfMemory>
     ensures reclaimable { (checked : List Checked) → AreVerdicts checked verdicts.now →
@@ -178,10 +178,26 @@ pub fn candidates<D: PageSource>(
 ) -> Result<Vec<Candidate>, OutOfMemory>
     ensures { IfOk result (λ v. AreCandidates plan.now all.now.extents checked.now in_doubt v.items) }
 {
+    let sound = SoundStarts::of(alloc, checked)?;
+    candidates_by(alloc, plan, all, checked, &sound, in_doubt)
+}
+
+/// The same, where the places are known that sound locators point to.
+pub fn candidates_by<D: PageSource>(
+    alloc: Global,
+    plan: &Plan,
+    all: &AllFindings<'_, D>,
+    checked: &[Checked],
+    sound: &SoundStarts,
+    in_doubt: bool,
+) -> Result<Vec<Candidate>, OutOfMemory>
+    ensures { AreSoundStarts checked.now sound.now →
+        IfOk result (λ v. AreCandidates plan.now all.now.extents checked.now in_doubt v.items) }
+{
     if !knows_locators(plan, in_doubt) {
         return Ok(Vec::new(alloc));
     }
-    let verdicts = Verdicts::of(alloc, checked)?;
+    let verdicts = Verdicts::of(alloc, checked, sound)?;
     let mut candidates = all_reclaimable(alloc, plan.geometry(), &verdicts, all)?;
     sort_by_free(&mut candidates)?;
     Ok(candidates)

@@ -10,7 +10,7 @@ use crate::status::{Status, status_of};
 use scrub_disk::{OutOfMemory, PageSource};
 use scrub_frame::Locator;
 use scrub_run::{Run, RunFault, read_run};
-use scrub_scan::{AllFindings, frame_stands, read_payload};
+use scrub_scan::{AllFindings, Standing, claimed_frame, read_payload};
 use scrub_super::Plan;
 use std::alloc::Global;
 use std::marker::Model;
@@ -65,8 +65,8 @@ impl ReadRuns {
     }
 }
 
-/// The payload of the chunk that a locator names, where it stands. The locator doesn't tell the form of the frame, so this
-/// is looked up first.
+/// The payload of the chunk that a locator names, where it stands. The locator tells all of the frame but its form, which
+/// the head says.
 fn payload_of<D: PageSource>(
     alloc: Global,
     disk: &D,
@@ -76,10 +76,18 @@ fn payload_of<D: PageSource>(
     ensures { IfOk result (λ b. HasPayloadThere (D.image disk.now) locator.now b.items) }
 {
     let end = disk.geometry().extent_bytes();
-    match frame_stands(alloc, disk, end, locator.extent, locator.offset)? {
-        Some(standing) => read_payload(alloc, disk, &standing),
-        None => unreachable!(),
-    }
+    let Some(head) = claimed_frame(alloc, disk, end, locator.extent, locator.offset)? else {
+        unreachable!()
+    };
+    let standing = Standing {
+        extent: locator.extent,
+        offset: locator.offset,
+        form: head.form,
+        uuid: locator.uuid,
+        length: locator.length,
+        digest: locator.digest,
+    };
+    read_payload(alloc, disk, &standing)
 }
 
 /// The run in the chunk that a locator names, where it stands, or why it isn't one.

@@ -1,6 +1,6 @@
 //! Where among items an item begins at a place.
 
-ghost use Rattle.std.specs.Prelude.{◌≡◌, ◌≤◌, ◌<◌, ◌^◌, ℕ, IfSome, IfNone, Contains, map, length, slice_index};
+ghost use Rattle.std.specs.Prelude.{◌≡◌, ◌≤◌, ◌<◌, ◌+◌, ◌^◌, ℕ, List, IfSome, IfNone, Contains, map, length, slice_index};
 ghost use Rattle.std.specs.List.Sorted.{IsStrictlyIncreasing};
 ghost use Rattle.scrub_scan.specs.Item.{start_of};
 
@@ -15,26 +15,65 @@ pub struct Found {
     pub probes: u32,
 }
 
-/// The item that begins at a byte of the extent, among items whose starts rise. It halves the items with each that it
-/// looks at, so that these are at most as many as the number of items has binary digits.
-pub fn find_start(items: &[Item], start: u32) -> Found
-    requires { IsStrictlyIncreasing (map start_of items.now) }
-    ensures found { IfSome result.at (λ i. (i < length items.now) × (slice_index (map start_of items.now) i ≡ start)) }
-    ensures none { IfNone result.at (¬ Contains (map start_of items.now) start) }
-    ensures probes { (digits : ℕ) → length items.now < 2 ^ digits → result.probes ≤ digits }
+/// Places that are shown one by one, and counted as they are. A search that sees them by this alone can't look at one that
+/// isn't counted.
+trait ShowsStarts {
+    /// The places, in their order.
+    ghost starts: { Self → List ℕ };
+    /// How many were shown, each as often as it was.
+    ghost shown: { Self → ℕ };
+
+    /// How many places there are.
+    fn count(&self) -> usize
+        ensures { result ≡ length (starts self.now) };
+
+    /// The place with this index.
+    fn start(&mut self, i: usize) -> u32
+        requires inside { i < length (starts self.old) }
+        requires counts { shown self.old + 1 < 2 ^ 32 }
+        ensures start { result ≡ slice_index (starts self.old) i }
+        ensures same { starts self.new ≡ starts self.old }
+        ensures one_more { shown self.new ≡ shown self.old + 1 };
+}
+
+/// Items whose starts are shown, and how many were.
+#[derive(Drop)]
+struct CountedItems<'a> {
+    items: &'a [Item],
+    shown: u32,
+}
+
+impl ShowsStarts for CountedItems<'_> {
+    ghost starts = { λ c. map start_of c.items.now };
+
+    ghost shown = { λ c. c.shown };
+
+    fn count(&self) -> usize {
+        self.items.len()
+    }
+
+    fn start(&mut self, i: usize) -> u32 {
+        self.shown += 1;
+        self.items[i].start()
+    }
+}
+
+/// The index of a place among places that rise. It halves them with each that it is shown.
+fn search<S: ShowsStarts>(among: &mut S, start: u32) -> Option<usize>
+    requires rising { IsStrictlyIncreasing (S.starts among.old) }
+    requires unseen { S.shown among.old ≡ 0 }
+    ensures found { IfSome result (λ i. (i < length (S.starts among.old)) × (slice_index (S.starts among.old) i ≡ start)) }
+    ensures none { IfNone result (¬ Contains (S.starts among.old) start) }
+    ensures few { (digits : ℕ) → length (S.starts among.old) < 2 ^ digits → S.shown among.new ≤ digits }
+    ensures some { 0 < length (S.starts among.old) → 1 ≤ S.shown among.new }
 {
     let mut low = 0;
-    let mut high = items.len();
-    let mut probes = 0;
+    let mut high = among.count();
     while low < high {
         let middle = low + (high - low) / 2;
-        probes += 1;
-        let other = items[middle].start();
+        let other = among.start(middle);
         if other == start {
-            return Found {
-                at: Some(middle),
-                probes,
-            };
+            return Some(middle);
         }
         if other < start {
             low = middle + 1;
@@ -42,5 +81,23 @@ pub fn find_start(items: &[Item], start: u32) -> Found
             high = middle;
         }
     }
-    Found { at: None, probes }
+    None
+}
+
+/// The item that begins at a byte of the extent, among items whose starts rise. It halves the items with each that it
+/// looks at, so that these are at most as many as the number of items has binary digits; where there are items it looks at
+/// one at least.
+pub fn find_start(items: &[Item], start: u32) -> Found
+    requires { IsStrictlyIncreasing (map start_of items.now) }
+    ensures found { IfSome result.at (λ i. (i < length items.now) × (slice_index (map start_of items.now) i ≡ start)) }
+    ensures none { IfNone result.at (¬ Contains (map start_of items.now) start) }
+    ensures probes { (digits : ℕ) → length items.now < 2 ^ digits → result.probes ≤ digits }
+    ensures looked { 0 < length items.now → 1 ≤ result.probes }
+{
+    let mut among = CountedItems { items, shown: 0 };
+    let at = search(&mut among, start);
+    Found {
+        at,
+        probes: among.shown,
+    }
 }

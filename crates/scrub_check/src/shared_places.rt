@@ -4,7 +4,7 @@ ghost use Rattle.std.specs.Prelude.{◌≡◌, IfOk, List};
 ghost use Rattle.scrub_check.specs.declared.place.SharedPlace.{SharedPlace};
 ghost use Rattle.scrub_check.specs.declared.checked.Checked.{Checked};
 ghost use Rattle.scrub_check.specs.Shared.{AreShared};
-ghost use Rattle.scrub_check.specs.SoundStarts.{place_counted, shared_by};
+ghost use Rattle.scrub_check.specs.SoundStarts.{AreSoundStarts, place_counted, shared_by};
 
 use crate::checked::Checked;
 use crate::place::SharedPlace;
@@ -43,11 +43,18 @@ pub fn shared(alloc: Global, checked: &[Checked]) -> Result<Vec<SharedPlace>, Ou
     ensures { IfOk result (λ v. AreShared checked.now v.items) }
 {
     let sound = SoundStarts::of(alloc, checked)?;
+    shared_by(alloc, &sound)
+}
+
+/// The same, where the places are known that sound locators point to.
+pub fn shared_by(alloc: Global, sound: &SoundStarts) -> Result<Vec<SharedPlace>, OutOfMemory>
+    ensures { (checked : List Checked) → AreSoundStarts checked sound.now → IfOk result (λ v. AreShared checked v.items) }
+{
     if sound.are_distinct() {
         return Ok(Vec::new(alloc));
     }
     let places = sound.distinct(alloc)?;
-    shared_among(alloc, &sound, &places)
+    shared_among(alloc, sound, &places)
 }
 
 /// A law: there is one list of shared places at most.

@@ -1,12 +1,11 @@
 //! The places that sound named locators point to, sorted, so that whether one points to a place is found by search.
 
-ghost use Rattle.std.specs.Prelude.{◌≡◌, ◌↔◌, nat_lt, IsTrue, IfOk, List, map};
-ghost use Rattle.std.specs.List.{count_by, filter};
+ghost use Rattle.std.specs.Prelude.{◌≡◌, ◌↔◌, nat_lt, IsTrue, IfOk, List};
+ghost use Rattle.std.specs.List.{count_by};
 ghost use Rattle.std.specs.List.Sorted.{IsStrictlySortedBy};
 ghost use Rattle.scrub_check.specs.declared.checked.Checked.{Checked};
-ghost use Rattle.scrub_check.specs.Checked.{is_sound};
 ghost use Rattle.scrub_check.specs.Distinct.{AreDistinct};
-ghost use Rattle.scrub_check.specs.SoundStarts.{start_cmp, is_start, start_named, AreSoundStarts, has_sound_to};
+ghost use Rattle.scrub_check.specs.SoundStarts.{start_cmp, is_start, sound_starts, AreSoundStarts, has_sound_to};
 
 use crate::checked::Checked;
 use crate::sorted_list::{count_of, rises_strictly, sorted};
@@ -43,7 +42,7 @@ impl Model for SoundStarts {
 
 /// The places that the sound ones of these locators point to, in their order.
 fn starts_of(alloc: Global, checked: &[Checked]) -> Result<Vec<Start>, OutOfMemory>
-    ensures { IfOk result (λ v. v.items ≡ map start_named (filter (λ c. is_sound c.status) checked.now)) }
+    ensures { IfOk result (λ v. v.items ≡ sound_starts checked.now) }
 {
     checked
         .iter()
@@ -56,8 +55,8 @@ fn starts_of(alloc: Global, checked: &[Checked]) -> Result<Vec<Start>, OutOfMemo
 }
 
 impl SoundStarts {
-    /// The places that the sound ones of these locators point to.
-    pub(crate) fn of(alloc: Global, checked: &[Checked]) -> Result<SoundStarts, OutOfMemory>
+    /// The places that the sound ones of these locators point to. They are sorted once, here, for all that asks for them.
+    pub fn of(alloc: Global, checked: &[Checked]) -> Result<SoundStarts, OutOfMemory>
         ensures { IfOk result (AreSoundStarts checked.now) }
     {
         let starts = sorted(starts_of(alloc, checked)?)?;

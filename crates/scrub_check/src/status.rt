@@ -1,27 +1,31 @@
 //! What a locator is worth: whether the chunk that it names stands at its place.
 
-ghost use Rattle.std.specs.Prelude.{◌≡◌, ◌≤◌, ◌<◌, ◌+◌, ◌/◌, ◌↔◌, ℕ, Some, IfOk, IfSome, IfNone, IsTrue, Contains, map};
+ghost use Rattle.std.specs.Prelude.{◌≡◌, ◌≤◌, ◌<◌, ◌+◌, ◌↔◌, ℕ, Some, IfOk, IfSome, IfNone, IsTrue, map};
 ghost use Rattle.std.specs.List.Sorted.{IsStrictlyIncreasing};
 ghost use Rattle.scrub_disk.specs.Image.{Image, unreadable_pages};
 ghost use Rattle.scrub_super.specs.Plan.{PlanValue};
 ghost use Rattle.scrub_check.specs.WholeScan.{IsWholeScan};
 ghost use Rattle.scrub_check.specs.Status.{end_of, InRange, HasUnreadableByte, CanStand, HasStatus, HasStatusIn, ExactlyOne};
-ghost use Rattle.scrub_check.specs.Judged.{IsMismatch, Agrees, IsJudged};
-ghost use Rattle.scrub_scan.specs.AllFindings.{extent_numbers, findings_in};
+ghost use Rattle.scrub_check.specs.Judged.{IsOther, IsMismatch, Agrees, IsJudged, IsToldByClaim};
 ghost use Rattle.scrub_scan.specs.Extent.{extent_of};
 ghost use Rattle.scrub_scan.specs.Item.{start_of};
 ghost use Rattle.scrub_scan.specs.Tiling.{IsTiling};
-ghost use Rattle.scrub_check.specs.Looks.{CanBeLookedAt, AreLooks, IsOpen, IsToldByItems};
+ghost use Rattle.scrub_check.specs.Looks.{start_named_by, IsOpen, IsToldByItems, IsToldAmong};
+ghost use Rattle.scrub_check.specs.Seen.{AreSeen};
 
 use crate::chunks::frame_of_item;
-use crate::looks::{Look, standing_at};
+use crate::claims::{Claim, head_claimed_at, seen_claim};
+use crate::extents::{findings_of, has_gap};
+use crate::looks::standing_at;
 use crate::searching::find_start;
+use crate::seen::Seen;
 use crate::sound_starts::Start;
 use scrub_disk::{Geometry, OutOfMemory, PageSource};
-use scrub_frame::{LEAST_OVERHEAD, Locator};
-use scrub_scan::{AllFindings, Findings, Item, Standing};
+use scrub_frame::{Form, Head, LEAST_OVERHEAD, Locator};
+use scrub_scan::{AllFindings, Item, Standing};
 use scrub_super::Plan;
 use std::alloc::Global;
+use uuid::Uuid;
 
 /// What a locator is worth: the first of these that applies.
 #[derive(Debug, Clone, Copy, PartialEq, Eq)]
@@ -55,15 +59,6 @@ fn end_of(locator: &Locator) -> u64
     locator.offset as u64 + locator.length as u64 + LEAST_OVERHEAD as u64
 }
 
-/// Whether one of the pages from the first through the last is among some that rise.
-fn has_page_between(pages: &[u32], first: u32, last: u32) -> bool
-    requires { IsStrictlyIncreasing pages.now }
-    ensures { IsTrue result ↔ ((q : ℕ) × Contains pages.now q × (first ≤ q) × (q ≤ last)) }
-{
-    let i = pages.partition_point(|page| *page < first);
-    i < pages.len() && pages[i] <= last
-}
-
 /// Whether the frame that a locator names would lie in one of the extents that chunks are written to.
 fn lies_in_range(geometry: Geometry, locator: &Locator) -> bool
     ensures { IsTrue result ↔ InRange geometry locator.now }
@@ -73,16 +68,27 @@ fn lies_in_range(geometry: Geometry, locator: &Locator) -> bool
         && end_of(locator) <= geometry.extent_bytes() as u64
 }
 
+/// Why a frame of this UUID and this length isn't the one that a locator names, or `None` where both are its own.
+fn difference(locator: &Locator, uuid: Uuid, length: u32) -> Option<Status>
+    ensures other { IfSome result (IsOther locator.now uuid length) }
+    ensures same { IfNone result ((uuid ≡ locator.now.uuid) × (length ≡ locator.now.length)) }
+{
+    if uuid != locator.uuid {
+        return Some(Status::WrongUuid);
+    }
+    if length != locator.length {
+        return Some(Status::WrongLength);
+    }
+    None
+}
+
 /// Why a frame isn't the one that a locator names, or `None` where it is.
 fn mismatch(locator: &Locator, standing: &Standing) -> Option<Status>
     ensures other { IfSome result (IsMismatch locator.now standing.now) }
     ensures same { IfNone result (Agrees locator.now standing.now) }
 {
-    if standing.uuid != locator.uuid {
-        return Some(Status::WrongUuid);
-    }
-    if standing.length != locator.length {
-        return Some(Status::WrongLength);
+    if let Some(status) = difference(locator, standing.uuid, standing.length) {
+        return Some(status);
     }
     if standing.digest != locator.digest {
         return Some(Status::WrongDigest);
@@ -103,27 +109,14 @@ fn judged(locator: &Locator, standing: Option<Standing>, agreeing: Status) -> St
     }
 }
 
-/// The findings of an extent that was scanned.
-fn findings_of<'a, D: PageSource>(all: &'a AllFindings<'_, D>, extent: u32) -> &'a Findings
-    requires { Contains (extent_numbers all.now.extents) extent }
-    ensures { findings_in all.now.extents extent ≡ Some result.now }
-{
-    match all.of_extent(extent) {
-        Some(findings) => findings,
-        None => unreachable!(),
-    }
-}
-
 /// Whether a byte of the frame that a locator names can't be read, by the unreadable pages of its extent.
 fn is_unreadable<D: PageSource>(disk: &D, bad_pages: &[u32], locator: &Locator) -> bool
     requires in_range { InRange (D.image disk.now).geometry locator.now }
     requires pages { bad_pages.now ≡ unreadable_pages (D.image disk.now) locator.now.extent }
     ensures { IsTrue result ↔ HasUnreadableByte (D.image disk.now) locator.now }
 {
-    let page = disk.geometry().page();
-    let first = locator.offset / page;
-    let last = (end_of(locator) - 1) / page as u64;
-    has_page_between(bad_pages, first, last as u32)
+    let size = locator.length as u64 + LEAST_OVERHEAD as u64;
+    has_gap(disk, bad_pages, locator.offset, size)
 }
 
 /// What a locator is worth whose frame would lie where it can be read, by the item that begins at its place; `None` where
@@ -140,7 +133,7 @@ fn told_by_item(items: &[Item], locator: &Locator) -> Option<Status>
 }
 
 /// What a locator is worth, where the findings tell it; `None` where its place has to be looked at.
-fn told_by_findings<D: PageSource>(
+pub(crate) fn told_by_findings<D: PageSource>(
     disk: &D,
     plan: &Plan,
     all: &AllFindings<'_, D>,
@@ -168,46 +161,66 @@ fn told_by_findings<D: PageSource>(
     told_by_item(findings.items(), locator)
 }
 
-/// The place of a locator, where it has to be looked at.
-pub(crate) fn open_start<D: PageSource>(
-    disk: &D,
-    plan: &Plan,
-    all: &AllFindings<'_, D>,
-    locator: &Locator,
-) -> Option<Start>
-    requires { IsWholeScan (D.image disk.now) plan.now all.now.extents }
-    ensures { IfSome result (CanBeLookedAt (D.image disk.now) plan.now) }
+/// The place of a locator.
+pub(crate) fn start_of(locator: &Locator) -> Start
+    ensures { result ≡ start_named_by locator.now }
 {
-    match told_by_findings(disk, plan, all, locator) {
-        Some(_) => None,
-        None => Some(Start {
-            extent: locator.extent,
-            offset: locator.offset,
-        }),
+    Start {
+        extent: locator.extent,
+        offset: locator.offset,
     }
 }
 
-/// What a locator is worth in the image of a disk, of which some places were looked at before.
-pub(crate) fn status_by<D: PageSource>(
+/// What a locator is worth at whose place this frame is claimed, or none, where that is told without hashing a payload:
+/// that of a sealed frame says whether it stands at all.
+fn told_by_claim(locator: &Locator, claimed: Option<Head>) -> Option<Status>
+    ensures { IsToldByClaim locator.now claimed result }
+{
+    let Some(head) = claimed else {
+        return Some(Status::NoFrame);
+    };
+    match head.form {
+        Form::Plain => difference(locator, head.uuid, head.length),
+        Form::Sealed => None,
+    }
+}
+
+/// The place of a locator, where none of these claims tells what it is worth.
+pub(crate) fn untold_start(claims: &[Claim], locator: &Locator) -> Option<Start>
+    ensures start { IfSome result (λ s. s ≡ start_named_by locator.now) }
+    ensures told { IfNone result (IsToldAmong claims.now locator.now) }
+{
+    let start = start_of(locator);
+    let Some(claim) = seen_claim(claims, start) else {
+        return Some(start);
+    };
+    match told_by_claim(locator, claim.head) {
+        Some(_) => None,
+        None => Some(start),
+    }
+}
+
+/// What a locator is worth that the findings don't tell, by what is claimed at its place, and only where that doesn't tell
+/// it either by what stands there.
+pub(crate) fn status_by_looks<D: PageSource>(
     alloc: Global,
     disk: &D,
     plan: &Plan,
     all: &AllFindings<'_, D>,
-    looks: &[Look],
+    seen: &Seen,
     locator: &Locator,
 ) -> Result<Status, OutOfMemory>
     requires scan { IsWholeScan (D.image disk.now) plan.now all.now.extents }
-    requires looks { AreLooks (D.image disk.now) plan.now looks.now }
+    requires left { IsOpen (D.image disk.now) plan.now locator.now }
+    requires seen { AreSeen (D.image disk.now) plan.now seen.now }
     ensures { IfOk result (HasStatusIn (D.image disk.now) plan.now locator.now) }
 {
-    if let Some(status) = told_by_findings(disk, plan, all, locator) {
+    let start = start_of(locator);
+    let claimed = head_claimed_at(alloc, disk, plan, all, &seen.claims, start)?;
+    if let Some(status) = told_by_claim(locator, claimed) {
         return Ok(status);
     }
-    let start = Start {
-        extent: locator.extent,
-        offset: locator.offset,
-    };
-    let standing = standing_at(alloc, disk, plan, looks, start)?;
+    let standing = standing_at(alloc, disk, plan, &seen.looks, start)?;
     Ok(judged(locator, standing, Status::Hidden))
 }
 
@@ -223,7 +236,10 @@ pub fn status_of<D: PageSource>(
     requires { IsWholeScan (D.image disk.now) plan.now all.now.extents }
     ensures { IfOk result (HasStatusIn (D.image disk.now) plan.now locator.now) }
 {
-    status_by(alloc, disk, plan, all, &[], locator)
+    match told_by_findings(disk, plan, all, locator) {
+        Some(status) => Ok(status),
+        None => status_by_looks(alloc, disk, plan, all, &Seen::nothing(alloc), locator),
+    }
 }
 
 /// A law: exactly one status applies to a locator, under a write pointer and by a plan. Two that do are one, and it can't

@@ -6,6 +6,7 @@ ghost use Rattle.std.specs.Ordering.{nat_cmp};
 ghost use Rattle.std.specs.List.{filter, list_any};
 ghost use Rattle.std.specs.List.Sorted.{IsSorted};
 ghost use Rattle.scrub_check.specs.Checked.{is_sound};
+ghost use Rattle.scrub_check.specs.SoundStarts.{AreSoundStarts};
 ghost use Rattle.scrub_check.specs.Verdicts.{AreUnsoundExtents, AreVerdicts};
 
 use crate::checked::Checked;
@@ -36,9 +37,9 @@ impl Model for UnsoundExtents {
 
 /// What the named locators say of places and extents.
 #[derive(Drop)]
-pub struct Verdicts {
+pub struct Verdicts<'a> {
     /// The places that sound ones point to.
-    pub(crate) sound: SoundStarts,
+    pub(crate) sound: &'a SoundStarts,
     /// The extents that others name.
     pub(crate) unsound: UnsoundExtents,
 }
@@ -85,14 +86,16 @@ impl UnsoundExtents {
     }
 }
 
-impl Verdicts {
-    /// What these locators say.
-    pub(crate) fn of(alloc: Global, checked: &[Checked]) -> Result<Verdicts, OutOfMemory>
-        ensures { IfOk result (AreVerdicts checked.now) }
+impl<'a> Verdicts<'a> {
+    /// What these locators say, of which the places are known that the sound ones point to.
+    pub(crate) fn of(
+        alloc: Global,
+        checked: &[Checked],
+        sound: &'a SoundStarts,
+    ) -> Result<Verdicts<'a>, OutOfMemory>
+        ensures { AreSoundStarts checked.now sound.now → IfOk result (AreVerdicts checked.now) }
     {
-        Ok(Verdicts {
-            sound: SoundStarts::of(alloc, checked)?,
-            unsound: UnsoundExtents::of(alloc, checked)?,
-        })
+        let unsound = UnsoundExtents::of(alloc, checked)?;
+        Ok(Verdicts { sound, unsound })
     }
 }

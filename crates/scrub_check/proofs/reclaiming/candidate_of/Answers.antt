@@ -11,5 +11,5 @@ pub returns : goal.returns
 returns g c checked verdicts =
     let f : Scanned = scanned c.args.found.now in
     candidate_parts c.new.result (candidate_of checked f) c.extent-extent.result c.free_bytes.result c.in_ok-keep.keep.items c.new.ensures c.extent-extent.ensures (c.free_bytes.ensures.free checked verdicts)
-    (told_of_live (map start_of) c.in_ok-keep.keep.items checked c.args.verdicts.now.sound c.extent-extent.result f.extent c.items.result.now f.findings.items verdicts.sound c.extent-extent.ensures
+    (told_of_live (map start_of) c.in_ok-keep.keep.items checked c.args.verdicts.now.sound.now c.extent-extent.result f.extent c.items.result.now f.findings.items verdicts.sound c.extent-extent.ensures
     (c.items.ensures ∙ ap (λ (x : Findings). x.items) c.findings.ensures.value) c.in_ok-keep.ensures)

@@ -22,7 +22,7 @@ sum_of_live-requires g c =
 pub overflow_sub-result : goal.overflow_sub-result
 overflow_sub-result g c =
     let f : Scanned = scanned c.args.found.now in
-    let live : Item → Bool = is_live_by c.args.verdicts.now.sound c.extent.result in
+    let live : Item → Bool = is_live_by c.args.verdicts.now.sound.now c.extent.result in
     let some = kept_sizes (result_image c.args.found.now) f.extent f.pointer c.findings.result.now live c.findings.ensures.found in
     let same : sum_by size_of (filter live c.items.result.now) ≡ sum_by size_of (filter live c.findings.result.now.items) = ap (λ (is : List Item). sum_by size_of (filter live is)) c.items.ensures in
     omega (arith, some, same, c.pointer.ensures, c.sum_of_live.ensures)
@@ -38,5 +38,5 @@ pub returns-clause-free : goal.returns-clause-free
 returns-clause-free g c checked verdicts =
     let f : Scanned = scanned c.args.found.now in
     same_difference c.pointer.result c.sum_of_live.result f.pointer (live_bytes checked f) c.pointer.ensures
-    (told_of_live (sum_by size_of) c.sum_of_live.result checked c.args.verdicts.now.sound c.extent.result f.extent c.items.result.now f.findings.items verdicts.sound c.extent.ensures
+    (told_of_live (sum_by size_of) c.sum_of_live.result checked c.args.verdicts.now.sound.now c.extent.result f.extent c.items.result.now f.findings.items verdicts.sound c.extent.ensures
     (c.items.ensures ∙ ap (λ (x : Findings). x.items) c.findings.ensures.value) c.sum_of_live.ensures)

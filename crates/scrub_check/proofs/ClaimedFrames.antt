@@ -1,0 +1,62 @@
+-- What a frame that is claimed at a locator's place tells of the locator.
+use Rattle.std.proofs.Common.{◌≡◌, ◌+◌, ℕ, List, Option, Some, None, IfSome, IfNone, MatchOption, arith, sym, ◌∙◌, ap, subst}
+use Rattle.std.proofs.lemmas.Option.{same_Some}
+use Rattle.scrub_disk.specs.Image.{Image}
+use Rattle.scrub_frame.specs.declared.form.Form.TheVariants.{Plain}
+use Rattle.scrub_frame.specs.declared.frame.Head.{Head}
+use Rattle.scrub_frame.specs.declared.locator.Locator.{Locator}
+use Rattle.scrub_frame.specs.Frame.{frame_overhead}
+use Rattle.scrub_super.specs.Plan.{PlanValue}
+use Rattle.scrub_scan.specs.Extent.{extent_of, NoFrameAt}
+use Rattle.scrub_scan.specs.Standing.{IsClaimedAt, HasPlainFrame}
+use Rattle.scrub_scan.proofs.Claims.{only_frame, plain_frame}
+use Rattle.scrub_scan.proofs.FrameBytes.{no_gap}
+use Rattle.scrub_check.specs.declared.sound_starts.Start.{Start}
+use Rattle.scrub_check.specs.declared.status.Status.{Status}
+use Rattle.scrub_check.specs.declared.status.Status.TheVariants.{OutOfRange, Retired, PastPointer, Unreadable, NoFrame, WrongUuid, WrongLength, WrongDigest, Hidden, Sound}
+use Rattle.scrub_check.specs.Judged.{IsOther, IsToldByClaim}
+use Rattle.scrub_check.specs.Looks.{start_named_by, IsOpen, IsReadableClaim, IsClaimSeen, AreReadableClaims}
+use Rattle.scrub_check.specs.Status.{CanStand, FindsFrame, HasStatus, HasStatusIn}
+use Rattle.scrub_check.proofs.Judged.{told_under}
+
+-- another plain frame stands there
+other_frame : (image : Image) (w : ℕ) (l : Locator) (h : Head) (s : Status) → CanStand image w l → HasPlainFrame (extent_of image l.extent w) l.offset h → IsOther l h.uuid h.length s → HasStatus image w l s
+other_frame image w l h WrongUuid can f other = (h.uuid, (f.payload, record { can = can; form = Plain; frame = f.frame }, other))
+other_frame image w l h WrongLength can f other =
+    (f.payload, subst (λ (u : List ℕ). FindsFrame image w l u f.payload) other.0 (record { can = can; form = Plain; frame = f.frame }), λ e. other.1 (f.length ∙ e))
+other_frame image w l h WrongDigest can f other = absurd other
+other_frame image w l h OutOfRange can f other = absurd other
+other_frame image w l h Retired can f other = absurd other
+other_frame image w l h PastPointer can f other = absurd other
+other_frame image w l h Unreadable can f other = absurd other
+other_frame image w l h NoFrame can f other = absurd other
+other_frame image w l h Hidden can f other = absurd other
+other_frame image w l h Sound can f other = absurd other
+
+by_claim : (image : Image) (w : ℕ) (l : Locator) (found : Option Head) (told : Option Status) (s : Status) → CanStand image w l →
+    MatchOption found (NoFrameAt (extent_of image l.extent w) l.offset) (IsReadableClaim (extent_of image l.extent w) l.offset) → IsToldByClaim l found told → told ≡ Some s → HasStatus image w l s
+by_claim image w l None told s can none by is = subst (λ (t : Status). HasStatus image w l t) (same_Some NoFrame s (sym by ∙ is)) (can, none)
+by_claim image w l (Some h) told s can claim by is =
+    let other = subst (λ (t : Option Status). MatchOption t (h.form ≡ Plain → (h.uuid ≡ l.uuid) × (h.length ≡ l.length)) (λ status. (h.form ≡ Plain) × IsOther l h.uuid h.length status)) is by in
+    other_frame image w l h s can (plain_frame (extent_of image l.extent w) l.offset h claim.claimed other.0 claim.readable) other.1
+
+-- so what is told by what is claimed is the status
+pub judged_by_claim : (image : Image) (plan : PlanValue) (l : Locator) (found : Option Head) (told : Option Status) (s : Status) → IsOpen image plan l → IsClaimSeen image plan (start_named_by l) found →
+    IsToldByClaim l found told → told ≡ Some s → HasStatusIn image plan l s
+judged_by_claim image plan l found told s left seen by is =
+    told_under image plan left.pointer l s left.in_use left.is (by_claim image left.pointer l found told s left.can (seen left.pointer left.is) by is)
+
+-- what is claimed, and can be read, under the pointer of the extent
+pub claim_seen : (image : Image) (s : Start) (v w : ℕ) (claimed left : Option Head) → v ≡ w → IfSome claimed (IsClaimedAt (extent_of image s.extent v) s.offset) → IfNone claimed (NoFrameAt (extent_of image s.extent v) s.offset) →
+    AreReadableClaims image s claimed left → MatchOption left (NoFrameAt (extent_of image s.extent w) s.offset) (IsReadableClaim (extent_of image s.extent w) s.offset)
+claim_seen image s v w None left same some none is =
+    subst (λ (o : Option Head). MatchOption o (NoFrameAt (extent_of image s.extent w) s.offset) (IsReadableClaim (extent_of image s.extent w) s.offset)) (sym is)
+    (subst (λ (x : ℕ). NoFrameAt (extent_of image s.extent x) s.offset) same none)
+claim_seen image s v w (Some h) None same some none gap = λ f u b k.
+    let claim : IsClaimedAt (extent_of image s.extent w) s.offset h = subst (λ (x : ℕ). IsClaimedAt (extent_of image s.extent x) s.offset h) same some in
+    let is = only_frame (extent_of image s.extent w) s.offset h claim f u b k in
+    let round : frame_overhead h.form ≡ frame_overhead f = ap frame_overhead is.0 in
+    no_gap (extent_of image s.extent w) s.offset (h.length + frame_overhead h.form) f u b k (omega (arith, is.2, round)) gap
+claim_seen image s v w (Some h) (Some j) same some none is =
+    subst (λ (k : Head). IsReadableClaim (extent_of image s.extent w) s.offset k) (sym is.0)
+    (record { claimed = subst (λ (x : ℕ). IsClaimedAt (extent_of image s.extent x) s.offset h) same some; readable = is.1 })
