@@ -6,7 +6,6 @@ pub mod NoFloats
 pub mod KeyValues
 pub mod LocatorValues
 pub mod KeptEntries
-pub mod RunEntries
 pub mod OneReader
 pub mod OneIndex
 pub mod OneReport

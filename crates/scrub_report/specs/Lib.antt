@@ -9,3 +9,4 @@ pub mod Answer
 -- The steps of the code.
 pub mod Parts
 pub mod Keys
+pub mod Kept

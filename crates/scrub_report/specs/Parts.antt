@@ -5,7 +5,7 @@ use Rattle.scrub_super.specs.Chosen.{Choice, IsChoice}
 use Rattle.scrub_super.specs.Plan.{PlanValue, IsPlanOf}
 use Rattle.scrub_scan.specs.Scanned.{Scanned}
 use Rattle.scrub_scan.specs.AllFindings.{AreAllFindings}
-use Rattle.scrub_report.specs.declared.scrubbing.Parts.{Parts}
+use Rattle.scrub_report.specs.declared.parts.Parts.{Parts}
 use Rattle.scrub_report.specs.Scrubbed.{Scrubbed}
 
 -- what was chosen, planned and scanned is as it is in the image
@@ -14,16 +14,17 @@ pub record IsScan (image : Image) (choice : Choice) (plan : PlanValue) (all : Li
   pub planned : IsPlanOf choice plan
   pub scanned : AreAllFindings image plan all
 
--- the parts as what was found
-abbrev pub found_in : {D : Type 0} → Parts D → Scrubbed
-found_in p = record {
-  choice = p.chosen;
-  plan = p.plan;
-  all = p.all.extents;
-  read = p.read;
-  bindings = p.map;
-  checked = p.checked.items;
-  shared = p.shared.items;
-  broken = p.broken.items;
-  candidates = p.candidates.items;
-}
+module _ {D : Type 0} {s : _} where
+  -- the parts as what was found
+  abbrev pub found_in : Parts D s → Scrubbed
+  found_in p = record {
+    choice = p.chosen;
+    plan = p.plan;
+    all = p.all.extents;
+    read = p.read;
+    bindings = p.map;
+    checked = p.checked.items;
+    shared = p.shared.items;
+    broken = p.broken.items;
+    candidates = p.candidates.items;
+  }

@@ -1,17 +1,29 @@
-//! The recovered index: the run of the shards of the map that aren't broken.
+//! The recovered index: the run of the shards of the map that aren't broken, written from the bindings.
 
-ghost use Rattle.std.specs.Prelude.{◌≡◌, ◌++◌, ◌∷◌, [], ◌≤◌, ◌<◌, ◌^◌, ◌↔◌, All, AllPairs, Contains, IfOk, IsTrue, List, OnOk, length};
-ghost use Rattle.scrub_run.specs.Entry.{IsBelow};
+ghost use Rattle.std.specs.Prelude.{◌≡◌, ◌+◌, ◌*◌, ◌++◌, ◌≤◌, ◌<◌, ◌^◌, ◌↔◌, All, AllPairs, Contains, IfOk, IsTrue, List, OnOk, length, not};
+ghost use Rattle.std.specs.List.{flat_map};
+ghost use Rattle.scrub_run.specs.Entry.{IsBelow, entry_bytes};
 ghost use Rattle.scrub_run.specs.Run.{run_bytes};
 ghost use Rattle.scrub_check.specs.declared.checked.Checked.{Checked};
-ghost use Rattle.scrub_check.specs.Checked.{AreBrokenShards};
-ghost use Rattle.scrub_report.specs.Index.{index_entries};
+ghost use Rattle.scrub_check.specs.Checked.{AreBrokenShards, is_broken};
+ghost use Rattle.scrub_report.specs.Index.{index_entries, indexed};
+ghost use Rattle.scrub_report.specs.Kept.{all_locators};
 
 use scrub_check::Checked;
 use scrub_disk::OutOfMemory;
+use scrub_frame::{LOCATOR_BYTES, append_locators, digest_of};
 use scrub_merge::Binding;
-use scrub_run::{Entry, ShardId, write_run};
+use scrub_run::ShardId;
 use std::alloc::Global;
+
+/// What each run begins with: `RUN1`.
+const MAGIC: [u8; 4] = [0x52, 0x55, 0x4E, 0x31];
+
+/// The bytes of a run beside those of its entries: magic, number of entries, digest.
+const BARE_RUN_BYTES: usize = 40;
+
+/// The bytes of an entry beside those of its locators: identifier, number of locators.
+const BARE_ENTRY_BYTES: usize = 17;
 
 /// Whether a shard is among some, by a search.
 fn is_among(ids: &[ShardId], id: ShardId) -> bool
@@ -21,44 +33,73 @@ fn is_among(ids: &[ShardId], id: ShardId) -> bool
     ids.binary_search_by_key(&id, |other| *other).is_ok()
 }
 
-/// Appends the entry of a shard that isn't broken.
-fn append_entry(
-    entries: &mut Vec<Entry>,
-    alloc: Global,
-    binding: &Binding,
-    broken: &[ShardId],
-) -> Result<(), OutOfMemory>
+/// Whether a binding's shard isn't broken.
+fn is_kept(binding: &Binding, broken: &[ShardId]) -> bool
     requires { AllPairs IsBelow broken.now }
     ensures { (checked : List Checked) → AreBrokenShards checked broken.now →
-        OnOk result (entries.new.items ≡ entries.old.items ++ index_entries checked (binding.now ∷ [])) }
+        result ≡ not (is_broken checked binding.now.id) }
+{
+    !is_among(broken, binding.id())
+}
+
+/// How many shards aren't broken, and how many locators they have together.
+fn kept_sizes(bindings: &[Binding], broken: &[ShardId]) -> (usize, usize)
+    requires sorted { AllPairs IsBelow broken.now }
+    requires few { All (λ b. length b.locators ≤ 64) bindings.now }
+    requires count { length bindings.now < 2 ^ 32 }
+    ensures few { result.0 ≤ length bindings.now }
+    ensures bound { result.1 ≤ 64 * length bindings.now }
+    ensures entries { (checked : List Checked) → AreBrokenShards checked broken.now →
+        result.0 ≡ length (index_entries checked bindings.now) }
+    ensures locators { (checked : List Checked) → AreBrokenShards checked broken.now →
+        result.1 ≡ length (all_locators (index_entries checked bindings.now)) }
+{
+    let mut entries = 0;
+    let mut locators = 0;
+    for binding in bindings {
+        if is_kept(binding, broken) {
+            entries += 1;
+            locators += binding.locators().len();
+        }
+    }
+    (entries, locators)
+}
+
+/// Appends the entry that a binding is.
+fn append_entry(out: &mut Vec<u8>, binding: &Binding) -> Result<(), OutOfMemory>
+    requires { length binding.now.locators ≤ 64 }
+    ensures { OnOk result (out.new.items ≡ out.old.items ++ entry_bytes (indexed binding.now)) }
 {
     let id = binding.id();
-    if is_among(broken, id) {
-        return Ok(());
-    }
-    let locators = Vec::from_slice(alloc, binding.locators())?;
-    entries.push(Entry::new(id, locators))?;
+    let locators = binding.locators();
+    out.extend_from_slice(&id.0)?;
+    out.push(locators.len() as u8)?;
+    out.reserve(LOCATOR_BYTES * locators.len())?;
+    append_locators(out, locators);
     Ok(())
 }
 
-/// The entries of the shards that aren't broken, in their order.
-fn kept_entries(
-    alloc: Global,
+/// Appends the entries of the shards that aren't broken, in their order.
+fn append_kept(
+    out: &mut Vec<u8>,
     bindings: &[Binding],
     broken: &[ShardId],
-) -> Result<Vec<Entry>, OutOfMemory>
-    requires { AllPairs IsBelow broken.now }
+) -> Result<(), OutOfMemory>
+    requires sorted { AllPairs IsBelow broken.now }
+    requires few { All (λ b. length b.locators ≤ 64) bindings.now }
     ensures { (checked : List Checked) → AreBrokenShards checked broken.now →
-        IfOk result (λ entries. entries.items ≡ index_entries checked bindings.now) }
+        OnOk result (out.new.items ≡ out.old.items ++ flat_map entry_bytes (index_entries checked bindings.now)) }
 {
-    let mut entries = Vec::new(alloc);
     for binding in bindings {
-        append_entry(&mut entries, alloc, binding, broken)?;
+        if is_kept(binding, broken) {
+            append_entry(out, binding)?;
+        }
     }
-    Ok(entries)
+    Ok(())
 }
 
-/// The bytes of the recovered index, where these are the broken shards of the locators that were checked.
+/// The bytes of the recovered index, where these are the broken shards of the locators that were checked. They are made in
+/// the room that they take.
 pub(crate) fn index_bytes(
     alloc: Global,
     bindings: &[Binding],
@@ -66,12 +107,18 @@ pub(crate) fn index_bytes(
     broken: &[ShardId],
 ) -> Result<Vec<u8>, OutOfMemory>
     requires broken { AreBrokenShards checked.now broken.now }
-    requires rising { AllPairs (λ b c. IsBelow b.id c.id) bindings.now }
     requires few { All (λ b. length b.locators ≤ 64) bindings.now }
     requires count { length bindings.now < 2 ^ 32 }
     ensures { IfOk result (λ bytes. bytes.items ≡ run_bytes (index_entries checked.now bindings.now)) }
 {
     let _ = checked;
-    let entries = kept_entries(alloc, bindings, broken)?;
-    write_run(alloc, &entries)
+    let (entries, locators) = kept_sizes(bindings, broken);
+    let room = BARE_RUN_BYTES + BARE_ENTRY_BYTES * entries + LOCATOR_BYTES * locators;
+    let mut out = Vec::with_capacity(alloc, room)?;
+    out.extend_from_slice(&MAGIC)?;
+    out.extend_from_slice(&(entries as u32).to_be_bytes())?;
+    append_kept(&mut out, bindings, broken)?;
+    let digest = digest_of(&out);
+    out.extend_from_slice(&digest)?;
+    Ok(out)
 }

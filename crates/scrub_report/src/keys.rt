@@ -12,12 +12,12 @@ ghost use Rattle.scrub_report.specs.Report.{dangling_data, doubtful_ids, extents
 ghost use Rattle.scrub_report.specs.Scrubbed.{is_clean};
 
 use crate::extents::extents_value;
+use crate::parts::Parts;
 use crate::runs::runs_value;
-use crate::scrubbing::Parts;
 use crate::shards::doubtful_ids;
 use crate::sizes::{geometry_value, super_value};
 use crate::values::list_value;
-use scrub_check::{Checked, all_live_bytes, dangling, hidden, orphans, twins};
+use scrub_check::{Checked, all_live_bytes_by, dangling, hidden, orphans_by, twins};
 use scrub_disk::{OutOfMemory, PageSource};
 use scrub_merge::Binding;
 use scrub_scan::AllFindings;
@@ -46,26 +46,18 @@ fn doubtful_key(alloc: Global, bindings: &[Binding]) -> Result<Value, OutOfMemor
 }
 
 /// The value of `extents`.
-fn extents_key<D: PageSource>(
-    alloc: Global,
-    all: &AllFindings<'_, D>,
-    checked: &[Checked],
-) -> Result<Value, OutOfMemory>
-    ensures { IfOk result (λ v. view v ≡ extents_data checked.now all.now.extents) }
+fn extents_key<D: PageSource>(alloc: Global, parts: &Parts<'_, D>) -> Result<Value, OutOfMemory>
+    ensures { IfOk result (λ v. view v ≡ extents_data (found_in parts.now).checked (found_in parts.now).all) }
 {
-    let live = all_live_bytes(alloc, all, checked)?;
-    extents_value(alloc, all, &live)
+    let live = all_live_bytes_by(alloc, &parts.all, &parts.sound)?;
+    extents_value(alloc, &parts.all, &live)
 }
 
 /// The value of `orphans`.
-fn orphans_key<D: PageSource>(
-    alloc: Global,
-    all: &AllFindings<'_, D>,
-    checked: &[Checked],
-) -> Result<Value, OutOfMemory>
-    ensures { IfOk result (λ v. view v ≡ list (map place_data (orphans all.now.extents checked.now))) }
+fn orphans_key<D: PageSource>(alloc: Global, parts: &Parts<'_, D>) -> Result<Value, OutOfMemory>
+    ensures { IfOk result (λ v. view v ≡ list (map place_data (orphans (found_in parts.now).all (found_in parts.now).checked))) }
 {
-    list_value(alloc, &orphans(alloc, all, checked)?)
+    list_value(alloc, &orphans_by(alloc, &parts.all, &parts.sound)?)
 }
 
 /// The value of `twins`.
@@ -127,7 +119,7 @@ pub(crate) fn put_extents<D: PageSource>(
 {
     let candidates = list_value(alloc, &parts.candidates)?;
     put(report, alloc, "candidates", candidates)?;
-    let orphans = orphans_key(alloc, &parts.all, &parts.checked)?;
+    let orphans = orphans_key(alloc, parts)?;
     put(report, alloc, "orphans", orphans)?;
     let twins = twins_key(alloc, &parts.all)?;
     put(report, alloc, "twins", twins)?;
@@ -137,6 +129,6 @@ pub(crate) fn put_extents<D: PageSource>(
     put(report, alloc, "retired", retired)?;
     let superblock = super_value(alloc, &parts.chosen)?;
     put(report, alloc, "super", superblock)?;
-    let extents = extents_key(alloc, &parts.all, &parts.checked)?;
+    let extents = extents_key(alloc, parts)?;
     put(report, alloc, "extents", extents)
 }

@@ -9,6 +9,7 @@ mod index;
 mod keys;
 mod locators;
 pub mod order;
+mod parts;
 mod report;
 mod runs;
 mod scrubbing;

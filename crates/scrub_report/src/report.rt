@@ -7,7 +7,7 @@ ghost use Rattle.scrub_report.specs.Report.{report_data, report_text};
 ghost use Rattle.scrub_report.specs.Scrubbed.{Scrubbed, is_clean};
 
 use crate::keys::{put_extents, put_index, put_locators};
-use crate::scrubbing::Parts;
+use crate::parts::Parts;
 use scrub_disk::{OutOfMemory, PageSource};
 use serde_json::{Map, Value};
 use std::alloc::Global;

@@ -7,13 +7,13 @@ ghost use Rattle.scrub_report.specs.Parts.{IsScan, found_in};
 ghost use Rattle.scrub_report.specs.Scrubbed.{IsScrubbed, is_clean, is_clean_list, is_in_doubt};
 
 use crate::order::{are_clean_extents, is_clean_choice};
+use crate::parts::Parts;
 use scrub_check::{
-    Candidate, Checked, ReadRuns, SharedPlace, Status, broken_shards, candidates, check_all,
-    named_locators, read_runs, shared,
+    Checked, ReadRuns, SharedPlace, SoundStarts, Status, broken_shards, candidates_by, check_named,
+    named_locators, read_runs, shared_by,
 };
 use scrub_disk::{OutOfMemory, PageSource};
-use scrub_merge::{ShardMap, merge};
-use scrub_run::ShardId;
+use scrub_merge::merge;
 use scrub_scan::AllFindings;
 use scrub_super::{Chosen, Plan};
 use std::alloc::Global;
@@ -30,29 +30,6 @@ pub(crate) struct Scan<'d, D: PageSource> {
     pub plan: Plan,
     /// What lies in each planned extent.
     pub all: AllFindings<'d, D>,
-}
-
-/// What was found on a disk.
-#[derive(Drop)]
-pub(crate) struct Parts<'d, D: PageSource> {
-    /// Which superblock counts.
-    pub chosen: Chosen,
-    /// The plan that follows from it.
-    pub plan: Plan,
-    /// What lies in each planned extent.
-    pub all: AllFindings<'d, D>,
-    /// The index runs.
-    pub read: ReadRuns,
-    /// The shards that they bind.
-    pub map: ShardMap,
-    /// The named locators, and what they are worth.
-    pub checked: Vec<Checked>,
-    /// The places that several sound ones point to.
-    pub shared: Vec<SharedPlace>,
-    /// The shards of which a locator dangles.
-    pub broken: Vec<ShardId>,
-    /// The extents that may be reclaimed.
-    pub candidates: Vec<Candidate>,
 }
 
 /// Whether an index run is lost.
@@ -87,18 +64,20 @@ pub(crate) fn parts_of<'d, R: Threads + Sync, D: PageSource>(
     let read = read_runs(alloc, disk, &plan, &all)?;
     let map = merge(alloc, read.runs())?;
     let named = named_locators(alloc, &plan, &map)?;
-    let checked = check_all(rt, alloc, disk, &plan, &all, &named)?;
+    let checked = check_named(rt, alloc, disk, &plan, &all, &read, &named)?;
+    let sound = SoundStarts::of(alloc, &checked)?;
     let in_doubt = is_in_doubt(&chosen, &read);
     Ok(Parts {
-        shared: shared(alloc, &checked)?,
+        shared: shared_by(alloc, &sound)?,
         broken: broken_shards(alloc, &checked)?,
-        candidates: candidates(alloc, &plan, &all, &checked, in_doubt)?,
+        candidates: candidates_by(alloc, &plan, &all, &checked, &sound, in_doubt)?,
         chosen,
         plan,
         all,
         read,
         map,
         checked,
+        sound,
     })
 }
 
