@@ -25,6 +25,8 @@ mod frames;
 #[cfg(test)]
 mod geometries;
 #[cfg(test)]
+mod hidden_places;
+#[cfg(test)]
 mod index_runs;
 #[cfg(test)]
 mod lists;
