@@ -2,7 +2,10 @@
 
 ghost use Rattle.std.specs.Prelude.{◌≡◌, IfOk, is_none, is_some};
 ghost use Rattle.std.specs.List.{list_all, list_any};
-ghost use Rattle.scrub_check.specs.Checked.{is_sound};
+ghost use Rattle.scrub_check.specs.Checked.{is_sound, AreChecked};
+ghost use Rattle.scrub_check.specs.Named.{named};
+ghost use Rattle.scrub_check.specs.Runs.{AreReadRuns};
+ghost use Rattle.scrub_check.specs.WholeScan.{IsWholeScan};
 ghost use Rattle.scrub_report.specs.Parts.{IsScan, found_in};
 ghost use Rattle.scrub_report.specs.Scrubbed.{IsScrubbed, is_clean, is_clean_list, is_in_doubt};
 
@@ -13,7 +16,7 @@ use scrub_check::{
     named_locators, read_runs, shared_by,
 };
 use scrub_disk::{OutOfMemory, PageSource};
-use scrub_merge::merge;
+use scrub_merge::{ShardMap, merge};
 use scrub_scan::AllFindings;
 use scrub_super::{Chosen, Plan};
 use std::alloc::Global;
@@ -46,6 +49,24 @@ fn is_in_doubt(chosen: &Chosen, read: &ReadRuns) -> bool
     chosen.tie() || !chosen.bad_pages().is_empty() || has_lost_run(read)
 }
 
+/// The named locators, and what they are worth.
+fn judged_locators<R: Threads + Sync, D: PageSource>(
+    rt: &R,
+    alloc: Global,
+    disk: &D,
+    plan: &Plan,
+    all: &AllFindings<'_, D>,
+    read: &ReadRuns,
+    map: &ShardMap,
+) -> Result<Vec<Checked>, OutOfMemory>
+    requires scan { IsWholeScan (D.image disk.now) plan.now all.now.extents }
+    requires read { AreReadRuns (D.image disk.now) plan.now read.now }
+    ensures { IfOk result (λ v. AreChecked (D.image disk.now) plan.now (named plan.now.runs map.now) v.items) }
+{
+    let named = named_locators(alloc, plan, map)?;
+    check_named(rt, alloc, disk, plan, all, read, &named)
+}
+
 /// What is found on a disk, from what was chosen, planned and scanned.
 pub(crate) fn parts_of<'d, R: Threads + Sync, D: PageSource>(
     rt: &R,
@@ -63,8 +84,7 @@ pub(crate) fn parts_of<'d, R: Threads + Sync, D: PageSource>(
     } = scan;
     let read = read_runs(alloc, disk, &plan, &all)?;
     let map = merge(alloc, read.runs())?;
-    let named = named_locators(alloc, &plan, &map)?;
-    let checked = check_named(rt, alloc, disk, &plan, &all, &read, &named)?;
+    let checked = judged_locators(rt, alloc, disk, &plan, &all, &read, &map)?;
     let sound = SoundStarts::of(alloc, &checked)?;
     let in_doubt = is_in_doubt(&chosen, &read);
     Ok(Parts {
