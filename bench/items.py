@@ -17,7 +17,9 @@ import tempfile
 import time
 from collections import Counter
 from pathlib import Path
+from typing import NamedTuple
 
+PROGRAM = Path(__file__).resolve().parent.parent / "crates/scrub_cli/out/scrub_cli"
 PAGE, PAGES, EXTENTS = 4096, 16384, 2
 EXTENT = PAGE * PAGES
 IMAGE = EXTENT * EXTENTS
@@ -72,15 +74,36 @@ def write_image(path, pieces):
         os.fsync(file.fileno())
 
 
+class Run(NamedTuple):
+    """What one run took: seconds by the clock, seconds of all processors, peak memory in bytes; and its exit status."""
+    seconds: float
+    processor: float
+    memory: int
+    status: int
+
+
 def measured(words, answer):
-    """Runs the words with their output in a file. Returns seconds, peak memory in bytes, and the exit status."""
+    """Runs the words with their output in a file."""
     with open(answer, "wb") as out:
         begun = time.perf_counter()
         child = subprocess.Popen(words, stdin=subprocess.DEVNULL, stdout=out)
         _, ended, used = os.wait4(child.pid, 0)
         seconds = time.perf_counter() - begun
     child.returncode = os.waitstatus_to_exitcode(ended)
-    return seconds, used.ru_maxrss * 1024, child.returncode
+    return Run(seconds, used.ru_utime + used.ru_stime, used.ru_maxrss * 1024, child.returncode)
+
+
+def can_measure(programs, beside=()):
+    """Whether these programs are there, and those that they are measured beside. What isn't there is told."""
+    for program in programs:
+        if not (program.is_file() and os.access(program, os.X_OK)):
+            print(f"no program to measure: {program} (./shardscrub builds {PROGRAM})", file=sys.stderr)
+            return False
+    for name in beside:
+        if not shutil.which(name):
+            print(f"{name}, which the program is measured beside, is not found", file=sys.stderr)
+            return False
+    return True
 
 
 def compare(program, room, name, pieces, most_time, right):
@@ -89,15 +112,15 @@ def compare(program, room, name, pieces, most_time, right):
     write_image(image, pieces())
     ours, theirs, peak = [], [], 0
     for _ in range(TURNS):
-        seconds, memory, status = measured([program, *WORDS, image], answer)
+        run = measured([program, *WORDS, image], answer)
         with open(answer, encoding="utf-8") as lines:
             items = Counter(line.split(" ")[0] for line in lines)
-        if (status, items) != right:
-            print(f"{name}: wrong answer: status {status}, items {dict(items)}; right is {right[0]}, {right[1]}")
+        if (run.status, items) != right:
+            print(f"{name}: wrong answer: status {run.status}, items {dict(items)}; right is {right[0]}, {right[1]}")
             return False
-        ours.append(seconds)
-        peak = max(peak, memory)
-        theirs.append(measured(["sha256sum", image], answer)[0])
+        ours.append(run.seconds)
+        peak = max(peak, run.memory)
+        theirs.append(measured(["sha256sum", image], answer).seconds)
     our, their = statistics.median(ours), statistics.median(theirs)
     print(f"{name}: medians of {TURNS}: shardscrub {our:.3f} s, sha256sum {their:.3f} s")
     print(f"    time   {our / their:.2f} of sha256sum's, wanted at most {most_time}")
@@ -106,16 +129,11 @@ def compare(program, room, name, pieces, most_time, right):
 
 
 def main(arguments):
-    beside = Path(__file__).resolve().parent.parent / "crates/scrub_cli/out/scrub_cli"
-    program = Path(arguments[0]).resolve() if arguments else beside
+    program = Path(arguments[0]).resolve() if arguments else PROGRAM
     if len(arguments) > 1:
         print("usage: bench/items.py [PROGRAM]", file=sys.stderr)
         return 2
-    if not (program.is_file() and os.access(program, os.X_OK)):
-        print(f"no program to measure: {program} (./shardscrub builds crates/scrub_cli/out/scrub_cli)", file=sys.stderr)
-        return 2
-    if not shutil.which("sha256sum"):
-        print("sha256sum, which the program is measured beside, is not found", file=sys.stderr)
+    if not can_measure([program], ["sha256sum"]):
         return 2
     with tempfile.TemporaryDirectory(prefix="shardscrub-bench-") as room:
         within = [compare(str(program), room, *case) for case in CASES]

@@ -1,50 +1,59 @@
 #!/usr/bin/env python3
-"""Measures `shardscrub scan` beside `sha256sum` on three kinds of disk. It is no part of the gate.
+"""Measures `shardscrub scan` beside `sha256sum` on several kinds of disk. It is no part of the gate.
 
-usage: bench/scan.py [--mib SIZE] [--turns COUNT] [--workers N,..] [PROGRAM]
-                                                               (default: 512, 5, 1, crates/scrub_cli/out/scrub_cli)
-       bench/scan.py [--mib SIZE] --make FOLDER                makes the images alone, and prints the words for each
+usage: bench/scan.py [--mib SIZE] [--turns COUNT] [--workers N,..] [--only NAME]... [PROGRAM]...
+           (default: 512, 3, 0,1,3, all disks, crates/scrub_cli/out/scrub_cli)
+       bench/scan.py [--mib SIZE] --make FOLDER
+           makes the images alone, and prints the words for each
 
-The disks, each of SIZE MiB:
+The disks, each of SIZE MiB where nothing else is said; all payloads are random:
 
-large chunks   frames of 64 KiB to 1 MiB in extents of 4 MiB, a superblock, and four runs that name each chunk once;
-small chunks   frames of 138 bytes in extents of 8 MiB, and as many runs, of one extent each, as name each chunk once. A
-               locator takes 60 bytes for each chunk of 138, so 512 MiB have 2.6 million chunks, each of them named.
-               (With --mib 704 there are 3.6 million. Extents of 4 MiB would need more than the 32 runs of a
-               superblock.) Half and a quarter of the size are measured too, to see how time grows;
-damage         frames of 64 KiB to 1 MiB that fill pages of 64 KiB, no superblock, every tenth frame spoilt in its last
-               byte, every 50th page named as unreadable.
+large          payloads of 64 KiB to 1 MiB in extents of 4 MiB, a superblock, and four runs that name each chunk once;
+half-sealed    the same, and every second chunk is sealed;
+middle         the same with payloads of 500 to 4,000 bytes, and a run for each 64 MiB;
+small          payloads of 100 bytes in extents of 8 MiB, shards of one chunk with random identifiers, and as many runs as
+               it takes. The runs take 77 bytes for each chunk of 138, so 512 MiB have 2.4 million chunks;
+small-quarter  the same on a quarter of SIZE, to see how time grows;
+small-extents  65,536 extents of 4 pages of 64 bytes, full of chunks of which nobody knows, since there is no superblock;
+damage         payloads of 64 KiB to 1 MiB that fill pages of 64 KiB, no superblock, every tenth chunk spoilt in its last
+               byte, every 50th page named as unreadable;
+zeros          a disk that was never written to: all zero, without a superblock;
+unwritten      all zero but for a superblock, whose write pointers are all 0.
 
-Both programs read the same file by turns, the scan with each of the numbers of workers given. sha256sum hashes all of it, and the scan what it has to: the payload of each
-chunk, and of the superblock and of each run once more the bytes that its own digest is for. Exit status: 0 where all
-is within what is wanted, 1 where something is beyond it or an answer is wrong, 2 where nothing can be measured.
+All programs read the same file by turns, and the scan with each of the numbers of workers. What is printed is a table of
+the least time that each took and of the most memory. sha256sum hashes the whole file, and its time is told for as many bytes
+as the scan has to hash: the payload of each chunk, and of the superblock and of each run once more the bytes that its own
+digest is for. Loading is `items` of an extent under the write pointer 0, which prints nothing.
+
+What is wanted, and not owed: of sha256sum's time for each hashed byte at most 1.2 on large chunks, and on small ones 2 by no
+workers and less by 3; zeros at the speed of loading; beside the image at most 400 bytes an item. Exit status: 0 where all
+answers are right, 1 where one is wrong, 2 where nothing can be measured.
 """
 import argparse
 import json
-import math
 import multiprocessing
 import os
 import random
-import shutil
-import statistics
 import struct
 import sys
 import tempfile
+from collections import Counter
 from hashlib import sha256
 from pathlib import Path
 
-from items import ROUND_PAYLOAD, head, measured
+from items import PROGRAM, ROUND_PAYLOAD, can_measure, head, measured
 
 KIB, MIB = 1 << 10, 1 << 20
-LEAST_FRAME, MOST_FRAME = 64 * KIB, MIB
+LEAST_LARGE, MOST_LARGE = 64 * KIB, MIB
 SMALL_PAYLOAD = 100
+SEALED_MAGIC, CLOSING_MARK = b"\xc5\x5f", b"\x3a\xa3"
+ROUND_SEALED = 72
 MOST_RUNS = 32
-MOST_LOCATORS = 64
+ENTRY = 17 + 60  # bytes that a shard of one chunk takes in a run
 
-MOST_TIME = 1.2  # of sha256sum's per hashed byte, on large chunks
-MOST_GROWTH = 1.1  # of time / (n log n), from a quarter of the size to all of it: n log n, and a tenth for chance
-MOST_MEMORY = 1.3  # of the image, and beside it
-MOST_ITEM = 400  # bytes an item
+
+def sealed_frame(uuid, payload):
+    return SEALED_MAGIC + head(uuid, len(payload))[2:] + sha256(payload).digest() + payload + uuid + CLOSING_MARK
 
 
 class Disk:
@@ -56,7 +65,7 @@ class Disk:
         self.chance = random.Random(1)
         self.pointers = []
         self.offset = self.extent_bytes
-        self.chunks = self.hashed = 0
+        self.chunks = self.sealed_chunks = self.hashed = 0
 
     def next_extent(self):
         self.pointers.append(0)
@@ -64,97 +73,113 @@ class Disk:
         self.file.seek(len(self.pointers) * self.extent_bytes)
 
     def room(self):
-        return self.extent_bytes - self.offset
+        """The longest payload that the extent still takes in a frame of either form; below 0 where it takes none."""
+        return self.extent_bytes - self.offset - ROUND_SEALED
 
-    def put(self, payload):
+    def put(self, payload, sealed=False):
         """Writes the payload's frame under a new UUID where the last one ended, and returns its locator."""
         uuid = self.chance.randbytes(16)
-        self.file.write(head(uuid, len(payload)) + payload + uuid)
+        frame = sealed_frame(uuid, payload) if sealed else head(uuid, len(payload)) + payload + uuid
+        self.file.write(frame)
         place = struct.pack(">III", len(self.pointers), self.offset, len(payload))
-        self.offset += len(payload) + ROUND_PAYLOAD
+        self.offset += len(frame)
         self.pointers[-1] = self.offset
         self.chunks += 1
+        self.sealed_chunks += sealed
         self.hashed += len(payload)
         return place + uuid + sha256(payload).digest()
 
-    def sealed(self, body):
+    def fill(self, count, least, most, half_sealed=False):
+        """Fills the next extents with payloads of `least` to `most` bytes, and returns the locators of all chunks."""
+        locators = []
+        for _ in range(count):
+            self.next_extent()
+            while self.room() >= least:
+                size = min(self.room(), self.chance.randint(least, most))
+                locators.append(self.put(self.chance.randbytes(size), half_sealed and self.chunks % 2 == 1))
+        return locators
+
+    def with_digest(self, body):
         self.hashed += len(body)
         return body + sha256(body).digest()
 
+    def put_runs(self, locators, runs, most):
+        """Names the chunks, in shards of up to `most` of them from anywhere on the disk, under random identifiers.
+
+        Puts as many runs of like size, each into an extent of its own, and returns their locators and the number of shards.
+        """
+        self.chance.shuffle(locators)
+        shards = []
+        while locators:
+            size = min(len(locators), self.chance.randint(1, most))
+            shards.append((self.chance.randbytes(16), locators[-size:]))
+            del locators[-size:]
+        named = []
+        for first in range(runs):
+            entries = sorted(shards[first::runs])
+            body = b"".join(name + bytes([len(chunks)]) + b"".join(chunks) for name, chunks in entries)
+            self.next_extent()
+            named.append(self.put(self.with_digest(b"RUN1" + struct.pack(">I", len(entries)) + body)))
+        return named, len(shards)
+
     def put_superblock(self, runs):
-        pointers = struct.pack(f">{self.extents - 1}I", *self.pointers)
+        """Puts it on page 0. It is of generation 1, and the extents that weren't come to have the pointer 0."""
+        pointers = self.pointers + [0] * (self.extents - 1 - len(self.pointers))
         sizes = struct.pack(">QIIIH", 1, self.page, self.pages, self.extents, len(runs))
         self.file.seek(0)
-        self.file.write(self.sealed(b"SSB1" + sizes + pointers + b"".join(runs)))
+        self.file.write(self.with_digest(b"SSB1" + sizes + struct.pack(f">{len(pointers)}I", *pointers) + b"".join(runs)))
 
-    def run_payloads(self, locators, count, most):
-        """Shards of up to `most` chunks from anywhere on the disk, dealt out to as many runs of like size.
+    def made(self, bad=(), **right):
+        """What is known of the finished image: the words for it, what has to be hashed, and the right answer.
 
-        Returns the payloads of the runs and the number of shards.
+        The answer is that of a clean disk of which each chunk is named, but for what is given.
         """
-        order = list(range(0, len(locators), 60))
-        self.chance.shuffle(order)
-        sizes, left = [], len(order)
-        while left:
-            sizes.append(min(left, self.chance.randint(1, most)))
-            left -= sizes[-1]
-        bodies, entries, at = [bytearray() for _ in range(count)], [0] * count, 0
-        for name in sorted(self.chance.randbytes(16) for _ in sizes):
-            size = sizes.pop()
-            chunks = (locators[place:place + 60] for place in order[at:at + size])
-            least = min(range(count), key=lambda run: len(bodies[run]))
-            bodies[least] += name + bytes([size]) + b"".join(chunks)
-            entries[least] += 1
-            at += size
-        payloads = [self.sealed(b"RUN1" + struct.pack(">I", number) + body) for number, body in zip(entries, bodies)]
-        return payloads, sum(entries)
-
-    def made(self, shards, bad=(), **right):
-        """What is known of the finished image: the words for it, what has to be hashed, and the right answer."""
         self.file.truncate(self.extents * self.extent_bytes)
         sizes = f"--page {self.page} --pages {self.pages} --extents {self.extents}".split()
-        clean = {"status": 0, "clean": True, "chunk": self.chunks, "lost": 0, "orphans": 0, "live": sum(self.pointers)}
-        none = dict.fromkeys(("broken", "candidates", "dangling", "doubtful", "hidden", "shared", "twins"), 0)
+        lists = dict.fromkeys("broken candidates dangling doubtful hidden orphans shared twins".split(), 0)
+        chunks = {"chunk": self.chunks - self.sealed_chunks, "sealed": self.sealed_chunks, "torn": 0, "noise": 0, "lost": 0}
+        whole = {"status": 0, "clean": True, "shards": 0, "live": sum(self.pointers)}
         return {"sizes": sizes, "bad": [f"{extent}:{page}" for extent, page in bad], "hashed": self.hashed,
-                "bytes": self.extents * self.extent_bytes, "right": clean | none | {"shards": shards} | right}
+                "bytes": self.extents * self.extent_bytes, "right": lists | chunks | whole | right}
 
 
-def large_chunks(file, mib):
-    disk = Disk(file, 4 * KIB, KIB, mib // 4)
-    locators = bytearray()
-    for _ in range(1, disk.extents - 1):
-        disk.next_extent()
-        while disk.room() >= LEAST_FRAME:
-            size = min(disk.room(), disk.chance.randint(LEAST_FRAME, MOST_FRAME))
-            locators += disk.put(disk.chance.randbytes(size - ROUND_PAYLOAD))
-    payloads, shards = disk.run_payloads(locators, 4, 8)
-    disk.next_extent()
-    disk.put_superblock([disk.put(payload) for payload in payloads])
-    return disk.made(shards)
+def named(file, mib, extent_mib, runs, least, most, shard=8, half_sealed=False):
+    """A clean disk full of chunks, each of which is named once."""
+    disk = Disk(file, 4 * KIB, extent_mib * MIB // (4 * KIB), mib // extent_mib)
+    locators = disk.fill(disk.extents - 1 - runs, least, most, half_sealed)
+    listed, shards = disk.put_runs(locators, runs, shard)
+    disk.put_superblock(listed)
+    return disk.made(shards=shards)
 
 
-def small_chunks(file, mib):
-    disk = Disk(file, 4 * KIB, 2 * KIB, mib // 8)
-    frame = SMALL_PAYLOAD + ROUND_PAYLOAD
-    each = disk.extent_bytes // frame
-    # A locator takes 60 bytes of a run, and 17 bytes an entry are shared by half of the most locators: below 61 in all.
-    runs = next(runs for runs in range(1, disk.extents)
-                if (disk.extents - 1 - runs) * each * 61 <= runs * (disk.extent_bytes - 64 * KIB))
+def large(file, mib, extent_mib=4, runs=4):
+    return named(file, mib, extent_mib, runs, LEAST_LARGE, MOST_LARGE)
+
+
+def half_sealed(file, mib):
+    return named(file, mib, 4, 4, LEAST_LARGE, MOST_LARGE, half_sealed=True)
+
+
+def middle(file, mib):
+    return named(file, mib, 4, mib // 64, 500, 4000)
+
+
+def small(file, mib):
+    extents = mib // 8
+    each = 8 * MIB // (SMALL_PAYLOAD + ROUND_PAYLOAD) * ENTRY
+    runs = next(runs for runs in range(1, extents) if (extents - 1 - runs) * each <= runs * (8 * MIB - KIB))
     assert runs <= MOST_RUNS
-    locators = bytearray()
-    for _ in range(1, disk.extents - runs):
-        disk.next_extent()
-        bytes_of_all = disk.chance.randbytes(each * SMALL_PAYLOAD)
-        for at in range(0, len(bytes_of_all), SMALL_PAYLOAD):
-            locators += disk.put(bytes_of_all[at:at + SMALL_PAYLOAD])
-    payloads, shards = disk.run_payloads(locators, runs, MOST_LOCATORS)
-    locators.clear()
-    named = []
-    for payload in payloads:
-        disk.next_extent()
-        named.append(disk.put(payload))
-    disk.put_superblock(named)
-    return disk.made(shards)
+    return named(file, mib, 8, runs, SMALL_PAYLOAD, SMALL_PAYLOAD, shard=1)
+
+
+def small_quarter(file, mib):
+    return small(file, mib // 4)
+
+
+def small_extents(file, _):
+    disk = Disk(file, 64, 4, 1 << 16)
+    disk.fill(disk.extents - 1, 3, 30)
+    return disk.made(status=1, clean=False, orphans=disk.chunks, live=0)
 
 
 def damage(file, mib):
@@ -163,8 +188,8 @@ def damage(file, mib):
     standing, hashed = 0, 0
     for extent in range(1, disk.extents):
         disk.next_extent()
-        while pages := disk.room() // disk.page:
-            size = min(pages, disk.chance.randint(1, MOST_FRAME // disk.page)) * disk.page
+        while pages := (disk.extent_bytes - disk.offset) // disk.page:
+            size = min(pages, disk.chance.randint(1, MOST_LARGE // disk.page)) * disk.page
             begun = disk.offset
             disk.put(disk.chance.randbytes(size - ROUND_PAYLOAD))
             spoilt = disk.chunks % 10 == 0
@@ -179,12 +204,34 @@ def damage(file, mib):
                 hashed += size - ROUND_PAYLOAD
     disk.hashed = hashed
     lost = sum(extent > 0 for extent, _ in bad)
-    return disk.made(0, bad, status=1, clean=False, chunk=standing, orphans=standing, live=0, lost=lost)
+    made = disk.made(bad, status=1, clean=False, chunk=standing, orphans=standing, live=0, lost=lost)
+    # What a chunk that doesn't stand leaves behind its first page is as its random bytes happen to be.
+    del made["right"]["torn"], made["right"]["noise"]
+    return made
 
 
-def make_image(kind, mib, path):
+def zeros(file, mib):
+    disk = Disk(file, 4 * KIB, KIB, mib // 4)
+    return disk.made(status=1, clean=False, pad=disk.pages * (disk.extents - 1))
+
+
+def unwritten(file, mib):
+    disk = Disk(file, 4 * KIB, KIB, mib // 4)
+    disk.put_superblock([])
+    return disk.made(pad=0)
+
+
+DISKS = (large, half_sealed, middle, small_quarter, small, small_extents, damage, zeros, unwritten)
+
+
+def name_of(kind):
+    return kind.__name__.replace("_", "-")
+
+
+def make_image(path, kind, *given):
+    """Makes such a disk there, and returns what is known of it."""
     with open(path, "w+b") as file:
-        made = kind(file, mib)
+        made = kind(file, *given)
         file.flush()
         os.fsync(file.fileno())
     assert os.path.getsize(path) == made["bytes"]
@@ -195,12 +242,12 @@ def judge(path, status):
     """What the report in this file says: the counts that are compared, and the number of all items."""
     with open(path, encoding="utf-8") as file:
         report = json.load(file)
-    kinds = [item.split(" ", 1)[0] for extent in report["extents"] for item in extent["items"]]
+    kinds = Counter(item.split(" ", 1)[0] for extent in report["extents"] for item in extent["items"])
     told = {key: len(value) for key, value in report.items() if isinstance(value, list)}
+    told |= {kind: kinds[kind] for kind in ("chunk", "sealed", "pad", "torn", "noise", "lost")}
     told |= {"status": status, "clean": report["clean"], "shards": report["shards"]}
-    told |= {"chunk": kinds.count("chunk"), "lost": kinds.count("lost")}
     told |= {"live": sum(extent["live"] for extent in report["extents"])}
-    return told, len(kinds)
+    return told, kinds.total()
 
 
 def apart(call, *arguments):
@@ -218,58 +265,43 @@ def is_right(name, made, answer, status):
     return None if wrong else items
 
 
-def compare(program, room, kind, mib, turns, workers):
-    """Prints one image's figures, unless an answer is wrong.
+def print_row(*cells):
+    print("| " + " | ".join(str(cell) for cell in cells) + " |", flush=True)
 
-    Returns for each number of workers the seconds, the number of items, the time per hashed byte of sha256sum's, and
-    whether the memory is within.
-    """
-    name, image, answer = kind.__name__.replace("_", " "), f"{room}/image", f"{room}/answer"
-    made = apart(make_image, kind, mib, image)
-    ours, peak, theirs, items = {n: [] for n in workers}, dict.fromkeys(workers, 0), [], 0
+
+def print_heads(*names):
+    print_row(*names)
+    print("|" + "---|" * len(names))
+
+
+def taken(runs):
+    """The least seconds that one of these runs took, of the clock and of processors, and the most memory."""
+    return min(run.seconds for run in runs), min(run.processor for run in runs), max(run.memory for run in runs)
+
+
+def compare(programs, room, kind, mib, turns, workers):
+    """Prints one image's rows of the table, and returns whether all answers are right."""
+    name, image, answer = name_of(kind), f"{room}/image", f"{room}/answer"
+    made = apart(make_image, image, kind, mib)
+    scans, loads, hashes, items = {(p, n): [] for p in programs for n in workers}, [], [], 0
     for turn in range(turns):
-        for n in workers:
-            words = [program, "scan", "--workers", str(n), *made["sizes"], image, *made["bad"]]
-            seconds, memory, status = measured(words, answer)
+        hashes.append(measured(["sha256sum", image], answer))
+        loads.append(measured([programs[0], "items", *made["sizes"], "--extent", "1", "--pointer", "0", image], answer))
+        for (program, n), runs in scans.items():
+            runs.append(measured([program, "scan", "--workers", str(n), *made["sizes"], image, *made["bad"]], answer))
             if turn == 0:
-                items = is_right(name, made, answer, status)
-            if items is None or status != made["right"]["status"]:
-                print(f"{name}: no right answer by {n} workers, status {status}")
-                return None
-            ours[n].append(seconds)
-            peak[n] = max(peak[n], memory)
-        theirs.append(measured(["sha256sum", image], answer)[0])
-    their, hashed, size = statistics.median(theirs), made["hashed"] / MIB, made["bytes"] / MIB
-    most = MOST_MEMORY * made["bytes"] + MOST_ITEM * items
-    print(f"{name}, {mib} MiB: {items} items, {made['right']['chunk']} of them chunks; {hashed:.0f} MiB to be hashed")
-    print(f"    medians of {turns}: sha256sum {their:.3f} s; memory wanted at most {most / MIB:.0f} MiB")
-    found = {}
-    for n in workers:
-        our = statistics.median(ours[n])
-        ratio = our / made["hashed"] / (their / made["bytes"])
-        print(f"    {n:2} workers: {our:.3f} s, {our / their:.2f} of sha256sum's, {ratio:.2f} of it per hashed byte; "
-              f"{peak[n] / MIB:.0f} MiB, {peak[n] / MIB / size:.2f} of the image's size", flush=True)
-        found[n] = our, items, ratio, peak[n] <= most
-    return found
-
-
-def measure(program, room, mib, turns, workers):
-    """Measures all images, and returns whether all is within what is wanted."""
-    large = compare(program, room, large_chunks, mib, turns, workers)
-    if large:
-        print(f"    wanted at most {MOST_TIME} of sha256sum's time per hashed byte")
-    small = [compare(program, room, small_chunks, size, turns, workers) for size in (mib // 4, mib // 2, mib)]
-    damaged = compare(program, room, damage, mib, turns, workers)
-    if not (large and damaged and all(small)):
-        return False
-    within = True
-    for n in workers:
-        rates = [seconds / (items * math.log2(items)) for seconds, items, _, _ in (case[n] for case in small)]
-        print(f"small chunks, {n} workers, time / (n log n): " + ", ".join(f"{rate * 1e9:.3f} ns" for rate in rates))
-        print(f"    the last is {rates[-1] / rates[0]:.2f} of the first, wanted at most {MOST_GROWTH}")
-        within = within and all(case[n][3] for case in (large, *small, damaged))
-        within = within and large[n][2] <= MOST_TIME and rates[-1] <= MOST_GROWTH * rates[0]
-    return within
+                items = is_right(f"{name}, {program} by {n} workers", made, answer, runs[0].status)
+            if items is None or runs[-1].status != made["right"]["status"]:
+                print(f"{name}: no right answer of {program} by {n} workers, status {runs[-1].status}")
+                return False
+    theirs = taken(hashes)[0] * made["hashed"] / made["bytes"]
+    for (program, n), runs in scans.items():
+        seconds, processor, memory = taken(runs)
+        print_row(name + f", {program}" * (len(programs) > 1), made["bytes"] // MIB, items, made["hashed"] // MIB,
+                  f"{theirs:.2f}", f"{taken(loads)[0]:.2f}", n, f"{seconds:.2f}", f"{processor:.2f}",
+                  f"{seconds / theirs:.2f}" if made["hashed"] > MIB else "", memory // MIB,
+                  (memory - made["bytes"]) // items if items > 10_000 else "")
+    return True
 
 
 def numbers(word):
@@ -282,31 +314,31 @@ def numbers(word):
 
 def main(words):
     parser = argparse.ArgumentParser(description="Measures `shardscrub scan` beside `sha256sum`.")
-    parser.add_argument("--mib", type=int, default=512, help="size of the images: a multiple of 32 from 128 to 768")
-    parser.add_argument("--turns", type=int, default=5, help="how often each program runs")
-    parser.add_argument("--workers", type=numbers, default=[1], metavar="N,..", help="numbers of workers, each 0 to 64")
+    parser.add_argument("--mib", type=int, default=512, help="size of the images: a multiple of 32 from 128 to 704")
+    parser.add_argument("--turns", type=int, default=3, help="how often each program runs")
+    parser.add_argument("--workers", type=numbers, default=[0, 1, 3], metavar="N,..", help="how many workers: each 0 to 64")
+    parser.add_argument("--only", action="append", choices=[name_of(kind) for kind in DISKS], help="this disk, and no other")
     parser.add_argument("--make", metavar="FOLDER", help="make the images there, and measure nothing")
-    beside = Path(__file__).resolve().parent.parent / "crates/scrub_cli/out/scrub_cli"
-    parser.add_argument("program", nargs="?", type=Path, default=beside)
+    parser.add_argument("program", nargs="*", type=Path, default=[PROGRAM])
     given = parser.parse_args(words)
-    least = 32 if given.make else 128
-    if not least <= given.mib <= 768 or given.mib % 32 or given.turns < 1:
-        parser.error(f"--mib is a multiple of 32 from {least} to 768, and --turns at least 1")
+    if not 128 <= given.mib <= 704 or given.mib % 32 or given.turns < 1:
+        parser.error("--mib is a multiple of 32 from 128 to 704, and --turns at least 1")
+    disks = [kind for kind in DISKS if given.only is None or name_of(kind) in given.only]
     if given.make:
-        for kind in (large_chunks, small_chunks, damage):
-            path = f"{given.make}/{kind.__name__.replace('_', '-')}.img"
-            made = apart(make_image, kind, given.mib, path)
-            print(" ".join(["scan", *made["sizes"], path, *made["bad"]]))
+        for kind in disks:
+            path = f"{given.make}/{name_of(kind)}.img"
+            made = apart(make_image, path, kind, given.mib)
+            print(" ".join(["scan", *made["sizes"], path, *made["bad"]]), flush=True)
         return 0
-    program = given.program.resolve()
-    if not (program.is_file() and os.access(program, os.X_OK)):
-        print(f"no program to measure: {program} (./shardscrub builds crates/scrub_cli/out/scrub_cli)", file=sys.stderr)
+    programs = [program.resolve() for program in given.program]
+    if not can_measure(programs, ["sha256sum"]):
         return 2
-    if not shutil.which("sha256sum"):
-        print("sha256sum, which the program is measured beside, is not found", file=sys.stderr)
-        return 2
+    print_heads("Image", "MiB", "Items", "Hashed, MiB", "sha256sum of as many, s", "Loading, s", "Workers", "Scan, s",
+                "Processors, s", "Of sha256sum's", "Peak, MiB", "Beside the image, bytes an item")
     with tempfile.TemporaryDirectory(prefix="shardscrub-bench-") as room:
-        return 0 if measure(str(program), room, given.mib, given.turns, given.workers) else 1
+        right = [compare([str(program) for program in programs], room, kind, given.mib, given.turns, given.workers)
+                 for kind in disks]
+    return 0 if all(right) else 1
 
 
 if __name__ == "__main__":

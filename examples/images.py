@@ -67,12 +67,15 @@ class Disk:
         self.pointers[extent - 1] = max(self.pointers[extent - 1], offset + len(form(name, payload)))
         return be(4, extent) + be(4, offset) + be(4, len(payload)) + name + sha256(payload).digest()
 
-    def superblock(self, page, generation, *runs):
-        """Puts a record with the write pointers as they are, and the locators of the runs, newest first."""
-        sizes = be(4, PAGE) + be(4, self.pages) + be(4, self.extents)
-        pointers = b"".join(be(4, pointer) for pointer in self.pointers)
-        body = b"SSB1" + be(8, generation) + sizes + be(2, len(runs)) + pointers + b"".join(runs)
-        self.put(0, page * PAGE, sealed(body))
+    def superblock(self, page, generation, *runs, retired=None):
+        """Puts a record with the write pointers as they are, and the locators of the runs, newest first.
+
+        Where retired extents are given, or an empty list of them, it is a record of the second kind.
+        """
+        kind, count = (b"SSB1", b"") if retired is None else (b"SSB2", be(2, len(retired)))
+        sizes = be(4, PAGE) + be(4, self.pages) + be(4, self.extents) + be(2, len(runs)) + count
+        listed = b"".join(be(4, number) for number in [*self.pointers, *(retired or [])])
+        self.put(0, page * PAGE, sealed(kind + be(8, generation) + sizes + listed + b"".join(runs)))
 
     def spoil(self, extent, offset):
         """Changes one bit of the byte there."""
@@ -131,6 +134,17 @@ def lost_run():
     return disk
 
 
+def retired_extent():
+    """The disk with one shard, and a third extent that is retired: a chunk without its end, and bytes that are no chunk."""
+    disk = Disk(4, 4)
+    chunk = disk.chunk(1, 0, uuid(0x11), b"abc")
+    index_run = disk.chunk(2, 0, uuid(0x22), run((shard(1), [chunk])))
+    disk.chunk(3, 0, uuid(0x44), b"z" * 150)
+    disk.put(3, PAGE, b"\xff" * 3 * PAGE)
+    disk.superblock(0, 1, index_run, retired=[3])
+    return disk
+
+
 def twins():
     """One chunk that was written twice; both shards name the second copy."""
     disk = Disk(4, 3)
@@ -157,7 +171,8 @@ def several_findings():
     return disk
 
 
-IMAGES = (one_chunk, one_shard, no_superblock, collision, closed_collision, lost_run, twins, several_findings)
+IMAGES = (one_chunk, one_shard, no_superblock, collision, closed_collision, lost_run, retired_extent, twins,
+          several_findings)
 
 
 def main(arguments):

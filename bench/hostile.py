@@ -1,0 +1,170 @@
+#!/usr/bin/env python3
+"""Measures `shardscrub scan` on disks that are made to cost much, each beside one clean extent of the same size. It is no
+part of the gate.
+
+usage: bench/hostile.py [--turns COUNT] [PROGRAM]      (default: 3, crates/scrub_cli/out/scrub_cli)
+
+First one extent of 64 MiB, in pages of 1,024 bytes: the smallest that make an extent of that size, so that it has the most
+pages. Each of its 65,536 pages begins with a head that claims a chunk up to the write pointer. A scanner that hashed what
+each head claims would hash 2 TiB.
+
+no far end             the extent ends with the UUID of no head;
+one far end            it ends with the UUID that all heads have, so the first head's chunk stands, and takes all;
+a page before it lost  the same, and the page before the last can't be read, so no chunk before it stands;
+two pages lost         the same, and a page in the middle can't be read either.
+
+Then heads of sealed chunks, all with the UUID and closing mark that the extent ends with, and with digests that aren't
+their payloads'. Whether such a chunk stands is known once its payload is hashed, so each head costs a hashing of all that is
+behind it: that is the price of the form, and it grows with the square of the number of pages. So these extents have 2 and
+4 MiB alone, in pages of 4,096 bytes: an extent of 64 MiB would take 256 times as long as the one of 4 MiB.
+
+At last extents of 8 MiB in pages of 4,096 bytes, with a chunk of 4 MB in whose payload other chunks begin, which are no
+items: an index run names one of them 6,400 times, or 200 of them 32 times each. Each place costs a hashing.
+
+The scans are by no worker beside the main thread, and images of one size go by turns. What is printed is a table of the
+least time that each took and of the most memory. To be hashed are the payloads of the chunks that stand, of those that an
+index run names, and of those that a sealed head claims. Exit status: 0 where all answers are right, 1 where one is wrong, 2
+where nothing can be measured.
+"""
+import argparse
+import os
+import struct
+import sys
+import tempfile
+from hashlib import sha256
+from pathlib import Path
+
+from items import PROGRAM, ROUND_PAYLOAD, can_measure, head, measured
+from scan import (CLOSING_MARK, KIB, LEAST_LARGE, MIB, MOST_LARGE, ROUND_SEALED, SEALED_MAGIC, Disk, apart, is_right,
+                  make_image, print_heads, print_row, taken)
+
+HEAD = 22
+MOST_LOCATORS = 64
+ALL_HEADS = b"\x11" * 16
+NO_HEAD = b"\xff" * 16
+PAGES = 1 << 16
+
+
+def clean(file, page, pages):
+    """Full of chunks of 64 KiB to 1 MiB, none of which is named: all of it may be reclaimed."""
+    disk = Disk(file, page, pages, 2)
+    disk.fill(1, LEAST_LARGE, MOST_LARGE)
+    disk.put_superblock([])
+    return disk.made(live=0, orphans=disk.chunks, candidates=1)
+
+
+def plain_heads(file, page, pages, end, lost):
+    """Each page begins with a head that claims a chunk up to the write pointer, and the extent ends with these bytes.
+
+    The filler isn't zero and has no magic. No lost page is the last.
+    """
+    disk = Disk(file, page, pages, 2)
+    disk.next_extent()
+    for number in range(pages):
+        begun = head(ALL_HEADS, disk.extent_bytes - number * page - ROUND_PAYLOAD)
+        disk.file.write(begun + b"x" * (page - len(begun)))
+    disk.file.seek(-len(end), 1)
+    disk.file.write(end)
+    disk.pointers[-1] = disk.extent_bytes
+    disk.put_superblock([])
+    # Where the far end is the heads', the first chunk that no lost page breaks off stands, and takes all that is behind it.
+    chunks = int(end == ALL_HEADS)
+    before = max(lost, default=-1) + 1 if chunks else pages
+    disk.hashed += chunks * (disk.extent_bytes - before * page - ROUND_PAYLOAD)
+    return disk.made([(1, number) for number in lost], status=int(before > 0), clean=before == 0, torn=before - len(lost),
+                     lost=len(lost), chunk=chunks, orphans=chunks, live=0, candidates=int(not lost))
+
+
+def sealed_heads(file, page, pages):
+    """Each page begins with the head of a sealed chunk up to the write pointer, whose far end agrees, and no digest does."""
+    disk = Disk(file, page, pages, 2)
+    disk.next_extent()
+    for number in range(pages):
+        size = disk.extent_bytes - number * page - ROUND_SEALED
+        begun = SEALED_MAGIC + head(ALL_HEADS, size)[2:] + bytes(32)
+        disk.file.write(begun + b"x" * (page - len(begun)))
+        disk.hashed += size
+    disk.file.seek(-18, 1)
+    disk.file.write(ALL_HEADS + CLOSING_MARK)
+    disk.pointers[-1] = disk.extent_bytes
+    disk.put_superblock([])
+    return disk.made(status=1, clean=False, torn=pages, live=0, candidates=1)
+
+
+def hidden_places(file, page, pages, count, times):
+    """A chunk, in whose payload a chunk begins, in whose payload one begins, and so on. All but the first are named."""
+    disk = Disk(file, page, pages, 3)
+    disk.next_extent()
+    payload, locators = disk.chance.randbytes(4_000_000), []
+    for depth in range(count, 0, -1):
+        uuid = disk.chance.randbytes(16)
+        place = struct.pack(">III", 1, depth * HEAD, len(payload))
+        locators.append(place + uuid + sha256(payload).digest())
+        disk.hashed += len(payload)
+        payload = head(uuid, len(payload)) + payload + uuid
+    disk.put(payload)
+    named, shards = disk.put_runs(locators * times, 1, MOST_LOCATORS)
+    disk.put_superblock(named)
+    return disk.made(status=1, clean=False, shards=shards, hidden=count * times, orphans=1, live=disk.pointers[1])
+
+
+# For each size of page and number of pages, what is measured beside a clean extent of that size.
+GROUPS = (
+    (KIB, PAGES, {
+        "no far end": (plain_heads, NO_HEAD, []),
+        "one far end": (plain_heads, ALL_HEADS, []),
+        "a page before it lost": (plain_heads, ALL_HEADS, [PAGES - 2]),
+        "two pages lost": (plain_heads, ALL_HEADS, [PAGES // 2, PAGES - 2]),
+    }),
+    (4 * KIB, 512, {"sealed heads": (sealed_heads,)}),
+    (4 * KIB, 1024, {"sealed heads": (sealed_heads,)}),
+    (4 * KIB, 2048, {
+        "one place, named 6,400 times": (hidden_places, 1, 6400),
+        "200 places, each named 32 times": (hidden_places, 200, 32),
+    }),
+)
+
+
+def compare(program, room, page, pages, hostile, turns):
+    """Prints the rows of one size, and returns whether all answers are right."""
+    images = {}
+    for name, (kind, *given) in {"clean": (clean,), **hostile}.items():
+        path = f"{room}/{name}"
+        images[name] = path, apart(make_image, path, kind, page, pages, *given)
+    runs, items = {name: [] for name in images}, {}
+    for turn in range(turns):
+        for name, (path, made) in images.items():
+            words = [program, "scan", "--workers", "0", *made["sizes"], path, *made["bad"]]
+            runs[name].append(measured(words, f"{room}/answer"))
+            if turn == 0:
+                items[name] = is_right(name, made, f"{room}/answer", runs[name][0].status)
+            if items[name] is None or runs[name][-1].status != made["right"]["status"]:
+                print(f"{name}: no right answer, status {runs[name][-1].status}")
+                return False
+    for name, (path, made) in images.items():
+        seconds, processor, memory = taken(runs[name])
+        print_row(name, f"{page * pages / MIB:g}", pages, items[name], made["hashed"] // MIB, f"{seconds:.2f}",
+                  f"{processor:.2f}", f"{seconds / taken(runs['clean'])[0]:.2f}", memory // MIB)
+        os.remove(path)
+    return True
+
+
+def main(words):
+    parser = argparse.ArgumentParser(description="Measures `shardscrub scan` on disks that are made to cost much.")
+    parser.add_argument("--turns", type=int, default=3, help="how often each is run")
+    parser.add_argument("program", nargs="?", type=Path, default=PROGRAM)
+    given = parser.parse_args(words)
+    if given.turns < 1:
+        parser.error("--turns is at least 1")
+    program = given.program.resolve()
+    if not can_measure([program]):
+        return 2
+    print_heads("Image", "Extent, MiB", "Pages", "Items", "To be hashed, MiB", "Scan, s", "Processors, s",
+                "Of the clean one's", "Peak, MiB")
+    with tempfile.TemporaryDirectory(prefix="shardscrub-bench-") as room:
+        right = [compare(str(program), room, *group, given.turns) for group in GROUPS]
+    return 0 if all(right) else 1
+
+
+if __name__ == "__main__":
+    sys.exit(main(sys.argv[1:]))
