@@ -28,14 +28,18 @@ fn checked_alike<R: Threads + Sync>(
     rt: &R,
     alloc: Global,
     disk: &MemDisk,
-    locator: Locator,
+    locator: &Locator,
     count: usize,
 ) -> Result<(Vec<Status>, u64), Fail> {
     let source = CountingSource::new(alloc, disk)?;
     let plan = plan_of(alloc, disk)?;
     let all = scan_in_order(alloc, &source, &plan)?;
     let owner = Owner::Shard(SHARD);
-    let named = vec![in alloc; Named { owner, locator }; count]?;
+    let one = Named {
+        owner,
+        locator: *locator,
+    };
+    let named = vec![in alloc; one; count]?;
     let before = source.asked(1);
     let checked = check_all(rt, alloc, &source, &plan, &all, &named)?;
     let statuses = checked.iter().map(|one| one.status).collect(alloc)?;
@@ -48,7 +52,7 @@ fn check_alike<R: Threads + Sync + std::process::Abort>(
     rt: &R,
     alloc: Global,
     disk: &MemDisk,
-    locator: Locator,
+    locator: &Locator,
     status: Status,
 ) -> Result<u64, Fail> {
     let (one, asked) = checked_alike(rt, alloc, disk, locator, 1)?;
@@ -66,7 +70,7 @@ fn a_thousand_locators_to_a_hidden_place_ask_for_its_pages_as_often_as_one(
 ) -> Result<(), Fail> {
     let mut disk = blank(rt.alloc())?;
     let locator = put_chunk(rt.alloc(), &mut disk, 1, HIDDEN, ONES, &[7; 2_000])?;
-    let asked = check_alike(&rt, rt.alloc(), &disk, locator, Status::Hidden)?;
+    let asked = check_alike(&rt, rt.alloc(), &disk, &locator, Status::Hidden)?;
     // Its 2,038 bytes lie on 32 pages.
     assert!(rt; asked >= 32 && asked <= 40);
     Ok(())
@@ -86,9 +90,9 @@ fn another_uuid_or_length_at_a_hidden_place_is_told_without_its_payload(
         length: 1_999,
         ..locator
     };
-    let asked = check_alike(&rt, rt.alloc(), &disk, other, Status::WrongUuid)?;
+    let asked = check_alike(&rt, rt.alloc(), &disk, &other, Status::WrongUuid)?;
     assert!(rt; asked <= 4);
-    let asked = check_alike(&rt, rt.alloc(), &disk, shorter, Status::WrongLength)?;
+    let asked = check_alike(&rt, rt.alloc(), &disk, &shorter, Status::WrongLength)?;
     assert!(rt; asked <= 4);
     Ok(())
 }
@@ -103,11 +107,11 @@ fn another_uuid_at_a_hidden_sealed_frame_is_told_by_its_payload(
         uuid: Uuid::from_bytes(TWOS),
         ..locator
     };
-    let asked = check_alike(&rt, rt.alloc(), &disk, other, Status::WrongUuid)?;
+    let asked = check_alike(&rt, rt.alloc(), &disk, &other, Status::WrongUuid)?;
     assert!(rt; asked >= 33);
     // One byte of the payload is another one: then no frame stands there.
     disk.put(1, HIDDEN + 100, &[8]);
-    check_alike(&rt, rt.alloc(), &disk, other, Status::NoFrame)?;
+    check_alike(&rt, rt.alloc(), &disk, &other, Status::NoFrame)?;
     Ok(())
 }
 

@@ -12,6 +12,7 @@ use std::process::Abort;
 use std::test::Fail;
 
 /// A copy of an extent, the bytes of its pages, and its write pointer.
+#[derive(Clone, Copy)]
 struct Copied<'a> {
     extent: &'a BufferedExtent,
     page: u32,
