@@ -64,7 +64,7 @@ def compare(program, room, kind, mib, turns):
     for workers in WORKERS:
         seconds, processor, memory = taken(runs[workers])
         faster = f"{(none[0] - load) / (seconds - load):.2f}" if seconds > load else ""
-        each = f"{(memory - none[2]) / workers / KIB:.0f}" if workers else ""
+        each = round((memory - none[2]) / workers / KIB) if workers else ""
         print_row(name, f"{load:.2f}", workers, f"{seconds:.2f}", f"{processor:.2f}", faster, f"{memory / MIB:.1f}", each)
     return True
 

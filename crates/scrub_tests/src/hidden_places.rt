@@ -4,7 +4,7 @@ use crate::compare::same;
 use scrub_check::{Named, Owner, Status, check_all, check_named, named_locators, read_runs};
 use scrub_disk::{Geometry, MemDisk};
 use scrub_fakes::{
-    CountingSource, ONES, SHARD, TWOS, plan_of, put_chunk, put_sealed, put_superblock, run_of,
+    CountingSource, ONES, SHARD, TWOS, plan_of, put, put_chunk, put_sealed, put_superblock, run_of,
 };
 use scrub_frame::Locator;
 use scrub_merge::merge;
@@ -110,7 +110,7 @@ fn another_uuid_at_a_hidden_sealed_frame_is_told_by_its_payload(
     let asked = check_alike(&rt, rt.alloc(), &disk, &other, Status::WrongUuid)?;
     assert!(rt; asked >= 33);
     // One byte of the payload is another one: then no frame stands there.
-    disk.put(1, HIDDEN + 100, &[8]);
+    put(&mut disk, 1, HIDDEN + 100, &[8])?;
     check_alike(&rt, rt.alloc(), &disk, &other, Status::NoFrame)?;
     Ok(())
 }

@@ -161,6 +161,7 @@ pub(crate) fn check_scan(rt: &impl Abort, alloc: Global, disk: &MemDisk) -> Resu
     let pages = u64::from(geometry.pages());
     for i in 0..all.len() {
         let found = all.result_at(i);
+        assert!(rt; found.extent() < geometry.extents());
         check_extent(rt, alloc, disk, found)?;
         let asked = found.pages_asked();
         same(rt, source.asked(found.extent()), asked);
