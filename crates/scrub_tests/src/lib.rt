@@ -7,8 +7,6 @@ mod asking;
 #[cfg(test)]
 mod bindings;
 #[cfg(test)]
-mod books;
-#[cfg(test)]
 mod compare;
 #[cfg(test)]
 mod disks;
@@ -17,33 +15,15 @@ mod events;
 #[cfg(test)]
 mod extents;
 #[cfg(test)]
-mod fakes;
-#[cfg(test)]
-mod faults;
-#[cfg(test)]
-mod frames;
-#[cfg(test)]
-mod geometries;
-#[cfg(test)]
 mod hidden_places;
 #[cfg(test)]
 mod index_runs;
 #[cfg(test)]
 mod lists;
 #[cfg(test)]
-mod loading;
-#[cfg(test)]
-mod locators;
-#[cfg(test)]
-mod matching;
-#[cfg(test)]
-mod memory_disk;
-#[cfg(test)]
 mod named;
 #[cfg(test)]
 mod one_reader;
-#[cfg(test)]
-mod one_worker;
 #[cfg(test)]
 mod ordered_map;
 #[cfg(test)]
@@ -51,11 +31,7 @@ mod plain_scan;
 #[cfg(test)]
 mod published;
 #[cfg(test)]
-mod records;
-#[cfg(test)]
 mod retired;
-#[cfg(test)]
-mod run_payloads;
 #[cfg(test)]
 mod scanned;
 #[cfg(test)]
@@ -71,8 +47,6 @@ mod standing_frames;
 #[cfg(test)]
 mod status;
 #[cfg(test)]
-mod superblock;
-#[cfg(test)]
 mod swept;
 #[cfg(test)]
 mod taking;
@@ -82,8 +56,6 @@ mod tiling;
 mod told;
 #[cfg(test)]
 mod walks;
-#[cfg(test)]
-mod whole_extents;
 #[cfg(test)]
 mod workers;
 #[cfg(test)]

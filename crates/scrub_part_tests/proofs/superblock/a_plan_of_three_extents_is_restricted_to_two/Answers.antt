@@ -2,7 +2,7 @@
 use Rattle.std.proofs.Common.{◌≡◌, ◌-◌, ◌∙◌, ℕ, zero, suc, [], ◌∷◌, All, arith, refl, sym, ap}
 use Rattle.std.specs.List.{Contains, range_with_len}
 use Rattle.scrub_disk.specs.declared.geometry.Geometry.{Geometry}
-use Rattle.scrub_tests.proofs.superblock.a_plan_of_three_extents_is_restricted_to_two.Goals as goal
+use Rattle.scrub_part_tests.proofs.superblock.a_plan_of_three_extents_is_restricted_to_two.Goals as goal
 
 two_of_three : All {X = ℕ} (Contains (1 ∷ 2 ∷ 3 ∷ [])) (1 ∷ 3 ∷ [])
 two_of_three zero d h = (0, omega arith, refl)

@@ -1,7 +1,7 @@
 -- The round trip, by the two contracts and the law that no two locators have the same bytes.
 use Rattle.std.proofs.Common.{◌∙◌}
 use Rattle.scrub_frame.proofs.Locators.{one_locator_lem}
-use Rattle.scrub_tests.proofs.locators.written_and_read.Goals as goal
+use Rattle.scrub_part_tests.proofs.locators.written_and_read.Goals as goal
 
 pub returns : goal.returns
 returns c =

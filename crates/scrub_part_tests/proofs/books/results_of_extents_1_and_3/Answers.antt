@@ -2,7 +2,7 @@ use Rattle.std.proofs.Common.{◌≡◌, ◌-◌, ◌∙◌, arith, ap}
 use Rattle.std.specs.List.{range_with_len}
 use Rattle.scrub_disk.specs.Memory.{image_of}
 use Rattle.scrub_fakes.proofs.Planned.{two_of_three}
-use Rattle.scrub_tests.proofs.books.results_of_extents_1_and_3.Goals as goal
+use Rattle.scrub_part_tests.proofs.books.results_of_extents_1_and_3.Goals as goal
 
 pub restrict-requires-clause-each_planned : goal.restrict-requires-clause-each_planned
 restrict-requires-clause-each_planned g c =
