@@ -9,6 +9,8 @@ Disks of SIZE MiB, each scanned by 0, 1, 3 and 64 workers beside the main thread
 
 large         payloads of 64 KiB to 1 MiB in extents of 4 MiB, as in bench/scan.py;
 long extents  the same in extents of 64 MiB, to see whether a worker takes memory for an extent;
+one page      extents of one page of 64 KiB, to see what a worker takes for pages: extent 0 is read whole before a worker
+              starts, so that less than an extent isn't seen in the peak;
 one full      extents of 4 MiB, one of them full of payloads of 100 bytes, and the others empty.
 
 Each is also loaded alone, by `items` of an extent under the write pointer 0, which prints nothing, since the main thread
@@ -34,11 +36,21 @@ def long_extents(file, mib):
     return large(file, mib, extent_mib=64, runs=1)
 
 
+def one_page(file, mib):
+    disk = Disk(file, 64 * KIB, 1, mib * 16)
+    disk.fill(disk.extents - 1, 50_000, 64_000)
+    disk.put_superblock([])
+    return disk.made()
+
+
 def one_full(file, mib):
     disk = Disk(file, 4 * KIB, KIB, mib // 4)
     disk.fill(1, SMALL_PAYLOAD, SMALL_PAYLOAD)
     disk.put_superblock([])
     return disk.made()
+
+
+DISKS = (large, long_extents, one_page, one_full)
 
 
 def text_of(path):
@@ -100,7 +112,7 @@ def main(words):
     print_heads("Disk", "Loading, s", "Workers", "Scan, s", "Processors, s", "Above loading, of none's speed", "Peak, MiB",
                 "Above none's, KiB a worker")
     with tempfile.TemporaryDirectory(prefix="shardscrub-bench-") as room:
-        same = [compare(str(program), room, kind, given.mib, given.turns) for kind in (large, long_extents, one_full)]
+        same = [compare(str(program), room, kind, given.mib, given.turns) for kind in DISKS]
         print()
         same.append(repeat(str(program), room, given.runs))
     return 0 if all(same) else 1
