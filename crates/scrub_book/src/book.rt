@@ -1,4 +1,4 @@
-//! Collecting the results of planned extents, in whatever order they come. Who scans them is left to others.
+//! Collecting the results of planned extents, in whatever order they come. Who scans them is left to the crates above.
 
 ghost use Rattle.std.specs.Prelude.{◌≡◌, ◌<◌, length, slice_index, replicate, position, not, Contains, IfOk, IfErr, IfSome, IfNone, OnOk, OnErr, Some, None};
 ghost use Rattle.std.specs.Option.{is_some};
@@ -136,6 +136,7 @@ impl<'d, D: PageSource> Book<'d, D> {
         ensures image { IfOk result (λ all. IsOfImage (λ s. D.image s) all (D.image self.entry.source)) }
         ensures back { IfErr result (λ book. (book ≡ self.entry) × ¬ HasAll self.entry) }
     {
+        // It tells that the planned extents rise.
         let _ = self.plan.planned();
         if first_empty(&self.slots).is_some() {
             return Err(self);

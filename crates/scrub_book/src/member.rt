@@ -1,4 +1,4 @@
-//! A member of the pool: a worker, or what is kept of one that retired. Which extent it is given is left to the pool.
+//! A member of the pool: a worker, or what is kept of one that retired. Which extent it is given is left to `pool_core`.
 
 ghost use Rattle.std.specs.Prelude.{◌≡◌, ◌&&◌, ◌++◌, is_none, [], ◌∷◌, Some, None, true, false, OnOk, OnErr, IfOk, map};
 ghost use Rattle.scrub_scan.specs.Scanned.{scanned};

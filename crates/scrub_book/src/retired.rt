@@ -1,4 +1,4 @@
-//! What a worker that holds no extent took and found. How it came to it is left to the worker.
+//! What a worker that holds no extent took and found. How it came to it is left to `worker_core`.
 
 ghost use Rattle.std.specs.Prelude.{◌≡◌};
 ghost use Rattle.scrub_book.specs.Extents.{extents_of};

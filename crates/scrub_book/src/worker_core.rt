@@ -1,4 +1,4 @@
-//! What one worker took and found so far. From where it takes extents, and how they are scanned, is left to others.
+//! What one worker took and found so far. From where it takes extents, and how they are scanned, is left to the crates above.
 
 ghost use Rattle.std.specs.Prelude.{◌≡◌, ◌≢◌, ◌+◌, ◌≤◌, ◌++◌, [], ◌∷◌, length, vec_len, Some, None, OnOk, OnErr, IfOk, IfErr};
 ghost use Rattle.std.specs.Vec.{vec_capacity};

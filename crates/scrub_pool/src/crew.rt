@@ -1,4 +1,4 @@
-//! The workers beside the caller, each on a thread of its own. What one worker does is left to it.
+//! The workers beside the caller, each on a thread of its own. What one worker does is left to `worker`.
 
 ghost use Rattle.std.specs.Thread.{IsSync};
 ghost use Rattle.std.specs.Prelude.{◌≡◌, ◌+◌, ◌<◌, None, [], All, length, IfSome, vec_len};

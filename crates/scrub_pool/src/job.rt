@@ -1,4 +1,4 @@
-//! What all workers of a scan have in common. What one of them does with it is left to it.
+//! What all workers of a scan have in common. What one of them does with it is left to `worker`.
 
 use crate::extent_queue::ExtentQueue;
 use crate::gate::Gate;

@@ -1,4 +1,4 @@
-//! What the shared queue keeps true at every moment, whatever the threads do. Who takes, and when, is left to the workers.
+//! What the shared queue keeps true at every moment, whatever the threads do. Who takes, and when, is left to `worker`.
 
 use crossbeam_queue::RuledArrayQueue;
 use crossbeam_queue::protocol::{Join, Lesson, Outcome, Protocol, Split};

@@ -1,4 +1,4 @@
-//! Scanning all planned extents by many workers and the caller. What one worker does is left to it.
+//! Scanning all planned extents by many workers and the caller. What one worker does is left to `worker`.
 
 ghost use Rattle.std.specs.Prelude.{◌≡◌, ◌+◌, ◌-◌, ◌<◌, ◌≤◌, ◌++◌, [], ◌∷◌, true, None, All, length, OnOk, IfOk, sum_by, vec_len};
 ghost use Rattle.std.specs.List.Sorted.{IsPermutation};

@@ -1,4 +1,4 @@
-//! Who took which extents, and how many were counted. How it came to that is left to the workers.
+//! Who took which extents, and how many were counted. How it came to that is left to `worker`.
 
 ghost use Rattle.std.specs.Prelude.{◌≡◌, ◌+◌, ◌<◌, ℕ, List, length, Some, slice_get};
 ghost use Rattle.std.specs.List.Sorted.{IsStrictlyIncreasing};

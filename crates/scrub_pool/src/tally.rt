@@ -1,4 +1,4 @@
-//! What all workers counted, under one lock. When something is counted is left to the workers.
+//! What all workers counted, under one lock. When something is counted is left to `worker`.
 
 ghost use Rattle.std.specs.Prelude.{◌≡◌, ◌+◌, ◌<◌, IfSome, OnSome};
 

@@ -1,4 +1,4 @@
-//! One worker: it takes extents until none is left, scans each, and counts it. Which thread it runs on is left to the crew.
+//! One worker: it takes extents until none is left, scans each, and counts it. Which thread it runs on is left to `crew`.
 
 ghost use Rattle.std.specs.Prelude.{◌≡◌, ◌+◌, ◌<◌, true, None, [], All, length, OnOk, IfSome};
 ghost use Rattle.std.specs.List.Sorted.{IsStrictlyIncreasing};

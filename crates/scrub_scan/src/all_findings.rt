@@ -1,4 +1,4 @@
-//! The findings of all planned extents, of which there may be none. How those of one extent come about is left to the scan.
+//! The findings of all planned extents, of which there may be none. How those of one extent come about is left to `scanning`.
 
 ghost use Rattle.std.specs.Prelude.{◌≡◌, ◌<◌, ℕ, map, length, IfSome, IfNone, Contains, Some, slice_get, slice_index};
 ghost use Rattle.std.specs.Option.{option_map_or};
@@ -67,6 +67,7 @@ impl<'d, D: PageSource> AllFindings<'d, D> {
         ensures image { (image : Image) → AreSlots image plan.now slots.entry.items → IsOfImage (λ s. D.image s) result image }
         ensures findings { (image : Image) → AreSlots image plan.now slots.entry.items → AreAllFindings image plan.now result.extents }
     {
+        // It tells that the planned extents rise.
         let _ = plan.planned();
         AllFindings { slots }
     }

@@ -1,4 +1,4 @@
-//! What was found in an extent: its items, its tail and its unreadable pages. How they were found is left to the scan.
+//! What was found in an extent: its items, its tail and its unreadable pages. How they were found is left to `scanning`.
 
 ghost use Rattle.std.specs.Prelude.{◌≡◌};
 

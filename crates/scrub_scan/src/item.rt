@@ -1,4 +1,4 @@
-//! The items of an extent, and their lines of text. Where items begin and end is left to the tiling.
+//! The items of an extent, and their lines of text. Where items begin and end is left to `tiling`.
 
 ghost use Rattle.std.specs.Prelude.{◌≡◌, IfOk, length, string_bytes};
 

@@ -1,4 +1,4 @@
-//! The item at a place of an extent, found by reading one page at a time. Which places the tiling asks for is left to it.
+//! The item at a place of an extent, found by reading one page at a time. Which places are asked for is left to `tiling`.
 
 ghost use Rattle.std.specs.Prelude.{◌≡◌, ◌+◌, ◌-◌, ◌*◌, ◌/◌, ◌^◌, ◌<◌, ◌≤◌, ◌↔◌, ◌∷◌, [], ℕ, List, true, false, None, Some, IsTrue, IfOk, IfSome, IfNone, length, slice_index};
 ghost use Rattle.scrub_disk.specs.Image.{Image, byte, extent_bytes, AreBytesAt};

@@ -63,6 +63,7 @@ pub fn scan_extent<'d, D: PageSource>(
     ensures extent { IfOk result (λ r. (scanned r).extent ≡ extent) }
     ensures pointer { IfOk result (λ r. pointer_of plan.now extent ≡ Some (scanned r).pointer) }
 {
+    // It tells that the planned extents rise.
     let _ = plan.planned();
     scan_under(alloc, disk, extent, plan.pointer(extent))
 }
