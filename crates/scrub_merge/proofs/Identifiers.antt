@@ -1,8 +1,10 @@
 -- Identifiers as keys, and rising entries of them.
-use Rattle.std.proofs.Common.{◌≡◌, ◌<◌, ℕ, true, List, length, get_or, Contains, sym, ◌∙◌, ap, arith, inl, inr}
+use Rattle.std.proofs.Common.{◌≡◌, ◌<◌, ℕ, true, false, List, length, get_or, Contains, refl, sym, ◌∙◌, ap, arith, inl, inr}
 use Rattle.std.specs.Cmp.{IsTotalOrder}
 use Rattle.std.specs.Cmp.Lexicographic.{on_texts}
-use Rattle.std.specs.Ordering.{is_eq}
+use Rattle.std.specs.Ordering.{is_eq, ordering_reverse}
+use Rattle.std.specs.declared.cmp.Ordering.{Ordering}
+use Rattle.std.specs.declared.cmp.Ordering.TheVariants.{Less, Equal, Greater}
 use Rattle.std.proofs.lemmas.Bool.{cases_lt, false≢true}
 use Rattle.std.proofs.lemmas.List.{get_or_default}
 use Rattle.std.proofs.lemmas.Cmp.{tied_itself}
@@ -29,6 +31,15 @@ itself a = ap is_eq (tied_itself id_cmp_total a)
 -- no identifier is below itself
 pub not_below_itself : (a : ShardId) → IsBelow a a → ⊥
 not_below_itself a h = false≢true (ap is_eq (sym h) ∙ itself a)
+
+-- of two identifiers that differ one is below the other
+pub not_less : (a b : ShardId) → is_eq (id_cmp a b) ≡ false → (IsBelow a b → ⊥) → IsBelow b a
+not_less a b differ not_below = id_cmp_total.antisymm b a ∙ ap ordering_reverse (greater (id_cmp a b) refl)
+  where
+    greater : (o : Ordering) → id_cmp a b ≡ o → o ≡ Greater
+    greater Less h = absurd (not_below h)
+    greater Equal h = absurd (false≢true (sym differ ∙ ap is_eq h))
+    greater Greater h = refl
 
 -- rising entries with one identifier are one
 pub same_entry : (entries : List EntryValue) (e f : EntryValue) → RisesById entries → Contains entries e → Contains entries f → e.id ≡ f.id → e ≡ f

@@ -5,7 +5,7 @@ use Rattle.std.specs.Prelude.{slice_get, unwrap_or, replicate}
 use Rattle.std.specs.Option.{option_map}
 use Rattle.std.specs.Ordering.{is_eq}
 use Rattle.std.proofs.lemmas.Bool.{false≢true}
-use Rattle.std.proofs.lemmas.Option.{none-some, same_Some}
+use Rattle.std.proofs.lemmas.Option.{none-some, same_Some, slice_get_read}
 use Rattle.scrub_run.specs.declared.shard_id.ShardId.{ShardId}
 use Rattle.scrub_run.specs.Entry.{EntryValue}
 use Rattle.scrub_run.specs.Run.{RisesById}
@@ -21,7 +21,7 @@ slice_get_drop (suc place) [] = refl
 slice_get_drop (suc place) (e ∷ entries) = slice_get_drop place entries
 
 -- the first of what is left stands under the cursor
-under_first : (run : Option (List EntryValue)) (place : ℕ) → entry_at (option_map (drop place) run) 0 ≡ entry_at run place
+pub under_first : (run : Option (List EntryValue)) (place : ℕ) → entry_at (option_map (drop place) run) 0 ≡ entry_at run place
 under_first None place = refl
 under_first (Some entries) place = slice_get_drop place entries
 
@@ -30,6 +30,12 @@ first_left [] places k h = refl
 first_left (run ∷ runs) [] k h = absurd (omega (arith, h))
 first_left (run ∷ runs) (place ∷ places) zero h = under_first run place
 first_left (run ∷ runs) (place ∷ places) (suc k) h = first_left runs places k (omega (arith, h))
+
+-- what stands first in what is left of a run stands under its cursor
+pub at_cursor : (runs : Runs) (places : List ℕ) (number : ℕ) (run : Option (List EntryValue)) → length places ≡ length runs → number < length runs → run ≡ get_or runs number run →
+    first_of (left runs places) number ≡ entry_at run (get_or places number 0)
+at_cursor runs places number run count here is = first_left runs places number count
+    ∙ ap (λ o. entry_at (unwrap_or o None) (get_or places number 0)) (slice_get_read runs (length runs) number run refl here is)
 
 pub length-left : (runs : Runs) (places : List ℕ) → length (left runs places) ≡ length runs
 length-left [] places = refl
@@ -41,6 +47,12 @@ pub first_within : (runs : Runs) (k : ℕ) (e : EntryValue) → first_of runs k 
 first_within [] k e h = absurd (none-some e h)
 first_within (run ∷ runs) zero e h = omega arith
 first_within (run ∷ runs) (suc k) e h = omega (arith, first_within runs k e h)
+
+-- what stands first in a run of this number
+pub first_at : (runs : Runs) (number : ℕ) (run : Option (List EntryValue)) → number < length runs → run ≡ get_or runs number run → first_of runs number ≡ entry_at run 0
+first_at [] number run here is = absurd (let no : ⊥ = omega (arith, here) in no)
+first_at (r ∷ runs) zero run here is = ap (λ q. entry_at q 0) (sym is)
+first_at (r ∷ runs) (suc number) run here is = first_at runs number run (omega (arith, here)) is
 
 pub first_is : (runs : Runs) (k : ℕ) (entries : List EntryValue) → slice_get runs k ≡ Some (Some entries) → first_of runs k ≡ slice_get entries 0
 first_is [] k entries h = absurd (none-some (Some entries) h)
@@ -135,13 +147,6 @@ pub length-behind : (id : ShardId) (runs : Runs) (places : List ℕ) → length 
 length-behind id [] places = refl
 length-behind id (run ∷ runs) [] = refl
 length-behind id (run ∷ runs) (place ∷ places) = ap suc (length-behind id runs places)
-
-pub behind_at : (id : ShardId) (runs : Runs) (places : List ℕ) (k : ℕ) → k < length runs → length places ≡ length runs →
-    get_or (places_behind id runs places) k 0 ≡ place_behind id (unwrap_or (slice_get runs k) None) (get_or places k 0)
-behind_at id [] places k here h = absurd (omega (arith, here))
-behind_at id (run ∷ runs) [] k here h = absurd (omega (arith, h))
-behind_at id (run ∷ runs) (place ∷ places) zero here h = refl
-behind_at id (run ∷ runs) (place ∷ places) (suc k) here h = behind_at id runs places k (omega (arith, here)) (omega (arith, h))
 
 -- ---- fewer entries are left
 

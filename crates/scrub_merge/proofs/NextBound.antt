@@ -3,9 +3,7 @@
 use Rattle.std.proofs.Common.{◌≡◌, ◌<◌, ◌⊎◌, ◌↔◌, ℕ, zero, suc, Bool, true, false, not, cond, IsTrue, Option, Some, None, List, [], ◌∷◌, ◌++◌, length, get_or, All, AllPairs, Contains, arith, refl, sym, ◌∙◌, ap, inl, inr}
 use Rattle.std.specs.Prelude.{filter, ◌==◌, slice_get}
 use Rattle.std.specs.Option.{option_map}
-use Rattle.std.specs.Ordering.{is_eq, ordering_reverse}
-use Rattle.std.specs.declared.cmp.Ordering.{Ordering}
-use Rattle.std.specs.declared.cmp.Ordering.TheVariants.{Less, Equal, Greater}
+use Rattle.std.specs.Ordering.{is_eq}
 use Rattle.std.proofs.lemmas.Bool.{false≢true}
 use Rattle.std.proofs.lemmas.Bool.Decides.{nat_tests}
 use Rattle.std.proofs.lemmas.List.{append-nil, append_assoc}
@@ -18,19 +16,11 @@ use Rattle.scrub_merge.specs.Binding.{BindingValue, Runs, IsEntryOf, LostBefore,
 use Rattle.scrub_merge.specs.ShardMap.{IsShardMap}
 use Rattle.scrub_merge.specs.Cursors.{id_cmp, has_locator, left, places_behind, first_of, IsLeast, IsFirstWith, AreEmpty, AreRising, IsBound, Continues}
 use Rattle.scrub_merge.proofs.Elements.{Contains-cases, Contains-behind}
-use Rattle.scrub_merge.proofs.Identifiers.{id_cmp_total, same_id, itself, not_below_itself}
+use Rattle.scrub_merge.proofs.Identifiers.{id_cmp_total, same_id, itself, not_below_itself, not_less}
 use Rattle.scrub_merge.proofs.Maps.{entry_of, one_newest}
 use Rattle.scrub_merge.proofs.Left.{without, all_without, first_is, first_entry, rising_left, left_behind}
 
 -- ---- identifiers
-
-not_less : (a b : ShardId) → is_eq (id_cmp a b) ≡ false → (IsBelow a b → ⊥) → IsBelow b a
-not_less a b differ not_below = id_cmp_total.antisymm b a ∙ ap ordering_reverse (greater (id_cmp a b) refl)
-  where
-    greater : (o : Ordering) → id_cmp a b ≡ o → o ≡ Greater
-    greater Less h = absurd (not_below h)
-    greater Equal h = absurd (false≢true (sym differ ∙ ap is_eq h))
-    greater Greater h = refl
 
 below_trans : (a b c : ShardId) → IsBelow a b → IsBelow b c → IsBelow a c
 below_trans a b c h k = id_cmp_total.trans a b c h k

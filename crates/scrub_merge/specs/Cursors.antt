@@ -1,15 +1,18 @@
 -- Cursors over index runs, one for each: what they have not passed yet, what stands under them, and how they move on.
-use Rattle.std.specs.Prelude.{◌≡◌, ◌+◌, ◌<◌, ◌++◌, ℕ, zero, suc, Bool, false, cond, Option, Some, None, IfSome, List, [], ◌∷◌, length, drop, filter, not, ◌==◌, slice_get}
+use Rattle.std.specs.Prelude.{◌≡◌, ◌+◌, ◌<◌, ◌≤◌, ◌++◌, ℕ, zero, suc, Bool, false, cond, Option, Some, None, List, [], ◌∷◌, All, Contains, length, drop, filter, not, ◌==◌, slice_get}
 use Rattle.std.specs.Option.{option_map}
-use Rattle.std.specs.Cmp.Lexicographic.{slice_cmp}
+use Rattle.std.specs.BinaryHeap.{IsHeap}
+use Rattle.std.specs.Cmp.{IsTotalOrder, then_total, back_total, on_total, nat_cmp_total}
+use Rattle.std.specs.Cmp.Lexicographic.{slice_cmp, on_texts}
+use Rattle.std.specs.List.{count_by}
 use Rattle.std.specs.declared.cmp.Ordering.{Ordering}
-use Rattle.std.specs.Ordering.{nat_cmp, is_eq}
+use Rattle.std.specs.Ordering.{nat_cmp, is_eq, on, flip_args, then_cmp}
 use Rattle.scrub_run.specs.declared.shard_id.ShardId.{ShardId}
 use Rattle.scrub_run.specs.Entry.{EntryValue, IsBelow}
 use Rattle.scrub_run.specs.Run.{RisesById}
 use Rattle.scrub_merge.specs.Binding.{BindingValue, Runs, IsNewestBinding}
 use Rattle.scrub_merge.specs.ShardMap.{IsShardMap}
-use Rattle.scrub_merge.specs.declared.cursors.Under.{Under}
+use Rattle.scrub_merge.specs.declared.under.Under.{Under}
 
 -- identifiers in the order of their bytes
 abbrev pub id_cmp : ShardId → ShardId → Ordering
@@ -68,16 +71,37 @@ pub record IsFirstWith (runs : Runs) (id : ShardId) (number : ℕ) : Type 0 wher
 
 -- what stands under the cursor of the run of this number
 abbrev pub under_by : ℕ → EntryValue → Under
-under_by number e = record { number = number; id = e.id }
+under_by number e = record { id = e.id; number = number }
 
--- the identifier that was met is at most another
-abbrev pub IsAtMost : Option Under → ShardId → Type 0
-IsAtMost None id = ⊥
-IsAtMost (Some least) id = IsBelow id least.id → ⊥
+-- the order of the heap: the greatest is what has the least identifier, and of equal ones that of the newest run
+abbrev pub under_cmp : Under → Under → Ordering
+under_cmp = then_cmp (flip_args (on (λ u. u.id.0) (slice_cmp nat_cmp))) (flip_args (on (λ u. u.number) nat_cmp))
 
--- an identifier is below the one that was met, if any
-abbrev pub IsBeforeAll : Option Under → ShardId → Type 0
-IsBeforeAll least id = IfSome least (λ u. IsBelow id u.id)
+pub under_cmp_total : IsTotalOrder under_cmp
+under_cmp_total = then_total (back_total (on_texts (λ u. u.id.0))) (back_total (on_total (λ u. u.number) nat_cmp_total))
+
+-- it stands first in the run of its number
+abbrev pub StandsFirst : Runs → Under → Type 0
+StandsFirst runs u = option_map (under_by u.number) (first_of runs u.number) ≡ Some u
+
+-- how many are of the run of this number
+abbrev pub of_run : ℕ → List Under → ℕ
+of_run number items = count_by (λ u. u.number == number) items
+
+-- a heap of what stands first in the runs of some numbers, once each
+pub record IsHeapOver (Among : ℕ → Type 0) (runs : Runs) (items : List Under) : Type 0 where
+  pub order : IsHeap under_cmp items
+  pub each : All (λ u. Among u.number × StandsFirst runs u) items
+  pub all : (k : ℕ) (e : EntryValue) → Among k → first_of runs k ≡ Some e → Contains items (under_by k e)
+  pub once : (k : ℕ) → of_run k items ≤ 1
+
+-- a heap of what stands first in the runs
+abbrev pub IsHeapOf : Runs → List Under → Type 0
+IsHeapOf runs items = IsHeapOver (λ k. Unit {0}) runs items
+
+-- the same without what stands first in one of them
+abbrev pub IsHeapBut : ℕ → Runs → List Under → Type 0
+IsHeapBut number runs items = IsHeapOver (λ k. ¬ (k ≡ number)) runs items
 
 -- no run has an entry
 abbrev pub AreEmpty : Runs → Type 0

@@ -1,14 +1,19 @@
-//! Cursors over index runs, one for each run, by the place of the entry under it: the least identifier under them, by the
-//! newest run that has it there, and all that have it moved on. What is bound by it is left to `merging`.
+//! Cursors over index runs, one for each run, by the place of the entry under it; what stands under them is in a heap. All
+//! that have the least identifier move on. What is bound by it is left to `merging`.
 
-ghost use Rattle.std.specs.Prelude.{◌≡◌, ◌<◌, ◌⊎◌, ◌^◌, IsTrue, Some, IfSome, IfNone, length};
+ghost use Rattle.std.specs.Prelude.{◌≡◌, ◌+◌, ◌<◌, ◌^◌, ◌∷◌, All, Some, IfSome, IfNone, IfOk, OnOk, length, slice_index, slice_set, IsPermutation};
+ghost use Rattle.std.specs.List.{cons_option};
 ghost use Rattle.std.specs.Option.{option_map};
+ghost use Rattle.std.specs.BinaryHeap.{IsHeap, KeepsHeap, heap_items};
+ghost use Rattle.scrub_run.specs.Entry.{IsBelow};
 ghost use Rattle.scrub_run.specs.Run.{AreEntries};
-ghost use Rattle.scrub_run.specs.declared.shard_id.ShardId.{ShardId};
-ghost use Rattle.scrub_merge.specs.declared.cursors.Under.{Under};
-ghost use Rattle.scrub_merge.specs.Cursors.{entry_at, has_id, left, place_behind, places_behind, under_by, IsLeast, IsFirstWith, AreEmpty, AreRising, IsAtMost, IsBeforeAll};
+ghost use Rattle.scrub_merge.specs.ShardMap.{AreRuns};
+ghost use Rattle.scrub_merge.specs.Cursors.{entry_at, left, places_behind, under_by, under_cmp, IsLeast, IsHeapOf, IsHeapBut};
 
-use scrub_run::{Entry, Run, ShardId};
+use crate::under::Under;
+use scrub_run::{Entry, OutOfMemory, Run, ShardId};
+use std::alloc::Global;
+use std::collections::BinaryHeap;
 
 /// The entry under the cursor of a run: none where the run is lost, or was passed whole.
 pub(crate) fn entry_under(run: &Option<Run>, place: usize) -> Option<&Entry>
@@ -22,85 +27,92 @@ pub(crate) fn entry_under(run: &Option<Run>, place: usize) -> Option<&Entry>
     }
 }
 
-/// The identifier of the entry under a cursor.
-#[derive(Clone, Copy)]
-pub(crate) struct Under {
-    /// The number of its run.
-    pub number: usize,
-    pub id: ShardId,
-}
-
-/// What stands under the cursor of the run of this number.
-fn under_cursor(run: &Option<Run>, number: usize, place: usize) -> Option<Under>
-    ensures under { result ≡ option_map (under_by number) (entry_at run.now place) }
+/// Puts what stands under the cursor of the run of this number into the heap, if there is something.
+fn push_under(
+    heap: &mut BinaryHeap<Under>,
+    run: &Option<Run>,
+    number: usize,
+    place: usize,
+) -> Result<(), OutOfMemory>
+    ensures pushed { OnOk result (IsPermutation (cons_option (option_map (under_by number) (entry_at run.now place)) (heap_items heap.old)) (heap_items heap.new)) }
+    ensures order { OnOk result (KeepsHeap under_cmp (heap_items heap.old) (heap_items heap.new)) }
     ensures run { IfSome run.now AreEntries }
 {
-    match entry_under(run, place) {
-        None => None,
-        Some(entry) => Some(Under {
-            number,
+    if let Some(entry) = entry_under(run, place) {
+        heap.push(Under {
             id: entry.id(),
-        }),
+            number,
+        })?;
     }
+    Ok(())
 }
 
-/// The one with the lesser identifier, or the only one. Of two with the same identifier it is the first.
-fn lesser(first: Option<Under>, second: Option<Under>) -> Option<Under>
-    ensures first { (id : ShardId) → IsAtMost first id → IsAtMost result id }
-    ensures second { (u : Under) → second ≡ Some u → IsAtMost result u.id }
-    ensures one { (u : Under) → result ≡ Some u → (first ≡ Some u) ⊎ ((second ≡ Some u) × IsBeforeAll first u.id) }
+/// The heap of what stands first in the runs. Its room is taken once: it never has more than one of each run.
+pub(crate) fn heap_of(alloc: Global, runs: &[Option<Run>]) -> Result<BinaryHeap<Under>, OutOfMemory>
+    ensures heap { IfOk result (λ heap. IsHeapOf runs.now (heap_items heap)) }
+    ensures runs { IfOk result (λ _. AreRuns runs.now) }
 {
-    match (first, second) {
-        (Some(one), Some(other)) => Some(if other.id < one.id { other } else { one }),
-        (None, only) => only,
-        (only, None) => only,
-    }
-}
-
-/// The least identifier under the cursors, by the newest run that has it there: none where all runs were passed.
-pub(crate) fn least_under(runs: &[Option<Run>], places: &[usize]) -> Option<Under>
-    requires { length places.now ≡ length runs.now }
-    ensures least { IfSome result (λ u. IsLeast (left runs.now places.now) u.id) }
-    ensures newest { IfSome result (λ u. IsFirstWith (left runs.now places.now) u.id u.number) }
-    ensures none { IfNone result (AreEmpty (left runs.now places.now)) }
-    ensures rising { AreRising runs.now }
-{
-    let mut least = None;
+    let mut heap = BinaryHeap::with_capacity(alloc, runs.len())?;
     for (number, run) in runs.iter().enumerate() {
-        least = lesser(least, under_cursor(run, number, places[number]));
+        push_under(&mut heap, run, number, 0)?;
     }
-    least
+    Ok(heap)
 }
 
-/// Whether a run has an identifier under its cursor.
-fn is_under(run: &Option<Run>, place: usize, id: ShardId) -> bool
-    ensures told { result ≡ has_id id (entry_at run.now place) }
-    ensures within { IsTrue result → place < 2 ^ 32 }
+/// Takes the first out of the heap, if it has an identifier that nothing there is below.
+fn pop_with(heap: &mut BinaryHeap<Under>, id: ShardId) -> Option<Under>
+    requires order { IsHeap under_cmp (heap_items heap.old) }
+    requires least { All (λ u. ¬ IsBelow u.id id) (heap_items heap.old) }
+    ensures own { IfSome result (λ u. u.id ≡ id) }
+    ensures popped { IfSome result (λ u. IsPermutation (heap_items heap.old) (u ∷ heap_items heap.new)) }
+    ensures order { IsHeap under_cmp (heap_items heap.new) }
+    ensures none { IfNone result (All (λ u. ¬ (u.id ≡ id)) (heap_items heap.old)) }
+    ensures unchanged { IfNone result (heap_items heap.new ≡ heap_items heap.old) }
 {
-    match entry_under(run, place) {
-        None => false,
-        Some(entry) => entry.id().cmp(&id).is_eq(),
+    let first = heap.peek()?;
+    if first.id.cmp(&id).is_ne() {
+        return None;
     }
+    heap.pop()
 }
 
-/// Where the cursor of a run stands once it was moved on past an identifier.
-fn moved_on(run: &Option<Run>, place: usize, id: ShardId) -> usize
-    ensures { result ≡ place_behind id run.now place }
+/// Moves on the cursor of the run of this number, of which the heap has nothing, and puts what it then stands on there.
+fn move_one(
+    runs: &[Option<Run>],
+    places: &mut [usize],
+    heap: &mut BinaryHeap<Under>,
+    number: usize,
+) -> Result<(), OutOfMemory>
+    requires few { length runs.now < 2 ^ 32 }
+    requires count { length places.old ≡ length runs.now }
+    requires within { number < length runs.now }
+    requires place { slice_index places.old number < 2 ^ 32 }
+    requires heap { IsHeapBut number (left runs.now places.old) (heap_items heap.old) }
+    ensures moved { OnOk result (places.new ≡ slice_set places.old number (slice_index places.old number + 1)) }
+    ensures heap { OnOk result (IsHeapOf (left runs.now places.new) (heap_items heap.new)) }
 {
-    if is_under(run, place, id) {
-        place + 1
-    } else {
-        place
-    }
+    let place = places[number] + 1;
+    places[number] = place;
+    push_under(heap, &runs[number], number, place)
 }
 
-/// Moves on every cursor that has an identifier.
-pub(crate) fn move_on(runs: &[Option<Run>], places: &mut [usize], id: ShardId)
-    requires { length places.old ≡ length runs.now }
-    ensures { places.new ≡ places_behind id runs.now places.old }
+/// Moves on every cursor that has the least identifier.
+pub(crate) fn move_on(
+    runs: &[Option<Run>],
+    places: &mut [usize],
+    heap: &mut BinaryHeap<Under>,
+    id: ShardId,
+) -> Result<(), OutOfMemory>
+    requires few { length runs.now < 2 ^ 32 }
+    requires runs { AreRuns runs.now }
+    requires count { length places.old ≡ length runs.now }
+    requires heap { IsHeapOf (left runs.now places.old) (heap_items heap.old) }
+    requires least { IsLeast (left runs.now places.old) id }
+    ensures moved { OnOk result (places.new ≡ places_behind id runs.now places.old) }
+    ensures heap { OnOk result (IsHeapOf (left runs.now places.new) (heap_items heap.new)) }
 {
-    for (number, run) in runs.iter().enumerate() {
-        let place = moved_on(run, places[number], id);
-        places[number] = place;
+    while let Some(next) = pop_with(heap, id) {
+        move_one(runs, places, heap, next.number)?;
     }
+    Ok(())
 }

@@ -6,6 +6,7 @@ pub mod binding;
 mod cursors;
 pub mod merging;
 pub mod shard_map;
+mod under;
 
 pub use binding::Binding;
 pub use merging::{merge, one_shard_map};

@@ -1,6 +1,6 @@
-//! The newest binding of each identifier over a list of index runs, by one cursor for each run: the least identifier under
-//! them is bound by the newest run that has it, and every cursor that has it moves on. Which runs are lost is left to the
-//! crates above.
+//! The newest binding of each identifier over a list of index runs, by one cursor for each run and a heap of what stands
+//! under them: the least identifier is bound by the newest run that has it, and every cursor that has it moves on. Which
+//! runs are lost is left to the crates above.
 
 ghost use Rattle.std.specs.Prelude.{◌≡◌, List, ◌<◌, ◌≤◌, ◌^◌, ◌↔◌, IsTrue, IfOk, OnOk, length};
 ghost use Rattle.scrub_merge.specs.Binding.{BindingValue, Runs, LostBefore};
@@ -8,8 +8,9 @@ ghost use Rattle.scrub_merge.specs.Cursors.{left, IsLeast, IsFirstWith, IsBound,
 ghost use Rattle.scrub_merge.specs.ShardMap.{AreRuns, IsShardMap};
 
 use crate::binding::Binding;
-use crate::cursors::{Under, entry_under, least_under, move_on};
+use crate::cursors::{entry_under, heap_of, move_on};
 use crate::shard_map::ShardMap;
+use crate::under::Under;
 use scrub_run::{Entry, OutOfMemory, Run};
 use std::alloc::Global;
 
@@ -70,9 +71,10 @@ pub fn merge(alloc: Global, runs: &[Option<Run>]) -> Result<ShardMap, OutOfMemor
 {
     let mut bindings = Vec::new(alloc);
     let mut places = vec![in alloc; 0; runs.len()]?;
-    while let Some(least) = least_under(runs, &places) {
+    let mut heap = heap_of(alloc, runs)?;
+    while let Some(&least) = heap.peek() {
         bind_newest(alloc, runs, &places, &least, &mut bindings)?;
-        move_on(runs, &mut places, least.id);
+        move_on(runs, &mut places, &mut heap, least.id)?;
     }
     Ok(ShardMap::new(bindings))
 }

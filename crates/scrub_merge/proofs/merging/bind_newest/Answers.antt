@@ -3,8 +3,7 @@ use Rattle.std.proofs.Common.{◌≡◌, ◌<◌, ◌↔◌, ◌++◌, [], ◌�
 use Rattle.std.proofs.lemmas.Option.{none-some}
 use Rattle.scrub_merge.specs.Binding.{LostBefore}
 use Rattle.scrub_merge.specs.Cursors.{left, entry_at}
-use Rattle.scrub_merge.proofs.Left.{first_within, length-left, lost_left, rising_left}
-use Rattle.scrub_merge.proofs.Walks.{at_cursor}
+use Rattle.scrub_merge.proofs.Left.{at_cursor, first_within, length-left, lost_left, rising_left}
 use Rattle.scrub_merge.proofs.NextBound.{bound_made, deleted, bound, empty_length, some_length}
 use Rattle.scrub_merge.proofs.merging.bind_newest.Goals as goal
 

@@ -1,12 +1,15 @@
--- Whatever is bound by what is left, behind the bindings so far it is the shard map; and ever less is left.
+-- Whatever is bound by what is left, behind the bindings so far it is the shard map; what stands first in it is in the
+-- heap; and ever less is left.
 use Rattle.std.proofs.Common.{◌≡◌, length}
-use Rattle.scrub_merge.specs.Cursors.{left, Continues}
+use Rattle.std.specs.BinaryHeap.{heap_items}
+use Rattle.scrub_merge.specs.Cursors.{left, Continues, IsHeapOf}
 use Rattle.scrub_merge.proofs.Left.{entries_left}
 use Rattle.scrub_merge.proofs.merging.merge.Given as goal
 
 abbrev pub invariant-loop-least : goal.invariant-loop-least
 invariant-loop-least l = record {
   places : length l.places.items ≡ length l.runs;
+  heap : IsHeapOf (left l.runs l.places.items) (heap_items l.heap);
   continues : Continues l.runs (left l.runs l.places.items) l.bindings.items;
 }
 
