@@ -1,10 +1,8 @@
 -- What is told of the extents so far, and of one more.
 use Rattle.std.proofs.Common.{◌≡◌, ◌+◌, ◌++◌, ◌∷◌, [], ℕ, List, Some, slice_get, map, take, sym, ◌∙◌, ap}
-use Rattle.std.specs.List.{filter, filter_map}
+use Rattle.std.specs.List.{filter_map}
 use Rattle.std.proofs.lemmas.List.{map-append, append-nil}
-use Rattle.std.proofs.lemmas.List.Elements.{filter-append}
 use Rattle.std.proofs.lemmas.Grind.{flat_map-append}
-use Rattle.scrub_disk.specs.declared.geometry.Geometry.{Geometry}
 use Rattle.scrub_scan.specs.declared.item.Item.{Item}
 use Rattle.scrub_scan.specs.Scanned.{Scanned}
 use Rattle.scrub_scan.proofs.Taken.{take_next}
@@ -12,7 +10,6 @@ use Rattle.scrub_check.specs.declared.checked.Checked.{Checked}
 use Rattle.scrub_check.specs.declared.place.Place.{Place}
 use Rattle.scrub_check.specs.Chunks.{place_of, chunks_in, chunks}
 use Rattle.scrub_check.specs.Live.{live_bytes}
-use Rattle.scrub_check.specs.Candidates.{CandidateValue, is_reclaimable, candidate_of, reclaimable}
 
 module _ (all : List Scanned) (i : ℕ) (f : Scanned) (at : slice_get all i ≡ Some f) where
   -- its live bytes
@@ -35,13 +32,3 @@ module _ (all : List Scanned) (i : ℕ) (f : Scanned) (at : slice_get all i ≡ 
       ∙ ap (λ ps. chunks (take i all) ++ ps) (sym (append-nil (chunks_in f)))
       ∙ sym (flat_map-append chunks_in (take i all) (f ∷ []))
       ∙ ap chunks (sym (take_next all i f at))
-
-  -- it, if it may be reclaimed
-  pub reclaimable_more : (g : Geometry) (checked : List Checked) (old new : List CandidateValue) → old ≡ reclaimable g (take i all) checked → new ≡ old ++ reclaimable g (f ∷ []) checked →
-      new ≡ reclaimable g (take (i + 1) all) checked
-  reclaimable_more g checked old new is grown =
-      grown
-      ∙ ap (λ cs. cs ++ reclaimable g (f ∷ []) checked) is
-      ∙ sym (map-append (candidate_of checked) (filter (is_reclaimable g checked) (take i all)) (filter (is_reclaimable g checked) (f ∷ [])))
-      ∙ ap (map (candidate_of checked)) (sym (filter-append (is_reclaimable g checked) (take i all) (f ∷ [])))
-      ∙ ap (λ fs. reclaimable g fs checked) (sym (take_next all i f at))

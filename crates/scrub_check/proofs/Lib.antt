@@ -12,6 +12,9 @@ pub mod CheckedLists
 pub mod SeenPlaces
 pub mod ExtentsSoFar
 pub mod Reclaimable
+pub mod WalkedPlaces
+pub mod WalkedItems
+pub mod WalkedExtents
 pub mod Rising
 pub mod KeptChunks
 pub mod OneList

@@ -75,13 +75,6 @@ told_of_live told y checked starts e f is js are same items h =
     ∙ ap (λ xs. told (filter (is_live_by starts f) xs)) items
     ∙ ap told (live_sizes checked starts f js are)
 
-pub same_difference : (a b c d : ℕ) → a ≡ c → b ≡ d → a - b ≡ c - d
-same_difference a b c d p q = ap (λ n. n - b) p ∙ ap (λ n. c - n) q
-
-pub candidate_parts : (c a : CandidateValue) (e n : ℕ) (ks : List ℕ) → c ≡ record { extent = e; free = n; keep = ks } → e ≡ a.extent → n ≡ a.free → ks ≡ a.keep → c ≡ a
-candidate_parts c a e n ks is extent free keep =
-    let same : (let parts : CandidateValue = record { extent = e; free = n; keep = ks } in parts) ≡ a = λ i. record { extent = extent i; free = free i; keep = keep i } in is ∙ same
-
 -- ---- each extent is a candidate once
 
 -- how many of a list have this number

@@ -51,10 +51,6 @@ sum_of_kept f p (x ∷ xs) = by (p x) (sum_of_kept f p xs)
     by true less = omega (arith, sum_by-cons f x (filter p xs), sum_by-cons f x xs, less)
     by false less = omega (arith, sum_by-cons f x xs, less)
 
--- so what passes of what was found takes no more than was written
-pub kept_sizes : (image : Image) (e w : ℕ) (found : Findings) (p : Item → Bool) → IsFindings image e w found → sum_by size_of (filter p found.items) ≤ w
-kept_sizes image e w found p h = omega (arith, sizes_found image e w found h, sum_of_kept size_of p found.items)
-
 -- what wasn't scanned isn't found
 pub not_scanned : (all : List Scanned) (e : ℕ) → ¬ Contains (extent_numbers all) e → entry_of all e ≡ None
 not_scanned all e missing = by (entry_of all e) refl

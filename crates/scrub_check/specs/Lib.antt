@@ -9,7 +9,6 @@ pub mod Chunks
 pub mod Shared
 pub mod Candidates
 pub mod Kept
-pub mod SoundStarts
 pub use Rattle.scrub_disk.specs.Image
 pub use Rattle.scrub_super.specs.Plan
 pub use Rattle.scrub_scan.specs.Scanned
@@ -23,4 +22,6 @@ pub mod ChunkRun
 pub mod Distinct
 pub mod ChunkUuids
 pub mod BrokenShards
+pub mod SoundStarts
 pub mod Verdicts
+pub mod Walked

@@ -1,5 +1,5 @@
 -- What the named locators say of places and extents, sorted by the code, and what that says of an extent.
-use Rattle.std.specs.Prelude.{◌-◌, ◌++◌, ◌∷◌, [], ℕ, not, List, map}
+use Rattle.std.specs.Prelude.{◌++◌, ◌∷◌, [], ℕ, not, List, map}
 use Rattle.std.specs.List.{filter}
 use Rattle.std.specs.List.Sorted.{IsPermutation}
 use Rattle.scrub_disk.specs.declared.geometry.Geometry.{Geometry}
@@ -7,7 +7,6 @@ use Rattle.scrub_scan.specs.Scanned.{Scanned}
 use Rattle.scrub_check.specs.declared.checked.Checked.{Checked}
 use Rattle.scrub_check.specs.declared.verdicts.Verdicts.{Verdicts}
 use Rattle.scrub_check.specs.Checked.{is_sound}
-use Rattle.scrub_check.specs.Live.{live_bytes}
 use Rattle.scrub_check.specs.SoundStarts.{AreSoundStarts}
 use Rattle.scrub_check.specs.Candidates.{CandidateValue, reclaimable}
 
@@ -19,10 +18,6 @@ AreUnsoundExtents checked extents = IsPermutation (map (λ c. c.locator.extent) 
 pub record AreVerdicts (checked : List Checked) (v : Verdicts) : Type 0 where
   pub sound : AreSoundStarts checked v.sound.now
   pub unsound : AreUnsoundExtents checked v.unsound
-
--- how many bytes below the write pointer of an extent no live chunk takes
-abbrev pub free_bytes : List Checked → Scanned → ℕ
-free_bytes checked f = f.pointer - live_bytes checked f
 
 -- the candidates, and behind them the extent, where it may be reclaimed
 abbrev pub with_reclaimable : Geometry → List Checked → List CandidateValue → Scanned → List CandidateValue

@@ -40,7 +40,7 @@ pub(crate) fn frame_of_item(extent: u32, item: &Item) -> Option<Standing>
 }
 
 /// The place of an item of an extent, where it is a chunk.
-fn place_of(extent: u32, item: &Item) -> Option<Place>
+pub(crate) fn place_of(extent: u32, item: &Item) -> Option<Place>
     ensures { result ≡ place_of extent item.now }
 {
     frame_of_item(extent, item).map(|frame| Place {
@@ -115,7 +115,7 @@ pub fn orphans<D: PageSource>(
 }
 
 /// The same, where the places are known that sound locators point to.
-pub fn orphans_by<D: PageSource>(
+pub(crate) fn orphans_by<D: PageSource>(
     alloc: Global,
     all: &AllFindings<'_, D>,
     sound: &SoundStarts,

@@ -15,7 +15,7 @@ use scrub_scan::{AllFindings, ExtentResult, Item};
 use std::alloc::Global;
 
 /// How many bytes an item takes.
-fn size_of(item: &Item) -> u32
+pub(crate) fn size_of(item: &Item) -> u32
     ensures { result ≡ size_of item.now }
 {
     item.stop().saturating_sub(item.start())
@@ -44,7 +44,7 @@ fn has_sound_at(checked: &[Checked], extent: u32, offset: u32) -> bool
 }
 
 /// What tells which items of an extent are live.
-pub(crate) trait TellsLive {
+trait TellsLive {
     ghost use Rattle.std.specs.Prelude.{ℕ, Bool};
     ghost use Rattle.scrub_scan.specs.declared.item.Item.{Item};
 
@@ -87,7 +87,7 @@ impl TellsLive for SoundStarts {
 }
 
 /// How many bytes the live ones among items of an extent take.
-pub(crate) fn sum_of_live<L: TellsLive>(items: &[Item], live: &L, extent: u32) -> u32
+fn sum_of_live<L: TellsLive>(items: &[Item], live: &L, extent: u32) -> u32
     requires { sum_by size_of items.now < 2 ^ 32 }
     ensures { result ≡ sum_by size_of (filter (L.is_live live.now extent) items.now) }
 {
@@ -102,15 +102,17 @@ pub(crate) fn sum_of_live<L: TellsLive>(items: &[Item], live: &L, extent: u32) -
 fn live_bytes_of<D: PageSource>(one: &ExtentResult<'_, D>, checked: &[Checked]) -> u32
     ensures { result ≡ live_bytes checked.now (scanned one.now) }
 {
+    // It bounds the sum: the items join up to the pointer.
     let pointer = one.pointer();
     let items = one.findings().items();
     sum_of_live(items, &Walked { checked }, one.extent())
 }
 
 /// The same by searches.
-pub(crate) fn live_bytes_in<D: PageSource>(one: &ExtentResult<'_, D>, sound: &SoundStarts) -> u32
+fn live_bytes_in<D: PageSource>(one: &ExtentResult<'_, D>, sound: &SoundStarts) -> u32
     ensures { (checked : List Checked) → AreSoundStarts checked sound.now → result ≡ live_bytes checked (scanned one.now) }
 {
+    // It bounds the sum: the items join up to the pointer.
     let pointer = one.pointer();
     let items = one.findings().items();
     sum_of_live(items, sound, one.extent())
@@ -140,7 +142,7 @@ pub fn all_live_bytes<D: PageSource>(
 }
 
 /// The same, where the places are known that sound locators point to.
-pub fn all_live_bytes_by<D: PageSource>(
+pub(crate) fn all_live_bytes_by<D: PageSource>(
     alloc: Global,
     all: &AllFindings<'_, D>,
     sound: &SoundStarts,

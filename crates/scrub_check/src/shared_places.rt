@@ -47,7 +47,7 @@ pub fn shared(alloc: Global, checked: &[Checked]) -> Result<Vec<SharedPlace>, Ou
 }
 
 /// The same, where the places are known that sound locators point to.
-pub fn shared_by(alloc: Global, sound: &SoundStarts) -> Result<Vec<SharedPlace>, OutOfMemory>
+pub(crate) fn shared_by(alloc: Global, sound: &SoundStarts) -> Result<Vec<SharedPlace>, OutOfMemory>
     ensures { (checked : List Checked) → AreSoundStarts checked sound.now → IfOk result (λ v. AreShared checked v.items) }
 {
     if sound.are_distinct() {

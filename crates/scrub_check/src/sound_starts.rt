@@ -2,7 +2,7 @@
 
 ghost use Rattle.std.specs.Prelude.{◌≡◌, ◌↔◌, nat_lt, IsTrue, IfOk, List};
 ghost use Rattle.std.specs.List.{count_by};
-ghost use Rattle.std.specs.List.Sorted.{IsStrictlySortedBy};
+ghost use Rattle.std.specs.List.Sorted.{IsSorted, IsStrictlySortedBy};
 ghost use Rattle.scrub_check.specs.declared.checked.Checked.{Checked};
 ghost use Rattle.scrub_check.specs.Distinct.{AreDistinct};
 ghost use Rattle.scrub_check.specs.SoundStarts.{start_cmp, is_start, sound_starts, AreSoundStarts, has_sound_to};
@@ -61,6 +61,15 @@ impl SoundStarts {
     {
         let starts = sorted(starts_of(alloc, checked)?)?;
         Ok(SoundStarts { starts })
+    }
+
+    /// All the places, by extent and then byte.
+    pub(crate) fn starts(&self) -> &[Start]
+        ensures places { result.now ≡ self.now }
+        // Those of every value of the type are sorted.
+        ensures sorted { IsSorted start_cmp self.now }
+    {
+        &self.starts
     }
 
     /// Whether each place stands there once.

@@ -1,0 +1,63 @@
+-- The sorted places that sound locators point to, as they are walked beside the items of the extents.
+use Rattle.std.specs.Prelude.{◌≡◌, ◌<◌, ◌≤◌, ℕ, false, not, List, length, map, slice_index_or}
+use Rattle.std.specs.Ordering.{is_lt}
+use Rattle.std.specs.List.{filter, filter_map, sum_by}
+use Rattle.std.specs.List.Sorted.{IsSorted}
+use Rattle.scrub_disk.specs.declared.geometry.Geometry.{Geometry}
+use Rattle.scrub_scan.specs.declared.item.Item.{Item}
+use Rattle.scrub_scan.specs.Item.{start_of}
+use Rattle.scrub_scan.specs.Scanned.{Scanned}
+use Rattle.scrub_check.specs.declared.checked.Checked.{Checked}
+use Rattle.scrub_check.specs.declared.cursor.Cursor.{Cursor}
+use Rattle.scrub_check.specs.declared.place.Place.{Place}
+use Rattle.scrub_check.specs.declared.sound_starts.Start.{Start}
+use Rattle.scrub_check.specs.declared.walked.LiveChunks.{LiveChunks}
+use Rattle.scrub_check.specs.declared.walked.Told.{Told}
+use Rattle.scrub_check.specs.Live.{size_of, live_chunks, live_bytes}
+use Rattle.scrub_check.specs.Chunks.{place_of, orphans}
+use Rattle.scrub_check.specs.SoundStarts.{start_cmp, is_live_by, is_named_by}
+use Rattle.scrub_check.specs.Candidates.{reclaimable}
+
+-- a place lies before byte p of extent e
+abbrev pub LiesBefore : ℕ → ℕ → Start → Type 0
+LiesBefore e p s = (s.extent ≤ e) × (s.extent ≡ e → s.offset < p)
+
+-- so do the first n of some places
+abbrev pub AreBefore : List Start → ℕ → ℕ → ℕ → Type 0
+AreBefore starts n e p = (k : ℕ) (d : Start) → k < n → LiesBefore e p (slice_index_or starts k d)
+
+-- the first n of some places are below a place, and the next one, if there is one, isn't
+pub record IsFirstFrom (starts : List Start) (s : Start) (n : ℕ) : Type 0 where
+  pub within : n ≤ length starts
+  pub before : AreBefore starts n s.extent s.offset
+  pub next : (d : Start) → n < length starts → is_lt (start_cmp (slice_index_or starts n d) s) ≡ false
+
+-- a cursor over sorted places has passed none from byte p of extent e on
+pub record HasPassed (c : Cursor) (e p : ℕ) : Type 0 where
+  pub sorted : IsSorted start_cmp c.starts.now
+  pub within : c.at ≤ length c.starts.now
+  pub before : AreBefore c.starts.now c.at e p
+
+-- the items of extent e that are chunks at one of these places
+abbrev pub live_by : List Start → ℕ → List Item → List Item
+live_by starts e items = filter (is_live_by starts e) items
+
+-- and the other chunks among them
+abbrev pub orphans_by : List Start → ℕ → List Item → List Place
+orphans_by starts e items = filter (λ p. not (is_named_by starts p)) (filter_map (place_of e) items)
+
+-- what is told of the first ones
+pub record AreLiveBy (starts : List Start) (e : ℕ) (items : List Item) (l : LiveChunks) : Type 0 where
+  pub sizes : l.bytes ≡ sum_by size_of (live_by starts e items)
+  pub begins : l.starts.items ≡ map start_of (live_by starts e items)
+
+-- and of the live chunks of an extent
+pub record AreLiveChunks (checked : List Checked) (f : Scanned) (l : LiveChunks) : Type 0 where
+  pub sizes : l.bytes ≡ live_bytes checked f
+  pub begins : l.starts.items ≡ map start_of (live_chunks checked f)
+
+-- what is told of some extents: their live bytes, their orphans, and which of them may be reclaimed
+pub record AreToldOf (g : Geometry) (checked : List Checked) (extents : List Scanned) (t : Told) : Type 0 where
+  pub sizes : t.live.items ≡ map (live_bytes checked) extents
+  pub garbage : t.orphans.items ≡ orphans extents checked
+  pub candidates : t.reclaimable.items ≡ reclaimable g extents checked
