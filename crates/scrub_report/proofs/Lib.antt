@@ -1,9 +1,8 @@
--- Lemmas on what a writer holds, on lists of values, and on the report as a value.
+-- Lemmas on what a writer holds, on lists side by side, and on the report's tokens.
 pub mod Appending
-pub mod Shown
+pub mod SideBySide
 pub mod ScannedLive
-pub mod NoFloats
-pub mod KeyValues
+pub mod Tokens
 pub mod LocatorValues
 pub mod KeptEntries
 pub mod OneReader

@@ -5,8 +5,9 @@ pub mod Json
 pub mod Texts
 pub mod Report
 pub mod Index
+pub mod Locators
 pub mod Answer
 -- The steps of the code.
 pub mod Parts
-pub mod Keys
+pub mod Tokens
 pub mod Kept

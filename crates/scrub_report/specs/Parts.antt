@@ -24,7 +24,7 @@ module _ {D : Type 0} {s : _} where
     read = p.read;
     bindings = p.map;
     checked = p.checked.items;
-    shared = p.shared.items;
+    shared = p.liveness.shared.items;
     broken = p.broken.items;
-    candidates = p.candidates.items;
+    candidates = p.liveness.candidates.items;
   }

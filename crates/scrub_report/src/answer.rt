@@ -7,12 +7,11 @@ ghost use Rattle.scrub_report.specs.Answer.{AnswerValue, IsScrubAnswer, ArePlann
 ghost use Rattle.scrub_report.specs.Parts.{IsScan};
 
 use crate::index::index_bytes;
-use crate::report::{report_text, report_value};
-use crate::scrubbing::{Scan, is_clean, parts_of};
+use crate::report::report_text;
+use crate::scanning::{Scan, scan_by, scan_by_one};
+use crate::scrubbing::{is_clean, parts_of};
 use scrub_disk::{OutOfMemory, PageSource};
-use scrub_pool::{ExtentQueue, Gate, PoolFault, Takings, scan_all};
-use scrub_scan::scan_in_order;
-use scrub_super::{Plan, choose};
+use scrub_pool::{Gate, PoolFault, Takings};
 use std::alloc::Global;
 use std::marker::Model;
 use std::sync::Wait;
@@ -102,9 +101,7 @@ fn answer_of<R: Threads + Sync, D: PageSource>(
     let parts = parts_of(rt, alloc, scan)?;
     let index = index_bytes(alloc, parts.map.bindings(), &parts.checked, &parts.broken)?;
     let is_clean = is_clean(&parts);
-    let object = report_value(alloc, &parts, is_clean)?;
-    drop(parts);
-    let report = report_text(alloc, object)?;
+    let report = report_text(alloc, &parts, is_clean)?;
     Ok(ScrubAnswer {
         report,
         index,
@@ -122,15 +119,7 @@ pub fn scrub_in_order<R: Threads + Sync, D: PageSource>(
 ) -> Result<ScrubAnswer, ScrubFault>
     ensures { IfOk result (IsScrubAnswer (D.image disk.now)) }
 {
-    let chosen = choose(alloc, disk)?;
-    let plan = Plan::make(alloc, &chosen, disk.geometry())?;
-    let all = scan_in_order(alloc, disk, &plan)?;
-    let scan = Scan {
-        disk,
-        chosen,
-        plan,
-        all,
-    };
+    let scan = scan_by_one(alloc, disk)?;
     Ok(answer_of(rt, alloc, scan)?)
 }
 
@@ -150,16 +139,7 @@ pub fn scrub<D: PageSource, G: Gate, R: Threads + Wait + Sync>(
     ensures partition { IfOk result (λ r. (planned : List ℕ) × ArePlannedExtents (D.image disk.now) planned × IsPartition planned r.1.lists) }
     ensures counted { IfOk result (λ r. (planned : List ℕ) × ArePlannedExtents (D.image disk.now) planned × (r.1.counted ≡ length planned)) }
 {
-    let chosen = choose(alloc, disk)?;
-    let plan = Plan::make(alloc, &chosen, disk.geometry())?;
-    let (queue, mut first) = ExtentQueue::new(rt, alloc, &plan)?;
-    let (all, takings) = scan_all(rt, alloc, disk, &plan, &queue, &mut first, workers, gate)?;
-    let scan = Scan {
-        disk,
-        chosen,
-        plan,
-        all,
-    };
+    let (scan, takings) = scan_by(rt, alloc, disk, workers, gate)?;
     let answer = answer_of(rt, alloc, scan)?;
     Ok((answer, takings))
 }

@@ -1,53 +1,52 @@
-//! The report's values of chunks at their places, and of the extents that may be reclaimed.
+//! Chunks at their places, and the extents that may be reclaimed, as the report has them.
 
-ghost use Rattle.std.specs.Prelude.{◌≡◌};
 ghost use Rattle.scrub_report.specs.Report.{candidate_data, place_data, shared_data};
 
-use crate::texts::uuid_text;
-use crate::values::{ToJson, list_value};
+use crate::written::{WriteJson, write_list_member, write_member, write_uuid};
+use json::Writer;
 use scrub_check::{Candidate, Place, SharedPlace};
 use scrub_disk::OutOfMemory;
-use serde_json::{Value, json};
 use std::alloc::Global;
 
 /// One of `orphans`, or of `twins`.
-impl ToJson for Place {
+impl WriteJson for Place {
     ghost shown = { place_data };
 
-    fn to_json(&self, alloc: Global) -> Result<Value, OutOfMemory> {
-        let uuid = uuid_text(alloc, self.uuid)?;
-        json!(in alloc; {
-            "extent": self.extent,
-            "length": self.length,
-            "offset": self.offset,
-            "uuid": uuid,
-        })
+    fn write_json(&self, alloc: Global, out: &mut Writer) -> Result<(), OutOfMemory> {
+        out.begin_object()?;
+        write_member(alloc, out, "extent", &self.extent)?;
+        write_member(alloc, out, "length", &self.length)?;
+        write_member(alloc, out, "offset", &self.offset)?;
+        write_uuid(out, "uuid", self.uuid)?;
+        out.end_object()?;
+        Ok(())
     }
 }
 
 /// One of `shared`.
-impl ToJson for SharedPlace {
+impl WriteJson for SharedPlace {
     ghost shown = { shared_data };
 
-    fn to_json(&self, alloc: Global) -> Result<Value, OutOfMemory> {
-        json!(in alloc; {
-            "count": self.count,
-            "extent": self.extent,
-            "offset": self.offset,
-        })
+    fn write_json(&self, alloc: Global, out: &mut Writer) -> Result<(), OutOfMemory> {
+        out.begin_object()?;
+        write_member(alloc, out, "count", &self.count)?;
+        write_member(alloc, out, "extent", &self.extent)?;
+        write_member(alloc, out, "offset", &self.offset)?;
+        out.end_object()?;
+        Ok(())
     }
 }
 
 /// One of `candidates`.
-impl ToJson for Candidate {
+impl WriteJson for Candidate {
     ghost shown = { candidate_data };
 
-    fn to_json(&self, alloc: Global) -> Result<Value, OutOfMemory> {
-        let keep = list_value(alloc, self.keep())?;
-        json!(in alloc; {
-            "extent": self.extent(),
-            "free": self.free(),
-            "keep": keep,
-        })
+    fn write_json(&self, alloc: Global, out: &mut Writer) -> Result<(), OutOfMemory> {
+        out.begin_object()?;
+        write_member(alloc, out, "extent", &self.extent())?;
+        write_member(alloc, out, "free", &self.free())?;
+        write_list_member(alloc, out, "keep", self.keep())?;
+        out.end_object()?;
+        Ok(())
     }
 }

@@ -111,6 +111,7 @@ pub(crate) fn index_bytes(
     requires count { length bindings.now < 2 ^ 32 }
     ensures { IfOk result (λ bytes. bytes.items ≡ run_bytes (index_entries checked.now bindings.now)) }
 {
+    // The contract tells by them which shards are broken; the code is given those.
     let _ = checked;
     let (entries, locators) = kept_sizes(bindings, broken);
     let room = BARE_RUN_BYTES + BARE_ENTRY_BYTES * entries + LOCATOR_BYTES * locators;

@@ -1,134 +1,160 @@
-//! The report's keys with their values, from what was found on a disk, a few at a time. Each list that only the report
-//! needs is given up once its value stands.
+//! The report's keys with their values, from what was found on a disk, in the order of the keys. Each list that only the
+//! report needs is given up once it is written.
 
-ghost use Rattle.std.specs.Prelude.{◌≡◌, IfOk, OnOk, length, map};
-ghost use Rattle.serde_json.specs.View.{members_view, view};
+ghost use Rattle.std.specs.Prelude.{◌≡◌, ◌++◌, OnOk, codes, length, map};
 ghost use Rattle.scrub_check.specs.Checked.{dangling, hidden};
 ghost use Rattle.scrub_check.specs.Chunks.{orphans, twins};
 ghost use Rattle.scrub_report.specs.Json.{list};
-ghost use Rattle.scrub_report.specs.Keys.{with_chunks, with_disk, with_index, with_locators};
 ghost use Rattle.scrub_report.specs.Parts.{found_in};
 ghost use Rattle.scrub_report.specs.Report.{dangling_data, doubtful_ids, extents_data, hidden_data, ids_data, place_data};
 ghost use Rattle.scrub_report.specs.Scrubbed.{is_clean};
+ghost use Rattle.scrub_report.specs.Tokens.{extent_keys, first_keys, last_keys, member_tokens, members_tokens, run_keys};
 
-use crate::extents::extents_value;
+use crate::extents::write_extents;
 use crate::parts::Parts;
-use crate::runs::runs_value;
+use crate::runs::write_runs;
 use crate::shards::doubtful_ids;
-use crate::sizes::{geometry_value, super_value};
-use crate::values::list_value;
-use scrub_check::{Checked, all_live_bytes_by, dangling, hidden, orphans_by, twins};
+use crate::sizes::{write_geometry, write_super};
+use crate::written::{write_list_member, write_member};
+use json::Writer;
+use scrub_check::{Checked, dangling, hidden, twins};
 use scrub_disk::{OutOfMemory, PageSource};
 use scrub_merge::Binding;
 use scrub_scan::AllFindings;
-use serde_json::{Map, Value, put};
 use std::alloc::Global;
 
-/// The value of `dangling`.
-fn dangling_key(alloc: Global, checked: &[Checked]) -> Result<Value, OutOfMemory>
-    ensures { IfOk result (λ v. view v ≡ list (map dangling_data (dangling checked.now))) }
+/// Writes the key `dangling`.
+fn write_dangling(alloc: Global, out: &mut Writer, checked: &[Checked]) -> Result<(), OutOfMemory>
+    ensures tokens { OnOk result (out.new.tokens ≡ out.old.tokens ++
+        member_tokens (codes "dangling") (list (map dangling_data (dangling checked.now)))) }
+    ensures before { out.new.before ≡ out.old.before }
 {
-    list_value(alloc, &dangling(alloc, checked)?)
+    write_list_member(alloc, out, "dangling", &dangling(alloc, checked)?)
 }
 
-/// The value of `hidden`.
-fn hidden_key(alloc: Global, checked: &[Checked]) -> Result<Value, OutOfMemory>
-    ensures { IfOk result (λ v. view v ≡ list (map hidden_data (hidden checked.now))) }
+/// Writes the key `doubtful`.
+fn write_doubtful(alloc: Global, out: &mut Writer, bindings: &[Binding]) -> Result<(), OutOfMemory>
+    ensures tokens { OnOk result (out.new.tokens ≡ out.old.tokens ++
+        member_tokens (codes "doubtful") (ids_data (doubtful_ids bindings.now))) }
+    ensures before { out.new.before ≡ out.old.before }
 {
-    list_value(alloc, &hidden(alloc, checked)?)
+    write_list_member(alloc, out, "doubtful", &doubtful_ids(alloc, bindings)?)
 }
 
-/// The value of `doubtful`.
-fn doubtful_key(alloc: Global, bindings: &[Binding]) -> Result<Value, OutOfMemory>
-    ensures { IfOk result (λ v. view v ≡ ids_data (doubtful_ids bindings.now)) }
-{
-    list_value(alloc, &doubtful_ids(alloc, bindings)?)
-}
-
-/// The value of `extents`.
-fn extents_key<D: PageSource>(alloc: Global, parts: &Parts<'_, D>) -> Result<Value, OutOfMemory>
-    ensures { IfOk result (λ v. view v ≡ extents_data (found_in parts.now).checked (found_in parts.now).all) }
-{
-    let live = all_live_bytes_by(alloc, &parts.all, &parts.sound)?;
-    extents_value(alloc, &parts.all, &live)
-}
-
-/// The value of `orphans`.
-fn orphans_key<D: PageSource>(alloc: Global, parts: &Parts<'_, D>) -> Result<Value, OutOfMemory>
-    ensures { IfOk result (λ v. view v ≡ list (map place_data (orphans (found_in parts.now).all (found_in parts.now).checked))) }
-{
-    list_value(alloc, &orphans_by(alloc, &parts.all, &parts.sound)?)
-}
-
-/// The value of `twins`.
-fn twins_key<D: PageSource>(alloc: Global, all: &AllFindings<'_, D>) -> Result<Value, OutOfMemory>
-    ensures { IfOk result (λ v. view v ≡ list (map place_data (twins all.now.extents))) }
-{
-    list_value(alloc, &twins(alloc, all)?)
-}
-
-/// Puts the values of the index to the report.
-pub(crate) fn put_index<D: PageSource>(
-    report: &mut Map<String, Value>,
+/// Writes the key `extents`.
+fn write_all_extents<D: PageSource>(
     alloc: Global,
+    out: &mut Writer,
     parts: &Parts<'_, D>,
 ) -> Result<(), OutOfMemory>
-    requires { length (found_in parts.now).read.runs ≡ length (found_in parts.now).plan.runs }
-    ensures { OnOk result (members_view report.new.entries ≡
-        with_index (found_in parts.now) (members_view report.old.entries)) }
+    ensures tokens { OnOk result (out.new.tokens ≡ out.old.tokens ++
+        member_tokens (codes "extents") (extents_data (found_in parts.now).checked (found_in parts.now).all)) }
+    ensures before { out.new.before ≡ out.old.before }
 {
-    let bindings = parts.map.bindings();
-    let broken = list_value(alloc, &parts.broken)?;
-    put(report, alloc, "broken", broken)?;
-    let doubtful = doubtful_key(alloc, bindings)?;
-    put(report, alloc, "doubtful", doubtful)?;
-    let runs = runs_value(alloc, parts.plan.runs(), &parts.read)?;
-    put(report, alloc, "runs", runs)?;
-    put(report, alloc, "shards", Value::from(bindings.len()))
+    out.key("extents")?;
+    write_extents(alloc, out, &parts.all, &parts.liveness.live)
 }
 
-/// Puts the values of the locators to the report, and whether all is in good order.
-pub(crate) fn put_locators<D: PageSource>(
-    report: &mut Map<String, Value>,
+/// Writes the key `hidden`.
+fn write_hidden(alloc: Global, out: &mut Writer, checked: &[Checked]) -> Result<(), OutOfMemory>
+    ensures tokens { OnOk result (out.new.tokens ≡ out.old.tokens ++
+        member_tokens (codes "hidden") (list (map hidden_data (hidden checked.now)))) }
+    ensures before { out.new.before ≡ out.old.before }
+{
+    write_list_member(alloc, out, "hidden", &hidden(alloc, checked)?)
+}
+
+/// Writes the key `orphans`.
+fn write_orphans<D: PageSource>(
     alloc: Global,
+    out: &mut Writer,
+    parts: &Parts<'_, D>,
+) -> Result<(), OutOfMemory>
+    ensures tokens { OnOk result (out.new.tokens ≡ out.old.tokens ++
+        member_tokens (codes "orphans") (list (map place_data (orphans (found_in parts.now).all (found_in parts.now).checked)))) }
+    ensures before { out.new.before ≡ out.old.before }
+{
+    write_list_member(alloc, out, "orphans", &parts.liveness.orphans)
+}
+
+/// Writes the key `twins`.
+fn write_twins<D: PageSource>(
+    alloc: Global,
+    out: &mut Writer,
+    all: &AllFindings<'_, D>,
+) -> Result<(), OutOfMemory>
+    ensures tokens { OnOk result (out.new.tokens ≡ out.old.tokens ++
+        member_tokens (codes "twins") (list (map place_data (twins all.now.extents)))) }
+    ensures before { out.new.before ≡ out.old.before }
+{
+    write_list_member(alloc, out, "twins", &twins(alloc, all)?)
+}
+
+/// Writes the keys from `broken` up to `doubtful`.
+pub(crate) fn write_first<D: PageSource>(
+    alloc: Global,
+    out: &mut Writer,
     parts: &Parts<'_, D>,
     clean: bool,
 ) -> Result<(), OutOfMemory>
     requires { clean ≡ is_clean (found_in parts.now) }
-    ensures { OnOk result (members_view report.new.entries ≡
-        with_locators (found_in parts.now) (members_view report.old.entries)) }
+    ensures tokens { OnOk result (out.new.tokens ≡ out.old.tokens ++ members_tokens (first_keys (found_in parts.now))) }
+    ensures before { out.new.before ≡ out.old.before }
 {
-    put(report, alloc, "clean", Value::from(clean))?;
-    let dangling = dangling_key(alloc, &parts.checked)?;
-    put(report, alloc, "dangling", dangling)?;
-    let hidden = hidden_key(alloc, &parts.checked)?;
-    put(report, alloc, "hidden", hidden)?;
-    let shared = list_value(alloc, &parts.shared)?;
-    put(report, alloc, "shared", shared)
+    write_list_member(alloc, out, "broken", &parts.broken)?;
+    write_list_member(alloc, out, "candidates", &parts.liveness.candidates)?;
+    write_member(alloc, out, "clean", &clean)?;
+    write_dangling(alloc, out, &parts.checked)?;
+    write_doubtful(alloc, out, parts.map.bindings())?;
+    Ok(())
 }
 
-/// Puts the values of the chunks to the report, and those of the disk and of its extents. That of the extents is by far the
-/// greatest, so it comes last: by then the others need no lists any more.
-pub(crate) fn put_extents<D: PageSource>(
-    report: &mut Map<String, Value>,
+/// Writes the keys from `extents` up to `hidden`.
+pub(crate) fn write_scanned<D: PageSource>(
     alloc: Global,
+    out: &mut Writer,
     parts: &Parts<'_, D>,
 ) -> Result<(), OutOfMemory>
-    ensures { OnOk result (members_view report.new.entries ≡
-        with_disk (found_in parts.now) (with_chunks (found_in parts.now) (members_view report.old.entries))) }
+    ensures tokens { OnOk result (out.new.tokens ≡ out.old.tokens ++ members_tokens (extent_keys (found_in parts.now))) }
+    ensures before { out.new.before ≡ out.old.before }
 {
-    let candidates = list_value(alloc, &parts.candidates)?;
-    put(report, alloc, "candidates", candidates)?;
-    let orphans = orphans_key(alloc, parts)?;
-    put(report, alloc, "orphans", orphans)?;
-    let twins = twins_key(alloc, &parts.all)?;
-    put(report, alloc, "twins", twins)?;
-    let geometry = geometry_value(alloc, parts.plan.geometry())?;
-    put(report, alloc, "geometry", geometry)?;
-    let retired = list_value(alloc, parts.plan.retired())?;
-    put(report, alloc, "retired", retired)?;
-    let superblock = super_value(alloc, &parts.chosen)?;
-    put(report, alloc, "super", superblock)?;
-    let extents = extents_key(alloc, parts)?;
-    put(report, alloc, "extents", extents)
+    write_all_extents(alloc, out, parts)?;
+    out.key("geometry")?;
+    write_geometry(alloc, out, parts.plan.geometry())?;
+    write_hidden(alloc, out, &parts.checked)?;
+    Ok(())
+}
+
+/// Writes the keys from `orphans` up to `shards`.
+pub(crate) fn write_index<D: PageSource>(
+    alloc: Global,
+    out: &mut Writer,
+    parts: &Parts<'_, D>,
+) -> Result<(), OutOfMemory>
+    requires { length (found_in parts.now).read.runs ≡ length (found_in parts.now).plan.runs }
+    ensures tokens { OnOk result (out.new.tokens ≡ out.old.tokens ++ members_tokens (run_keys (found_in parts.now))) }
+    ensures before { out.new.before ≡ out.old.before }
+{
+    write_orphans(alloc, out, parts)?;
+    write_list_member(alloc, out, "retired", parts.plan.retired())?;
+    out.key("runs")?;
+    write_runs(alloc, out, parts.plan.runs(), &parts.read)?;
+    write_member(alloc, out, "shards", &parts.map.bindings().len())?;
+    Ok(())
+}
+
+/// Writes the keys from `shared` up to `twins`, the last one.
+pub(crate) fn write_last<D: PageSource>(
+    alloc: Global,
+    out: &mut Writer,
+    parts: &Parts<'_, D>,
+) -> Result<(), OutOfMemory>
+    ensures tokens { OnOk result (out.new.tokens ≡ out.old.tokens ++ members_tokens (last_keys (found_in parts.now))) }
+    ensures before { out.new.before ≡ out.old.before }
+{
+    write_list_member(alloc, out, "shared", &parts.liveness.shared)?;
+    out.key("super")?;
+    write_super(alloc, out, &parts.chosen)?;
+    write_twins(alloc, out, &parts.all)?;
+    Ok(())
 }

@@ -1,16 +1,16 @@
-//! The report's values of the named locators that aren't sound.
+//! The named locators that aren't sound, as the report has them.
 
-ghost use Rattle.std.specs.Prelude.{◌≡◌, IfOk};
-ghost use Rattle.serde_json.specs.View.{members_view};
+ghost use Rattle.std.specs.Prelude.{◌≡◌, ◌++◌, [], OnOk, codes, cond};
+ghost use Rattle.serde_json.specs.Data.{string};
 ghost use Rattle.scrub_check.specs.Checked.{is_hidden};
-ghost use Rattle.scrub_report.specs.Keys.{locator_data};
-ghost use Rattle.scrub_report.specs.Report.{locator_members};
+ghost use Rattle.scrub_report.specs.Texts.{status_text};
+ghost use Rattle.scrub_report.specs.Tokens.{locator_data, member_tokens};
 
-use crate::texts::{owner_text, status_text, uuid_text};
-use crate::values::ToJson;
+use crate::texts::{owner_text, status_text};
+use crate::written::{WriteJson, write_member, write_text, write_uuid};
+use json::Writer;
 use scrub_check::{Checked, Status};
 use scrub_disk::OutOfMemory;
-use serde_json::{Map, Value, put};
 use std::alloc::Global;
 
 fn is_hidden(status: Status) -> bool
@@ -19,47 +19,32 @@ fn is_hidden(status: Status) -> bool
     matches!(status, Status::Hidden)
 }
 
-/// Where a locator points, and who names it.
-fn locator_members(alloc: Global, one: &Checked) -> Result<Map<String, Value>, OutOfMemory>
-    ensures { IfOk result (λ m. members_view m.entries ≡ locator_members one.now) }
+/// Writes what is wrong with a locator, unless it is hidden.
+fn write_reason(out: &mut Writer, status: Status) -> Result<(), OutOfMemory>
+    ensures tokens { OnOk result (out.new.tokens ≡ out.old.tokens ++
+        cond (is_hidden status) [] (member_tokens (codes "reason") (string (status_text status)))) }
+    ensures before { out.new.before ≡ out.old.before }
 {
-    let owner = owner_text(alloc, one.owner)?;
-    let uuid = uuid_text(alloc, one.locator.uuid)?;
-    let mut members = Map::new(alloc);
-    put(
-        &mut members,
-        alloc,
-        "extent",
-        Value::from(one.locator.extent),
-    )?;
-    put(
-        &mut members,
-        alloc,
-        "length",
-        Value::from(one.locator.length),
-    )?;
-    put(
-        &mut members,
-        alloc,
-        "offset",
-        Value::from(one.locator.offset),
-    )?;
-    put(&mut members, alloc, "owner", Value::String(owner))?;
-    put(&mut members, alloc, "uuid", Value::String(uuid))?;
-    Ok(members)
+    if is_hidden(status) {
+        return Ok(());
+    }
+    write_text(out, "reason", status_text(status))
 }
 
 /// One of `hidden`, or of `dangling`, which tells what is wrong with it too.
-impl ToJson for Checked {
+impl WriteJson for Checked {
     ghost shown = { locator_data };
 
-    fn to_json(&self, alloc: Global) -> Result<Value, OutOfMemory> {
-        let mut members = locator_members(alloc, self)?;
-        if is_hidden(self.status) {
-            return Ok(Value::Object(members));
-        }
-        let reason = String::from_str(alloc, status_text(self.status))?;
-        put(&mut members, alloc, "reason", Value::String(reason))?;
-        Ok(Value::Object(members))
+    fn write_json(&self, alloc: Global, out: &mut Writer) -> Result<(), OutOfMemory> {
+        let owner = owner_text(alloc, self.owner)?;
+        out.begin_object()?;
+        write_member(alloc, out, "extent", &self.locator.extent)?;
+        write_member(alloc, out, "length", &self.locator.length)?;
+        write_member(alloc, out, "offset", &self.locator.offset)?;
+        write_text(out, "owner", &owner)?;
+        write_reason(out, self.status)?;
+        write_uuid(out, "uuid", self.locator.uuid)?;
+        out.end_object()?;
+        Ok(())
     }
 }

@@ -1,8 +1,10 @@
-//! What was found on a disk, kept until the report stands. How it is found is left to scrubbing.
+//! What was found on a disk, kept until the report stands. How it is found is left to `scrubbing`.
 
-ghost use Rattle.scrub_check.specs.SoundStarts.{AreSoundStarts};
+ghost use Rattle.std.specs.Prelude.{◌≡◌, map as list_map};
+ghost use Rattle.scrub_check.specs.Chunks.{orphans};
+ghost use Rattle.scrub_check.specs.Live.{live_bytes};
 
-use scrub_check::{Candidate, Checked, ReadRuns, SharedPlace, SoundStarts};
+use scrub_check::{Checked, Liveness, ReadRuns};
 use scrub_disk::PageSource;
 use scrub_merge::ShardMap;
 use scrub_run::ShardId;
@@ -24,13 +26,10 @@ pub(crate) struct Parts<'d, D: PageSource> {
     pub map: ShardMap,
     /// The named locators, and what they are worth.
     pub checked: Vec<Checked>,
-    /// The places that sound ones point to, sorted for all that asks for them.
-    pub sound: SoundStarts,
-    /// The places that several sound ones point to.
-    pub shared: Vec<SharedPlace>,
     /// The shards of which a locator dangles.
     pub broken: Vec<ShardId>,
-    /// The extents that may be reclaimed.
-    pub candidates: Vec<Candidate>,
-    pub ghost tells: { AreSoundStarts checked.items sound },
+    /// What follows from which chunks are live.
+    pub liveness: Liveness,
+    pub ghost live_told: { liveness.live.items ≡ list_map (live_bytes checked.items) all.extents },
+    pub ghost orphans_told: { liveness.orphans.items ≡ orphans all.extents checked.items },
 }

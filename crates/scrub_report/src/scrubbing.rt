@@ -1,4 +1,4 @@
-//! What is found on a whole disk, part by part. How it is told is left to the report and the index.
+//! What is found on a whole disk, part by part. How it is told is left to `report`, `index` and `listing`.
 
 ghost use Rattle.std.specs.Prelude.{◌≡◌, IfOk, is_none, is_some};
 ghost use Rattle.std.specs.List.{list_all, list_any};
@@ -11,9 +11,10 @@ ghost use Rattle.scrub_report.specs.Scrubbed.{IsScrubbed, is_clean, is_clean_lis
 
 use crate::order::{are_clean_extents, is_clean_choice};
 use crate::parts::Parts;
+use crate::scanning::Scan;
 use scrub_check::{
-    Checked, ReadRuns, SharedPlace, SoundStarts, Status, broken_shards, candidates_by, check_named,
-    named_locators, read_runs, shared_by,
+    Checked, ReadRuns, SharedPlace, Status, broken_shards, check_named, liveness_of,
+    named_locators, read_runs,
 };
 use scrub_disk::{OutOfMemory, PageSource};
 use scrub_merge::{ShardMap, merge};
@@ -21,19 +22,6 @@ use scrub_scan::AllFindings;
 use scrub_super::{Chosen, Plan};
 use std::alloc::Global;
 use std::thread::Threads;
-
-/// A disk, and what was chosen, planned and scanned of it.
-#[derive(Drop)]
-pub(crate) struct Scan<'d, D: PageSource> {
-    /// The disk.
-    pub disk: &'d D,
-    /// Which superblock counts.
-    pub chosen: Chosen,
-    /// The plan that follows from it.
-    pub plan: Plan,
-    /// What lies in each planned extent.
-    pub all: AllFindings<'d, D>,
-}
 
 /// Whether an index run is lost.
 fn has_lost_run(read: &ReadRuns) -> bool
@@ -85,19 +73,17 @@ pub(crate) fn parts_of<'d, R: Threads + Sync, D: PageSource>(
     let read = read_runs(alloc, disk, &plan, &all)?;
     let map = merge(alloc, read.runs())?;
     let checked = judged_locators(rt, alloc, disk, &plan, &all, &read, &map)?;
-    let sound = SoundStarts::of(alloc, &checked)?;
     let in_doubt = is_in_doubt(&chosen, &read);
+    let liveness = liveness_of(alloc, &plan, &all, &checked, in_doubt)?;
     Ok(Parts {
-        shared: shared_by(alloc, &sound)?,
         broken: broken_shards(alloc, &checked)?,
-        candidates: candidates_by(alloc, &plan, &all, &checked, &sound, in_doubt)?,
         chosen,
         plan,
         all,
         read,
         map,
         checked,
-        sound,
+        liveness,
     })
 }
 
@@ -135,5 +121,5 @@ pub(crate) fn is_clean<D: PageSource>(parts: &Parts<'_, D>) -> bool
     is_clean_choice(&parts.chosen)
         && are_clean_extents(&parts.all)
         && are_read(&parts.read)
-        && is_clean_list(&parts.checked, &parts.shared)
+        && is_clean_list(&parts.checked, &parts.liveness.shared)
 }

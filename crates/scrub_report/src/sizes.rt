@@ -1,39 +1,50 @@
-//! The report's values of a disk's sizes and of its superblock.
+//! A disk's sizes and its superblock, as the report has them.
 
-ghost use Rattle.std.specs.Prelude.{◌≡◌, IfOk};
-ghost use Rattle.serde_json.specs.View.{view};
+ghost use Rattle.std.specs.Prelude.{◌≡◌, ◌++◌, OnOk};
 ghost use Rattle.scrub_report.specs.Report.{geometry_data, super_data};
+ghost use Rattle.scrub_report.specs.Tokens.{value_tokens};
 
-use crate::values::list_value;
+use crate::written::{write_list_member, write_member};
+use json::Writer;
 use scrub_disk::{Geometry, OutOfMemory};
 use scrub_super::Chosen;
-use serde_json::{Value, json};
 use std::alloc::Global;
 
-/// The value of `geometry`.
-pub(crate) fn geometry_value(alloc: Global, geometry: Geometry) -> Result<Value, OutOfMemory>
-    ensures { IfOk result (λ v. view v ≡ geometry_data geometry) }
+/// Writes `geometry`.
+pub(crate) fn write_geometry(
+    alloc: Global,
+    out: &mut Writer,
+    geometry: Geometry,
+) -> Result<(), OutOfMemory>
+    ensures tokens { OnOk result (out.new.tokens ≡ out.old.tokens ++ value_tokens (geometry_data geometry)) }
+    ensures before { out.new.before ≡ out.old.before }
 {
-    json!(in alloc; {
-        "extents": geometry.extents(),
-        "page": geometry.page(),
-        "pages": geometry.pages(),
-    })
+    out.begin_object()?;
+    write_member(alloc, out, "extents", &geometry.extents())?;
+    write_member(alloc, out, "page", &geometry.page())?;
+    write_member(alloc, out, "pages", &geometry.pages())?;
+    out.end_object()?;
+    Ok(())
 }
 
-/// The value of `super`.
-pub(crate) fn super_value(alloc: Global, chosen: &Chosen) -> Result<Value, OutOfMemory>
-    ensures { IfOk result (λ v. view v ≡ super_data chosen.now) }
+/// Writes `super`.
+pub(crate) fn write_super(
+    alloc: Global,
+    out: &mut Writer,
+    chosen: &Chosen,
+) -> Result<(), OutOfMemory>
+    ensures tokens { OnOk result (out.new.tokens ≡ out.old.tokens ++ value_tokens (super_data chosen.now)) }
+    ensures before { out.new.before ≡ out.old.before }
 {
-    let bad = list_value(alloc, chosen.bad_pages())?;
     let generation = chosen
         .superblock()
         .map(|superblock| superblock.generation());
-    json!(in alloc; {
-        "bad": bad,
-        "generation": generation,
-        "page": chosen.page(),
-        "records": chosen.records(),
-        "tie": chosen.tie(),
-    })
+    out.begin_object()?;
+    write_list_member(alloc, out, "bad", chosen.bad_pages())?;
+    write_member(alloc, out, "generation", &generation)?;
+    write_member(alloc, out, "page", &chosen.page())?;
+    write_member(alloc, out, "records", &chosen.records())?;
+    write_member(alloc, out, "tie", &chosen.tie())?;
+    out.end_object()?;
+    Ok(())
 }

@@ -21,7 +21,7 @@ index_bytes-requires-clause-count g c =
 
 pub returns : goal.returns
 returns g c = record {
-  report = record { found = found; scrubbed = c.in_ok-parts.ensures; text_is = c.in_ok-report.ensures found c.in_ok-object.ensures };
+  report = record { found = found; scrubbed = c.in_ok-parts.ensures; text_is = c.in_ok-report.ensures };
   index = record {
     found = found;
     scrubbed = c.in_ok-parts.ensures;

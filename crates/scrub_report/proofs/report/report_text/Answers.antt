@@ -1,11 +1,29 @@
--- The text of an object that is the report's.
-use Rattle.std.proofs.Common.{◌≡◌, ◌++◌, [], ◌∷◌, ap, sym, subst, false, ◌∙◌}
-use Rattle.serde_json.specs.Data.{Data}
-use Rattle.serde_json.specs.Written.{compact_text, has_float}
-use Rattle.scrub_report.proofs.NoFloats.{report_no_float}
+-- Its tokens are those of one object, and printed they are its text.
+use Rattle.std.proofs.Common.{◌≡◌, ◌++◌, ◌∷◌, [], ap, ap₂, ◌∙◌}
+use Rattle.json.specs.Print.{print}
+use Rattle.serde_json.proofs.Texts.{print-outline}
+use Rattle.scrub_report.specs.Parts.{found_in}
+use Rattle.scrub_report.specs.Report.{report_data}
+use Rattle.scrub_report.specs.Scrubbed.{Scrubbed}
+use Rattle.scrub_report.specs.Tokens.{value_tokens}
+use Rattle.scrub_report.proofs.Tokens.{report_tokens}
 use Rattle.scrub_report.proofs.report.report_text.Goals as goal
 
 pub returns : goal.returns
-returns c s same =
-    let none = subst (λ (d : Data). has_float d ≡ false) (sym same) (report_no_float s) in
-    c.in_ok-push.ensures.items ∙ ap (λ t. t ++ 10 ∷ []) (c.in_ok-text.ensures.text none ∙ ap compact_text same)
+returns g c =
+    c.in_ok-push.ensures.items ∙ ap (λ t. t ++ 10 ∷ []) (c.into_inner-text.ensures.items ∙ ap₂ (λ b ts. b ++ print ts) before tokens ∙ print-outline (report_data found))
+  where
+    found : Scrubbed
+    found = found_in c.args.parts.now
+
+    before : c.end_object.new.self.before ≡ []
+    before =
+        c.end_object.ensures.room.0 ∙ c.in_ok-write_last.ensures.before ∙ c.in_ok-write_index.ensures.before ∙ c.in_ok-write_scanned.ensures.before
+        ∙ c.in_ok-write_first.ensures.before ∙ c.begin_object.ensures.room.0 ∙ c.new-out.ensures.before ∙ c.new.ensures.items
+
+    tokens : c.end_object.new.self.tokens ≡ value_tokens (report_data found)
+    tokens =
+        report_tokens found c.new-out.result.tokens c.begin_object.new.self.tokens c.write_first.new.out.tokens c.write_scanned.new.out.tokens
+        c.write_index.new.out.tokens c.write_last.new.out.tokens c.end_object.new.self.tokens c.new-out.ensures.tokens c.in_ok-begin_object.ensures.ok
+        c.in_ok-write_first.ensures.tokens c.in_ok-write_scanned.ensures.tokens c.in_ok-write_index.ensures.tokens c.in_ok-write_last.ensures.tokens
+        c.in_ok-end_object.ensures.ok

@@ -1,20 +1,26 @@
--- The places that are kept are those of the checked locators, so that the lists that were drawn by them are theirs.
-use Rattle.std.proofs.Common.{rules, List, sym, subst}
+-- What follows from which chunks are live is told of the checked locators.
+use Rattle.std.proofs.Common.{rules, ◌≡◌, List, map, subst}
 use Rattle.scrub_check.specs.declared.checked.Checked.{Checked}
+use Rattle.scrub_check.specs.declared.place.Place.{Place}
+use Rattle.scrub_check.specs.Chunks.{orphans}
+use Rattle.scrub_check.specs.Live.{live_bytes}
 use Rattle.scrub_check.specs.Shared.{AreShared}
-use Rattle.scrub_check.specs.SoundStarts.{AreSoundStarts}
 use Rattle.scrub_check.specs.Candidates.{AreCandidates}
 use Rattle.scrub_report.proofs.scrubbing.parts_of.Goals as goal
 
 pub invariant_of-result : goal.invariant_of-result
-invariant_of-result g c = record { tells = subst (λ (cs : List Checked). AreSoundStarts cs c.in_ok-sound.sound) c.deref.ensures.value c.in_ok-sound.ensures }
+invariant_of-result g c =
+    let all = c.args.scan.all.extents in
+    let liveness = c.in_ok-liveness.liveness in
+    record {
+      live_told = subst (λ (cs : List Checked). liveness.live.items ≡ map (live_bytes cs) all) c.deref.ensures.value c.in_ok-liveness.ensures.live;
+      orphans_told = subst (λ (cs : List Checked). liveness.orphans.items ≡ orphans all cs) c.deref.ensures.value c.in_ok-liveness.ensures.orphans;
+    }
 
 pub returns : goal.returns
 returns g c =
-    let checked = c.in_ok-checked.checked.items in
-    let are : AreSoundStarts checked c.in_ok-sound.sound = subst (λ (cs : List Checked). AreSoundStarts cs c.in_ok-sound.sound) c.deref.ensures.value c.in_ok-sound.ensures in
-    let shared : AreShared checked c.in_ok-shared_by.field-0.items = c.in_ok-shared_by.ensures checked are in
-    let candidates : AreCandidates c.args.scan.plan c.args.scan.all.extents checked c.is_in_doubt-in_doubt.result c.in_ok-candidates_by.field-0.items =
-    subst (λ (cs : List Checked). AreCandidates c.args.scan.plan c.args.scan.all.extents cs c.is_in_doubt-in_doubt.result c.in_ok-candidates_by.field-0.items) c.deref-3.ensures.value
-    (c.in_ok-candidates_by.ensures (subst (λ (cs : List Checked). AreSoundStarts cs c.in_ok-sound.sound) (sym c.deref-3.ensures.value) are)) in
-    search rules
+    let liveness = c.in_ok-liveness.liveness in
+    let in_doubt = c.is_in_doubt-in_doubt.result in
+    let shared = subst (λ (cs : List Checked). AreShared cs liveness.shared.items) c.deref.ensures.value c.in_ok-liveness.ensures.shared in
+    let candidates = subst (λ (cs : List Checked). AreCandidates c.args.scan.plan c.args.scan.all.extents cs in_doubt liveness.candidates.items) c.deref.ensures.value c.in_ok-liveness.ensures.candidates in
+    search (rules, shared, candidates)

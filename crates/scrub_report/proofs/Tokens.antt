@@ -1,0 +1,92 @@
+-- The tokens of lists and of objects, as they are written.
+use Rattle.std.proofs.Common.{◌≡◌, ◌<◌, ◌≤◌, ◌+◌, ℕ, List, [], ◌∷◌, ◌++◌, OnOk, Result, Ok, Err, length, map, take, get_or, refl, sym, ap, ◌∙◌, append_assoc}
+use Rattle.std.specs.List.{flat_map}
+use Rattle.std.proofs.lemmas.List.{flat_map_more, take_all, take_more}
+use Rattle.std.proofs.lemmas.List.Concat.{flat_map-append}
+use Rattle.std.proofs.lemmas.List.Folds.{flat_map-map}
+use Rattle.json.specs.Token.{Token, begin_array, end_array, begin_object, end_object}
+use Rattle.json.specs.Tree.{items_tokens, members_tokens as closed_members}
+use Rattle.serde_json.specs.Data.{Data}
+use Rattle.serde_json.specs.View.{items_of}
+use Rattle.serde_json.specs.Written.{items_outline, members_outline}
+use Rattle.scrub_report.specs.Json.{list, members, with_keys}
+use Rattle.scrub_report.specs.Report.{report_data}
+use Rattle.scrub_report.specs.Scrubbed.{Scrubbed}
+use Rattle.scrub_report.specs.Tokens.{extent_keys, first_keys, last_keys, list_begun, member_tokens, members_tokens, run_keys, value_tokens}
+
+-- what was written in one step and then in others was written in all of them
+pub chain : (a b c xs ys : List Token) → b ≡ a ++ xs → c ≡ b ++ ys → c ≡ a ++ (xs ++ ys)
+chain a b c xs ys first later = later ∙ ap (λ ts. ts ++ ys) first ∙ append_assoc a xs ys
+
+pub chain_ok : {E : Type 0} (a b c xs ys : List Token) (r : Result (Unit {0}) E) → b ≡ a ++ xs → OnOk r (c ≡ b ++ ys) → OnOk r (c ≡ a ++ (xs ++ ys))
+chain_ok a b c xs ys (Ok u) first later = chain a b c xs ys first later
+chain_ok a b c xs ys (Err e) first later = tt
+
+-- ---- lists
+
+items_are : (ds : List Data) → items_tokens (items_outline (items_of ds)) ≡ flat_map value_tokens ds ++ end_array ∷ []
+items_are [] = refl
+items_are (d ∷ ds) = ap (λ ts. value_tokens d ++ ts) (items_are ds) ∙ sym (append_assoc (value_tokens d) (flat_map value_tokens ds) (end_array ∷ []))
+
+module _ {X : Type 0} (show : X → Data) (xs : List X) (old mid new : List Token) (i : ℕ) where
+  -- one more element is written
+  pub list_more : (d x : X) → i < length xs → get_or xs i d ≡ x → mid ≡ old ++ list_begun show (take i xs) → new ≡ mid ++ value_tokens (show x) →
+      new ≡ old ++ list_begun show (take (i + 1) xs)
+  list_more d x below is so_far grown =
+      grown ∙ ap (λ ts. ts ++ value_tokens (show x)) so_far
+      ∙ append_assoc old (list_begun show (take i xs)) (value_tokens (show x))
+      ∙ ap (λ ts. old ++ ts)
+      (ap (λ y. list_begun show (take i xs) ++ value_tokens (show y)) (sym is)
+      ∙ flat_map_more (λ z. value_tokens (show z)) (begin_array ∷ []) (take i xs) (get_or xs i d)
+      ∙ ap (list_begun show) (sym (take_more xs i d below)))
+
+  -- all are written, and the list is closed
+  closed_list : length xs ≤ i → mid ≡ old ++ list_begun show (take i xs) → new ≡ mid ++ end_array ∷ [] → new ≡ old ++ value_tokens (list (map show xs))
+  closed_list end so_far closed =
+      closed ∙ ap (λ ts. ts ++ end_array ∷ []) (so_far ∙ ap (λ ys. old ++ list_begun show ys) (take_all i xs end))
+      ∙ append_assoc old (list_begun show xs) (end_array ∷ [])
+      ∙ ap (λ ts. old ++ begin_array ∷ ts) (ap (λ ts. ts ++ end_array ∷ []) (sym (flat_map-map value_tokens show xs)) ∙ sym (items_are (map show xs)))
+
+  pub list_closed : {E : Type 0} (r : Result (Unit {0}) E) → length xs ≤ i → mid ≡ old ++ list_begun show (take i xs) → OnOk r (new ≡ mid ++ end_array ∷ []) →
+      OnOk r (new ≡ old ++ value_tokens (list (map show xs)))
+  list_closed (Ok u) end so_far closed = closed_list end so_far closed
+  list_closed (Err e) end so_far closed = tt
+
+-- ---- objects
+
+members_are : (ms : List (List ℕ × Data)) → closed_members (members_outline (members ms)) ≡ members_tokens ms ++ end_object ∷ []
+members_are [] = refl
+members_are (m ∷ ms) = ap (λ ts. member_tokens m.0 m.1 ++ ts) (members_are ms) ∙ sym (append_assoc (member_tokens m.0 m.1) (members_tokens ms) (end_object ∷ []))
+
+object_tokens : (ms : List (List ℕ × Data)) → value_tokens (with_keys ms) ≡ begin_object ∷ (members_tokens ms ++ end_object ∷ [])
+object_tokens ms = ap (λ ts. begin_object ∷ ts) (members_are ms)
+
+members_joined : (ms ns : List (List ℕ × Data)) (ts : List Token) → members_tokens (ms ++ ns) ++ ts ≡ members_tokens ms ++ (members_tokens ns ++ ts)
+members_joined ms ns ts = ap (λ us. us ++ ts) (flat_map-append (λ (m : List ℕ × Data). member_tokens m.0 m.1) ms ns) ∙ append_assoc (members_tokens ms) (members_tokens ns) ts
+
+-- ---- the report, whose keys are written in four steps
+
+keys_joined : (s : Scrubbed) → begin_object ∷ (members_tokens (first_keys s) ++ (members_tokens (extent_keys s) ++ (members_tokens (run_keys s) ++ (members_tokens (last_keys s) ++ end_object ∷ []))))
+    ≡ value_tokens (report_data s)
+keys_joined s =
+    let closed = end_object ∷ [] in
+    let last = members_joined (run_keys s) (last_keys s) closed in
+    let scanned = members_joined (extent_keys s) (run_keys s ++ last_keys s) closed ∙ ap (λ ts. members_tokens (extent_keys s) ++ ts) last in
+    let all = members_joined (first_keys s) (extent_keys s ++ (run_keys s ++ last_keys s)) closed ∙ ap (λ ts. members_tokens (first_keys s) ++ ts) scanned in
+    ap (λ ts. begin_object ∷ ts) (sym all) ∙ sym (object_tokens (first_keys s ++ (extent_keys s ++ (run_keys s ++ last_keys s))))
+
+pub report_tokens : (s : Scrubbed) (t0 t1 t2 t3 t4 t5 t6 : List Token) → t0 ≡ [] → t1 ≡ t0 ++ begin_object ∷ [] → t2 ≡ t1 ++ members_tokens (first_keys s) →
+    t3 ≡ t2 ++ members_tokens (extent_keys s) → t4 ≡ t3 ++ members_tokens (run_keys s) → t5 ≡ t4 ++ members_tokens (last_keys s) → t6 ≡ t5 ++ end_object ∷ [] →
+    t6 ≡ value_tokens (report_data s)
+report_tokens s t0 t1 t2 t3 t4 t5 t6 h0 h1 h2 h3 h4 h5 h6 =
+    let closed = end_object ∷ [] in
+    let last = members_tokens (last_keys s) ++ closed in
+    let runs = members_tokens (run_keys s) ++ last in
+    let scanned = members_tokens (extent_keys s) ++ runs in
+    let first = members_tokens (first_keys s) ++ scanned in
+    chain t0 t1 t6 (begin_object ∷ []) first h1
+    (chain t1 t2 t6 (members_tokens (first_keys s)) scanned h2
+    (chain t2 t3 t6 (members_tokens (extent_keys s)) runs h3
+    (chain t3 t4 t6 (members_tokens (run_keys s)) last h4
+    (chain t4 t5 t6 (members_tokens (last_keys s)) closed h5 h6))))
+    ∙ ap (λ ts. ts ++ begin_object ∷ first) h0 ∙ keys_joined s

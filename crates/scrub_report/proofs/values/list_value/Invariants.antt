@@ -1,7 +1,0 @@
--- The values of the first elements.
-use Rattle.std.proofs.Common.{◌≡◌, map, take}
-use Rattle.serde_json.specs.View.{view}
-use Rattle.scrub_report.proofs.values.list_value.Given as goal
-
-abbrev pub invariant-loop-item : goal.invariant-loop-item
-invariant-loop-item g l = map view l.values.items ≡ map g.T.ToJson.shown (take l.item-index l.items)

@@ -1,0 +1,134 @@
+//! The named locators of a disk as lines: who names what, and what it is worth.
+
+ghost use Rattle.std.specs.Prelude.{◌≡◌, ◌+◌, ◌++◌, ◌≤◌, List, ℕ, IfOk, OnOk, length, string_bytes};
+ghost use Rattle.scrub_disk.specs.Image.{Image};
+ghost use Rattle.scrub_pool.specs.Takings.{IsPartition};
+ghost use Rattle.scrub_report.specs.Answer.{ArePlannedExtents};
+ghost use Rattle.scrub_report.specs.Locators.{AreLocatorLines, locator_line, locator_lines, place_text};
+ghost use Rattle.scrub_report.specs.Parts.{IsScan};
+ghost use Rattle.scrub_report.specs.Scrubbed.{IsCleanImage};
+
+use crate::answer::ScrubFault;
+use crate::scanning::{Scan, scan_by};
+use crate::scrubbing::{is_clean, parts_of};
+use crate::texts::{owner_text, status_text};
+use scrub_check::Checked;
+use scrub_disk::{OutOfMemory, PageSource};
+use scrub_frame::Locator;
+use scrub_pool::{Gate, Takings};
+use std::alloc::Global;
+use std::fmt;
+use std::sync::Wait;
+use std::thread::Threads;
+
+/// The named locators of a disk, as lines.
+#[derive(Drop)]
+pub struct LocatorListing {
+    /// A line for each named locator, in the order of the named locators: `OWNER EXTENT OFFSET LENGTH UUID STATUS`. Owner and
+    /// status have the report's words, the numbers are in decimal, offset and length in bytes, and the UUID is as RFC 9562
+    /// writes it, in lower case.
+    pub text: Vec<u8>,
+    /// Whether all on the disk is in good order.
+    pub is_clean: bool,
+}
+
+/// Where a locator points, as `EXTENT OFFSET LENGTH UUID`.
+#[derive(Drop)]
+struct PlaceText {
+    locator: Locator,
+}
+
+impl fmt::Display for PlaceText {
+    ghost use Rattle.std.specs.Prelude.{Some};
+    ghost use Rattle.scrub_report.specs.Locators.{place_text};
+
+    ghost output = { λ p. Some (place_text p.locator) };
+
+    fn fmt<W: fmt::Write>(&self, f: &mut fmt::Formatter<W>) -> fmt::Result {
+        let Locator {
+            extent,
+            offset,
+            length,
+            uuid,
+            ..
+        } = self.locator;
+        write!(f, "{extent} {offset} {length} {uuid}")
+    }
+}
+
+/// The text of where a locator points.
+fn place_text(alloc: Global, locator: Locator) -> Result<String, OutOfMemory>
+    ensures { IfOk result (λ text. string_bytes text ≡ place_text locator) }
+{
+    let place = PlaceText { locator };
+    format!(in alloc; "{place}")
+}
+
+/// Appends the line of a named locator, with its line feed.
+fn append_line(alloc: Global, text: &mut Vec<u8>, one: &Checked) -> Result<(), OutOfMemory>
+    ensures { OnOk result (text.new.items ≡ text.old.items ++ locator_line one.now) }
+{
+    let owner = owner_text(alloc, one.owner)?;
+    let place = place_text(alloc, one.locator)?;
+    text.extend_from_slice(owner.as_bytes())?;
+    text.push(b' ')?;
+    text.extend_from_slice(place.as_bytes())?;
+    text.push(b' ')?;
+    text.extend_from_slice(status_text(one.status).as_bytes())?;
+    text.push(b'\n')?;
+    Ok(())
+}
+
+/// The lines of named locators, in their order.
+fn locator_lines(alloc: Global, checked: &[Checked]) -> Result<Vec<u8>, OutOfMemory>
+    ensures { IfOk result (λ text. text.items ≡ locator_lines checked.now) }
+{
+    let mut text = Vec::new(alloc);
+    for one in checked {
+        append_line(alloc, &mut text, one)?;
+    }
+    Ok(text)
+}
+
+/// The named locators as lines, from what was chosen, planned and scanned.
+fn listing_of<R: Threads + Sync, D: PageSource>(
+    rt: &R,
+    alloc: Global,
+    scan: Scan<'_, D>,
+) -> Result<LocatorListing, OutOfMemory>
+    requires { IsScan (D.image scan.disk.now) scan.chosen scan.plan scan.all.extents }
+    ensures text { IfOk result (λ l. AreLocatorLines (D.image scan.entry.disk.now) l.text.items) }
+    ensures clean { IfOk result (λ l. IsCleanImage (D.image scan.entry.disk.now) l.is_clean) }
+{
+    let parts = parts_of(rt, alloc, scan)?;
+    let text = locator_lines(alloc, &parts.checked)?;
+    let is_clean = is_clean(&parts);
+    Ok(LocatorListing { text, is_clean })
+}
+
+/// Lists the named locators of a disk, each with its owner and what it is worth, and tells who took which extents. The disk is
+/// scrubbed as `scrub` does it, with this many workers (0 to 64) beside the caller. The one fault is `OutOfMemory`, told once
+/// every worker that was started has ended.
+pub fn list_locators<D: PageSource, G: Gate, R: Threads + Wait + Sync>(
+    rt: &R,
+    alloc: Global,
+    disk: &D,
+    workers: u32,
+    gate: &G,
+) -> Result<(LocatorListing, Takings), ScrubFault>
+    requires { workers ≤ 64 }
+    ensures text { IfOk result (λ r. AreLocatorLines (D.image disk.now) r.0.text.items) }
+    ensures clean { IfOk result (λ r. IsCleanImage (D.image disk.now) r.0.is_clean) }
+    ensures workers { IfOk result (λ r. length r.1.lists ≡ workers + 1) }
+    ensures partition { IfOk result (λ r. (planned : List ℕ) × ArePlannedExtents (D.image disk.now) planned × IsPartition planned r.1.lists) }
+    ensures counted { IfOk result (λ r. (planned : List ℕ) × ArePlannedExtents (D.image disk.now) planned × (r.1.counted ≡ length planned)) }
+{
+    let (scan, takings) = scan_by(rt, alloc, disk, workers, gate)?;
+    let listing = listing_of(rt, alloc, scan)?;
+    Ok((listing, takings))
+}
+
+/// A law: the named locators of an image have one text of lines.
+pub fn one_locator_listing()
+    ensures { (image : Image) (a b : List ℕ) → AreLocatorLines image a → AreLocatorLines image b → a ≡ b }
+{}

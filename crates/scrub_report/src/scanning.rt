@@ -1,0 +1,75 @@
+//! A disk that was chosen, planned and scanned, by one reader or by workers.
+
+ghost use Rattle.std.specs.Prelude.{◌≡◌, ◌+◌, ◌≤◌, ℕ, List, length, IfOk};
+ghost use Rattle.scrub_pool.specs.Takings.{IsPartition};
+ghost use Rattle.scrub_report.specs.Answer.{ArePlannedExtents};
+ghost use Rattle.scrub_report.specs.Parts.{IsScan};
+
+use crate::answer::ScrubFault;
+use scrub_disk::{OutOfMemory, PageSource};
+use scrub_pool::{ExtentQueue, Gate, Takings, scan_all};
+use scrub_scan::{AllFindings, scan_in_order};
+use scrub_super::{Chosen, Plan, choose};
+use std::alloc::Global;
+use std::sync::Wait;
+use std::thread::Threads;
+
+/// A disk, and what was chosen, planned and scanned of it.
+#[derive(Drop)]
+pub(crate) struct Scan<'d, D: PageSource> {
+    /// The disk.
+    pub disk: &'d D,
+    /// Which superblock counts.
+    pub chosen: Chosen,
+    /// The plan that follows from it.
+    pub plan: Plan,
+    /// What lies in each planned extent.
+    pub all: AllFindings<'d, D>,
+}
+
+/// Scans a disk by one reader.
+pub(crate) fn scan_by_one<'d, D: PageSource>(
+    alloc: Global,
+    disk: &'d D,
+) -> Result<Scan<'d, D>, OutOfMemory>
+    ensures image { IfOk result (λ s. D.image s.disk.now ≡ D.image disk.now) }
+    ensures scan { IfOk result (λ s. IsScan (D.image s.disk.now) s.chosen s.plan s.all.extents) }
+{
+    let chosen = choose(alloc, disk)?;
+    let plan = Plan::make(alloc, &chosen, disk.geometry())?;
+    let all = scan_in_order(alloc, disk, &plan)?;
+    Ok(Scan {
+        disk,
+        chosen,
+        plan,
+        all,
+    })
+}
+
+/// Scans a disk by so many workers beside the caller, and tells who took which extents.
+pub(crate) fn scan_by<'d, D: PageSource, G: Gate, R: Threads + Wait + Sync>(
+    rt: &R,
+    alloc: Global,
+    disk: &'d D,
+    workers: u32,
+    gate: &G,
+) -> Result<(Scan<'d, D>, Takings), ScrubFault>
+    requires { workers ≤ 64 }
+    ensures image { IfOk result (λ r. D.image r.0.disk.now ≡ D.image disk.now) }
+    ensures scan { IfOk result (λ r. IsScan (D.image r.0.disk.now) r.0.chosen r.0.plan r.0.all.extents) }
+    ensures workers { IfOk result (λ r. length r.1.lists ≡ workers + 1) }
+    ensures partition { IfOk result (λ r. (planned : List ℕ) × ArePlannedExtents (D.image disk.now) planned × IsPartition planned r.1.lists) }
+    ensures counted { IfOk result (λ r. (planned : List ℕ) × ArePlannedExtents (D.image disk.now) planned × (r.1.counted ≡ length planned)) }
+{
+    let chosen = choose(alloc, disk)?;
+    let plan = Plan::make(alloc, &chosen, disk.geometry())?;
+    let (queue, mut first) = ExtentQueue::new(rt, alloc, &plan)?;
+    let (all, takings) = scan_all(rt, alloc, disk, &plan, &queue, &mut first, workers, gate)?;
+    let scan = Scan {
+        disk,
+        chosen,
+        plan,
+        all,
+    };
+    Ok((scan, takings))
+}
