@@ -1,5 +1,5 @@
 #!/usr/bin/env python3
-"""Holds a program against reference.py on made-up disks: report, index and status of each, byte for byte.
+"""Holds a program against reference.py on made-up disks: report, index, named locators and status of each, byte for byte.
 
 usage: hold.py PROGRAM [COUNT] [SEED]      PROGRAM '-' runs no program and only counts which findings the disks have
 Stops at the first difference, and leaves the image and what was printed in the folder hold-difference of the system's
@@ -144,7 +144,7 @@ def main():
         for turn in range(count):
             made = Made(random.Random(seed * 1_000_003 + turn))
             bad = made.make()
-            report, index, clean = scrub(Image(bytes(made.raw), made.p, made.n, made.e, bad))
+            report, index, clean, lines = scrub(Image(bytes(made.raw), made.p, made.n, made.e, bad))
             for key in ("broken", "candidates", "dangling", "doubtful", "hidden", "orphans", "shared", "twins"):
                 seen[key] += bool(report[key])
             seen.update({x["reason"] for x in report["dangling"]} | {"run " + x["state"] for x in report["runs"]})
@@ -162,7 +162,7 @@ def main():
             with open(path, "wb") as file:
                 file.write(made.raw)
             words = ["--page", str(made.p), "--pages", str(made.n), "--extents", str(made.e), path] + [f"{e}:{g}" for e, g in bad]
-            for command, right in (("scan", report_text(report)), ("index", index)):
+            for command, right in (("scan", report_text(report)), ("index", index), ("locators", lines.encode())):
                 done = subprocess.run([program, command, *words], stdin=subprocess.DEVNULL, capture_output=True)
                 if (done.returncode, done.stdout, done.stderr) != (0 if clean else 1, right, b""):
                     os.makedirs(DIFFERENCE, exist_ok=True)

@@ -75,13 +75,14 @@ def items_of(raw, p, n, e, extent, pointer):
 
 
 def check_scan(what, path, p, n, e, workers=(0, 1, 3, 64)):
-    """Compares report, index and statuses with those of the reference, and by several numbers of workers."""
-    report, index, clean = scrub(Image(Path(path).read_bytes(), p, n, e, []))
+    """Compares report, index, locators and statuses with those of the reference, and by several numbers of workers."""
+    report, index, clean, lines = scrub(Image(Path(path).read_bytes(), p, n, e, []))
     status = 0 if clean else 1
     for number in workers:
         found = answer("scan", *sizes(p, n, e), "--workers", str(number), path)
         check(f"{what}, scan by {number} workers", found, (status, report_text(report), b""))
     check(f"{what}, index", answer("index", *sizes(p, n, e), path), (status, index, b""))
+    check(f"{what}, locators", answer("locators", *sizes(p, n, e), path), (status, lines.encode(), b""))
 
 
 # What a file gives
@@ -185,7 +186,7 @@ def many_shards(room):
 def words(room):
     """Words come as they were typed, all of them, and a name of any bytes but those that aren't UTF-8."""
     pairs = [f"{x}:{g}" for x in range(3) for g in range(4)]
-    report, _, _ = scrub(Image(Path(ONE_SHARD).read_bytes(), 64, 4, 3, [(x, g) for x in range(3) for g in range(4)]))
+    report, _, _, _ = scrub(Image(Path(ONE_SHARD).read_bytes(), 64, 4, 3, [(x, g) for x in range(3) for g in range(4)]))
     check("twelve pairs", answer("scan", *SMALL, ONE_SHARD, *pairs), (1, report_text(report), b""))
     right = answer("scan", *SMALL, ONE_SHARD)
     for name in ["a name with spaces", "n" * 255, "Datenträger", "--"[:1] + "dash"]:

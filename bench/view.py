@@ -516,7 +516,7 @@ class Test:
         for turn in range(MADE_UP):
             made = Made(random.Random(turn))
             bad = made.make()
-            reports[f"made-up disk {turn}"], _, _ = scrub(Image(bytes(made.raw), made.p, made.n, made.e, bad))
+            reports[f"made-up disk {turn}"], _, _, _ = scrub(Image(bytes(made.raw), made.p, made.n, made.e, bad))
         self.several_disks(reports)
         for name, report in list(reports.items())[::10]:
             lines = fitting_locators(report)

@@ -1,5 +1,5 @@
 -- Two neighbouring options, exchanged: the words ask for the same.
-use Rattle.std.proofs.Common.{◌≡◌, ◌⊎◌, ◌∙◌, inl, inr, ℕ, false, List, [], ◌∷◌, ◌++◌, Option, None, Some, refl, sym, ap, ap₂, subst, codes, MatchOption}
+use Rattle.std.proofs.Common.{◌≡◌, ◌∙◌, inl, inr, ℕ, false, List, [], ◌∷◌, ◌++◌, Option, None, Some, refl, sym, ap, ap₂, subst, codes, MatchOption}
 use Rattle.std.specs.Prelude.{fold, option_and_then, option_map, slice_get, is_some, unwrap_or}
 use Rattle.std.specs.Option.{option_map_or}
 use Rattle.clap.specs.Words.{Row, Text, built, fault_of, one_of, subcommand_of}
@@ -14,9 +14,9 @@ use Rattle.scrub_cli.specs.declared.words.ImageWords.{ImageWords}
 use Rattle.scrub_cli.specs.declared.words.ItemsWords.{ItemsWords}
 use Rattle.scrub_cli.specs.declared.words.ScanWords.{ScanWords}
 use Rattle.scrub_cli.specs.declared.words.Request.{Request}
-use Rattle.scrub_cli.specs.declared.words.Request.TheVariants.{Demo, Items, Scan, Index}
+use Rattle.scrub_cli.specs.declared.words.Request.TheVariants.{Demo, Items, Scan, Index, Locators}
 use Rattle.scrub_cli.specs.CommandLine.{shardscrub_app}
-use Rattle.scrub_cli.specs.Order.{AreExchanged, option_word}
+use Rattle.scrub_cli.specs.Order.{AreExchanged, HasOptions, option_word}
 use Rattle.scrub_cli.specs.Words.{AreImageWords, AreItemsWords, AreScanWords, AskFor, IsAskedBy, IsNumberOf, IsWorkersOf}
 use Rattle.scrub_cli.proofs.Walks.{EachRule, parts}
 use Rattle.scrub_cli.proofs.Whole.{built_items, disk}
@@ -84,6 +84,8 @@ module _ (xs ys : List Row) (same : AreSame xs ys) where
       (ys, renamed name (codes "scan") asked.0 asked.1, scan_same words (subst (λ (rows : List Row). AreScanWords rows words) (pair_rows name (codes "scan") xs asked.0 asked.1) asked.2))
   asked_same name (Index words) asked =
       (ys, renamed name (codes "index") asked.0 asked.1, scan_same words (subst (λ (rows : List Row). AreScanWords rows words) (pair_rows name (codes "index") xs asked.0 asked.1) asked.2))
+  asked_same name (Locators words) asked =
+      (ys, renamed name (codes "locators") asked.0 asked.1, scan_same words (subst (λ (rows : List Row). AreScanWords rows words) (pair_rows name (codes "locators") xs asked.0 asked.1) asked.2))
 
 -- the commands as `clap` builds them are known by their names
 disk_by_name : (name : Text) → EachRule IsByName (disk name).rules
@@ -136,6 +138,10 @@ enters_index : Enters (codes "index") (disk (codes "index"))
 unfolding clap_on_literals
 enters_index = record { first = refl; clean = refl; faults = λ words. refl; rows = λ words. refl }
 
+enters_locators : Enters (codes "locators") (disk (codes "locators"))
+unfolding clap_on_literals
+enters_locators = record { first = refl; clean = refl; faults = λ words. refl; rows = λ words. refl }
+
 enters_items : Enters (codes "items") built_items
 unfolding clap_on_literals
 enters_items = record { first = refl; clean = refl; faults = λ words. refl; rows = λ words. refl }
@@ -179,7 +185,8 @@ module _ (command : Text) (below : Shape) (enters : Enters command below) where
 pub order_is_free : (words others : List Text) (request : Request) → AreExchanged words others → AskFor words request → AskFor others request
 order_is_free words others request x asked = go x.options
   where
-    go : (x.command ≡ codes "scan") ⊎ (x.command ≡ codes "index") ⊎ (x.command ≡ codes "items") → AskFor others request
+    go : HasOptions x.command → AskFor others request
     go (inl scan) = exchanged (codes "scan") (disk (codes "scan")) enters_scan (disk_by_name (codes "scan")) refl words others x scan request asked
     go (inr (inl index)) = exchanged (codes "index") (disk (codes "index")) enters_index (disk_by_name (codes "index")) refl words others x index request asked
-    go (inr (inr items)) = exchanged (codes "items") built_items enters_items items_by_name refl words others x items request asked
+    go (inr (inr (inl locators))) = exchanged (codes "locators") (disk (codes "locators")) enters_locators (disk_by_name (codes "locators")) refl words others x locators request asked
+    go (inr (inr (inr items))) = exchanged (codes "items") built_items enters_items items_by_name refl words others x items request asked

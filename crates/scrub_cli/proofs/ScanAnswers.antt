@@ -1,4 +1,4 @@
--- Why `scan` and `index` tell nothing, from what their parts give.
+-- Why `scan`, `index` and `locators` tell nothing, from what their parts give.
 use Rattle.scrub_disk.specs.declared.geometry.Geometry.{Geometry as Sizes}
 use Rattle.scrub_disk.specs.Faults.{HasSizes}
 use Rattle.scrub_cli.specs.declared.fault.Fault.{Fault}

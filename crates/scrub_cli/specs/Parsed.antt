@@ -28,7 +28,7 @@ pub record HasImage (found : List Row) : Type 0 where
   pub extents : HasNumber found (codes "extents")
   pub image : (name : Text) × (first_of (codes "image") found ≡ Some name)
 
--- and all that `scan` and `index` need
+-- and all that `scan`, `index` and `locators` need
 pub record HasScan (found : List Row) : Type 0 where
   pub disk : HasImage found
   pub workers : (one_of (codes "workers") found ≡ None) ⊎ HasNumberTo 64 found (codes "workers")
@@ -39,12 +39,16 @@ pub record HasItems (found : List Row) : Type 0 where
   pub extent : HasNumber found (codes "extent")
   pub pointer : (one_of (codes "pointer") found ≡ None) ⊎ HasNumber found (codes "pointer")
 
+-- the command is one on the whole disk
+abbrev pub IsDiskCommand : Text → Type 0
+IsDiskCommand name = (name ≡ codes "scan") ⊎ (name ≡ codes "index") ⊎ (name ≡ codes "locators")
+
 -- the command is one of the program's, and has all that it needs
 abbrev pub IsWholeCommand : Text → List Row → Type 0
 IsWholeCommand name found =
     (name ≡ codes "demo")
     ⊎ ((name ≡ codes "items") × HasItems found)
-    ⊎ (((name ≡ codes "scan") ⊎ (name ≡ codes "index")) × HasScan found)
+    ⊎ (IsDiskCommand name × HasScan found)
 
 abbrev pub IsWhole : Option (Text × List Row) → Type 0
 IsWhole command = IfSome command (λ met. IsWholeCommand met.0 met.1)

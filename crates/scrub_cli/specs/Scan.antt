@@ -1,12 +1,13 @@
--- What the commands `scan` and `index` tell of an image file, and why they don't.
+-- What the commands `scan`, `index` and `locators` tell of an image file, and why they don't.
 use Rattle.std.specs.Prelude.{◌≡◌, ℕ, List, Bool}
 use Rattle.scrub_disk.specs.declared.geometry.Geometry.{Geometry as Sizes}
 use Rattle.scrub_disk.specs.Faults.{HasSizes, IsFirstBroken}
 use Rattle.scrub_disk.specs.Image.{Image}
 use Rattle.scrub_report.specs.Index.{IsIndex}
+use Rattle.scrub_report.specs.Locators.{AreLocatorLines}
 use Rattle.scrub_report.specs.Report.{IsReport}
 use Rattle.scrub_cli.specs.declared.answer.Wanted.{Wanted}
-use Rattle.scrub_cli.specs.declared.answer.Wanted.TheVariants.{Report, Index}
+use Rattle.scrub_cli.specs.declared.answer.Wanted.TheVariants.{Report, Index, Locators}
 use Rattle.scrub_cli.specs.declared.fault.Fault.{Fault}
 use Rattle.scrub_cli.specs.declared.fault.Fault.TheVariants.{Geometry, OutOfMemory}
 use Rattle.scrub_cli.specs.declared.words.ImageWords.{ImageWords}
@@ -21,10 +22,11 @@ pub record IsStatusOfImage (image : Image) (status : ℕ) : Type 0 where
   pub told : IsCleanImage image is_clean
   pub ended : status ≡ status_of_clean is_clean
 
--- the text is the report of the image, or its index
+-- the text is the report of the image, its index, or the lines of its named locators
 abbrev pub Tells : Wanted → Image → List ℕ → Type 0
 Tells Report image text = IsReport image text
 Tells Index image text = IsIndex image text
+Tells Locators image text = AreLocatorLines image text
 
 -- what is wanted of an image, with the status of its report
 pub record IsDiskAnswer (wanted : Wanted) (image : Image) (text : List ℕ) (status : ℕ) : Type 0 where

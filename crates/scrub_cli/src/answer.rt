@@ -1,15 +1,16 @@
-//! What a command answers: the lines of an extent, or the report or the index of a disk, and the status that it ends with.
-//! How the disk came to be read is left to the commands, and where the answer goes to the run.
+//! What a command answers: the lines of an extent, or the report, the index or the named locators of a disk, and the status
+//! that it ends with. How the disk came to be read is left to the commands, and where the answer goes to the run.
 
 ghost use Rattle.std.specs.Prelude.{◌≡◌, ◌≤◌, IfOk};
 ghost use Rattle.std.specs.List.{list_all};
 ghost use Rattle.scrub_report.specs.Scrubbed.{is_clean_item};
 ghost use Rattle.scrub_cli.specs.Lines.{lines_of, status_of_clean};
 ghost use Rattle.scrub_cli.specs.Scan.{IsDiskAnswer};
+ghost use Rattle.scrub_cli.specs.declared.answer.Wanted.TheVariants.{Report, Index, Locators};
 
 use scrub_disk::{OutOfMemory, PageSource};
 use scrub_pool::NoGate;
-use scrub_report::{ScrubFault, are_clean_items, scrub};
+use scrub_report::{ScrubFault, are_clean_items, list_locators, scrub};
 use scrub_scan::{Item, item_line};
 use std::alloc::Global;
 use std::sync::Wait;
@@ -31,6 +32,8 @@ pub enum Wanted {
     Report,
     /// The index that is recovered from it.
     Index,
+    /// Its named locators, and what they are worth.
+    Locators,
 }
 
 /// The status of an answer.
@@ -63,6 +66,54 @@ pub fn listing(alloc: Global, items: &[Item]) -> Result<Answer, OutOfMemory>
     Ok(Answer { text, status })
 }
 
+/// The report of a disk, with its status. This many workers scan the disk beside the caller.
+fn reported<R: Threads + Wait + Sync, D: PageSource>(
+    rt: &R,
+    alloc: Global,
+    disk: &D,
+    workers: u32,
+) -> Result<Answer, ScrubFault>
+    requires { workers ≤ 64 }
+    ensures { IfOk result (λ a. IsDiskAnswer Report (D.image disk.now) a.text.items a.status) }
+{
+    let (found, _) = scrub(rt, alloc, disk, workers, &NoGate)?;
+    let status = status_of(found.is_clean());
+    let text = found.into_report();
+    Ok(Answer { text, status })
+}
+
+/// The index that is recovered from a disk, with the status of its report.
+fn recovered<R: Threads + Wait + Sync, D: PageSource>(
+    rt: &R,
+    alloc: Global,
+    disk: &D,
+    workers: u32,
+) -> Result<Answer, ScrubFault>
+    requires { workers ≤ 64 }
+    ensures { IfOk result (λ a. IsDiskAnswer Index (D.image disk.now) a.text.items a.status) }
+{
+    let (found, _) = scrub(rt, alloc, disk, workers, &NoGate)?;
+    let status = status_of(found.is_clean());
+    let text = found.into_index();
+    Ok(Answer { text, status })
+}
+
+/// The lines of a disk's named locators, with the status of its report.
+fn listed<R: Threads + Wait + Sync, D: PageSource>(
+    rt: &R,
+    alloc: Global,
+    disk: &D,
+    workers: u32,
+) -> Result<Answer, ScrubFault>
+    requires { workers ≤ 64 }
+    ensures { IfOk result (λ a. IsDiskAnswer Locators (D.image disk.now) a.text.items a.status) }
+{
+    let (listing, _) = list_locators(rt, alloc, disk, workers, &NoGate)?;
+    let status = status_of(listing.is_clean);
+    let text = listing.text;
+    Ok(Answer { text, status })
+}
+
 /// What is wanted of a disk that this many workers scan beside the caller, with the status of its report.
 pub fn disk_answer<R: Threads + Wait + Sync, D: PageSource>(
     rt: &R,
@@ -74,11 +125,9 @@ pub fn disk_answer<R: Threads + Wait + Sync, D: PageSource>(
     requires { workers ≤ 64 }
     ensures { IfOk result (λ a. IsDiskAnswer wanted (D.image disk.now) a.text.items a.status) }
 {
-    let (found, _) = scrub(rt, alloc, disk, workers, &NoGate)?;
-    let status = status_of(found.is_clean());
-    let text = match wanted {
-        Wanted::Report => found.into_report(),
-        Wanted::Index => found.into_index(),
-    };
-    Ok(Answer { text, status })
+    match wanted {
+        Wanted::Report => reported(rt, alloc, disk, workers),
+        Wanted::Index => recovered(rt, alloc, disk, workers),
+        Wanted::Locators => listed(rt, alloc, disk, workers),
+    }
 }

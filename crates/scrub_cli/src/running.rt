@@ -33,6 +33,7 @@ fn answer<'a, R: Threads + Wait + Sync, I: Images>(
         Request::Items(words) => items(alloc, &words, images),
         Request::Scan(words) => scan(rt, alloc, &words, images, Wanted::Report),
         Request::Index(words) => scan(rt, alloc, &words, images, Wanted::Index),
+        Request::Locators(words) => scan(rt, alloc, &words, images, Wanted::Locators),
     }
 }
 

@@ -1,4 +1,5 @@
-//! The commands `scan` and `index`: the report of the disk in an image file, and the index that is recovered from it.
+//! The commands `scan`, `index` and `locators`: the report of the disk in an image file, the index that is recovered from it,
+//! and its named locators.
 
 ghost use Rattle.std.specs.Prelude.{◌≤◌, MatchResult};
 ghost use Rattle.scrub_cli.specs.Scan.{IsScanAnswer, IsScanFault};

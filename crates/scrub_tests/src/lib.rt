@@ -27,6 +27,8 @@ mod one_reader;
 #[cfg(test)]
 mod ordered_map;
 #[cfg(test)]
+mod page_counts;
+#[cfg(test)]
 mod plain_scan;
 #[cfg(test)]
 mod published;

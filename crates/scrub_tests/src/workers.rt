@@ -2,15 +2,20 @@
 
 ghost use Rattle.std.specs.Prelude.{◌≤◌};
 
+mod meeting;
+mod pausing;
+mod reading_watch;
 mod watch;
 
 use crate::compare::{check_answer, check_found, same};
 use crate::disks::{many_shards, one_shard};
 use crate::told::scrubbed;
+use crate::workers::meeting::MeetingSource;
+use crate::workers::reading_watch::ReadingWatch;
 use crate::workers::watch::Watch;
-use scrub_disk::{Geometry, MemDisk};
-use scrub_fakes::plan_of;
-use scrub_pool::{ExtentQueue, scan_all};
+use scrub_disk::{Geometry, MemDisk, PageSource};
+use scrub_fakes::{CountingSource, plan_of};
+use scrub_pool::{ExtentQueue, NoGate, scan_all};
 use scrub_report::{ScrubFault, scrub};
 use scrub_scan::{Item, scan_in_order};
 use std::alloc::Global;
@@ -18,11 +23,12 @@ use std::process::Abort;
 use std::sync::Wait;
 use std::test::Fail;
 use std::thread::Threads;
+use std::time::Clock;
 
 /// Scans and scrubs a disk by so many workers and the caller, each of whose first extents is held until so many have
 /// passed with one. Compares what is found and answered with what one reader finds and answers, and who took what with
 /// what the gates were told.
-fn check_workers<R: Threads + Wait + Abort + Sync>(
+fn check_workers<R: Threads + Wait + Abort + Clock + Sync>(
     rt: &R,
     alloc: Global,
     disk: &MemDisk,
@@ -31,13 +37,14 @@ fn check_workers<R: Threads + Wait + Abort + Sync>(
 ) -> Result<(), Fail>
     requires { workers ≤ 64 }
 {
+    let extents = disk.geometry().extents();
     let plan = plan_of(alloc, disk)?;
     let (queue, mut first) = ExtentQueue::new(rt, alloc, &plan)?;
-    let watch = Watch::new(alloc, workers + 1, held)?;
+    let watch = Watch::new(rt, alloc, workers + 1, extents, held)?;
     let (found, takings) = scan_all(rt, alloc, disk, &plan, &queue, &mut first, workers, &watch)?;
     check_found(rt, &found, &scan_in_order(alloc, disk, &plan)?);
     watch.check(rt, &takings, plan.planned());
-    let watch = Watch::new(alloc, workers + 1, held)?;
+    let watch = Watch::new(rt, alloc, workers + 1, extents, held)?;
     let (answer, takings) = match scrub(rt, alloc, disk, workers, &watch) {
         Ok(found) => found,
         Err(ScrubFault::OutOfMemory) => return Err(Fail::from("out of memory")),
@@ -57,6 +64,80 @@ fn extent_1_is_held_until_another_worker_passed_with_extent_2(rt: HostRuntime) -
 fn four_workers_are_held_until_each_has_passed_with_an_extent(rt: HostRuntime) -> Result<(), Fail> {
     let (disk, _) = many_shards(&rt, rt.alloc())?;
     check_workers(&rt, rt.alloc(), &disk, 3, 4)
+}
+
+#[test]
+fn eight_workers_are_held_until_each_has_passed_with_an_extent(
+    rt: HostRuntime,
+) -> Result<(), Fail> {
+    let (disk, _) = many_shards(&rt, rt.alloc())?;
+    check_workers(&rt, rt.alloc(), &disk, 7, 8)
+}
+
+#[test]
+fn of_65_workers_39_take_one_of_39_extents_each(rt: HostRuntime) -> Result<(), Fail> {
+    let (disk, _) = many_shards(&rt, rt.alloc())?;
+    check_workers(&rt, rt.alloc(), &disk, 64, 39)
+}
+
+/// Scans a disk by so many workers and the caller, whose reads wait until all of them are inside one at the same time.
+fn check_meeting<R: Threads + Wait + Abort + Clock + Sync>(
+    rt: &R,
+    alloc: Global,
+    disk: &MemDisk,
+    workers: u32,
+) -> Result<(), Fail>
+    requires { workers ≤ 64 }
+{
+    let plan = plan_of(alloc, disk)?;
+    let (queue, mut first) = ExtentQueue::new(rt, alloc, &plan)?;
+    let source = MeetingSource::new(rt, disk, workers + 1);
+    let (found, _) = scan_all(
+        rt, alloc, &source, &plan, &queue, &mut first, workers, &NoGate,
+    )?;
+    same(rt, found.len(), plan.planned().len());
+    assert!(rt; source.has_met());
+    Ok(())
+}
+
+#[test]
+fn all_workers_read_pages_at_the_same_time(rt: HostRuntime) -> Result<(), Fail> {
+    let (disk, _) = many_shards(&rt, rt.alloc())?;
+    for workers in [1, 3] {
+        check_meeting(&rt, rt.alloc(), &disk, workers)?;
+    }
+    Ok(())
+}
+
+/// Scrubs a disk by so many workers and the caller, each of whose first extents is held until all of them have passed with
+/// one. Requires that the gate was told of each extent once, by who took it and before it was read, and of each total once
+/// the extent was read.
+fn check_told<R: Threads + Wait + Abort + Clock + Sync>(
+    rt: &R,
+    alloc: Global,
+    disk: &MemDisk,
+    workers: u32,
+) -> Result<(), Fail>
+    requires { workers ≤ 64 }
+{
+    let plan = plan_of(alloc, disk)?;
+    let source = CountingSource::new(alloc, disk)?;
+    let watch = ReadingWatch::new(rt, alloc, &source, workers + 1)?;
+    let takings = match scrub(rt, alloc, &source, workers, &watch) {
+        Ok((_, takings)) => takings,
+        Err(ScrubFault::OutOfMemory) => return Err(Fail::from("out of memory")),
+    };
+    watch.check(rt, &takings, plan.planned());
+    Ok(())
+}
+
+#[test]
+fn a_gate_is_told_of_each_of_70_extents_before_it_is_read(rt: HostRuntime) -> Result<(), Fail> {
+    let disk = MemDisk::blank(rt.alloc(), Geometry::new(64, 2, 71)?)?;
+    for workers in [0, 3] {
+        check_told(&rt, rt.alloc(), &disk, workers)?;
+    }
+    Ok(())
 }
 
 #[test]

@@ -382,6 +382,8 @@ fn words_that_are_no_command_are_refused(rt: HostRuntime) -> Result<(), Fail> {
         "items --page 64 --pages 4 --extents 3 --extent 4294967296 disk.img",
         "scan --page 64 --pages 4 --extents 3 --workers 65 disk.img",
         "index --page 64 --pages 4 --extents 3",
+        "locators --page 64 --pages 4 --extents 3",
+        "locators --page 64 --pages 4 --extents 3 --extent 1 disk.img",
     ] {
         check_text(&rt, rt.alloc(), words, (2, "error: "))?;
     }
@@ -397,6 +399,7 @@ fn help_is_told_on_the_error_stream(rt: HostRuntime) -> Result<(), Fail> {
         "items --help",
         "scan --help",
         "index --help",
+        "locators --help",
     ] {
         check_text(&rt, rt.alloc(), words, (0, ""))?;
     }

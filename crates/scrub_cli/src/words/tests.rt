@@ -55,7 +55,7 @@ fn items_with_all_options(rt: HostRuntime) -> Result<(), Fail> {
 }
 
 #[test]
-fn scan_and_index_with_their_words(rt: HostRuntime) -> Result<(), Fail> {
+fn scan_and_index_and_locators_with_their_words(rt: HostRuntime) -> Result<(), Fail> {
     let words = "scan --page 64 --pages 4 --extents 3 disk.img 1:3 x 2:0";
     let split: Vec<&str> = words.split_whitespace().collect(rt.alloc())?;
     let Request::Scan(scan) = read_words(rt.alloc(), &split)? else {
@@ -70,6 +70,13 @@ fn scan_and_index_with_their_words(rt: HostRuntime) -> Result<(), Fail> {
     };
     check_image(&rt, &index.image);
     assert!(rt; index.workers == 64);
+    let words = "locators --workers=0 --page 64 --pages 4 disk.img 1:3 x 2:0 --extents 3";
+    let split: Vec<&str> = words.split_whitespace().collect(rt.alloc())?;
+    let Request::Locators(locators) = read_words(rt.alloc(), &split)? else {
+        panic!(rt; "not locators");
+    };
+    check_image(&rt, &locators.image);
+    assert!(rt; locators.workers == 0);
     Ok(())
 }
 
@@ -102,6 +109,15 @@ fn a_refusal_says_what_is_wrong(rt: HostRuntime) -> Result<(), Fail> {
             "--workers",
         ),
         ("scan --page 64 --pages 4 --extents 3", "<IMAGE>"),
+        (
+            "locators --page 64 --pages 4 --extents 3 --extent 1 x",
+            "--extent",
+        ),
+        (
+            "locators --page 64 --pages 4 --extents 3 --workers 65 x",
+            "65 is not in 0..=64",
+        ),
+        ("locators --page 64 --pages 4 --extents 3", "<IMAGE>"),
     ] {
         let text = refusal(&rt, words)?;
         assert!(rt; text.as_str().contains(part), "{words}");
@@ -118,6 +134,7 @@ fn the_help_of_the_program_and_of_each_command(rt: HostRuntime) -> Result<(), Fa
             "Usage: shardscrub [COMMAND]",
             "\n  scan ",
             "\n  index ",
+            "\n  locators ",
             "\n  items ",
             "\n  demo ",
             "Exit status",
@@ -181,8 +198,24 @@ fn the_help_of_the_commands_on_a_disk(rt: HostRuntime) -> Result<(), Fail> {
             "--extents <COUNT>",
             "[EXTENT:PAGE]...",
             "hidden",
+            "no repair",
             "Exit status",
             "\n  shardscrub index --page 64 --pages 4 --extents 3 examples/one-shard.img",
+        ],
+    )?;
+    check_help(
+        &rt,
+        "locators --help",
+        &[
+            "Usage: shardscrub locators",
+            "--extents <COUNT>",
+            "[EXTENT:PAGE]...",
+            "OWNER EXTENT OFFSET LENGTH UUID STATUS",
+            "\n  STATUS ",
+            "wrong_digest",
+            "Exit status",
+            "\n  shardscrub locators --page 64 --pages 4 --extents 3 examples/one-shard.img",
+            "\n  shard 00000000000000000000000000000001 1 0 3 11111111-1111-1111-1111-111111111111 sound\n",
         ],
     )
 }

@@ -1,128 +1,176 @@
 //! A gate that keeps what it is told, and holds workers up.
 
 use crate::compare::same;
+use crate::workers::pausing::{PAUSES, pause};
 use scrub_pool::{Gate, Takings};
 use std::alloc::Global;
 use std::process::Abort;
 use std::sync::atomic::{AtomicU64, Ordering};
 use std::test::Fail;
-use std::thread;
+use std::time::Clock;
 
-/// The most turns for which a worker is held.
-const TURNS: u32 = 1_000_000;
+/// Who told which numbers, from 1 on. Each is told once, and one worker's numbers rise.
+#[derive(Drop)]
+struct Record {
+    // By the numbers: who told it, as the worker's own number and 1 more, or 0.
+    tellers: Vec<AtomicU64>,
+    // By the workers, the caller last: the last number that it told, or 0.
+    last: Vec<AtomicU64>,
+}
 
 /// Keeps what each worker tells, and holds each worker's first extent until so many workers passed with one.
 #[derive(Drop)]
-pub(super) struct Watch {
-    // By the workers' numbers, the caller's last: the extents that a worker passed with, and the totals that it was told,
-    // as bits.
-    passed: Vec<AtomicU64>,
-    told: Vec<AtomicU64>,
-    // How often a number didn't rise or was over 63, a worker wasn't asked for, or a worker was held too long.
+pub(super) struct Watch<'c, C: Clock> {
+    clock: &'c C,
+    // The extents with which workers passed, and the totals that they were told.
+    passed: Record,
+    counted: Record,
+    // How often a number was told again, didn't rise or is none of the disk's, a worker wasn't asked for, or a worker was
+    // held too long.
     faults: AtomicU64,
     wanted: usize,
 }
 
-/// As many sets as asked, all empty.
-fn empty_sets(alloc: Global, count: u32) -> Result<Vec<AtomicU64>, Fail> {
-    let mut sets = Vec::new(alloc);
+/// So many zeros.
+fn zeros(alloc: Global, count: u32) -> Result<Vec<AtomicU64>, Fail> {
+    let mut cells = Vec::new(alloc);
     for _ in 0..count {
-        sets.push(AtomicU64::new(0))?;
+        cells.push(AtomicU64::new(0))?;
     }
-    Ok(sets)
+    Ok(cells)
 }
 
-/// What is in a worker's set.
-fn bits_at(sets: &[AtomicU64], worker: u32) -> u64 {
-    match sets.get(worker as usize) {
-        Some(set) => set.load(Ordering::SeqCst),
-        None => 0,
+impl Record {
+    /// A record for so many workers, and for the numbers below an end, of which none was told.
+    fn new(alloc: Global, workers: u32, end: u32) -> Result<Record, Fail> {
+        Ok(Record {
+            tellers: zeros(alloc, end)?,
+            last: zeros(alloc, workers)?,
+        })
+    }
+
+    /// Notes that a worker told a number, and gives the one that it told before, or 0. `None` is a fault.
+    fn note(&self, worker: u32, number: u64) -> Option<u64> {
+        let last = self.last.get(worker as usize)?;
+        let teller = self.tellers.get(number as usize)?;
+        let before = last.swap(number, Ordering::SeqCst);
+        let other = teller.swap(u64::from(worker) + 1, Ordering::SeqCst);
+        if other == 0 && before < number {
+            Some(before)
+        } else {
+            None
+        }
+    }
+
+    /// Whether it was this worker who told a number.
+    fn is_told_by(&self, worker: u32, number: u32) -> bool {
+        match self.tellers.get(number as usize) {
+            Some(teller) => teller.load(Ordering::SeqCst) == u64::from(worker) + 1,
+            None => false,
+        }
+    }
+
+    /// How many numbers a worker told.
+    fn count(&self, worker: u32) -> usize {
+        let wanted = u64::from(worker) + 1;
+        self.tellers
+            .iter()
+            .filter(|teller| teller.load(Ordering::SeqCst) == wanted)
+            .count()
+    }
+
+    /// The last number that a worker told, or 0.
+    fn last_of(&self, worker: u32) -> u64 {
+        match self.last.get(worker as usize) {
+            Some(last) => last.load(Ordering::SeqCst),
+            None => 0,
+        }
+    }
+
+    /// How many workers told a number.
+    fn workers(&self) -> usize {
+        self.last
+            .iter()
+            .filter(|last| last.load(Ordering::SeqCst) != 0)
+            .count()
     }
 }
 
-/// Rising numbers below 64, as bits.
-fn bits_of(rt: &impl Abort, numbers: &[u32]) -> u64 {
-    let mut bits = 0;
-    for number in numbers {
-        assert!(rt; *number < 64 && bits >> *number == 0);
-        bits |= 1 << *number;
-    }
-    bits
-}
-
-impl Watch {
-    /// A gate for so many workers, the caller among them, that holds each until so many of them have passed.
-    pub(super) fn new(alloc: Global, workers: u32, wanted: usize) -> Result<Watch, Fail> {
+impl<'c, C: Clock> Watch<'c, C> {
+    /// A gate for so many workers, the caller among them, on a disk of so many extents. It holds each worker until so many
+    /// of them have passed.
+    pub(super) fn new(
+        clock: &'c C,
+        alloc: Global,
+        workers: u32,
+        extents: u32,
+        wanted: usize,
+    ) -> Result<Watch<'c, C>, Fail> {
         Ok(Watch {
-            passed: empty_sets(alloc, workers)?,
-            told: empty_sets(alloc, workers)?,
+            clock,
+            passed: Record::new(alloc, workers, extents)?,
+            counted: Record::new(alloc, workers, extents)?,
             faults: AtomicU64::new(0),
             wanted,
         })
     }
 
-    /// Notes a number, which is above all that the worker has, and gives what it had.
-    fn note(&self, sets: &[AtomicU64], worker: u32, number: u64) -> u64 {
-        match sets.get(worker as usize) {
-            Some(set) if number < 64 => {
-                let before = set.fetch_or(1 << number, Ordering::SeqCst);
-                if before >> number == 0 {
-                    return before;
-                }
-            }
-            _ => {}
-        }
-        self.faults.fetch_add(1, Ordering::SeqCst)
+    /// The extent with which a worker passed last, or 0.
+    pub(super) fn last_passed(&self, worker: u32) -> u64 {
+        self.passed.last_of(worker)
     }
 
-    /// Whether so many workers passed as are wanted.
-    fn is_open(&self) -> bool {
-        let passed = self
-            .passed
-            .iter()
-            .filter(|set| set.load(Ordering::SeqCst) != 0);
-        passed.count() >= self.wanted
+    /// Counts a fault.
+    pub(super) fn fault(&self) {
+        self.faults.fetch_add(1, Ordering::SeqCst);
+    }
+
+    /// Waits until so many workers passed as are wanted.
+    fn hold(&self) {
+        for _ in 0..PAUSES {
+            if self.passed.workers() >= self.wanted {
+                return;
+            }
+            pause(self.clock);
+        }
+        self.fault();
+    }
+
+    /// Requires that a worker told the extents that it took, and as many totals.
+    fn check_worker(&self, rt: &impl Abort, worker: u32, taken: &[u32]) {
+        same(rt, self.passed.count(worker), taken.len());
+        same(rt, self.counted.count(worker), taken.len());
+        for extent in taken {
+            assert!(rt; self.passed.is_told_by(worker, *extent));
+        }
     }
 
     /// Requires that there are as many workers as the gate is for, that it was told what they took, each worker's extents
-    /// in the order in which it took them, and as many totals; and that the planned extents stand in one list each, and
-    /// the totals count them, one by one.
+    /// in the order in which it took them, and as many totals, one by one; and that each extent but extent 0 is planned.
+    /// So each planned extent was told once.
     pub(super) fn check(&self, rt: &impl Abort, takings: &Takings, planned: &[u32]) {
-        same(rt, takings.workers() as usize + 1, self.passed.len());
+        same(rt, takings.workers() as usize + 1, self.passed.last.len());
         same(rt, takings.counted(), planned.len() as u64);
-        let mut taken = 0;
-        let mut totals = 0;
+        same(rt, planned.len() + 1, self.counted.tellers.len());
         for worker in 0..=takings.workers() {
-            let list = takings.taken_by(worker);
-            let passed = bits_at(&self.passed, worker);
-            let told = bits_at(&self.told, worker);
-            same(rt, passed, bits_of(rt, list));
-            same(rt, told.count_ones() as usize, list.len());
-            assert!(rt; taken & passed == 0 && totals & told == 0);
-            taken |= passed;
-            totals |= told;
+            self.check_worker(rt, worker, takings.taken_by(worker));
         }
-        let wanted = bits_of(rt, planned);
-        same(rt, (taken, totals), (wanted, wanted));
         same(rt, self.faults.load(Ordering::SeqCst), 0);
     }
 }
 
-impl Gate for Watch {
+impl<C: Clock + Sync> Gate for Watch<'_, C> {
     fn passed(&self, worker: u32, extent: u32) {
-        if self.note(&self.passed, worker, u64::from(extent)) != 0 {
-            return;
+        match self.passed.note(worker, u64::from(extent)) {
+            Some(0) => self.hold(),
+            Some(_) => {}
+            None => self.fault(),
         }
-        for _ in 0..TURNS {
-            if self.is_open() {
-                return;
-            }
-            thread::yield_now();
-        }
-        self.faults.fetch_add(1, Ordering::SeqCst);
     }
 
     fn counted(&self, worker: u32, total: u64) {
-        self.note(&self.told, worker, total);
+        if self.counted.note(worker, total).is_none() {
+            self.fault();
+        }
     }
 }

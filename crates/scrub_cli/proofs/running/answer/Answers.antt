@@ -1,7 +1,7 @@
 -- What a request comes to is what the words that ask for it come to.
 use Rattle.std.proofs.Common.{rules, map}
 use Rattle.scrub_cli.specs.Words.{AskFor}
-use Rattle.scrub_cli.specs.declared.words.Request.TheVariants.{Items, Scan, Index}
+use Rattle.scrub_cli.specs.declared.words.Request.TheVariants.{Items, Scan, Index, Locators}
 use Rattle.scrub_cli.proofs.RunAnswers.{answered}
 use Rattle.scrub_cli.proofs.WordsFound.{few_workers}
 use Rattle.scrub_cli.proofs.running.answer.Goals as goal
@@ -21,6 +21,11 @@ scan-requires-in-Index g c =
     let asked : AskFor (map (λ word. word.now) c.args.words.now) (Index c.in-Index.words) = rw c.in-Index.is at c.in_ok-read_words.ensures in
     (search rules, few_workers asked.1.0 c.in-Index.words.workers asked.1.2.workers)
 
+pub scan-requires-in-Locators : goal.scan-requires-in-Locators
+scan-requires-in-Locators g c =
+    let asked : AskFor (map (λ word. word.now) c.args.words.now) (Locators c.in-Locators.words) = rw c.in-Locators.is at c.in_ok-read_words.ensures in
+    (search rules, few_workers asked.1.0 c.in-Locators.words.workers asked.1.2.workers)
+
 pub returns-in-Scan : goal.returns-in-Scan
 returns-in-Scan g c =
     answered (g.I.Images.known c.args.images.now) (map (λ word. word.now) c.args.words.now) (Scan c.in-Scan.words) c.scan.result
@@ -30,3 +35,8 @@ pub returns-in-Index : goal.returns-in-Index
 returns-in-Index g c =
     answered (g.I.Images.known c.args.images.now) (map (λ word. word.now) c.args.words.now) (Index c.in-Index.words) c.scan-in-Index.result
     (rw c.in-Index.is at c.in_ok-read_words.ensures) c.scan-in-Index.ensures
+
+pub returns-in-Locators : goal.returns-in-Locators
+returns-in-Locators g c =
+    answered (g.I.Images.known c.args.images.now) (map (λ word. word.now) c.args.words.now) (Locators c.in-Locators.words) c.scan-in-Locators.result
+    (rw c.in-Locators.is at c.in_ok-read_words.ensures) c.scan-in-Locators.ensures

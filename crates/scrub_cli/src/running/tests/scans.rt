@@ -1,5 +1,5 @@
-//! Whole runs of `scan`, `index` and the demo: the published reports byte for byte, the index beside them, and what is told
-//! where a page is lost, the output fails or the words are wrong.
+//! Whole runs of `scan`, `index`, `locators` and the demo: the published reports byte for byte, the index and the named
+//! locators beside them, and what is told where a page is lost, the output fails or the words are wrong.
 
 use super::{check, image};
 use crate::running::run;
@@ -21,6 +21,12 @@ use std::thread::Threads;
 const SCAN: &str = "scan --page 64 --pages 4 --extents 3 disk.img";
 
 const INDEX: &str = "index --page 64 --pages 4 --extents 3 disk.img";
+
+const LOCATORS: &str = "locators --page 64 --pages 4 --extents 3 disk.img";
+
+/// The line of the run of the disk with one shard, and that of the shard.
+const TWO_LINES: &str =
+    "run 0 2 0 117 22222222-2222-2222-2222-222222222222 sound\nshard 00000000000000000000000000000001 1 0 3 11111111-1111-1111-1111-111111111111 sound\n";
 
 /// The bytes of a disk of pages of 64 bytes, extent by extent.
 fn raw_bytes(alloc: Global, disk: &MemDisk) -> Result<Vec<u8>, Fail> {
@@ -120,9 +126,44 @@ fn the_number_of_workers_is_of_no_account(rt: HostRuntime) -> Result<(), Fail> {
     Ok(())
 }
 
+/// The run's locator comes first, then the shard's.
+#[test]
+fn the_locators_of_a_disk_with_one_shard(rt: HostRuntime) -> Result<(), Fail> {
+    let (disk, _) = one_shard(rt.alloc())?;
+    for words in [
+        LOCATORS,
+        "locators --workers 0 --page 64 --pages 4 --extents 3 disk.img",
+        "locators --page 64 --pages 4 --extents 3 disk.img --workers=3",
+    ] {
+        check(&rt, rt.alloc(), words, image(&disk), (0, TWO_LINES, ""))?;
+    }
+    Ok(())
+}
+
+/// A locator that dangles is listed with its reason. What only a lost run tells isn't.
+#[test]
+fn the_locators_of_a_disk_with_an_unreadable_page(rt: HostRuntime) -> Result<(), Fail> {
+    let (disk, _) = one_shard(rt.alloc())?;
+    for (words, lines) in [
+        (
+            "locators --page 64 --pages 4 --extents 3 disk.img 1:0",
+            "run 0 2 0 117 22222222-2222-2222-2222-222222222222 sound\nshard 00000000000000000000000000000001 1 0 3 11111111-1111-1111-1111-111111111111 unreadable\n",
+        ),
+        (
+            "locators --page 64 --pages 4 --extents 3 disk.img 2:2",
+            "run 0 2 0 117 22222222-2222-2222-2222-222222222222 unreadable\n",
+        ),
+        ("locators --page 64 --pages 4 --extents 3 disk.img 0:0", ""),
+    ] {
+        check(&rt, rt.alloc(), words, image(&disk), (1, lines, ""))?;
+    }
+    Ok(())
+}
+
 #[test]
 fn a_disk_of_zeros_has_findings(rt: HostRuntime) -> Result<(), Fail> {
     check(&rt, rt.alloc(), SCAN, image(&[0; 768]), (1, ZEROS, ""))?;
+    check(&rt, rt.alloc(), LOCATORS, image(&[0; 768]), (1, "", ""))?;
     check_index(&rt, rt.alloc(), &[0; 768], (1, &NO_SHARDS))
 }
 
@@ -136,6 +177,9 @@ fn a_chunk_that_was_stepped_past_is_hidden(rt: HostRuntime) -> Result<(), Fail> 
     ];
     let disk = disk_with_run(rt.alloc(), &frames, &payload, [105, 155])?;
     check(&rt, rt.alloc(), SCAN, image(&disk), (1, COLLISION, ""))?;
+    let lines =
+        "run 0 2 0 117 22222222-2222-2222-2222-222222222222 sound\nshard 00000000000000000000000000000001 1 64 3 11111111-1111-1111-1111-111111111111 hidden\n";
+    check(&rt, rt.alloc(), LOCATORS, image(&disk), (1, lines, ""))?;
     check_index(&rt, rt.alloc(), &disk, (1, &payload))
 }
 
@@ -145,6 +189,9 @@ fn twins_and_a_shared_place_are_told(rt: HostRuntime) -> Result<(), Fail> {
     let frames = [(0, ONES, b"abc".as_slice()), (41, ONES, b"abc")];
     let disk = disk_with_run(rt.alloc(), &frames, &payload, [82, 232])?;
     check(&rt, rt.alloc(), SCAN, image(&disk), (1, TWINS, ""))?;
+    let lines =
+        "run 0 2 0 194 22222222-2222-2222-2222-222222222222 sound\nshard 00000000000000000000000000000001 1 41 3 11111111-1111-1111-1111-111111111111 sound\nshard 00000000000000000000000000000002 1 41 3 11111111-1111-1111-1111-111111111111 sound\n";
+    check(&rt, rt.alloc(), LOCATORS, image(&disk), (1, lines, ""))?;
     check_index(&rt, rt.alloc(), &disk, (1, &payload))
 }
 
@@ -204,6 +251,11 @@ fn of_several_faults_the_first_is_told(rt: HostRuntime) -> Result<(), Fail> {
         ),
         (
             "index --page 64 --pages 4 --extents 3 disk.img 1:0",
+            3,
+            "shardscrub: image too long\n",
+        ),
+        (
+            "locators --page 64 --pages 4 --extents 3 disk.img 1:0",
             3,
             "shardscrub: image too long\n",
         ),
