@@ -1,0 +1,201 @@
+//! All calls that can lack memory, by their names. What each is tried on stands in the modules named here.
+
+ghost use Rattle.std.specs.Prelude.{◌≤◌};
+
+use crate::ending::{Stop, Wanted};
+use crate::{checks, frames, lists, loading, pool, records, report, runs, scans};
+use std::alloc::Global;
+use std::sync::Wait;
+use std::thread::Threads;
+
+/// A call, by whether it takes the runtime.
+#[derive(Clone, Copy)]
+pub enum Call {
+    Alone(Alone),
+    Running(Running),
+}
+
+/// The calls that take no runtime.
+#[derive(Clone, Copy)]
+pub enum Alone {
+    Blank,
+    Load,
+    WriteFrame,
+    WriteSealed,
+    WriteRecord,
+    ReadRecord,
+    Choose,
+    MakePlan,
+    Restrict,
+    WriteRun,
+    ReadRun,
+    Merge,
+    Tile,
+    ItemLine,
+    ScanExtent,
+    ScanInOrder,
+    FrameStands,
+    ReadPayload,
+    ReadRuns,
+    StatusOf,
+    NamedLocators,
+    Dangling,
+    Hidden,
+    BrokenShards,
+    Orphans,
+    Twins,
+    Shared,
+    Candidates,
+    NewBook,
+    Reserve,
+    NewPool,
+    Step,
+}
+
+/// The calls that take the runtime.
+#[derive(Clone, Copy)]
+pub enum Running {
+    CheckAll,
+    NewQueue,
+    Split,
+    ScanAll(Workers),
+    ScrubInOrder,
+    Scrub(Workers),
+}
+
+/// How many workers scan beside the caller.
+#[derive(Clone, Copy)]
+pub enum Workers {
+    None,
+    One,
+    Two,
+}
+
+impl Workers {
+    /// Their number.
+    fn count(self) -> u32
+        ensures { result ≤ 64 }
+    {
+        match self {
+            Workers::None => 0,
+            Workers::One => 1,
+            Workers::Two => 2,
+        }
+    }
+}
+
+/// All calls, each by its name, the number of workers that stands behind it, or else no text, and which it is.
+pub const CALLS: [(&str, &str, Call); 42] = [
+    ("MemDisk::blank", "", Call::Alone(Alone::Blank)),
+    ("load", "", Call::Alone(Alone::Load)),
+    ("write_frame", "", Call::Alone(Alone::WriteFrame)),
+    ("write_sealed", "", Call::Alone(Alone::WriteSealed)),
+    ("write_record", "", Call::Alone(Alone::WriteRecord)),
+    ("read_record", "", Call::Alone(Alone::ReadRecord)),
+    ("choose", "", Call::Alone(Alone::Choose)),
+    ("Plan::make", "", Call::Alone(Alone::MakePlan)),
+    ("Plan::restrict", "", Call::Alone(Alone::Restrict)),
+    ("write_run", "", Call::Alone(Alone::WriteRun)),
+    ("read_run", "", Call::Alone(Alone::ReadRun)),
+    ("merge", "", Call::Alone(Alone::Merge)),
+    ("tile", "", Call::Alone(Alone::Tile)),
+    ("item_line", "", Call::Alone(Alone::ItemLine)),
+    ("scan_extent", "", Call::Alone(Alone::ScanExtent)),
+    ("scan_in_order", "", Call::Alone(Alone::ScanInOrder)),
+    ("frame_stands", "", Call::Alone(Alone::FrameStands)),
+    ("read_payload", "", Call::Alone(Alone::ReadPayload)),
+    ("read_runs", "", Call::Alone(Alone::ReadRuns)),
+    ("status_of", "", Call::Alone(Alone::StatusOf)),
+    ("named_locators", "", Call::Alone(Alone::NamedLocators)),
+    ("dangling", "", Call::Alone(Alone::Dangling)),
+    ("hidden", "", Call::Alone(Alone::Hidden)),
+    ("broken_shards", "", Call::Alone(Alone::BrokenShards)),
+    ("orphans", "", Call::Alone(Alone::Orphans)),
+    ("twins", "", Call::Alone(Alone::Twins)),
+    ("shared", "", Call::Alone(Alone::Shared)),
+    ("candidates", "", Call::Alone(Alone::Candidates)),
+    ("Book::new", "", Call::Alone(Alone::NewBook)),
+    ("WorkerCore::reserve", "", Call::Alone(Alone::Reserve)),
+    ("PoolCore::new", "", Call::Alone(Alone::NewPool)),
+    ("PoolCore::step", "", Call::Alone(Alone::Step)),
+    ("check_all", "", Call::Running(Running::CheckAll)),
+    ("ExtentQueue::new", "", Call::Running(Running::NewQueue)),
+    ("ExtentQueue::split", "", Call::Running(Running::Split)),
+    (
+        "scan_all",
+        "0",
+        Call::Running(Running::ScanAll(Workers::None)),
+    ),
+    (
+        "scan_all",
+        "1",
+        Call::Running(Running::ScanAll(Workers::One)),
+    ),
+    (
+        "scan_all",
+        "2",
+        Call::Running(Running::ScanAll(Workers::Two)),
+    ),
+    ("scrub_in_order", "", Call::Running(Running::ScrubInOrder)),
+    ("scrub", "0", Call::Running(Running::Scrub(Workers::None))),
+    ("scrub", "1", Call::Running(Running::Scrub(Workers::One))),
+    ("scrub", "2", Call::Running(Running::Scrub(Workers::Two))),
+];
+
+/// Makes the values of a call and, where that is wanted, calls it and compares its answer.
+pub fn ended<R: Threads + Wait + Sync>(
+    rt: &R,
+    alloc: Global,
+    call: Call,
+    wanted: Wanted,
+) -> Result<(), Stop> {
+    match call {
+        Call::Alone(call) => ended_alone(alloc, call, wanted),
+        Call::Running(Running::CheckAll) => checks::check_all(rt, alloc, wanted),
+        Call::Running(Running::NewQueue) => pool::new_queue(rt, alloc, wanted),
+        Call::Running(Running::Split) => pool::split(rt, alloc, wanted),
+        Call::Running(Running::ScanAll(workers)) => {
+            pool::scan_all(rt, alloc, wanted, workers.count())
+        }
+        Call::Running(Running::ScrubInOrder) => report::scrub_in_order(rt, alloc, wanted),
+        Call::Running(Running::Scrub(workers)) => report::scrub(rt, alloc, wanted, workers.count()),
+    }
+}
+
+/// The same for a call that takes no runtime.
+fn ended_alone(alloc: Global, call: Alone, wanted: Wanted) -> Result<(), Stop> {
+    match call {
+        Alone::Blank => loading::blank(alloc, wanted),
+        Alone::Load => loading::load(alloc, wanted),
+        Alone::WriteFrame => frames::write_frame(alloc, wanted),
+        Alone::WriteSealed => frames::write_sealed(alloc, wanted),
+        Alone::WriteRecord => records::write_record(alloc, wanted),
+        Alone::ReadRecord => records::read_record(alloc, wanted),
+        Alone::Choose => records::choose(alloc, wanted),
+        Alone::MakePlan => records::make_plan(alloc, wanted),
+        Alone::Restrict => records::restrict(alloc, wanted),
+        Alone::WriteRun => runs::write_run(alloc, wanted),
+        Alone::ReadRun => runs::read_run(alloc, wanted),
+        Alone::Merge => runs::merge(alloc, wanted),
+        Alone::Tile => scans::tile(alloc, wanted),
+        Alone::ItemLine => scans::item_line(alloc, wanted),
+        Alone::ScanExtent => scans::scan_extent(alloc, wanted),
+        Alone::ScanInOrder => scans::scan_in_order(alloc, wanted),
+        Alone::FrameStands => scans::frame_stands(alloc, wanted),
+        Alone::ReadPayload => scans::read_payload(alloc, wanted),
+        Alone::ReadRuns => checks::read_runs(alloc, wanted),
+        Alone::StatusOf => checks::status_of(alloc, wanted),
+        Alone::NamedLocators => checks::named_locators(alloc, wanted),
+        Alone::Dangling => lists::dangling(alloc, wanted),
+        Alone::Hidden => lists::hidden(alloc, wanted),
+        Alone::BrokenShards => lists::broken_shards(alloc, wanted),
+        Alone::Orphans => lists::orphans(alloc, wanted),
+        Alone::Twins => lists::twins(alloc, wanted),
+        Alone::Shared => lists::shared(alloc, wanted),
+        Alone::Candidates => lists::candidates(alloc, wanted),
+        Alone::NewBook => pool::new_book(alloc, wanted),
+        Alone::Reserve => pool::reserve(alloc, wanted),
+        Alone::NewPool => pool::new_pool(alloc, wanted),
+        Alone::Step => pool::step(alloc, wanted),
+    }
+}

@@ -1,0 +1,93 @@
+//! The lists that are drawn from what locators are worth: those of the disk of nine locators, and those of the disk of
+//! twins and a shared place.
+
+use crate::disks::{judged_names, nine_locators, twins_and_shared};
+use crate::ending::{Stop, Wanted, right};
+use scrub_check::{Place, SharedPlace};
+use scrub_fakes::{ONES, SHARD, plan_of};
+use scrub_scan::scan_in_order;
+use std::alloc::Global;
+use uuid::Uuid;
+
+/// Seven locators of nine that dangle.
+pub fn dangling(alloc: Global, wanted: Wanted) -> Result<(), Stop> {
+    let (_, run) = nine_locators(alloc)?;
+    let judged = judged_names(alloc, run)?;
+    wanted.made()?;
+    let dangling = scrub_check::dangling(alloc, &judged)?;
+    right(judged.get(1..8) == Some(dangling.as_slice()))
+}
+
+/// The one that is hidden.
+pub fn hidden(alloc: Global, wanted: Wanted) -> Result<(), Stop> {
+    let (_, run) = nine_locators(alloc)?;
+    let judged = judged_names(alloc, run)?;
+    wanted.made()?;
+    let hidden = scrub_check::hidden(alloc, &judged)?;
+    right(judged.get(8..9) == Some(hidden.as_slice()))
+}
+
+/// Their shard, which is broken.
+pub fn broken_shards(alloc: Global, wanted: Wanted) -> Result<(), Stop> {
+    let (_, run) = nine_locators(alloc)?;
+    let judged = judged_names(alloc, run)?;
+    wanted.made()?;
+    let broken = scrub_check::broken_shards(alloc, &judged)?;
+    right(broken.as_slice() == [SHARD].as_slice())
+}
+
+/// The place of an `abc` in extent 1.
+fn abc_place(offset: u32) -> Place {
+    Place {
+        extent: 1,
+        offset,
+        length: 3,
+        uuid: Uuid::from_bytes(ONES),
+    }
+}
+
+/// The chunk that no locator names.
+pub fn orphans(alloc: Global, wanted: Wanted) -> Result<(), Stop> {
+    let (disk, checked) = twins_and_shared(alloc)?;
+    let plan = plan_of(alloc, &disk)?;
+    let all = scan_in_order(alloc, &disk, &plan)?;
+    wanted.made()?;
+    let orphans = scrub_check::orphans(alloc, &all, &checked)?;
+    right(orphans.as_slice() == [abc_place(0)].as_slice())
+}
+
+/// Two chunks of one UUID.
+pub fn twins(alloc: Global, wanted: Wanted) -> Result<(), Stop> {
+    let (disk, _) = twins_and_shared(alloc)?;
+    let plan = plan_of(alloc, &disk)?;
+    let all = scan_in_order(alloc, &disk, &plan)?;
+    wanted.made()?;
+    let twins = scrub_check::twins(alloc, &all)?;
+    right(twins.as_slice() == [abc_place(0), abc_place(41)].as_slice())
+}
+
+/// The place that two locators name.
+pub fn shared(alloc: Global, wanted: Wanted) -> Result<(), Stop> {
+    let (_, checked) = twins_and_shared(alloc)?;
+    wanted.made()?;
+    let shared = scrub_check::shared(alloc, &checked)?;
+    let place = SharedPlace {
+        extent: 1,
+        offset: 41,
+        count: 2,
+    };
+    right(shared.as_slice() == [place].as_slice())
+}
+
+/// The extent that is half live.
+pub fn candidates(alloc: Global, wanted: Wanted) -> Result<(), Stop> {
+    let (disk, checked) = twins_and_shared(alloc)?;
+    let plan = plan_of(alloc, &disk)?;
+    let all = scan_in_order(alloc, &disk, &plan)?;
+    wanted.made()?;
+    let candidates = scrub_check::candidates(alloc, &plan, &all, &checked, false)?;
+    match candidates.as_slice() {
+        [one] => { right(one.extent() == 1 && one.free() == 41 && one.keep() == [41].as_slice()) }
+        _ => Err(Stop::Wrong),
+    }
+}

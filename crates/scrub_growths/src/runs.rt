@@ -1,0 +1,98 @@
+//! Index runs that are written, beside their bytes field by field, or read, and what their merging binds.
+
+use crate::disks::{one_shard_payload, payload_of};
+use crate::ending::{Stop, Wanted, right};
+use scrub_fakes::published::NO_SHARDS;
+use scrub_fakes::{SHARD, abc_at};
+use scrub_merge::ShardMap;
+use scrub_run::{Entry, Run, RunFault};
+use std::alloc::Global;
+use std::slice;
+
+/// The run of one shard.
+pub fn write_run(alloc: Global, wanted: Wanted) -> Result<(), Stop> {
+    let payload = one_shard_payload(alloc)?;
+    let entry = Entry::new(SHARD, Vec::from_slice(alloc, &[abc_at(1, 0)])?);
+    wanted.made()?;
+    let written = scrub_run::write_run(alloc, slice::from_ref(&entry))?;
+    right(written.as_slice() == payload.as_slice())
+}
+
+/// Whether a run is that of one shard.
+pub fn is_one_shard(run: &Run) -> bool {
+    match run.entries() {
+        [entry] => entry.id() == SHARD && entry.locators() == [abc_at(1, 0)].as_slice(),
+        _ => false,
+    }
+}
+
+/// Requires that a payload is refused, though not for want of memory.
+fn not_a_run(alloc: Global, payload: &[u8]) -> Result<(), Stop> {
+    match scrub_run::read_run(alloc, payload) {
+        Ok(_) => Err(Stop::Wrong),
+        Err(RunFault::NotARun) => Ok(()),
+        Err(RunFault::OutOfMemory) => Err(Stop::OutOfMemory),
+    }
+}
+
+/// The run of one shard, that of none, and payloads that are none: of two shards of one identifier, of an entry of 65
+/// locators, with a byte behind the digest, of no bytes, and of a count that no 40 bytes hold.
+pub fn read_run(alloc: Global, wanted: Wanted) -> Result<(), Stop> {
+    let payload = one_shard_payload(alloc)?;
+    let equal = payload_of(alloc, &[SHARD; 2], &[abc_at(1, 0)])?;
+    let many = payload_of(alloc, &[SHARD], &[abc_at(1, 0); 65])?;
+    let mut longer = one_shard_payload(alloc)?;
+    longer.push(0)?;
+    let mut forged = NO_SHARDS;
+    forged[4..8].copy_from_slice(&[0xFF; 4]);
+    wanted.made()?;
+    let run = scrub_run::read_run(alloc, &payload)?;
+    let none = scrub_run::read_run(alloc, &NO_SHARDS)?;
+    not_a_run(alloc, &equal)?;
+    not_a_run(alloc, &many)?;
+    not_a_run(alloc, &longer)?;
+    not_a_run(alloc, &[])?;
+    not_a_run(alloc, &forged)?;
+    right(is_one_shard(&run) && none.entries().is_empty())
+}
+
+/// Runs of the shard alone, newest first: one that is told here as its deletion, its chunk, or lost.
+fn runs_of(alloc: Global, told: &[Option<bool>]) -> Result<Vec<Option<Run>>, Stop> {
+    let named = one_shard_payload(alloc)?;
+    let deleted = payload_of(alloc, &[SHARD], &[])?;
+    let mut runs = Vec::new(alloc);
+    for one in told {
+        runs.push(match one {
+            None => None,
+            Some(true) => Some(scrub_run::read_run(alloc, &named)?),
+            Some(false) => Some(scrub_run::read_run(alloc, &deleted)?),
+        })?;
+    }
+    Ok(runs)
+}
+
+/// Whether a map binds the shard alone, by run 1 and in doubt.
+fn binds_in_doubt(map: &ShardMap) -> bool {
+    match map.bindings() {
+        [one] => {
+            one.id() == SHARD
+                && one.run() == 1
+                && one.doubtful()
+                && one.locators() == [abc_at(1, 0)].as_slice()
+        }
+        _ => false,
+    }
+}
+
+/// Three runs of one shard, of which the newest deletes it; and two, of which the newer is lost.
+pub fn merge(alloc: Global, wanted: Wanted) -> Result<(), Stop> {
+    let three = runs_of(alloc, &[Some(false), Some(true), Some(true)])?;
+    let two = runs_of(alloc, &[None, Some(true)])?;
+    if three.len() != 3 || two.len() != 2 {
+        return Err(Stop::Wrong);
+    }
+    wanted.made()?;
+    let deleted = scrub_merge::merge(alloc, &three)?;
+    let doubtful = scrub_merge::merge(alloc, &two)?;
+    right(deleted.bindings().is_empty() && binds_in_doubt(&doubtful))
+}

@@ -1,0 +1,32 @@
+//! Who took what of the disk with one shard.
+
+use scrub_pool::Takings;
+
+/// Whether so many workers and the caller took extents 1 and 2 together, each once, and both were counted.
+pub fn is_partition(takings: &Takings, workers: u32) -> bool {
+    takings.workers() == workers
+        && takings.counted() == 2
+        && times_taken(takings, 1) == 1
+        && times_taken(takings, 2) == 1
+        && all_taken(takings) == 2
+}
+
+/// How many workers took an extent.
+fn times_taken(takings: &Takings, extent: u32) -> usize {
+    let mut times = 0usize;
+    for worker in 0..=takings.workers() {
+        if takings.taken_by(worker).contains(&extent) {
+            times = times.saturating_add(1);
+        }
+    }
+    times
+}
+
+/// How many extents the workers took.
+fn all_taken(takings: &Takings) -> usize {
+    let mut count = 0usize;
+    for worker in 0..=takings.workers() {
+        count = count.saturating_add(takings.taken_by(worker).len());
+    }
+    count
+}
