@@ -1,4 +1,4 @@
-//! The findings of one reader, assembled of results that arrived in whatever order. Who scans, and when, is left to the crates above.
+//! The findings of one reader, assembled of results that arrived in whatever order. `scrub_pool` says who scans.
 
 ghost use Rattle.std.specs.Prelude.{◌≡◌, [], All, Some, map};
 ghost use Rattle.std.specs.List.Sorted.{IsPermutation};

@@ -1,4 +1,4 @@
-//! Collecting the results of planned extents, in whatever order they come. Who scans them is left to the crates above.
+//! Collecting the results of planned extents, in whatever order they come. `scrub_pool` says who scans them.
 
 ghost use Rattle.std.specs.Prelude.{◌≡◌, ◌<◌, length, slice_index, replicate, position, not, Contains, IfOk, IfErr, IfSome, IfNone, OnOk, OnErr, Some, None};
 ghost use Rattle.std.specs.Option.{is_some};

@@ -1,5 +1,5 @@
 //! The pool of workers as a machine of one thread: who takes, is done and retires at what time is told to it event by
-//! event. Real threads are left to the crates above.
+//! event. The threads are in `scrub_pool`.
 
 ghost use Rattle.std.specs.Prelude.{◌≡◌, ◌+◌, ◌≤◌, ◌++◌, ◌&&◌, is_none, All, map, replicate, slice_get, vec_len, IfOk, IfErr, OnOk, OnErr, None, true, false, Some};
 ghost use Rattle.std.specs.List.{list_all};

@@ -1,4 +1,4 @@
-//! An extent that is read whole into memory. What its bytes mean is left to the crates above.
+//! An extent that is read whole into memory. It shows each page with whether it can be read.
 
 ghost use Rattle.std.specs.Prelude.{◌≡◌, ◌≤◌, ◌<◌, IfOk, length};
 ghost use Rattle.scrub_disk.specs.Buffered.{IsBuffered, pages_without};

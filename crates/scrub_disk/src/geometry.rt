@@ -1,4 +1,4 @@
-//! The sizes of a disk, and the limits that they keep. Which bytes the disk holds is left to its image.
+//! The sizes of a disk, and the limits that they keep. The bytes are told by a `PageSource`.
 
 ghost use Rattle.std.specs.Prelude.{◌≡◌, ◌*◌, ◌^◌, ◌<◌, ◌≤◌, MatchResult};
 ghost use Rattle.scrub_disk.specs.Limits.{IsPageSize, AreExtents, ArePages};

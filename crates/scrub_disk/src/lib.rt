@@ -1,5 +1,6 @@
 //! The disk of a storage node: its sizes, its image as a source of pages, an image in memory, and how one is loaded
-//! from raw bytes. What the bytes of a page mean is left to the crates above.
+//! from raw bytes. What the bytes of a page mean is told by `scrub_super` for extent 0, and by `scrub_scan` for
+//! the others.
 #![tactic(auto)]
 
 pub mod buffered_extent;

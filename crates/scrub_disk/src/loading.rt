@@ -1,4 +1,4 @@
-//! Loading a raw image into memory, page by page. Whether the bytes of a page mean anything is left to the crates above.
+//! Loading a raw image into memory, page by page. No byte of a page is judged.
 
 ghost use Rattle.std.specs.Prelude.{◌≡◌, ◌≢◌, ◌≤◌, ◌+◌, ◌-◌, ◌*◌, ◌<◌, ◌^◌, ◌/◌, ◌⊎◌, [], All, false, true, IfOk, IfSome, length, slice_get, Err, Some};
 ghost use Rattle.std.specs.Bool.{OnTrue, OnFalse};

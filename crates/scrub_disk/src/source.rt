@@ -1,4 +1,4 @@
-//! Where the pages of a disk come from. What stands on them is left to the crates above.
+//! Where the pages of a disk come from. No byte of a page is judged.
 
 ghost use Rattle.std.specs.Prelude.{◌≡◌, ◌<◌, length, OnOk, OnErr, Some, None};
 ghost use Rattle.scrub_disk.specs.Image.{Image, HasWholePages};

@@ -1,5 +1,4 @@
-//! Builders: what tests put on disks in memory. Each refuses what doesn't fit, and says what it put where. What is found
-//! on such disks is left to the tests.
+//! Builders: what tests put on disks in memory. Each refuses what doesn't fit, and says what it put where.
 
 ghost use Rattle.std.specs.Prelude.{◌≡◌, ◌≤◌, ◌-◌, [], ◌∷◌, IfOk, None, OnOk, IsTrue, length};
 ghost use Rattle.std.specs.List.{range_with_len};

@@ -1,5 +1,5 @@
 //! For tests: raw images, writers and page sources that misbehave or count, builders that put bytes, chunks and records on
-//! disks in memory, and the published reports. What is found on such disks is left to the tests.
+//! disks in memory, and the published reports.
 #![tactic(auto)]
 
 pub mod disk;

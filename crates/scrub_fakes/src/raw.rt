@@ -1,4 +1,4 @@
-//! A raw image over bytes that are lent to it. What is loaded from one is left to the tests.
+//! A raw image over bytes that are lent to it.
 
 ghost use Rattle.std.specs.Prelude.{◌≡◌, ◌≤◌, ◌<◌, ◌↔◌, Some, IsTrue};
 

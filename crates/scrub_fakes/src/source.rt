@@ -1,4 +1,4 @@
-//! A page source that counts its calls. What reads its pages is left to the tests.
+//! A page source that counts its calls.
 
 ghost use Rattle.std.specs.Prelude.{◌≡◌, ◌<◌, IfOk, length};
 ghost use Rattle.scrub_disk.specs.Memory.{image_of};

@@ -1,4 +1,4 @@
-//! A writer with little room. What is written to one is left to the tests.
+//! A writer with little room.
 
 ghost use Rattle.std.specs.Prelude.{◌≡◌, [], Some};
 

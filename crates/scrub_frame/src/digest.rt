@@ -1,4 +1,4 @@
-//! The digest of a payload. Where a digest is kept and what it is compared with is left to its callers.
+//! The digest of a payload.
 
 ghost use Rattle.std.specs.Prelude.{◌≡◌};
 ghost use Rattle.sha2.specs.Sha256.{sha256};

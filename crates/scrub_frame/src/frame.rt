@@ -1,4 +1,4 @@
-//! Frames, read from bytes. Which bytes of a disk are read so, and what the payload means, is left to the crates above.
+//! Frames, read from bytes. `scrub_scan` says which bytes of a disk are read so.
 
 ghost use Rattle.std.specs.Prelude.{◌≡◌, ◌+◌, ◌≤◌, ◌++◌, ◌↔◌, List, [], ℕ, length, take, slice_range, IfSome, IfNone, IsTrue};
 ghost use Rattle.scrub_frame.specs.declared.form.Form.{Form};

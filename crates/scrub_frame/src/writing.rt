@@ -1,4 +1,4 @@
-//! Frames, written to the end of a byte list. Where on a disk those bytes go is left to the caller.
+//! Frames, written to the end of a byte list.
 
 ghost use Rattle.std.specs.Prelude.{◌≡◌, ◌+◌, ◌<◌, ◌≤◌, ◌++◌, ◌↔◌, length, vec_len, vec_capacity, OnOk, OnErr};
 ghost use Rattle.scrub_frame.specs.declared.form.Form.{Form};

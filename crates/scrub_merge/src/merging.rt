@@ -1,6 +1,6 @@
 //! The newest binding of each identifier over a list of index runs, by one cursor for each run and a heap of what stands
 //! under them: the least identifier is bound by the newest run that has it, and every cursor that has it moves on. Which
-//! runs are lost is left to the crates above.
+//! runs are lost is found by `read_runs` of `scrub_check`.
 
 ghost use Rattle.std.specs.Prelude.{◌≡◌, List, ◌<◌, ◌≤◌, ◌^◌, ◌↔◌, IsTrue, IfOk, OnOk, length};
 ghost use Rattle.scrub_merge.specs.Binding.{BindingValue, Runs, LostBefore};

@@ -1,5 +1,5 @@
-//! The queue of the planned extents, and the passes of those that take from it. What is done with an extent is left to who
-//! took it.
+//! The queue of the planned extents, and the passes of those that take from it. `scanning` says
+//! what is done with an extent.
 
 ghost use Rattle.std.specs.Prelude.{◌≡◌, ◌+◌, ◌-◌, ◌<◌, ◌≤◌, length, take, [], ◌∷◌, ◌++◌, true, false, All, IfOk, IfSome, IfNone, OnErr, Contains};
 ghost use Rattle.std.specs.List.Sorted.{IsStrictlyIncreasing};

@@ -1,5 +1,5 @@
 //! Workers that scan the planned extents of a disk at the same time, each taking from one shared queue. What is decided
-//! without threads is left to the crates below, and what follows from what was found to those above.
+//! without threads stands in `scrub_book`, and what follows from what was found in `scrub_report`.
 #![tactic(auto)]
 
 mod crew;

@@ -1,4 +1,4 @@
-//! Index runs, read from payloads. Which payloads are read is left to the crates above.
+//! Index runs, read from payloads. `read_runs` of `scrub_check` says which payloads are read.
 
 ghost use Rattle.std.specs.Prelude.{◌≡◌, ◌+◌, ◌*◌, ◌≤◌, ◌++◌, ◌↔◌, List, ℕ, All, IsTrue, IfOk, IfSome, IfNone, IsErrOf, length, take, slice_index};
 ghost use Rattle.std.specs.List.{flat_map};

@@ -1,4 +1,4 @@
-//! Index runs, written as payloads. Where on a disk they go is left to the caller.
+//! Index runs, written as payloads.
 
 ghost use Rattle.std.specs.Prelude.{◌≡◌, ◌+◌, ◌*◌, ◌<◌, ◌≤◌, ◌++◌, ◌^◌, All, IfOk, OnOk, length};
 ghost use Rattle.scrub_run.specs.Entry.{entry_bytes, IsEntry};

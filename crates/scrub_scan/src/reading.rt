@@ -1,4 +1,4 @@
-//! Reading the bytes at a place of an extent, where all of them can be read. What they mean is left to others.
+//! Reading the bytes at a place of an extent, where all of them can be read. They are judged in `standing`.
 
 ghost use Rattle.std.specs.Prelude.{◌≡◌, ◌+◌, ◌<◌, ◌≤◌, IfOk, IfSome, IfNone, None, length};
 ghost use Rattle.scrub_disk.specs.Image.{byte, extent_bytes, AreBytesAt};

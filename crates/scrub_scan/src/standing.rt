@@ -1,4 +1,4 @@
-//! The frame at a given place of an extent, without the tiling. Whether an item begins there is left to the crates above.
+//! The frame at a given place of an extent, without the tiling. `scrub_check` says whether an item begins there.
 
 ghost use Rattle.std.specs.Prelude.{◌≡◌, ◌<◌, ◌≤◌, ◌+◌, ◌++◌, ℕ, List, true, false, take, length, IfOk, IfSome, IfNone};
 ghost use Rattle.scrub_disk.specs.Image.{Image, byte, extent_bytes, AreBytesAt};

@@ -1,5 +1,5 @@
-//! Whether bytes are zero, told by comparing slices, which goes many bytes at a time. What zeros mean is left to the
-//! scanner and the tail.
+//! Whether bytes are zero, told by comparing slices, which goes many bytes at a time. `scanner` and
+//! `tail` ask for it.
 
 ghost use Rattle.std.specs.Prelude.{◌≡◌, ◌<◌, ◌↔◌, ℕ, IsTrue, length, slice_index};
 

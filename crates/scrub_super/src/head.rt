@@ -1,5 +1,5 @@
-//! What stands before the write pointers of a record, and where the parts behind it begin. What they say is left to
-//! `record`.
+//! What stands before the write pointers of a record, and where the parts behind it begin. `record` says
+//! what they mean.
 
 ghost use Rattle.std.specs.Prelude.{◌≡◌, ◌+◌, ◌≤◌, ◌<◌, ◌^◌, ◌++◌, ℕ, IfSome, IfNone, length, take, vec_len, vec_capacity, option_map};
 ghost use Rattle.scrub_super.specs.Contents.{Contents};

@@ -1,5 +1,5 @@
-//! The superblock of a disk: its records, which of them counts, and the plan of the scan that follows from it. What
-//! stands in the extents that are scanned is left to the crates above.
+//! The superblock of a disk: its records, which of them counts, and the plan of the scan that follows from it.
+//! `scrub_scan` goes by that plan.
 #![tactic(auto)]
 
 mod choosing;

@@ -1,4 +1,4 @@
-//! What is to be scanned, and what is known of it before. What stands in the extents is left to the crates above.
+//! What is to be scanned, and what is known of it before. `scrub_scan` goes by it.
 
 ghost use Rattle.std.specs.Prelude.{◌≡◌, ◌==◌, ◌<◌, ◌≤◌, ◌*◌, All, Contains, IfOk, Some, true};
 ghost use Rattle.std.specs.List.{list_any};
