@@ -7,13 +7,13 @@ ghost use Rattle.scrub_disk.specs.Image.{Image};
 ghost use Rattle.scrub_super.specs.Plan.{PlanValue};
 ghost use Rattle.scrub_check.specs.Checked.{IsChecked, AreChecked, IsToldBefore, is_dangling, dangling, hidden};
 ghost use Rattle.scrub_check.specs.Looks.{IsOpen};
-ghost use Rattle.scrub_check.specs.Runs.{AreReadRuns, AreRunStates};
+ghost use Rattle.scrub_check.specs.Runs.{AreRunStates};
 ghost use Rattle.scrub_check.specs.Seen.{AreSeen};
 ghost use Rattle.scrub_check.specs.Status.{HasStatusIn};
 ghost use Rattle.scrub_check.specs.WholeScan.{IsWholeScan};
 
 use crate::named::{Named, Owner};
-use crate::runs::{ReadRuns, RunState};
+use crate::runs::RunState;
 use crate::seen::{Seen, see};
 use crate::status::{Status, status_by_looks, told_by_findings};
 use rayon::prelude::*;
@@ -185,8 +185,26 @@ fn check_each<D: PageSource>(
     Ok(checked)
 }
 
-/// What each of these locators is worth, where these states of index runs were told before.
-fn check_by<R: Threads + Sync, D: PageSource>(
+/// What each of these locators is worth, in their order. The findings are searched, and the disk is looked at, by as many
+/// threads as there are processors. A place that several of them point to is looked at once, and its payload is hashed only
+/// where the UUID and the length in the head of the frame there are those of one of them.
+pub fn check_all<R: Threads + Sync, D: PageSource>(
+    rt: &R,
+    alloc: Global,
+    disk: &D,
+    plan: &Plan,
+    all: &AllFindings<'_, D>,
+    named: &[Named],
+) -> Result<Vec<Checked>, OutOfMemory>
+    requires { IsWholeScan (D.image disk.now) plan.now all.now.extents }
+    ensures { IfOk result (λ v. AreChecked (D.image disk.now) plan.now named.now v.items) }
+{
+    check_named(rt, alloc, disk, plan, all, &[], named)
+}
+
+/// What `check_all` gives, where the index runs were read before: what became of each, in the order of the plan, tells what
+/// its locator is worth, so that its place isn't looked at again.
+pub fn check_named<R: Threads + Sync, D: PageSource>(
     rt: &R,
     alloc: Global,
     disk: &D,
@@ -203,41 +221,6 @@ fn check_by<R: Threads + Sync, D: PageSource>(
     let left = left_locators(alloc, named, &told)?;
     let seen = see(rt, alloc, disk, plan, all, &left)?;
     check_each(alloc, disk, plan, all, &seen, named, &told)
-}
-
-/// What each of these locators is worth, in their order. The findings are searched, and the disk is looked at, by as many
-/// threads as there are processors. A place that several of them point to is looked at once, and its payload is hashed only
-/// where the UUID and the length in the head of the frame there are those of one of them.
-pub fn check_all<R: Threads + Sync, D: PageSource>(
-    rt: &R,
-    alloc: Global,
-    disk: &D,
-    plan: &Plan,
-    all: &AllFindings<'_, D>,
-    named: &[Named],
-) -> Result<Vec<Checked>, OutOfMemory>
-    requires { IsWholeScan (D.image disk.now) plan.now all.now.extents }
-    ensures { IfOk result (λ v. AreChecked (D.image disk.now) plan.now named.now v.items) }
-{
-    check_by(rt, alloc, disk, plan, all, &[], named)
-}
-
-/// What `check_all` gives, where the index runs were read before: what became of a run tells what its locator is worth, so
-/// that its place isn't looked at again.
-pub fn check_named<R: Threads + Sync, D: PageSource>(
-    rt: &R,
-    alloc: Global,
-    disk: &D,
-    plan: &Plan,
-    all: &AllFindings<'_, D>,
-    read: &ReadRuns,
-    named: &[Named],
-) -> Result<Vec<Checked>, OutOfMemory>
-    requires scan { IsWholeScan (D.image disk.now) plan.now all.now.extents }
-    requires read { AreReadRuns (D.image disk.now) plan.now read.now }
-    ensures { IfOk result (λ v. AreChecked (D.image disk.now) plan.now named.now v.items) }
-{
-    check_by(rt, alloc, disk, plan, all, read.states(), named)
 }
 
 /// Neither sound nor hidden.

@@ -1,5 +1,5 @@
-//! Which index runs can be read, and why the others are lost. What the entries of several runs come to is left to the
-//! crates above.
+//! Which index runs can be read, and why the others are lost. What the entries of several runs come to is found by
+//! `scrub_merge`.
 
 ghost use Rattle.std.specs.Prelude.{◌≡◌, IfOk};
 ghost use Rattle.scrub_check.specs.WholeScan.{IsWholeScan};
@@ -62,6 +62,15 @@ impl ReadRuns {
         ensures counted { AreCounted self.now }
     {
         self.states.as_slice()
+    }
+
+    /// What became of each, handed out. The runs are given up.
+    pub fn into_states(self) -> Vec<RunState>
+        ensures states { result.items ≡ self.states }
+        // Every value of the type is such.
+        ensures counted { AreCounted self }
+    {
+        self.states
     }
 }
 

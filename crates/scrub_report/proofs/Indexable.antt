@@ -1,16 +1,18 @@
 -- The bindings of a disk's shard map fit into one index run: their identifiers differ, and each stands in one of at most
--- 32 runs, none of which has more entries than an extent has bytes.
-use Rattle.std.proofs.Common.{◌≡◌, ◌<◌, ◌≤◌, ◌^◌, ◌||◌, ℕ, Bool, true, false, Option, Some, None, MatchOption, List, [], ◌∷◌, ◌++◌, length, map, zero, suc, arith, refl, sym, ◌∙◌, ap, get_or, inl, inr}
+-- 32 runs, none of which has more entries than an extent has bytes. So the recovered index is a run.
+use Rattle.std.proofs.Common.{◌≡◌, ◌<◌, ◌≤◌, ◌^◌, ◌||◌, ℕ, Bool, true, false, not, Option, Some, None, MatchOption, List, [], ◌∷◌, ◌++◌, length, map, zero, suc, arith, refl, sym, ◌∙◌, ap, get_or, inl, inr}
 use Rattle.std.specs.Ordering.{nat_cmp, eq_by_cmp, is_eq}
 use Rattle.std.specs.Cmp.{IsEquivalence}
 use Rattle.std.specs.Cmp.Lexicographic.{slice_cmp}
-use Rattle.std.specs.List.{All, AllPairs, Contains, IsDistinct, flat_map, list_any, slice_get}
+use Rattle.std.specs.List.{All, AllPairs, Contains, IsDistinct, filter, flat_map, list_any, slice_get}
 use Rattle.std.proofs.lemmas.Bool.{or_left, or_right}
 use Rattle.std.proofs.lemmas.Cmp.{eq_by_cmp_equiv, nat_list_cmp_total}
 use Rattle.std.proofs.lemmas.List.{length-append, length-map}
 use Rattle.std.proofs.lemmas.List.Concat.{length-flat_map}
-use Rattle.std.proofs.lemmas.List.Elements.{All-contains, All-head, All-tail, recursion_from_All}
+use Rattle.std.proofs.lemmas.List.Elements.{All-contains, All-filter, All-head, All-map, All-tail, recursion_from_All}
+use Rattle.std.proofs.lemmas.List.Filters.{length-filter_both}
 use Rattle.std.proofs.lemmas.List.Folds.{list_any-append}
+use Rattle.std.proofs.lemmas.List.Kept.{AllPairs-filter}
 use Rattle.std.proofs.lemmas.List.Sums.{sum_by-le}
 use Rattle.std.proofs.lemmas.Map.Made.{length-le_from_is_member}
 use Rattle.std.proofs.lemmas.Option.{none-some, same_Some, slice_get-get_or}
@@ -23,10 +25,12 @@ use Rattle.scrub_super.specs.Plan.{IsPlanBy, IsPlanWithout}
 use Rattle.scrub_frame.specs.declared.locator.Locator.{Locator}
 use Rattle.scrub_frame.specs.Locator.{locator_bytes}
 use Rattle.scrub_run.specs.Entry.{EntryValue, entry_bytes, IsBelow, IsEntry}
-use Rattle.scrub_run.specs.Run.{run_body, run_bytes, run_magic}
+use Rattle.scrub_run.specs.Run.{AreEntries, RisesById, run_body, run_bytes, run_magic}
 use Rattle.scrub_merge.specs.Binding.{BindingValue, Runs, IsNewestBinding}
 use Rattle.scrub_merge.proofs.Elements.{Contains-cases}
+use Rattle.scrub_check.specs.Checked.{is_broken}
 use Rattle.scrub_check.specs.Runs.{NamesRun}
+use Rattle.scrub_report.specs.Index.{index_entries, indexed}
 use Rattle.scrub_report.specs.Scrubbed.{Scrubbed, IsScrubbed}
 use Rattle.scrub_report.proofs.OneIndex.{read_of, read_runs_are_runs}
 
@@ -140,11 +144,37 @@ countable image s x =
     let all = sum_by-le (λ (r : Option (List EntryValue)). length (ids_of_run r)) (2 ^ 26) s.read.runs (runs_within s.read.runs (λ k es here. let found = read_of image s.plan s.read x.read k es here in read_within image found.1 found.0 es found.2)) in
     omega (arith, ids, length-map s.bindings (λ (b : BindingValue). b.id.0), length-flat_map ids_of_run s.read.runs, all, few_runs image s x)
 
--- and each of them has as many locators as an entry can
-pub entries_fit : (image : Image) (s : Scrubbed) → IsScrubbed image s → All (λ b. length b.locators ≤ 64) s.bindings
-entries_fit image s x k d hk = few (get_or s.bindings k d) (x.bindings.newest k d hk)
+-- each of them is what an entry can tell
+entries_are : (image : Image) (s : Scrubbed) → IsScrubbed image s → All (λ b. IsEntry (indexed b)) s.bindings
+entries_are image s x k d hk = entry (get_or s.bindings k d) (x.bindings.newest k d hk)
   where
-    few : (b : BindingValue) → IsNewestBinding s.read.runs b → length b.locators ≤ 64
-    few b is =
+    entry : (b : BindingValue) → IsNewestBinding s.read.runs b → IsEntry (indexed b)
+    entry b is =
         let entries = read_runs_are_runs image s.plan s.read x.read b.run is.entry.entries is.entry.is_read in
-        (All-contains IsEntry is.entry.entries (record { id = b.id; locators = b.locators }) entries.each is.entry.among).few
+        All-contains IsEntry is.entry.entries (indexed b) entries.each is.entry.among
+
+-- so each has as many locators as an entry can
+pub entries_fit : (image : Image) (s : Scrubbed) → IsScrubbed image s → All (λ b. length b.locators ≤ 64) s.bindings
+entries_fit image s x k d hk = (entries_are image s x k d hk).few
+
+-- ---- the index is a run
+
+indexed_rise : (bs : List BindingValue) → AllPairs (λ b c. IsBelow b.id c.id) bs → RisesById (map indexed bs)
+indexed_rise [] rising i j d order here = absurd (let no : ⊥ = omega (arith, here) in no)
+indexed_rise (b ∷ bs) rising i zero d order here = absurd (let no : ⊥ = omega (arith, order) in no)
+indexed_rise (b ∷ bs) rising zero (suc j) d order here =
+    All-map (λ (e : EntryValue). IsBelow b.id e.id) indexed bs (λ k c hk. rising zero (suc k) c (omega arith) (omega (arith, hk))) j d (omega (arith, here))
+indexed_rise (b ∷ bs) rising (suc i) (suc j) d order here =
+    indexed_rise bs (λ k l c before within. rising (suc k) (suc l) c (omega (arith, before)) (omega (arith, within))) i j d (omega (arith, order)) (omega (arith, here))
+
+abbrev is_kept : Scrubbed → BindingValue → Bool
+is_kept s b = not (is_broken s.checked b.id)
+
+pub index_run : (image : Image) (s : Scrubbed) → IsScrubbed image s → AreEntries (index_entries s.checked s.bindings)
+index_run image s x = record {
+  count =
+      let all = length-filter_both (is_kept s) (λ b. not (is_kept s b)) (λ b. refl) s.bindings in
+      omega (arith, countable image s x, all, length-map (filter (is_kept s) s.bindings) indexed);
+  each = All-map IsEntry indexed (filter (is_kept s) s.bindings) (All-filter (is_kept s) (λ b. IsEntry (indexed b)) s.bindings (entries_are image s x));
+  rising = indexed_rise (filter (is_kept s) s.bindings) (AllPairs-filter (λ b c. IsBelow b.id c.id) (is_kept s) s.bindings x.bindings.bindings_of_map.rising);
+}

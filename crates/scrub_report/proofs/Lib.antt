@@ -10,3 +10,4 @@ pub mod OneIndex
 pub mod OneReport
 pub mod Indexable
 pub mod CleanLists
+pub mod KeptRuns

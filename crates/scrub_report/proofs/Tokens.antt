@@ -1,5 +1,5 @@
 -- The tokens of lists and of objects, as they are written.
-use Rattle.std.proofs.Common.{◌≡◌, ◌<◌, ◌≤◌, ◌+◌, ℕ, List, [], ◌∷◌, ◌++◌, OnOk, Result, Ok, Err, length, map, take, get_or, refl, sym, ap, ◌∙◌, append_assoc}
+use Rattle.std.proofs.Common.{◌≡◌, ◌<◌, ◌≤◌, ◌+◌, ℕ, List, [], ◌∷◌, ◌++◌, Bool, OnOk, Result, Ok, Err, length, map, take, get_or, refl, sym, ap, ◌∙◌, append_assoc}
 use Rattle.std.specs.List.{flat_map}
 use Rattle.std.proofs.lemmas.List.{flat_map_more, take_all, take_more}
 use Rattle.std.proofs.lemmas.List.Concat.{flat_map-append}
@@ -10,9 +10,8 @@ use Rattle.serde_json.specs.Data.{Data}
 use Rattle.serde_json.specs.View.{items_of}
 use Rattle.serde_json.specs.Written.{items_outline, members_outline}
 use Rattle.scrub_report.specs.Json.{list, members, with_keys}
-use Rattle.scrub_report.specs.Report.{report_data}
-use Rattle.scrub_report.specs.Scrubbed.{Scrubbed}
-use Rattle.scrub_report.specs.Tokens.{extent_keys, first_keys, last_keys, list_begun, member_tokens, members_tokens, run_keys, value_tokens}
+use Rattle.scrub_report.specs.declared.parts.Parts.{Parts}
+use Rattle.scrub_report.specs.Tokens.{all_keys, extent_keys, first_keys, last_keys, list_begun, member_tokens, members_tokens, run_keys, value_tokens}
 
 -- what was written in one step and then in others was written in all of them
 pub chain : (a b c xs ys : List Token) → b ≡ a ++ xs → c ≡ b ++ ys → c ≡ a ++ (xs ++ ys)
@@ -66,27 +65,28 @@ members_joined ms ns ts = ap (λ us. us ++ ts) (flat_map-append (λ (m : List �
 
 -- ---- the report, whose keys are written in four steps
 
-keys_joined : (s : Scrubbed) → begin_object ∷ (members_tokens (first_keys s) ++ (members_tokens (extent_keys s) ++ (members_tokens (run_keys s) ++ (members_tokens (last_keys s) ++ end_object ∷ []))))
-    ≡ value_tokens (report_data s)
-keys_joined s =
-    let closed = end_object ∷ [] in
-    let last = members_joined (run_keys s) (last_keys s) closed in
-    let scanned = members_joined (extent_keys s) (run_keys s ++ last_keys s) closed ∙ ap (λ ts. members_tokens (extent_keys s) ++ ts) last in
-    let all = members_joined (first_keys s) (extent_keys s ++ (run_keys s ++ last_keys s)) closed ∙ ap (λ ts. members_tokens (first_keys s) ++ ts) scanned in
-    ap (λ ts. begin_object ∷ ts) (sym all) ∙ sym (object_tokens (first_keys s ++ (extent_keys s ++ (run_keys s ++ last_keys s))))
+module _ {D : Type 0} {s : _} (p : Parts D s) (clean : Bool) where
+  keys_joined : begin_object ∷ (members_tokens (first_keys p clean) ++ (members_tokens (extent_keys p) ++ (members_tokens (run_keys p) ++ (members_tokens (last_keys p) ++ end_object ∷ []))))
+      ≡ value_tokens (with_keys (all_keys p clean))
+  keys_joined =
+      let closed = end_object ∷ [] in
+      let last = members_joined (run_keys p) (last_keys p) closed in
+      let scanned = members_joined (extent_keys p) (run_keys p ++ last_keys p) closed ∙ ap (λ ts. members_tokens (extent_keys p) ++ ts) last in
+      let all = members_joined (first_keys p clean) (extent_keys p ++ (run_keys p ++ last_keys p)) closed ∙ ap (λ ts. members_tokens (first_keys p clean) ++ ts) scanned in
+      ap (λ ts. begin_object ∷ ts) (sym all) ∙ sym (object_tokens (first_keys p clean ++ (extent_keys p ++ (run_keys p ++ last_keys p))))
 
-pub report_tokens : (s : Scrubbed) (t0 t1 t2 t3 t4 t5 t6 : List Token) → t0 ≡ [] → t1 ≡ t0 ++ begin_object ∷ [] → t2 ≡ t1 ++ members_tokens (first_keys s) →
-    t3 ≡ t2 ++ members_tokens (extent_keys s) → t4 ≡ t3 ++ members_tokens (run_keys s) → t5 ≡ t4 ++ members_tokens (last_keys s) → t6 ≡ t5 ++ end_object ∷ [] →
-    t6 ≡ value_tokens (report_data s)
-report_tokens s t0 t1 t2 t3 t4 t5 t6 h0 h1 h2 h3 h4 h5 h6 =
-    let closed = end_object ∷ [] in
-    let last = members_tokens (last_keys s) ++ closed in
-    let runs = members_tokens (run_keys s) ++ last in
-    let scanned = members_tokens (extent_keys s) ++ runs in
-    let first = members_tokens (first_keys s) ++ scanned in
-    chain t0 t1 t6 (begin_object ∷ []) first h1
-    (chain t1 t2 t6 (members_tokens (first_keys s)) scanned h2
-    (chain t2 t3 t6 (members_tokens (extent_keys s)) runs h3
-    (chain t3 t4 t6 (members_tokens (run_keys s)) last h4
-    (chain t4 t5 t6 (members_tokens (last_keys s)) closed h5 h6))))
-    ∙ ap (λ ts. ts ++ begin_object ∷ first) h0 ∙ keys_joined s
+  pub report_tokens : (t0 t1 t2 t3 t4 t5 t6 : List Token) → t0 ≡ [] → t1 ≡ t0 ++ begin_object ∷ [] → t2 ≡ t1 ++ members_tokens (first_keys p clean) →
+      t3 ≡ t2 ++ members_tokens (extent_keys p) → t4 ≡ t3 ++ members_tokens (run_keys p) → t5 ≡ t4 ++ members_tokens (last_keys p) → t6 ≡ t5 ++ end_object ∷ [] →
+      t6 ≡ value_tokens (with_keys (all_keys p clean))
+  report_tokens t0 t1 t2 t3 t4 t5 t6 h0 h1 h2 h3 h4 h5 h6 =
+      let closed = end_object ∷ [] in
+      let last = members_tokens (last_keys p) ++ closed in
+      let runs = members_tokens (run_keys p) ++ last in
+      let scanned = members_tokens (extent_keys p) ++ runs in
+      let first = members_tokens (first_keys p clean) ++ scanned in
+      chain t0 t1 t6 (begin_object ∷ []) first h1
+      (chain t1 t2 t6 (members_tokens (first_keys p clean)) scanned h2
+      (chain t2 t3 t6 (members_tokens (extent_keys p)) runs h3
+      (chain t3 t4 t6 (members_tokens (run_keys p)) last h4
+      (chain t4 t5 t6 (members_tokens (last_keys p)) closed h5 h6))))
+      ∙ ap (λ ts. ts ++ begin_object ∷ first) h0 ∙ keys_joined

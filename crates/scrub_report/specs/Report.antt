@@ -11,8 +11,7 @@ use Rattle.scrub_scan.specs.declared.item.Item.{Item}
 use Rattle.scrub_scan.specs.Line.{line_of}
 use Rattle.scrub_scan.specs.Scanned.{Scanned}
 use Rattle.scrub_run.specs.declared.shard_id.ShardId.{ShardId}
-use Rattle.scrub_run.specs.Entry.{EntryValue}
-use Rattle.scrub_merge.specs.Binding.{BindingValue}
+use Rattle.scrub_merge.specs.Binding.{BindingValue, Runs}
 use Rattle.scrub_check.specs.declared.checked.Checked.{Checked}
 use Rattle.scrub_check.specs.declared.place.Place.{Place}
 use Rattle.scrub_check.specs.declared.place.SharedPlace.{SharedPlace}
@@ -21,7 +20,6 @@ use Rattle.scrub_check.specs.Candidates.{CandidateValue}
 use Rattle.scrub_check.specs.Checked.{dangling, hidden}
 use Rattle.scrub_check.specs.Chunks.{orphans, twins}
 use Rattle.scrub_check.specs.Live.{live_bytes}
-use Rattle.scrub_check.specs.Runs.{ReadRunsValue}
 use Rattle.scrub_report.specs.Json.{natural, natural_or_null, list, members, with_keys}
 use Rattle.scrub_report.specs.Scrubbed.{Scrubbed, IsScrubbed, is_clean}
 use Rattle.scrub_report.specs.Texts.{id_text, owner_text, state_text, status_text, uuid_text}
@@ -64,16 +62,20 @@ extent_data live s = with_keys (
 
 -- one of `runs`: where its locator says that it stands, what became of it, and the number of its entries, null where it
 -- is lost
-abbrev pub run_data : Locator → Option (List EntryValue) → RunState → Data
-run_data locator run state = with_keys (
-    (codes "entries", natural_or_null (option_map length run)) ∷
+abbrev pub run_data : Locator → Option ℕ → RunState → Data
+run_data locator entries state = with_keys (
+    (codes "entries", natural_or_null entries) ∷
     (codes "extent", natural locator.extent) ∷
     (codes "offset", natural locator.offset) ∷
     (codes "state", string (state_text state)) ∷ [])
 
 -- `runs`, newest first
-abbrev pub runs_data : List Locator → ReadRunsValue → Data
-runs_data locators read = list (map (λ r. run_data r.0 r.1.0 r.1.1) (zip locators (zip read.runs read.states)))
+abbrev pub runs_data : List Locator → List (Option ℕ) → List RunState → Data
+runs_data locators entries states = list (map (λ r. run_data r.0 r.1.0 r.1.1) (zip locators (zip entries states)))
+
+-- how many entries each run has, none where it is lost
+abbrev pub entry_counts : Runs → List (Option ℕ)
+entry_counts runs = map (option_map length) runs
 
 -- the shards whose binding is doubtful
 abbrev pub doubtful_ids : List BindingValue → List ShardId
@@ -129,7 +131,7 @@ report_data s = with_keys (
     (codes "hidden", list (map hidden_data (hidden s.checked))) ∷
     (codes "orphans", list (map place_data (orphans s.all s.checked))) ∷
     (codes "retired", numbers_data s.plan.retired) ∷
-    (codes "runs", runs_data s.plan.runs s.read) ∷
+    (codes "runs", runs_data s.plan.runs (entry_counts s.read.runs) s.read.states) ∷
     (codes "shards", natural (length s.bindings)) ∷
     (codes "shared", list (map shared_data s.shared)) ∷
     (codes "super", super_data s.choice) ∷

@@ -1,15 +1,15 @@
 -- The steps of the code: the tokens of values, and those of the report's keys, a few at a time.
-use Rattle.std.specs.Prelude.{ℕ, List, [], ◌∷◌, codes, cond, length, map}
+use Rattle.std.specs.Prelude.{ℕ, Bool, List, [], ◌∷◌, ◌++◌, codes, cond, length, map}
 use Rattle.std.specs.List.{flat_map}
 use Rattle.json.specs.Token.{Token, begin_array, key}
 use Rattle.json.specs.Tree.{json_tokens}
 use Rattle.serde_json.specs.Data.{Data, boolean}
-use Rattle.serde_json.specs.Written.{outline}
+use Rattle.serde_json.specs.Written.{compact_text, outline}
 use Rattle.scrub_check.specs.declared.checked.Checked.{Checked}
 use Rattle.scrub_check.specs.Checked.{dangling, hidden, is_hidden}
 use Rattle.scrub_check.specs.Chunks.{orphans, twins}
-use Rattle.scrub_report.specs.Json.{natural, list}
-use Rattle.scrub_report.specs.Scrubbed.{Scrubbed, is_clean}
+use Rattle.scrub_report.specs.Json.{natural, list, with_keys}
+use Rattle.scrub_report.specs.declared.parts.Parts.{Parts}
 use Rattle.scrub_report.specs.Report.{ids_data, candidate_data, dangling_data, doubtful_ids, extents_data, geometry_data, hidden_data, numbers_data, place_data, runs_data, shared_data, super_data}
 
 -- the tokens of a value
@@ -32,33 +32,42 @@ list_begun show xs = begin_array ∷ flat_map (λ x. value_tokens (show x)) xs
 abbrev pub locator_data : Checked → Data
 locator_data c = cond (is_hidden c.status) (hidden_data c) (dangling_data c)
 
--- the report's keys from the first one up to `doubtful`
-abbrev pub first_keys : Scrubbed → List (List ℕ × Data)
-first_keys s =
-    (codes "broken", ids_data s.broken) ∷
-    (codes "candidates", list (map candidate_data s.candidates)) ∷
-    (codes "clean", boolean (is_clean s)) ∷
-    (codes "dangling", list (map dangling_data (dangling s.checked))) ∷
-    (codes "doubtful", ids_data (doubtful_ids s.bindings)) ∷ []
+module _ {D : Type 0} {s : _} where
+  -- the report's keys from the first one up to `doubtful`, of the parts that are kept
+  abbrev pub first_keys : Parts D s → Bool → List (List ℕ × Data)
+  first_keys p clean =
+      (codes "broken", ids_data p.broken.items) ∷
+      (codes "candidates", list (map candidate_data p.liveness.candidates.items)) ∷
+      (codes "clean", boolean clean) ∷
+      (codes "dangling", list (map dangling_data (dangling p.checked.items))) ∷
+      (codes "doubtful", ids_data (doubtful_ids p.map)) ∷ []
 
--- from `extents` up to `hidden`
-abbrev pub extent_keys : Scrubbed → List (List ℕ × Data)
-extent_keys s =
-    (codes "extents", extents_data s.checked s.all) ∷
-    (codes "geometry", geometry_data s.plan.geometry) ∷
-    (codes "hidden", list (map hidden_data (hidden s.checked))) ∷ []
+  -- from `extents` up to `hidden`
+  abbrev pub extent_keys : Parts D s → List (List ℕ × Data)
+  extent_keys p =
+      (codes "extents", extents_data p.checked.items p.all.extents) ∷
+      (codes "geometry", geometry_data p.plan.geometry) ∷
+      (codes "hidden", list (map hidden_data (hidden p.checked.items))) ∷ []
 
--- from `orphans` up to `shards`
-abbrev pub run_keys : Scrubbed → List (List ℕ × Data)
-run_keys s =
-    (codes "orphans", list (map place_data (orphans s.all s.checked))) ∷
-    (codes "retired", numbers_data s.plan.retired) ∷
-    (codes "runs", runs_data s.plan.runs s.read) ∷
-    (codes "shards", natural (length s.bindings)) ∷ []
+  -- from `orphans` up to `shards`
+  abbrev pub run_keys : Parts D s → List (List ℕ × Data)
+  run_keys p =
+      (codes "orphans", list (map place_data (orphans p.all.extents p.checked.items))) ∷
+      (codes "retired", numbers_data p.plan.retired) ∷
+      (codes "runs", runs_data p.plan.runs p.entries.items p.states.items) ∷
+      (codes "shards", natural (length p.map)) ∷ []
 
--- and from `shared` up to the last one
-abbrev pub last_keys : Scrubbed → List (List ℕ × Data)
-last_keys s =
-    (codes "shared", list (map shared_data s.shared)) ∷
-    (codes "super", super_data s.choice) ∷
-    (codes "twins", list (map place_data (twins s.all))) ∷ []
+  -- and from `shared` up to the last one
+  abbrev pub last_keys : Parts D s → List (List ℕ × Data)
+  last_keys p =
+      (codes "shared", list (map shared_data p.liveness.shared.items)) ∷
+      (codes "super", super_data p.chosen) ∷
+      (codes "twins", list (map place_data (twins p.all.extents))) ∷ []
+
+  -- all of them
+  abbrev pub all_keys : Parts D s → Bool → List (List ℕ × Data)
+  all_keys p clean = first_keys p clean ++ (extent_keys p ++ (run_keys p ++ last_keys p))
+
+  -- the text that they come to
+  abbrev pub kept_text : Parts D s → Bool → List ℕ
+  kept_text p clean = compact_text (with_keys (all_keys p clean)) ++ 10 ∷ []

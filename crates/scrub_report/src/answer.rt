@@ -2,9 +2,12 @@
 
 ghost use Rattle.std.specs.Prelude.{◌≡◌, ◌+◌, ◌≤◌, ℕ, List, length, IfOk};
 ghost use Rattle.scrub_disk.specs.Image.{Image};
+ghost use Rattle.scrub_run.specs.Run.{IsRun};
 ghost use Rattle.scrub_pool.specs.Takings.{IsPartition};
 ghost use Rattle.scrub_report.specs.Answer.{AnswerValue, IsScrubAnswer, ArePlannedExtents};
+ghost use Rattle.scrub_report.specs.Index.{IsIndex, index_entries};
 ghost use Rattle.scrub_report.specs.Parts.{IsScan};
+ghost use Rattle.scrub_report.specs.Scrubbed.{IsScrubbed, Scrubbed};
 
 use crate::index::index_bytes;
 use crate::report::report_text;
@@ -147,6 +150,13 @@ pub fn scrub<D: PageSource, G: Gate, R: Threads + Wait + Sync>(
 /// A law: an image has one list of planned extents.
 pub fn one_list_of_planned_extents()
     ensures { (image : Image) (planned others : List ℕ) → ArePlannedExtents image planned → ArePlannedExtents image others → planned ≡ others }
+{}
+
+/// A law: the recovered index is one index run, whole: that of the shards of the map that aren't broken. So `read_run` reads
+/// it again, and finds these entries.
+pub fn the_index_is_a_run()
+    ensures { (image : Image) (bytes : List ℕ) → IsIndex image bytes →
+        (found : Scrubbed) × IsScrubbed image found × IsRun bytes (index_entries found.checked found.bindings) }
 {}
 
 /// A law: an image has one report, one index and one verdict whether it is clean. So whoever scrubs it, with however many

@@ -5,9 +5,7 @@ ghost use Rattle.std.specs.Prelude.{◌≡◌, ◌++◌, OnOk, codes, length, ma
 ghost use Rattle.scrub_check.specs.Checked.{dangling, hidden};
 ghost use Rattle.scrub_check.specs.Chunks.{orphans, twins};
 ghost use Rattle.scrub_report.specs.Json.{list};
-ghost use Rattle.scrub_report.specs.Parts.{found_in};
 ghost use Rattle.scrub_report.specs.Report.{dangling_data, doubtful_ids, extents_data, hidden_data, ids_data, place_data};
-ghost use Rattle.scrub_report.specs.Scrubbed.{is_clean};
 ghost use Rattle.scrub_report.specs.Tokens.{extent_keys, first_keys, last_keys, member_tokens, members_tokens, run_keys};
 
 use crate::extents::write_extents;
@@ -48,7 +46,7 @@ fn write_all_extents<D: PageSource>(
     parts: &Parts<'_, D>,
 ) -> Result<(), OutOfMemory>
     ensures tokens { OnOk result (out.new.tokens ≡ out.old.tokens ++
-        member_tokens (codes "extents") (extents_data (found_in parts.now).checked (found_in parts.now).all)) }
+        member_tokens (codes "extents") (extents_data parts.now.checked.items parts.now.all.extents)) }
     ensures before { out.new.before ≡ out.old.before }
 {
     out.key("extents")?;
@@ -71,7 +69,7 @@ fn write_orphans<D: PageSource>(
     parts: &Parts<'_, D>,
 ) -> Result<(), OutOfMemory>
     ensures tokens { OnOk result (out.new.tokens ≡ out.old.tokens ++
-        member_tokens (codes "orphans") (list (map place_data (orphans (found_in parts.now).all (found_in parts.now).checked)))) }
+        member_tokens (codes "orphans") (list (map place_data (orphans parts.now.all.extents parts.now.checked.items)))) }
     ensures before { out.new.before ≡ out.old.before }
 {
     write_list_member(alloc, out, "orphans", &parts.liveness.orphans)
@@ -97,8 +95,7 @@ pub(crate) fn write_first<D: PageSource>(
     parts: &Parts<'_, D>,
     clean: bool,
 ) -> Result<(), OutOfMemory>
-    requires { clean ≡ is_clean (found_in parts.now) }
-    ensures tokens { OnOk result (out.new.tokens ≡ out.old.tokens ++ members_tokens (first_keys (found_in parts.now))) }
+    ensures tokens { OnOk result (out.new.tokens ≡ out.old.tokens ++ members_tokens (first_keys parts.now clean)) }
     ensures before { out.new.before ≡ out.old.before }
 {
     write_list_member(alloc, out, "broken", &parts.broken)?;
@@ -115,7 +112,7 @@ pub(crate) fn write_scanned<D: PageSource>(
     out: &mut Writer,
     parts: &Parts<'_, D>,
 ) -> Result<(), OutOfMemory>
-    ensures tokens { OnOk result (out.new.tokens ≡ out.old.tokens ++ members_tokens (extent_keys (found_in parts.now))) }
+    ensures tokens { OnOk result (out.new.tokens ≡ out.old.tokens ++ members_tokens (extent_keys parts.now)) }
     ensures before { out.new.before ≡ out.old.before }
 {
     write_all_extents(alloc, out, parts)?;
@@ -131,14 +128,15 @@ pub(crate) fn write_index<D: PageSource>(
     out: &mut Writer,
     parts: &Parts<'_, D>,
 ) -> Result<(), OutOfMemory>
-    requires { length (found_in parts.now).read.runs ≡ length (found_in parts.now).plan.runs }
-    ensures tokens { OnOk result (out.new.tokens ≡ out.old.tokens ++ members_tokens (run_keys (found_in parts.now))) }
+    requires entries { length parts.now.entries.items ≡ length parts.now.plan.runs }
+    requires states { length parts.now.states.items ≡ length parts.now.entries.items }
+    ensures tokens { OnOk result (out.new.tokens ≡ out.old.tokens ++ members_tokens (run_keys parts.now)) }
     ensures before { out.new.before ≡ out.old.before }
 {
     write_orphans(alloc, out, parts)?;
     write_list_member(alloc, out, "retired", parts.plan.retired())?;
     out.key("runs")?;
-    write_runs(alloc, out, parts.plan.runs(), &parts.read)?;
+    write_runs(alloc, out, parts.plan.runs(), &parts.entries, &parts.states)?;
     write_member(alloc, out, "shards", &parts.map.bindings().len())?;
     Ok(())
 }
@@ -149,7 +147,7 @@ pub(crate) fn write_last<D: PageSource>(
     out: &mut Writer,
     parts: &Parts<'_, D>,
 ) -> Result<(), OutOfMemory>
-    ensures tokens { OnOk result (out.new.tokens ≡ out.old.tokens ++ members_tokens (last_keys (found_in parts.now))) }
+    ensures tokens { OnOk result (out.new.tokens ≡ out.old.tokens ++ members_tokens (last_keys parts.now)) }
     ensures before { out.new.before ≡ out.old.before }
 {
     write_list_member(alloc, out, "shared", &parts.liveness.shared)?;

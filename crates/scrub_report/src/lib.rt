@@ -1,5 +1,6 @@
 //! The whole scrub of a disk: its report as JSON text, the recovered index as the bytes of a run, its named locators as lines,
-//! and whether it is clean; and bytes written out whole. What the words of the program are is left to the crate above.
+//! and whether it is clean; and bytes written out whole. The words of the program stand in
+//! `scrub_cli`.
 #![tactic(auto)]
 
 pub mod answer;
@@ -23,6 +24,7 @@ mod written;
 
 pub use answer::{
     ScrubAnswer, ScrubFault, one_list_of_planned_extents, one_report, scrub, scrub_in_order,
+    the_index_is_a_run,
 };
 pub use listing::{LocatorListing, list_locators, one_locator_listing};
 pub use order::are_clean_items;

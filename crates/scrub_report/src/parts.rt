@@ -4,7 +4,7 @@ ghost use Rattle.std.specs.Prelude.{◌≡◌, map as list_map};
 ghost use Rattle.scrub_check.specs.Chunks.{orphans};
 ghost use Rattle.scrub_check.specs.Live.{live_bytes};
 
-use scrub_check::{Checked, Liveness, ReadRuns};
+use scrub_check::{Checked, Liveness, RunState};
 use scrub_disk::PageSource;
 use scrub_merge::ShardMap;
 use scrub_run::ShardId;
@@ -20,8 +20,10 @@ pub(crate) struct Parts<'d, D: PageSource> {
     pub plan: Plan,
     /// What lies in each planned extent.
     pub all: AllFindings<'d, D>,
-    /// The index runs.
-    pub read: ReadRuns,
+    /// How many entries each index run has, none where it is lost. The entries themselves are in the map.
+    pub entries: Vec<Option<u64>>,
+    /// What became of each index run.
+    pub states: Vec<RunState>,
     /// The shards that they bind.
     pub map: ShardMap,
     /// The named locators, and what they are worth.

@@ -1,9 +1,7 @@
 //! The text of the report: one JSON object, written token by token. Its keys are left to the module `keys`.
 
 ghost use Rattle.std.specs.Prelude.{◌≡◌, IfOk, length};
-ghost use Rattle.scrub_report.specs.Parts.{found_in};
-ghost use Rattle.scrub_report.specs.Report.{report_text};
-ghost use Rattle.scrub_report.specs.Scrubbed.{is_clean};
+ghost use Rattle.scrub_report.specs.Tokens.{kept_text};
 
 use crate::keys::{write_first, write_index, write_last, write_scanned};
 use crate::parts::Parts;
@@ -17,9 +15,9 @@ pub(crate) fn report_text<D: PageSource>(
     parts: &Parts<'_, D>,
     clean: bool,
 ) -> Result<Vec<u8>, OutOfMemory>
-    requires runs { length (found_in parts.now).read.runs ≡ length (found_in parts.now).plan.runs }
-    requires clean { clean ≡ is_clean (found_in parts.now) }
-    ensures { IfOk result (λ text. text.items ≡ report_text (found_in parts.now)) }
+    requires entries { length parts.now.entries.items ≡ length parts.now.plan.runs }
+    requires states { length parts.now.states.items ≡ length parts.now.entries.items }
+    ensures { IfOk result (λ text. text.items ≡ kept_text parts.now clean) }
 {
     let mut out = Writer::new(Vec::new(alloc));
     out.begin_object()?;

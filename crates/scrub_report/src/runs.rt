@@ -7,10 +7,9 @@ ghost use Rattle.scrub_report.specs.Tokens.{value_tokens};
 use crate::texts::state_text;
 use crate::written::{write_member, write_text};
 use json::Writer;
-use scrub_check::{ReadRuns, RunState};
+use scrub_check::RunState;
 use scrub_disk::OutOfMemory;
 use scrub_frame::Locator;
-use scrub_run::Run;
 use std::alloc::Global;
 
 /// Writes one of `runs`.
@@ -18,13 +17,12 @@ fn write_run(
     alloc: Global,
     out: &mut Writer,
     locator: &Locator,
-    run: &Option<Run>,
+    entries: Option<u64>,
     state: RunState,
 ) -> Result<(), OutOfMemory>
-    ensures tokens { OnOk result (out.new.tokens ≡ out.old.tokens ++ value_tokens (run_data locator.now run.now state)) }
+    ensures tokens { OnOk result (out.new.tokens ≡ out.old.tokens ++ value_tokens (run_data locator.now entries state)) }
     ensures before { out.new.before ≡ out.old.before }
 {
-    let entries = run.as_ref().map(|run| run.entries().len() as u64);
     out.begin_object()?;
     write_member(alloc, out, "entries", &entries)?;
     write_member(alloc, out, "extent", &locator.extent)?;
@@ -34,22 +32,22 @@ fn write_run(
     Ok(())
 }
 
-/// Writes `runs`: of each locator what was read of it.
+/// Writes `runs`: of each locator how many entries its run has, none where it is lost, and what became of it.
 pub(crate) fn write_runs(
     alloc: Global,
     out: &mut Writer,
     locators: &[Locator],
-    read: &ReadRuns,
+    entries: &[Option<u64>],
+    states: &[RunState],
 ) -> Result<(), OutOfMemory>
-    requires { length read.now.runs ≡ length locators.now }
-    ensures tokens { OnOk result (out.new.tokens ≡ out.old.tokens ++ value_tokens (runs_data locators.now read.now)) }
+    requires entries { length entries.now ≡ length locators.now }
+    requires states { length states.now ≡ length entries.now }
+    ensures tokens { OnOk result (out.new.tokens ≡ out.old.tokens ++ value_tokens (runs_data locators.now entries.now states.now)) }
     ensures before { out.new.before ≡ out.old.before }
 {
-    let runs = read.runs();
-    let states = read.states();
     out.begin_array()?;
     for i in 0..locators.len() {
-        write_run(alloc, out, &locators[i], &runs[i], states[i])?;
+        write_run(alloc, out, &locators[i], entries[i], states[i])?;
     }
     out.end_array()
 }

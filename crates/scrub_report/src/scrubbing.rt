@@ -1,23 +1,25 @@
 //! What is found on a whole disk, part by part. How it is told is left to `report`, `index` and `listing`.
 
-ghost use Rattle.std.specs.Prelude.{◌≡◌, IfOk, is_none, is_some};
+ghost use Rattle.std.specs.Prelude.{◌≡◌, IfOk, is_none, is_some, length, option_map};
 ghost use Rattle.std.specs.List.{list_all, list_any};
 ghost use Rattle.scrub_check.specs.Checked.{is_sound, AreChecked};
 ghost use Rattle.scrub_check.specs.Named.{named};
-ghost use Rattle.scrub_check.specs.Runs.{AreReadRuns};
+ghost use Rattle.scrub_check.specs.Runs.{AreRunStates};
 ghost use Rattle.scrub_check.specs.WholeScan.{IsWholeScan};
-ghost use Rattle.scrub_report.specs.Parts.{IsScan, found_in};
-ghost use Rattle.scrub_report.specs.Scrubbed.{IsScrubbed, is_clean, is_clean_list, is_in_doubt};
+ghost use Rattle.scrub_report.specs.Parts.{ArePartsOf, IsScan, is_clean_kept};
+ghost use Rattle.scrub_report.specs.Report.{entry_counts};
+ghost use Rattle.scrub_report.specs.Scrubbed.{is_clean_list, is_in_doubt};
 
 use crate::order::{are_clean_extents, is_clean_choice};
 use crate::parts::Parts;
 use crate::scanning::Scan;
 use scrub_check::{
-    Checked, ReadRuns, SharedPlace, Status, broken_shards, check_named, liveness_of,
+    Checked, ReadRuns, RunState, SharedPlace, Status, broken_shards, check_named, liveness_of,
     named_locators, read_runs,
 };
 use scrub_disk::{OutOfMemory, PageSource};
 use scrub_merge::{ShardMap, merge};
+use scrub_run::Run;
 use scrub_scan::AllFindings;
 use scrub_super::{Chosen, Plan};
 use std::alloc::Global;
@@ -37,6 +39,24 @@ fn is_in_doubt(chosen: &Chosen, read: &ReadRuns) -> bool
     chosen.tie() || !chosen.bad_pages().is_empty() || has_lost_run(read)
 }
 
+/// How many entries a run has, none where it is lost.
+fn entry_count(run: &Option<Run>) -> Option<u64>
+    ensures { result ≡ option_map length run.now }
+{
+    run.as_ref().map(|run| run.entries().len() as u64)
+}
+
+/// How many entries each run has, none where it is lost.
+fn entry_counts(alloc: Global, runs: &[Option<Run>]) -> Result<Vec<Option<u64>>, OutOfMemory>
+    ensures { IfOk result (λ v. v.items ≡ entry_counts runs.now) }
+{
+    let mut counts = Vec::with_capacity(alloc, runs.len())?;
+    for run in runs {
+        counts.push(entry_count(run))?;
+    }
+    Ok(counts)
+}
+
 /// The named locators, and what they are worth.
 fn judged_locators<R: Threads + Sync, D: PageSource>(
     rt: &R,
@@ -44,25 +64,26 @@ fn judged_locators<R: Threads + Sync, D: PageSource>(
     disk: &D,
     plan: &Plan,
     all: &AllFindings<'_, D>,
-    read: &ReadRuns,
+    states: &[RunState],
     map: &ShardMap,
 ) -> Result<Vec<Checked>, OutOfMemory>
     requires scan { IsWholeScan (D.image disk.now) plan.now all.now.extents }
-    requires read { AreReadRuns (D.image disk.now) plan.now read.now }
+    requires states { AreRunStates (D.image disk.now) plan.now states.now }
     ensures { IfOk result (λ v. AreChecked (D.image disk.now) plan.now (named plan.now.runs map.now) v.items) }
 {
     let named = named_locators(alloc, plan, map)?;
-    check_named(rt, alloc, disk, plan, all, read, &named)
+    check_named(rt, alloc, disk, plan, all, states, &named)
 }
 
-/// What is found on a disk, from what was chosen, planned and scanned.
+/// What is found on a disk, from what was chosen, planned and scanned. Of the runs that were read only what the report tells
+/// is kept once they are merged, since their entries stand in the map.
 pub(crate) fn parts_of<'d, R: Threads + Sync, D: PageSource>(
     rt: &R,
     alloc: Global,
     scan: Scan<'d, D>,
 ) -> Result<Parts<'d, D>, OutOfMemory>
     requires { IsScan (D.image scan.disk.now) scan.chosen scan.plan scan.all.extents }
-    ensures { IfOk result (λ p. IsScrubbed (D.image scan.entry.disk.now) (found_in p)) }
+    ensures { IfOk result (ArePartsOf (D.image scan.entry.disk.now)) }
 {
     let Scan {
         disk,
@@ -72,15 +93,18 @@ pub(crate) fn parts_of<'d, R: Threads + Sync, D: PageSource>(
     } = scan;
     let read = read_runs(alloc, disk, &plan, &all)?;
     let map = merge(alloc, read.runs())?;
-    let checked = judged_locators(rt, alloc, disk, &plan, &all, &read, &map)?;
     let in_doubt = is_in_doubt(&chosen, &read);
+    let entries = entry_counts(alloc, read.runs())?;
+    let states = read.into_states();
+    let checked = judged_locators(rt, alloc, disk, &plan, &all, &states, &map)?;
     let liveness = liveness_of(alloc, &plan, &all, &checked, in_doubt)?;
     Ok(Parts {
         broken: broken_shards(alloc, &checked)?,
         chosen,
         plan,
         all,
-        read,
+        entries,
+        states,
         map,
         checked,
         liveness,
@@ -107,19 +131,19 @@ fn is_clean_list(checked: &[Checked], shared: &[SharedPlace]) -> bool
     are_sound(checked) && shared.is_empty()
 }
 
-/// Whether each index run is read.
-fn are_read(read: &ReadRuns) -> bool
-    ensures { result ≡ list_all is_some read.now.runs }
+/// Whether each index run is read, by how many entries each has.
+fn are_read(entries: &[Option<u64>]) -> bool
+    ensures { result ≡ list_all is_some entries.now }
 {
-    read.runs().iter().all(|run| run.is_some())
+    entries.iter().all(|count| count.is_some())
 }
 
 /// Whether all is in good order.
 pub(crate) fn is_clean<D: PageSource>(parts: &Parts<'_, D>) -> bool
-    ensures { result ≡ is_clean (found_in parts.now) }
+    ensures { result ≡ is_clean_kept parts.now }
 {
     is_clean_choice(&parts.chosen)
         && are_clean_extents(&parts.all)
-        && are_read(&parts.read)
+        && are_read(&parts.entries)
         && is_clean_list(&parts.checked, &parts.liveness.shared)
 }

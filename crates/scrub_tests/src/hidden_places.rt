@@ -130,7 +130,7 @@ fn the_place_of_a_hidden_run_is_not_asked_for_again_once_the_run_is_read(
     let map = merge(rt.alloc(), read.runs())?;
     let named = named_locators(rt.alloc(), &plan, &map)?;
     let before = source.asked(1);
-    let checked = check_named(&rt, rt.alloc(), &source, &plan, &all, &read, &named)?;
+    let checked = check_named(&rt, rt.alloc(), &source, &plan, &all, read.states(), &named)?;
     assert!(rt; checked.len() == 1 && checked[0].status == Status::Hidden);
     same(&rt, source.asked(1), before);
     let again = check_all(&rt, rt.alloc(), &source, &plan, &all, &named)?;

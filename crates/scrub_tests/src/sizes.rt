@@ -63,6 +63,8 @@ fn two_hundred_thousand_named_twins_are_scrubbed(rt: HostRuntime) -> Result<(), 
     let answer = scrubbed(&rt, rt.alloc(), &disk)?;
     assert!(rt; answer.is_clean());
     assert!(rt; answer.index().len() == 40 + 3_125 * 17 + 200_000 * 60);
+    let again = read_run(rt.alloc(), answer.index())?;
+    assert!(rt; again.entries().len() == 3_125);
     let report = str::from_utf8(answer.report())?;
     assert!(rt; report.contains(r#""shards":3125,"#));
     assert!(rt; report.contains(r#""live":8200000,"pointer":8200000,"#));

@@ -3,7 +3,6 @@ use Rattle.std.proofs.Common.{◌≡◌, ◌++◌, ◌∷◌, [], List, codes, m
 use Rattle.json.specs.Token.{Token, key}
 use Rattle.scrub_check.specs.Checked.{hidden}
 use Rattle.scrub_report.specs.Json.{list}
-use Rattle.scrub_report.specs.Parts.{found_in}
 use Rattle.scrub_report.specs.Report.{extents_data, geometry_data, hidden_data}
 use Rattle.scrub_report.specs.Tokens.{member_tokens, value_tokens}
 use Rattle.scrub_report.proofs.Tokens.{chain}
@@ -11,16 +10,16 @@ use Rattle.scrub_report.proofs.keys.write_scanned.Goals as goal
 
 pub returns-clause-tokens : goal.returns-clause-tokens
 returns-clause-tokens g c =
-    let found = found_in c.args.parts.now in
+    let parts = c.args.parts.now in
     let t0 = c.args.out.now.tokens in
     let t1 = c.write_all_extents.new.out.tokens in
     let t2 = c.key.new.self.tokens in
     let t3 = c.write_geometry.new.out.tokens in
     let t4 = c.write_hidden.new.out.tokens in
-    let x1 : List Token = member_tokens (codes "extents") (extents_data found.checked found.all) in
+    let x1 : List Token = member_tokens (codes "extents") (extents_data parts.checked.items parts.all.extents) in
     let x2 : List Token = key (codes "geometry") ∷ [] in
-    let x3 : List Token = value_tokens (geometry_data found.plan.geometry) in
-    let x4 : List Token = member_tokens (codes "hidden") (list (map hidden_data (hidden found.checked))) in
+    let x3 : List Token = value_tokens (geometry_data parts.plan.geometry) in
+    let x4 : List Token = member_tokens (codes "hidden") (list (map hidden_data (hidden parts.checked.items))) in
     let y3 = x4 ++ [] in
     let y2 = x3 ++ y3 in
     let y1 = x2 ++ y2 in

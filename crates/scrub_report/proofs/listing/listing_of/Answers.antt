@@ -1,15 +1,20 @@
 -- Both are told of what was found.
 use Rattle.std.proofs.Common.{ap, ◌∙◌}
+use Rattle.scrub_report.proofs.KeptRuns.{clean_found}
 use Rattle.scrub_report.specs.Locators.{locator_lines}
 use Rattle.scrub_report.specs.Parts.{found_in}
 use Rattle.scrub_report.proofs.listing.listing_of.Goals as goal
 
 pub returns-clause-text : goal.returns-clause-text
-returns-clause-text g c = record {
-  found = found_in c.in_ok-parts.parts;
-  scrubbed = c.in_ok-parts.ensures;
-  text_is = c.in_ok-text.ensures ∙ ap locator_lines c.deref.ensures.value;
-}
+returns-clause-text g c =
+    let are = c.in_ok-parts.ensures in
+    record { found = found_in c.in_ok-parts.parts are.read; scrubbed = are.scrubbed; text_is = c.in_ok-text.ensures ∙ ap locator_lines c.deref.ensures.value }
 
 pub returns-clause-clean : goal.returns-clause-clean
-returns-clause-clean g c = record { found = found_in c.in_ok-parts.parts; scrubbed = c.in_ok-parts.ensures; told = cc }
+returns-clause-clean g c =
+    let are = c.in_ok-parts.ensures in
+    record {
+      found = found_in c.in_ok-parts.parts are.read;
+      scrubbed = are.scrubbed;
+      told = c.is_clean-is_clean.ensures ∙ clean_found c.in_ok-parts.parts are.read are.kept;
+    }
