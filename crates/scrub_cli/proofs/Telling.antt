@@ -1,11 +1,11 @@
 -- A line that is written part by part, until a write fails.
-use Rattle.std.proofs.Common.{◌≡◌, ℕ, List, [], ◌∷◌, ◌++◌, Option, codes, ap, subst, sym, append_assoc}
+use Rattle.std.proofs.Common.{◌≡◌, ℕ, List, [], ◌∷◌, ◌++◌, OnOk, Option, Result, codes, ap, subst, sym, append_assoc}
 use Rattle.std.specs.Io.KnownBytes.{Appends}
 use Rattle.std.specs.Fmt.{decimal}
 use Rattle.scrub_cli.specs.declared.fault.Fault.TheVariants.{Output}
 use Rattle.scrub_cli.specs.Fault.{line, text_of}
 use Rattle.scrub_report.specs.Writing.{AppendsFront}
-use Rattle.scrub_cli.proofs.Appending.{front_stays, front_then}
+use Rattle.scrub_cli.proofs.Appending.{front_stays, front_then, ok_then}
 
 abbrev before : List ℕ
 before = codes "shardscrub: "
@@ -41,6 +41,14 @@ module _ (what which : List ℕ) where
       let rest = front_then mid mid2 new what (which ++ 10 ∷ []) (subst (Appends mid mid2) is first) last in
       subst (AppendsFront old new) parts (front_then old mid new before _ name rest)
 
+  -- all of it, where the line feed was written too
+  pub line_whole : {T E : Type 0} (r : Result T E) (old mid mid2 mid3 new : Option (List ℕ)) (a b : List ℕ) → a ≡ what → b ≡ which → Appends old mid before →
+      Appends mid mid2 a → Appends mid2 mid3 b → OnOk r (Appends mid3 new (10 ∷ [])) → OnOk r (Appends old new (line (what ++ which)))
+  line_whole r old mid mid2 mid3 new a b is also name first second ended =
+      let last = ok_then r mid2 mid3 new which (10 ∷ []) (subst (Appends mid2 mid3) also second) ended in
+      let rest = ok_then r mid mid2 new what (which ++ 10 ∷ []) (subst (Appends mid mid2) is first) last in
+      subst (λ u. OnOk r (Appends old new u)) parts (ok_then r old mid new before _ name rest)
+
 -- the line of an output that failed, whose number is written in the middle
 module _ (n : ℕ) where
   abbrev head : List ℕ
@@ -62,3 +70,8 @@ module _ (n : ℕ) where
       AppendsFront old new (text_of (Output n))
   count_last old mid mid2 new name digits front =
       subst (AppendsFront old new) count_parts (front_then old mid new head _ name (front_then mid mid2 new (decimal n) tail digits front))
+
+  pub count_whole : {T E : Type 0} (r : Result T E) (old mid mid2 new : Option (List ℕ)) → Appends old mid head → Appends mid mid2 (decimal n) → OnOk r (Appends mid2 new tail) →
+      OnOk r (Appends old new (text_of (Output n)))
+  count_whole r old mid mid2 new name digits ended =
+      subst (λ u. OnOk r (Appends old new u)) count_parts (ok_then r old mid new head _ name (ok_then r mid mid2 new (decimal n) tail digits ended))

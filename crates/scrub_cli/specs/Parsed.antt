@@ -8,10 +8,10 @@ use Rattle.scrub_cli.specs.declared.words.WordsFault.TheVariants.{Refused, Help,
 
 -- help comes of a question for help alone, and a refusal of neither that nor want of memory;
 -- want of memory may come of any error, as its text takes memory
-abbrev pub StandsFor : WordsFault → ErrorKind → Type 0
-StandsFor (Refused text) kind = (kind ≢ DisplayHelp) × (kind ≢ no_memory)
-StandsFor (Help text) kind = kind ≡ DisplayHelp
-StandsFor OutOfMemory kind = Unit {0}
+abbrev pub ComesOf : WordsFault → ErrorKind → Type 0
+ComesOf (Refused text) kind = (kind ≢ DisplayHelp) × (kind ≢ no_memory)
+ComesOf (Help text) kind = kind ≡ DisplayHelp
+ComesOf OutOfMemory kind = Unit {0}
 
 -- a value was found for the option, and its parser took it as a whole number up to a greatest one
 abbrev pub HasNumberTo : ℕ → List Row → Text → Type 0
@@ -50,5 +50,5 @@ IsWholeCommand name found =
     ⊎ ((name ≡ codes "items") × HasItems found)
     ⊎ (IsDiskCommand name × HasScan found)
 
-abbrev pub IsWhole : Option (Text × List Row) → Type 0
-IsWhole command = IfSome command (λ met. IsWholeCommand met.0 met.1)
+abbrev pub IsWholeParse : Option (Text × List Row) → Type 0
+IsWholeParse command = IfSome command (λ met. IsWholeCommand met.0 met.1)

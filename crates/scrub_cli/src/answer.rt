@@ -23,6 +23,8 @@ pub struct Answer {
     pub text: Vec<u8>,
     /// The status that the run ends with once all of it is written: 0 clean, 1 findings.
     pub status: u8,
+    /// How many workers scanned the disk beside the caller: 0 to 64, and 0 where one extent alone was read.
+    pub workers: u32,
 }
 
 /// What is wanted of a whole disk.
@@ -60,13 +62,18 @@ fn lines(alloc: Global, items: &[Item]) -> Result<Vec<u8>, OutOfMemory>
 pub fn listing(alloc: Global, items: &[Item]) -> Result<Answer, OutOfMemory>
     ensures text { IfOk result (λ a. a.text.items ≡ lines_of items.now) }
     ensures status { IfOk result (λ a. a.status ≡ status_of_clean (list_all is_clean_item items.now)) }
+    ensures workers { IfOk result (λ a. a.workers ≡ 0) }
 {
     let status = status_of(are_clean_items(items));
     let text = lines(alloc, items)?;
-    Ok(Answer { text, status })
+    Ok(Answer {
+        text,
+        status,
+        workers: 0,
+    })
 }
 
-/// The report of a disk, with its status. This many workers scan the disk beside the caller.
+/// The report of a disk, with its status. So many workers scan the disk beside the caller.
 fn reported<R: Threads + Wait + Sync, D: PageSource>(
     rt: &R,
     alloc: Global,
@@ -74,12 +81,17 @@ fn reported<R: Threads + Wait + Sync, D: PageSource>(
     workers: u32,
 ) -> Result<Answer, ScrubFault>
     requires { workers ≤ 64 }
-    ensures { IfOk result (λ a. IsDiskAnswer Report (D.image disk.now) a.text.items a.status) }
+    ensures answer { IfOk result (λ a. IsDiskAnswer Report (D.image disk.now) a.text.items a.status) }
+    ensures workers { IfOk result (λ a. a.workers ≡ workers) }
 {
-    let (found, _) = scrub(rt, alloc, disk, workers, &NoGate)?;
+    let (found, takings) = scrub(rt, alloc, disk, workers, &NoGate)?;
     let status = status_of(found.is_clean());
     let text = found.into_report();
-    Ok(Answer { text, status })
+    Ok(Answer {
+        text,
+        status,
+        workers: takings.workers(),
+    })
 }
 
 /// The index that is recovered from a disk, with the status of its report.
@@ -90,12 +102,17 @@ fn recovered<R: Threads + Wait + Sync, D: PageSource>(
     workers: u32,
 ) -> Result<Answer, ScrubFault>
     requires { workers ≤ 64 }
-    ensures { IfOk result (λ a. IsDiskAnswer Index (D.image disk.now) a.text.items a.status) }
+    ensures answer { IfOk result (λ a. IsDiskAnswer Index (D.image disk.now) a.text.items a.status) }
+    ensures workers { IfOk result (λ a. a.workers ≡ workers) }
 {
-    let (found, _) = scrub(rt, alloc, disk, workers, &NoGate)?;
+    let (found, takings) = scrub(rt, alloc, disk, workers, &NoGate)?;
     let status = status_of(found.is_clean());
     let text = found.into_index();
-    Ok(Answer { text, status })
+    Ok(Answer {
+        text,
+        status,
+        workers: takings.workers(),
+    })
 }
 
 /// The lines of a disk's named locators, with the status of its report.
@@ -106,12 +123,17 @@ fn listed<R: Threads + Wait + Sync, D: PageSource>(
     workers: u32,
 ) -> Result<Answer, ScrubFault>
     requires { workers ≤ 64 }
-    ensures { IfOk result (λ a. IsDiskAnswer Locators (D.image disk.now) a.text.items a.status) }
+    ensures answer { IfOk result (λ a. IsDiskAnswer Locators (D.image disk.now) a.text.items a.status) }
+    ensures workers { IfOk result (λ a. a.workers ≡ workers) }
 {
-    let (listing, _) = list_locators(rt, alloc, disk, workers, &NoGate)?;
+    let (listing, takings) = list_locators(rt, alloc, disk, workers, &NoGate)?;
     let status = status_of(listing.is_clean);
     let text = listing.text;
-    Ok(Answer { text, status })
+    Ok(Answer {
+        text,
+        status,
+        workers: takings.workers(),
+    })
 }
 
 /// What is wanted of a disk that this many workers scan beside the caller, with the status of its report.
@@ -123,7 +145,8 @@ pub fn disk_answer<R: Threads + Wait + Sync, D: PageSource>(
     wanted: Wanted,
 ) -> Result<Answer, ScrubFault>
     requires { workers ≤ 64 }
-    ensures { IfOk result (λ a. IsDiskAnswer wanted (D.image disk.now) a.text.items a.status) }
+    ensures answer { IfOk result (λ a. IsDiskAnswer wanted (D.image disk.now) a.text.items a.status) }
+    ensures workers { IfOk result (λ a. a.workers ≡ workers) }
 {
     match wanted {
         Wanted::Report => reported(rt, alloc, disk, workers),

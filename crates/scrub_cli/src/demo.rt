@@ -90,7 +90,8 @@ fn demo_disk(alloc: Global) -> Result<MemDisk, OutOfMemory>
 
 /// The report of the demo's disk, which two workers scan beside the caller.
 pub fn demo<R: Threads + Wait + Sync>(rt: &R, alloc: Global) -> Result<Answer, ScrubFault>
-    ensures { IfOk result (λ a. IsDemoAnswer a.text.items a.status) }
+    ensures answer { IfOk result (λ a. IsDemoAnswer a.text.items a.status) }
+    ensures workers { IfOk result (λ a. a.workers ≡ 2) }
 {
     let disk = demo_disk(alloc)?;
     disk_answer(rt, alloc, &disk, WORKERS, Wanted::Report)

@@ -1,6 +1,7 @@
 //! Why a run ends without an answer: for each reason its status and its line on the error stream, in one place.
 
-ghost use Rattle.std.specs.Prelude.{◌≡◌, ◌++◌, codes};
+ghost use Rattle.std.specs.Prelude.{◌≡◌, ◌++◌, OnOk, codes};
+ghost use Rattle.std.specs.Io.KnownBytes.{Appends};
 ghost use Rattle.scrub_cli.specs.declared.fault.Fault.TheVariants.{Geometry, Output, OutOfMemory};
 ghost use Rattle.scrub_cli.specs.Fault.{line, text_of};
 ghost use Rattle.scrub_report.specs.Writing.{AppendsFront};
@@ -122,12 +123,13 @@ impl Fault<'_> {
         }
     }
 
-    /// Writes what happened to the error stream, up to its line feed or to the first failure of the stream, as nothing is
-    /// left to tell that to. It takes no memory.
-    fn tell<E: Write>(&self, err: &mut E)
-        ensures { AppendsFront (E.contents err.old) (E.contents err.new) (text_of self.now) }
+    /// Writes what happened to the error stream, up to its line feed or to the first failure of the stream, and says whether
+    /// the stream took all of it. It takes no memory.
+    fn tell<E: Write>(&self, err: &mut E) -> Result<(), WriteFault>
+        ensures front { AppendsFront (E.contents err.old) (E.contents err.new) (text_of self.now) }
+        ensures whole { OnOk result (Appends (E.contents err.old) (E.contents err.new) (text_of self.now)) }
     {
-        let _ = match self {
+        match self {
             Fault::Help(text) | Fault::Words(text) => write_out(err, text.as_bytes()),
             Fault::NotUtf8 => write_line(err, "a word is not UTF-8", ""),
             Fault::Geometry(fault) => write_line(err, "geometry refused: ", limit(*fault)),
@@ -138,14 +140,15 @@ impl Fault<'_> {
             Fault::TooLong => write_line(err, "image too long", ""),
             Fault::Output { written } => write_count(err, *written),
             Fault::OutOfMemory => write_line(err, "out of memory", ""),
-        };
+        }
     }
 
-    /// Tells it on the error stream, and gives the status that the program ends with.
+    /// Tells it on the error stream, and gives the status that the program ends with. That the error stream failed can't be
+    /// told to anyone.
     pub fn end<E: Write>(&self, err: &mut E) -> u8
         ensures { IsTold self.now result (E.contents err.old, E.contents err.new) }
     {
-        self.tell(err);
+        let _ = self.tell(err);
         self.status()
     }
 }
@@ -165,7 +168,8 @@ fn limit(fault: GeometryFault) -> &'static str
 
 /// Writes a line in two parts, behind the program's name.
 fn write_line<E: Write>(err: &mut E, what: &str, which: &str) -> Result<(), WriteFault>
-    ensures { AppendsFront (E.contents err.old) (E.contents err.new) (line (what.now ++ which.now)) }
+    ensures front { AppendsFront (E.contents err.old) (E.contents err.new) (line (what.now ++ which.now)) }
+    ensures whole { OnOk result (Appends (E.contents err.old) (E.contents err.new) (line (what.now ++ which.now))) }
 {
     write_out(err, b"shardscrub: ")?;
     write_out(err, what.as_bytes())?;
@@ -175,7 +179,8 @@ fn write_line<E: Write>(err: &mut E, what: &str, which: &str) -> Result<(), Writ
 
 /// Writes the line of an output that took so many bytes.
 fn write_count<E: Write>(err: &mut E, count: usize) -> Result<(), WriteFault>
-    ensures { AppendsFront (E.contents err.old) (E.contents err.new) (text_of (Output count)) }
+    ensures front { AppendsFront (E.contents err.old) (E.contents err.new) (text_of (Output count)) }
+    ensures whole { OnOk result (Appends (E.contents err.old) (E.contents err.new) (text_of (Output count))) }
 {
     write_out(err, b"shardscrub: output failed after ")?;
     write_decimal(err, count)?;

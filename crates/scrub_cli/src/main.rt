@@ -2,7 +2,7 @@
 //! and the streams of the system are handed to it.
 #![tactic(auto)]
 
-ghost use Rattle.std.specs.Prelude.{◌≡◌, MatchResult, drop, map};
+ghost use Rattle.std.specs.Prelude.{◌≡◌, ◌⊎◌, IfErr, MatchResult, drop, map};
 ghost use Rattle.std.specs.Process.{exit_status};
 ghost use Rattle.scrub_cli.specs.Answer.{RunWrites, WritesNone};
 ghost use Rattle.scrub_cli.specs.Known.{file};
@@ -39,8 +39,10 @@ fn main(rt: HostRuntime) -> ExitCode {
     run_process(&rt, process_words(&rt), &mut out, &mut err)
 }
 
-/// All words of the process, of which the first is the program's name.
-fn process_words<R: Env + AllocGlobal>(rt: &R) -> Result<Vec<String>, Fault<'static>> {
+/// All words of the process, of which the first is the program's name. The contract of `args` doesn't say which words it gives.
+fn process_words<R: Env + AllocGlobal>(rt: &R) -> Result<Vec<String>, Fault<'static>>
+    ensures { IfErr result (λ fault. (fault ≡ Fault.NotUtf8) ⊎ (fault ≡ Fault.OutOfMemory)) }
+{
     match std::env::args(rt) {
         Ok(words) => Ok(words.collect(rt.alloc())?),
         Err(error) if error.kind() == ErrorKind::OutOfMemory => Err(Fault::OutOfMemory),

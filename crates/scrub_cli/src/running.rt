@@ -1,7 +1,7 @@
 //! A run of the program: words in, an answer and a status out.
 
 ghost use Rattle.std.specs.Prelude.{MatchResult};
-ghost use Rattle.scrub_cli.specs.Answer.{IsAnswer, IsFault, RunWrites, WritesAnswer};
+ghost use Rattle.scrub_cli.specs.Answer.{IsAnswerOfRun, IsFault, RunWrites, WritesAnswer};
 ghost use Rattle.scrub_cli.specs.Words.{texts};
 
 use crate::answer::{Answer, Wanted};
@@ -25,7 +25,7 @@ fn answer<'a, R: Threads + Wait + Sync, I: Images>(
     images: &mut I,
 ) -> Result<Answer, Fault<'a>>
     ensures { MatchResult result
-        (λ a. IsAnswer (I.known images.old) (texts words.entry.now) a.text.items a.status)
+        (λ a. IsAnswerOfRun (I.known images.old) (texts words.entry.now) a.text.items a.status)
         (IsFault (I.known images.old) (texts words.entry.now)) }
 {
     match read_words(alloc, words)? {

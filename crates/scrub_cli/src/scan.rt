@@ -1,7 +1,7 @@
 //! The commands `scan`, `index` and `locators`: the report of the disk in an image file, the index that is recovered from it,
 //! and its named locators.
 
-ghost use Rattle.std.specs.Prelude.{◌≤◌, MatchResult};
+ghost use Rattle.std.specs.Prelude.{◌≡◌, ◌≤◌, IfOk, MatchResult};
 ghost use Rattle.scrub_cli.specs.Scan.{IsScanAnswer, IsScanFault};
 
 use crate::answer::{Answer, Wanted, disk_answer};
@@ -14,7 +14,8 @@ use std::alloc::Global;
 use std::sync::Wait;
 use std::thread::Threads;
 
-/// What is wanted of the disk that the words name. Faults are found in the order of `Fault`.
+/// What is wanted of the disk that the words name, which as many workers scan as they say. Faults are found in the order of
+/// `Fault`.
 pub fn scan<'a, R: Threads + Wait + Sync, I: Images>(
     rt: &R,
     alloc: Global,
@@ -23,9 +24,10 @@ pub fn scan<'a, R: Threads + Wait + Sync, I: Images>(
     wanted: Wanted,
 ) -> Result<Answer, Fault<'a>>
     requires { words.now.workers ≤ 64 }
-    ensures { MatchResult result
+    ensures answer { MatchResult result
         (λ a. IsScanAnswer wanted (I.known images.old words.now.image.name.now) words.now.image a.text.items a.status)
         (IsScanFault (I.known images.old words.now.image.name.now) words.now.image) }
+    ensures workers { IfOk result (λ a. a.workers ≡ words.now.workers) }
 {
     let image = &words.image;
     let geometry = Geometry::new(image.page, image.pages, image.extents)?;

@@ -392,16 +392,16 @@ fn words_that_are_no_command_are_refused(rt: HostRuntime) -> Result<(), Fail> {
 
 #[test]
 fn help_is_told_on_the_error_stream(rt: HostRuntime) -> Result<(), Fail> {
-    for words in [
-        "--help",
-        "-h",
-        "demo --help",
-        "items --help",
-        "scan --help",
-        "index --help",
-        "locators --help",
+    for (words, beginning) in [
+        ("--help", "Says what lies on the disk of a storage node"),
+        ("-h", "Says what lies on the disk of a storage node"),
+        ("demo --help", "Prints the report of a small disk"),
+        ("items --help", "Lists the items of one extent"),
+        ("scan --help", "Prints a report of the whole disk"),
+        ("index --help", "Prints the index that can be recovered"),
+        ("locators --help", "Lists the named locators"),
     ] {
-        check_text(&rt, rt.alloc(), words, (0, ""))?;
+        check_text(&rt, rt.alloc(), words, (0, beginning))?;
     }
     Ok(())
 }

@@ -29,14 +29,14 @@ scan-requires-in-Locators g c =
 pub returns-in-Scan : goal.returns-in-Scan
 returns-in-Scan g c =
     answered (g.I.Images.known c.args.images.now) (map (λ word. word.now) c.args.words.now) (Scan c.in-Scan.words) c.scan.result
-    (rw c.in-Scan.is at c.in_ok-read_words.ensures) c.scan.ensures
+    (rw c.in-Scan.is at c.in_ok-read_words.ensures) c.scan.ensures.answer
 
 pub returns-in-Index : goal.returns-in-Index
 returns-in-Index g c =
     answered (g.I.Images.known c.args.images.now) (map (λ word. word.now) c.args.words.now) (Index c.in-Index.words) c.scan-in-Index.result
-    (rw c.in-Index.is at c.in_ok-read_words.ensures) c.scan-in-Index.ensures
+    (rw c.in-Index.is at c.in_ok-read_words.ensures) c.scan-in-Index.ensures.answer
 
 pub returns-in-Locators : goal.returns-in-Locators
 returns-in-Locators g c =
     answered (g.I.Images.known c.args.images.now) (map (λ word. word.now) c.args.words.now) (Locators c.in-Locators.words) c.scan-in-Locators.result
-    (rw c.in-Locators.is at c.in_ok-read_words.ensures) c.scan-in-Locators.ensures
+    (rw c.in-Locators.is at c.in_ok-read_words.ensures) c.scan-in-Locators.ensures.answer
