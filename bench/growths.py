@@ -9,9 +9,11 @@ with its first growth refused, then with its second, and so on until a run meets
 same with all later growths refused too. Growths that the call's values need are passed over: how many these are is asked
 before. Of a refused growth has to come want of memory, or the right answer all the same, where the request is made once
 more and then had, or a thread isn't started and its work done without it; where all later ones are refused too, want of
-memory alone. The refusals come of the library of C of `refusals.py`.
-Prints a line for each call; the last line is 'N passed, M failed', which counts calls. Exit status: 0 where each ended so,
-1 where one didn't, 2 where `cc` can't make the library.
+memory alone. Last, the calls with workers are run with each growth of a worker refused, and none of the caller's: by then the
+caller has scanned all extents, and want of memory has to be the answer all the same. The refusals come of the library of C
+of `refusals.py`.
+Prints a line for each call; the last line is 'N passed, M failed', which counts calls, and those with workers twice. Exit
+status: 0 where each ended so, 1 where one didn't, 2 where `cc` can't make the library.
 """
 import os
 import subprocess
@@ -27,6 +29,8 @@ RIGHT = (0, b"right\n", b"")
 OUT_OF_MEMORY = (4, b"out of memory\n", b"")
 # No program makes so many allocations.
 NONE_REFUSED = 10**9
+# The calls that start workers, with how many.
+WITH_WORKERS = ["scan_all 1", "scan_all 2", "scrub 1", "scrub 2"]
 # These make none, and every other call at least one.
 WITHOUT_GROWTH = {"ExtentQueue::split"}
 
@@ -56,6 +60,14 @@ def tried(program, library, call):
     return is_right, line if is_right else f"{line}; {wrong} ended wrongly: FAILED"
 
 
+def tried_by_workers(program, library, call):
+    """Whether a call whose workers are refused each growth ended by want of memory, and a line that says so."""
+    got, refused = answer(program, f"{call} answered", library, NONE_REFUSED, all_others=True)
+    is_right = got == OUT_OF_MEMORY and refused > 0
+    line = f"{call}: with the workers alone refused, {refused} times, ended by want of memory"
+    return is_right, line if is_right else f"{line}: FAILED, {got}"
+
+
 def main():
     program = Path(sys.argv[1] if len(sys.argv) > 1 else TOP / "crates/scrub_growths/out/scrub_growths").resolve()
     calls = subprocess.run([program, "calls"], capture_output=True, text=True).stdout.splitlines()
@@ -63,6 +75,10 @@ def main():
     with tempfile.TemporaryDirectory() as folder, ThreadPoolExecutor(os.cpu_count()) as threads:
         library = made(folder)
         for is_right, line in threads.map(lambda call: tried(program, library, call), calls):
+            passed, failed = passed + is_right, failed + (not is_right)
+            print(line, flush=True)
+        for call in WITH_WORKERS:
+            is_right, line = tried_by_workers(program, library, call)
             passed, failed = passed + is_right, failed + (not is_right)
             print(line, flush=True)
     print(f"{passed} passed, {failed} failed")

@@ -1,7 +1,8 @@
 """Runs a program of which an allocation is refused, for `refuse.py` and `growths.py`.
 
 The refusals come of a library of C that is made by `cc` and put before the C library. It counts the allocations of the
-program, refuses one of them, by its number from 1 on, or that one and all later ones, and tells how many it met.
+program, refuses one of them, by its number from 1 on, or that one and all later ones, and tells how many it met. Or it
+refuses those of all threads but the first one, each after a tenth of a second, and tells how many it refused.
 """
 import os
 import subprocess
@@ -21,17 +22,24 @@ LIBRARY = r"""
 static void *(*real_malloc)(size_t);
 static void *(*real_realloc)(void *, size_t);
 static long seen, refused;
-static int all_later;
+static int all_later, all_others;
 
 __attribute__((constructor)) static void begin(void) {
     real_malloc = dlsym(RTLD_NEXT, "malloc");
     real_realloc = dlsym(RTLD_NEXT, "realloc");
     refused = atol(getenv("REFUSED"));
     all_later = getenv("ALL_LATER") != NULL;
+    all_others = getenv("ALL_OTHERS") != NULL;
 }
 
 static int is_refused(void) {
     if (refused == 0) return 0;
+    if (all_others) {
+        if (syscall(SYS_gettid) == getpid()) return 0;
+        usleep(100000);
+        __atomic_add_fetch(&seen, 1, __ATOMIC_SEQ_CST);
+        return 1;
+    }
     long now = __atomic_add_fetch(&seen, 1, __ATOMIC_SEQ_CST);
     return now == refused || (all_later && now > refused);
 }
@@ -73,15 +81,17 @@ def made(folder):
     return library
 
 
-def answer(program, words, library=None, refused=0, all_later=False):
-    """The status, the two outputs, and how many allocations were met. A run that takes over a minute, or ends by a signal,
-    has met none."""
+def answer(program, words, library=None, refused=0, all_later=False, all_others=False):
+    """The status, the two outputs, and how many allocations were met, or were refused where those of all other threads are.
+    A run that takes over a minute, or ends by a signal, has met none."""
     environment = dict(os.environ)
     reader, writer = os.pipe()
     if library is not None:
         environment.update(LD_PRELOAD=str(library), REFUSED=str(refused), TOLD=str(writer))
         if all_later:
             environment["ALL_LATER"] = "1"
+        if all_others:
+            environment["ALL_OTHERS"] = "1"
     try:
         run = subprocess.run(
             [program, *words.split()], capture_output=True, env=environment, pass_fds=[writer], cwd=TOP, timeout=60
