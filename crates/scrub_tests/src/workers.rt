@@ -2,6 +2,7 @@
 
 ghost use Rattle.std.specs.Prelude.{◌≤◌};
 
+mod left_alone;
 mod meeting;
 mod pausing;
 mod reading_watch;
@@ -10,6 +11,7 @@ mod watch;
 use crate::compare::{check_answer, check_found, same};
 use crate::disks::{many_shards, one_shard};
 use crate::told::scrubbed;
+use crate::workers::left_alone::LeftAlone;
 use crate::workers::meeting::MeetingSource;
 use crate::workers::reading_watch::ReadingWatch;
 use crate::workers::watch::Watch;
@@ -78,6 +80,37 @@ fn eight_workers_are_held_until_each_has_passed_with_an_extent(
 fn of_65_workers_39_take_one_of_39_extents_each(rt: HostRuntime) -> Result<(), Fail> {
     let (disk, _) = many_shards(&rt, rt.alloc())?;
     check_workers(&rt, rt.alloc(), &disk, 64, 39)
+}
+
+/// Scans a disk by so many workers and the caller, of whom all but one are held at their first extents until every extent was
+/// taken. So that one takes all that the others leave.
+fn check_left_alone<R: Threads + Wait + Abort + Clock + Sync>(
+    rt: &R,
+    alloc: Global,
+    disk: &MemDisk,
+    workers: u32,
+    alone: u32,
+) -> Result<(), Fail>
+    requires workers { workers ≤ 64 }
+    requires alone { alone ≤ workers }
+{
+    let plan = plan_of(alloc, disk)?;
+    let (queue, mut first) = ExtentQueue::new(rt, alloc, &plan)?;
+    let planned = plan.planned().len();
+    let gate = LeftAlone::new(rt, alone, planned as u64);
+    let (_, takings) = scan_all(rt, alloc, disk, &plan, &queue, &mut first, workers, &gate)?;
+    gate.check(rt);
+    assert!(rt; takings.taken_by(alone).len() >= planned.saturating_sub(workers as usize));
+    Ok(())
+}
+
+#[test]
+fn each_worker_goes_on_until_nothing_is_left(rt: HostRuntime) -> Result<(), Fail> {
+    let (disk, _) = many_shards(&rt, rt.alloc())?;
+    for alone in 0..4 {
+        check_left_alone(&rt, rt.alloc(), &disk, 3, alone)?;
+    }
+    Ok(())
 }
 
 /// Scans a disk by so many workers and the caller, whose reads wait until all of them are inside one at the same time.
