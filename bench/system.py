@@ -9,6 +9,8 @@ Answers on images are those of reference.py. Prints a line for each check that f
 """
 import os
 import random
+import resource
+import signal
 import subprocess
 import sys
 import tempfile
@@ -233,6 +235,25 @@ def failing_output():
     check("an output whose reader is gone", run, (3, None, b"shardscrub: output failed after 0 bytes\n"))
 
 
+def short_output(room):
+    """An output that takes so many bytes of a report and then fails, for each number below the report's length."""
+    _, report, _ = answer("scan", *SMALL, ONE_SHARD)
+    path = os.path.join(room, "short")
+
+    def limit(size):
+        signal.signal(signal.SIGXFSZ, signal.SIG_IGN)
+        resource.setrlimit(resource.RLIMIT_FSIZE, (size, size))
+
+    ends = []
+    for size in range(len(report)):
+        with open(path, "wb") as out:
+            status, _, told = answer("scan", *SMALL, ONE_SHARD, capture_output=False, stdout=out, stderr=subprocess.PIPE,
+                                     preexec_fn=lambda: limit(size))
+        text = f"shardscrub: output failed after {size} bytes\n".encode()
+        ends.append((status, told, Path(path).read_bytes()) == (3, text, report[:size]))
+    check("an output that fails after each number of bytes", (len(ends) > 500, ends.count(False)), (True, 0))
+
+
 def writes(room):
     """A long answer goes out in few writes."""
     trace = os.path.join(room, "trace")
@@ -259,6 +280,7 @@ def main():
         words(room)
         refusals()
         failing_output()
+        short_output(room)
         writes(room)
     print(f"{counts[True]} passed, {counts[False]} failed")
     sys.exit(counts[False] > 0)
