@@ -1,5 +1,5 @@
-//! What one worker took and found so far. It takes them from `PoolCore`, or from the queue of
-//! `scrub_pool`, and `scrub_scan` scans them.
+//! What one worker took and found so far. It takes extents from `PoolCore`, or from the queue of `scrub_pool`, and
+//! `scrub_scan` scans them.
 
 ghost use Rattle.std.specs.Prelude.{◌≡◌, ◌≢◌, ◌+◌, ◌≤◌, ◌++◌, [], ◌∷◌, length, vec_len, Some, None, OnOk, OnErr, IfOk, IfErr};
 ghost use Rattle.std.specs.Vec.{vec_capacity};

@@ -37,7 +37,8 @@ pub struct Checked {
 
 /// Whether two locators are one.
 fn are_one(one: &Locator, other: &Locator) -> bool
-    ensures { result ≡ true → (one.now.extent ≡ other.now.extent) × (one.now.offset ≡ other.now.offset) × (one.now.length ≡ other.now.length) × (one.now.uuid ≡ other.now.uuid) × (one.now.digest ≡ other.now.digest) }
+    ensures { result ≡ true → (one.now.extent ≡ other.now.extent) × (one.now.offset ≡ other.now.offset) ×
+        (one.now.length ≡ other.now.length) × (one.now.uuid ≡ other.now.uuid) × (one.now.digest ≡ other.now.digest) }
 {
     if one.extent != other.extent || one.offset != other.offset || one.length != other.length {
         return false;

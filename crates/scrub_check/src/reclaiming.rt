@@ -79,7 +79,8 @@ fn is_reclaimable<D: PageSource>(
 
 /// An extent of these live chunks as a candidate.
 fn candidate_of<D: PageSource>(found: &ExtentResult<'_, D>, live: LiveChunks) -> Candidate
-    ensures { (checked : List Checked) → AreLiveChunks checked (scanned found.now) live → result ≡ candidate_of checked (scanned found.now) }
+    ensures { (checked : List Checked) → AreLiveChunks checked (scanned found.now) live →
+        result ≡ candidate_of checked (scanned found.now) }
 {
     Candidate::new(found.extent(), free_bytes(found, live.bytes), live.starts)
 }
@@ -132,7 +133,8 @@ pub(crate) fn candidates_among(
     in_doubt: bool,
     mut found: Vec<Candidate>,
 ) -> Result<Vec<Candidate>, OutOfMemory>
-    ensures { (all : List Scanned) (checked : List Checked) → IsStrictlyIncreasing (extent_numbers all) → found.items ≡ reclaimable plan.now.geometry all checked →
+    ensures { (all : List Scanned) (checked : List Checked) → IsStrictlyIncreasing (extent_numbers all) →
+        found.items ≡ reclaimable plan.now.geometry all checked →
         IfOk result (λ v. AreCandidates plan.now all checked in_doubt v.items) }
 {
     if !knows_locators(plan, in_doubt) {

@@ -123,7 +123,8 @@ fn is_unreadable<D: PageSource>(disk: &D, bad_pages: &[u32], locator: &Locator) 
 /// none does.
 fn told_by_item(items: &[Item], locator: &Locator) -> Option<Status>
     requires { IsStrictlyIncreasing (map start_of items.now) }
-    ensures { (image : Image) (w : ℕ) → CanStand image w locator.now → IsTiling (extent_of image locator.now.extent w) items.now → IsToldByItems image w locator.now result }
+    ensures { (image : Image) (w : ℕ) → CanStand image w locator.now → IsTiling (extent_of image locator.now.extent w) items.now →
+        IsToldByItems image w locator.now result }
 {
     if let Some(i) = find_start(items, locator.offset).at {
         let standing = frame_of_item(locator.extent, &items[i]);

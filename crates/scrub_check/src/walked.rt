@@ -110,7 +110,8 @@ fn tell_extent<D: PageSource>(
 ) -> Result<(), OutOfMemory>
     requires over { cursor.old.starts.now ≡ verdicts.now.sound.now }
     requires passed { HasPassed cursor.old (scanned found.now).extent 0 }
-    ensures told { (checked : List Checked) (extents : List Scanned) → AreVerdicts checked verdicts.now → AreToldOf geometry checked extents told.old →
+    ensures told { (checked : List Checked) (extents : List Scanned) → AreVerdicts checked verdicts.now →
+        AreToldOf geometry checked extents told.old →
         OnOk result (AreToldOf geometry checked (extents ++ scanned found.now ∷ []) told.new) }
     ensures same { cursor.new.starts.now ≡ cursor.old.starts.now }
     ensures passed { OnOk result (HasPassed cursor.new ((scanned found.now).extent + 1) 0) }

@@ -20,7 +20,7 @@ use Rattle.scrub_run.specs.declared.shard_id.ShardId.{ShardId}
 use Rattle.scrub_run.specs.Entry.{EntryValue, IsBelow}
 use Rattle.scrub_merge.specs.Binding.{Runs}
 use Rattle.scrub_merge.specs.declared.under.Under.{Under}
-use Rattle.scrub_merge.specs.Cursors.{id_cmp, entry_at, left, first_of, under_by, under_cmp, StandsFirst, of_run, IsHeapOver, IsHeapOf, IsHeapBut, IsLeast, IsFirstWith, AreEmpty}
+use Rattle.scrub_merge.specs.Cursors.{id_cmp, entry_at, ahead, first_of, under_by, under_cmp, StandsFirst, of_run, IsHeapOver, IsHeapOf, IsHeapBut, IsLeast, IsFirstWith, AreEmpty}
 use Rattle.scrub_merge.proofs.Elements.{Contains-cases, Contains-behind}
 use Rattle.scrub_merge.proofs.Left.{first_at}
 use Rattle.scrub_merge.proofs.Moves.{one_on, first_elsewhere, first_moved}
@@ -233,10 +233,10 @@ over_all runs Are items all h = record { order = h.order; each = λ k d here. (t
 
 -- a heap without what is of a run, and what stands under its cursor once that was moved on
 pub pushed_on : (runs : Runs) (places : List ℕ) (number : ℕ) (run : Option (List EntryValue)) (items new : List Under) → length places ≡ length runs → number < length runs → run ≡ get_or runs number run →
-    IsHeapBut number (left runs places) items → IsPermutation (cons_option (option_map (under_by number) (entry_at run (get_or places number 0 + 1))) items) new → KeepsHeap under_cmp items new →
-    IsHeapOf (left runs (one_on places number)) new
-pushed_on runs places number run items new count here is h p keeps = pushed (left runs (one_on places number)) (λ k. k ≡ number → ⊥) (λ k. Unit {0}) number items new
-    (elsewhere (left runs places) (left runs (one_on places number)) number items (λ k other. first_elsewhere runs places number (get_or places number 0 + 1) k count other) h)
+    IsHeapBut number (ahead runs places) items → IsPermutation (cons_option (option_map (under_by number) (entry_at run (get_or places number 0 + 1))) items) new → KeepsHeap under_cmp items new →
+    IsHeapOf (ahead runs (one_on places number)) new
+pushed_on runs places number run items new count here is h p keeps = pushed (ahead runs (one_on places number)) (λ k. k ≡ number → ⊥) (λ k. Unit {0}) number items new
+    (elsewhere (ahead runs places) (ahead runs (one_on places number)) number items (λ k other. first_elsewhere runs places number (get_or places number 0 + 1) k count other) h)
     (λ other. other refl) (λ k are. elim (cases_eq k number) [ inl same ↦ inr same | inr other ↦ inl other ]) (λ k other. tt) tt
     (subst (λ (o : Option EntryValue). IsPermutation (cons_option (option_map (under_by number) o) items) new) (sym (first_moved runs places number (get_or places number 0 + 1) run count here is)) p) keeps
 

@@ -10,7 +10,7 @@ use Rattle.scrub_run.specs.declared.shard_id.ShardId.{ShardId}
 use Rattle.scrub_run.specs.Entry.{EntryValue}
 use Rattle.scrub_run.specs.Run.{RisesById}
 use Rattle.scrub_merge.specs.Binding.{Runs, IsEntryOf, LostBefore}
-use Rattle.scrub_merge.specs.Cursors.{id_cmp, entry_at, has_id, left, place_behind, places_behind, first_of, AreRising}
+use Rattle.scrub_merge.specs.Cursors.{id_cmp, entry_at, has_id, ahead, place_past, places_past, first_of, AreRising}
 use Rattle.scrub_merge.proofs.Identifiers.{itself}
 
 -- ---- what is left behind cursors
@@ -25,7 +25,7 @@ pub under_first : (run : Option (List EntryValue)) (place : ℕ) → entry_at (o
 under_first None place = refl
 under_first (Some entries) place = slice_get_drop place entries
 
-pub first_left : (runs : Runs) (places : List ℕ) (k : ℕ) → length places ≡ length runs → first_of (left runs places) k ≡ entry_at (unwrap_or (slice_get runs k) None) (get_or places k 0)
+pub first_left : (runs : Runs) (places : List ℕ) (k : ℕ) → length places ≡ length runs → first_of (ahead runs places) k ≡ entry_at (unwrap_or (slice_get runs k) None) (get_or places k 0)
 first_left [] places k h = refl
 first_left (run ∷ runs) [] k h = absurd (omega (arith, h))
 first_left (run ∷ runs) (place ∷ places) zero h = under_first run place
@@ -33,11 +33,11 @@ first_left (run ∷ runs) (place ∷ places) (suc k) h = first_left runs places 
 
 -- what stands first in what is left of a run stands under its cursor
 pub at_cursor : (runs : Runs) (places : List ℕ) (number : ℕ) (run : Option (List EntryValue)) → length places ≡ length runs → number < length runs → run ≡ get_or runs number run →
-    first_of (left runs places) number ≡ entry_at run (get_or places number 0)
+    first_of (ahead runs places) number ≡ entry_at run (get_or places number 0)
 at_cursor runs places number run count here is = first_left runs places number count
     ∙ ap (λ o. entry_at (unwrap_or o None) (get_or places number 0)) (slice_get_read runs (length runs) number run refl here is)
 
-pub length-left : (runs : Runs) (places : List ℕ) → length (left runs places) ≡ length runs
+pub length-left : (runs : Runs) (places : List ℕ) → length (ahead runs places) ≡ length runs
 length-left [] places = refl
 length-left (run ∷ runs) [] = ap suc (length-left runs [])
 length-left (run ∷ runs) (place ∷ places) = ap suc (length-left runs places)
@@ -76,7 +76,7 @@ drop_rises zero entries h = h
 drop_rises (suc place) [] h = h
 drop_rises (suc place) (e ∷ entries) h = drop_rises place entries (λ i j d order here. h (suc i) (suc j) d (omega (arith, order)) (omega (arith, here)))
 
-pub rising_left : (runs : Runs) (places : List ℕ) → AreRising runs → AreRising (left runs places)
+pub rising_left : (runs : Runs) (places : List ℕ) → AreRising runs → AreRising (ahead runs places)
 rising_left [] places h k entries is = absurd (none-some (Some entries) is)
 rising_left (run ∷ runs) [] h zero entries is = h zero entries is
 rising_left (run ∷ runs) [] h (suc k) entries is = rising_left runs [] (λ j. h (suc j)) k entries is
@@ -87,7 +87,7 @@ rising_left (Some all ∷ runs) (place ∷ places) h zero entries is =
 rising_left (run ∷ runs) (place ∷ places) h (suc k) entries is = rising_left runs places (λ j. h (suc j)) k entries is
 
 -- the same runs are lost
-lost_at : (runs : Runs) (places : List ℕ) (k : ℕ) → (slice_get (left runs places) k ≡ Some None) ↔ (slice_get runs k ≡ Some None)
+lost_at : (runs : Runs) (places : List ℕ) (k : ℕ) → (slice_get (ahead runs places) k ≡ Some None) ↔ (slice_get runs k ≡ Some None)
 lost_at [] places k = (λ h. h, λ h. h)
 lost_at (run ∷ runs) [] zero = (λ h. h, λ h. h)
 lost_at (run ∷ runs) [] (suc k) = lost_at runs [] k
@@ -96,14 +96,14 @@ lost_at (Some entries ∷ runs) (place ∷ places) zero =
     (λ h. absurd (none-some (drop place entries) (sym (same_Some (Some (drop place entries)) None h))), λ h. absurd (none-some entries (sym (same_Some (Some entries) None h))))
 lost_at (run ∷ runs) (place ∷ places) (suc k) = lost_at runs places k
 
-pub lost_left : (runs : Runs) (places : List ℕ) (n : ℕ) → LostBefore (left runs places) n ↔ LostBefore runs n
+pub lost_left : (runs : Runs) (places : List ℕ) (n : ℕ) → LostBefore (ahead runs places) n ↔ LostBefore runs n
 lost_left runs places n = (λ l. (l.0, l.1, (lost_at runs places l.0).0 l.2), λ l. (l.0, l.1, (lost_at runs places l.0).1 l.2))
 
 -- in the beginning that is all
-pub left_all : (runs : Runs) (n : ℕ) → left runs (replicate n 0) ≡ runs
+pub left_all : (runs : Runs) (n : ℕ) → ahead runs (replicate n 0) ≡ runs
 left_all [] n = refl
 left_all (run ∷ runs) zero = ap (λ rest. run ∷ rest) (left_all runs zero)
-left_all (run ∷ runs) (suc n) = ap (λ r. r ∷ left runs (replicate n 0)) (whole run) ∙ ap (λ rest. run ∷ rest) (left_all runs n)
+left_all (run ∷ runs) (suc n) = ap (λ r. r ∷ ahead runs (replicate n 0)) (whole run) ∙ ap (λ rest. run ∷ rest) (left_all runs n)
   where
     whole : (r : Option (List EntryValue)) → option_map (drop 0) r ≡ r
     whole None = refl
@@ -119,7 +119,7 @@ without id (e ∷ entries) = cond (is_eq (id_cmp e.id id)) entries (e ∷ entrie
 abbrev pub all_without : ShardId → Runs → Runs
 all_without id runs = map (option_map (without id)) runs
 
-drop_behind : (id : ShardId) (entries : List EntryValue) (place : ℕ) → drop (place_behind id (Some entries) place) entries ≡ without id (drop place entries)
+drop_behind : (id : ShardId) (entries : List EntryValue) (place : ℕ) → drop (place_past id (Some entries) place) entries ≡ without id (drop place entries)
 drop_behind id [] zero = refl
 drop_behind id [] (suc place) = refl
 drop_behind id (e ∷ entries) zero = by (is_eq (id_cmp e.id id))
@@ -133,17 +133,17 @@ drop_behind id (e ∷ entries) (suc place) = by (has_id id (slice_get entries pl
     by true = let one : suc place + 1 ≡ suc (place + 1) = omega arith in ap (λ n. drop n (e ∷ entries)) one
     by false = refl
 
-pub left_behind : (id : ShardId) (runs : Runs) (places : List ℕ) → length places ≡ length runs → left runs (places_behind id runs places) ≡ all_without id (left runs places)
+pub left_behind : (id : ShardId) (runs : Runs) (places : List ℕ) → length places ≡ length runs → ahead runs (places_past id runs places) ≡ all_without id (ahead runs places)
 left_behind id [] places h = refl
 left_behind id (run ∷ runs) [] h = absurd (omega (arith, h))
 left_behind id (run ∷ runs) (place ∷ places) h =
-    ap (λ r. r ∷ left runs (places_behind id runs places)) (one run) ∙ ap (λ rest. option_map (without id) (option_map (drop place) run) ∷ rest) (left_behind id runs places (omega (arith, h)))
+    ap (λ r. r ∷ ahead runs (places_past id runs places)) (one run) ∙ ap (λ rest. option_map (without id) (option_map (drop place) run) ∷ rest) (left_behind id runs places (omega (arith, h)))
   where
-    one : (r : Option (List EntryValue)) → option_map (drop (place_behind id r place)) r ≡ option_map (without id) (option_map (drop place) r)
+    one : (r : Option (List EntryValue)) → option_map (drop (place_past id r place)) r ≡ option_map (without id) (option_map (drop place) r)
     one None = refl
     one (Some entries) = ap Some (drop_behind id entries place)
 
-pub length-behind : (id : ShardId) (runs : Runs) (places : List ℕ) → length (places_behind id runs places) ≡ length places
+pub length-behind : (id : ShardId) (runs : Runs) (places : List ℕ) → length (places_past id runs places) ≡ length places
 length-behind id [] places = refl
 length-behind id (run ∷ runs) [] = refl
 length-behind id (run ∷ runs) (place ∷ places) = ap suc (length-behind id runs places)

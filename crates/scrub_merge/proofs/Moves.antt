@@ -11,7 +11,7 @@ use Rattle.scrub_run.specs.Entry.{EntryValue, IsBelow}
 use Rattle.scrub_run.specs.Run.{RisesById, AreEntries}
 use Rattle.scrub_merge.specs.Binding.{Runs}
 use Rattle.scrub_merge.specs.ShardMap.{AreRuns}
-use Rattle.scrub_merge.specs.Cursors.{id_cmp, entry_at, has_id, left, first_of, place_behind, places_behind, AreRising}
+use Rattle.scrub_merge.specs.Cursors.{id_cmp, entry_at, has_id, ahead, first_of, place_past, places_past, AreRising}
 use Rattle.scrub_merge.proofs.Identifiers.{id_cmp_total, same_id, itself, not_below_itself}
 use Rattle.scrub_merge.proofs.Left.{first_left, under_first, entries_left}
 
@@ -25,14 +25,14 @@ one_on places number = slice_set places number (get_or places number 0 + 1)
 
 -- the other runs are left as they were
 pub first_elsewhere : (runs : Runs) (places : List ℕ) (number place k : ℕ) → length places ≡ length runs → (k ≡ number → ⊥) →
-    first_of (left runs (slice_set places number place)) k ≡ first_of (left runs places) k
+    first_of (ahead runs (slice_set places number place)) k ≡ first_of (ahead runs places) k
 first_elsewhere runs places number place k count other = first_left runs (slice_set places number place) k (length-set places number place ∙ count)
     ∙ ap (entry_at (unwrap_or (slice_get runs k) None)) (get_or-set_other places number k place 0 other)
     ∙ sym (first_left runs places k count)
 
 -- what stands under the cursor then
 pub first_moved : (runs : Runs) (places : List ℕ) (number place : ℕ) (run : Option (List EntryValue)) → length places ≡ length runs → number < length runs → run ≡ get_or runs number run →
-    first_of (left runs (slice_set places number place)) number ≡ entry_at run place
+    first_of (ahead runs (slice_set places number place)) number ≡ entry_at run place
 first_moved runs places number place run count here is = first_left runs (slice_set places number place) number (length-set places number place ∙ count)
     ∙ ap (λ o. entry_at (unwrap_or o None) (get_or (slice_set places number place) number 0)) (slice_get-get_or runs number run here ∙ ap Some (sym is))
     ∙ ap (entry_at run) (get_or-set_same places number place 0 (omega (arith, count, here)))
@@ -68,28 +68,28 @@ has_it id o e at own = ap (has_id id) at ∙ ap (λ q. is_eq (id_cmp q id)) own 
 
 -- past an identifier a cursor moves on once
 past_once : (id : ShardId) (run : Option (List EntryValue)) (place : ℕ) (e : EntryValue) → ((entries : List EntryValue) → run ≡ Some entries → RisesById entries) →
-    entry_at run place ≡ Some e → e.id ≡ id → place_behind id run (place + 1) ≡ place_behind id run place
+    entry_at run place ≡ Some e → e.id ≡ id → place_past id run (place + 1) ≡ place_past id run place
 past_once id run place e rising at own =
     ap (λ t. cond t (place + 1 + 1) (place + 1)) (has_not id (entry_at run (place + 1)) (λ f next same. not_below_itself id (rw (own, same) at (rises_at run place e f rising at next))))
     ∙ sym (ap (λ t. cond t (place + 1) place) (has_it id (entry_at run place) e at own))
 
 -- a cursor that has an identifier moved on: the places behind the identifier are the same
-pub same_behind : (id : ShardId) (runs : Runs) (places : List ℕ) (number : ℕ) (e : EntryValue) → length places ≡ length runs → AreRising runs → first_of (left runs places) number ≡ Some e → e.id ≡ id →
-    places_behind id runs (one_on places number) ≡ places_behind id runs places
+pub same_behind : (id : ShardId) (runs : Runs) (places : List ℕ) (number : ℕ) (e : EntryValue) → length places ≡ length runs → AreRising runs → first_of (ahead runs places) number ≡ Some e → e.id ≡ id →
+    places_past id runs (one_on places number) ≡ places_past id runs places
 same_behind id [] places number e count rising at own = absurd (none-some e at)
 same_behind id (run ∷ runs) [] number e count rising at own = absurd (let no : ⊥ = omega (arith, count) in no)
 same_behind id (run ∷ runs) (place ∷ places) zero e count rising at own =
-    ap (λ p. p ∷ places_behind id runs places) (past_once id run place e (λ entries is. rising zero entries (ap Some is)) (sym (under_first run place) ∙ at) own)
+    ap (λ p. p ∷ places_past id runs places) (past_once id run place e (λ entries is. rising zero entries (ap Some is)) (sym (under_first run place) ∙ at) own)
 same_behind id (run ∷ runs) (place ∷ places) (suc number) e count rising at own =
-    ap (λ ps. place_behind id run place ∷ ps) (same_behind id runs places number e (omega (arith, count)) (λ k. rising (suc k)) at own)
+    ap (λ ps. place_past id run place ∷ ps) (same_behind id runs places number e (omega (arith, count)) (λ k. rising (suc k)) at own)
 
 -- where no cursor has the identifier, they stand behind it
-pub stand_behind : (id : ShardId) (runs : Runs) (places : List ℕ) → length places ≡ length runs → ((k : ℕ) (e : EntryValue) → first_of (left runs places) k ≡ Some e → e.id ≡ id → ⊥) →
-    places_behind id runs places ≡ places
+pub stand_behind : (id : ShardId) (runs : Runs) (places : List ℕ) → length places ≡ length runs → ((k : ℕ) (e : EntryValue) → first_of (ahead runs places) k ≡ Some e → e.id ≡ id → ⊥) →
+    places_past id runs places ≡ places
 stand_behind id [] places count none = refl
 stand_behind id (run ∷ runs) [] count none = refl
 stand_behind id (run ∷ runs) (place ∷ places) count none =
-    ap (λ t. cond t (place + 1) place ∷ places_behind id runs places) (has_not id (entry_at run place) (λ f at. none zero f (under_first run place ∙ at)))
+    ap (λ t. cond t (place + 1) place ∷ places_past id runs places) (has_not id (entry_at run place) (λ f at. none zero f (under_first run place ∙ at)))
     ∙ ap (λ ps. place ∷ ps) (stand_behind id runs places (omega (arith, count)) (λ k. none (suc k)))
 
 -- ---- what is not passed
@@ -99,14 +99,14 @@ abbrev pub AreNotBelow : ShardId → Runs → Type 0
 AreNotBelow id runs = (k : ℕ) (e : EntryValue) → first_of runs k ≡ Some e → IsBelow e.id id → ⊥
 
 -- the identifier under a cursor that moves on rises
-pub still_not_below : (id : ShardId) (runs : Runs) (places : List ℕ) (number : ℕ) (e : EntryValue) → length places ≡ length runs → AreRising runs → first_of (left runs places) number ≡ Some e → e.id ≡ id →
-    AreNotBelow id (left runs places) → AreNotBelow id (left runs (one_on places number))
+pub still_not_below : (id : ShardId) (runs : Runs) (places : List ℕ) (number : ℕ) (e : EntryValue) → length places ≡ length runs → AreRising runs → first_of (ahead runs places) number ≡ Some e → e.id ≡ id →
+    AreNotBelow id (ahead runs places) → AreNotBelow id (ahead runs (one_on places number))
 still_not_below id runs places number e count rising at own not k f first below = elim (cases_eq k number) [
-  | inl same ↦ not_below_itself id (id_cmp_total.trans id f.id id (rw own at (next runs places number count rising at (ap (first_of (left runs (one_on places number))) (sym same) ∙ first))) below)
+  | inl same ↦ not_below_itself id (id_cmp_total.trans id f.id id (rw own at (next runs places number count rising at (ap (first_of (ahead runs (one_on places number))) (sym same) ∙ first))) below)
   | inr other ↦ not k f (sym (first_elsewhere runs places number (get_or places number 0 + 1) k count other) ∙ first) below
 ]
   where
-    next : (rs : Runs) (ps : List ℕ) (n : ℕ) → length ps ≡ length rs → AreRising rs → first_of (left rs ps) n ≡ Some e → first_of (left rs (one_on ps n)) n ≡ Some f → IsBelow e.id f.id
+    next : (rs : Runs) (ps : List ℕ) (n : ℕ) → length ps ≡ length rs → AreRising rs → first_of (ahead rs ps) n ≡ Some e → first_of (ahead rs (one_on ps n)) n ≡ Some f → IsBelow e.id f.id
     next [] ps n c r here there = absurd (none-some e here)
     next (run ∷ rs) [] n c r here there = absurd (let no : ⊥ = omega (arith, c) in no)
     next (run ∷ rs) (p ∷ ps) zero c r here there = rises_at run p e f (λ entries is. r zero entries (ap Some is)) (sym (under_first run p) ∙ here) (sym (under_first run (p + 1)) ∙ there)
@@ -114,8 +114,8 @@ still_not_below id runs places number e count rising at own not k f first below 
 
 -- ---- fewer entries are left
 
-pub fewer_one : (runs : Runs) (places : List ℕ) (number : ℕ) (e : EntryValue) → length places ≡ length runs → first_of (left runs places) number ≡ Some e →
-    entries_left (left runs (one_on places number)) < entries_left (left runs places)
+pub fewer_one : (runs : Runs) (places : List ℕ) (number : ℕ) (e : EntryValue) → length places ≡ length runs → first_of (ahead runs places) number ≡ Some e →
+    entries_left (ahead runs (one_on places number)) < entries_left (ahead runs places)
 fewer_one [] places number e count at = absurd (none-some e at)
 fewer_one (run ∷ runs) [] number e count at = absurd (let no : ⊥ = omega (arith, count) in no)
 fewer_one (None ∷ runs) (place ∷ places) zero e count at = absurd (none-some e at)
@@ -126,7 +126,7 @@ fewer_one (None ∷ runs) (place ∷ places) (suc number) e count at = fewer_one
 fewer_one (Some entries ∷ runs) (place ∷ places) (suc number) e count at = omega (arith, fewer_one runs places number e (omega (arith, count)) at)
 
 -- a place under which an entry stands is within its run
-pub place_within : (runs : Runs) (places : List ℕ) (number : ℕ) (e : EntryValue) → length places ≡ length runs → AreRuns runs → first_of (left runs places) number ≡ Some e → get_or places number 0 < 2 ^ 32
+pub place_within : (runs : Runs) (places : List ℕ) (number : ℕ) (e : EntryValue) → length places ≡ length runs → AreRuns runs → first_of (ahead runs places) number ≡ Some e → get_or places number 0 < 2 ^ 32
 place_within [] places number e count are at = absurd (none-some e at)
 place_within (run ∷ runs) [] number e count are at = absurd (let no : ⊥ = omega (arith, count) in no)
 place_within (None ∷ runs) (place ∷ places) zero e count are at = absurd (none-some e at)

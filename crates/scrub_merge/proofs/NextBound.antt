@@ -14,7 +14,7 @@ use Rattle.scrub_run.specs.Entry.{EntryValue, IsBelow}
 use Rattle.scrub_run.specs.Run.{RisesById}
 use Rattle.scrub_merge.specs.Binding.{BindingValue, Runs, IsEntryOf, LostBefore, IsNewestBinding}
 use Rattle.scrub_merge.specs.ShardMap.{IsShardMap}
-use Rattle.scrub_merge.specs.Cursors.{id_cmp, has_locator, left, places_behind, first_of, IsLeast, IsFirstWith, AreEmpty, AreRising, IsBound, Continues}
+use Rattle.scrub_merge.specs.Cursors.{id_cmp, has_locator, ahead, places_past, first_of, IsLeast, IsFirstWith, AreEmpty, AreRising, IsBound, Continues}
 use Rattle.scrub_merge.proofs.Elements.{Contains-cases, Contains-behind}
 use Rattle.scrub_merge.proofs.Identifiers.{id_cmp_total, same_id, itself, not_below_itself, not_less}
 use Rattle.scrub_merge.proofs.Maps.{entry_of, one_newest}
@@ -240,12 +240,12 @@ some_length n h same none = grind (arith, nat_tests)
 
 -- ---- the step of the merge, and its end
 
-pub continues_step : (runs : Runs) (places : List ℕ) (id : ShardId) (old new : List BindingValue) → length places ≡ length runs → AreRising runs → IsLeast (left runs places) id →
-    IsBound (left runs places) id old new → Continues runs (left runs places) old → Continues runs (left runs (places_behind id runs places)) new
+pub continues_step : (runs : Runs) (places : List ℕ) (id : ShardId) (old new : List BindingValue) → length places ≡ length runs → AreRising runs → IsLeast (ahead runs places) id →
+    IsBound (ahead runs places) id old new → Continues runs (ahead runs places) old → Continues runs (ahead runs (places_past id runs places)) new
 continues_step runs places id old new count rising least bound so_far later map =
     let next : List BindingValue = filter has_locator (bound.binding ∷ []) in
     let whole : IsShardMap runs (old ++ (next ++ later)) =
-    so_far (next ++ later) (next_bound (left runs places) id bound.binding later (rising_left runs places rising) least bound.newest bound.own (rw (left_behind id runs places count) at map)) in
+    so_far (next ++ later) (next_bound (ahead runs places) id bound.binding later (rising_left runs places rising) least bound.newest bound.own (rw (left_behind id runs places count) at map)) in
     rw (bound.appended, append_assoc) whole
 
 pub continues_end : (runs rest : Runs) (bindings : List BindingValue) → AreEmpty rest → Continues runs rest bindings → IsShardMap runs bindings

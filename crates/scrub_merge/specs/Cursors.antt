@@ -33,20 +33,20 @@ has_id id None = false
 has_id id (Some e) = is_eq (id_cmp e.id id)
 
 -- what each run has from the place of its cursor on
-abbrev pub left : Runs → List ℕ → Runs
-left [] places = []
-left (run ∷ runs) [] = run ∷ left runs []
-left (run ∷ runs) (place ∷ places) = option_map (drop place) run ∷ left runs places
+abbrev pub ahead : Runs → List ℕ → Runs
+ahead [] places = []
+ahead (run ∷ runs) [] = run ∷ ahead runs []
+ahead (run ∷ runs) (place ∷ places) = option_map (drop place) run ∷ ahead runs places
 
 -- where the cursor of a run stands once it was moved on past an identifier
-abbrev pub place_behind : ShardId → Option (List EntryValue) → ℕ → ℕ
-place_behind id run place = cond (has_id id (entry_at run place)) (place + 1) place
+abbrev pub place_past : ShardId → Option (List EntryValue) → ℕ → ℕ
+place_past id run place = cond (has_id id (entry_at run place)) (place + 1) place
 
 -- where all of them stand then
-abbrev pub places_behind : ShardId → Runs → List ℕ → List ℕ
-places_behind id [] places = places
-places_behind id (run ∷ runs) [] = []
-places_behind id (run ∷ runs) (place ∷ places) = place_behind id run place ∷ places_behind id runs places
+abbrev pub places_past : ShardId → Runs → List ℕ → List ℕ
+places_past id [] places = places
+places_past id (run ∷ runs) [] = []
+places_past id (run ∷ runs) (place ∷ places) = place_past id run place ∷ places_past id runs places
 
 -- the entry that stands first in the run of this number
 abbrev pub first_of : Runs → ℕ → Option EntryValue

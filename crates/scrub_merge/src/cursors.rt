@@ -8,7 +8,7 @@ ghost use Rattle.std.specs.BinaryHeap.{IsHeap, KeepsHeap, heap_items};
 ghost use Rattle.scrub_run.specs.Entry.{IsBelow};
 ghost use Rattle.scrub_run.specs.Run.{AreEntries};
 ghost use Rattle.scrub_merge.specs.ShardMap.{AreRuns};
-ghost use Rattle.scrub_merge.specs.Cursors.{entry_at, left, places_behind, under_by, under_cmp, IsLeast, IsHeapOf, IsHeapBut};
+ghost use Rattle.scrub_merge.specs.Cursors.{entry_at, ahead, places_past, under_by, under_cmp, IsLeast, IsHeapOf, IsHeapBut};
 
 use crate::under::Under;
 use scrub_run::{Entry, OutOfMemory, Run, ShardId};
@@ -34,7 +34,8 @@ fn push_under(
     number: usize,
     place: usize,
 ) -> Result<(), OutOfMemory>
-    ensures pushed { OnOk result (IsPermutation (cons_option (option_map (under_by number) (entry_at run.now place)) (heap_items heap.old)) (heap_items heap.new)) }
+    ensures pushed { OnOk result (IsPermutation (cons_option (option_map (under_by number) (entry_at run.now place)) (heap_items heap.old))
+        (heap_items heap.new)) }
     ensures order { OnOk result (KeepsHeap under_cmp (heap_items heap.old) (heap_items heap.new)) }
     ensures run { IfSome run.now AreEntries }
 {
@@ -87,9 +88,9 @@ fn move_one(
     requires count { length places.old ≡ length runs.now }
     requires within { number < length runs.now }
     requires place { slice_index places.old number < 2 ^ 32 }
-    requires heap { IsHeapBut number (left runs.now places.old) (heap_items heap.old) }
+    requires heap { IsHeapBut number (ahead runs.now places.old) (heap_items heap.old) }
     ensures moved { OnOk result (places.new ≡ slice_set places.old number (slice_index places.old number + 1)) }
-    ensures heap { OnOk result (IsHeapOf (left runs.now places.new) (heap_items heap.new)) }
+    ensures heap { OnOk result (IsHeapOf (ahead runs.now places.new) (heap_items heap.new)) }
 {
     let place = places[number] + 1;
     places[number] = place;
@@ -106,10 +107,10 @@ pub(crate) fn move_on(
     requires few { length runs.now < 2 ^ 32 }
     requires runs { AreRuns runs.now }
     requires count { length places.old ≡ length runs.now }
-    requires heap { IsHeapOf (left runs.now places.old) (heap_items heap.old) }
-    requires least { IsLeast (left runs.now places.old) id }
-    ensures moved { OnOk result (places.new ≡ places_behind id runs.now places.old) }
-    ensures heap { OnOk result (IsHeapOf (left runs.now places.new) (heap_items heap.new)) }
+    requires heap { IsHeapOf (ahead runs.now places.old) (heap_items heap.old) }
+    requires least { IsLeast (ahead runs.now places.old) id }
+    ensures moved { OnOk result (places.new ≡ places_past id runs.now places.old) }
+    ensures heap { OnOk result (IsHeapOf (ahead runs.now places.new) (heap_items heap.new)) }
 {
     while let Some(next) = pop_with(heap, id) {
         move_one(runs, places, heap, next.number)?;

@@ -4,7 +4,7 @@
 
 ghost use Rattle.std.specs.Prelude.{◌≡◌, List, ◌<◌, ◌≤◌, ◌^◌, ◌↔◌, IsTrue, IfOk, OnOk, length};
 ghost use Rattle.scrub_merge.specs.Binding.{BindingValue, Runs, LostBefore};
-ghost use Rattle.scrub_merge.specs.Cursors.{left, IsLeast, IsFirstWith, IsBound, AreRising};
+ghost use Rattle.scrub_merge.specs.Cursors.{ahead, IsLeast, IsFirstWith, IsBound, AreRising};
 ghost use Rattle.scrub_merge.specs.ShardMap.{AreRuns, IsShardMap};
 
 use crate::binding::Binding;
@@ -46,9 +46,9 @@ fn bind_newest(
     requires few { length runs.now < 2 ^ 32 }
     requires places { length places.now ≡ length runs.now }
     requires rising { AreRising runs.now }
-    requires least { IsLeast (left runs.now places.now) least.now.id }
-    requires newest { IsFirstWith (left runs.now places.now) least.now.id least.now.number }
-    ensures { OnOk result (IsBound (left runs.now places.now) least.now.id bindings.old.items bindings.new.items) }
+    requires least { IsLeast (ahead runs.now places.now) least.now.id }
+    requires newest { IsFirstWith (ahead runs.now places.now) least.now.id least.now.number }
+    ensures { OnOk result (IsBound (ahead runs.now places.now) least.now.id bindings.old.items bindings.new.items) }
 {
     let number = least.number;
     let Some(entry) = entry_under(&runs[number], places[number]) else {

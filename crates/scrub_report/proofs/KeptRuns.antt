@@ -1,18 +1,14 @@
 -- What is kept of the runs tells of them what the report tells.
-use Rattle.std.proofs.Common.{◌≡◌, ◌&&◌, ◌++◌, ◌∷◌, [], ℕ, Bool, List, Option, Some, None, codes, is_some, length, map, refl, ap, ap₂, ◌∙◌, sym}
+use Rattle.std.proofs.Common.{◌≡◌, ◌&&◌, ◌++◌, ◌∷◌, [], ℕ, Bool, List, Option, Some, None, codes, is_some, length, map, refl, ap, ap₂, ◌∙◌}
 use Rattle.std.specs.List.{list_all}
-use Rattle.std.specs.Prelude.{option_map}
-use Rattle.std.proofs.lemmas.List.{length-map}
 use Rattle.serde_json.specs.Written.{compact_text}
-use Rattle.scrub_disk.specs.Image.{Image}
-use Rattle.scrub_run.specs.Entry.{EntryValue}
 use Rattle.scrub_merge.specs.Binding.{Runs}
 use Rattle.scrub_check.specs.declared.runs.RunState.{RunState}
 use Rattle.scrub_check.specs.Chunks.{orphans}
 use Rattle.scrub_check.specs.Runs.{ReadRunsValue}
 use Rattle.scrub_report.specs.declared.parts.Parts.{Parts}
 use Rattle.scrub_report.specs.Json.{list, natural, with_keys}
-use Rattle.scrub_report.specs.Parts.{AreKeptOf, ArePartsOf, found_in, is_clean_kept}
+use Rattle.scrub_report.specs.Parts.{AreKeptOf, found_in, is_clean_kept}
 use Rattle.scrub_report.specs.Report.{entry_counts, numbers_data, place_data, report_text, runs_data}
 use Rattle.scrub_report.specs.Scrubbed.{is_clean, is_clean_choice, is_clean_extent, is_clean_list}
 use Rattle.scrub_report.specs.Tokens.{extent_keys, first_keys, kept_text, last_keys}
@@ -40,12 +36,3 @@ module _ {D : Type 0} {s : _} (p : Parts D s) (read : ReadRunsValue) (kept : Are
       (codes "retired", numbers_data p.plan.retired) ∷
       (codes "runs", runs_data p.plan.runs entries states) ∷
       (codes "shards", natural (length p.map)) ∷ []) ++ last_keys p)))) ++ 10 ∷ []) kept.entries_are kept.states_are
-
-module _ {D : Type 0} {s : _} (image : Image) (p : Parts D s) (are : ArePartsOf image p) where
-  -- a number and a state for each run that the plan names
-  pub entries_beside : length p.entries.items ≡ length p.plan.runs
-  entries_beside = ap length are.kept.entries_are ∙ length-map are.read.runs (λ (r : Option (List EntryValue)). option_map length r) ∙ are.scrubbed.read.count
-
-  pub states_beside : length p.states.items ≡ length p.entries.items
-  states_beside =
-      ap length are.kept.states_are ∙ are.counted.same ∙ sym (ap length are.kept.entries_are ∙ length-map are.read.runs (λ (r : Option (List EntryValue)). option_map length r))

@@ -1,8 +1,9 @@
 -- What a scrub answers of a disk.
-use Rattle.std.specs.Prelude.{◌≡◌, ℕ, List, Bool}
+use Rattle.std.specs.Prelude.{◌≡◌, ℕ, List, Bool, length}
 use Rattle.scrub_disk.specs.Image.{Image}
 use Rattle.scrub_super.specs.Chosen.{Choice, IsChoice}
 use Rattle.scrub_super.specs.Plan.{PlanValue, IsPlanOf}
+use Rattle.scrub_pool.specs.Takings.{IsPartition}
 use Rattle.scrub_report.specs.Scrubbed.{IsCleanImage}
 use Rattle.scrub_report.specs.Report.{IsReport}
 use Rattle.scrub_report.specs.Index.{IsIndex}
@@ -26,3 +27,11 @@ pub record ArePlannedExtents (image : Image) (planned : List ℕ) : Type 0 where
   pub chosen : IsChoice image choice
   pub follows : IsPlanOf choice plan
   pub are : planned ≡ plan.planned
+
+-- each extent that is planned on the image is in one of these lists, once
+abbrev pub IsPartitionOfPlanned : Image → List (List ℕ) → Type 0
+IsPartitionOfPlanned image lists = (planned : List ℕ) × ArePlannedExtents image planned × IsPartition planned lists
+
+-- so many extents are planned on the image
+abbrev pub IsCountOfPlanned : Image → ℕ → Type 0
+IsCountOfPlanned image count = (planned : List ℕ) × ArePlannedExtents image planned × (count ≡ length planned)

@@ -1,15 +1,17 @@
 //! What a scrub answers, and the whole scrub of a disk, by one reader or by many workers.
 
-ghost use Rattle.std.specs.Prelude.{◌≡◌, ◌+◌, ◌≤◌, ℕ, List, length, IfOk};
+ghost use Rattle.std.specs.Prelude.{◌≡◌, ◌+◌, ◌<◌, ◌≤◌, ◌^◌, ℕ, All, List, length, IfOk};
 ghost use Rattle.scrub_disk.specs.Image.{Image};
-ghost use Rattle.scrub_run.specs.Run.{IsRun};
-ghost use Rattle.scrub_pool.specs.Takings.{IsPartition};
-ghost use Rattle.scrub_report.specs.Answer.{AnswerValue, IsScrubAnswer, ArePlannedExtents};
+ghost use Rattle.scrub_run.specs.Run.{IsRun, run_bytes};
+ghost use Rattle.scrub_check.specs.Checked.{AreBrokenShards};
+ghost use Rattle.scrub_report.specs.Answer.{AnswerValue, IsScrubAnswer, ArePlannedExtents, IsPartitionOfPlanned, IsCountOfPlanned};
 ghost use Rattle.scrub_report.specs.Index.{IsIndex, index_entries};
 ghost use Rattle.scrub_report.specs.Parts.{IsScan};
 ghost use Rattle.scrub_report.specs.Scrubbed.{IsScrubbed, Scrubbed};
+ghost use Rattle.scrub_report.specs.Tokens.{kept_text};
 
 use crate::index::index_bytes;
+use crate::parts::Parts;
 use crate::report::report_text;
 use crate::scanning::{Scan, scan_by, scan_by_one};
 use crate::scrubbing::{is_clean, parts_of};
@@ -18,7 +20,7 @@ use scrub_pool::{Gate, PoolFault, Takings};
 use std::alloc::Global;
 use std::marker::Model;
 use std::sync::Wait;
-use std::thread::Threads;
+use std::thread::{Threads, join_mut};
 
 /// Why a scrub has no answer.
 #[derive(Debug, Clone, Copy, PartialEq, Eq)]
@@ -92,6 +94,39 @@ impl ScrubAnswer {
     }
 }
 
+/// The bytes of the recovered index, made on a thread of their own, and the text of the report, at the same time.
+fn index_and_report<R: Threads + Sync, D: PageSource>(
+    rt: &R,
+    alloc: Global,
+    parts: &Parts<'_, D>,
+    is_clean: bool,
+) -> Result<(Vec<u8>, Vec<u8>), OutOfMemory>
+    requires broken { AreBrokenShards parts.now.checked.items parts.now.broken.items }
+    requires few { All (λ b. length b.locators ≤ 64) parts.now.map }
+    requires count { length parts.now.map < 2 ^ 32 }
+    requires entries { length parts.now.entries.items ≡ length parts.now.plan.runs }
+    requires states { length parts.now.states.items ≡ length parts.now.entries.items }
+    ensures index { IfOk result (λ r. r.0.items ≡ run_bytes (index_entries parts.now.checked.items parts.now.map)) }
+    ensures report { IfOk result (λ r. r.1.items ≡ kept_text parts.now is_clean) }
+{
+    let (index, report) = join_mut(
+        rt,
+        &mut || -> Result<Vec<u8>, OutOfMemory>
+            requires broken { AreBrokenShards parts.now.checked.items parts.now.broken.items }
+            requires few { All (λ b. length b.locators ≤ 64) parts.now.map }
+            requires count { length parts.now.map < 2 ^ 32 }
+            ensures index { IfOk result (λ bytes.
+                bytes.items ≡ run_bytes (index_entries parts.entry.now.checked.items parts.entry.now.map)) }
+        { index_bytes(alloc, parts.map.bindings(), &parts.checked, &parts.broken) },
+        &mut || -> Result<Vec<u8>, OutOfMemory>
+            requires entries { length parts.now.entries.items ≡ length parts.now.plan.runs }
+            requires states { length parts.now.states.items ≡ length parts.now.entries.items }
+            ensures report { IfOk result (λ text. text.items ≡ kept_text parts.entry.now is_clean) }
+        { report_text(alloc, parts, is_clean) },
+    );
+    Ok((index?, report?))
+}
+
 /// The answer of a scrub, from what was chosen, planned and scanned.
 fn answer_of<R: Threads + Sync, D: PageSource>(
     rt: &R,
@@ -102,9 +137,8 @@ fn answer_of<R: Threads + Sync, D: PageSource>(
     ensures { IfOk result (IsScrubAnswer (D.image scan.entry.disk.now)) }
 {
     let parts = parts_of(rt, alloc, scan)?;
-    let index = index_bytes(alloc, parts.map.bindings(), &parts.checked, &parts.broken)?;
     let is_clean = is_clean(&parts);
-    let report = report_text(alloc, &parts, is_clean)?;
+    let (index, report) = index_and_report(rt, alloc, &parts, is_clean)?;
     Ok(ScrubAnswer {
         report,
         index,
@@ -139,8 +173,8 @@ pub fn scrub<D: PageSource, G: Gate, R: Threads + Wait + Sync>(
     requires { workers ≤ 64 }
     ensures answer { IfOk result (λ r. IsScrubAnswer (D.image disk.now) r.0) }
     ensures workers { IfOk result (λ r. length r.1.lists ≡ workers + 1) }
-    ensures partition { IfOk result (λ r. (planned : List ℕ) × ArePlannedExtents (D.image disk.now) planned × IsPartition planned r.1.lists) }
-    ensures counted { IfOk result (λ r. (planned : List ℕ) × ArePlannedExtents (D.image disk.now) planned × (r.1.counted ≡ length planned)) }
+    ensures partition { IfOk result (λ r. IsPartitionOfPlanned (D.image disk.now) r.1.lists) }
+    ensures counted { IfOk result (λ r. IsCountOfPlanned (D.image disk.now) r.1.counted) }
 {
     let (scan, takings) = scan_by(rt, alloc, disk, workers, gate)?;
     let answer = answer_of(rt, alloc, scan)?;
@@ -149,7 +183,8 @@ pub fn scrub<D: PageSource, G: Gate, R: Threads + Wait + Sync>(
 
 /// A law: an image has one list of planned extents.
 pub fn one_list_of_planned_extents()
-    ensures { (image : Image) (planned others : List ℕ) → ArePlannedExtents image planned → ArePlannedExtents image others → planned ≡ others }
+    ensures { (image : Image) (planned others : List ℕ) → ArePlannedExtents image planned → ArePlannedExtents image others →
+        planned ≡ others }
 {}
 
 /// A law: the recovered index is one index run, whole: that of the shards of the map that aren't broken. So `read_run` reads

@@ -2,8 +2,7 @@
 
 ghost use Rattle.std.specs.Prelude.{◌≡◌, ◌+◌, ◌++◌, ◌≤◌, List, ℕ, IfOk, OnOk, length, string_bytes};
 ghost use Rattle.scrub_disk.specs.Image.{Image};
-ghost use Rattle.scrub_pool.specs.Takings.{IsPartition};
-ghost use Rattle.scrub_report.specs.Answer.{ArePlannedExtents};
+ghost use Rattle.scrub_report.specs.Answer.{IsPartitionOfPlanned, IsCountOfPlanned};
 ghost use Rattle.scrub_report.specs.Locators.{AreLocatorLines, locator_line, locator_lines, place_text};
 ghost use Rattle.scrub_report.specs.Parts.{IsScan};
 ghost use Rattle.scrub_report.specs.Scrubbed.{IsCleanImage};
@@ -120,8 +119,8 @@ pub fn list_locators<D: PageSource, G: Gate, R: Threads + Wait + Sync>(
     ensures text { IfOk result (λ r. AreLocatorLines (D.image disk.now) r.0.text.items) }
     ensures clean { IfOk result (λ r. IsCleanImage (D.image disk.now) r.0.is_clean) }
     ensures workers { IfOk result (λ r. length r.1.lists ≡ workers + 1) }
-    ensures partition { IfOk result (λ r. (planned : List ℕ) × ArePlannedExtents (D.image disk.now) planned × IsPartition planned r.1.lists) }
-    ensures counted { IfOk result (λ r. (planned : List ℕ) × ArePlannedExtents (D.image disk.now) planned × (r.1.counted ≡ length planned)) }
+    ensures partition { IfOk result (λ r. IsPartitionOfPlanned (D.image disk.now) r.1.lists) }
+    ensures counted { IfOk result (λ r. IsCountOfPlanned (D.image disk.now) r.1.counted) }
 {
     let (scan, takings) = scan_by(rt, alloc, disk, workers, gate)?;
     let listing = listing_of(rt, alloc, scan)?;

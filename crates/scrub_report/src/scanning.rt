@@ -1,8 +1,7 @@
 //! A disk that was chosen, planned and scanned, by one reader or by workers.
 
-ghost use Rattle.std.specs.Prelude.{◌≡◌, ◌+◌, ◌≤◌, ℕ, List, length, IfOk};
-ghost use Rattle.scrub_pool.specs.Takings.{IsPartition};
-ghost use Rattle.scrub_report.specs.Answer.{ArePlannedExtents};
+ghost use Rattle.std.specs.Prelude.{◌≡◌, ◌+◌, ◌≤◌, length, IfOk};
+ghost use Rattle.scrub_report.specs.Answer.{IsPartitionOfPlanned, IsCountOfPlanned};
 ghost use Rattle.scrub_report.specs.Parts.{IsScan};
 
 use crate::answer::ScrubFault;
@@ -58,8 +57,8 @@ pub(crate) fn scan_by<'d, D: PageSource, G: Gate, R: Threads + Wait + Sync>(
     ensures image { IfOk result (λ r. D.image r.0.disk.now ≡ D.image disk.now) }
     ensures scan { IfOk result (λ r. IsScan (D.image r.0.disk.now) r.0.chosen r.0.plan r.0.all.extents) }
     ensures workers { IfOk result (λ r. length r.1.lists ≡ workers + 1) }
-    ensures partition { IfOk result (λ r. (planned : List ℕ) × ArePlannedExtents (D.image disk.now) planned × IsPartition planned r.1.lists) }
-    ensures counted { IfOk result (λ r. (planned : List ℕ) × ArePlannedExtents (D.image disk.now) planned × (r.1.counted ≡ length planned)) }
+    ensures partition { IfOk result (λ r. IsPartitionOfPlanned (D.image disk.now) r.1.lists) }
+    ensures counted { IfOk result (λ r. IsCountOfPlanned (D.image disk.now) r.1.counted) }
 {
     let chosen = choose(alloc, disk)?;
     let plan = Plan::make(alloc, &chosen, disk.geometry())?;

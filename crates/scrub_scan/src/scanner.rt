@@ -43,7 +43,8 @@ pub(crate) struct Scanner {
 
 /// Whether a part begins with the magic of one of the forms.
 fn has_magic(part: &[u8]) -> bool
-    ensures found { IsTrue result → (2 ≤ length part.now) × ((f : Form) × (slice_index part.now 0 ∷ slice_index part.now 1 ∷ [] ≡ magic f)) }
+    ensures found { IsTrue result → (2 ≤ length part.now) ×
+        ((f : Form) × (slice_index part.now 0 ∷ slice_index part.now 1 ∷ [] ≡ magic f)) }
     ensures none { result ≡ false → 2 ≤ length part.now → (f : Form) → ¬ (slice_index part.now 0 ∷ slice_index part.now 1 ∷ [] ≡ magic f) }
 {
     part.len() >= 2 && Form::with_magic(part[0], part[1]).is_some()
@@ -55,7 +56,8 @@ fn readable_item(part: &[u8], start: u32, stop: u32) -> Item
     requires whole { start + length part.now ≡ stop }
     ensures start { start_of result ≡ start }
     ensures stop { stop_of result ≡ stop }
-    ensures item { (x : Extent) → start < x.pointer → stop ≡ bound x start → NoFrameAt x start → AreBytesAt x.byte start part.now → IsItem x result }
+    ensures item { (x : Extent) → start < x.pointer → stop ≡ bound x start → NoFrameAt x start →
+        AreBytesAt x.byte start part.now → IsItem x result }
 {
     if is_zero(part) {
         Item::Pad { start, stop }
@@ -120,7 +122,8 @@ impl Scanner {
             IfSome result (λ f. self.new.pages.asked ≤ n + 1 + frame_cost (start / target.now.page) (last_page target.now start f.form f.length)) }
         ensures asked_none { (n : ℕ) → AskedBy self.old.pages (start / target.now.page) n →
             IfNone result (self.new.pages.asked ≤ n + 4 + (D.image disk.now).geometry.pages) }
-        ensures read { HasRead self.old.pages (start / target.now.page) → HasRead self.new.pages (place_behind start result / target.now.page) }
+        ensures read { HasRead self.old.pages (start / target.now.page) →
+            HasRead self.new.pages (place_behind start result / target.now.page) }
     {
         self.pages
             .approach(disk, target.extent, (start / target.page) as u32);
@@ -138,7 +141,8 @@ impl Scanner {
         ensures start { start_of result ≡ start }
         ensures stop { stop_of result ≡ start + found.length + frame_overhead found.form }
         ensures item { (image : Image) → IsFound (target_of image target.now) start found → IsItem (target_of image target.now) result }
-        ensures near { self.old.pages.near.number ≡ Some (stop_of result / target.now.page) → self.new.pages.near.number ≡ Some (stop_of result / target.now.page) }
+        ensures near { self.old.pages.near.number ≡ Some (stop_of result / target.now.page) →
+            self.new.pages.near.number ≡ Some (stop_of result / target.now.page) }
         ensures asked { self.new.pages.asked ≡ self.old.pages.asked }
         ensures read { (n : ℕ) → HasRead self.old.pages n → HasRead self.new.pages n }
     {
@@ -192,7 +196,8 @@ impl Scanner {
         ensures claims { result ≡ true → Claims (target_of (D.image disk.now) target.now) start }
         ensures none { result ≡ false → NoFrameAt (target_of (D.image disk.now) target.now) start }
         ensures asked { self.new.pages.asked ≤ self.old.pages.asked + 4 }
-        ensures known { (f : Form) (u b : List ℕ) → FrameAt (target_of (D.image disk.now) target.now) start f u b → last_page target.now start f (length b) ≤ start / target.now.page →
+        ensures known { (f : Form) (u b : List ℕ) → FrameAt (target_of (D.image disk.now) target.now) start f u b →
+            last_page target.now start f (length b) ≤ start / target.now.page →
             self.old.pages.near.number ≡ Some (start / target.now.page) → self.new.pages.asked ≡ self.old.pages.asked }
         ensures read { (n : ℕ) → HasRead self.old.pages n → HasRead self.new.pages n }
     {
@@ -252,7 +257,8 @@ impl Scanner {
         ensures found { result ≡ true → AreBytesAt (target_of (D.image disk.now) target.now).byte place wanted.now }
         ensures none { result ≡ false → ¬ AreBytesAt (target_of (D.image disk.now) target.now).byte place wanted.now }
         ensures asked { self.new.pages.asked ≤ self.old.pages.asked + 2 }
-        ensures known { self.old.pages.near.number ≡ Some (place / target.now.page) → place + length wanted.now ≤ (place / target.now.page + 1) * target.now.page →
+        ensures known { self.old.pages.near.number ≡ Some (place / target.now.page) →
+            place + length wanted.now ≤ (place / target.now.page + 1) * target.now.page →
             self.new.pages.asked ≡ self.old.pages.asked }
         ensures read { (n : ℕ) → HasRead self.old.pages n → HasRead self.new.pages n }
     {
@@ -279,7 +285,8 @@ impl Scanner {
         ensures filled { result ≡ true → AreBytesAt (target_of (D.image disk.now) target.now).byte place out.new }
         ensures gap { result ≡ false → HasGap (target_of (D.image disk.now) target.now).byte place (length out.old) }
         ensures asked { self.new.pages.asked ≤ self.old.pages.asked + 2 }
-        ensures known { self.old.pages.near.number ≡ Some (place / target.now.page) → place + length out.old ≤ (place / target.now.page + 1) * target.now.page →
+        ensures known { self.old.pages.near.number ≡ Some (place / target.now.page) →
+            place + length out.old ≤ (place / target.now.page + 1) * target.now.page →
             self.new.pages.asked ≡ self.old.pages.asked }
         ensures read { (n : ℕ) → HasRead self.old.pages n → HasRead self.new.pages n }
     {
@@ -316,7 +323,8 @@ impl Scanner {
             IfSome result (λ f. self.new.pages.asked ≤ self.old.pages.asked + (last_page target.now start f.form f.length - start / target.now.page)) }
         ensures asked_none { self.old.pages.near.number ≡ Some (start / target.now.page) →
             IfNone result (self.new.pages.asked < self.old.pages.asked + (D.image disk.now).geometry.pages) }
-        ensures read { HasRead self.old.pages (start / target.now.page) → HasRead self.new.pages (place_behind start result / target.now.page) }
+        ensures read { HasRead self.old.pages (start / target.now.page) →
+            HasRead self.new.pages (place_behind start result / target.now.page) }
     {
         self.matcher = Matcher::new((target.pointer - start) as u64);
         let mut place = start;

@@ -92,7 +92,8 @@ fn head_at<D: PageSource>(
 ) -> Result<Option<Head>, OutOfMemory>
     requires in_extents { extent < (D.image disk.now).geometry.extents }
     requires in_extent { start + head_size ≤ extent_bytes (D.image disk.now).geometry }
-    ensures found { IfOk result (λ found. IfSome found (λ h. AreBytesAt (byte (D.image disk.now) extent) start (head h.form h.uuid h.length))) }
+    ensures found { IfOk result (λ found. IfSome found (λ h.
+        AreBytesAt (byte (D.image disk.now) extent) start (head h.form h.uuid h.length))) }
     ensures none { IfOk result (λ found. IfNone found ((w : ℕ) → NoFrameAt (extent_of (D.image disk.now) extent w) start)) }
 {
     match read_bytes(alloc, disk, extent, start, HEAD_BYTES)? {

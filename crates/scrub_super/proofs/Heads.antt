@@ -10,7 +10,7 @@ use Rattle.byteorder.specs.Numbers.{big_from-lt}
 use Rattle.scrub_disk.specs.declared.geometry.Geometry.{Geometry}
 use Rattle.scrub_super.specs.Contents.{Contents}
 use Rattle.scrub_super.specs.Record.{digit_of, front_bytes, head_bytes, BeginsWithRecord}
-use Rattle.scrub_super.specs.RecordRead.{IsFront, IsHead, head_size}
+use Rattle.scrub_super.specs.RecordRead.{IsFront, IsHead, record_head_size}
 use Rattle.scrub_super.proofs.Parts.{AreBytes, AreBytes-drop, AreBytes-take}
 use Rattle.scrub_super.proofs.Records.{count_in, is_head, front_at, front_bytes-injective, record_parts}
 
@@ -64,14 +64,14 @@ digits (Some t) d e plain listing = listing (sym e)
 pub other_digit : (g : Geometry) (x y : List ℕ) (d n r : ℕ) (c : Contents) → IsFirstChunk x y 26 → IsFront g y d n r → d ≢ 0x31 → d ≢ 0x32 → BeginsWithRecord g x c → ⊥
 other_digit g x y d n r c first front plain listing b = digits (count_in c) d (digit_told g x y d n r c first front b) plain listing
 
-listing_size : (k : Option ℕ) → digit_of k ≢ 0x31 → head_size k ≡ 28
+listing_size : (k : Option ℕ) → digit_of k ≢ 0x31 → record_head_size k ≡ 28
 listing_size None other = absurd (other refl)
 listing_size (Some t) other = refl
 
 -- nor one that lists retired extents where the bytes end before their number does
 pub no_number : (g : Geometry) (x y : List ℕ) (d n r : ℕ) (c : Contents) → IsFirstChunk x y 26 → IsFront g y d n r → d ≢ 0x31 → length x < 28 → BeginsWithRecord g x c → ⊥
 no_number g x y d n r c first front other short b =
-    let long : head_size (count_in c) ≡ 28 = listing_size (count_in c) (λ e. other (sym (digit_told g x y d n r c first front b) ∙ e)) in
+    let long : record_head_size (count_in c) ≡ 28 = listing_size (count_in c) (λ e. other (sym (digit_told g x y d n r c first front b) ∙ e)) in
     omega (arith, (record_parts g x c b).enough, long, short)
 
 -- a head with a list is written in two parts

@@ -25,7 +25,7 @@ use Rattle.scrub_super.specs.declared.head.Head.{Head}
 use Rattle.scrub_super.specs.Contents.{Contents, retired_in}
 use Rattle.scrub_super.specs.Planned.{AreRetired}
 use Rattle.scrub_super.specs.Record.{digit_of, front_bytes, count_bytes, head_bytes, record_body, record_bytes, ArePointers, AreRunLocators, AreContents, BeginsWithRecord}
-use Rattle.scrub_super.specs.RecordRead.{IsFront, body_size, head_size, retired_count, IsHead, AreCuts, BeginsWithSome, number_in, SpellExtents}
+use Rattle.scrub_super.specs.RecordRead.{IsFront, body_size, record_head_size, retired_count, IsHead, AreCuts, BeginsWithSome, number_in, SpellExtents}
 use Rattle.scrub_super.proofs.Parts.{AreBytes, AreBytes-drop, AreBytes-take, values, length-values, get_or-values, flat_map-values, part-flat_map}
 use Rattle.scrub_super.proofs.Cuts.{AreParts, parts_of, whole_of, body_of, four_parts}
 
@@ -43,20 +43,20 @@ front_bytes-injective g c d n m r s hn hm hr hs e = (
   sym (runs_read c g n r hr) ∙ ap (λ x. big_number 2 (drop 24 x)) e ∙ runs_read d g m s hs,
 )
 
-length_head : (g : Geometry) (n r : ℕ) (k : Option ℕ) → length (head_bytes g n r k) ≡ head_size k
+length_head : (g : Geometry) (n r : ℕ) (k : Option ℕ) → length (head_bytes g n r k) ≡ record_head_size k
 length_head g n r None = refl
 length_head g n r (Some t) = refl
 
-pub head_sizes : (k : Option ℕ) → head_size k ≤ 28
+pub head_sizes : (k : Option ℕ) → record_head_size k ≤ 28
 head_sizes None = omega arith
 head_sizes (Some t) = omega arith
 
 -- the front of the bytes that begin with a head
-pub front_at : (g : Geometry) (x : List ℕ) (n r : ℕ) (k : Option ℕ) → take (head_size k) x ≡ head_bytes g n r k → take 26 x ≡ front_bytes (digit_of k) g n r
+pub front_at : (g : Geometry) (x : List ℕ) (n r : ℕ) (k : Option ℕ) → take (record_head_size k) x ≡ head_bytes g n r k → take 26 x ≡ front_bytes (digit_of k) g n r
 front_at g x n r k e =
-    sym (take-take 26 (head_size k) x (front_fits k)) ∙ ap (take 26) e ∙ take_at (front_bytes (digit_of k) g n r) (count_bytes k) 26 refl
+    sym (take-take 26 (record_head_size k) x (front_fits k)) ∙ ap (take 26) e ∙ take_at (front_bytes (digit_of k) g n r) (count_bytes k) 26 refl
   where
-    front_fits : (o : Option ℕ) → 26 ≤ head_size o
+    front_fits : (o : Option ℕ) → 26 ≤ record_head_size o
     front_fits None = omega arith
     front_fits (Some t) = omega arith
 
@@ -65,7 +65,7 @@ pub retired_read : (g : Geometry) (n r t : ℕ) → t < 2 ^ 16 → big_number 2 
 retired_read g n r t h = big_number-reads_back 2 t [] h
 
 one_count : (g : Geometry) (x : List ℕ) (n m r s : ℕ) (k j : Option ℕ) → retired_count k < 2 ^ 16 → retired_count j < 2 ^ 16 → digit_of k ≡ digit_of j →
-    take (head_size k) x ≡ head_bytes g n r k → take (head_size j) x ≡ head_bytes g m s j → k ≡ j
+    take (record_head_size k) x ≡ head_bytes g n r k → take (record_head_size j) x ≡ head_bytes g m s j → k ≡ j
 one_count g x n m r s None None hk hj d e f = refl
 one_count g x n m r s None (Some u) hk hj d e f = absurd (let no : ⊥ = omega (arith, d) in no)
 one_count g x n m r s (Some t) None hk hj d e f = absurd (let no : ⊥ = omega (arith, d) in no)
@@ -73,7 +73,7 @@ one_count g x n m r s (Some t) (Some u) hk hj d e f =
     ap Some (sym (retired_read g n r t hk) ∙ ap (λ y. big_number 2 (drop 26 y)) (sym e ∙ f) ∙ retired_read g m s u hj)
 
 -- bytes begin with one head at most
-pub one_head : (g : Geometry) (x : List ℕ) (n m r s : ℕ) (k j : Option ℕ) → IsHead g (take (head_size k) x) n r k → IsHead g (take (head_size j) x) m s j → (n ≡ m) × (r ≡ s) × (k ≡ j)
+pub one_head : (g : Geometry) (x : List ℕ) (n m r s : ℕ) (k j : Option ℕ) → IsHead g (take (record_head_size k) x) n r k → IsHead g (take (record_head_size j) x) m s j → (n ≡ m) × (r ≡ s) × (k ≡ j)
 one_head g x n m r s k j h i =
     let same = front_bytes-injective g (digit_of k) (digit_of j) n m r s h.fits i.fits h.few i.few (sym (front_at g x n r k h.spelled) ∙ front_at g x m s j i.spelled) in
     (same.1, same.2, one_count g x n m r s k j h.small i.small same.0 h.spelled i.spelled)
@@ -118,7 +118,7 @@ few_runs s head is few = rw is few
 abbrev pub AreRecordParts : Geometry → List ℕ → Contents → Type 0
 AreRecordParts g x c =
     AreParts x (head_bytes g c.generation (length c.runs) (count_in c)) (flat_map (big_bytes 4) c.pointers) (flat_map (big_bytes 4) (retired_in c)) (flat_map locator_bytes c.runs)
-    (sha256 (record_body g c)) (head_size (count_in c)) (4 * (g.extents - 1)) (4 * retired_count (count_in c)) (60 * length c.runs)
+    (sha256 (record_body g c)) (record_head_size (count_in c)) (4 * (g.extents - 1)) (4 * retired_count (count_in c)) (60 * length c.runs)
 
 length_pointers : (g : Geometry) (ws : List ℕ) → ArePointers g ws → length (flat_map (big_bytes 4) ws) ≡ 4 * (g.extents - 1)
 length_pointers g ws h = omega (arith, length-flat_map_of (big_bytes 4) 4 ws (λ k d hk. refl), h.count)
@@ -132,20 +132,20 @@ length_runs rs h = length-locators rs h.each
 pub record_parts : (g : Geometry) (x : List ℕ) (c : Contents) → BeginsWithRecord g x c → AreRecordParts g x c
 record_parts g x c h =
     parts_of x (head_bytes g c.generation (length c.runs) (count_in c)) (flat_map (big_bytes 4) c.pointers) (flat_map (big_bytes 4) (retired_in c)) (flat_map locator_bytes c.runs)
-    (sha256 (record_body g c)) h.rest (head_size (count_in c)) (4 * (g.extents - 1)) (4 * retired_count (count_in c)) (60 * length c.runs)
+    (sha256 (record_body g c)) h.rest (record_head_size (count_in c)) (4 * (g.extents - 1)) (4 * retired_count (count_in c)) (60 * length c.runs)
     (length_head g c.generation (length c.runs) (count_in c)) (length_pointers g c.pointers h.contents.pointers) (length_retired c.retired) (length_runs c.runs h.contents.runs)
     (length-sha256 (record_body g c)) h.spelled
 
 -- how many bytes stand before the digest, of some contents and of a head that tells as much
 abbrev pub digest_place : Geometry → ℕ → Option ℕ → ℕ
-digest_place g r k = head_size k + 4 * (g.extents - 1) + 4 * retired_count k + 60 * r
+digest_place g r k = record_head_size k + 4 * (g.extents - 1) + 4 * retired_count k + 60 * r
 
 pub record_of_parts : (g : Geometry) (x : List ℕ) (c : Contents) → AreContents g c → AreRecordParts g x c → BeginsWithRecord g x c
 record_of_parts g x c contents h = record {
   contents = contents;
   rest = drop (digest_place g (length c.runs) (count_in c) + 32) x;
   spelled = whole_of x (head_bytes g c.generation (length c.runs) (count_in c)) (flat_map (big_bytes 4) c.pointers) (flat_map (big_bytes 4) (retired_in c)) (flat_map locator_bytes c.runs)
-      (sha256 (record_body g c)) (head_size (count_in c)) (4 * (g.extents - 1)) (4 * retired_count (count_in c)) (60 * length c.runs) h;
+      (sha256 (record_body g c)) (record_head_size (count_in c)) (4 * (g.extents - 1)) (4 * retired_count (count_in c)) (60 * length c.runs) h;
 }
 
 -- the digest stands behind what it is taken of
@@ -154,10 +154,10 @@ pub body_of_record : (g : Geometry) (x : List ℕ) (c : Contents) → BeginsWith
 body_of_record g x c h =
     let parts : AreRecordParts g x c = record_parts g x c h in
     parts.digest_is ∙ ap sha256 (sym (body_of x (head_bytes g c.generation (length c.runs) (count_in c)) (flat_map (big_bytes 4) c.pointers) (flat_map (big_bytes 4) (retired_in c)) (flat_map locator_bytes c.runs)
-    (sha256 (record_body g c)) (head_size (count_in c)) (4 * (g.extents - 1)) (4 * retired_count (count_in c)) (60 * length c.runs)
+    (sha256 (record_body g c)) (record_head_size (count_in c)) (4 * (g.extents - 1)) (4 * retired_count (count_in c)) (60 * length c.runs)
     (length_head g c.generation (length c.runs) (count_in c)) (length_pointers g c.pointers h.contents.pointers) (length_retired c.retired) (length_runs c.runs h.contents.runs) parts))
 
-pub is_head : (g : Geometry) (x : List ℕ) (c : Contents) → BeginsWithRecord g x c → IsHead g (take (head_size (count_in c)) x) c.generation (length c.runs) (count_in c)
+pub is_head : (g : Geometry) (x : List ℕ) (c : Contents) → BeginsWithRecord g x c → IsHead g (take (record_head_size (count_in c)) x) c.generation (length c.runs) (count_in c)
 is_head g x c b = record {
   fits = b.contents.generation;
   few = b.contents.runs.count;
@@ -166,7 +166,7 @@ is_head g x c b = record {
 }
 
 -- the head that bytes begin with is that of the record
-pub record_head : (g : Geometry) (x : List ℕ) (n r : ℕ) (k : Option ℕ) (c : Contents) → IsHead g (take (head_size k) x) n r k → BeginsWithRecord g x c →
+pub record_head : (g : Geometry) (x : List ℕ) (n r : ℕ) (k : Option ℕ) (c : Contents) → IsHead g (take (record_head_size k) x) n r k → BeginsWithRecord g x c →
     (c.generation ≡ n) × (length c.runs ≡ r) × (count_in c ≡ k)
 record_head g x n r k c h b = one_head g x c.generation n (length c.runs) r (count_in c) k (is_head g x c b) h
 
@@ -200,18 +200,18 @@ one_record_lem g x c d h k =
     let heads = record_head g x d.generation (length d.runs) (count_in d) c (is_head g x d k) h in
     let p : AreRecordParts g x c = record_parts g x c h in
     let q : AreRecordParts g x d = record_parts g x d k in
-    let places : head_size (count_in c) ≡ head_size (count_in d) = ap head_size heads.2 in
+    let places : record_head_size (count_in c) ≡ record_head_size (count_in d) = ap record_head_size heads.2 in
     let pointers : c.pointers ≡ d.pointers =
     flat_map-injective (big_bytes 4) (λ w. w < 2 ^ 32) 4 c.pointers d.pointers (λ w hw. refl) bytes-injective (small_pointers g c.pointers h.contents.pointers) (small_pointers g d.pointers k.contents.pointers)
     (omega (arith, h.contents.pointers.count, k.contents.pointers.count))
     (sym p.pointers_are ∙ ap (λ a. take (4 * (g.extents - 1)) (drop a x)) places ∙ q.pointers_are) in
     let retired : c.retired ≡ d.retired =
     same_listed c.retired d.retired heads.2 (small_listed g c.retired h.contents.retired) (small_listed g d.retired k.contents.retired)
-    (sym p.retired_are ∙ ap (λ o. take (4 * retired_count o) (drop (head_size o + 4 * (g.extents - 1)) x)) heads.2 ∙ q.retired_are) in
+    (sym p.retired_are ∙ ap (λ o. take (4 * retired_count o) (drop (record_head_size o + 4 * (g.extents - 1)) x)) heads.2 ∙ q.retired_are) in
     let runs : c.runs ≡ d.runs =
     same_locators c.runs d.runs h.contents.runs.each k.contents.runs.each heads.1
-    (sym p.runs_are ∙ ap (λ r. take (60 * r) (drop (head_size (count_in c) + 4 * (g.extents - 1) + 4 * retired_count (count_in c)) x)) heads.1
-    ∙ ap (λ o. take (60 * length d.runs) (drop (head_size o + 4 * (g.extents - 1) + 4 * retired_count o) x)) heads.2 ∙ q.runs_are) in
+    (sym p.runs_are ∙ ap (λ r. take (60 * r) (drop (record_head_size (count_in c) + 4 * (g.extents - 1) + 4 * retired_count (count_in c)) x)) heads.1
+    ∙ ap (λ o. take (60 * length d.runs) (drop (record_head_size o + 4 * (g.extents - 1) + 4 * retired_count o) x)) heads.2 ∙ q.runs_are) in
     same_contents c d heads.0 pointers retired runs
 
 -- no record stands where no front does
@@ -222,26 +222,26 @@ no_front g x y c first none b =
     (record { fits = head.fits; few = head.few; spelled = rw first.same (front_at g x c.generation (length c.runs) (count_in c) head.spelled) })
 
 -- nor where the bytes end before the digest does
-pub too_short : (g : Geometry) (x : List ℕ) (n r : ℕ) (k : Option ℕ) (e : ℕ) (c : Contents) → IsHead g (take (head_size k) x) n r k → e ≡ digest_place g r k →
+pub too_short : (g : Geometry) (x : List ℕ) (n r : ℕ) (k : Option ℕ) (e : ℕ) (c : Contents) → IsHead g (take (record_head_size k) x) n r k → e ≡ digest_place g r k →
     length x < e + 32 → BeginsWithRecord g x c → ⊥
 too_short g x n r k e c h he short b =
     let heads = record_head g x n r k c h b in
     omega (arith, rw (heads.2, heads.1) at ((record_parts g x c b).enough), he, short)
 
 -- where a head tells that they stand, the bytes spell the write pointers and the retired extents
-pointers_part : (g : Geometry) (x : List ℕ) (n r : ℕ) (k : Option ℕ) (cuts : Cuts) (c : Contents) → IsHead g (take (head_size k) x) n r k → AreCuts g r k cuts → BeginsWithRecord g x c →
+pointers_part : (g : Geometry) (x : List ℕ) (n r : ℕ) (k : Option ℕ) (cuts : Cuts) (c : Contents) → IsHead g (take (record_head_size k) x) n r k → AreCuts g r k cuts → BeginsWithRecord g x c →
     take (cuts.retired - cuts.pointers) (drop cuts.pointers x) ≡ flat_map (big_bytes 4) c.pointers
 pointers_part g x n r k cuts c h at b =
     ap (λ m. take m (drop cuts.pointers x)) (let e : cuts.retired - cuts.pointers ≡ 4 * (g.extents - 1) = omega (arith, at.pointers_at, at.retired_at) in e)
-    ∙ ap (λ a. take (4 * (g.extents - 1)) (drop a x)) (at.pointers_at ∙ sym (ap head_size (record_head g x n r k c h b).2))
+    ∙ ap (λ a. take (4 * (g.extents - 1)) (drop a x)) (at.pointers_at ∙ sym (ap record_head_size (record_head g x n r k c h b).2))
     ∙ (record_parts g x c b).pointers_are
 
-retired_part : (g : Geometry) (x : List ℕ) (n r : ℕ) (k : Option ℕ) (cuts : Cuts) (c : Contents) → IsHead g (take (head_size k) x) n r k → AreCuts g r k cuts → BeginsWithRecord g x c →
+retired_part : (g : Geometry) (x : List ℕ) (n r : ℕ) (k : Option ℕ) (cuts : Cuts) (c : Contents) → IsHead g (take (record_head_size k) x) n r k → AreCuts g r k cuts → BeginsWithRecord g x c →
     take (cuts.runs - cuts.retired) (drop cuts.retired x) ≡ flat_map (big_bytes 4) (retired_in c)
 retired_part g x n r k cuts c h at b =
     ap (λ m. take m (drop cuts.retired x)) (let e : cuts.runs - cuts.retired ≡ 4 * retired_count k = omega (arith, at.retired_at, at.runs_at) in e)
     ∙ ap (λ a. take (4 * retired_count k) (drop a x)) at.retired_at
-    ∙ ap (λ o. take (4 * retired_count o) (drop (head_size o + 4 * (g.extents - 1)) x)) (sym (record_head g x n r k c h b).2)
+    ∙ ap (λ o. take (4 * retired_count o) (drop (record_head_size o + 4 * (g.extents - 1)) x)) (sym (record_head g x n r k c h b).2)
     ∙ (record_parts g x c b).retired_are
 
 -- the k-th number that is spelled
@@ -255,7 +255,7 @@ length_numbers : (ws : List ℕ) → length (flat_map (big_bytes 4) ws) ≡ 4 * 
 length_numbers ws = length-flat_map_of (big_bytes 4) 4 ws (λ k d hk. refl)
 
 -- nor where a pointer is over the limit
-pub over_limit : (g : Geometry) (x part : List ℕ) (n r : ℕ) (k : Option ℕ) (cuts : Cuts) (c : Contents) (most : ℕ) (answer : Bool) → IsHead g (take (head_size k) x) n r k → AreCuts g r k cuts →
+pub over_limit : (g : Geometry) (x part : List ℕ) (n r : ℕ) (k : Option ℕ) (cuts : Cuts) (c : Contents) (most : ℕ) (answer : Bool) → IsHead g (take (record_head_size k) x) n r k → AreCuts g r k cuts →
     part ≡ take (cuts.retired - cuts.pointers) (drop cuts.pointers x) → most ≡ g.page * g.pages →
     (((j : ℕ) → 4 * j + 4 ≤ length part → big_number 4 (drop (4 * j) part) ≤ most) → IsTrue answer) → answer ≡ false → BeginsWithRecord g x c → ⊥
 over_limit g x part n r k cuts c most answer h at is limit all over b = false≢true (sym over ∙ all within)
@@ -287,7 +287,7 @@ listed_extents e None h = record { rising = λ k hk. absurd (omega (arith, hk));
 listed_extents e (Some xs) h = h
 
 -- nor where the retired extents don't rise, or one is none of the disk's
-pub not_extents : (g : Geometry) (x part : List ℕ) (n r : ℕ) (k : Option ℕ) (cuts : Cuts) (c : Contents) (e : ℕ) (answer : Bool) → IsHead g (take (head_size k) x) n r k → AreCuts g r k cuts →
+pub not_extents : (g : Geometry) (x part : List ℕ) (n r : ℕ) (k : Option ℕ) (cuts : Cuts) (c : Contents) (e : ℕ) (answer : Bool) → IsHead g (take (record_head_size k) x) n r k → AreCuts g r k cuts →
     part ≡ take (cuts.runs - cuts.retired) (drop cuts.retired x) → e ≡ g.extents →
     (SpellExtents e part → IsTrue answer) → answer ≡ false → BeginsWithRecord g x c → ⊥
 not_extents g x part n r k cuts c e answer h at is count all over b =
@@ -297,7 +297,7 @@ not_extents g x part n r k cuts c e answer h at is count all over b =
     spelled = is ∙ retired_part g x n r k cuts c h at b
 
 -- nor where another digest stands
-pub other_digest : (g : Geometry) (x : List ℕ) (n r : ℕ) (k : Option ℕ) (e : ℕ) (c : Contents) (answer : Bool) → IsHead g (take (head_size k) x) n r k → e ≡ digest_place g r k →
+pub other_digest : (g : Geometry) (x : List ℕ) (n r : ℕ) (k : Option ℕ) (e : ℕ) (c : Contents) (answer : Bool) → IsHead g (take (record_head_size k) x) n r k → e ≡ digest_place g r k →
     (take 32 (drop e x) ≡ sha256 (take e x) → IsTrue answer) → answer ≡ false → BeginsWithRecord g x c → ⊥
 other_digest g x n r k e c answer h he body wrong b =
     false≢true (sym wrong ∙ body (rw ends (body_of_record g x c b)))
@@ -345,11 +345,11 @@ numbers_spelled x ws n l count h each =
     ∙ flat_map-values (big_bytes 4) (big_number 4) 4 n x number_spelled l h
 
 -- a record is put together from what was read of it
-pub record_of_values : (g : Geometry) (x ws : List ℕ) (o : Option (List ℕ)) (rs : List Locator) (n r : ℕ) (k : Option ℕ) → IsHead g (take (head_size k) x) n r k → option_map length o ≡ k → length rs ≡ r →
+pub record_of_values : (g : Geometry) (x ws : List ℕ) (o : Option (List ℕ)) (rs : List Locator) (n r : ℕ) (k : Option ℕ) → IsHead g (take (record_head_size k) x) n r k → option_map length o ≡ k → length rs ≡ r →
     ArePointers g ws → IfSome o (AreRetired g.extents) → All IsLocator rs → digest_place g r k + 32 ≤ length x →
-    flat_map (big_bytes 4) ws ≡ take (4 * (g.extents - 1)) (drop (head_size k) x) →
-    flat_map (big_bytes 4) (unwrap_or o []) ≡ take (4 * retired_count k) (drop (head_size k + 4 * (g.extents - 1)) x) →
-    flat_map locator_bytes rs ≡ take (60 * r) (drop (head_size k + 4 * (g.extents - 1) + 4 * retired_count k) x) →
+    flat_map (big_bytes 4) ws ≡ take (4 * (g.extents - 1)) (drop (record_head_size k) x) →
+    flat_map (big_bytes 4) (unwrap_or o []) ≡ take (4 * retired_count k) (drop (record_head_size k + 4 * (g.extents - 1)) x) →
+    flat_map locator_bytes rs ≡ take (60 * r) (drop (record_head_size k + 4 * (g.extents - 1) + 4 * retired_count k) x) →
     take 32 (drop (digest_place g r k) x) ≡ sha256 (take (digest_place g r k) x) →
     BeginsWithRecord g x (record { generation = n; pointers = ws; retired = o; runs = rs })
 record_of_values g x ws o rs n r k head listed count pointers retired runs enough hw ht hr body =
@@ -360,10 +360,10 @@ record_of_values g x ws o rs n r k head listed count pointers retired runs enoug
     whole : head_bytes g n r k ++ (flat_map (big_bytes 4) ws ++ (flat_map (big_bytes 4) (unwrap_or o []) ++ flat_map locator_bytes rs)) ≡ take (digest_place g r k) x
     whole =
         ap (λ y. y ++ (flat_map (big_bytes 4) ws ++ (flat_map (big_bytes 4) (unwrap_or o []) ++ flat_map locator_bytes rs))) (sym head.spelled)
-        ∙ ap (λ y. take (head_size k) x ++ (y ++ (flat_map (big_bytes 4) (unwrap_or o []) ++ flat_map locator_bytes rs))) hw
-        ∙ ap (λ y. take (head_size k) x ++ (take (4 * (g.extents - 1)) (drop (head_size k) x) ++ (y ++ flat_map locator_bytes rs))) ht
-        ∙ ap (λ y. take (head_size k) x ++ (take (4 * (g.extents - 1)) (drop (head_size k) x) ++ (take (4 * retired_count k) (drop (head_size k + 4 * (g.extents - 1)) x) ++ y))) hr
-        ∙ four_parts x (head_size k) (4 * (g.extents - 1)) (4 * retired_count k) (60 * r)
+        ∙ ap (λ y. take (record_head_size k) x ++ (y ++ (flat_map (big_bytes 4) (unwrap_or o []) ++ flat_map locator_bytes rs))) hw
+        ∙ ap (λ y. take (record_head_size k) x ++ (take (4 * (g.extents - 1)) (drop (record_head_size k) x) ++ (y ++ flat_map locator_bytes rs))) ht
+        ∙ ap (λ y. take (record_head_size k) x ++ (take (4 * (g.extents - 1)) (drop (record_head_size k) x) ++ (take (4 * retired_count k) (drop (record_head_size k + 4 * (g.extents - 1)) x) ++ y))) hr
+        ∙ four_parts x (record_head_size k) (4 * (g.extents - 1)) (4 * retired_count k) (60 * r)
 
 -- each of the pointers that bytes spell is within the limit
 pointers_fit : (g : Geometry) (part : List ℕ) (most : ℕ) → most ≡ g.page * g.pages → length part ≡ 4 * (g.extents - 1) →
@@ -427,7 +427,7 @@ bytes_part : (x : List ℕ) (m n : ℕ) → m + n ≤ length x → AreBytes x �
 bytes_part x m n fits h = AreBytes-take n (drop m x) (omega (arith, length-drop m x, fits)) (AreBytes-drop m x h)
 
 -- a record stands where a head does, each pointer is within the limit, the retired extents rise, and the digest is right
-pub record_found : (g : Geometry) (x part listed : List ℕ) (n r : ℕ) (k : Option ℕ) (cuts : Cuts) (most e : ℕ) → AreBytes x → IsHead g (take (head_size k) x) n r k → AreCuts g r k cuts →
+pub record_found : (g : Geometry) (x part listed : List ℕ) (n r : ℕ) (k : Option ℕ) (cuts : Cuts) (most e : ℕ) → AreBytes x → IsHead g (take (record_head_size k) x) n r k → AreCuts g r k cuts →
     cuts.digest + 32 ≤ length x → part ≡ take (cuts.retired - cuts.pointers) (drop cuts.pointers x) → most ≡ g.page * g.pages →
     ((j : ℕ) → 4 * j + 4 ≤ length part → big_number 4 (drop (4 * j) part) ≤ most) →
     listed ≡ take (cuts.runs - cuts.retired) (drop cuts.retired x) → e ≡ g.extents → SpellExtents e listed →
@@ -435,14 +435,14 @@ pub record_found : (g : Geometry) (x part listed : List ℕ) (n r : ℕ) (k : Op
 record_found g x part listed n r k cuts most e bytes head at enough hpart limit all hlisted count extents body = record {
   contents = record { generation = n; pointers = values (big_number 4) 4 (g.extents - 1) part; retired = listed_values k listed; runs = values locator_of 60 r runs_part };
   begins = record_of_values g x (values (big_number 4) 4 (g.extents - 1) part) (listed_values k listed) (values locator_of 60 r runs_part) n r k head (count_listed k listed) (length-values locator_of 60 r runs_part)
-      (pointers_fit g part most limit (ap length part_is ∙ length_part x (head_size k) p (omega (arith, room))) all)
-      (rw count at (listed_fit e k listed (ap length listed_is ∙ length_part x (head_size k + p) t (omega (arith, room))) extents))
-      (locators_fit r runs_part (length_part x (head_size k + p + t) (60 * r) (omega (arith, room))) (bytes_part x (head_size k + p + t) (60 * r) (omega (arith, room)) bytes))
+      (pointers_fit g part most limit (ap length part_is ∙ length_part x (record_head_size k) p (omega (arith, room))) all)
+      (rw count at (listed_fit e k listed (ap length listed_is ∙ length_part x (record_head_size k + p) t (omega (arith, room))) extents))
+      (locators_fit r runs_part (length_part x (record_head_size k + p + t) (60 * r) (omega (arith, room))) (bytes_part x (record_head_size k + p + t) (60 * r) (omega (arith, room)) bytes))
       room
-      (flat_map-values (big_bytes 4) (big_number 4) 4 (g.extents - 1) part number_spelled (ap length part_is ∙ length_part x (head_size k) p (omega (arith, room)))
-      (rw part_is (bytes_part x (head_size k) p (omega (arith, room)) bytes)) ∙ part_is)
-      (listed_spelled k listed (ap length listed_is ∙ length_part x (head_size k + p) t (omega (arith, room))) (rw listed_is (bytes_part x (head_size k + p) t (omega (arith, room)) bytes)) ∙ listed_is)
-      (flat_map-values locator_bytes locator_of 60 r runs_part locator_spelled (length_part x (head_size k + p + t) (60 * r) (omega (arith, room))) (bytes_part x (head_size k + p + t) (60 * r) (omega (arith, room)) bytes))
+      (flat_map-values (big_bytes 4) (big_number 4) 4 (g.extents - 1) part number_spelled (ap length part_is ∙ length_part x (record_head_size k) p (omega (arith, room)))
+      (rw part_is (bytes_part x (record_head_size k) p (omega (arith, room)) bytes)) ∙ part_is)
+      (listed_spelled k listed (ap length listed_is ∙ length_part x (record_head_size k + p) t (omega (arith, room))) (rw listed_is (bytes_part x (record_head_size k + p) t (omega (arith, room)) bytes)) ∙ listed_is)
+      (flat_map-values locator_bytes locator_of 60 r runs_part locator_spelled (length_part x (record_head_size k + p + t) (60 * r) (omega (arith, room))) (bytes_part x (record_head_size k + p + t) (60 * r) (omega (arith, room)) bytes))
       (rw at.digest_at at body);
   generation = refl;
   count = length-values locator_of 60 r runs_part;
@@ -458,17 +458,17 @@ record_found g x part listed n r k cuts most e bytes head at enough hpart limit 
     room : digest_place g r k + 32 ≤ length x
     room = omega (arith, at.digest_at, enough)
 
-    part_is : part ≡ take p (drop (head_size k) x)
+    part_is : part ≡ take p (drop (record_head_size k) x)
     part_is = hpart ∙ ap (λ m. take m (drop cuts.pointers x)) (let s : cuts.retired - cuts.pointers ≡ p = omega (arith, at.pointers_at, at.retired_at) in s) ∙ ap (λ m. take p (drop m x)) at.pointers_at
 
-    listed_is : listed ≡ take t (drop (head_size k + p) x)
+    listed_is : listed ≡ take t (drop (record_head_size k + p) x)
     listed_is = hlisted ∙ ap (λ m. take m (drop cuts.retired x)) (let s : cuts.runs - cuts.retired ≡ t = omega (arith, at.retired_at, at.runs_at) in s) ∙ ap (λ m. take t (drop m x)) at.retired_at
 
     runs_part : List ℕ
-    runs_part = take (60 * r) (drop (head_size k + p + t) x)
+    runs_part = take (60 * r) (drop (record_head_size k + p + t) x)
 
 -- a head by other names for what it tells
-told_head : (g : Geometry) (x : List ℕ) (m n q r : ℕ) (j k : Option ℕ) → m ≡ n → q ≡ r → j ≡ k → IsHead g (take (head_size j) x) m q j → IsHead g (take (head_size k) x) n r k
+told_head : (g : Geometry) (x : List ℕ) (m n q r : ℕ) (j k : Option ℕ) → m ≡ n → q ≡ r → j ≡ k → IsHead g (take (record_head_size j) x) m q j → IsHead g (take (record_head_size k) x) n r k
 told_head g x m n q r j k hn hr hk head = rw (hn, hr, hk) at head
 
 pub small_some : (g : Geometry) (x : List ℕ) (n r : ℕ) (k : Option ℕ) → BeginsWithSome g x n r k → retired_count k < 2 ^ 16
@@ -489,7 +489,7 @@ contents_read g x ws o rs n r k cuts some at lw fits hw lo small ho lr are hr =
     parts : AreRecordParts g x c
     parts = record_parts g x c some.begins
 
-    head : IsHead g (take (head_size k) x) n r k
+    head : IsHead g (take (record_head_size k) x) n r k
     head = told_head g x c.generation n (length c.runs) r (count_in c) k some.generation some.count some.listed (is_head g x c some.begins)
 
     pointers : c.pointers ≡ ws
@@ -506,8 +506,8 @@ contents_read g x ws o rs n r k cuts some at lw fits hw lo small ho lr are hr =
     runs_told : flat_map locator_bytes c.runs ≡ take (cuts.digest - cuts.runs) (drop cuts.runs x)
     runs_told =
         sym parts.runs_are
-        ∙ ap (λ j. take (60 * length c.runs) (drop (head_size j + 4 * (g.extents - 1) + 4 * retired_count j) x)) some.listed
-        ∙ ap (λ m. take (60 * m) (drop (head_size k + 4 * (g.extents - 1) + 4 * retired_count k) x)) some.count
+        ∙ ap (λ j. take (60 * length c.runs) (drop (record_head_size j + 4 * (g.extents - 1) + 4 * retired_count j) x)) some.listed
+        ∙ ap (λ m. take (60 * m) (drop (record_head_size k + 4 * (g.extents - 1) + 4 * retired_count k) x)) some.count
         ∙ ap (λ m. take (60 * r) (drop m x)) (sym at.runs_at)
         ∙ ap (λ m. take m (drop cuts.runs x)) (let s : 60 * r ≡ cuts.digest - cuts.runs = omega (arith, at.runs_at, at.digest_at) in s)
 
@@ -538,9 +538,9 @@ pub numbers_appended : (o1 o2 ws xs : List ℕ) → xs ≡ ws → o2 ≡ o1 ++ f
 numbers_appended o1 o2 ws xs is h = omega (arith, ap length h, length-append o1 (flat_map (big_bytes 4) xs), length_numbers xs, ap length is)
 
 pub head_appended : (g : Geometry) (s : Contents) (head : Head) (old o1 : List ℕ) → head ≡ record { generation = s.generation; runs = length s.runs; retired = option_map length s.retired } →
-    o1 ≡ old ++ head_bytes g head.generation head.runs head.retired → length o1 ≡ length old + head_size (count_in s)
+    o1 ≡ old ++ head_bytes g head.generation head.runs head.retired → length o1 ≡ length old + record_head_size (count_in s)
 head_appended g s head old o1 is h =
-    omega (arith, ap length h, length-append old (head_bytes g head.generation head.runs head.retired), length_head g head.generation head.runs head.retired, ap (λ (x : Head). head_size x.retired) is)
+    omega (arith, ap length h, length-append old (head_bytes g head.generation head.runs head.retired), length_head g head.generation head.runs head.retired, ap (λ (x : Head). record_head_size x.retired) is)
 
 pub length_retired_of : (s : Contents) (xs : List ℕ) → xs ≡ retired_in s → length xs ≡ retired_count (count_in s)
 length_retired_of s xs is = ap length is ∙ length_listed s.retired
@@ -552,7 +552,7 @@ retired_appended o1 o2 xs s is h = omega (arith, numbers_appended o1 o2 (retired
 pub cuts_size : (g : Geometry) (s : Contents) (head : Head) (cuts : Cuts) → head ≡ record { generation = s.generation; runs = length s.runs; retired = option_map length s.retired } → AreCuts g head.runs head.retired cuts →
     ArePointers g s.pointers → cuts.digest ≡ body_size s
 cuts_size g s head cuts is at pointers =
-    omega (arith, at.digest_at, ap (λ (x : Head). head_size x.retired) is, ap (λ (x : Head). retired_count x.retired) is, ap (λ (x : Head). x.runs) is, pointers.count)
+    omega (arith, at.digest_at, ap (λ (x : Head). record_head_size x.retired) is, ap (λ (x : Head). retired_count x.retired) is, ap (λ (x : Head). x.runs) is, pointers.count)
 
 -- what is appended before the digest, and with it
 pub body_written : (g : Geometry) (s : Contents) (head : Head) (old o1 o2 o3 o4 ps ts : List ℕ) (rs : List Locator) →

@@ -15,9 +15,9 @@ pub record IsFront (g : Geometry) (bytes : List ℕ) (digit generation runs : �
   pub spelled : bytes ≡ front_bytes digit g generation runs
 
 -- how many bytes stand before the write pointers
-abbrev pub head_size : Option ℕ → ℕ
-head_size None = 26
-head_size (Some retired) = 28
+abbrev pub record_head_size : Option ℕ → ℕ
+record_head_size None = 26
+record_head_size (Some retired) = 28
 
 -- how many retired extents a head tells of
 abbrev pub retired_count : Option ℕ → ℕ
@@ -25,7 +25,7 @@ retired_count retired = unwrap_or retired 0
 
 -- how many bytes stand before the digest
 abbrev pub body_size : Contents → ℕ
-body_size c = head_size (option_map len c.retired) + 4 * len c.pointers + 4 * retired_count (option_map len c.retired) + 60 * len c.runs
+body_size c = record_head_size (option_map len c.retired) + 4 * len c.pointers + 4 * retired_count (option_map len c.retired) + 60 * len c.runs
 
 -- the head of a record of this geometry that tells of so many index runs and retired extents
 pub record IsHead (g : Geometry) (bytes : List ℕ) (generation runs : ℕ) (retired : Option ℕ) : Type 0 where
@@ -36,10 +36,10 @@ pub record IsHead (g : Geometry) (bytes : List ℕ) (generation runs : ℕ) (ret
 
 -- where the parts of such a record begin
 pub record AreCuts (g : Geometry) (runs : ℕ) (retired : Option ℕ) (cuts : Cuts) : Type 0 where
-  pub pointers_at : cuts.pointers ≡ head_size retired
-  pub retired_at : cuts.retired ≡ head_size retired + 4 * (g.extents - 1)
-  pub runs_at : cuts.runs ≡ head_size retired + 4 * (g.extents - 1) + 4 * retired_count retired
-  pub digest_at : cuts.digest ≡ head_size retired + 4 * (g.extents - 1) + 4 * retired_count retired + 60 * runs
+  pub pointers_at : cuts.pointers ≡ record_head_size retired
+  pub retired_at : cuts.retired ≡ record_head_size retired + 4 * (g.extents - 1)
+  pub runs_at : cuts.runs ≡ record_head_size retired + 4 * (g.extents - 1) + 4 * retired_count retired
+  pub digest_at : cuts.digest ≡ record_head_size retired + 4 * (g.extents - 1) + 4 * retired_count retired + 60 * runs
 
 -- a front of the bytes is some record of this generation and these numbers of index runs and retired extents
 pub record BeginsWithSome (g : Geometry) (bytes : List ℕ) (n runs : ℕ) (retired : Option ℕ) : Type 0 where

@@ -4,7 +4,7 @@
 ghost use Rattle.std.specs.Prelude.{◌≡◌, ◌+◌, ◌≤◌, ◌<◌, ◌^◌, ◌++◌, ℕ, IfSome, IfNone, length, take, vec_len, vec_capacity, option_map};
 ghost use Rattle.scrub_super.specs.Contents.{Contents};
 ghost use Rattle.scrub_super.specs.Record.{BeginsWithRecord, front_bytes, head_bytes};
-ghost use Rattle.scrub_super.specs.RecordRead.{AreCuts, IsFront, IsHead, head_size, retired_count};
+ghost use Rattle.scrub_super.specs.RecordRead.{AreCuts, IsFront, IsHead, record_head_size, retired_count};
 
 use crate::superblock::Superblock;
 use byteorder::{BigEndian, ByteOrder};
@@ -80,7 +80,7 @@ fn read_front(bytes: &[u8; 26], geometry: Geometry) -> Option<Front>
 
 /// The head that the bytes begin with, if they begin with that of a record of this geometry.
 pub(crate) fn read_head(bytes: &[u8], geometry: Geometry) -> Option<Head>
-    ensures found { IfSome result (λ h. IsHead geometry (take (head_size h.retired) bytes.now) h.generation h.runs h.retired) }
+    ensures found { IfSome result (λ h. IsHead geometry (take (record_head_size h.retired) bytes.now) h.generation h.runs h.retired) }
     ensures none { IfNone result ((c : Contents) → ¬ BeginsWithRecord geometry bytes.now c) }
 {
     let Front {
@@ -108,7 +108,7 @@ pub(crate) fn read_head(bytes: &[u8], geometry: Geometry) -> Option<Head>
 
 /// How many bytes stand before the write pointers.
 fn head_len(retired: Option<usize>) -> usize
-    ensures { result ≡ head_size retired }
+    ensures { result ≡ record_head_size retired }
 {
     match retired {
         None => 26,
@@ -156,7 +156,7 @@ pub(crate) fn head_of(superblock: &Superblock) -> Head
 pub(crate) fn append_head(out: &mut Vec<u8>, geometry: Geometry, head: Head)
     requires few { head.runs ≤ MAX_RUNS }
     requires small { retired_count head.retired < 2 ^ 16 }
-    requires room { vec_len out.old + head_size head.retired ≤ vec_capacity out.old }
+    requires room { vec_len out.old + record_head_size head.retired ≤ vec_capacity out.old }
     ensures items { out.new.items ≡ out.old.items ++ head_bytes geometry head.generation head.runs head.retired }
     ensures capacity { vec_capacity out.old ≤ vec_capacity out.new }
 {

@@ -10,7 +10,7 @@ ghost use Rattle.scrub_disk.specs.declared.geometry.Geometry.{Geometry};
 ghost use Rattle.scrub_super.specs.Contents.{Contents};
 ghost use Rattle.scrub_super.specs.Planned.{AreRetired};
 ghost use Rattle.scrub_super.specs.Record.{ArePointers, BeginsWithRecord, record_body, record_bytes};
-ghost use Rattle.scrub_super.specs.RecordRead.{BeginsWithSome, SpellExtents, body_size, head_size, retired_count};
+ghost use Rattle.scrub_super.specs.RecordRead.{BeginsWithSome, SpellExtents, body_size, record_head_size, retired_count};
 
 pub use crate::head::MAX_RUNS;
 use crate::head::{Head, append_head, cuts_of, head_of, read_head};
@@ -59,7 +59,8 @@ fn has_digest_at(bytes: &[u8], end: usize) -> bool
 /// it fits. Takes no memory.
 pub(crate) fn record_at(bytes: &[u8], geometry: Geometry) -> Option<Head>
     ensures found { IfSome result (λ h. BeginsWithSome geometry bytes.now h.generation h.runs h.retired) }
-    ensures within { IfSome result (λ h. head_size h.retired + 4 * (geometry.extents - 1) + 4 * retired_count h.retired + 60 * h.runs ≤ length bytes.now) }
+    ensures within { IfSome result (λ h.
+        record_head_size h.retired + 4 * (geometry.extents - 1) + 4 * retired_count h.retired + 60 * h.runs ≤ length bytes.now) }
     ensures none { IfNone result ((c : Contents) → ¬ BeginsWithRecord geometry bytes.now c) }
 {
     let head = read_head(bytes, geometry)?;

@@ -4,7 +4,7 @@ use Rattle.std.specs.BinaryHeap.{heap_items}
 use Rattle.std.proofs.lemmas.List.{length-set}
 use Rattle.std.proofs.lemmas.List.Elements.{All-contains}
 use Rattle.scrub_merge.specs.declared.under.Under.{Under}
-use Rattle.scrub_merge.specs.Cursors.{left, places_behind, under_by}
+use Rattle.scrub_merge.specs.Cursors.{ahead, places_past, under_by}
 use Rattle.scrub_merge.proofs.Left.{entries_left, first_within, length-left}
 use Rattle.scrub_merge.proofs.Moves.{AreNotBelow, one_on, rising_runs, same_behind, stand_behind, still_not_below, fewer_one, place_within}
 use Rattle.scrub_merge.proofs.Heaps.{taken, popped}
@@ -12,27 +12,27 @@ use Rattle.scrub_merge.proofs.cursors.move_on.Goals as goal
 
 pub move_one-requires-clause-within : goal.move_one-requires-clause-within
 move_one-requires-clause-within c =
-    let rest = left c.args.runs.now c.loop-next.places in
+    let rest = ahead c.args.runs.now c.loop-next.places in
     let at = taken rest (heap_items c.loop-next.heap) (heap_items c.pop_with.new.heap) c.in-Some.next c.loop-next.invariant.heap c.in-Some.ensures.popped in
     omega (arith, first_within rest c.in-Some.next.number at.0 at.1, length-left c.args.runs.now c.loop-next.places)
 
 pub move_one-requires-clause-place : goal.move_one-requires-clause-place
 move_one-requires-clause-place c =
-    let rest = left c.args.runs.now c.loop-next.places in
+    let rest = ahead c.args.runs.now c.loop-next.places in
     let at = taken rest (heap_items c.loop-next.heap) (heap_items c.pop_with.new.heap) c.in-Some.next c.loop-next.invariant.heap c.in-Some.ensures.popped in
     place_within c.args.runs.now c.loop-next.places c.in-Some.next.number at.0 c.loop-next.invariant.count c.requires.runs at.1
 
 pub move_one-requires-clause-heap : goal.move_one-requires-clause-heap
-move_one-requires-clause-heap c = popped (left c.args.runs.now c.loop-next.places) c.in-Some.next (heap_items c.loop-next.heap) (heap_items c.pop_with.new.heap) c.loop-next.invariant.heap c.in-Some.ensures.popped
+move_one-requires-clause-heap c = popped (ahead c.args.runs.now c.loop-next.places) c.in-Some.next (heap_items c.loop-next.heap) (heap_items c.pop_with.new.heap) c.loop-next.invariant.heap c.in-Some.ensures.popped
     c.pop_with.ensures.order
 
 pub loop-next-smaller : goal.loop-next-smaller
 loop-next-smaller c =
     let runs = c.args.runs.now in
     let places : List ℕ = c.loop-next.places in
-    let at = taken (left runs places) (heap_items c.loop-next.heap) (heap_items c.pop_with.new.heap) c.in-Some.next c.loop-next.invariant.heap c.in-Some.ensures.popped in
-    let less : entries_left (left runs c.move_one.new.places) < entries_left (left runs places) =
-    (let P : List ℕ → Type 0 = λ ps. entries_left (left runs ps) < entries_left (left runs places) in
+    let at = taken (ahead runs places) (heap_items c.loop-next.heap) (heap_items c.pop_with.new.heap) c.in-Some.next c.loop-next.invariant.heap c.in-Some.ensures.popped in
+    let less : entries_left (ahead runs c.move_one.new.places) < entries_left (ahead runs places) =
+    (let P : List ℕ → Type 0 = λ ps. entries_left (ahead runs ps) < entries_left (ahead runs places) in
     subst P (sym c.in_ok-move_one.ensures.moved) (fewer_one runs places c.in-Some.next.number at.0 c.loop-next.invariant.count at.1)) in
     less
 
@@ -42,13 +42,13 @@ loop-next-preserved c =
     let id = c.args.id in
     let places : List ℕ = c.loop-next.places in
     let number : ℕ = c.in-Some.next.number in
-    let at = taken (left runs places) (heap_items c.loop-next.heap) (heap_items c.pop_with.new.heap) c.in-Some.next c.loop-next.invariant.heap c.in-Some.ensures.popped in
+    let at = taken (ahead runs places) (heap_items c.loop-next.heap) (heap_items c.pop_with.new.heap) c.in-Some.next c.loop-next.invariant.heap c.in-Some.ensures.popped in
     let own : at.0.id ≡ id = at.2 ∙ c.in-Some.ensures.own in
     let moved : c.move_one.new.places ≡ one_on places number = c.in_ok-move_one.ensures.moved in
-    let P : List ℕ → Type 0 = λ ps. AreNotBelow id (left runs ps) in
+    let P : List ℕ → Type 0 = λ ps. AreNotBelow id (ahead runs ps) in
     record {
       count = ap length moved ∙ length-set places number (get_or places number 0 + 1) ∙ c.loop-next.invariant.count;
-      behind = ap (places_behind id runs) moved ∙ same_behind id runs places number at.0 c.loop-next.invariant.count (rising_runs runs c.requires.runs) at.1 own ∙ c.loop-next.invariant.behind;
+      behind = ap (places_past id runs) moved ∙ same_behind id runs places number at.0 c.loop-next.invariant.count (rising_runs runs c.requires.runs) at.1 own ∙ c.loop-next.invariant.behind;
       heap = c.in_ok-move_one.ensures.heap;
       not_below = subst P (sym moved) (still_not_below id runs places number at.0 c.loop-next.invariant.count (rising_runs runs c.requires.runs) at.1 own c.loop-next.invariant.not_below);
     }

@@ -3,7 +3,7 @@ use Rattle.std.proofs.Common.{◌≡◌, ◌<◌, ◌≤◌, List, ℕ, zero, le
 use Rattle.std.specs.BinaryHeap.{heap_items}
 use Rattle.std.specs.Vec.{with_items}
 use Rattle.std.proofs.lemmas.List.{with_items_is, length-replicate}
-use Rattle.scrub_merge.specs.Cursors.{left, places_behind, Continues, IsHeapOf, IsLeast, AreEmpty}
+use Rattle.scrub_merge.specs.Cursors.{ahead, places_past, Continues, IsHeapOf, IsLeast, AreEmpty}
 use Rattle.scrub_merge.specs.ShardMap.{IsShardMap}
 use Rattle.scrub_merge.proofs.Left.{left_all, left_behind, length-behind, fewer, entries_left}
 use Rattle.scrub_merge.proofs.Moves.{rising_runs}
@@ -22,17 +22,17 @@ loop-least-init c =
 
 pub bind_newest-requires-clause-least : goal.bind_newest-requires-clause-least
 bind_newest-requires-clause-least c =
-    rw c.deref.ensures.value (first_least (left c.args.runs.now c.loop-least.places.items) (heap_items c.loop-least.heap) c.in-Some.field-0.now c.loop-least.invariant.heap
+    rw c.deref.ensures.value (first_least (ahead c.args.runs.now c.loop-least.places.items) (heap_items c.loop-least.heap) c.in-Some.field-0.now c.loop-least.invariant.heap
     (zero, c.in-Some.ensures.item.3.0, sym c.in-Some.ensures.lookup) (c.in-Some.ensures.greatest c.loop-least.invariant.heap.order))
 
 pub bind_newest-requires-clause-newest : goal.bind_newest-requires-clause-newest
 bind_newest-requires-clause-newest c =
-    rw c.deref.ensures.value (first_newest (left c.args.runs.now c.loop-least.places.items) (heap_items c.loop-least.heap) c.in-Some.field-0.now c.loop-least.invariant.heap
+    rw c.deref.ensures.value (first_newest (ahead c.args.runs.now c.loop-least.places.items) (heap_items c.loop-least.heap) c.in-Some.field-0.now c.loop-least.invariant.heap
     (zero, c.in-Some.ensures.item.3.0, sym c.in-Some.ensures.lookup) (c.in-Some.ensures.greatest c.loop-least.invariant.heap.order))
 
 pub move_on-requires-clause-least : goal.move_on-requires-clause-least
 move_on-requires-clause-least c =
-    rw c.deref_mut.ensures.value (first_least (left c.args.runs.now c.loop-least.places.items) (heap_items c.loop-least.heap) c.in-Some.field-0.now c.loop-least.invariant.heap
+    rw c.deref_mut.ensures.value (first_least (ahead c.args.runs.now c.loop-least.places.items) (heap_items c.loop-least.heap) c.in-Some.field-0.now c.loop-least.invariant.heap
     (zero, c.in-Some.ensures.item.3.0, sym c.in-Some.ensures.lookup) (c.in-Some.ensures.greatest c.loop-least.invariant.heap.order))
 
 pub loop-least-smaller : goal.loop-least-smaller
@@ -40,14 +40,14 @@ loop-least-smaller c =
     let runs = c.args.runs.now in
     let id = c.in-Some.field-0.now.id in
     let places : List ℕ = c.loop-least.places.items in
-    let says : c.move_on.new.places ≡ places_behind id runs places = c.in_ok-move_on.ensures.moved ∙ ap (places_behind id runs) c.deref_mut.ensures.value in
-    let next : (with_items c.loop-least.places c.move_on.new.places).items ≡ places_behind id runs places =
+    let says : c.move_on.new.places ≡ places_past id runs places = c.in_ok-move_on.ensures.moved ∙ ap (places_past id runs) c.deref_mut.ensures.value in
+    let next : (with_items c.loop-least.places c.move_on.new.places).items ≡ places_past id runs places =
     with_items_is c.loop-least.places c.move_on.new.places (ap length says ∙ length-behind id runs places ∙ sym c.loop-least.places.ok.0) ∙ says in
-    let least : IsLeast (left runs places) id = first_least (left runs places) (heap_items c.loop-least.heap) c.in-Some.field-0.now c.loop-least.invariant.heap
+    let least : IsLeast (ahead runs places) id = first_least (ahead runs places) (heap_items c.loop-least.heap) c.in-Some.field-0.now c.loop-least.invariant.heap
     (zero, c.in-Some.ensures.item.3.0, sym c.in-Some.ensures.lookup) (c.in-Some.ensures.greatest c.loop-least.invariant.heap.order) in
-    let less : entries_left (left runs (with_items c.loop-least.places c.move_on.new.places).items) < entries_left (left runs places) =
-    (let P : List ℕ → Type 0 = λ ps. entries_left (left runs ps) < entries_left (left runs places) in
-    subst P (sym next) (rw (left_behind id runs places c.loop-least.invariant.places) (fewer id (left runs places) least.number least.entry least.stands least.own))) in
+    let less : entries_left (ahead runs (with_items c.loop-least.places c.move_on.new.places).items) < entries_left (ahead runs places) =
+    (let P : List ℕ → Type 0 = λ ps. entries_left (ahead runs ps) < entries_left (ahead runs places) in
+    subst P (sym next) (rw (left_behind id runs places c.loop-least.invariant.places) (fewer id (ahead runs places) least.number least.entry least.stands least.own))) in
     less
 
 pub loop-least-preserved : goal.loop-least-preserved
@@ -55,13 +55,13 @@ loop-least-preserved c =
     let runs = c.args.runs.now in
     let id = c.in-Some.field-0.now.id in
     let places : List ℕ = c.loop-least.places.items in
-    let says : c.move_on.new.places ≡ places_behind id runs places = c.in_ok-move_on.ensures.moved ∙ ap (places_behind id runs) c.deref_mut.ensures.value in
+    let says : c.move_on.new.places ≡ places_past id runs places = c.in_ok-move_on.ensures.moved ∙ ap (places_past id runs) c.deref_mut.ensures.value in
     let whole : (with_items c.loop-least.places c.move_on.new.places).items ≡ c.move_on.new.places =
     with_items_is c.loop-least.places c.move_on.new.places (ap length says ∙ length-behind id runs places ∙ sym c.loop-least.places.ok.0) in
-    let next : (with_items c.loop-least.places c.move_on.new.places).items ≡ places_behind id runs places = whole ∙ says in
-    let P : List ℕ → Type 0 = λ ps. Continues runs (left runs ps) c.bind_newest.new.bindings.items in
-    let Q : List ℕ → Type 0 = λ ps. IsHeapOf (left runs ps) (heap_items c.move_on.new.heap) in
-    let least : IsLeast (left runs places) id = first_least (left runs places) (heap_items c.loop-least.heap) c.in-Some.field-0.now c.loop-least.invariant.heap
+    let next : (with_items c.loop-least.places c.move_on.new.places).items ≡ places_past id runs places = whole ∙ says in
+    let P : List ℕ → Type 0 = λ ps. Continues runs (ahead runs ps) c.bind_newest.new.bindings.items in
+    let Q : List ℕ → Type 0 = λ ps. IsHeapOf (ahead runs ps) (heap_items c.move_on.new.heap) in
+    let least : IsLeast (ahead runs places) id = first_least (ahead runs places) (heap_items c.loop-least.heap) c.in-Some.field-0.now c.loop-least.invariant.heap
     (zero, c.in-Some.ensures.item.3.0, sym c.in-Some.ensures.lookup) (c.in-Some.ensures.greatest c.loop-least.invariant.heap.order) in
     record {
       places = ap length next ∙ length-behind id runs places ∙ c.loop-least.invariant.places;
@@ -74,12 +74,12 @@ pub new-requires : goal.new-requires
 new-requires c =
     let none : length (heap_items c.loop-least.heap) ≤ 0 = c.in_default.ensures.item.3 in
     let map : IsShardMap c.args.runs.now c.loop-least.bindings.items =
-    continues_end c.args.runs.now (left c.args.runs.now c.loop-least.places.items) c.loop-least.bindings.items
-    (none_first (left c.args.runs.now c.loop-least.places.items) (heap_items c.loop-least.heap) c.loop-least.invariant.heap (omega (arith, none))) c.loop-least.invariant.continues in
+    continues_end c.args.runs.now (ahead c.args.runs.now c.loop-least.places.items) c.loop-least.bindings.items
+    (none_first (ahead c.args.runs.now c.loop-least.places.items) (heap_items c.loop-least.heap) c.loop-least.invariant.heap (omega (arith, none))) c.loop-least.invariant.continues in
     map.bindings_of_map
 
 pub returns : goal.returns
 returns c =
     let none : length (heap_items c.loop-least.heap) ≤ 0 = c.in_default.ensures.item.3 in
-    rw c.new.ensures (continues_end c.args.runs.now (left c.args.runs.now c.loop-least.places.items) c.loop-least.bindings.items
-    (none_first (left c.args.runs.now c.loop-least.places.items) (heap_items c.loop-least.heap) c.loop-least.invariant.heap (omega (arith, none))) c.loop-least.invariant.continues)
+    rw c.new.ensures (continues_end c.args.runs.now (ahead c.args.runs.now c.loop-least.places.items) c.loop-least.bindings.items
+    (none_first (ahead c.args.runs.now c.loop-least.places.items) (heap_items c.loop-least.heap) c.loop-least.invariant.heap (omega (arith, none))) c.loop-least.invariant.continues)

@@ -1,5 +1,5 @@
 -- Key by key.
-use Rattle.std.proofs.Common.{◌≡◌, ◌++◌, ◌∷◌, [], List, codes, map, ap, sym, ◌∙◌, append-nil}
+use Rattle.std.proofs.Common.{◌++◌, ◌∷◌, [], List, codes, map, ap, sym, ◌∙◌, append-nil}
 use Rattle.json.specs.Token.{Token, key}
 use Rattle.scrub_check.specs.Checked.{hidden}
 use Rattle.scrub_report.specs.Json.{list}

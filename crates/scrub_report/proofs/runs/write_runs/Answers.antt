@@ -1,5 +1,5 @@
 -- One more run, and in the end all.
-use Rattle.std.proofs.Common.{◌≡◌, ℕ, List, None, Option, length, get_or, arith, sym, ◌∙◌}
+use Rattle.std.proofs.Common.{◌≡◌, ℕ, None, Option, length, get_or, arith, sym, ◌∙◌}
 use Rattle.std.specs.List.{zip}
 use Rattle.std.proofs.lemmas.List.{get_or_default}
 use Rattle.scrub_frame.specs.declared.locator.Locator.{Locator}

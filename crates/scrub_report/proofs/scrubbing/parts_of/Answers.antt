@@ -1,7 +1,6 @@
 -- What follows from which chunks are live is told of the checked locators, and of the runs what is kept of them.
 use Rattle.std.proofs.Common.{rules, ◌≡◌, List, map, subst, sym, ◌∙◌}
 use Rattle.scrub_check.specs.declared.checked.Checked.{Checked}
-use Rattle.scrub_check.specs.declared.place.Place.{Place}
 use Rattle.scrub_check.specs.declared.runs.RunState.{RunState}
 use Rattle.scrub_check.specs.Chunks.{orphans}
 use Rattle.scrub_check.specs.Live.{live_bytes}

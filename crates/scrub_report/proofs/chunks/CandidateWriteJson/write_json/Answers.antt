@@ -1,5 +1,5 @@
 -- Member by member.
-use Rattle.std.proofs.Common.{◌≡◌, ◌++◌, ◌∷◌, [], List, codes, ap, ◌∙◌}
+use Rattle.std.proofs.Common.{◌++◌, ◌∷◌, [], List, codes, ap, ◌∙◌}
 use Rattle.json.specs.Token.{Token, begin_object, end_object}
 use Rattle.scrub_report.specs.Json.{natural}
 use Rattle.scrub_report.specs.Report.{numbers_data}
