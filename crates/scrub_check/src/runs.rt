@@ -64,13 +64,14 @@ impl ReadRuns {
         self.states.as_slice()
     }
 
-    /// What became of each, handed out. The runs are given up.
-    pub fn into_states(self) -> Vec<RunState>
-        ensures states { result.items ≡ self.states }
+    /// The runs, and what became of each, handed out.
+    pub fn into_parts(self) -> (Vec<Option<Run>>, Vec<RunState>)
+        ensures runs { result.0.items ≡ self.runs }
+        ensures states { result.1.items ≡ self.states }
         // Every value of the type is such.
         ensures counted { AreCounted self }
     {
-        self.states
+        (self.runs, self.states)
     }
 }
 

@@ -5,7 +5,7 @@ use Rattle.std.specs.Prelude.{slice_get, unwrap_or, replicate}
 use Rattle.std.specs.Option.{option_map}
 use Rattle.std.specs.Ordering.{is_eq}
 use Rattle.std.proofs.lemmas.Bool.{false≢true}
-use Rattle.std.proofs.lemmas.Option.{none-some, same_Some, slice_get_read}
+use Rattle.std.proofs.lemmas.Option.{none-some, same_Some}
 use Rattle.scrub_run.specs.declared.shard_id.ShardId.{ShardId}
 use Rattle.scrub_run.specs.Entry.{EntryValue}
 use Rattle.scrub_run.specs.Run.{RisesById}
@@ -30,12 +30,6 @@ first_left [] places k h = refl
 first_left (run ∷ runs) [] k h = absurd (omega (arith, h))
 first_left (run ∷ runs) (place ∷ places) zero h = under_first run place
 first_left (run ∷ runs) (place ∷ places) (suc k) h = first_left runs places k (omega (arith, h))
-
--- what stands first in what is left of a run stands under its cursor
-pub at_cursor : (runs : Runs) (places : List ℕ) (number : ℕ) (run : Option (List EntryValue)) → length places ≡ length runs → number < length runs → run ≡ get_or runs number run →
-    first_of (ahead runs places) number ≡ entry_at run (get_or places number 0)
-at_cursor runs places number run count here is = first_left runs places number count
-    ∙ ap (λ o. entry_at (unwrap_or o None) (get_or places number 0)) (slice_get_read runs (length runs) number run refl here is)
 
 pub length-left : (runs : Runs) (places : List ℕ) → length (ahead runs places) ≡ length runs
 length-left [] places = refl

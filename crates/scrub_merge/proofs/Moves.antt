@@ -13,7 +13,7 @@ use Rattle.scrub_merge.specs.Binding.{Runs}
 use Rattle.scrub_merge.specs.ShardMap.{AreRuns}
 use Rattle.scrub_merge.specs.Cursors.{id_cmp, entry_at, has_id, ahead, first_of, place_past, places_past, AreRising}
 use Rattle.scrub_merge.proofs.Identifiers.{id_cmp_total, same_id, itself, not_below_itself}
-use Rattle.scrub_merge.proofs.Left.{first_left, under_first, entries_left}
+use Rattle.scrub_merge.proofs.Left.{first_left, length-behind, under_first, entries_left}
 
 -- the runs' identifiers rise
 pub rising_runs : (runs : Runs) → AreRuns runs → AreRising runs
@@ -82,6 +82,14 @@ same_behind id (run ∷ runs) (place ∷ places) zero e count rising at own =
     ap (λ p. p ∷ places_past id runs places) (past_once id run place e (λ entries is. rising zero entries (ap Some is)) (sym (under_first run place) ∙ at) own)
 same_behind id (run ∷ runs) (place ∷ places) (suc number) e count rising at own =
     ap (λ ps. place_past id run place ∷ ps) (same_behind id runs places number e (omega (arith, count)) (λ k. rising (suc k)) at own)
+
+-- a cursor that has the identifier stands one place further behind it
+pub one_past : (id : ShardId) (runs : Runs) (places : List ℕ) (number : ℕ) (e : EntryValue) → length places ≡ length runs → first_of (ahead runs places) number ≡ Some e → e.id ≡ id →
+    get_or (places_past id runs places) number 0 ≡ get_or places number 0 + 1
+one_past id [] places number e count at own = absurd (none-some e at)
+one_past id (run ∷ runs) [] number e count at own = absurd (let no : ⊥ = omega (arith, count) in no)
+one_past id (run ∷ runs) (place ∷ places) zero e count at own = ap (λ t. cond t (place + 1) place) (has_it id (entry_at run place) e (sym (under_first run place) ∙ at) own)
+one_past id (run ∷ runs) (place ∷ places) (suc number) e count at own = one_past id runs places number e (omega (arith, count)) at own
 
 -- where no cursor has the identifier, they stand behind it
 pub stand_behind : (id : ShardId) (runs : Runs) (places : List ℕ) → length places ≡ length runs → ((k : ℕ) (e : EntryValue) → first_of (ahead runs places) k ≡ Some e → e.id ≡ id → ⊥) →
@@ -152,3 +160,32 @@ runs_step runs number run here is one are k entries before at = elim (cases_lt k
     are_one : (r : Option (List EntryValue)) → IfSome r AreEntries → r ≡ Some entries → AreEntries entries
     are_one None a same = absurd (none-some entries same)
     are_one (Some all) a same = subst AreEntries (same_Some all entries same) a
+
+-- ---- an entry that was taken
+
+-- what is ahead of cursors is the same where a run changes behind its own
+pub ahead_same : (runs : Runs) (places : List ℕ) (number : ℕ) (old new : Option (List EntryValue)) → length places ≡ length runs → old ≡ get_or runs number old →
+    option_map (drop (get_or places number 0)) new ≡ option_map (drop (get_or places number 0)) old → ahead (slice_set runs number new) places ≡ ahead runs places
+ahead_same [] places number old new count is same = refl
+ahead_same (r ∷ runs) [] number old new count is same = absurd (let no : ⊥ = omega (arith, count) in no)
+ahead_same (r ∷ runs) (place ∷ places) zero old new count is same = ap (λ q. q ∷ ahead runs places) (same ∙ ap (option_map (drop place)) is)
+ahead_same (r ∷ runs) (place ∷ places) (suc number) old new count is same = ap (λ rest. option_map (drop place) r ∷ rest) (ahead_same runs places number old new (omega (arith, count)) is same)
+
+-- so it is where an entry under a cursor with the identifier is taken, and all cursors that have that move on
+pub still_ahead : (runs new : Runs) (places : List ℕ) (id : ShardId) (number place : ℕ) (e : EntryValue) → length places ≡ length runs → place ≡ get_or places number 0 →
+    first_of (ahead runs places) number ≡ Some e → e.id ≡ id → ((ps : List ℕ) → length ps ≡ length runs → place < get_or ps number 0 → ahead new ps ≡ ahead runs ps) →
+    ahead new (places_past id runs places) ≡ ahead runs (places_past id runs places)
+still_ahead runs new places id number place e count here at own same =
+    same (places_past id runs places) (length-behind id runs places ∙ count) (omega (arith, here, one_past id runs places number e count at own))
+
+-- runs are still such where one of them changes into one
+pub runs_set : (runs : Runs) (number : ℕ) (run : Option (List EntryValue)) → IfSome run AreEntries → AreRuns runs → AreRuns (slice_set runs number run)
+runs_set [] number run one are k entries at = are k entries at
+runs_set (r ∷ runs) zero run one are zero entries at = are_one run one (same_Some run (Some entries) at)
+  where
+    are_one : (q : Option (List EntryValue)) → IfSome q AreEntries → q ≡ Some entries → AreEntries entries
+    are_one None a same = absurd (none-some entries same)
+    are_one (Some all) a same = subst AreEntries (same_Some all entries same) a
+runs_set (r ∷ runs) zero run one are (suc k) entries at = are (suc k) entries at
+runs_set (r ∷ runs) (suc number) run one are zero entries at = are zero entries at
+runs_set (r ∷ runs) (suc number) run one are (suc k) entries at = runs_set runs number run one (λ j. are (suc j)) k entries at

@@ -240,11 +240,11 @@ some_length n h same none = grind (arith, nat_tests)
 
 -- ---- the step of the merge, and its end
 
-pub continues_step : (runs : Runs) (places : List ℕ) (id : ShardId) (old new : List BindingValue) → length places ≡ length runs → AreRising runs → IsLeast (ahead runs places) id →
-    IsBound (ahead runs places) id old new → Continues runs (ahead runs places) old → Continues runs (ahead runs (places_past id runs places)) new
-continues_step runs places id old new count rising least bound so_far later map =
+pub continues_step : (all runs : Runs) (places : List ℕ) (id : ShardId) (old new : List BindingValue) → length places ≡ length runs → AreRising runs → IsLeast (ahead runs places) id →
+    IsBound (ahead runs places) id old new → Continues all (ahead runs places) old → Continues all (ahead runs (places_past id runs places)) new
+continues_step all runs places id old new count rising least bound so_far later map =
     let next : List BindingValue = filter has_locator (bound.binding ∷ []) in
-    let whole : IsShardMap runs (old ++ (next ++ later)) =
+    let whole : IsShardMap all (old ++ (next ++ later)) =
     so_far (next ++ later) (next_bound (ahead runs places) id bound.binding later (rising_left runs places rising) least bound.newest bound.own (rw (left_behind id runs places count) at map)) in
     rw (bound.appended, append_assoc) whole
 

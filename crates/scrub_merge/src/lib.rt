@@ -9,6 +9,6 @@ pub mod shard_map;
 mod under;
 
 pub use binding::Binding;
-pub use merging::{merge, one_shard_map};
+pub use merging::{merge, merge_owned, one_shard_map};
 pub use scrub_run::OutOfMemory;
 pub use shard_map::ShardMap;

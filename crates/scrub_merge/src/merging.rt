@@ -2,30 +2,17 @@
 //! under them: the least identifier is bound by the newest run that has it, and every cursor that has it moves on. Which
 //! runs are lost is found by `read_runs` of `scrub_check`.
 
-ghost use Rattle.std.specs.Prelude.{◌≡◌, List, ◌<◌, ◌≤◌, ◌^◌, ◌↔◌, IsTrue, IfOk, OnOk, length};
+ghost use Rattle.std.specs.Prelude.{◌≡◌, List, ℕ, Some, None, ◌<◌, ◌≤◌, ◌^◌, ◌↔◌, IsTrue, IfNone, IfOk, IfSome, OnOk, length, slice_get, slice_index, unwrap_or};
 ghost use Rattle.scrub_merge.specs.Binding.{BindingValue, Runs, LostBefore};
-ghost use Rattle.scrub_merge.specs.Cursors.{ahead, IsLeast, IsFirstWith, IsBound, AreRising};
+ghost use Rattle.scrub_merge.specs.Cursors.{ahead, entry_at, IsLeast, IsFirstWith, IsBound, AreRising};
 ghost use Rattle.scrub_merge.specs.ShardMap.{AreRuns, IsShardMap};
 
 use crate::binding::Binding;
-use crate::cursors::{entry_under, heap_of, move_on};
+use crate::cursors::{heap_of, move_on};
 use crate::shard_map::ShardMap;
 use crate::under::Under;
 use scrub_run::{Entry, OutOfMemory, Run};
 use std::alloc::Global;
-
-/// The binding by a copy of an entry.
-fn binding_of(
-    alloc: Global,
-    entry: &Entry,
-    number: u32,
-    doubtful: bool,
-) -> Result<Binding, OutOfMemory>
-    ensures { IfOk result (λ b. b ≡ record { id = entry.now.id; locators = entry.now.locators; run = number; doubtful = doubtful }) }
-{
-    let copy = Entry::new(entry.id(), Vec::from_slice(alloc, entry.locators())?);
-    Ok(Binding::new(copy, number, doubtful))
-}
 
 /// Whether a run before the one of this number is lost.
 fn is_doubtful(runs: &[Option<Run>], number: usize) -> bool
@@ -35,46 +22,89 @@ fn is_doubtful(runs: &[Option<Run>], number: usize) -> bool
     runs[..number].iter().any(|run| run.is_none())
 }
 
-/// Binds the least identifier under the cursors, of the newest run that has it: appends the binding, if it has a locator.
+/// Hands out the entry at a place of the run of this number. It stays there without its locators.
+fn take_entry(alloc: Global, runs: &mut [Option<Run>], number: usize, place: usize) -> Option<Entry>
+    requires { number < length runs.old }
+    ensures found { IfSome result (λ e. entry_at (unwrap_or (slice_get runs.old number) None) place ≡ Some e) }
+    ensures none { IfNone result (entry_at (unwrap_or (slice_get runs.old number) None) place ≡ None) }
+    ensures count { length runs.new ≡ length runs.old }
+    ensures runs { AreRuns runs.old → AreRuns runs.new }
+    ensures ahead { (places : List ℕ) → length places ≡ length runs.old → place < slice_index places number →
+        ahead runs.new places ≡ ahead runs.old places }
+{
+    match &mut runs[number] {
+        Some(run) => run.take(alloc, place),
+        None => None,
+    }
+}
+
+/// Binds an identifier that was the least one, by the entry of the newest run that had it under its cursor, at this place:
+/// appends the binding, if it has a locator. It takes the entry over.
 fn bind_newest(
     alloc: Global,
-    runs: &[Option<Run>],
-    places: &[usize],
-    least: &Under,
+    runs: &mut [Option<Run>],
+    place: usize,
+    newest: &Under,
     bindings: &mut Vec<Binding>,
 ) -> Result<(), OutOfMemory>
-    requires few { length runs.now < 2 ^ 32 }
-    requires places { length places.now ≡ length runs.now }
-    requires rising { AreRising runs.now }
-    requires least { IsLeast (ahead runs.now places.now) least.now.id }
-    requires newest { IsFirstWith (ahead runs.now places.now) least.now.id least.now.number }
-    ensures { OnOk result (IsBound (ahead runs.now places.now) least.now.id bindings.old.items bindings.new.items) }
+    requires few { length runs.old < 2 ^ 32 }
+    requires within { newest.now.number < length runs.old }
+    requires runs { AreRuns runs.old }
+    ensures count { length runs.new ≡ length runs.old }
+    ensures runs { AreRuns runs.new }
+    ensures ahead { (places : List ℕ) → length places ≡ length runs.old → place < slice_index places newest.now.number →
+        ahead runs.new places ≡ ahead runs.old places }
+    ensures bound { (places : List ℕ) → length places ≡ length runs.old → slice_index places newest.now.number ≡ place →
+        IsLeast (ahead runs.old places) newest.now.id → IsFirstWith (ahead runs.old places) newest.now.id newest.now.number →
+        OnOk result (IsBound (ahead runs.old places) newest.now.id bindings.old.items bindings.new.items) }
 {
-    let number = least.number;
-    let Some(entry) = entry_under(&runs[number], places[number]) else {
+    let number = newest.number;
+    let doubtful = is_doubtful(runs, number);
+    let Some(entry) = take_entry(alloc, runs, number, place) else {
         return Ok(());
     };
-    let doubtful = is_doubtful(runs, number);
     if entry.locators().is_empty() {
         return Ok(());
     }
-    let binding = binding_of(alloc, entry, number as u32, doubtful)?;
-    bindings.push(binding)?;
+    bindings.push(Binding::new(entry, number as u32, doubtful))?;
     Ok(())
 }
 
-/// The shard map of a list of runs, newest first; `None` is a run that could not be read. A shard whose newest binding
-/// has no locator was deleted, and isn't in the map.
+/// Copies of runs.
+fn copies(alloc: Global, runs: &[Option<Run>]) -> Result<Vec<Option<Run>>, OutOfMemory>
+    ensures { IfOk result (λ v. v.items ≡ runs.now) }
+{
+    let mut all = Vec::with_capacity(alloc, runs.len())?;
+    for run in runs {
+        all.push(match run {
+            Some(run) => Some(run.copy(alloc)?),
+            None => None,
+        })?;
+    }
+    Ok(all)
+}
+
+/// The shard map of a list of runs, newest first; `None` is a run that could not be read. A shard whose newest binding has
+/// no locator was deleted, and isn't in the map. The runs are lent, so it is made of copies.
 pub fn merge(alloc: Global, runs: &[Option<Run>]) -> Result<ShardMap, OutOfMemory>
     requires { length runs.now < 2 ^ 32 }
     ensures { IfOk result (IsShardMap runs.now) }
 {
+    merge_owned(alloc, copies(alloc, runs)?)
+}
+
+/// The shard map of runs that are handed over, as `merge` makes it. It takes over the entries that it needs, and copies none.
+pub fn merge_owned(alloc: Global, mut runs: Vec<Option<Run>>) -> Result<ShardMap, OutOfMemory>
+    requires { length runs.items < 2 ^ 32 }
+    ensures { IfOk result (IsShardMap runs.items) }
+{
     let mut bindings = Vec::new(alloc);
     let mut places = vec![in alloc; 0; runs.len()]?;
-    let mut heap = heap_of(alloc, runs)?;
+    let mut heap = heap_of(alloc, &runs)?;
     while let Some(&least) = heap.peek() {
-        bind_newest(alloc, runs, &places, &least, &mut bindings)?;
-        move_on(runs, &mut places, &mut heap, least.id)?;
+        let place = places[least.number];
+        move_on(&runs, &mut places, &mut heap, least.id)?;
+        bind_newest(alloc, &mut runs, place, &least, &mut bindings)?;
     }
     Ok(ShardMap::new(bindings))
 }

@@ -18,7 +18,7 @@ use scrub_check::{
     named_locators, read_runs,
 };
 use scrub_disk::{OutOfMemory, PageSource};
-use scrub_merge::{ShardMap, merge};
+use scrub_merge::{ShardMap, merge_owned};
 use scrub_run::Run;
 use scrub_scan::AllFindings;
 use scrub_super::{Chosen, Plan};
@@ -92,10 +92,10 @@ pub(crate) fn parts_of<'d, R: Threads + Sync, D: PageSource>(
         all,
     } = scan;
     let read = read_runs(alloc, disk, &plan, &all)?;
-    let map = merge(alloc, read.runs())?;
     let in_doubt = is_in_doubt(&chosen, &read);
     let entries = entry_counts(alloc, read.runs())?;
-    let states = read.into_states();
+    let (runs, states) = read.into_parts();
+    let map = merge_owned(alloc, runs)?;
     let checked = judged_locators(rt, alloc, disk, &plan, &all, &states, &map)?;
     let liveness = liveness_of(alloc, &plan, &all, &checked, in_doubt)?;
     Ok(Parts {

@@ -1,10 +1,12 @@
 //! An entry of an index run. How it stands in a payload is left to `reading` and `writing`.
 
-ghost use Rattle.std.specs.Prelude.{◌≡◌};
+ghost use Rattle.std.specs.Prelude.{◌≡◌, [], IfOk};
 
 use crate::shard_id::ShardId;
-use scrub_frame::Locator;
+use scrub_frame::{Locator, OutOfMemory};
+use std::alloc::Global;
 use std::marker::Model;
+use std::mem;
 
 /// A shard and the locators of its chunks, as one index run tells of it. An entry without locators says that the shard
 /// was deleted.
@@ -42,5 +44,22 @@ impl Entry {
         ensures { result.now ≡ self.now.locators }
     {
         self.locators.as_slice()
+    }
+
+    /// A copy of it.
+    pub(crate) fn copy(&self, alloc: Global) -> Result<Entry, OutOfMemory>
+        ensures { IfOk result (λ e. e ≡ self.now) }
+    {
+        let locators = Vec::from_slice(alloc, self.locators())?;
+        Ok(Entry::new(self.id, locators))
+    }
+
+    /// Hands out what it is, and has no locator from then on. Takes no memory.
+    pub(crate) fn take(&mut self, alloc: Global) -> Entry
+        ensures taken { result ≡ self.old }
+        ensures emptied { self.new ≡ record { id = self.old.id; locators = [] } }
+    {
+        let locators = mem::replace(&mut self.locators, Vec::new(alloc));
+        Entry::new(self.id, locators)
     }
 }

@@ -1,9 +1,11 @@
 //! What an index run tells, and the law that a payload is one run at most. Reading and writing are left to `reading`
 //! and `writing`.
 
-ghost use Rattle.std.specs.Prelude.{◌≡◌, List, ℕ};
+ghost use Rattle.std.specs.Prelude.{◌≡◌, [], Some, None, List, ℕ, IfOk, IfSome, IfNone, slice_get, slice_set};
 
 use crate::entry::Entry;
+use scrub_frame::OutOfMemory;
+use std::alloc::Global;
 use std::marker::Model;
 
 /// The entries of an index run, in strictly rising order of identifier.
@@ -42,6 +44,33 @@ impl Run {
         ensures rising { AreEntries self.now }
     {
         self.entries.as_slice()
+    }
+
+    /// A copy of it.
+    pub fn copy(&self, alloc: Global) -> Result<Run, OutOfMemory>
+        ensures { IfOk result (λ r. r ≡ self.now) }
+    {
+        let mut entries = Vec::with_capacity(alloc, self.entries.len())?;
+        for entry in self.entries.as_slice() {
+            entries.push(entry.copy(alloc)?)?;
+        }
+        Ok(Run::new(entries))
+    }
+
+    /// Hands out the entry at a place; `None` where none stands there. From then on the entry there has no locator. Takes no
+    /// memory.
+    pub fn take(&mut self, alloc: Global, place: usize) -> Option<Entry>
+        ensures found { IfSome result (λ e. slice_get self.old place ≡ Some e) }
+        ensures emptied { IfSome result (λ e. self.new ≡ slice_set self.old place (record { id = e.id; locators = [] })) }
+        ensures none { IfNone result (slice_get self.old place ≡ None) }
+        ensures same { IfNone result (self.new ≡ self.old) }
+        // Every value of the type is such.
+        ensures entries { AreEntries self.new }
+    {
+        if place >= self.entries.len() {
+            return None;
+        }
+        Some(self.entries[place].take(alloc))
     }
 }
 

@@ -3,7 +3,7 @@
 
 use crate::disks::{entry_of, payload_of, shard};
 use scrub_fakes::abc_at;
-use scrub_merge::{Binding, ShardMap, merge};
+use scrub_merge::{Binding, ShardMap, merge, merge_owned};
 use scrub_run::{Entry, Run, read_run};
 use std::alloc::Global;
 use std::process::Abort;
@@ -191,7 +191,7 @@ fn thirty_two_runs_of_two_thousand_entries(rt: HostRuntime) -> Result<(), Fail> 
         runs.push(Some(numbered(rt.alloc(), 1000 * run)?))?;
     }
     assert!(rt; runs.len() == 32);
-    let map = merge(rt.alloc(), &runs)?;
+    let map = merge_owned(rt.alloc(), runs)?;
     assert!(rt; map.bindings().len() == 33_000);
     check_numbered(&rt, map.bindings());
     assert!(rt; map.get(&shard(32_999)).is_some() && map.get(&shard(33_000)).is_none());

@@ -1,5 +1,5 @@
 -- Where the first has another identifier, all have: none is below this one.
-use Rattle.std.proofs.Common.{List, zero, true, false, ◌≡◌, sym, ◌∙◌, ap}
+use Rattle.std.proofs.Common.{zero, true, false, ◌≡◌, sym, ◌∙◌, ap}
 use Rattle.std.specs.BinaryHeap.{heap_items}
 use Rattle.std.specs.Ordering.{is_ne}
 use Rattle.std.proofs.lemmas.Option.{IfSome_then}

@@ -13,7 +13,7 @@ use Rattle.scrub_report.proofs.scrubbing.parts_of.Goals as goal
 pub judged_locators-requires-clause-states : goal.judged_locators-requires-clause-states
 judged_locators-requires-clause-states g c κs within =
     let image = g.D.PageSource.image c.args.scan.disk.now in
-    subst (λ (ss : List RunState). AreRunStates image c.args.scan.plan ss) (sym (c.deref.ensures.value ∙ c.into_states-states.ensures.states)) (states_read image c.args.scan.plan c.in_ok-read.read c.in_ok-read.ensures)
+    subst (λ (ss : List RunState). AreRunStates image c.args.scan.plan ss) (sym (c.deref.ensures.value ∙ c.into_parts-runs.ensures.states)) (states_read image c.args.scan.plan c.in_ok-read.read c.in_ok-read.ensures)
 
 pub invariant_of-result : goal.invariant_of-result
 invariant_of-result g c =
@@ -32,7 +32,7 @@ returns g c =
     let candidates = subst (λ (cs : List Checked). AreCandidates c.args.scan.plan c.args.scan.all.extents cs in_doubt liveness.candidates.items) c.deref-2.ensures.value c.in_ok-liveness.ensures.candidates in
     record {
       read = c.in_ok-read.read;
-      counted = c.into_states-states.ensures.counted;
+      counted = c.into_parts-runs.ensures.counted;
       kept = search rules;
       scrubbed = search (rules, shared, candidates);
     }

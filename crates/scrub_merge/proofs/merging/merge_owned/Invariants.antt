@@ -1,0 +1,20 @@
+-- Whatever is bound by what is ahead of the cursors, behind the bindings so far it is the shard map of the runs that were
+-- handed in; what stands first in it is in the heap; and ever less is ahead.
+use Rattle.std.proofs.Common.{◌≡◌, length}
+use Rattle.std.specs.BinaryHeap.{heap_items}
+use Rattle.scrub_merge.specs.Cursors.{ahead, Continues, IsHeapOf}
+use Rattle.scrub_merge.specs.ShardMap.{AreRuns}
+use Rattle.scrub_merge.proofs.Left.{entries_left}
+use Rattle.scrub_merge.proofs.merging.merge_owned.Given as goal
+
+abbrev pub invariant-loop-least : goal.invariant-loop-least
+invariant-loop-least l = record {
+  count : length l.runs.items ≡ length l.fn.runs.items;
+  places : length l.places.items ≡ length l.runs.items;
+  runs : AreRuns l.runs.items;
+  heap : IsHeapOf (ahead l.runs.items l.places.items) (heap_items l.heap);
+  continues : Continues l.fn.runs.items (ahead l.runs.items l.places.items) l.bindings.items;
+}
+
+abbrev pub decreases-loop-least : goal.decreases-loop-least
+decreases-loop-least l = entries_left (ahead l.runs.items l.places.items)
