@@ -1,0 +1,7 @@
+pub mod FieldCuts
+pub mod Keeping
+pub mod Lost
+pub mod MapLaws
+pub mod MapLines
+pub mod Numerals
+pub mod TextLines

@@ -1,0 +1,12 @@
+use Rattle.std.proofs.Common.{arith}
+use Rattle.scrub_map.proofs.Lost.{marks_all, marks_more, marks_none}
+use Rattle.scrub_map.proofs.gap.Gap.mark.Goals as goal
+
+pub loop-number-init : goal.loop-number-init
+loop-number-init c = marks_none _ _ _
+
+pub loop-number-preserved : goal.loop-number-preserved
+loop-number-preserved c = marks_more _ _ _ _ _ c.loop-number.auto.number c.loop-number-test.true (omega arith) c.loop-number.invariant
+
+pub returns : goal.returns
+returns c = marks_all _ _ _ _ _ _ c.requires c.min-behind.ensures c.loop-number-test.false c.loop-number.invariant

@@ -1,0 +1,11 @@
+-- The words of this crate's public clauses.
+pub mod Number
+pub mod Fields
+pub mod Lines
+pub mod Map
+pub mod Fault
+pub mod Rescued
+pub mod Kept
+-- The steps of the code: gaps that are marked, and lines that are read.
+pub mod Gaps
+pub mod Reading
