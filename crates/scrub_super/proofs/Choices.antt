@@ -1,5 +1,5 @@
 -- The choice that follows from what was found in extent 0.
-use Rattle.std.proofs.Common.{◌≡◌, ◌≢◌, ◌<◌, ◌≤◌, ◌+◌, ◌*◌, ◌/◌, ◌%◌, ◌-◌, ℕ, List, [], Bool, true, false, cond, length, drop, get_or, arith, refl, sym, ◌∙◌, ap, Option, Some, None, inl, inr, IsTrue, filter, not, is_none, length-drop, option_and_then, slice_get}
+use Rattle.std.proofs.Common.{◌≡◌, ◌≢◌, ◌<◌, ◌≤◌, ◌+◌, ◌*◌, ◌/◌, ◌%◌, ◌-◌, ℕ, List, [], Bool, true, false, cond, length, drop, get_or, arith, refl, sym, ◌∙◌, ap, Option, Some, None, inl, inr, IsTrue, ◌↔◌, filter, not, is_none, length-drop, option_and_then, slice_get}
 use Rattle.std.specs.List.{between, range_with_len}
 use Rattle.std.proofs.lemmas.Bool.{cases_eq, cases_lt, le-ltb, false≢true}
 use Rattle.std.proofs.lemmas.Option.{same_Some, none-some}
@@ -86,6 +86,51 @@ choice_without image f bad found is hb = record {
     absent : (g n : ℕ) → 0 ≤ g → StandsFrom image g n → ⊥
     absent = rw is at found.newest
 
+-- no record is newer than the newest that was found, and the tie is found
+pub greatest_found : (image : Image) (f : RecordsSeen) (b : Newest) (n : ℕ) → AreSeenFrom (StandsFrom image) 0 f → f.newest ≡ Some b → b.generation ≤ n → IsGreatest image n
+greatest_found image f b n found is low g d s =
+    let newest : IsNewestFrom (StandsFrom image) 0 b = rw is at found.newest in
+    omega (arith, newest.greatest g d.generation (omega arith) (d, s, refl), low)
+
+pub newer_found : (image : Image) (f : RecordsSeen) (b : Newest) (n : ℕ) → AreSeenFrom (StandsFrom image) 0 f → f.newest ≡ Some b → n < b.generation → IsGreatest image n → ⊥
+newer_found image f b n found is older greatest =
+    let newest : IsNewestFrom (StandsFrom image) 0 b = rw is at found.newest in
+    omega (arith, greatest b.page newest.there.0 newest.there.1, newest.there.2, older)
+
+pub nothing_found : (image : Image) (f : RecordsSeen) (g : ℕ) (c : Contents) → AreSeenFrom (StandsFrom image) 0 f → f.newest ≡ None → RecordStandsAt image g c → ⊥
+nothing_found image f g c found is s = absent g c.generation (omega arith) (c, s, refl)
+  where
+    absent : (q n : ℕ) → 0 ≤ q → StandsFrom image q n → ⊥
+    absent = rw is at found.newest
+
+pub tie_found : (image : Image) (f : RecordsSeen) (b : Newest) → AreSeenFrom (StandsFrom image) 0 f → f.newest ≡ Some b → IsTrue b.tie ↔ IsTie image
+tie_found image f b found is = (tied, untied)
+  where
+    newest : IsNewestFrom (StandsFrom image) 0 b
+    newest = rw is at found.newest
+
+    tied : IsTrue b.tie → IsTie image
+    tied tie = let x : (g : ℕ) × (g ≢ b.page) × (0 ≤ g) × StandsFrom image g b.generation = newest.tied.0 tie in record {
+      one = b.page;
+      other = x.0;
+      apart = λ e. x.1 (sym e);
+      contents = newest.there.0;
+      contents_of_other = x.3.0;
+      stands = newest.there.1;
+      other_stands = x.3.1;
+      same = x.3.2 ∙ sym newest.there.2;
+      greatest = greatest_found image f b newest.there.0.generation found is (omega (arith, newest.there.2));
+    }
+
+    untied : IsTie image → IsTrue b.tie
+    untied t =
+        let top : t.contents.generation ≡ b.generation =
+        omega (arith, newest.greatest t.one t.contents.generation (omega arith) (t.contents, t.stands, refl), t.greatest b.page newest.there.0 newest.there.1, newest.there.2) in
+        elim (cases_eq t.one b.page) [
+          | inl here ↦ newest.tied.1 (t.other, (λ e. t.apart (here ∙ sym e)), omega arith, (t.contents_of_other, t.other_stands, t.same ∙ top))
+          | inr elsewhere ↦ newest.tied.1 (t.one, elsewhere, omega arith, (t.contents, t.stands, top))
+        ]
+
 -- the newest that was found, read where it stands
 pub choice_by : (image : Image) (bytes : List ℕ) (readable : List Bool) (f : RecordsSeen) (b : Newest) (c : Contents) (bad : List ℕ) →
     IsBuffered image 0 bytes readable → AreSeenFrom (StandsFrom image) 0 f → f.newest ≡ Some b →
@@ -95,7 +140,7 @@ choice_by image bytes readable f b c bad h found is begins hb = record {
   geometry = refl;
   chosen = record {
     stands = stands;
-    greatest = greatest;
+    greatest = greatest_found image f b c.generation found is (omega (arith, generation));
     lowest = λ g d s same. newest.lowest g (omega arith) (d, s, same ∙ generation);
   };
   records = (
@@ -109,7 +154,7 @@ choice_by image bytes readable f b c bad h found is begins hb = record {
     },
     found.records,
   );
-  tie = (tied, untied);
+  tie = tie_found image f b found is;
   bad_pages = hb;
 }
   where
@@ -124,31 +169,6 @@ choice_by image bytes readable f b c bad h found is begins hb = record {
 
     generation : c.generation ≡ b.generation
     generation = ap (λ d. d.generation) (sym same) ∙ newest.there.2
-
-    greatest : IsGreatest image c.generation
-    greatest g d s = omega (arith, newest.greatest g d.generation (omega arith) (d, s, refl), generation)
-
-    tied : IsTrue b.tie → IsTie image
-    tied tie = let x : (g : ℕ) × (g ≢ b.page) × (0 ≤ g) × StandsFrom image g b.generation = newest.tied.0 tie in record {
-      one = b.page;
-      other = x.0;
-      apart = λ e. x.1 (sym e);
-      contents = c;
-      contents_of_other = x.3.0;
-      stands = stands;
-      other_stands = x.3.1;
-      same = x.3.2 ∙ sym generation;
-      greatest = greatest;
-    }
-
-    untied : IsTie image → IsTrue b.tie
-    untied t =
-        let top : t.contents.generation ≡ b.generation =
-        omega (arith, newest.greatest t.one t.contents.generation (omega arith) (t.contents, t.stands, refl), t.greatest b.page c stands, generation) in
-        elim (cases_eq t.one b.page) [
-          | inl here ↦ newest.tied.1 (t.other, (λ e. t.apart (here ∙ sym e)), omega arith, (t.contents_of_other, t.other_stands, t.same ∙ top))
-          | inr elsewhere ↦ newest.tied.1 (t.one, elsewhere, omega arith, (t.contents, t.stands, top))
-        ]
 
 -- what was found in the bytes is what stands on the image
 pub found_of : (image : Image) (g : Geometry) (xs bytes : List ℕ) (ys readable : List Bool) (f : RecordsSeen) → g ≡ image.geometry → xs ≡ bytes → ys ≡ readable → IsBuffered image 0 bytes readable →

@@ -10,3 +10,11 @@ pub mod RecordsSeenSteps
 pub mod Steps
 pub mod Choices
 pub mod Laws
+pub mod PageLaws
+pub mod PageSteps
+pub mod RisingLists
+pub mod Geometries
+pub mod BlocksFront
+pub mod AnywhereSteps
+pub mod LostRuns
+pub mod FoundAnywhere

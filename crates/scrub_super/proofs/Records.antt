@@ -140,6 +140,12 @@ record_parts g x c h =
 abbrev pub digest_place : Geometry → ℕ → Option ℕ → ℕ
 digest_place g r k = record_head_size k + 4 * (g.extents - 1) + 4 * retired_count k + 60 * r
 
+-- how long the record of some contents is
+pub length_record : (g : Geometry) (c : Contents) → AreContents g c → length (record_bytes g c) ≡ digest_place g (length c.runs) (count_in c) + 32
+length_record g c h =
+    simp length-append
+    (omega (arith, length-sha256 (record_body g c), length_head g c.generation (length c.runs) (count_in c), length_pointers g c.pointers h.pointers, length_retired c.retired, length_runs c.runs h.runs))
+
 pub record_of_parts : (g : Geometry) (x : List ℕ) (c : Contents) → AreContents g c → AreRecordParts g x c → BeginsWithRecord g x c
 record_of_parts g x c contents h = record {
   contents = contents;

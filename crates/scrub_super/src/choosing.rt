@@ -35,7 +35,7 @@ pub(crate) struct RecordsSeen {
 ghost use Rattle.scrub_super.specs.RecordsSeen.{AddsRecord, AreSeenFrom, StandsFrom};
 
 /// What was seen with one more record, on a lower page than those before.
-fn with_record(seen: RecordsSeen, page: u32, generation: u64) -> RecordsSeen
+pub(crate) fn with_record(seen: RecordsSeen, page: u32, generation: u64) -> RecordsSeen
     requires { seen.records + 1 < 2 ^ 32 }
     ensures { AddsRecord seen result page generation }
 {
@@ -59,7 +59,7 @@ fn with_record(seen: RecordsSeen, page: u32, generation: u64) -> RecordsSeen
 }
 
 /// Where the readable pages from a page on end, by where those from the next page on do.
-fn readable_end(readable: &[bool], page: usize, next_end: usize) -> usize
+pub(crate) fn readable_end(readable: &[bool], page: usize, next_end: usize) -> usize
     requires in_pages { page < length readable.now }
     requires next { IsNextUnreadable readable.now (page + 1) next_end }
     ensures { IsNextUnreadable readable.now page result }
@@ -124,14 +124,18 @@ fn superblock_at(
     }
 }
 
-/// The superblock that counts on a disk: of the valid records in extent 0 the one of the greatest generation, and of
-/// equally new ones the one on the lowest page. Each page of extent 0 is read once, into one buffer; beside it memory is
-/// taken for a mark of each page, the list of the unreadable ones and the one superblock.
-pub fn choose<D: PageSource>(alloc: Global, disk: &D) -> Result<Chosen, OutOfMemory>
+/// What is chosen by the records that are seen in extent 0.
+pub(crate) fn chosen_by<D: PageSource>(
+    alloc: Global,
+    disk: &D,
+    extent: &BufferedExtent,
+    seen: RecordsSeen,
+) -> Result<Chosen, OutOfMemory>
+    requires buffered { IsBuffered (D.image disk.now) 0 extent.now.bytes.items extent.now.readable.items }
+    requires seen { AreSeenFrom (StandsFrom (D.image disk.now)) 0 seen }
     ensures { IfOk result (IsChoice (D.image disk.now)) }
 {
     let geometry = disk.geometry();
-    let (extent, seen) = search(alloc, disk)?;
     let bad_pages = unreadable_pages(alloc, &extent.readable)?;
     let Some(newest) = seen.newest else {
         return Ok(Chosen::without(geometry, bad_pages));
@@ -145,6 +149,16 @@ pub fn choose<D: PageSource>(alloc: Global, disk: &D) -> Result<Chosen, OutOfMem
         newest.tie,
         bad_pages,
     ))
+}
+
+/// The superblock that counts on a disk: of the valid records in extent 0 the one of the greatest generation, and of
+/// equally new ones the one on the lowest page. Each page of extent 0 is read once, into one buffer; beside it memory is
+/// taken for a mark of each page, the list of the unreadable ones and the one superblock.
+pub fn choose<D: PageSource>(alloc: Global, disk: &D) -> Result<Chosen, OutOfMemory>
+    ensures { IfOk result (IsChoice (D.image disk.now)) }
+{
+    let (extent, seen) = search(alloc, disk)?;
+    chosen_by(alloc, disk, &extent, seen)
 }
 
 /// A law: on a page of extent 0 stands one record at most, so an image has one choice.

@@ -1,0 +1,18 @@
+-- The blocks so far.
+use Rattle.std.proofs.Common.{◌≡◌, ◌<◌, ◌≤◌, ◌+◌, ◌-◌, ◌*◌, ℕ, IfSome, length}
+use Rattle.scrub_super.specs.Blocks.{IsMarked}
+use Rattle.scrub_super.specs.BlocksRead.{AreBlocksRead}
+use Rattle.scrub_super.proofs.anywhere.blocks.read_blocks.Given as goal
+
+abbrev pub invariant-loop-number : goal.invariant-loop-number
+invariant-loop-number g l = record {
+  same_bytes : g.R.RawImage.bytes l.raw ≡ g.R.RawImage.bytes l.initial.raw;
+  same_bound : g.R.RawImage.most_failures l.raw ≡ g.R.RawImage.most_failures l.initial.raw;
+  failures : g.R.RawImage.failures l.initial.raw ≤ g.R.RawImage.failures l.raw;
+  reads : g.R.RawImage.reads l.raw ≤ g.R.RawImage.reads l.initial.raw + l.number * 512;
+  size : length l.blocks.bytes.items ≡ 512 * l.number;
+  marks : length l.blocks.lost.items ≡ l.number;
+  begins : (n : ℕ) → IsMarked l.blocks.lost.items n → n * 512 < length l.blocks.bytes.items;
+  read : IfSome (g.R.RawImage.bytes l.initial.raw) (λ told.
+      AreBlocksRead told l.marked (g.R.RawImage.failures l.raw - g.R.RawImage.failures l.initial.raw) l.blocks.bytes.items l.blocks.lost.items);
+}

@@ -1,0 +1,9 @@
+-- The runs that end with a block so far, and where the lost blocks begin that go on with the next one.
+use Rattle.scrub_super.proofs.LostRuns.{AreRunsTo, RunsFrom}
+use Rattle.scrub_super.proofs.anywhere.ranges.lost_ranges.Given as goal
+
+abbrev pub invariant-loop-block : goal.invariant-loop-block
+invariant-loop-block l = record {
+  runs_from : RunsFrom l.lost l.first l.block;
+  ranges : AreRunsTo l.lost l.block l.ranges.items;
+}

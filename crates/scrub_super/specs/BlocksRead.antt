@@ -1,0 +1,63 @@
+-- Steps of reading a raw image in blocks, and of the search for records in them.
+use Rattle.std.specs.Prelude.{◌≡◌, ◌<◌, ◌≤◌, ◌+◌, ◌*◌, ◌/◌, ◌^◌, ◌%◌, ℕ, List, Bool, true, false, Some, ◌⊎◌, Contains, slice_get, slice_index, slice_index_or, take, [], ◌∷◌, ◌&&◌, not, if◌then◌else◌}
+use Rattle.std.specs.Prelude.{length as len}
+use Rattle.scrub_disk.specs.declared.geometry.Geometry.{Geometry}
+use Rattle.scrub_disk.specs.Image.{AreBytesAt, extent_bytes}
+use Rattle.scrub_super.specs.declared.anywhere.FoundRecord.{FoundRecord}
+use Rattle.scrub_super.specs.declared.anywhere.LostBytes.{LostBytes}
+use Rattle.scrub_super.specs.Contents.{Contents}
+use Rattle.scrub_super.specs.Record.{BeginsWithRecord, record_bytes}
+use Rattle.scrub_super.specs.Pages.{kind_of}
+use Rattle.scrub_super.specs.Blocks.{IsMarked}
+
+-- What a block came to that begins at an offset, whether it is marked or not: `n` bytes in the front of `out`, or lost. The
+-- failures are those that were counted before and behind it.
+pub record IsBlockRead (bytes : List ℕ) (offset : ℕ) (is_marked : Bool) (before after : ℕ) (out : List ℕ) (n : ℕ) (is_lost : Bool) : Type 0 where
+  pub read : is_lost ≡ false → AreBytesAt (slice_get bytes) offset (take n out)
+  pub ended : n < 512 → len bytes ≤ offset + n
+  pub marked : is_marked ≡ true → offset < len bytes → is_lost ≡ true
+  pub only : is_lost ≡ true → ((offset < len bytes) × (is_marked ≡ true)) ⊎ (before < after)
+
+-- there is a mark for each block of 512 bytes, and none behind the last byte
+pub record AreBlockMarks (bytes : List ℕ) (lost : List Bool) : Type 0 where
+  pub all : len bytes ≤ 512 * len lost
+  pub few : len lost ≤ 2 ^ 17
+  pub begins : (n : ℕ) → IsMarked lost n → n * 512 < len bytes
+
+-- the bytes of blocks that aren't lost are those of the raw image, and those are lost that marks and failures say
+pub record AreBlocksRead (bytes : List ℕ) (marks : List Bool) (failures : ℕ) (read : List ℕ) (lost : List Bool) : Type 0 where
+  pub held : (i : ℕ) → i < len read → ¬ IsMarked lost (i / 512) → slice_get bytes i ≡ Some (slice_index read i)
+  pub marked : (n : ℕ) → n < len lost → n * 512 < len bytes → IsMarked marks n → IsMarked lost n
+  pub failed : List ℕ
+  pub few : len failed ≤ failures
+  pub only : (n : ℕ) → IsMarked lost n → ((n * 512 < len bytes) × IsMarked marks n) ⊎ Contains failed n
+
+-- no byte behind those that were read is of concern: the raw image ends there, or they are 2^26
+pub record AreAllRead (bytes : List ℕ) (marks : List Bool) (failures : ℕ) (read : List ℕ) (lost : List Bool) : Type 0 where
+  pub blocks : AreBlocksRead bytes marks failures read lost
+  pub ended : (len bytes ≤ len read) ⊎ (len read ≡ 2 ^ 26)
+
+-- no byte from the offset on up to `end` is lost, and at `end` the bytes end or one is
+pub record IsReadableTo (size : ℕ) (lost : List Bool) (offset end : ℕ) : Type 0 where
+  pub from : offset ≤ end
+  pub within : end ≤ size
+  pub readable : (i : ℕ) → offset ≤ i → i < end → ¬ IsMarked lost (i / 512)
+  pub stops : end < size → IsMarked lost (end / 512)
+
+-- the bytes, which stand at an offset, begin with a record of a disk of these sizes, and it ends in extent 0
+pub record BeginsInPlace (bytes : List ℕ) (offset : ℕ) (g : Geometry) (c : Contents) : Type 0 where
+  pub page_bound : offset % g.page ≡ 0
+  pub within : offset + len (record_bytes g c) ≤ extent_bytes g
+  pub begins : BeginsWithRecord g bytes c
+
+-- such a record, as it is told
+abbrev pub TellsRecord : List ℕ → ℕ → FoundRecord → Type 0
+TellsRecord bytes offset r =
+    (c : Contents) × (r.offset ≡ offset) × BeginsInPlace bytes offset r.geometry c × (r.kind ≡ kind_of c) × (r.generation ≡ c.generation)
+
+-- the run of lost blocks from `first` on that ends with a block, if one does
+abbrev pub ended_run : List Bool → ℕ → ℕ → List LostBytes
+ended_run lost first block =
+    if slice_index_or lost block false && not (slice_index_or lost (block + 1) false)
+    then (record { from = first * 512; to = (block + 1) * 512 }) ∷ []
+    else []

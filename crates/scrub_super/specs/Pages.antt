@@ -1,0 +1,63 @@
+-- What each page of extent 0 holds of superblocks.
+use Rattle.std.specs.Prelude.{◌≡◌, ◌<◌, ◌+◌, ◌*◌, ℕ, List, All, Some, None, codes, take, slice_get}
+use Rattle.std.specs.Prelude.{length as len}
+use Rattle.std.specs.Option.{option_map_or}
+use Rattle.scrub_disk.specs.Image.{Image}
+use Rattle.scrub_super.specs.declared.pages.RecordKind.{RecordKind}
+use Rattle.scrub_super.specs.declared.pages.RecordKind.TheVariants.{Ssb1, Ssb2}
+use Rattle.scrub_super.specs.declared.pages.Rank.{Rank}
+use Rattle.scrub_super.specs.declared.pages.Rank.TheVariants.{Tie, Counts, Older}
+use Rattle.scrub_super.specs.declared.pages.SuperblockPage.{SuperblockPage}
+use Rattle.scrub_super.specs.declared.pages.SuperblockPage.TheVariants.{Lost, Record, Covered, Zero, Damaged, Stray}
+use Rattle.scrub_super.specs.Contents.{Contents}
+use Rattle.scrub_super.specs.Record.{record_bytes}
+use Rattle.scrub_super.specs.Chosen.{RecordStandsAt, IsGreatest, IsTie}
+
+-- the four bytes that a record of a kind begins with
+abbrev pub magic_of : RecordKind → List ℕ
+magic_of Ssb1 = codes "SSB1"
+magic_of Ssb2 = codes "SSB2"
+
+-- the kind of the record of these contents: the second where retired extents are listed
+abbrev pub kind_of : Contents → RecordKind
+kind_of c = option_map_or (λ _. Ssb2) c.retired Ssb1
+
+-- how new a record is beside the others of the image
+abbrev pub IsRank : Image → Contents → Rank → Type 0
+IsRank image c Tie = IsGreatest image c.generation × IsTie image
+IsRank image c Counts = IsGreatest image c.generation × ¬ IsTie image
+IsRank image c Older = ¬ IsGreatest image c.generation
+
+-- a valid record begins at the page
+abbrev pub HasRecord : Image → ℕ → Type 0
+HasRecord image q = (c : Contents) × RecordStandsAt image q c
+
+-- a byte of page q lies in a valid record that begins on a page before it
+pub record LiesInRecord (image : Image) (q : ℕ) : Type 0 where
+  pub start : ℕ
+  pub before : start < q
+  pub contents : Contents
+  pub stands : RecordStandsAt image start contents
+  pub reaches : q * image.geometry.page < start * image.geometry.page + len (record_bytes image.geometry contents)
+
+-- page q can be read, no valid record begins there, and no byte of it lies in one
+pub record IsUnclaimed (image : Image) (q : ℕ) (bytes : List ℕ) : Type 0 where
+  pub readable : image.page 0 q ≡ Some bytes
+  pub no_record : ¬ HasRecord image q
+  pub outside : ¬ LiesInRecord image q
+
+-- what page q of extent 0 holds
+abbrev pub IsSuperblockPage : Image → ℕ → SuperblockPage → Type 0
+IsSuperblockPage image q Lost = image.page 0 q ≡ None
+IsSuperblockPage image q (Record kind generation rank) =
+    (c : Contents) × RecordStandsAt image q c × (kind ≡ kind_of c) × (generation ≡ c.generation) × IsRank image c rank
+IsSuperblockPage image q Covered = (¬ HasRecord image q) × LiesInRecord image q
+IsSuperblockPage image q Zero = (bytes : List ℕ) × IsUnclaimed image q bytes × All (λ b. b ≡ 0) bytes
+IsSuperblockPage image q (Damaged kind) = (bytes : List ℕ) × IsUnclaimed image q bytes × (take 4 bytes ≡ magic_of kind)
+IsSuperblockPage image q Stray =
+    (bytes : List ℕ) × IsUnclaimed image q bytes × (¬ All (λ b. b ≡ 0) bytes) × ((kind : RecordKind) → ¬ (take 4 bytes ≡ magic_of kind))
+
+-- each page of extent 0 is told as what it holds, from page 0 on
+pub record AreSuperblockPages (image : Image) (pages : List SuperblockPage) : Type 0 where
+  pub count : len pages ≡ image.geometry.pages
+  pub each : (q : ℕ) (page : SuperblockPage) → slice_get pages q ≡ Some page → IsSuperblockPage image q page

@@ -1,0 +1,131 @@
+//! Reading the front of a raw image in blocks of 512 bytes, some of which may be lost. What the bytes mean is left to
+//! `search`.
+
+ghost use Rattle.std.specs.Prelude.{◌≡◌, ◌+◌, ◌-◌, ◌*◌, ◌<◌, ◌≤◌, ◌^◌, ◌++◌, ◌∷◌, [], true, false, IfOk, IfSome, OnErr, OnOk, length, slice_get, slice_index_or, take};
+ghost use Rattle.scrub_disk.specs.Image.{AreBytesAt};
+ghost use Rattle.scrub_super.specs.BlocksRead.{AreAllRead, AreBlockMarks, IsBlockRead};
+
+use scrub_disk::{OutOfMemory, RawFault, RawImage};
+use std::alloc::Global;
+
+/// The bytes of a block.
+const BLOCK_BYTES: usize = 512;
+
+/// How many blocks are read at most: 67,108,864 bytes, which no extent 0 is longer than.
+const MOST_BLOCKS: usize = 131072;
+
+/// The front of a raw image.
+#[derive(Drop)]
+pub(crate) struct Blocks {
+    /// The bytes, as far as the image or its front has them. Those of a lost block mean nothing.
+    pub bytes: Vec<u8>,
+    /// Which blocks are lost.
+    pub lost: Vec<bool>,
+}
+
+/// What a block came to.
+#[derive(Clone, Copy)]
+struct Block {
+    /// How many bytes it has, fewer than 512 only where the image ends.
+    len: usize,
+    is_lost: bool,
+}
+
+/// Fills the front of `out` with the bytes from an offset on, in as many reads as it takes, and says how many there are:
+/// fewer than `out` has room for only where the image ends.
+fn read_front<R: RawImage>(raw: &mut R, offset: u64, out: &mut [u8]) -> Result<usize, RawFault>
+    requires few_reads { R.reads raw.old + length out.old < 2 ^ 63 }
+    requires in_range { offset + length out.old < 2 ^ 64 }
+    ensures within { IfOk result (λ n. n ≤ length out.new) }
+    ensures read { IfOk result (λ n. IfSome (R.bytes raw.old) (λ bytes. AreBytesAt (slice_get bytes) offset (take n out.new))) }
+    ensures ended { IfOk result (λ n. n < length out.new → IfSome (R.bytes raw.old) (λ bytes. length bytes ≤ offset + n)) }
+    ensures failed { OnErr result (R.failures raw.old < R.failures raw.new) }
+    ensures failures { R.failures raw.old ≤ R.failures raw.new }
+    ensures same_bytes { R.bytes raw.new ≡ R.bytes raw.old }
+    ensures same_bound { R.most_failures raw.new ≡ R.most_failures raw.old }
+    ensures reads { R.reads raw.new ≤ R.reads raw.old + length out.old }
+{
+    let mut done = 0;
+    while done < out.len() {
+        let more = raw.read_at(offset + done as u64, &mut out[done..])?;
+        if more == 0 {
+            return Ok(done);
+        }
+        done += more;
+    }
+    Ok(done)
+}
+
+/// Reads a block into `out`, which has its size, and says what came of it. A block that can't be read is taken for whole.
+fn read_block<R: RawImage>(raw: &mut R, offset: u64, is_marked: bool, out: &mut [u8]) -> Block
+    requires few_reads { R.reads raw.old + 512 < 2 ^ 63 }
+    requires in_range { offset + 512 < 2 ^ 64 }
+    requires size { length out.old ≡ 512 }
+    ensures within { result.len ≤ 512 }
+    ensures lost { result.is_lost ≡ true → 0 < result.len }
+    ensures read { IfSome (R.bytes raw.old) (λ bytes.
+        IsBlockRead bytes offset is_marked (R.failures raw.old) (R.failures raw.new) out.new result.len result.is_lost) }
+    ensures failures { R.failures raw.old ≤ R.failures raw.new }
+    ensures same_bytes { R.bytes raw.new ≡ R.bytes raw.old }
+    ensures same_bound { R.most_failures raw.new ≡ R.most_failures raw.old }
+    ensures reads { R.reads raw.new ≤ R.reads raw.old + 512 }
+{
+    match read_front(raw, offset, out) {
+        Ok(len) => Block {
+            len,
+            is_lost: is_marked && len > 0,
+        },
+        Err(_) => Block {
+            len: BLOCK_BYTES,
+            is_lost: true,
+        },
+    }
+}
+
+/// Whether a block is marked. A block past the list's end isn't.
+fn is_marked(marks: &[bool], number: usize) -> bool
+    ensures { result ≡ slice_index_or marks.now number false }
+{
+    number < marks.len() && marks[number]
+}
+
+/// Adds a block behind those so far.
+fn add_block(blocks: &mut Blocks, bytes: &[u8], is_lost: bool) -> Result<(), OutOfMemory>
+    ensures bytes { OnOk result (blocks.new.bytes.items ≡ blocks.old.bytes.items ++ bytes.now) }
+    ensures lost { OnOk result (blocks.new.lost.items ≡ blocks.old.lost.items ++ is_lost ∷ []) }
+{
+    blocks.bytes.extend_from_slice(bytes)?;
+    blocks.lost.push(is_lost)?;
+    Ok(())
+}
+
+/// Reads the front of a raw image, block by block.
+pub(crate) fn read_blocks<R: RawImage>(
+    alloc: Global,
+    raw: &mut R,
+    marked: &[bool],
+) -> Result<Blocks, OutOfMemory>
+    requires few_reads { R.reads raw.old < 2 ^ 62 }
+    ensures marks { IfOk result (λ b. AreBlockMarks b.bytes.items b.lost.items) }
+    ensures read { IfOk result (λ b. IfSome (R.bytes raw.old) (λ told.
+        AreAllRead told marked.now (R.failures raw.new - R.failures raw.old) b.bytes.items b.lost.items)) }
+    ensures failures { R.failures raw.old ≤ R.failures raw.new }
+    ensures same_bytes { R.bytes raw.new ≡ R.bytes raw.old }
+    ensures same_bound { R.most_failures raw.new ≡ R.most_failures raw.old }
+    ensures reads { R.reads raw.new ≤ R.reads raw.old + 2 ^ 26 }
+{
+    let mut blocks = Blocks {
+        bytes: Vec::new(alloc),
+        lost: Vec::new(alloc),
+    };
+    let mut buffer = [0u8; BLOCK_BYTES];
+    for number in 0..MOST_BLOCKS {
+        let start = number as u64 * BLOCK_BYTES as u64;
+        let block = read_block(raw, start, is_marked(marked, number), &mut buffer);
+        add_block(&mut blocks, &buffer[..block.len], block.is_lost)?;
+        if block.len < BLOCK_BYTES {
+            break;
+        }
+    }
+    Ok(blocks)
+}

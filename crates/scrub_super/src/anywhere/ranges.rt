@@ -1,0 +1,56 @@
+//! The runs of lost blocks.
+
+ghost use Rattle.std.specs.Prelude.{◌≡◌, ◌+◌, ◌*◌, ◌<◌, ◌≤◌, ◌^◌, ◌++◌, IfOk, OnOk, length};
+ghost use Rattle.scrub_super.specs.Anywhere.{AreLostRanges};
+ghost use Rattle.scrub_super.specs.BlocksRead.{ended_run};
+
+use crate::anywhere::LostBytes;
+use scrub_disk::OutOfMemory;
+use std::alloc::Global;
+
+/// The bytes of neighbouring blocks, from the first one up to the one behind them.
+fn bytes_of(first: usize, stop: usize) -> LostBytes
+    requires first { first ≤ 2 ^ 17 }
+    requires stop { stop ≤ 2 ^ 17 }
+    ensures from { result.from ≡ first * 512 }
+    ensures to { result.to ≡ stop * 512 }
+{
+    LostBytes {
+        from: first as u32 * 512,
+        to: stop as u32 * 512,
+    }
+}
+
+/// Adds the run that ends with a block, if one does: where the block is lost and the next one isn't.
+fn add_run(
+    ranges: &mut Vec<LostBytes>,
+    lost: &[bool],
+    first: usize,
+    block: usize,
+) -> Result<(), OutOfMemory>
+    requires few { length lost.now ≤ 2 ^ 17 }
+    requires block { block < length lost.now }
+    requires first { first ≤ 2 ^ 17 }
+    ensures { OnOk result (ranges.new.items ≡ ranges.old.items ++ ended_run lost.now first block) }
+{
+    if lost[block] && (block + 1 == lost.len() || !lost[block + 1]) {
+        ranges.push(bytes_of(first, block + 1))?;
+    }
+    Ok(())
+}
+
+/// The runs of lost blocks, as bytes, each as long as it goes.
+pub(crate) fn lost_ranges(alloc: Global, lost: &[bool]) -> Result<Vec<LostBytes>, OutOfMemory>
+    requires { length lost.now ≤ 2 ^ 17 }
+    ensures { IfOk result (λ v. AreLostRanges lost.now v.items) }
+{
+    let mut ranges = Vec::new(alloc);
+    let mut first = 0;
+    for block in 0..lost.len() {
+        if !lost[block] {
+            first = block + 1;
+        }
+        add_run(&mut ranges, lost, first, block)?;
+    }
+    Ok(ranges)
+}

@@ -1,0 +1,117 @@
+//! The search for records in bytes of which some blocks are lost: each multiple of 64 is judged by itself.
+//!
+//! The ranges of a record are judged before anything is hashed, so a forged file can't make the search hash much. The
+//! numbers of a record that is hashed don't hold the first bytes of another one: as a number, `SSB1` or `SSB2` is above each
+//! range, and so is what begins with its last two bytes, which is what the numbers of the first kind would hold. So the
+//! numbers of such records don't overlap, and have 67,108,864 bytes together at most. Beside them each record has 28 bytes
+//! before its numbers and 1,920 of locators at most. It begins at one of 196,608 places, since pages have to be larger than
+//! offset / 65,536: there are 65,536 places below 4 MiB, and 32,768 from each of 4, 8, 16 and 32 MiB up to twice as much.
+//! Together these are less than 451 million bytes.
+
+ghost use Rattle.std.specs.Prelude.{◌≡◌, ◌+◌, ◌*◌, ◌%◌, ◌<◌, ◌≤◌, ◌^◌, ◌++◌, ℕ, Option, Some, IfOk, IfSome, OnOk, length, option_to_list};
+ghost use Rattle.scrub_disk.specs.declared.geometry.Geometry.{Geometry};
+ghost use Rattle.scrub_super.specs.declared.anywhere.FoundRecord.{FoundRecord};
+ghost use Rattle.scrub_super.specs.Anywhere.{AreFoundRecords};
+ghost use Rattle.scrub_super.specs.Blocks.{byte_left};
+ghost use Rattle.scrub_super.specs.BlocksRead.{AreBlockMarks, IsReadableTo, TellsRecord};
+ghost use Rattle.scrub_super.specs.Contents.{Contents};
+ghost use Rattle.scrub_super.specs.Record.{BeginsWithRecord};
+
+use crate::anywhere::FoundRecord;
+use crate::pages::kind_by;
+use crate::record::record_at;
+use byteorder::{BigEndian, ByteOrder};
+use scrub_disk::{Geometry, OutOfMemory};
+use std::alloc::Global;
+
+/// The sizes that a record has which the bytes begin with, if they begin with one. Nearly all other bytes are refused by
+/// the first three.
+fn sizes_in(bytes: &[u8]) -> Option<Geometry>
+    ensures { (g : Geometry) (c : Contents) → BeginsWithRecord g bytes.now c → result ≡ Some g }
+{
+    let front = bytes.first_chunk::<26>()?;
+    if front[0] != b'S' || front[1] != b'S' || front[2] != b'B' {
+        return None;
+    }
+    let page = BigEndian::read_u32(&front[12..16]);
+    let pages = BigEndian::read_u32(&front[16..20]);
+    let extents = BigEndian::read_u32(&front[20..24]);
+    Geometry::new(page, pages, extents).ok()
+}
+
+/// How many of so many bytes from an offset on lie in extent 0: none where no page begins at the offset.
+fn room_at(offset: u32, len: usize, geometry: Geometry) -> usize
+    ensures within { result ≤ len }
+    ensures page_bound { 0 < result → offset % geometry.page ≡ 0 }
+    ensures inside { 0 < result → offset + result ≤ geometry.page * geometry.pages }
+    ensures all { (n : ℕ) → n ≤ len → offset % geometry.page ≡ 0 → offset + n ≤ geometry.page * geometry.pages → n ≤ result }
+{
+    if offset % geometry.page() != 0 || offset >= geometry.extent_bytes() {
+        return 0;
+    }
+    len.min((geometry.extent_bytes() - offset) as usize)
+}
+
+/// The record that the bytes begin with, if they begin with one of its own sizes. The bytes stand at an offset of the image.
+fn record_from(bytes: &[u8], offset: u32) -> Option<FoundRecord>
+    ensures found { IfSome result (TellsRecord bytes.now offset) }
+    ensures only { (r : FoundRecord) → TellsRecord bytes.now offset r → result ≡ Some r }
+{
+    let geometry = sizes_in(bytes)?;
+    let room = room_at(offset, bytes.len(), geometry);
+    let head = record_at(&bytes[..room], geometry)?;
+    Some(FoundRecord {
+        offset,
+        kind: kind_by(head.retired),
+        generation: head.generation,
+        geometry,
+    })
+}
+
+/// Where the readable bytes from an offset on end: at the first lost block, or with the bytes. `known` is where they were
+/// found to end from a lower offset on; where that is above the offset, it is the answer.
+fn readable_end(bytes: &[u8], lost: &[bool], offset: usize, known: usize) -> usize
+    requires marks { AreBlockMarks bytes.now lost.now }
+    requires within { offset ≤ length bytes.now }
+    requires known { offset < known → IsReadableTo (length bytes.now) lost.now offset known }
+    ensures { IsReadableTo (length bytes.now) lost.now offset result }
+{
+    if offset < known {
+        return known;
+    }
+    for block in offset / 512..lost.len() {
+        if lost[block] {
+            return offset.max(block * 512);
+        }
+    }
+    bytes.len()
+}
+
+/// Adds a record, if there is one.
+fn add_record(found: &mut Vec<FoundRecord>, one: Option<FoundRecord>) -> Result<(), OutOfMemory>
+    ensures { OnOk result (found.new.items ≡ found.old.items ++ option_to_list one) }
+{
+    if let Some(one) = one {
+        found.push(one)?;
+    }
+    Ok(())
+}
+
+/// All records in the front of a raw image, by rising offset.
+pub(crate) fn find_records(
+    alloc: Global,
+    bytes: &[u8],
+    lost: &[bool],
+) -> Result<Vec<FoundRecord>, OutOfMemory>
+    requires { AreBlockMarks bytes.now lost.now }
+    ensures { IfOk result (λ v. AreFoundRecords (byte_left bytes.now lost.now) v.items) }
+{
+    let mut found = Vec::new(alloc);
+    let mut end = 0;
+    for slot in 0..bytes.len().div_ceil(64) {
+        let offset = slot * 64;
+        end = readable_end(bytes, lost, offset, end);
+        add_record(&mut found, record_from(&bytes[offset..end], offset as u32))?;
+    }
+    Ok(found)
+}

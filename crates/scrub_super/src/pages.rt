@@ -1,0 +1,113 @@
+//! What each page of extent 0 holds of superblocks: a record, the rest of one, a damaged one, or anything else.
+
+ghost use Rattle.std.specs.Prelude.{◌≡◌, ◌↔◌, ℕ, All, IfNone, IfSome, IsTrue, take};
+ghost use Rattle.scrub_disk.specs.Image.{Image};
+ghost use Rattle.scrub_super.specs.Pages.{HasRecord, IsSuperblockPage, magic_of};
+ghost use Rattle.scrub_super.specs.PagesFound.{IsKnownOfPage};
+ghost use Rattle.std.specs.Option.{option_map_or};
+ghost use Rattle.scrub_super.specs.declared.pages.RecordKind.{RecordKind};
+ghost use Rattle.scrub_super.specs.declared.pages.RecordKind.TheVariants.{Ssb1, Ssb2};
+
+/// Which of the two kinds a record is of, by the four bytes that it begins with.
+#[derive(Debug, Clone, Copy, PartialEq, Eq)]
+pub enum RecordKind {
+    /// `SSB1`: it has no list of retired extents.
+    Ssb1,
+    /// `SSB2`: it has such a list, which may be empty.
+    Ssb2,
+}
+
+/// How new a record is beside the other records of its disk.
+#[derive(Debug, Clone, Copy, PartialEq, Eq)]
+pub enum Rank {
+    /// Its generation is the greatest, and another page has a record of the same generation.
+    Tie,
+    /// Its generation is the greatest, and no other page has a record of that generation: this record counts.
+    Counts,
+    /// Another record has a greater generation.
+    Older,
+}
+
+/// What a page of extent 0 holds of superblocks: the first of these that applies.
+#[derive(Debug, Clone, Copy, PartialEq, Eq)]
+pub enum SuperblockPage {
+    /// The page is unreadable.
+    Lost,
+    /// A valid record of the disk's geometry begins at the page's first byte.
+    Record {
+        kind: RecordKind,
+        generation: u64,
+        rank: Rank,
+    },
+    /// A byte of the page lies in a valid record that begins on a page before it.
+    Covered,
+    /// All bytes of the page are zero.
+    Zero,
+    /// The page begins with the four bytes of a kind: a wrong digest, other sizes, a field out of range, or a record that
+    /// an unreadable page or the end of the extent cuts off.
+    Damaged {
+        kind: RecordKind,
+    },
+    /// Anything else.
+    Stray,
+}
+
+/// Whether all bytes are zero.
+fn are_zero(bytes: &[u8]) -> bool
+    ensures { IsTrue result ↔ All (λ b. b ≡ 0) bytes.now }
+{
+    for byte in bytes {
+        if *byte != 0 {
+            return false;
+        }
+    }
+    true
+}
+
+/// The kind whose four bytes stand first, if those of one do.
+fn kind_at(bytes: &[u8]) -> Option<RecordKind>
+    ensures found { IfSome result (λ kind. take 4 bytes.now ≡ magic_of kind) }
+    ensures none { IfNone result ((kind : RecordKind) → ¬ (take 4 bytes.now ≡ magic_of kind)) }
+{
+    if bytes.starts_with(b"SSB1") {
+        return Some(RecordKind::Ssb1);
+    }
+    if bytes.starts_with(b"SSB2") {
+        return Some(RecordKind::Ssb2);
+    }
+    None
+}
+
+/// The kind of a record, by whether it has a list of retired extents.
+pub(crate) fn kind_by(retired: Option<usize>) -> RecordKind
+    ensures { result ≡ option_map_or (λ _. Ssb2) retired Ssb1 }
+{
+    match retired {
+        None => RecordKind::Ssb1,
+        Some(_) => RecordKind::Ssb2,
+    }
+}
+
+/// What a page holds on which no record begins.
+pub(crate) fn page_without_record(
+    bytes: &[u8],
+    is_readable: bool,
+    is_covered: bool,
+) -> SuperblockPage
+    ensures { (image : Image) (q : ℕ) → IsKnownOfPage image q bytes.now is_readable is_covered → ¬ HasRecord image q →
+        IsSuperblockPage image q result }
+{
+    if !is_readable {
+        return SuperblockPage::Lost;
+    }
+    if is_covered {
+        return SuperblockPage::Covered;
+    }
+    if are_zero(bytes) {
+        return SuperblockPage::Zero;
+    }
+    match kind_at(bytes) {
+        Some(kind) => SuperblockPage::Damaged { kind },
+        None => SuperblockPage::Stray,
+    }
+}

@@ -1,0 +1,191 @@
+//! Each page of extent 0 by itself: where records begin, how far they reach, and what the other pages hold. Which record
+//! counts is for `choosing`.
+
+ghost use Rattle.std.specs.Prelude.{◌≡◌, ◌+◌, ◌*◌, ◌<◌, ◌≤◌, ◌^◌, ℕ, List, Option, IfOk, IfSome, IfNone, length, slice_range};
+ghost use Rattle.scrub_disk.specs.Buffered.{IsBuffered};
+ghost use Rattle.scrub_disk.specs.Image.{Image};
+ghost use Rattle.scrub_super.specs.Contents.{Contents};
+ghost use Rattle.scrub_super.specs.Record.{BeginsWithRecord};
+ghost use Rattle.scrub_super.specs.Chosen.{IsChoice, RecordStandsAt};
+ghost use Rattle.scrub_super.specs.Pages.{AreSuperblockPages, IsRank, IsSuperblockPage};
+ghost use Rattle.scrub_super.specs.PagesFound.{AreFoundOnPages, IsFoundOf, IsFoundOnPage, IsKnownOfPage, IsRecordReach, image_with};
+ghost use Rattle.scrub_super.specs.RecordsSeen.{AreSeenFrom, StandsFrom};
+ghost use Rattle.scrub_super.specs.declared.pages.SuperblockPage.{SuperblockPage};
+
+use crate::choosing::{RecordsSeen, chosen_by, readable_end, with_record};
+use crate::chosen::Chosen;
+use crate::head::cuts_of;
+use crate::pages::{Rank, RecordKind, SuperblockPage, kind_by, page_without_record};
+use crate::record::record_at;
+use scrub_disk::{Geometry, OutOfMemory, PageSource, read_extent};
+use std::alloc::Global;
+
+/// What is found of a record.
+#[derive(Clone, Copy)]
+pub(crate) struct Found {
+    pub kind: RecordKind,
+    pub generation: u64,
+    /// The byte of extent 0 that follows it.
+    pub to: usize,
+}
+
+/// What is found of the record that begins at a byte and ends before another, if there is one.
+fn found_at(bytes: &[u8], start: usize, end: usize, geometry: Geometry) -> Option<Found>
+    requires within { (start ≤ end) × (end ≤ length bytes.now) }
+    requires fits { length bytes.now ≤ 2 ^ 26 }
+    ensures found { IfSome result (λ f. (c : Contents) ×
+        BeginsWithRecord geometry (slice_range bytes.now start end) c × IsFoundOf geometry start c f) }
+    ensures none { IfNone result ((c : Contents) → ¬ BeginsWithRecord geometry (slice_range bytes.now start end) c) }
+{
+    let head = record_at(&bytes[start..end], geometry)?;
+    Some(Found {
+        kind: kind_by(head.retired),
+        generation: head.generation,
+        to: start + cuts_of(geometry, head).digest + 32,
+    })
+}
+
+/// What is found at each page of extent 0. Each page bound is judged by itself.
+fn find_all(
+    alloc: Global,
+    bytes: &[u8],
+    readable: &[bool],
+    geometry: Geometry,
+) -> Result<Vec<Option<Found>>, OutOfMemory>
+    requires bytes { length bytes.now ≡ geometry.page * geometry.pages }
+    requires pages { length readable.now ≡ geometry.pages }
+    ensures count { IfOk result (λ found. length found.items ≡ geometry.pages) }
+    ensures found { IfOk result (λ found. (page : ℕ → ℕ → Option (List ℕ)) →
+        IsBuffered (image_with geometry page) 0 bytes.now readable.now → AreFoundOnPages (image_with geometry page) found.items) }
+{
+    let size = geometry.page() as usize;
+    let mut found = vec![in alloc; None; readable.len()]?;
+    // Where the readable pages from this one on end.
+    let mut end = readable.len();
+    for page in (0..readable.len()).rev() {
+        end = readable_end(readable, page, end);
+        found[page] = found_at(bytes, page * size, end * size, geometry);
+    }
+    Ok(found)
+}
+
+/// What is seen of the records that were found.
+fn seen_in(found: &[Option<Found>]) -> RecordsSeen
+    requires { length found.now ≤ 65536 }
+    ensures { (image : Image) → AreFoundOnPages image found.now → AreSeenFrom (StandsFrom image) 0 result }
+{
+    let mut seen = RecordsSeen {
+        newest: None,
+        records: 0,
+    };
+    for page in (0..found.len()).rev() {
+        if let Some(record) = found[page] {
+            seen = with_record(seen, page as u32, record.generation);
+        }
+    }
+    seen
+}
+
+/// How new a record of this generation is beside the others.
+fn rank_of(seen: RecordsSeen, generation: u64) -> Rank
+    ensures { (image : Image) (q : ℕ) (c : Contents) → AreSeenFrom (StandsFrom image) 0 seen →
+        RecordStandsAt image q c → generation ≡ c.generation → IsRank image c result }
+{
+    match seen.newest {
+        Some(newest) if generation < newest.generation => Rank::Older,
+        Some(newest) if newest.tie => Rank::Tie,
+        _ => Rank::Counts,
+    }
+}
+
+/// What a page holds.
+fn page_of(
+    bytes: &[u8],
+    is_readable: bool,
+    is_covered: bool,
+    found: Option<Found>,
+    seen: RecordsSeen,
+) -> SuperblockPage
+    ensures { (image : Image) (q : ℕ) → IsKnownOfPage image q bytes.now is_readable is_covered → IsFoundOnPage image q found →
+        AreSeenFrom (StandsFrom image) 0 seen → IsSuperblockPage image q result }
+{
+    match found {
+        Some(record) => SuperblockPage::Record {
+            kind: record.kind,
+            generation: record.generation,
+            rank: rank_of(seen, record.generation),
+        },
+        None => page_without_record(bytes, is_readable, is_covered),
+    }
+}
+
+/// How far records reach, with what is found at one more page.
+fn reach_with(reach: usize, found: Option<Found>) -> usize
+    ensures { (image : Image) (q : ℕ) → IsRecordReach image q reach → IsFoundOnPage image q found → IsRecordReach image (q + 1) result }
+{
+    match found {
+        Some(record) => reach.max(record.to),
+        None => reach,
+    }
+}
+
+/// What each page of extent 0 holds, by what was found.
+fn pages_of(
+    alloc: Global,
+    bytes: &[u8],
+    readable: &[bool],
+    found: &[Option<Found>],
+    seen: RecordsSeen,
+    geometry: Geometry,
+) -> Result<Vec<SuperblockPage>, OutOfMemory>
+    requires bytes { length bytes.now ≡ geometry.page * geometry.pages }
+    requires pages { length readable.now ≡ geometry.pages }
+    requires count { length found.now ≡ geometry.pages }
+    ensures { IfOk result (λ pages. (page : ℕ → ℕ → Option (List ℕ)) →
+        IsBuffered (image_with geometry page) 0 bytes.now readable.now → AreFoundOnPages (image_with geometry page) found.now →
+        AreSeenFrom (StandsFrom (image_with geometry page)) 0 seen → AreSuperblockPages (image_with geometry page) pages.items) }
+{
+    let size = geometry.page() as usize;
+    let mut pages = Vec::with_capacity(alloc, found.len())?;
+    // How far the records reach that begin on the pages before.
+    let mut reach = 0;
+    for page in 0..found.len() {
+        let start = page * size;
+        let part = &bytes[start..start + size];
+        let is_covered = start < reach;
+        pages.push(page_of(part, readable[page], is_covered, found[page], seen))?;
+        reach = reach_with(reach, found[page]);
+    }
+    Ok(pages)
+}
+
+/// The superblock that counts on a disk, as `choose` tells it, and what each page of extent 0 holds, from page 0 on. Each page
+/// of extent 0 is read once. Each record is hashed once, and the one that counts once more, as it is read. Beside what `choose`
+/// takes, memory is taken for what is found at each page and for the answer.
+pub fn choose_with_pages<D: PageSource>(
+    alloc: Global,
+    disk: &D,
+) -> Result<(Chosen, Vec<SuperblockPage>), OutOfMemory>
+    ensures choice { IfOk result (λ r. IsChoice (D.image disk.now) r.0) }
+    ensures pages { IfOk result (λ r. AreSuperblockPages (D.image disk.now) r.1.items) }
+{
+    let geometry = disk.geometry();
+    let extent = read_extent(alloc, disk, 0)?;
+    let found = find_all(alloc, &extent.bytes, &extent.readable, geometry)?;
+    let seen = seen_in(&found);
+    let pages = pages_of(
+        alloc,
+        &extent.bytes,
+        &extent.readable,
+        &found,
+        seen,
+        geometry,
+    )?;
+    let chosen = chosen_by(alloc, disk, &extent, seen)?;
+    Ok((chosen, pages))
+}
+
+/// A law: an image has one list of what the pages of extent 0 hold.
+pub fn one_list_of_superblock_pages()
+    ensures { (image : Image) (a b : List SuperblockPage) → AreSuperblockPages image a → AreSuperblockPages image b → a ≡ b }
+{}
