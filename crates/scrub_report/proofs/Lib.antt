@@ -11,3 +11,10 @@ pub mod OneReport
 pub mod Indexable
 pub mod CleanLists
 pub mod KeptRuns
+pub mod PageRanges
+pub mod JoinedPages
+pub mod FlatLists
+pub mod Between
+pub mod ByPlace
+pub mod Clear
+pub mod SizesLists

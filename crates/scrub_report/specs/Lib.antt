@@ -6,8 +6,15 @@ pub mod Texts
 pub mod Report
 pub mod Index
 pub mod Locators
+pub mod Superblocks
+pub mod Sizes
 pub mod Answer
+pub mod Doubts
+pub mod Reclaimable
 -- The steps of the code.
 pub mod Parts
 pub mod Tokens
 pub mod Kept
+pub mod Moves
+pub mod PageRanges
+pub mod SizesSteps

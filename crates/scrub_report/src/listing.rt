@@ -56,7 +56,7 @@ impl fmt::Display for PlaceText {
 }
 
 /// The text of where a locator points.
-fn place_text(alloc: Global, locator: Locator) -> Result<String, OutOfMemory>
+pub(crate) fn place_text(alloc: Global, locator: Locator) -> Result<String, OutOfMemory>
     ensures { IfOk result (λ text. string_bytes text ≡ place_text locator) }
 {
     let place = PlaceText { locator };

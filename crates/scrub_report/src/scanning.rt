@@ -1,6 +1,7 @@
 //! A disk that was chosen, planned and scanned, by one reader or by workers.
 
 ghost use Rattle.std.specs.Prelude.{◌≡◌, ◌+◌, ◌≤◌, length, IfOk};
+ghost use Rattle.scrub_super.specs.Chosen.{IsChoice};
 ghost use Rattle.scrub_report.specs.Answer.{IsPartitionOfPlanned, IsCountOfPlanned};
 ghost use Rattle.scrub_report.specs.Parts.{IsScan};
 
@@ -61,6 +62,26 @@ pub(crate) fn scan_by<'d, D: PageSource, G: Gate, R: Threads + Wait + Sync>(
     ensures counted { IfOk result (λ r. IsCountOfPlanned (D.image disk.now) r.1.counted) }
 {
     let chosen = choose(alloc, disk)?;
+    scan_chosen(rt, alloc, disk, chosen, workers, gate)
+}
+
+/// Scans it so, where it is known which superblock counts.
+pub(crate) fn scan_chosen<'d, D: PageSource, G: Gate, R: Threads + Wait + Sync>(
+    rt: &R,
+    alloc: Global,
+    disk: &'d D,
+    chosen: Chosen,
+    workers: u32,
+    gate: &G,
+) -> Result<(Scan<'d, D>, Takings), ScrubFault>
+    requires workers { workers ≤ 64 }
+    requires choice { IsChoice (D.image disk.now) chosen }
+    ensures image { IfOk result (λ r. D.image r.0.disk.now ≡ D.image disk.now) }
+    ensures scan { IfOk result (λ r. IsScan (D.image r.0.disk.now) r.0.chosen r.0.plan r.0.all.extents) }
+    ensures workers { IfOk result (λ r. length r.1.lists ≡ workers + 1) }
+    ensures partition { IfOk result (λ r. IsPartitionOfPlanned (D.image disk.now) r.1.lists) }
+    ensures counted { IfOk result (λ r. IsCountOfPlanned (D.image disk.now) r.1.counted) }
+{
     let plan = Plan::make(alloc, &chosen, disk.geometry())?;
     let (queue, mut first) = ExtentQueue::new(rt, alloc, &plan)?;
     let (all, takings) = scan_all(rt, alloc, disk, &plan, &queue, &mut first, workers, gate)?;

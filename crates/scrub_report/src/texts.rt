@@ -1,11 +1,14 @@
-//! Texts of the report: of identifiers, of owners of locators, of what is wrong with one and what became of a run.
+//! Texts of the report and of lines: of identifiers, of owners of locators, of what is wrong with one, of what became of a run,
+//! and of the kinds of superblock records.
 
 ghost use Rattle.std.specs.Prelude.{◌≡◌, IfOk, string_bytes};
+ghost use Rattle.scrub_super.specs.Pages.{magic_of};
 ghost use Rattle.scrub_report.specs.Texts.{id_text, owner_text, state_text, status_text, uuid_text};
 
 use scrub_check::{Owner, RunState, Status};
 use scrub_disk::OutOfMemory;
 use scrub_run::ShardId;
+use scrub_super::RecordKind;
 use std::alloc::Global;
 use uuid::Uuid;
 
@@ -62,5 +65,15 @@ pub(crate) fn state_text(state: RunState) -> &'static str
         RunState::Read => "read",
         RunState::BadChunk(status) => status_text(status),
         RunState::NotARun => "not_a_run",
+    }
+}
+
+/// The word for a kind of superblock record, which is what such a record begins with.
+pub(crate) fn kind_text(kind: RecordKind) -> &'static str
+    ensures { result.now ≡ magic_of kind }
+{
+    match kind {
+        RecordKind::Ssb1 => "SSB1",
+        RecordKind::Ssb2 => "SSB2",
     }
 }

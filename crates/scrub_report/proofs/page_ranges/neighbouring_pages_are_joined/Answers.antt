@@ -1,0 +1,6 @@
+-- By the pages, the last one first.
+use Rattle.scrub_report.proofs.JoinedPages.{joined_pages}
+use Rattle.scrub_report.proofs.page_ranges.neighbouring_pages_are_joined.Goals as goal
+
+pub returns : goal.returns
+returns c = joined_pages

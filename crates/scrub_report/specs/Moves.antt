@@ -1,0 +1,24 @@
+-- The named locators sorted by the places that they point to, as the code finds those of one place.
+use Rattle.std.specs.Prelude.{◌≡◌, ℕ, List, map}
+use Rattle.std.specs.declared.cmp.Ordering.{Ordering}
+use Rattle.std.specs.Ordering.{nat_cmp, ordering_then}
+use Rattle.std.specs.Borrow.{Bor}
+use Rattle.std.specs.List.Sorted.{IsSortedByKey}
+use Rattle.scrub_check.specs.declared.checked.Checked.{Checked}
+use Rattle.scrub_report.specs.Reclaimable.{pointing_to}
+
+-- where a named locator points: an extent and a byte of it
+abbrev pub place_named : Checked → ℕ × ℕ
+place_named c = (c.locator.extent, c.locator.offset)
+
+-- by extent, and then by byte
+abbrev pub place_cmp : ℕ × ℕ → ℕ × ℕ → Ordering
+place_cmp a b = ordering_then (nat_cmp a.0 b.0) (nat_cmp a.1 b.1)
+
+-- references by the places that what they show points to
+abbrev pub AreRisingPlaces : List (Bor Checked) → Type 0
+AreRisingPlaces sorted = IsSortedByKey (λ one. place_named one.now) place_cmp sorted
+
+-- those of one place are the same as among other locators, and in the same order
+abbrev pub PointAlike : List Checked → List (Bor Checked) → Type 0
+PointAlike checked sorted = (e p : ℕ) → pointing_to (map (λ one. one.now) sorted) e p ≡ pointing_to checked e p

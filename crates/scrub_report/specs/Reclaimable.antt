@@ -1,0 +1,132 @@
+-- The lines that say which extents may be reclaimed, and what has to be moved before.
+use Rattle.std.specs.Prelude.{◌≡◌, ◌++◌, ◌∷◌, ◌==◌, ◌&&◌, [], ℕ, Bool, List, All, Contains, codes, if◌then◌else◌}
+use Rattle.std.specs.Fmt.{decimal}
+use Rattle.std.specs.List.{filter, flat_map}
+use Rattle.scrub_disk.specs.Image.{Image}
+use Rattle.scrub_super.specs.declared.pages.SuperblockPage.{SuperblockPage}
+use Rattle.scrub_super.specs.Pages.{AreSuperblockPages}
+use Rattle.scrub_scan.specs.Line.{spaced}
+use Rattle.scrub_check.specs.declared.checked.Checked.{Checked}
+use Rattle.scrub_check.specs.declared.status.Status.TheVariants.{Sound}
+use Rattle.scrub_check.specs.Candidates.{CandidateValue}
+use Rattle.scrub_report.specs.declared.doubts.Accepted.{Accepted}
+use Rattle.scrub_report.specs.declared.doubts.Doubt.{Doubt}
+use Rattle.scrub_report.specs.declared.doubts.Doubt.TheVariants.{NoSuperblock, Tie, SuperblockLost, SuperblockDamaged, SuperblockStray, RunLost, Tail, TailLost}
+use Rattle.scrub_report.specs.Doubts.{are_accepted, doubts, is_accepted}
+use Rattle.scrub_report.specs.Locators.{place_text}
+use Rattle.scrub_report.specs.Report.{report_text}
+use Rattle.scrub_report.specs.Scrubbed.{Scrubbed, IsScrubbed}
+use Rattle.scrub_report.specs.Texts.{owner_text, state_text}
+
+-- ---- the lines of doubts
+
+-- a doubt's kind and its numbers
+abbrev pub doubt_text : Doubt → List ℕ
+doubt_text NoSuperblock = codes "no-superblock"
+doubt_text Tie = codes "tie"
+doubt_text (SuperblockLost q) = codes "superblock-lost" ++ spaced (decimal q)
+doubt_text (SuperblockDamaged q) = codes "superblock-damaged" ++ spaced (decimal q)
+doubt_text (SuperblockStray q) = codes "superblock-stray" ++ spaced (decimal q)
+doubt_text (RunLost k state) = codes "run-lost" ++ spaced (decimal k) ++ spaced (state_text state)
+doubt_text (Tail extent first count) = codes "tail" ++ spaced (decimal extent) ++ spaced (decimal first) ++ spaced (decimal count)
+doubt_text (TailLost extent first last) = codes "tail-lost" ++ spaced (decimal extent) ++ spaced (decimal first) ++ spaced (decimal last)
+
+-- the word that its line begins with
+abbrev pub doubt_word : Accepted → Doubt → List ℕ
+doubt_word accepted doubt = if is_accepted accepted doubt then codes "accepted" else codes "doubt"
+
+-- its line
+abbrev pub doubt_line : Accepted → Doubt → List ℕ
+doubt_line accepted doubt = doubt_word accepted doubt ++ spaced (doubt_text doubt) ++ 10 ∷ []
+
+-- one line for each, in their order
+abbrev pub doubt_lines : Accepted → List Doubt → List ℕ
+doubt_lines accepted list = flat_map (doubt_line accepted) list
+
+-- ---- the lines of extents to reclaim
+
+-- a named locator points to place p of extent e
+abbrev pub points_to : ℕ → ℕ → Checked → Bool
+points_to e p c = (c.locator.extent == e) && (c.locator.offset == p)
+
+-- the named locators that point there, in the order of named locators
+abbrev pub pointing_to : List Checked → ℕ → ℕ → List Checked
+pointing_to checked e p = filter (points_to e p) checked
+
+-- those that point to the chunks that an extent's candidate keeps, by rising chunk
+abbrev pub moves : List Checked → CandidateValue → List Checked
+moves checked a = flat_map (pointing_to checked a.extent) a.keep
+
+-- `move EXTENT OFFSET LENGTH UUID OWNER` and a line feed
+abbrev pub move_line : Checked → List ℕ
+move_line c = codes "move" ++ spaced (place_text c.locator) ++ spaced (owner_text c.owner) ++ 10 ∷ []
+
+-- `reclaim EXTENT FREE`
+abbrev pub freed_text : ℕ → ℕ → List ℕ
+freed_text extent free = codes "reclaim" ++ spaced (decimal extent) ++ spaced (decimal free)
+
+-- it and a line feed, of a candidate
+abbrev pub reclaim_line : CandidateValue → List ℕ
+reclaim_line a = freed_text a.extent a.free ++ 10 ∷ []
+
+-- a candidate's line, and behind it those of its moves
+abbrev pub candidate_lines : List Checked → CandidateValue → List ℕ
+candidate_lines checked a = reclaim_line a ++ flat_map move_line (moves checked a)
+
+-- those of candidates, in their order
+abbrev pub all_candidate_lines : List Checked → List CandidateValue → List ℕ
+all_candidate_lines checked candidates = flat_map (candidate_lines checked) candidates
+
+-- ---- the whole text
+
+-- each doubt is of a kind that was accepted
+abbrev pub is_clear : Accepted → List SuperblockPage → Scrubbed → Bool
+is_clear accepted pages found = are_accepted accepted (doubts pages found)
+
+-- the extents to reclaim: all candidates where that is so, and else none
+abbrev pub reclaimed : Accepted → List SuperblockPage → Scrubbed → List CandidateValue
+reclaimed accepted pages found = if is_clear accepted pages found then found.candidates else []
+
+-- the lines of the doubts, and then those of the extents to reclaim
+abbrev pub reclaim_text : Accepted → List SuperblockPage → Scrubbed → List ℕ
+reclaim_text accepted pages found =
+    doubt_lines accepted (doubts pages found) ++ all_candidate_lines found.checked (reclaimed accepted pages found)
+
+-- a text is these lines for an image
+pub record AreReclaimLines (image : Image) (accepted : Accepted) (text : List ℕ) : Type 0 where
+  pub found : Scrubbed
+  pub scrubbed : IsScrubbed image found
+  pub pages : List SuperblockPage
+  pub held : AreSuperblockPages image pages
+  pub text_is : text ≡ reclaim_text accepted pages found
+
+-- whether no line begins with `doubt` is told as it is
+pub record IsClear (image : Image) (accepted : Accepted) (clear : Bool) : Type 0 where
+  pub found : Scrubbed
+  pub scrubbed : IsScrubbed image found
+  pub pages : List SuperblockPage
+  pub held : AreSuperblockPages image pages
+  pub told : clear ≡ is_clear accepted pages found
+
+-- ---- what follows
+
+-- the lines are told of the same disk as a report: where no line begins with `doubt` the extents to reclaim are the report's
+-- candidates, all of them in its order, and else there are none
+pub record AreOfCandidates (image : Image) (accepted : Accepted) (report text : List ℕ) (clear : Bool) : Type 0 where
+  pub found : Scrubbed
+  pub scrubbed : IsScrubbed image found
+  pub pages : List SuperblockPage
+  pub held : AreSuperblockPages image pages
+  pub report_is : report ≡ report_text found
+  pub text_is :
+      text ≡ doubt_lines accepted (doubts pages found) ++ all_candidate_lines found.checked (if clear then found.candidates else [])
+
+-- a named locator is sound, points to a chunk that a candidate keeps, and has a line among its moves
+pub record IsMoved (checked : List Checked) (a : CandidateValue) (c : Checked) : Type 0 where
+  pub sound : c.status ≡ Sound
+  pub kept : Contains a.keep c.locator.offset
+  pub line : Contains (moves checked a) c
+
+-- each named locator into one of these extents is such
+abbrev pub AreMoved : List Checked → List CandidateValue → Type 0
+AreMoved checked candidates = All (λ a. All (λ c. c.locator.extent ≡ a.extent → IsMoved checked a c) checked) candidates

@@ -1,0 +1,61 @@
+-- The lines of the superblock records of raw bytes, whatever the sizes, and of the bytes that are lost.
+use Rattle.std.specs.Prelude.{◌≡◌, ◌<◌, ◌↔◌, ◌++◌, ◌∷◌, [], ℕ, List, Bool, AllPairs, Contains, IsTrue, codes}
+use Rattle.std.specs.Fmt.{decimal}
+use Rattle.std.specs.List.{flat_map}
+use Rattle.scrub_scan.specs.Line.{spaced}
+use Rattle.scrub_super.specs.declared.anywhere.FoundRecord.{FoundRecord}
+use Rattle.scrub_super.specs.declared.anywhere.LostBytes.{LostBytes}
+use Rattle.scrub_super.specs.Pages.{magic_of}
+use Rattle.scrub_super.specs.Blocks.{byte_left, IsMarked, LosesBlocks}
+use Rattle.scrub_super.specs.Anywhere.{IsFoundRecord, AreLostBytes}
+use Rattle.scrub_report.specs.declared.sizes_listing.lines.SizesLine.{SizesLine}
+use Rattle.scrub_report.specs.declared.sizes_listing.lines.SizesLine.TheVariants.{Record, Lost}
+
+-- `OFFSET KIND GENERATION PAGE PAGES EXTENTS`
+abbrev pub record_text : FoundRecord → List ℕ
+record_text r =
+    decimal r.offset ++ spaced (magic_of r.kind) ++ spaced (decimal r.generation)
+    ++ spaced (decimal r.geometry.page) ++ spaced (decimal r.geometry.pages) ++ spaced (decimal r.geometry.extents)
+
+-- the same of a record, and `lost FROM TO` of lost bytes
+abbrev pub size_text : SizesLine → List ℕ
+size_text (Record r) = record_text r
+size_text (Lost l) = codes "lost" ++ spaced (decimal l.from) ++ spaced (decimal l.to)
+
+-- with a line feed, and one line for each in their order
+abbrev pub size_line : SizesLine → List ℕ
+size_line line = size_text line ++ 10 ∷ []
+
+abbrev pub size_lines : List SizesLine → List ℕ
+size_lines = flat_map size_line
+
+-- where that begins which a line is of
+abbrev pub line_start : SizesLine → ℕ
+line_start (Record r) = r.offset
+line_start (Lost l) = l.from
+
+-- the lines are of all records and of all lost bytes, by rising start
+pub record AreSizesInOrder (bytes : List ℕ) (lost : List Bool) (lines : List SizesLine) : Type 0 where
+  pub rising : AllPairs (λ a b. line_start a < line_start b) lines
+  pub records : (r : FoundRecord) → Contains lines (Record r) ↔ IsFoundRecord (byte_left bytes lost) r
+  pub ranges : (l : LostBytes) → Contains lines (Lost l) ↔ AreLostBytes lost l
+
+-- a text is these lines, for raw bytes of which these blocks are lost
+pub record AreSizesLines (bytes : List ℕ) (lost : List Bool) (text : List ℕ) : Type 0 where
+  pub lines : List SizesLine
+  pub in_order : AreSizesInOrder bytes lost lines
+  pub text_is : text ≡ size_lines lines
+
+-- there is a record, all records have the same sizes, and nothing is lost
+pub record IsCleanFront (bytes : List ℕ) (lost : List Bool) : Type 0 where
+  pub some : (r : FoundRecord) × IsFoundRecord (byte_left bytes lost) r
+  pub same_sizes : (r s : FoundRecord) →
+      IsFoundRecord (byte_left bytes lost) r → IsFoundRecord (byte_left bytes lost) s → r.geometry ≡ s.geometry
+  pub nothing_lost : (n : ℕ) → ¬ IsMarked lost n
+
+-- the text and whether it is clean, for some blocks that are lost by these marks and so many failures
+pub record IsSizesListing (bytes : List ℕ) (marks : List Bool) (failures : ℕ) (text : List ℕ) (clean : Bool) : Type 0 where
+  pub lost : List Bool
+  pub loses : LosesBlocks bytes marks failures lost
+  pub lines : AreSizesLines bytes lost text
+  pub is_clean : IsTrue clean ↔ IsCleanFront bytes lost

@@ -1,0 +1,63 @@
+-- The lines of the pages of extent 0: where superblocks are, which of them counts, and what may have been one.
+use Rattle.std.specs.Prelude.{◌≡◌, ◌++◌, ◌∷◌, ◌&&◌, [], ℕ, List, Bool, true, false, codes}
+use Rattle.std.specs.Fmt.{decimal}
+use Rattle.std.specs.List.{enumerate_from, flat_map, list_all, list_any}
+use Rattle.scrub_disk.specs.Image.{Image}
+use Rattle.scrub_scan.specs.Line.{spaced}
+use Rattle.scrub_super.specs.declared.pages.Rank.{Rank}
+use Rattle.scrub_super.specs.declared.pages.Rank.TheVariants.{Tie, Counts, Older}
+use Rattle.scrub_super.specs.declared.pages.SuperblockPage.{SuperblockPage}
+use Rattle.scrub_super.specs.declared.pages.SuperblockPage.TheVariants.{Lost, Record, Covered, Zero, Damaged, Stray}
+use Rattle.scrub_super.specs.Pages.{AreSuperblockPages, magic_of}
+
+-- the word for how new a record is
+abbrev pub rank_text : Rank → List ℕ
+rank_text Tie = codes "tie"
+rank_text Counts = codes "counts"
+rank_text Older = codes "older"
+
+-- the line of page q, with its line feed; a page that lies in a record and one of zeros have none
+abbrev pub superblock_line : ℕ → SuperblockPage → List ℕ
+superblock_line q Lost = codes "lost" ++ spaced (decimal q) ++ 10 ∷ []
+superblock_line q (Record kind generation rank) =
+    codes "record" ++ spaced (decimal q) ++ spaced (magic_of kind) ++ spaced (decimal generation) ++ spaced (rank_text rank) ++ 10 ∷ []
+superblock_line q Covered = []
+superblock_line q Zero = []
+superblock_line q (Damaged kind) = codes "damaged" ++ spaced (decimal q) ++ spaced (magic_of kind) ++ 10 ∷ []
+superblock_line q Stray = codes "stray" ++ spaced (decimal q) ++ 10 ∷ []
+
+-- the lines of the pages, by rising page
+abbrev pub superblock_lines : List SuperblockPage → List ℕ
+superblock_lines pages = flat_map (λ x. superblock_line x.0 x.1) (enumerate_from 0 pages)
+
+-- the record that counts, where no other has its generation
+abbrev pub is_counting_page : SuperblockPage → Bool
+is_counting_page (Record kind generation Counts) = true
+is_counting_page _ = false
+
+-- a page with no line, or with the line of a record that ties with none
+abbrev pub is_orderly_page : SuperblockPage → Bool
+is_orderly_page (Record kind generation Tie) = false
+is_orderly_page (Record kind generation Counts) = true
+is_orderly_page (Record kind generation Older) = true
+is_orderly_page Covered = true
+is_orderly_page Zero = true
+is_orderly_page Lost = false
+is_orderly_page (Damaged kind) = false
+is_orderly_page Stray = false
+
+-- there is a line, each is that of a record, one of them counts and none ties
+abbrev pub are_clean_pages : List SuperblockPage → Bool
+are_clean_pages pages = list_any is_counting_page pages && list_all is_orderly_page pages
+
+-- a text is the lines of the pages of extent 0 of an image
+pub record AreSuperblockLines (image : Image) (text : List ℕ) : Type 0 where
+  pub pages : List SuperblockPage
+  pub are : AreSuperblockPages image pages
+  pub text_is : text ≡ superblock_lines pages
+
+-- whether the superblocks of an image are in good order is told as it is
+pub record AreCleanSuperblocks (image : Image) (clean : Bool) : Type 0 where
+  pub pages : List SuperblockPage
+  pub are : AreSuperblockPages image pages
+  pub told : clean ≡ are_clean_pages pages

@@ -1,0 +1,64 @@
+//! Rising pages as ranges of neighbours.
+
+ghost use Rattle.std.specs.Prelude.{◌≡◌, ◌==◌, ◌+◌, ℕ, List, IfOk, OnOk};
+ghost use Rattle.scrub_report.specs.Doubts.{AreJoined, page_ranges};
+ghost use Rattle.scrub_report.specs.PageRanges.{joined_with};
+
+use scrub_disk::OutOfMemory;
+use std::alloc::Global;
+
+/// Neighbouring pages of an extent.
+#[derive(Clone, Copy)]
+pub(crate) struct PageRange {
+    /// The first of them.
+    pub first: u32,
+    /// The last of them.
+    pub last: u32,
+}
+
+/// Whether a page is the neighbour behind a range.
+fn is_next(range: PageRange, page: u32) -> bool
+    ensures { result ≡ (range.last + 1 == page) }
+{
+    range.last as u64 + 1 == page as u64
+}
+
+/// Puts one more page behind ranges: to the last of them where it is its neighbour, and else as a range of its own.
+fn join_page(ranges: &mut Vec<PageRange>, page: u32) -> Result<(), OutOfMemory>
+    ensures { OnOk result (ranges.new.items ≡ joined_with ranges.old.items page) }
+{
+    let alone = PageRange {
+        first: page,
+        last: page,
+    };
+    let Some(before) = ranges.pop() else {
+        ranges.push(alone)?;
+        return Ok(());
+    };
+    if is_next(before, page) {
+        ranges.push(PageRange {
+            first: before.first,
+            last: page,
+        })?;
+        return Ok(());
+    }
+    ranges.push(before)?;
+    ranges.push(alone)?;
+    Ok(())
+}
+
+/// Rising pages as ranges of neighbours, joined as far as they go.
+pub(crate) fn join_pages(alloc: Global, pages: &[u32]) -> Result<Vec<PageRange>, OutOfMemory>
+    ensures { IfOk result (λ v. v.items ≡ page_ranges pages.now) }
+{
+    let mut ranges = Vec::new(alloc);
+    for page in pages {
+        join_page(&mut ranges, *page)?;
+    }
+    Ok(ranges)
+}
+
+/// A law: the ranges of pages hold these pages and no others, in their order, and none is the neighbour of the next.
+pub fn neighbouring_pages_are_joined()
+    ensures { (pages : List ℕ) → AreJoined pages (page_ranges pages) }
+{}

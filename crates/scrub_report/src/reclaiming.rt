@@ -1,0 +1,232 @@
+//! What may be reclaimed of a disk, as lines: first what speaks against it, and only where nothing does the extents, each with
+//! the chunks that have to be moved before.
+
+ghost use Rattle.std.specs.Prelude.{◌≡◌, ◌+◌, ◌++◌, ◌≤◌, ℕ, [], Bool, List, IfOk, OnOk, length, map, string_bytes, if◌then◌else◌};
+ghost use Rattle.std.specs.List.{flat_map};
+ghost use Rattle.scrub_disk.specs.Image.{Image};
+ghost use Rattle.scrub_super.specs.declared.pages.SuperblockPage.{SuperblockPage};
+ghost use Rattle.scrub_super.specs.Pages.{AreSuperblockPages};
+ghost use Rattle.scrub_check.specs.declared.checked.Checked.{Checked};
+ghost use Rattle.scrub_report.specs.declared.doubts.Accepted.{Accepted};
+ghost use Rattle.scrub_report.specs.Answer.{IsPartitionOfPlanned, IsCountOfPlanned};
+ghost use Rattle.scrub_report.specs.Moves.{AreRisingPlaces, PointAlike};
+ghost use Rattle.scrub_report.specs.Parts.{IsScan};
+ghost use Rattle.scrub_report.specs.Reclaimable.{AreMoved, AreOfCandidates, AreReclaimLines, IsClear, all_candidate_lines, candidate_lines, move_line, pointing_to, reclaim_line, reclaimed};
+ghost use Rattle.scrub_report.specs.Report.{IsReport};
+ghost use Rattle.scrub_report.specs.Scrubbed.{Scrubbed, IsScrubbed};
+
+use crate::answer::ScrubFault;
+use crate::doubting::doubts_of;
+use crate::doubts::{Accepted, are_accepted, doubt_lines};
+use crate::listing::place_text;
+use crate::moves::{by_place, pointing_to};
+use crate::scanning::{Scan, scan_chosen};
+use crate::scrubbing::parts_of;
+use crate::texts::owner_text;
+use scrub_check::{Candidate, Checked};
+use scrub_disk::{OutOfMemory, PageSource};
+use scrub_pool::{Gate, Takings};
+use scrub_super::{SuperblockPage, choose_with_pages};
+use std::alloc::Global;
+use std::fmt;
+use std::sync::Wait;
+use std::thread::Threads;
+
+/// What may be reclaimed of a disk, as lines.
+#[derive(Drop)]
+pub struct ReclaimListing {
+    /// A line for each doubt, by kind, which begins with `doubt`, or with `accepted` where its kind was accepted. Where none
+    /// begins with `doubt`, `reclaim EXTENT FREE` for each candidate of the report, in its order, and behind each of them
+    /// `move EXTENT OFFSET LENGTH UUID OWNER` for each named locator into it, by the chunk that it points to. The numbers are
+    /// in decimal, free bytes, offset and length in bytes; the UUID is as RFC 9562 writes it, in lower case.
+    pub text: Vec<u8>,
+    /// Whether no line begins with `doubt`.
+    pub is_clear: bool,
+}
+
+/// Appends the line of a named locator to a chunk that has to be moved.
+fn append_move(alloc: Global, text: &mut Vec<u8>, one: &Checked) -> Result<(), OutOfMemory>
+    ensures { OnOk result (text.new.items ≡ text.old.items ++ move_line one.now) }
+{
+    let place = place_text(alloc, one.locator)?;
+    let owner = owner_text(alloc, one.owner)?;
+    let line = format!(in alloc; "move {place} {owner}\n")?;
+    text.extend_from_slice(line.as_bytes())?;
+    Ok(())
+}
+
+/// Appends the lines of some, in their order.
+fn append_moves(alloc: Global, text: &mut Vec<u8>, some: &[&Checked]) -> Result<(), OutOfMemory>
+    ensures { OnOk result (text.new.items ≡ text.old.items ++ flat_map move_line (map (λ one. one.now) some.now)) }
+{
+    for one in some {
+        append_move(alloc, text, *one)?;
+    }
+    Ok(())
+}
+
+/// Appends the lines of those that point to the chunks to keep of an extent, chunk by chunk.
+fn append_kept(
+    alloc: Global,
+    text: &mut Vec<u8>,
+    sorted: &[&Checked],
+    extent: u32,
+    keep: &[u32],
+) -> Result<(), OutOfMemory>
+    requires { AreRisingPlaces sorted.now }
+    ensures { (checked : List Checked) → PointAlike checked sorted.now →
+        OnOk result (text.new.items ≡ text.old.items ++ flat_map move_line (flat_map (pointing_to checked extent) keep.now)) }
+{
+    for offset in keep {
+        append_moves(alloc, text, pointing_to(sorted, extent, *offset))?;
+    }
+    Ok(())
+}
+
+/// An extent to reclaim, and how many bytes that frees, as `reclaim EXTENT FREE`.
+#[derive(Drop)]
+struct FreedText {
+    extent: u32,
+    free: u32,
+}
+
+impl fmt::Display for FreedText {
+    ghost use Rattle.std.specs.Prelude.{Some};
+    ghost use Rattle.scrub_report.specs.Reclaimable.{freed_text};
+
+    ghost output = { λ r. Some (freed_text r.extent r.free) };
+
+    fn fmt<W: fmt::Write>(&self, f: &mut fmt::Formatter<W>) -> fmt::Result {
+        let FreedText { extent, free } = self;
+        write!(f, "reclaim {extent} {free}")
+    }
+}
+
+/// A candidate's line, with its line feed.
+fn reclaim_line(alloc: Global, candidate: &Candidate) -> Result<String, OutOfMemory>
+    ensures { IfOk result (λ line. string_bytes line ≡ reclaim_line candidate.now) }
+{
+    let text = FreedText {
+        extent: candidate.extent(),
+        free: candidate.free(),
+    };
+    format!(in alloc; "{text}\n")
+}
+
+/// Appends a candidate's line, and those of its moves.
+fn append_candidate(
+    alloc: Global,
+    text: &mut Vec<u8>,
+    sorted: &[&Checked],
+    candidate: &Candidate,
+) -> Result<(), OutOfMemory>
+    requires { AreRisingPlaces sorted.now }
+    ensures { (checked : List Checked) → PointAlike checked sorted.now →
+        OnOk result (text.new.items ≡ text.old.items ++ candidate_lines checked candidate.now) }
+{
+    let line = reclaim_line(alloc, candidate)?;
+    text.extend_from_slice(line.as_bytes())?;
+    append_kept(alloc, text, sorted, candidate.extent(), candidate.keep())
+}
+
+/// Appends the lines of candidates, in their order. The named locators are sorted once, for all of them.
+fn append_candidates(
+    alloc: Global,
+    text: &mut Vec<u8>,
+    checked: &[Checked],
+    candidates: &[Candidate],
+) -> Result<(), OutOfMemory>
+    ensures { OnOk result (text.new.items ≡ text.old.items ++ all_candidate_lines checked.now candidates.now) }
+{
+    if candidates.is_empty() {
+        return Ok(());
+    }
+    let sorted = by_place(alloc, checked)?;
+    for candidate in candidates {
+        append_candidate(alloc, text, &sorted, candidate)?;
+    }
+    Ok(())
+}
+
+/// Appends the lines of the extents to reclaim: of all candidates where that is clear, and else of none.
+fn append_reclaimed(
+    alloc: Global,
+    text: &mut Vec<u8>,
+    is_clear: bool,
+    checked: &[Checked],
+    candidates: &[Candidate],
+) -> Result<(), OutOfMemory>
+    ensures { OnOk result (text.new.items ≡
+        text.old.items ++ all_candidate_lines checked.now (if is_clear then candidates.now else [])) }
+{
+    if !is_clear {
+        return Ok(());
+    }
+    append_candidates(alloc, text, checked, candidates)
+}
+
+/// What may be reclaimed, from what was chosen, planned and scanned, and the pages of extent 0.
+fn listing_of<R: Threads + Sync, D: PageSource>(
+    rt: &R,
+    alloc: Global,
+    scan: Scan<'_, D>,
+    pages: &[SuperblockPage],
+    accepted: Accepted,
+) -> Result<ReclaimListing, OutOfMemory>
+    requires scan { IsScan (D.image scan.disk.now) scan.chosen scan.plan scan.all.extents }
+    requires pages { AreSuperblockPages (D.image scan.disk.now) pages.now }
+    ensures text { IfOk result (λ l. AreReclaimLines (D.image scan.entry.disk.now) accepted l.text.items) }
+    ensures clear { IfOk result (λ l. IsClear (D.image scan.entry.disk.now) accepted l.is_clear) }
+{
+    let parts = parts_of(rt, alloc, scan)?;
+    let doubts = doubts_of(alloc, pages, &parts)?;
+    let is_clear = are_accepted(accepted, &doubts);
+    let mut text = doubt_lines(alloc, accepted, &doubts)?;
+    let candidates = &parts.liveness.candidates;
+    append_reclaimed(alloc, &mut text, is_clear, &parts.checked, candidates)?;
+    Ok(ReclaimListing { text, is_clear })
+}
+
+/// Lists what may be reclaimed of a disk, and tells who took which extents. The disk is scrubbed as `scrub` does it, with this
+/// many workers (0 to 64) beside the caller. The one fault is `OutOfMemory`, told once every worker that was started has ended.
+pub fn list_reclaimable<D: PageSource, G: Gate, R: Threads + Wait + Sync>(
+    rt: &R,
+    alloc: Global,
+    disk: &D,
+    workers: u32,
+    gate: &G,
+    accepted: Accepted,
+) -> Result<(ReclaimListing, Takings), ScrubFault>
+    requires { workers ≤ 64 }
+    ensures text { IfOk result (λ r. AreReclaimLines (D.image disk.now) accepted r.0.text.items) }
+    ensures clear { IfOk result (λ r. IsClear (D.image disk.now) accepted r.0.is_clear) }
+    ensures workers { IfOk result (λ r. length r.1.lists ≡ workers + 1) }
+    ensures partition { IfOk result (λ r. IsPartitionOfPlanned (D.image disk.now) r.1.lists) }
+    ensures counted { IfOk result (λ r. IsCountOfPlanned (D.image disk.now) r.1.counted) }
+{
+    let (chosen, pages) = choose_with_pages(alloc, disk)?;
+    let (scan, takings) = scan_chosen(rt, alloc, disk, chosen, workers, gate)?;
+    let listing = listing_of(rt, alloc, scan, &pages, accepted)?;
+    Ok((listing, takings))
+}
+
+/// A law: what may be reclaimed of an image has one text of lines, and one verdict whether it is clear.
+pub fn one_reclaim_listing()
+    ensures text { (image : Image) (accepted : Accepted) (a b : List ℕ) →
+        AreReclaimLines image accepted a → AreReclaimLines image accepted b → a ≡ b }
+    ensures clear { (image : Image) (accepted : Accepted) (a b : Bool) → IsClear image accepted a → IsClear image accepted b → a ≡ b }
+{}
+
+/// A law: each extent that may be reclaimed is a candidate of the report. Where no line begins with `doubt` they are all of
+/// them, in the report's order, and else there is none.
+pub fn reclaimed_are_candidates()
+    ensures { (image : Image) (accepted : Accepted) (report text : List ℕ) (clear : Bool) → IsReport image report →
+        AreReclaimLines image accepted text → IsClear image accepted clear → AreOfCandidates image accepted report text clear }
+{}
+
+/// A law: reclaiming these extents loses nothing that is named. Each named locator into one of them is sound, points to a
+/// chunk to keep, and has a line among the moves.
+pub fn reclaiming_is_safe()
+    ensures { (image : Image) (accepted : Accepted) (pages : List SuperblockPage) (found : Scrubbed) → IsScrubbed image found →
+        AreMoved found.checked (reclaimed accepted pages found) }
+{}

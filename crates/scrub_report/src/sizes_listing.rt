@@ -1,0 +1,76 @@
+//! The superblock records of a raw image as lines, whatever its sizes, with what is lost of it.
+
+ghost use Rattle.std.specs.Prelude.{◌≡◌, ◌+◌, ◌-◌, ◌<◌, ◌≤◌, ◌↔◌, ◌^◌, ℕ, All, List, Bool, IfOk, IfSome, IsTrue};
+ghost use Rattle.scrub_report.specs.Sizes.{AreSizesLines, IsCleanFront, IsSizesListing};
+ghost use Rattle.scrub_report.specs.SizesSteps.{AreCleanLists};
+
+mod lines;
+
+use crate::sizes_listing::lines::{lines_in_order, lines_text};
+use scrub_disk::{Geometry, OutOfMemory, RawImage};
+use scrub_super::{FoundRecord, FoundSuperblocks, find_superblocks};
+use std::alloc::Global;
+
+/// What the front of a raw image has of superblock records, as lines.
+#[derive(Debug, Drop)]
+pub struct SizesListing {
+    /// By rising start, each with a line feed: `OFFSET KIND GENERATION PAGE PAGES EXTENTS` for each record, and
+    /// `lost FROM TO` for each run of lost blocks. The numbers are in decimal, offsets and page sizes in bytes; TO is the
+    /// byte behind the last lost one.
+    pub text: Vec<u8>,
+    /// Whether there is a record, all records have the same sizes, and nothing is lost.
+    pub is_clean: bool,
+}
+
+/// Whether each record has these sizes.
+fn have_sizes(records: &[FoundRecord], geometry: Geometry) -> bool
+    ensures { IsTrue result ↔ All (λ r. r.geometry ≡ geometry) records.now }
+{
+    for found in records {
+        if found.geometry != geometry {
+            return false;
+        }
+    }
+    true
+}
+
+/// Whether there is a record, all records have the same sizes, and nothing is lost.
+fn is_clean(found: &FoundSuperblocks) -> bool
+    ensures { IsTrue result ↔ AreCleanLists found.now.records.items found.now.lost.items }
+{
+    if found.records.is_empty() || !found.lost.is_empty() {
+        return false;
+    }
+    have_sizes(&found.records, found.records[0].geometry)
+}
+
+/// Lists the superblock records of a raw image, each of the sizes that it has itself, and what is lost of its first
+/// 67,108,864 bytes. The image is read as `find_superblocks` does it, and `marked` has a mark for each of the first blocks of
+/// 512 bytes, as a rescue's map says. The one fault is `OutOfMemory`.
+pub fn list_sizes<R: RawImage>(
+    alloc: Global,
+    raw: &mut R,
+    marked: &[bool],
+) -> Result<SizesListing, OutOfMemory>
+    requires few_reads { R.reads raw.old < 2 ^ 62 }
+    ensures listing { IfOk result (λ l. IfSome (R.bytes raw.old) (λ told.
+        IsSizesListing told marked.now (R.failures raw.new - R.failures raw.old) l.text.items l.is_clean)) }
+    ensures failures { R.failures raw.old ≤ R.failures raw.new }
+    ensures same_bytes { R.bytes raw.new ≡ R.bytes raw.old }
+    ensures same_bound { R.most_failures raw.new ≡ R.most_failures raw.old }
+    ensures reads { R.reads raw.new ≤ R.reads raw.old + 2 ^ 26 }
+{
+    let found = find_superblocks(alloc, raw, marked)?;
+    let lines = lines_in_order(alloc, &found.records, &found.lost)?;
+    let text = lines_text(alloc, &lines)?;
+    let is_clean = is_clean(&found);
+    Ok(SizesListing { text, is_clean })
+}
+
+/// A law: for given bytes and lost blocks there is one listing, and one answer whether it is clean.
+pub fn one_sizes_listing()
+    ensures text { (bytes : List ℕ) (lost : List Bool) (a b : List ℕ) →
+        AreSizesLines bytes lost a → AreSizesLines bytes lost b → a ≡ b }
+    ensures clean { (bytes : List ℕ) (lost : List Bool) (a b : Bool) →
+        (IsTrue a ↔ IsCleanFront bytes lost) → (IsTrue b ↔ IsCleanFront bytes lost) → a ≡ b }
+{}
