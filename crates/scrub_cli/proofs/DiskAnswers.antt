@@ -8,50 +8,75 @@ use Rattle.scrub_disk.specs.Image.{Image, disk_bytes}
 use Rattle.scrub_disk.specs.Raw.{IsLoadedWith}
 use Rattle.scrub_disk.proofs.LostPages.{loaded_with_more}
 use Rattle.scrub_cli.specs.declared.fault.Fault.{Fault}
-use Rattle.scrub_cli.specs.declared.fault.Fault.TheVariants.{NotUtf8, Help, Words, Geometry, Extent, Pointer, BadPage, NoImage, TooLong, Output, OutOfMemory}
+use Rattle.scrub_cli.specs.declared.fault.Fault.TheVariants.{NotUtf8, Help, Words, Geometry, Extent, Pointer, BadPage, NoMap, MapLine, NoImage, TooLong, Output, OutOfMemory}
 use Rattle.scrub_cli.specs.declared.words.ImageWords.{ImageWords}
-use Rattle.scrub_cli.specs.DiskImage.{IsBadPageFault, IsDiskFault, NamePages}
+use Rattle.scrub_cli.specs.DiskImage.{AreReadBefore, IsBadPageFault, IsDiskFault, NamePages}
 use Rattle.scrub_cli.specs.Fault.{fault_of_load}
-use Rattle.scrub_cli.specs.Known.{KnownRaw}
+use Rattle.scrub_cli.specs.Known.{KnownMaps, KnownRaw}
+use Rattle.scrub_cli.specs.Rescue.{IsMapFault}
 
 -- a word that names no page is a fault of the image
-pub bad_page_fault : (known : KnownRaw) (words : ImageWords) (g : Sizes) (fault : Fault) → IsBadPageFault g words.bad_pages.items fault → IsDiskFault known words g fault
-bad_page_fault known words g (BadPage word) first = first
-bad_page_fault known words g OutOfMemory first = tt
-bad_page_fault known words g NotUtf8 first = absurd first
-bad_page_fault known words g (Help text) first = absurd first
-bad_page_fault known words g (Words text) first = absurd first
-bad_page_fault known words g (Geometry fault) first = absurd first
-bad_page_fault known words g Extent first = absurd first
-bad_page_fault known words g Pointer first = absurd first
-bad_page_fault known words g (NoImage name) first = absurd first
-bad_page_fault known words g TooLong first = absurd first
-bad_page_fault known words g (Output written) first = absurd first
+pub bad_page_fault : (known : KnownRaw) (maps : KnownMaps) (words : ImageWords) (g : Sizes) (fault : Fault) →
+    IsBadPageFault g words.bad_pages.items fault → IsDiskFault known maps words g fault
+bad_page_fault known maps words g (BadPage word) first = first
+bad_page_fault known maps words g OutOfMemory first = tt
+bad_page_fault known maps words g NotUtf8 first = absurd first
+bad_page_fault known maps words g (Help text) first = absurd first
+bad_page_fault known maps words g (Words text) first = absurd first
+bad_page_fault known maps words g (Geometry fault) first = absurd first
+bad_page_fault known maps words g Extent first = absurd first
+bad_page_fault known maps words g Pointer first = absurd first
+bad_page_fault known maps words g (NoMap name) first = absurd first
+bad_page_fault known maps words g (MapLine k) first = absurd first
+bad_page_fault known maps words g (NoImage name) first = absurd first
+bad_page_fault known maps words g TooLong first = absurd first
+bad_page_fault known maps words g (Output written) first = absurd first
 
--- what holds of a word that names no page, of an image that can't be opened or is too long, and of want of memory holds of each fault of the image
-pub of_disk_fault : (Holds : Fault → Type 0) (known : KnownRaw) (words : ImageWords) (g : Sizes) →
-    ((word : Bor (List ℕ)) → IsDiskFault known words g (BadPage word) → Holds (BadPage word)) →
-    ((name : Bor (List ℕ)) → IsDiskFault known words g (NoImage name) → Holds (NoImage name)) →
-    (IsDiskFault known words g TooLong → Holds TooLong) → Holds OutOfMemory →
-    (fault : Fault) → IsDiskFault known words g fault → Holds fault
-of_disk_fault Holds known words g bad none long memory NotUtf8 is = absurd is
-of_disk_fault Holds known words g bad none long memory (Help text) is = absurd is
-of_disk_fault Holds known words g bad none long memory (Words text) is = absurd is
-of_disk_fault Holds known words g bad none long memory (Geometry fault) is = absurd is
-of_disk_fault Holds known words g bad none long memory Extent is = absurd is
-of_disk_fault Holds known words g bad none long memory Pointer is = absurd is
-of_disk_fault Holds known words g bad none long memory (BadPage word) is = bad word is
-of_disk_fault Holds known words g bad none long memory (NoImage name) is = none name is
-of_disk_fault Holds known words g bad none long memory TooLong is = long is
-of_disk_fault Holds known words g bad none long memory (Output written) is = absurd is
-of_disk_fault Holds known words g bad none long memory OutOfMemory is = memory
+-- and so is a map that isn't read
+pub map_fault : (known : KnownRaw) (maps : KnownMaps) (words : ImageWords) (g : Sizes) (pages : List (ℕ × ℕ)) (fault : Fault) →
+    NamePages g words.bad_pages.items pages → IsMapFault maps words.map fault → IsDiskFault known maps words g fault
+map_fault known maps words g pages (NoMap name) named why = (pages, named, why)
+map_fault known maps words g pages (MapLine k) named why = (pages, named, why)
+map_fault known maps words g pages OutOfMemory named why = tt
+map_fault known maps words g pages NotUtf8 named why = absurd why
+map_fault known maps words g pages (Help text) named why = absurd why
+map_fault known maps words g pages (Words text) named why = absurd why
+map_fault known maps words g pages (Geometry fault) named why = absurd why
+map_fault known maps words g pages Extent named why = absurd why
+map_fault known maps words g pages Pointer named why = absurd why
+map_fault known maps words g pages (BadPage word) named why = absurd why
+map_fault known maps words g pages (NoImage name) named why = absurd why
+map_fault known maps words g pages TooLong named why = absurd why
+map_fault known maps words g pages (Output written) named why = absurd why
 
-pub load_fault : (known : KnownRaw) (was : Option (List ℕ)) (words : ImageWords) (g : Sizes) (pages : List (ℕ × ℕ)) (fault : LoadFault) →
-    NamePages g words.bad_pages.items pages → was ≡ known.bytes →
-    (fault ≡ too_long → IfSome was (λ told. disk_bytes g < length told)) → IsDiskFault known words g (fault_of_load fault)
-load_fault known was words g pages no_memory_to_load named same longer = tt
-load_fault known was words g pages too_long named same longer =
-    (pages, named, subst (λ r. IfSome r (λ told. disk_bytes g < length told)) same (longer (λ i. too_long)))
+-- what holds of each fault that an image may have holds of the one that it has
+pub of_disk_fault : (Holds : Fault → Type 0) (known : KnownRaw) (maps : KnownMaps) (words : ImageWords) (g : Sizes) →
+    ((word : Bor (List ℕ)) → IsDiskFault known maps words g (BadPage word) → Holds (BadPage word)) →
+    ((name : Bor (List ℕ)) → IsDiskFault known maps words g (NoMap name) → Holds (NoMap name)) →
+    ((k : ℕ) → IsDiskFault known maps words g (MapLine k) → Holds (MapLine k)) →
+    ((name : Bor (List ℕ)) → IsDiskFault known maps words g (NoImage name) → Holds (NoImage name)) →
+    (IsDiskFault known maps words g TooLong → Holds TooLong) → Holds OutOfMemory →
+    (fault : Fault) → IsDiskFault known maps words g fault → Holds fault
+of_disk_fault Holds known maps words g bad unopened line none long memory NotUtf8 is = absurd is
+of_disk_fault Holds known maps words g bad unopened line none long memory (Help text) is = absurd is
+of_disk_fault Holds known maps words g bad unopened line none long memory (Words text) is = absurd is
+of_disk_fault Holds known maps words g bad unopened line none long memory (Geometry fault) is = absurd is
+of_disk_fault Holds known maps words g bad unopened line none long memory Extent is = absurd is
+of_disk_fault Holds known maps words g bad unopened line none long memory Pointer is = absurd is
+of_disk_fault Holds known maps words g bad unopened line none long memory (BadPage word) is = bad word is
+of_disk_fault Holds known maps words g bad unopened line none long memory (NoMap name) is = unopened name is
+of_disk_fault Holds known maps words g bad unopened line none long memory (MapLine k) is = line k is
+of_disk_fault Holds known maps words g bad unopened line none long memory (NoImage name) is = none name is
+of_disk_fault Holds known maps words g bad unopened line none long memory TooLong is = long is
+of_disk_fault Holds known maps words g bad unopened line none long memory (Output written) is = absurd is
+of_disk_fault Holds known maps words g bad unopened line none long memory OutOfMemory is = memory
+
+pub load_fault : (known : KnownRaw) (maps : KnownMaps) (was : Option (List ℕ)) (words : ImageWords) (g : Sizes) (fault : LoadFault) →
+    AreReadBefore maps words g → was ≡ known.bytes →
+    (fault ≡ too_long → IfSome was (λ told. disk_bytes g < length told)) → IsDiskFault known maps words g (fault_of_load fault)
+load_fault known maps was words g no_memory_to_load before same longer = tt
+load_fault known maps was words g too_long before same longer =
+    (before, subst (λ r. IfSome r (λ told. disk_bytes g < length told)) same (longer (λ i. too_long)))
 
 -- what was loaded while no more reads failed than the image's bound lets fail
 pub loaded_as_known : (known : KnownRaw) (was : Option (List ℕ)) (g : Sizes) (pages : List (ℕ × ℕ)) (image : Image) (before after most most_before : ℕ) →

@@ -9,7 +9,7 @@ use Rattle.scrub_cli.specs.declared.fault.Fault.TheVariants.{Pointer}
 use Rattle.scrub_cli.specs.declared.words.ItemsWords.{ItemsWords}
 use Rattle.scrub_cli.specs.DiskImage.{IsDiskFault, IsLoadedDisk}
 use Rattle.scrub_cli.specs.Items.{given_pointer, AreInDisk, IsItemsAnswer, IsItemsFault}
-use Rattle.scrub_cli.specs.Known.{KnownRaw}
+use Rattle.scrub_cli.specs.Known.{KnownMaps, KnownRaw}
 use Rattle.scrub_cli.specs.Lines.{IsListing}
 use Rattle.scrub_cli.proofs.DiskAnswers.{of_disk_fault}
 
@@ -23,22 +23,24 @@ placed words g pointer size limit sizes in_disk is size_is limit_is within =
       pointer_is,
     )
 
-pub pointer_fault : (known : KnownRaw) (words : ItemsWords) (g : Sizes) (pointer size limit : ℕ) →
+pub pointer_fault : (known : KnownRaw) (maps : KnownMaps) (words : ItemsWords) (g : Sizes) (pointer size limit : ℕ) →
     HasSizes g words.image.page words.image.pages words.image.extents → words.extent < g.extents →
-    pointer ≡ unwrap_or words.pointer size → size ≡ extent_bytes g → limit ≡ extent_bytes g → limit < pointer → IsItemsFault known words Pointer
-pointer_fault known words g pointer size limit sizes in_disk is size_is limit_is past =
+    pointer ≡ unwrap_or words.pointer size → size ≡ extent_bytes g → limit ≡ extent_bytes g → limit < pointer → IsItemsFault known maps words Pointer
+pointer_fault known maps words g pointer size limit sizes in_disk is size_is limit_is past =
     let pointer_is : pointer ≡ given_pointer words g = is ∙ ap (unwrap_or words.pointer) size_is in
     (g, sizes, in_disk, subst (λ (n : ℕ). extent_bytes g < n) pointer_is (subst (λ (n : ℕ). n < pointer) limit_is past))
 
 -- a fault of the image is one of `items`
-pub items_disk_fault : (known : KnownRaw) (words : ItemsWords) (g : Sizes) (fault : Fault) → AreInDisk words g → IsDiskFault known words.image g fault → IsItemsFault known words fault
-items_disk_fault known words g fault places =
-    of_disk_fault (IsItemsFault known words) known words.image g (λ word is. (g, places, is)) (λ name is. (g, places, is)) (λ is. (g, places, is)) tt fault
+pub items_disk_fault : (known : KnownRaw) (maps : KnownMaps) (words : ItemsWords) (g : Sizes) (fault : Fault) → AreInDisk words g →
+    IsDiskFault known maps words.image g fault → IsItemsFault known maps words fault
+items_disk_fault known maps words g fault places =
+    of_disk_fault (IsItemsFault known maps words) known maps words.image g (λ word is. (g, places, is)) (λ name is. (g, places, is))
+    (λ k is. (g, places, is)) (λ name is. (g, places, is)) (λ is. (g, places, is)) tt fault
 
-pub items_answer : (known : KnownRaw) (words : ItemsWords) (g : Sizes) (image : Image) (pointer : ℕ) (text : List ℕ) (status : ℕ) →
-    AreInDisk words g → IsLoadedDisk known words.image g image → pointer ≡ given_pointer words g →
-    IsListing (extent_of image words.extent pointer) text status → IsItemsAnswer known words text status
-items_answer known words g image pointer text status places loaded is listed = record {
+pub items_answer : (known : KnownRaw) (maps : KnownMaps) (words : ItemsWords) (g : Sizes) (image : Image) (pointer : ℕ) (text : List ℕ) (status : ℕ) →
+    AreInDisk words g → IsLoadedDisk known maps words.image g image → pointer ≡ given_pointer words g →
+    IsListing (extent_of image words.extent pointer) text status → IsItemsAnswer known maps words text status
+items_answer known maps words g image pointer text status places loaded is listed = record {
   geometry = g;
   places = places;
   image = image;

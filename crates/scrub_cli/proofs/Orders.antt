@@ -2,7 +2,7 @@
 use Rattle.std.proofs.Common.{◌≡◌, ◌∙◌, inl, inr, ℕ, false, List, [], ◌∷◌, ◌++◌, Option, None, Some, refl, sym, ap, ap₂, subst, codes, MatchOption}
 use Rattle.std.specs.Prelude.{fold, option_and_then, option_map, slice_get, is_some, unwrap_or}
 use Rattle.std.specs.Option.{option_map_or}
-use Rattle.clap.specs.Words.{Row, Text, built, fault_of, one_of, subcommand_of}
+use Rattle.clap.specs.Words.{Row, Text, all_of, built, fault_of, first_of, one_of, subcommand_of}
 use Rattle.clap.specs.Kinds.{Kinds, or_else}
 use Rattle.clap.specs.Simple.{Shape, entered, names_of, rows_at}
 use Rattle.clap.specs.Walk.{Walk, finished, nothing_held, row_text, settled, walk_from, walked}
@@ -13,13 +13,16 @@ use Rattle.clap.proofs.WalkLemmas.{walk_stopped}
 use Rattle.scrub_cli.specs.declared.words.ImageWords.{ImageWords}
 use Rattle.scrub_cli.specs.declared.words.ItemsWords.{ItemsWords}
 use Rattle.scrub_cli.specs.declared.words.ScanWords.{ScanWords}
+use Rattle.scrub_cli.specs.declared.words.ReclaimWords.{ReclaimWords}
+use Rattle.scrub_cli.specs.declared.words.SizesWords.{SizesWords}
 use Rattle.scrub_cli.specs.declared.words.Request.{Request}
-use Rattle.scrub_cli.specs.declared.words.Request.TheVariants.{Demo, Items, Scan, Index, Locators}
+use Rattle.scrub_cli.specs.declared.words.Request.TheVariants.{Demo, Items, Scan, Index, Locators, Reclaimable, Superblocks, Sizes}
+use Rattle.scrub_cli.specs.Accepting.{AreAccepted}
 use Rattle.scrub_cli.specs.CommandLine.{shardscrub_app}
 use Rattle.scrub_cli.specs.Order.{AreExchanged, HasOptions, option_word}
-use Rattle.scrub_cli.specs.Words.{AreImageWords, AreItemsWords, AreScanWords, AskFor, IsAskedBy, IsNumberOf, IsWorkersOf}
+use Rattle.scrub_cli.specs.Words.{AreImageWords, AreItemsWords, AreReclaimWords, AreScanWords, AreSizesWords, AskFor, IsAskedBy, IsNumberOf, IsWorkersOf}
 use Rattle.scrub_cli.proofs.Walks.{EachRule, parts}
-use Rattle.scrub_cli.proofs.Whole.{built_items, disk}
+use Rattle.scrub_cli.proofs.Whole.{built_items, built_reclaimable, built_sizes, built_superblocks, disk}
 use Rattle.scrub_cli.proofs.SameRows.{AreSame, found_same}
 use Rattle.scrub_cli.proofs.Exchanges.{IsByName, end_exchanged, joined}
 
@@ -38,6 +41,12 @@ module _ (xs ys : List Row) (same : AreSame xs ys) where
   one_same : (id : Text) → one_of id xs ≡ one_of id ys
   one_same id = ap (option_and_then row_text) (found_same id xs ys (same id))
 
+  first_same : (id : Text) → first_of id xs ≡ first_of id ys
+  first_same id = ap (option_and_then (λ (r : Row). slice_get r.values 0)) (found_same id xs ys (same id))
+
+  all_same : (id : Text) → unwrap_or (all_of id xs) [] ≡ unwrap_or (all_of id ys) []
+  all_same id = ap (λ (o : Option Row). unwrap_or (option_map (λ r. r.values) o) []) (found_same id xs ys (same id))
+
   number_same : (id : Text) (n : ℕ) → IsNumberOf xs id n → IsNumberOf ys id n
   number_same id n read = (read.0, sym (one_same id) ∙ read.1, read.2, read.3)
 
@@ -46,8 +55,9 @@ module _ (xs ys : List Row) (same : AreSame xs ys) where
     page = number_same (codes "page") words.page read.page;
     pages = number_same (codes "pages") words.pages read.pages;
     extents = number_same (codes "extents") words.extents read.extents;
-    name = sym (ap (option_and_then (λ (r : Row). slice_get r.values 0)) (found_same (codes "image") xs ys (same (codes "image")))) ∙ read.name;
-    bad_pages = read.bad_pages ∙ ap (λ (o : Option Row). unwrap_or (option_map (λ r. r.values) o) []) (found_same (codes "bad-pages") xs ys (same (codes "bad-pages")));
+    name = sym (first_same (codes "image")) ∙ read.name;
+    bad_pages = read.bad_pages ∙ all_same (codes "bad-pages");
+    map_name = read.map_name ∙ first_same (codes "map");
   }
 
   scan_same : (words : ScanWords) → AreScanWords xs words → AreScanWords ys words
@@ -59,6 +69,15 @@ module _ (xs ys : List Row) (same : AreSame xs ys) where
       go : IsWorkersOf xs words.workers → IsWorkersOf ys words.workers
       go (inl default) = inl (sym (one_same (codes "workers")) ∙ default.0, default.1)
       go (inr given) = inr (number_same (codes "workers") words.workers given.0, given.1)
+
+  reclaim_same : (words : ReclaimWords) → AreReclaimWords xs words → AreReclaimWords ys words
+  reclaim_same words read = record {
+    scan = scan_same words.scan read.scan;
+    accepted = subst (λ (kinds : List Text). AreAccepted kinds words.accepted) (all_same (codes "accept")) read.accepted;
+  }
+
+  sizes_same : (words : SizesWords) → AreSizesWords xs words → AreSizesWords ys words
+  sizes_same words read = record { name = sym (first_same (codes "image")) ∙ read.name; map_name = read.map_name ∙ first_same (codes "map") }
 
   items_same : (words : ItemsWords) → AreItemsWords xs words → AreItemsWords ys words
   items_same words read = record {
@@ -84,35 +103,35 @@ module _ (xs ys : List Row) (same : AreSame xs ys) where
       (ys, renamed name (codes "scan") asked.0 asked.1, scan_same words (subst (λ (rows : List Row). AreScanWords rows words) (pair_rows name (codes "scan") xs asked.0 asked.1) asked.2))
   asked_same name (Index words) asked =
       (ys, renamed name (codes "index") asked.0 asked.1, scan_same words (subst (λ (rows : List Row). AreScanWords rows words) (pair_rows name (codes "index") xs asked.0 asked.1) asked.2))
+  asked_same name (Reclaimable words) asked =
+      (ys, renamed name (codes "reclaimable") asked.0 asked.1, reclaim_same words (subst (λ (rows : List Row). AreReclaimWords rows words) (pair_rows name (codes "reclaimable") xs asked.0 asked.1) asked.2))
+  asked_same name (Superblocks words) asked =
+      (ys, renamed name (codes "superblocks") asked.0 asked.1, image_same words (subst (λ (rows : List Row). AreImageWords rows words) (pair_rows name (codes "superblocks") xs asked.0 asked.1) asked.2))
+  asked_same name (Sizes words) asked =
+      (ys, renamed name (codes "sizes") asked.0 asked.1, sizes_same words (subst (λ (rows : List Row). AreSizesWords rows words) (pair_rows name (codes "sizes") xs asked.0 asked.1) asked.2))
   asked_same name (Locators words) asked =
       (ys, renamed name (codes "locators") asked.0 asked.1, scan_same words (subst (λ (rows : List Row). AreScanWords rows words) (pair_rows name (codes "locators") xs asked.0 asked.1) asked.2))
 
 -- the commands as `clap` builds them are known by their names
 disk_by_name : (name : Text) → EachRule IsByName (disk name).rules
 unfolding clap_on_literals
-disk_by_name name = (
-  (refl, inr refl, refl, refl),
-  ((refl, inr refl, refl, refl), ((refl, inr refl, refl, refl), ((refl, inr refl, refl, refl), ((refl, inl refl, refl, refl), ((refl, inl refl, refl, refl), ((refl, inr refl, refl, refl), tt)))))),
-)
+disk_by_name name = ((refl, inr refl, refl, refl), ((refl, inr refl, refl, refl), ((refl, inr refl, refl, refl), ((refl, inr refl, refl, refl), ((refl, inr refl, refl, refl), ((refl, inl refl, refl, refl), ((refl, inl refl, refl, refl), ((refl, inr refl, refl, refl), tt))))))))
+
+reclaimable_by_name : EachRule IsByName built_reclaimable.rules
+unfolding clap_on_literals
+reclaimable_by_name = ((refl, inr refl, refl, refl), ((refl, inr refl, refl, refl), ((refl, inr refl, refl, refl), ((refl, inr refl, refl, refl), ((refl, inr refl, refl, refl), ((refl, inr refl, refl, refl), ((refl, inl refl, refl, refl), ((refl, inl refl, refl, refl), ((refl, inr refl, refl, refl), tt)))))))))
+
+superblocks_by_name : EachRule IsByName built_superblocks.rules
+unfolding clap_on_literals
+superblocks_by_name = ((refl, inr refl, refl, refl), ((refl, inr refl, refl, refl), ((refl, inr refl, refl, refl), ((refl, inr refl, refl, refl), ((refl, inl refl, refl, refl), ((refl, inl refl, refl, refl), ((refl, inr refl, refl, refl), tt)))))))
+
+sizes_by_name : EachRule IsByName built_sizes.rules
+unfolding clap_on_literals
+sizes_by_name = ((refl, inr refl, refl, refl), ((refl, inl refl, refl, refl), ((refl, inr refl, refl, refl), tt)))
 
 items_by_name : EachRule IsByName built_items.rules
 unfolding clap_on_literals
-items_by_name = (
-  (refl, inr refl, refl, refl),
-  (
-    (refl, inr refl, refl, refl),
-    (
-      (refl, inr refl, refl, refl),
-      (
-        (refl, inr refl, refl, refl),
-        (
-          (refl, inr refl, refl, refl),
-          ((refl, inl refl, refl, refl), ((refl, inl refl, refl, refl), ((refl, inr refl, refl, refl), tt))),
-        ),
-      ),
-    ),
-  ),
-)
+items_by_name = ((refl, inr refl, refl, refl), ((refl, inr refl, refl, refl), ((refl, inr refl, refl, refl), ((refl, inr refl, refl, refl), ((refl, inr refl, refl, refl), ((refl, inr refl, refl, refl), ((refl, inl refl, refl, refl), ((refl, inl refl, refl, refl), ((refl, inr refl, refl, refl), tt)))))))))
 
 -- the words of a command are left to it
 abbrev stopped : Text → List Text → Walk
@@ -141,6 +160,18 @@ enters_index = record { first = refl; clean = refl; faults = λ words. refl; row
 enters_locators : Enters (codes "locators") (disk (codes "locators"))
 unfolding clap_on_literals
 enters_locators = record { first = refl; clean = refl; faults = λ words. refl; rows = λ words. refl }
+
+enters_reclaimable : Enters (codes "reclaimable") built_reclaimable
+unfolding clap_on_literals
+enters_reclaimable = record { first = refl; clean = refl; faults = λ words. refl; rows = λ words. refl }
+
+enters_superblocks : Enters (codes "superblocks") built_superblocks
+unfolding clap_on_literals
+enters_superblocks = record { first = refl; clean = refl; faults = λ words. refl; rows = λ words. refl }
+
+enters_sizes : Enters (codes "sizes") built_sizes
+unfolding clap_on_literals
+enters_sizes = record { first = refl; clean = refl; faults = λ words. refl; rows = λ words. refl }
 
 enters_items : Enters (codes "items") built_items
 unfolding clap_on_literals
@@ -189,4 +220,7 @@ order_is_free words others request x asked = go x.options
     go (inl scan) = exchanged (codes "scan") (disk (codes "scan")) enters_scan (disk_by_name (codes "scan")) refl words others x scan request asked
     go (inr (inl index)) = exchanged (codes "index") (disk (codes "index")) enters_index (disk_by_name (codes "index")) refl words others x index request asked
     go (inr (inr (inl locators))) = exchanged (codes "locators") (disk (codes "locators")) enters_locators (disk_by_name (codes "locators")) refl words others x locators request asked
-    go (inr (inr (inr items))) = exchanged (codes "items") built_items enters_items items_by_name refl words others x items request asked
+    go (inr (inr (inr (inl reclaimable)))) = exchanged (codes "reclaimable") built_reclaimable enters_reclaimable reclaimable_by_name refl words others x reclaimable request asked
+    go (inr (inr (inr (inr (inl superblocks))))) = exchanged (codes "superblocks") built_superblocks enters_superblocks superblocks_by_name refl words others x superblocks request asked
+    go (inr (inr (inr (inr (inr (inl sizes)))))) = exchanged (codes "sizes") built_sizes enters_sizes sizes_by_name refl words others x sizes request asked
+    go (inr (inr (inr (inr (inr (inr items)))))) = exchanged (codes "items") built_items enters_items items_by_name refl words others x items request asked

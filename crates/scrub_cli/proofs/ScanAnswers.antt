@@ -4,12 +4,13 @@ use Rattle.scrub_disk.specs.Faults.{HasSizes}
 use Rattle.scrub_cli.specs.declared.fault.Fault.{Fault}
 use Rattle.scrub_cli.specs.declared.words.ImageWords.{ImageWords}
 use Rattle.scrub_cli.specs.DiskImage.{IsDiskFault}
-use Rattle.scrub_cli.specs.Known.{KnownRaw}
+use Rattle.scrub_cli.specs.Known.{KnownMaps, KnownRaw}
 use Rattle.scrub_cli.specs.Scan.{IsScanFault}
 use Rattle.scrub_cli.proofs.DiskAnswers.{of_disk_fault}
 
 -- a fault of the image is one of `scan`
-pub scan_disk_fault : (known : KnownRaw) (words : ImageWords) (g : Sizes) (fault : Fault) → HasSizes g words.page words.pages words.extents →
-    IsDiskFault known words g fault → IsScanFault known words fault
-scan_disk_fault known words g fault sizes =
-    of_disk_fault (IsScanFault known words) known words g (λ word is. (g, sizes, is)) (λ name is. (g, sizes, is)) (λ is. (g, sizes, is)) tt fault
+pub scan_disk_fault : (known : KnownRaw) (maps : KnownMaps) (words : ImageWords) (g : Sizes) (fault : Fault) →
+    HasSizes g words.page words.pages words.extents → IsDiskFault known maps words g fault → IsScanFault known maps words fault
+scan_disk_fault known maps words g fault sizes =
+    of_disk_fault (IsScanFault known maps words) known maps words g (λ word is. (g, sizes, is)) (λ name is. (g, sizes, is)) (λ k is. (g, sizes, is))
+    (λ name is. (g, sizes, is)) (λ is. (g, sizes, is)) tt fault

@@ -1,9 +1,7 @@
 -- A line that is written part by part, until a write fails.
-use Rattle.std.proofs.Common.{◌≡◌, ℕ, List, [], ◌∷◌, ◌++◌, OnOk, Option, Result, codes, ap, subst, sym, append_assoc}
+use Rattle.std.proofs.Common.{◌≡◌, ℕ, List, [], ◌∷◌, ◌++◌, OnOk, Option, Result, codes, ap, subst, sym, ◌∙◌, append_assoc}
 use Rattle.std.specs.Io.KnownBytes.{Appends}
-use Rattle.std.specs.Fmt.{decimal}
-use Rattle.scrub_cli.specs.declared.fault.Fault.TheVariants.{Output}
-use Rattle.scrub_cli.specs.Fault.{line, text_of}
+use Rattle.scrub_cli.specs.Fault.{line}
 use Rattle.scrub_report.specs.Writing.{AppendsFront}
 use Rattle.scrub_cli.proofs.Appending.{front_stays, front_then, ok_then}
 
@@ -49,29 +47,53 @@ module _ (what which : List ℕ) where
       let rest = ok_then r mid mid2 new what (which ++ 10 ∷ []) (subst (Appends mid mid2) is first) last in
       subst (λ u. OnOk r (Appends old new u)) parts (ok_then r old mid new before _ name rest)
 
--- the line of an output that failed, whose number is written in the middle
-module _ (n : ℕ) where
-  abbrev head : List ℕ
-  head = codes "shardscrub: output failed after "
+-- a line with a number between its two parts
+module _ (what number which : List ℕ) where
+  number_parts : before ++ (what ++ (number ++ (which ++ 10 ∷ []))) ≡ line (what ++ number ++ which)
+  number_parts = ap (λ u. before ++ u) (sym (append_assoc what number (which ++ 10 ∷ [])) ∙ sym (append_assoc (what ++ number) which (10 ∷ [])))
 
-  abbrev tail : List ℕ
-  tail = codes " bytes" ++ 10 ∷ []
+  -- a front of the program's name
+  pub number_first : (old new : Option (List ℕ)) → AppendsFront old new before → AppendsFront old new (line (what ++ number ++ which))
+  number_first old new front = subst (AppendsFront old new) number_parts (front_stays old new before _ front)
 
-  count_parts : head ++ (decimal n ++ tail) ≡ text_of (Output n)
-  count_parts = ap (λ u. head ++ u) (sym (append_assoc (decimal n) (codes " bytes") (10 ∷ [])))
+  -- the name, and a front of the first part
+  pub number_second : (old mid new : Option (List ℕ)) (a : List ℕ) → a ≡ what → Appends old mid before → AppendsFront mid new a →
+      AppendsFront old new (line (what ++ number ++ which))
+  number_second old mid new a is name front =
+      let rest = subst (λ u. AppendsFront mid new (u ++ (number ++ (which ++ 10 ∷ [])))) is (front_stays mid new a (number ++ (which ++ 10 ∷ [])) front) in
+      subst (AppendsFront old new) number_parts (front_then old mid new before _ name rest)
 
-  pub count_first : (old new : Option (List ℕ)) → AppendsFront old new head → AppendsFront old new (text_of (Output n))
-  count_first old new front = subst (AppendsFront old new) count_parts (front_stays old new head _ front)
+  -- the name, the first part, and a front of what stands behind it
+  behind_first : (old mid mid2 new : Option (List ℕ)) (a : List ℕ) → a ≡ what → Appends old mid before → Appends mid mid2 a →
+      AppendsFront mid2 new (number ++ (which ++ 10 ∷ [])) → AppendsFront old new (line (what ++ number ++ which))
+  behind_first old mid mid2 new a is name first rest =
+      subst (AppendsFront old new) number_parts (front_then old mid new before _ name (front_then mid mid2 new what _ (subst (Appends mid mid2) is first) rest))
 
-  pub count_second : (old mid new : Option (List ℕ)) → Appends old mid head → AppendsFront mid new (decimal n) → AppendsFront old new (text_of (Output n))
-  count_second old mid new name front = subst (AppendsFront old new) count_parts (front_then old mid new head _ name (front_stays mid new (decimal n) tail front))
+  -- the name, the first part, and a front of the number
+  pub number_third : (old mid mid2 new : Option (List ℕ)) (a : List ℕ) → a ≡ what → Appends old mid before → Appends mid mid2 a →
+      AppendsFront mid2 new number → AppendsFront old new (line (what ++ number ++ which))
+  number_third old mid mid2 new a is name first front =
+      behind_first old mid mid2 new a is name first (front_stays mid2 new number (which ++ 10 ∷ []) front)
 
-  pub count_last : (old mid mid2 new : Option (List ℕ)) → Appends old mid head → Appends mid mid2 (decimal n) → AppendsFront mid2 new tail →
-      AppendsFront old new (text_of (Output n))
-  count_last old mid mid2 new name digits front =
-      subst (AppendsFront old new) count_parts (front_then old mid new head _ name (front_then mid mid2 new (decimal n) tail digits front))
+  -- the name, the first part, the number, and a front of the second part
+  pub number_fourth : (old mid mid2 mid3 new : Option (List ℕ)) (a b : List ℕ) → a ≡ what → b ≡ which → Appends old mid before → Appends mid mid2 a →
+      Appends mid2 mid3 number → AppendsFront mid3 new b → AppendsFront old new (line (what ++ number ++ which))
+  number_fourth old mid mid2 mid3 new a b is also name first digits front =
+      let last = subst (λ u. AppendsFront mid3 new (u ++ 10 ∷ [])) also (front_stays mid3 new b (10 ∷ []) front) in
+      behind_first old mid mid2 new a is name first (front_then mid2 mid3 new number _ digits last)
 
-  pub count_whole : {T E : Type 0} (r : Result T E) (old mid mid2 new : Option (List ℕ)) → Appends old mid head → Appends mid mid2 (decimal n) → OnOk r (Appends mid2 new tail) →
-      OnOk r (Appends old new (text_of (Output n)))
-  count_whole r old mid mid2 new name digits ended =
-      subst (λ u. OnOk r (Appends old new u)) count_parts (ok_then r old mid new head _ name (ok_then r mid mid2 new (decimal n) tail digits ended))
+  -- all parts, and the line feed or nothing
+  pub number_last : (old mid mid2 mid3 mid4 new : Option (List ℕ)) (a b : List ℕ) → a ≡ what → b ≡ which → Appends old mid before → Appends mid mid2 a →
+      Appends mid2 mid3 number → Appends mid3 mid4 b → AppendsFront mid4 new (10 ∷ []) → AppendsFront old new (line (what ++ number ++ which))
+  number_last old mid mid2 mid3 mid4 new a b is also name first digits second front =
+      let last = front_then mid3 mid4 new which (10 ∷ []) (subst (Appends mid3 mid4) also second) front in
+      behind_first old mid mid2 new a is name first (front_then mid2 mid3 new number _ digits last)
+
+  -- all of it, where the line feed was written too
+  pub number_whole : {T E : Type 0} (r : Result T E) (old mid mid2 mid3 mid4 new : Option (List ℕ)) (a b : List ℕ) → a ≡ what → b ≡ which →
+      Appends old mid before → Appends mid mid2 a → Appends mid2 mid3 number → Appends mid3 mid4 b → OnOk r (Appends mid4 new (10 ∷ [])) →
+      OnOk r (Appends old new (line (what ++ number ++ which)))
+  number_whole r old mid mid2 mid3 mid4 new a b is also name first digits second ended =
+      let last = ok_then r mid3 mid4 new which (10 ∷ []) (subst (Appends mid3 mid4) also second) ended in
+      let rest = ok_then r mid mid2 new what _ (subst (Appends mid mid2) is first) (ok_then r mid2 mid3 new number _ digits last) in
+      subst (λ u. OnOk r (Appends old new u)) number_parts (ok_then r old mid new before _ name rest)

@@ -1,15 +1,18 @@
--- What the words on an image file come to: the pages that they name, the image that is loaded, and why none is.
-use Rattle.std.specs.Prelude.{◌≡◌, ◌<◌, ℕ, List, length, take, slice_index_or, IfSome}
+-- What the words on an image file come to: the pages that they name, the image that is loaded without what its map lacks, and
+-- why none is.
+use Rattle.std.specs.Prelude.{◌≡◌, ◌<◌, ℕ, List, length, take, slice_index_or, Option, IfSome}
 use Rattle.std.specs.Borrow.{Bor}
 use Rattle.std.specs.List.{AllZip}
 use Rattle.scrub_disk.specs.declared.geometry.Geometry.{Geometry as Sizes}
 use Rattle.scrub_disk.specs.Image.{Image, disk_bytes}
 use Rattle.scrub_disk.specs.Raw.{IsLoadedWith}
+use Rattle.scrub_map.specs.declared.block.MapBlock.{MapBlock}
 use Rattle.scrub_cli.specs.declared.fault.Fault.{Fault}
-use Rattle.scrub_cli.specs.declared.fault.Fault.TheVariants.{BadPage, NoImage, TooLong, OutOfMemory}
+use Rattle.scrub_cli.specs.declared.fault.Fault.TheVariants.{BadPage, NoMap, MapLine, NoImage, TooLong, OutOfMemory}
 use Rattle.scrub_cli.specs.declared.words.ImageWords.{ImageWords}
-use Rattle.scrub_cli.specs.Known.{KnownRaw}
+use Rattle.scrub_cli.specs.Known.{KnownMaps, KnownRaw}
 use Rattle.scrub_cli.specs.Pair.{IsPair}
+use Rattle.scrub_cli.specs.Rescue.{AreBlocksOf, IsMapFault, LosesByMap}
 
 -- the word is a pair of an extent of a disk of these sizes and a page of that extent
 pub record NamesPage (g : Sizes) (word : List ℕ) (at : ℕ × ℕ) : Type 0 where
@@ -36,14 +39,32 @@ IsBadPageFault g words (BadPage word) = IsFirstBadPage g words word
 IsBadPageFault g words OutOfMemory = Unit {0}
 IsBadPageFault g words fault = ⊥
 
--- an image of these sizes that was loaded from this raw image, with the pages unreadable that the words name
-pub record IsLoadedDisk (known : KnownRaw) (words : ImageWords) (g : Sizes) (image : Image) : Type 0 where
+-- an image of these sizes that was loaded from this raw image, with the pages unreadable that the words name, and then with
+-- those unreadable that the map lacks, where one is named
+pub record IsLoadedDisk (known : KnownRaw) (maps : KnownMaps) (words : ImageWords) (g : Sizes) (image : Image) : Type 0 where
   pub unreadable : List (ℕ × ℕ)
   pub named : NamePages g words.bad_pages.items unreadable
-  pub loaded : IsLoadedWith known.bytes known.most_failures g unreadable image
+  pub blocks : Option (List MapBlock)
+  pub mapped : AreBlocksOf maps words.map blocks
+  pub before : Image
+  pub loaded : IsLoadedWith known.bytes known.most_failures g unreadable before
+  pub rescued : LosesByMap blocks before image
+
+-- the words name pages, and their map was read, where one is named
+pub record AreReadBefore (maps : KnownMaps) (words : ImageWords) (g : Sizes) : Type 0 where
+  pub pages : List (ℕ × ℕ)
+  pub named : NamePages g words.bad_pages.items pages
+  pub blocks : Option (List MapBlock)
+  pub mapped : AreBlocksOf maps words.map blocks
+
+-- the words name pages, but their map isn't read
+abbrev pub IsMapFaultBehind : KnownMaps → ImageWords → Sizes → Fault → Type 0
+IsMapFaultBehind maps words g fault = (pages : List (ℕ × ℕ)) × NamePages g words.bad_pages.items pages × IsMapFault maps words.map fault
 
 -- Why no disk of these sizes is loaded: each fault comes only where none before it does, and want of memory comes anywhere.
-abbrev pub IsDiskFault : KnownRaw → ImageWords → Sizes → Fault → Type 0
-IsDiskFault known words g (NoImage name) = (pages : List (ℕ × ℕ)) × NamePages g words.bad_pages.items pages × (name ≡ words.name)
-IsDiskFault known words g TooLong = (pages : List (ℕ × ℕ)) × NamePages g words.bad_pages.items pages × IfSome known.bytes (λ told. disk_bytes g < length told)
-IsDiskFault known words g fault = IsBadPageFault g words.bad_pages.items fault
+abbrev pub IsDiskFault : KnownRaw → KnownMaps → ImageWords → Sizes → Fault → Type 0
+IsDiskFault known maps words g (NoMap name) = IsMapFaultBehind maps words g (NoMap name)
+IsDiskFault known maps words g (MapLine k) = IsMapFaultBehind maps words g (MapLine k)
+IsDiskFault known maps words g (NoImage name) = AreReadBefore maps words g × (name ≡ words.name)
+IsDiskFault known maps words g TooLong = AreReadBefore maps words g × IfSome known.bytes (λ told. disk_bytes g < length told)
+IsDiskFault known maps words g fault = IsBadPageFault g words.bad_pages.items fault

@@ -4,16 +4,22 @@ use Rattle.std.specs.Fmt.{decimal}
 use Rattle.scrub_disk.specs.declared.geometry.GeometryFault.TheVariants.{PageSize, Pages, Extents, ExtentBytes, TotalBytes}
 use Rattle.scrub_disk.specs.declared.loading.LoadFault.{LoadFault}
 use Rattle.scrub_disk.specs.declared.loading.LoadFault.TheVariants.{TooLong as too_long, OutOfMemory as no_memory_to_load}
+use Rattle.scrub_map.specs.declared.reading.MapFault.{MapFault}
+use Rattle.scrub_map.specs.declared.reading.MapFault.TheVariants.{Line, OutOfMemory as no_memory_for_map}
 use Rattle.scrub_cli.specs.declared.words.WordsFault.{WordsFault}
 use Rattle.scrub_cli.specs.declared.words.WordsFault.TheVariants.{Refused, Help as help, OutOfMemory as no_memory_to_read}
 use Rattle.scrub_cli.specs.declared.fault.Fault.{Fault}
-use Rattle.scrub_cli.specs.declared.fault.Fault.TheVariants.{NotUtf8, Help, Words, Geometry, Extent, Pointer, BadPage, NoImage, TooLong, Output, OutOfMemory}
+use Rattle.scrub_cli.specs.declared.fault.Fault.TheVariants.{NotUtf8, Help, Words, Geometry, Extent, Pointer, BadPage, NoMap, MapLine, NoImage, TooLong, Output, OutOfMemory}
 use Rattle.scrub_report.specs.Writing.{AppendsFront}
 use Rattle.scrub_cli.specs.Writing.{Held}
 
 abbrev pub fault_of_load : LoadFault → Fault
 fault_of_load no_memory_to_load = OutOfMemory
 fault_of_load too_long = TooLong
+
+abbrev pub fault_of_map : MapFault → Fault
+fault_of_map no_memory_for_map = OutOfMemory
+fault_of_map (Line k) = MapLine k
 
 abbrev pub fault_of_words : WordsFault → Fault
 fault_of_words (help text) = Help text
@@ -28,6 +34,8 @@ status_of (Geometry fault) = 2
 status_of Extent = 2
 status_of Pointer = 2
 status_of (BadPage word) = 2
+status_of (NoMap name) = 3
+status_of (MapLine k) = 2
 status_of (NoImage name) = 3
 status_of TooLong = 3
 status_of (Output written) = 3
@@ -50,6 +58,8 @@ text_of (Geometry TotalBytes) = line (codes "geometry refused: TotalBytes")
 text_of Extent = line (codes "extent out of range")
 text_of Pointer = line (codes "pointer out of range")
 text_of (BadPage word) = line (codes "bad page refused: " ++ word.now)
+text_of (NoMap name) = line (codes "map cannot be opened: " ++ name.now)
+text_of (MapLine k) = line (codes "map refused: line " ++ decimal k)
 text_of (NoImage name) = line (codes "image cannot be opened: " ++ name.now)
 text_of TooLong = line (codes "image too long")
 text_of (Output written) = line (codes "output failed after " ++ decimal written ++ codes " bytes")

@@ -8,7 +8,7 @@ use Rattle.scrub_cli.specs.declared.fault.Fault.{Fault}
 use Rattle.scrub_cli.specs.declared.fault.Fault.TheVariants.{Geometry, Extent, Pointer, OutOfMemory}
 use Rattle.scrub_cli.specs.declared.words.ItemsWords.{ItemsWords}
 use Rattle.scrub_cli.specs.DiskImage.{IsLoadedDisk, IsDiskFault}
-use Rattle.scrub_cli.specs.Known.{KnownRaw}
+use Rattle.scrub_cli.specs.Known.{KnownMaps, KnownRaw}
 use Rattle.scrub_cli.specs.Lines.{IsListing}
 
 -- the write pointer: the one that is given, or the extent's size
@@ -22,17 +22,20 @@ pub record AreInDisk (words : ItemsWords) (g : Sizes) : Type 0 where
   pub in_extent : given_pointer words g ≤ extent_bytes g
 
 -- the listing of the extent under the pointer, in an image that was loaded from this raw image
-pub record IsItemsAnswer (known : KnownRaw) (words : ItemsWords) (text : List ℕ) (status : ℕ) : Type 0 where
+pub record IsItemsAnswer (known : KnownRaw) (maps : KnownMaps) (words : ItemsWords) (text : List ℕ) (status : ℕ) : Type 0 where
   pub geometry : Sizes
   pub places : AreInDisk words geometry
   pub image : Image
-  pub loaded : IsLoadedDisk known words.image geometry image
+  pub loaded : IsLoadedDisk known maps words.image geometry image
   pub listed : IsListing (extent_of image words.extent (given_pointer words geometry)) text status
 
 -- Why there is no listing: each fault comes only where none before it does, and want of memory comes anywhere.
-abbrev pub IsItemsFault : KnownRaw → ItemsWords → Fault → Type 0
-IsItemsFault known words (Geometry fault) = IsFirstBroken words.image.page words.image.pages words.image.extents fault
-IsItemsFault known words Extent = (g : Sizes) × HasSizes g words.image.page words.image.pages words.image.extents × (g.extents ≤ words.extent)
-IsItemsFault known words Pointer = (g : Sizes) × HasSizes g words.image.page words.image.pages words.image.extents × (words.extent < g.extents) × (extent_bytes g < given_pointer words g)
-IsItemsFault known words OutOfMemory = Unit {0}
-IsItemsFault known words fault = (g : Sizes) × AreInDisk words g × IsDiskFault known words.image g fault
+abbrev pub IsItemsFault : KnownRaw → KnownMaps → ItemsWords → Fault → Type 0
+IsItemsFault known maps words (Geometry fault) = IsFirstBroken words.image.page words.image.pages words.image.extents fault
+IsItemsFault known maps words Extent =
+    (g : Sizes) × HasSizes g words.image.page words.image.pages words.image.extents × (g.extents ≤ words.extent)
+IsItemsFault known maps words Pointer =
+    (g : Sizes) × HasSizes g words.image.page words.image.pages words.image.extents ×
+    (words.extent < g.extents) × (extent_bytes g < given_pointer words g)
+IsItemsFault known maps words OutOfMemory = Unit {0}
+IsItemsFault known maps words fault = (g : Sizes) × AreInDisk words g × IsDiskFault known maps words.image g fault

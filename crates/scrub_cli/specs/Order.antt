@@ -5,7 +5,9 @@ use Rattle.clap.specs.Words.{Text}
 
 -- a command that has options
 abbrev pub HasOptions : Text → Type 0
-HasOptions command = (command ≡ codes "scan") ⊎ (command ≡ codes "index") ⊎ (command ≡ codes "locators") ⊎ (command ≡ codes "items")
+HasOptions command =
+    (command ≡ codes "scan") ⊎ (command ≡ codes "index") ⊎ (command ≡ codes "locators")
+    ⊎ (command ≡ codes "reclaimable") ⊎ (command ≡ codes "superblocks") ⊎ (command ≡ codes "sizes") ⊎ (command ≡ codes "items")
 
 -- an option and its value in one word, `--NAME=VALUE`
 abbrev pub option_word : Text → Text → Text

@@ -1,5 +1,6 @@
 -- What a parse of the words leaves to be read, and what an error of `clap` comes to.
-use Rattle.std.specs.Prelude.{◌≡◌, ◌≢◌, ◌⊎◌, ℕ, List, Option, None, Some, codes, IfSome, pos}
+use Rattle.std.specs.Prelude.{◌≡◌, ◌≢◌, ◌⊎◌, ◌||◌, ℕ, Bool, true, false, List, Option, None, Some, codes, IfSome, pos}
+use Rattle.std.specs.Str.{bytes_eq}
 use Rattle.clap.specs.Words.{IsSignedIn, without_minus, Row, Text, first_of, one_of}
 use Rattle.clap.specs.declared.error.kind.ErrorKind.{ErrorKind}
 use Rattle.clap.specs.declared.error.kind.ErrorKind.TheVariants.{DisplayHelp, OutOfMemory as no_memory}
@@ -21,14 +22,18 @@ HasNumberTo most found name = (text : Text) × (one_of name found ≡ Some (with
 abbrev pub HasNumber : List Row → Text → Type 0
 HasNumber found name = HasNumberTo 4294967295 found name
 
+-- the name of an image was found
+abbrev pub HasImageName : List Row → Type 0
+HasImageName found = (name : Text) × (first_of (codes "image") found ≡ Some name)
+
 -- what `clap` found has all that a command on an image file needs
 pub record HasImage (found : List Row) : Type 0 where
   pub page : HasNumber found (codes "page")
   pub pages : HasNumber found (codes "pages")
   pub extents : HasNumber found (codes "extents")
-  pub image : (name : Text) × (first_of (codes "image") found ≡ Some name)
+  pub image : HasImageName found
 
--- and all that `scan`, `index` and `locators` need
+-- and all that `scan`, `index`, `locators` and `reclaimable` need
 pub record HasScan (found : List Row) : Type 0 where
   pub disk : HasImage found
   pub workers : (one_of (codes "workers") found ≡ None) ⊎ HasNumberTo 64 found (codes "workers")
@@ -41,14 +46,27 @@ pub record HasItems (found : List Row) : Type 0 where
 
 -- the command is one on the whole disk
 abbrev pub IsDiskCommand : Text → Type 0
-IsDiskCommand name = (name ≡ codes "scan") ⊎ (name ≡ codes "index") ⊎ (name ≡ codes "locators")
+IsDiskCommand name = (name ≡ codes "scan") ⊎ (name ≡ codes "index") ⊎ (name ≡ codes "locators") ⊎ (name ≡ codes "reclaimable")
+
+abbrev pub is_disk_command : Text → Bool
+is_disk_command name =
+    bytes_eq name (codes "scan") || (bytes_eq name (codes "index")
+    || (bytes_eq name (codes "locators") || bytes_eq name (codes "reclaimable")))
+
+-- what a command needs, by the first of these that it is: one on the whole disk, on superblocks, on sizes, on items, and the demo
+abbrev pub HasNeeds : (disk superblocks sizes items demo : Bool) → List Row → Type 0
+HasNeeds true superblocks sizes items demo found = HasScan found
+HasNeeds false true sizes items demo found = HasImage found
+HasNeeds false false true items demo found = HasImageName found
+HasNeeds false false false true demo found = HasItems found
+HasNeeds false false false false true found = Unit {0}
+HasNeeds false false false false false found = ⊥
 
 -- the command is one of the program's, and has all that it needs
 abbrev pub IsWholeCommand : Text → List Row → Type 0
 IsWholeCommand name found =
-    (name ≡ codes "demo")
-    ⊎ ((name ≡ codes "items") × HasItems found)
-    ⊎ (IsDiskCommand name × HasScan found)
+    HasNeeds (is_disk_command name) (bytes_eq name (codes "superblocks")) (bytes_eq name (codes "sizes")) (bytes_eq name (codes "items"))
+    (bytes_eq name (codes "demo")) found
 
 abbrev pub IsWholeParse : Option (Text × List Row) → Type 0
 IsWholeParse command = IfSome command (λ met. IsWholeCommand met.0 met.1)

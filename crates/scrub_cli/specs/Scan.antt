@@ -1,18 +1,20 @@
--- What the commands `scan`, `index` and `locators` tell of an image file, and why they don't.
+-- What the commands `scan`, `index`, `locators` and `reclaimable` tell of an image file, and why they don't.
 use Rattle.std.specs.Prelude.{◌≡◌, ℕ, List, Bool}
 use Rattle.scrub_disk.specs.declared.geometry.Geometry.{Geometry as Sizes}
 use Rattle.scrub_disk.specs.Faults.{HasSizes, IsFirstBroken}
 use Rattle.scrub_disk.specs.Image.{Image}
 use Rattle.scrub_report.specs.Index.{IsIndex}
 use Rattle.scrub_report.specs.Locators.{AreLocatorLines}
+use Rattle.scrub_report.specs.declared.doubts.Accepted.{Accepted}
+use Rattle.scrub_report.specs.Reclaimable.{AreReclaimLines, IsClear}
 use Rattle.scrub_report.specs.Report.{IsReport}
 use Rattle.scrub_cli.specs.declared.answer.Wanted.{Wanted}
-use Rattle.scrub_cli.specs.declared.answer.Wanted.TheVariants.{Report, Index, Locators}
+use Rattle.scrub_cli.specs.declared.answer.Wanted.TheVariants.{Report, Index, Locators, Reclaimable}
 use Rattle.scrub_cli.specs.declared.fault.Fault.{Fault}
 use Rattle.scrub_cli.specs.declared.fault.Fault.TheVariants.{Geometry, OutOfMemory}
 use Rattle.scrub_cli.specs.declared.words.ImageWords.{ImageWords}
 use Rattle.scrub_cli.specs.DiskImage.{IsLoadedDisk, IsDiskFault}
-use Rattle.scrub_cli.specs.Known.{KnownRaw}
+use Rattle.scrub_cli.specs.Known.{KnownMaps, KnownRaw}
 use Rattle.scrub_cli.specs.Lines.{status_of_clean}
 use Rattle.scrub_report.specs.Scrubbed.{IsCleanImage}
 
@@ -22,27 +24,46 @@ pub record IsStatusOfImage (image : Image) (status : ℕ) : Type 0 where
   pub told : IsCleanImage image is_clean
   pub ended : status ≡ status_of_clean is_clean
 
--- the text is the report of the image, its index, or the lines of its named locators
+-- 0 where nothing speaks against reclaiming extents of the image but what is accepted, and 1 where something does
+pub record IsStatusOfDoubts (image : Image) (accepted : Accepted) (status : ℕ) : Type 0 where
+  pub is_clear : Bool
+  pub told : IsClear image accepted is_clear
+  pub ended : status ≡ status_of_clean is_clear
+
+-- the text is the report of the image, its index, the lines of its named locators, or those of what may be reclaimed
 abbrev pub Tells : Wanted → Image → List ℕ → Type 0
 Tells Report image text = IsReport image text
 Tells Index image text = IsIndex image text
 Tells Locators image text = AreLocatorLines image text
+Tells (Reclaimable accepted) image text = AreReclaimLines image accepted text
 
--- what is wanted of an image, with the status of its report
+-- the status is that of the report, or that of what may be reclaimed
+abbrev pub IsStatusOf : Wanted → Image → ℕ → Type 0
+IsStatusOf Report image status = IsStatusOfImage image status
+IsStatusOf Index image status = IsStatusOfImage image status
+IsStatusOf Locators image status = IsStatusOfImage image status
+IsStatusOf (Reclaimable accepted) image status = IsStatusOfDoubts image accepted status
+
+-- what is wanted of an image, with its status
 pub record IsDiskAnswer (wanted : Wanted) (image : Image) (text : List ℕ) (status : ℕ) : Type 0 where
   pub tells : Tells wanted image text
-  pub ended : IsStatusOfImage image status
+  pub ended : IsStatusOf wanted image status
 
--- what is wanted of an image of the sizes that are given, which was loaded from this raw image
-pub record IsScanAnswer (wanted : Wanted) (known : KnownRaw) (words : ImageWords) (text : List ℕ) (status : ℕ) : Type 0 where
+-- an image of the sizes that are given, which was loaded from this raw image
+pub record IsDiskOf (known : KnownRaw) (maps : KnownMaps) (words : ImageWords) (image : Image) : Type 0 where
   pub geometry : Sizes
   pub sizes : HasSizes geometry words.page words.pages words.extents
+  pub loaded : IsLoadedDisk known maps words geometry image
+
+-- what is wanted of such an image
+pub record IsScanAnswer (wanted : Wanted) (known : KnownRaw) (maps : KnownMaps) (words : ImageWords) (text : List ℕ)
+    (status : ℕ) : Type 0 where
   pub image : Image
-  pub loaded : IsLoadedDisk known words geometry image
+  pub disk : IsDiskOf known maps words image
   pub answered : IsDiskAnswer wanted image text status
 
 -- Why nothing is told: each fault comes only where none before it does, and want of memory comes anywhere.
-abbrev pub IsScanFault : KnownRaw → ImageWords → Fault → Type 0
-IsScanFault known words (Geometry fault) = IsFirstBroken words.page words.pages words.extents fault
-IsScanFault known words OutOfMemory = Unit {0}
-IsScanFault known words fault = (g : Sizes) × HasSizes g words.page words.pages words.extents × IsDiskFault known words g fault
+abbrev pub IsScanFault : KnownRaw → KnownMaps → ImageWords → Fault → Type 0
+IsScanFault known maps words (Geometry fault) = IsFirstBroken words.page words.pages words.extents fault
+IsScanFault known maps words OutOfMemory = Unit {0}
+IsScanFault known maps words fault = (g : Sizes) × HasSizes g words.page words.pages words.extents × IsDiskFault known maps words g fault

@@ -1,16 +1,22 @@
-//! What a command answers: the lines of an extent, or the report, the index or the named locators of a disk, and the status
-//! that it ends with. How the disk came to be read is left to the commands, and where the answer goes to the run.
+//! What a command answers: the lines of an extent, the report, the index or the named locators of a disk, what may be
+//! reclaimed of it, or what a disk or an image has of superblocks, and the status that it ends with. How the disk came to be
+//! read is left to the commands, and where the answer goes to the run.
 
-ghost use Rattle.std.specs.Prelude.{◌≡◌, ◌≤◌, IfOk};
+ghost use Rattle.std.specs.Prelude.{◌≡◌, ◌≤◌, ◌<◌, ◌^◌, IfOk};
 ghost use Rattle.std.specs.List.{list_all};
 ghost use Rattle.scrub_report.specs.Scrubbed.{is_clean_item};
 ghost use Rattle.scrub_cli.specs.Lines.{lines_of, status_of_clean};
 ghost use Rattle.scrub_cli.specs.Scan.{IsDiskAnswer};
-ghost use Rattle.scrub_cli.specs.declared.answer.Wanted.TheVariants.{Report, Index, Locators};
+ghost use Rattle.scrub_cli.specs.SizesTold.{AreSizesTold};
+ghost use Rattle.scrub_cli.specs.Superblock.{AreSuperblocksTold};
+ghost use Rattle.scrub_cli.specs.declared.answer.Wanted.TheVariants.{Report, Index, Locators, Reclaimable};
 
-use scrub_disk::{OutOfMemory, PageSource};
+use scrub_disk::{OutOfMemory, PageSource, RawImage};
 use scrub_pool::NoGate;
-use scrub_report::{ScrubFault, are_clean_items, list_locators, scrub};
+use scrub_report::{
+    Accepted, ScrubFault, are_clean_items, list_locators, list_reclaimable, list_sizes,
+    list_superblocks, scrub,
+};
 use scrub_scan::{Item, item_line};
 use std::alloc::Global;
 use std::sync::Wait;
@@ -36,6 +42,8 @@ pub enum Wanted {
     Index,
     /// Its named locators, and what they are worth.
     Locators,
+    /// What may be reclaimed of it, where these kinds of doubts are accepted.
+    Reclaimable(Accepted),
 }
 
 /// The status of an answer.
@@ -136,6 +144,64 @@ fn listed<R: Threads + Wait + Sync, D: PageSource>(
     })
 }
 
+/// The lines of what may be reclaimed of a disk where some kinds of doubts are accepted.
+fn reclaimable<R: Threads + Wait + Sync, D: PageSource>(
+    rt: &R,
+    alloc: Global,
+    disk: &D,
+    workers: u32,
+    accepted: Accepted,
+) -> Result<Answer, ScrubFault>
+    requires { workers ≤ 64 }
+    ensures answer { IfOk result (λ a. IsDiskAnswer (Reclaimable accepted) (D.image disk.now) a.text.items a.status) }
+    ensures workers { IfOk result (λ a. a.workers ≡ workers) }
+{
+    let (listing, takings) = list_reclaimable(rt, alloc, disk, workers, &NoGate, accepted)?;
+    let status = status_of(listing.is_clear);
+    let text = listing.text;
+    Ok(Answer {
+        text,
+        status,
+        workers: takings.workers(),
+    })
+}
+
+/// The lines of a disk's superblocks.
+pub fn superblock_listing<D: PageSource>(alloc: Global, disk: &D) -> Result<Answer, OutOfMemory>
+    ensures answer { IfOk result (λ a. AreSuperblocksTold (D.image disk.now) a.text.items a.status) }
+    ensures workers { IfOk result (λ a. a.workers ≡ 0) }
+{
+    let listing = list_superblocks(alloc, disk)?;
+    let status = status_of(listing.is_clean);
+    let text = listing.text;
+    Ok(Answer {
+        text,
+        status,
+        workers: 0,
+    })
+}
+
+/// The lines of the superblock records of a raw image, some blocks of which are marked as lost.
+pub fn sizes_listing<R: RawImage>(
+    alloc: Global,
+    raw: &mut R,
+    marked: &[bool],
+) -> Result<Answer, OutOfMemory>
+    requires { R.reads raw.old < 2 ^ 62 }
+    ensures answer { IfOk result (λ a. AreSizesTold (record { bytes = R.bytes raw.old; most_failures = R.most_failures raw.old })
+        marked.now a.text.items a.status) }
+    ensures workers { IfOk result (λ a. a.workers ≡ 0) }
+{
+    let listing = list_sizes(alloc, raw, marked)?;
+    let status = status_of(listing.is_clean);
+    let text = listing.text;
+    Ok(Answer {
+        text,
+        status,
+        workers: 0,
+    })
+}
+
 /// What is wanted of a disk that this many workers scan beside the caller, with the status of its report.
 pub fn disk_answer<R: Threads + Wait + Sync, D: PageSource>(
     rt: &R,
@@ -152,5 +218,6 @@ pub fn disk_answer<R: Threads + Wait + Sync, D: PageSource>(
         Wanted::Report => reported(rt, alloc, disk, workers),
         Wanted::Index => recovered(rt, alloc, disk, workers),
         Wanted::Locators => listed(rt, alloc, disk, workers),
+        Wanted::Reclaimable(accepted) => reclaimable(rt, alloc, disk, workers, accepted),
     }
 }

@@ -1,4 +1,5 @@
-//! The disk in an image file, as every command on one reads it. Its sizes, and what is told of it, are left to the commands.
+//! The disk in an image file, as every command on one reads it. Its sizes, and what is told of it, are left to the commands,
+//! and the map of a rescue to `rescue`.
 
 ghost use Rattle.std.specs.Prelude.{ℕ, MatchOption, MatchResult};
 ghost use Rattle.scrub_disk.specs.Memory.{image_of};
@@ -7,6 +8,7 @@ ghost use Rattle.scrub_cli.specs.DiskImage.{NamesPage, NamePages, IsBadPageFault
 use crate::fault::Fault;
 use crate::images::Images;
 use crate::pair::bad_page;
+use crate::rescue::{rescue_map, rescued};
 use crate::words::ImageWords;
 use scrub_disk::{Geometry, MemDisk, load};
 use std::alloc::Global;
@@ -42,7 +44,8 @@ fn bad_pages<'a>(
 }
 
 /// The disk of these sizes that the words name. Its faults in their order: the first word for an unreadable page that names
-/// none, an image that can't be opened, and one that is too long.
+/// none, a map that can't be opened, the map's first line that breaks the rules, an image that can't be opened, and one
+/// that is too long.
 pub fn load_disk<'a, I: Images>(
     alloc: Global,
     geometry: Geometry,
@@ -50,12 +53,14 @@ pub fn load_disk<'a, I: Images>(
     images: &mut I,
 ) -> Result<MemDisk, Fault<'a>>
     ensures { MatchResult result
-        (λ disk. IsLoadedDisk (I.known images.old words.now.name.now) words.now geometry (image_of disk))
-        (IsDiskFault (I.known images.old words.now.name.now) words.now geometry) }
+        (λ disk. IsLoadedDisk (I.known images.old words.now.name.now) (I.known_map images.old) words.now geometry (image_of disk))
+        (IsDiskFault (I.known images.old words.now.name.now) (I.known_map images.old) words.now geometry) }
 {
     let bad = bad_pages(alloc, geometry, &words.bad_pages)?;
+    let map = rescue_map(alloc, words.map, images)?;
     let Some(mut raw) = images.image(words.name) else {
         return Err(Fault::NoImage(words.name));
     };
-    Ok(load(alloc, &mut raw, geometry, &bad)?)
+    let disk = load(alloc, &mut raw, geometry, &bad)?;
+    Ok(rescued(alloc, disk, &map)?)
 }

@@ -1,14 +1,16 @@
 //! Why a run ends without an answer: for each reason its status and its line on the error stream, in one place.
 
 ghost use Rattle.std.specs.Prelude.{◌≡◌, ◌++◌, OnOk, codes};
+ghost use Rattle.std.specs.Fmt.{decimal};
 ghost use Rattle.std.specs.Io.KnownBytes.{Appends};
-ghost use Rattle.scrub_cli.specs.declared.fault.Fault.TheVariants.{Geometry, Output, OutOfMemory};
+ghost use Rattle.scrub_cli.specs.declared.fault.Fault.TheVariants.{Geometry, OutOfMemory};
 ghost use Rattle.scrub_cli.specs.Fault.{line, text_of};
 ghost use Rattle.scrub_report.specs.Writing.{AppendsFront};
 
 use crate::words::WordsFault;
 use crate::writing::write_decimal;
 use scrub_disk::{GeometryFault, LoadFault, OutOfMemory};
+use scrub_map::MapFault;
 use scrub_report::{ScrubFault, WriteFault, write_out};
 use std::alloc::AllocFailed;
 use std::io::Write;
@@ -31,6 +33,10 @@ pub enum Fault<'a> {
     Pointer,
     /// The word isn't a pair of an extent and a page of it.
     BadPage(&'a str),
+    /// No map of this name can be opened, or a read of it failed.
+    NoMap(&'a str),
+    /// This line of the map breaks its rules, counted from 1: the first such.
+    MapLine(u64),
     /// No image of this name can be opened.
     NoImage(&'a str),
     /// There is a byte behind the image's last page.
@@ -88,6 +94,19 @@ impl From<LoadFault> for Fault<'_> {
     }
 }
 
+impl From<MapFault> for Fault<'_> {
+    ghost use Rattle.scrub_cli.specs.Fault.{fault_of_map};
+
+    ghost from_gives = { λ map fault. fault ≡ fault_of_map map };
+
+    fn from(fault: MapFault) -> Self {
+        match fault {
+            MapFault::OutOfMemory => Fault::OutOfMemory,
+            MapFault::Line(line) => Fault::MapLine(line),
+        }
+    }
+}
+
 impl From<WordsFault> for Fault<'_> {
     ghost use Rattle.scrub_cli.specs.Fault.{fault_of_words};
 
@@ -117,8 +136,9 @@ impl Fault<'_> {
             | Fault::Geometry(_)
             | Fault::Extent
             | Fault::Pointer
-            | Fault::BadPage(_) => 2,
-            Fault::NoImage(_) | Fault::TooLong | Fault::Output { .. } => 3,
+            | Fault::BadPage(_)
+            | Fault::MapLine(_) => 2,
+            Fault::NoMap(_) | Fault::NoImage(_) | Fault::TooLong | Fault::Output { .. } => 3,
             Fault::OutOfMemory => 4,
         }
     }
@@ -136,9 +156,16 @@ impl Fault<'_> {
             Fault::Extent => write_line(err, "extent out of range", ""),
             Fault::Pointer => write_line(err, "pointer out of range", ""),
             Fault::BadPage(word) => write_line(err, "bad page refused: ", word),
+            Fault::NoMap(name) => write_line(err, "map cannot be opened: ", name),
+            Fault::MapLine(line) => write_number(err, "map refused: line ", *line as usize, ""),
             Fault::NoImage(name) => write_line(err, "image cannot be opened: ", name),
             Fault::TooLong => write_line(err, "image too long", ""),
-            Fault::Output { written } => write_count(err, *written),
+            Fault::Output { written } => write_number(
+                err,
+                "output failed after ",
+                *written,
+                " bytes",
+            ),
             Fault::OutOfMemory => write_line(err, "out of memory", ""),
         }
     }
@@ -177,12 +204,21 @@ fn write_line<E: Write>(err: &mut E, what: &str, which: &str) -> Result<(), Writ
     write_out(err, b"\n")
 }
 
-/// Writes the line of an output that took so many bytes.
-fn write_count<E: Write>(err: &mut E, count: usize) -> Result<(), WriteFault>
-    ensures front { AppendsFront (E.contents err.old) (E.contents err.new) (text_of (Output count)) }
-    ensures whole { OnOk result (Appends (E.contents err.old) (E.contents err.new) (text_of (Output count))) }
+/// Writes a line with a number between its two parts, behind the program's name.
+fn write_number<E: Write>(
+    err: &mut E,
+    before: &str,
+    number: usize,
+    after: &str,
+) -> Result<(), WriteFault>
+    ensures front { AppendsFront (E.contents err.old) (E.contents err.new)
+        (line (before.now ++ decimal number ++ after.now)) }
+    ensures whole { OnOk result (Appends (E.contents err.old) (E.contents err.new)
+        (line (before.now ++ decimal number ++ after.now))) }
 {
-    write_out(err, b"shardscrub: output failed after ")?;
-    write_decimal(err, count)?;
-    write_out(err, b" bytes\n")
+    write_out(err, b"shardscrub: ")?;
+    write_out(err, before.as_bytes())?;
+    write_decimal(err, number)?;
+    write_out(err, after.as_bytes())?;
+    write_out(err, b"\n")
 }

@@ -1,12 +1,14 @@
-//! Raw images in files of the system. No contract says what a file holds: all that is known of one is how often it was
-//! read, and how often that failed.
+//! Raw images and maps in files of the system. No contract says what a file holds: all that is known of an image is how
+//! often it was read, and how often that failed.
 
 ghost use Rattle.std.specs.Prelude.{◌≤◌, ◌^◌, None};
-ghost use Rattle.scrub_cli.specs.Known.{file};
+ghost use Rattle.scrub_cli.specs.Known.{file, map_file};
 
-use crate::images::Images;
+use crate::images::{Images, MapReadFault};
 use scrub_disk::{RawFault, RawImage};
+use std::alloc::Global;
 use std::fs::{File, Files, metadata};
+use std::io::{ErrorKind, Read};
 use std::os::unix::fs::{FileExt, FileTypeExt};
 
 /// A file that is read as a raw image.
@@ -44,6 +46,16 @@ impl RawImage for FileImage {
     }
 }
 
+/// The file or the block device of this path. Nothing else can be read whole, so nothing else is opened: not a directory,
+/// of which every read fails, and not a pipe, which would be waited for until somebody writes to it.
+fn open_readable<R: Files<File = File>>(runtime: &R, name: &str) -> Option<File> {
+    let kind = metadata(runtime, name).ok()?.file_type();
+    if !kind.is_file() && !kind.is_block_device() {
+        return None;
+    }
+    File::open(runtime, name).ok()
+}
+
 /// The files of the system, by their paths.
 #[derive(Drop)]
 pub struct NamedFiles<'a, R> {
@@ -55,34 +67,46 @@ impl<R: Files<File = File>> Images for NamedFiles<'_, R> {
 
     ghost known = { λ _ _. file };
 
-    /// The file or the block device of this path. Nothing else can be read as a disk, so nothing else is opened: not a
-    /// directory, of which every read fails, and not a pipe, which would be waited for until somebody writes to it.
+    ghost known_map = { λ _. map_file };
+
     fn image(&mut self, name: &str) -> Option<FileImage> {
-        let kind = metadata(self.runtime, name).ok()?.file_type();
-        if !kind.is_file() && !kind.is_block_device() {
-            return None;
-        }
-        let file = File::open(self.runtime, name).ok()?;
+        let file = open_readable(self.runtime, name)?;
         Some(FileImage {
             file,
             reads: 0,
             failures: 0,
         })
     }
+
+    fn map(&mut self, alloc: Global, name: &str) -> Result<Vec<u8>, MapReadFault> {
+        let Some(mut file) = open_readable(self.runtime, name) else {
+            return Err(MapReadFault::NotOpened);
+        };
+        let mut text = Vec::new(alloc);
+        match file.read_to_end(&mut text) {
+            Ok(_) => Ok(text),
+            Err(error) if error.kind() == ErrorKind::OutOfMemory => Err(MapReadFault::OutOfMemory),
+            Err(_) => Err(MapReadFault::NotOpened),
+        }
+    }
 }
 
 #[cfg(test)]
 mod tests {
     use super::NamedFiles;
-    use crate::images::Images;
+    use crate::images::{Images, MapReadFault};
 
     #[test]
-    fn neither_a_folder_nor_a_device_without_blocks_nor_a_name_without_a_file_is_an_image(
+    fn neither_a_folder_nor_a_device_without_blocks_nor_a_name_without_a_file_is_an_image_or_a_map(
         rt: HostRuntime,
     ) {
         let mut files = NamedFiles { runtime: &rt };
         for name in [".", "/dev/null", "no-such-folder/disk.img", ""] {
             assert!(rt; files.image(name).is_none(), "{name}");
+            assert!(rt;
+                matches!(files.map(rt.alloc(), name), Err(MapReadFault::NotOpened)),
+                "{name}"
+            );
         }
     }
 }

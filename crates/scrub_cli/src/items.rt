@@ -19,8 +19,8 @@ pub fn items<'a, I: Images>(
     images: &mut I,
 ) -> Result<Answer, Fault<'a>>
     ensures { MatchResult result
-        (λ a. IsItemsAnswer (I.known images.old words.now.image.name.now) words.now a.text.items a.status)
-        (IsItemsFault (I.known images.old words.now.image.name.now) words.now) }
+        (λ a. IsItemsAnswer (I.known images.old words.now.image.name.now) (I.known_map images.old) words.now a.text.items a.status)
+        (IsItemsFault (I.known images.old words.now.image.name.now) (I.known_map images.old) words.now) }
 {
     let image = &words.image;
     let geometry = Geometry::new(image.page, image.pages, image.extents)?;

@@ -5,8 +5,9 @@
 ghost use Rattle.std.specs.Prelude.{◌≡◌, ◌⊎◌, IfErr, MatchResult, drop, map};
 ghost use Rattle.std.specs.Process.{exit_status};
 ghost use Rattle.scrub_cli.specs.Answer.{RunWrites, WritesNone};
-ghost use Rattle.scrub_cli.specs.Known.{file};
+ghost use Rattle.scrub_cli.specs.Known.{file, map_file};
 
+mod accepting;
 mod answer;
 mod command;
 mod demo;
@@ -18,8 +19,10 @@ mod files;
 mod images;
 mod items;
 mod pair;
+mod rescue;
 mod running;
 mod scan;
+mod sizes;
 mod words;
 mod writing;
 
@@ -68,7 +71,7 @@ fn run_process<R: Files<File = File> + AllocGlobal + Threads + Wait + Sync, O: W
     err: &mut E,
 ) -> ExitCode
     ensures { MatchResult words.entry
-        (λ all. RunWrites (λ _. file) (map (λ word. word.bytes.items) (drop 1 all.items)) (exit_status result)
+        (λ all. RunWrites (λ _. file) map_file (map (λ word. word.bytes.items) (drop 1 all.items)) (exit_status result)
         (O.contents out.old, O.contents out.new) (E.contents err.old, E.contents err.new))
         (λ fault. WritesNone fault (exit_status result)
         (O.contents out.old, O.contents out.new) (E.contents err.old, E.contents err.new)) }
@@ -87,7 +90,7 @@ fn run_words<R: Files<File = File> + AllocGlobal + Threads + Wait + Sync, O: Wri
     out: &mut O,
     err: &mut E,
 ) -> u8
-    ensures { RunWrites (λ _. file) (map (λ word. word.bytes.items) words.now) result
+    ensures { RunWrites (λ _. file) map_file (map (λ word. word.bytes.items) words.now) result
         (O.contents out.old, O.contents out.new) (E.contents err.old, E.contents err.new) }
 {
     let words: Result<Vec<&str>, OutOfMemory> = words

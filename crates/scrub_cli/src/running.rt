@@ -9,7 +9,8 @@ use crate::demo::demo;
 use crate::fault::Fault;
 use crate::images::Images;
 use crate::items::items;
-use crate::scan::scan;
+use crate::scan::{scan, superblocks};
+use crate::sizes::sizes;
 use crate::words::{Request, read_words};
 use scrub_report::write_out;
 use std::alloc::Global;
@@ -25,8 +26,8 @@ fn answer<'a, R: Threads + Wait + Sync, I: Images>(
     images: &mut I,
 ) -> Result<Answer, Fault<'a>>
     ensures { MatchResult result
-        (λ a. IsAnswerOfRun (I.known images.old) (texts words.entry.now) a.text.items a.status)
-        (IsFault (I.known images.old) (texts words.entry.now)) }
+        (λ a. IsAnswerOfRun (I.known images.old) (I.known_map images.old) (texts words.entry.now) a.text.items a.status)
+        (IsFault (I.known images.old) (I.known_map images.old) (texts words.entry.now)) }
 {
     match read_words(alloc, words)? {
         Request::Demo => Ok(demo(rt, alloc)?),
@@ -34,6 +35,17 @@ fn answer<'a, R: Threads + Wait + Sync, I: Images>(
         Request::Scan(words) => scan(rt, alloc, &words, images, Wanted::Report),
         Request::Index(words) => scan(rt, alloc, &words, images, Wanted::Index),
         Request::Locators(words) => scan(rt, alloc, &words, images, Wanted::Locators),
+        Request::Reclaimable(words) => {
+            scan(
+                rt,
+                alloc,
+                &words.scan,
+                images,
+                Wanted::Reclaimable(words.accepted),
+            )
+        }
+        Request::Superblocks(words) => superblocks(alloc, &words, images),
+        Request::Sizes(words) => sizes(alloc, &words, images),
     }
 }
 
@@ -63,7 +75,7 @@ pub fn run<R: Threads + Wait + Sync, I: Images, O: Write, E: Write>(
     out: &mut O,
     err: &mut E,
 ) -> u8
-    ensures { RunWrites (I.known images.old) (texts words.entry.now) result
+    ensures { RunWrites (I.known images.old) (I.known_map images.old) (texts words.entry.now) result
         (O.contents out.old, O.contents out.new) (E.contents err.old, E.contents err.new) }
 {
     match answer(rt, alloc, words, images) {

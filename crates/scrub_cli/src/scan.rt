@@ -1,18 +1,34 @@
-//! The commands `scan`, `index` and `locators`: the report of the disk in an image file, the index that is recovered from it,
-//! and its named locators.
+//! The commands on a whole disk in an image file: `scan`, `index`, `locators` and `reclaimable`, which scan it, and
+//! `superblocks`, which reads its extent 0.
 
 ghost use Rattle.std.specs.Prelude.{◌≡◌, ◌≤◌, IfOk, MatchResult};
-ghost use Rattle.scrub_cli.specs.Scan.{IsScanAnswer, IsScanFault};
+ghost use Rattle.scrub_disk.specs.Memory.{image_of};
+ghost use Rattle.scrub_cli.specs.Scan.{IsDiskOf, IsScanAnswer, IsScanFault};
+ghost use Rattle.scrub_cli.specs.Superblock.{IsSuperblocksAnswer};
 
-use crate::answer::{Answer, Wanted, disk_answer};
+use crate::answer::{Answer, Wanted, disk_answer, superblock_listing};
 use crate::disk_image::load_disk;
 use crate::fault::Fault;
 use crate::images::Images;
-use crate::words::ScanWords;
-use scrub_disk::Geometry;
+use crate::words::{ImageWords, ScanWords};
+use scrub_disk::{Geometry, MemDisk};
 use std::alloc::Global;
 use std::sync::Wait;
 use std::thread::Threads;
+
+/// The disk that the words name, of the sizes that they give. Faults are found in the order of `Fault`.
+fn disk_of<'a, I: Images>(
+    alloc: Global,
+    words: &ImageWords<'a>,
+    images: &mut I,
+) -> Result<MemDisk, Fault<'a>>
+    ensures { MatchResult result
+        (λ disk. IsDiskOf (I.known images.old words.now.name.now) (I.known_map images.old) words.now (image_of disk))
+        (IsScanFault (I.known images.old words.now.name.now) (I.known_map images.old) words.now) }
+{
+    let geometry = Geometry::new(words.page, words.pages, words.extents)?;
+    load_disk(alloc, geometry, words, images)
+}
 
 /// What is wanted of the disk that the words name, which as many workers scan as they say. Faults are found in the order of
 /// `Fault`.
@@ -25,12 +41,25 @@ pub fn scan<'a, R: Threads + Wait + Sync, I: Images>(
 ) -> Result<Answer, Fault<'a>>
     requires { words.now.workers ≤ 64 }
     ensures answer { MatchResult result
-        (λ a. IsScanAnswer wanted (I.known images.old words.now.image.name.now) words.now.image a.text.items a.status)
-        (IsScanFault (I.known images.old words.now.image.name.now) words.now.image) }
+        (λ a. IsScanAnswer wanted (I.known images.old words.now.image.name.now) (I.known_map images.old) words.now.image
+        a.text.items a.status)
+        (IsScanFault (I.known images.old words.now.image.name.now) (I.known_map images.old) words.now.image) }
     ensures workers { IfOk result (λ a. a.workers ≡ words.now.workers) }
 {
-    let image = &words.image;
-    let geometry = Geometry::new(image.page, image.pages, image.extents)?;
-    let disk = load_disk(alloc, geometry, image, images)?;
+    let disk = disk_of(alloc, &words.image, images)?;
     Ok(disk_answer(rt, alloc, &disk, words.workers, wanted)?)
+}
+
+/// What the disk that the words name has of superblocks. Faults are found in the order of `Fault`.
+pub fn superblocks<'a, I: Images>(
+    alloc: Global,
+    words: &ImageWords<'a>,
+    images: &mut I,
+) -> Result<Answer, Fault<'a>>
+    ensures { MatchResult result
+        (λ a. IsSuperblocksAnswer (I.known images.old words.now.name.now) (I.known_map images.old) words.now a.text.items a.status)
+        (IsScanFault (I.known images.old words.now.name.now) (I.known_map images.old) words.now) }
+{
+    let disk = disk_of(alloc, words, images)?;
+    Ok(superblock_listing(alloc, &disk)?)
 }

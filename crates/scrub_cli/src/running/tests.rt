@@ -54,10 +54,16 @@ fn put(rt: &impl Abort, disk: &mut [u8; 768], place: u16, bytes: &[u8]) {
     disk[place..place + bytes.len()].copy_from_slice(bytes);
 }
 
-/// These bytes under the name `disk.img`, read without a fault.
+/// These bytes under the name `disk.img`, read without a fault, and a map of no text under `disk.map`.
 fn image(bytes: &[u8]) -> OneImage<'_> {
+    with_map(bytes, b"")
+}
+
+/// These bytes under the name `disk.img`, read without a fault, and a map of this text under `disk.map`.
+fn with_map<'a>(bytes: &'a [u8], map: &'a [u8]) -> OneImage<'a> {
     OneImage {
         bytes,
+        map,
         most: 4096,
         failing: 0,
         faults: 0,
@@ -238,11 +244,64 @@ fn a_page_whose_read_fails_is_lost(rt: HostRuntime) -> Result<(), Fail> {
     ] {
         let images = OneImage {
             bytes: &disk,
+            map: b"",
             most,
             failing,
             faults: 1,
         };
         check(&rt, rt.alloc(), ITEMS_BELOW_41, images, (status, line, ""))?;
+    }
+    Ok(())
+}
+
+/// Extent 1 begins at byte 256, and its first page ends at 320.
+#[test]
+fn a_page_that_the_map_lacks_a_byte_of_is_lost(rt: HostRuntime) -> Result<(), Fail> {
+    let disk = disk_with(&rt, rt.alloc(), &[(256, ONES, b"abc")])?;
+    let words =
+        "items --page 64 --pages 4 --extents 3 --extent 1 --pointer 41 --map disk.map disk.img";
+    for (map, status, line) in [
+        ("0 +\n0 0x300 +\n", 0, ABC_LINE),
+        ("# a comment\n0 + 1\n\n256 64 +", 0, ABC_LINE),
+        ("0 ?\n0 256 -\n0x100 0x40 +\r\n", 0, ABC_LINE),
+        ("0 +\n257 63 +\n", 1, "lost 0 41\n"),
+        ("0 +\n256 63 +\n319 1 -\n", 1, "lost 0 41\n"),
+        ("0 +\n", 1, "lost 0 41\n"),
+    ] {
+        check(
+            &rt,
+            rt.alloc(),
+            words,
+            with_map(&disk, map.as_bytes()),
+            (status, line, ""),
+        )?;
+    }
+    Ok(())
+}
+
+#[test]
+fn the_first_line_of_a_map_that_breaks_a_rule_is_told(rt: HostRuntime) -> Result<(), Fail> {
+    for (map, told) in [
+        ("", "map refused: line 1"),
+        ("# a comment\n", "map refused: line 2"),
+        ("0 +\n0 08 +\n0 x", "map refused: line 2"),
+        ("0 +\n0 8 +\n7 1 +\n", "map refused: line 3"),
+    ] {
+        for command in [
+            "scan --page 64 --pages 4 --extents 3",
+            "superblocks --page 64 --pages 4 --extents 3",
+            "sizes",
+        ] {
+            let words = format!(in rt.alloc(); "{command} --map disk.map other.img")?;
+            let told = format!(in rt.alloc(); "shardscrub: {told}\n")?;
+            check(
+                &rt,
+                rt.alloc(),
+                &words,
+                with_map(&[0; 769], map.as_bytes()),
+                (2, "", &told),
+            )?;
+        }
     }
     Ok(())
 }
@@ -304,9 +363,19 @@ fn of_several_faults_the_first_is_told(rt: HostRuntime) -> Result<(), Fail> {
             "pointer out of range",
         ),
         (
-            "--page 64 --extent 1 --pointer 41 other.img 1:4",
+            "--page 64 --extent 1 --pointer 41 --map other.map other.img 1:4",
             2,
             "bad page refused: 1:4",
+        ),
+        (
+            "--page 64 --extent 1 --pointer 41 --map other.map other.img 1:3",
+            3,
+            "map cannot be opened: other.map",
+        ),
+        (
+            "--page 64 --extent 1 --pointer 41 --map disk.map other.img 1:3",
+            2,
+            "map refused: line 1",
         ),
         (
             "--page 64 --extent 1 --pointer 41 other.img 1:3",
@@ -384,6 +453,10 @@ fn words_that_are_no_command_are_refused(rt: HostRuntime) -> Result<(), Fail> {
         "index --page 64 --pages 4 --extents 3",
         "locators --page 64 --pages 4 --extents 3",
         "locators --page 64 --pages 4 --extents 3 --extent 1 disk.img",
+        "superblocks --page 64 --pages 4 --extents 3 --workers 1 disk.img",
+        "reclaimable --page 64 --pages 4 --extents 3 --accept tie disk.img",
+        "sizes --page 64 disk.img",
+        "sizes disk.img 1:0",
     ] {
         check_text(&rt, rt.alloc(), words, (2, "error: "))?;
     }
@@ -400,6 +473,12 @@ fn help_is_told_on_the_error_stream(rt: HostRuntime) -> Result<(), Fail> {
         ("scan --help", "Prints a report of the whole disk"),
         ("index --help", "Prints the index that can be recovered"),
         ("locators --help", "Lists the named locators"),
+        (
+            "reclaimable --help",
+            "Lists the extents that may be reclaimed",
+        ),
+        ("superblocks --help", "Lists the superblock records"),
+        ("sizes --help", "Lists the superblock records of an image"),
     ] {
         check_text(&rt, rt.alloc(), words, (0, beginning))?;
     }
@@ -432,6 +511,23 @@ fn want_of_memory_has_a_status_and_a_text(rt: HostRuntime) -> Result<(), Fail> {
     let told = "shardscrub: out of memory\nshardscrub: a word is not UTF-8\n";
     assert_eq!(rt; str::from_utf8(&err)?, told);
     Ok(())
+}
+
+/// The name of a file with a map.
+const MAP_FILE: &str = "scrub_cli_test_of_a_map.map";
+
+/// A run in the way of the system has its map from a file too.
+#[test]
+fn a_file_is_read_as_a_map(rt: HostRuntime) -> Result<(), Fail> {
+    fs::write(&rt, MAP_FILE, b"0 +\n0 1 x\n")?;
+    let words = format!(in rt.alloc(); "shardscrub sizes --map {MAP_FILE} missing.img")?;
+    check_process(&rt, &words, (2, "", "shardscrub: map refused: line 2\n"))?;
+    fs::write(&rt, MAP_FILE, b"0 +\n0 1 +\n")?;
+    let told = "shardscrub: image cannot be opened: missing.img\n";
+    check_process(&rt, &words, (3, "", told))?;
+    fs::remove_file(&rt, MAP_FILE)?;
+    let told = format!(in rt.alloc(); "shardscrub: map cannot be opened: {MAP_FILE}\n")?;
+    check_process(&rt, &words, (3, "", &told))
 }
 
 /// The name of a file. It has more than 64 bytes, as no clause says that a long name is opened whole.

@@ -81,6 +81,35 @@ fn scan_and_index_and_locators_with_their_words(rt: HostRuntime) -> Result<(), F
 }
 
 #[test]
+fn superblocks_and_reclaimable_and_sizes_with_their_words(rt: HostRuntime) -> Result<(), Fail> {
+    let words = "superblocks --page 64 --map disk.map --pages 4 --extents 3 disk.img 1:3 x 2:0";
+    let split: Vec<&str> = words.split_whitespace().collect(rt.alloc())?;
+    let Request::Superblocks(image) = read_words(rt.alloc(), &split)? else {
+        panic!(rt; "not superblocks");
+    };
+    check_image(&rt, &image);
+    assert_eq!(rt; image.map, Some("disk.map"));
+    let words =
+        "reclaimable --accept tail --page 64 --pages 4 --accept=superblock-stray --extents 3 disk.img 1:3 x 2:0";
+    let split: Vec<&str> = words.split_whitespace().collect(rt.alloc())?;
+    let Request::Reclaimable(reclaim) = read_words(rt.alloc(), &split)? else {
+        panic!(rt; "not reclaimable");
+    };
+    check_image(&rt, &reclaim.scan.image);
+    assert!(rt; reclaim.scan.workers == 1 && reclaim.scan.image.map.is_none());
+    let accepted = reclaim.accepted;
+    assert!(rt; accepted.tail && accepted.superblock_stray);
+    assert!(rt; !accepted.tail_lost && !accepted.superblock_damaged);
+    let words = ["sizes", "disk.img", "--map=disk.map"];
+    let Request::Sizes(sizes) = read_words(rt.alloc(), &words)? else {
+        panic!(rt; "not sizes");
+    };
+    assert_eq!(rt; sizes.name, "disk.img");
+    assert_eq!(rt; sizes.map, Some("disk.map"));
+    Ok(())
+}
+
+#[test]
 fn a_refusal_says_what_is_wrong(rt: HostRuntime) -> Result<(), Fail> {
     for (words, part) in [
         ("repair", "'repair'"),
@@ -118,6 +147,12 @@ fn a_refusal_says_what_is_wrong(rt: HostRuntime) -> Result<(), Fail> {
             "65 is not in 0..=64",
         ),
         ("locators --page 64 --pages 4 --extents 3", "<IMAGE>"),
+        (
+            "reclaimable --page 64 --pages 4 --extents 3 --accept tail --accept tie x",
+            "invalid value 'tie' for '--accept <KIND>'",
+        ),
+        ("sizes --map disk.map", "<IMAGE>"),
+        ("sizes x --map a --map b", "--map"),
     ] {
         let text = refusal(&rt, words)?;
         assert!(rt; text.as_str().contains(part), "{words}");
@@ -135,6 +170,9 @@ fn the_help_of_the_program_and_of_each_command(rt: HostRuntime) -> Result<(), Fa
             "\n  scan ",
             "\n  index ",
             "\n  locators ",
+            "\n  reclaimable ",
+            "\n  superblocks ",
+            "\n  sizes ",
             "\n  items ",
             "\n  demo ",
             "Exit status",
@@ -163,7 +201,9 @@ fn the_help_of_the_program_and_of_each_command(rt: HostRuntime) -> Result<(), Fa
             "2 to 65536",
             "4294967296 bytes",
             "--pointer <BYTES>",
+            "--map <FILE>",
             "[EXTENT:PAGE]...",
+            "\n  sealed ",
             "Exit status",
             "--extent 1 --pointer 41 examples/one-chunk.img",
         ],
@@ -216,6 +256,49 @@ fn the_help_of_the_commands_on_a_disk(rt: HostRuntime) -> Result<(), Fail> {
             "Exit status",
             "\n  shardscrub locators --page 64 --pages 4 --extents 3 examples/one-shard.img",
             "\n  shard 00000000000000000000000000000001 1 0 3 11111111-1111-1111-1111-111111111111 sound\n",
+        ],
+    )
+}
+
+#[test]
+fn the_help_of_the_commands_on_superblocks_and_on_what_may_be_reclaimed(
+    rt: HostRuntime,
+) -> Result<(), Fail> {
+    check_help(
+        &rt,
+        "superblocks --help",
+        &[
+            "Usage: shardscrub superblocks",
+            "--map <FILE>",
+            "record PAGE KIND GENERATION STATE",
+            "stray PAGE",
+            "Exit status",
+            "\n  record 0 SSB1 1 counts\n",
+        ],
+    )?;
+    check_help(
+        &rt,
+        "reclaimable --help",
+        &[
+            "Usage: shardscrub reclaimable",
+            "--accept <KIND>",
+            "superblock-damaged, superblock-stray, tail or tail-lost",
+            "doubt tail EXTENT OFFSET BYTES",
+            "move EXTENT OFFSET LENGTH UUID OWNER",
+            "never into an extent that is named here",
+            "Exit status",
+        ],
+    )?;
+    check_help(
+        &rt,
+        "sizes --help",
+        &[
+            "Usage: shardscrub sizes",
+            "--map <FILE>",
+            "OFFSET KIND GENERATION PAGE PAGES EXTENTS",
+            "lost FROM TO",
+            "Exit status",
+            "\n  0 SSB1 1 64 4 3\n",
         ],
     )
 }

@@ -1,14 +1,14 @@
 -- What a request comes to is what the words that ask for it come to.
 use Rattle.std.proofs.Common.{rules, map}
 use Rattle.scrub_cli.specs.Words.{AskFor}
-use Rattle.scrub_cli.specs.declared.words.Request.TheVariants.{Items, Scan, Index, Locators}
+use Rattle.scrub_cli.specs.declared.words.Request.TheVariants.{Items, Scan, Index, Locators, Reclaimable, Superblocks, Sizes}
 use Rattle.scrub_cli.proofs.RunAnswers.{answered}
 use Rattle.scrub_cli.proofs.WordsFound.{few_workers}
 use Rattle.scrub_cli.proofs.running.answer.Goals as goal
 
 pub returns-in-Items : goal.returns-in-Items
 returns-in-Items g c =
-    answered (g.I.Images.known c.args.images.now) (map (λ word. word.now) c.args.words.now) (Items c.in-Items.words) c.items.result
+    answered (g.I.Images.known c.args.images.now) (g.I.Images.known_map c.args.images.now) (map (λ word. word.now) c.args.words.now) (Items c.in-Items.words) c.items.result
     (rw c.in-Items.is at c.in_ok-read_words.ensures) c.items.ensures
 
 pub scan-requires : goal.scan-requires
@@ -28,15 +28,35 @@ scan-requires-in-Locators g c =
 
 pub returns-in-Scan : goal.returns-in-Scan
 returns-in-Scan g c =
-    answered (g.I.Images.known c.args.images.now) (map (λ word. word.now) c.args.words.now) (Scan c.in-Scan.words) c.scan.result
+    answered (g.I.Images.known c.args.images.now) (g.I.Images.known_map c.args.images.now) (map (λ word. word.now) c.args.words.now) (Scan c.in-Scan.words) c.scan.result
     (rw c.in-Scan.is at c.in_ok-read_words.ensures) c.scan.ensures.answer
 
 pub returns-in-Index : goal.returns-in-Index
 returns-in-Index g c =
-    answered (g.I.Images.known c.args.images.now) (map (λ word. word.now) c.args.words.now) (Index c.in-Index.words) c.scan-in-Index.result
+    answered (g.I.Images.known c.args.images.now) (g.I.Images.known_map c.args.images.now) (map (λ word. word.now) c.args.words.now) (Index c.in-Index.words) c.scan-in-Index.result
     (rw c.in-Index.is at c.in_ok-read_words.ensures) c.scan-in-Index.ensures.answer
 
 pub returns-in-Locators : goal.returns-in-Locators
 returns-in-Locators g c =
-    answered (g.I.Images.known c.args.images.now) (map (λ word. word.now) c.args.words.now) (Locators c.in-Locators.words) c.scan-in-Locators.result
+    answered (g.I.Images.known c.args.images.now) (g.I.Images.known_map c.args.images.now) (map (λ word. word.now) c.args.words.now) (Locators c.in-Locators.words) c.scan-in-Locators.result
     (rw c.in-Locators.is at c.in_ok-read_words.ensures) c.scan-in-Locators.ensures.answer
+
+pub returns-in-Superblocks : goal.returns-in-Superblocks
+returns-in-Superblocks g c =
+    answered (g.I.Images.known c.args.images.now) (g.I.Images.known_map c.args.images.now) (map (λ word. word.now) c.args.words.now) (Superblocks c.in-Superblocks.words) c.superblocks.result
+    (rw c.in-Superblocks.is at c.in_ok-read_words.ensures) c.superblocks.ensures
+
+pub returns-in-Sizes : goal.returns-in-Sizes
+returns-in-Sizes g c =
+    answered (g.I.Images.known c.args.images.now) (g.I.Images.known_map c.args.images.now) (map (λ word. word.now) c.args.words.now) (Sizes c.in-Sizes.words) c.sizes.result
+    (rw c.in-Sizes.is at c.in_ok-read_words.ensures) c.sizes.ensures
+
+pub scan-requires-in-Reclaimable : goal.scan-requires-in-Reclaimable
+scan-requires-in-Reclaimable g c =
+    let asked : AskFor (map (λ word. word.now) c.args.words.now) (Reclaimable c.in-Reclaimable.words) = rw c.in-Reclaimable.is at c.in_ok-read_words.ensures in
+    (search rules, few_workers asked.1.0 c.in-Reclaimable.words.scan.workers asked.1.2.scan.workers)
+
+pub returns-in-Reclaimable : goal.returns-in-Reclaimable
+returns-in-Reclaimable g c =
+    answered (g.I.Images.known c.args.images.now) (g.I.Images.known_map c.args.images.now) (map (λ word. word.now) c.args.words.now) (Reclaimable c.in-Reclaimable.words)
+    c.scan-in-Reclaimable.result (rw c.in-Reclaimable.is at c.in_ok-read_words.ensures) c.scan-in-Reclaimable.ensures.answer

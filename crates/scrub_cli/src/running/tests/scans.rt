@@ -1,7 +1,7 @@
-//! Whole runs of `scan`, `index`, `locators` and the demo: the published reports byte for byte, the index and the named
+//! Whole runs of the commands on a disk and of the demo: the published reports byte for byte, the index and the named
 //! locators beside them, and what is told where a page is lost, the output fails or the words are wrong.
 
-use super::{check, image};
+use super::{check, image, with_map};
 use crate::running::run;
 use scrub_disk::{MemDisk, PageSource};
 use scrub_fakes::published::{COLLISION, NO_SHARDS, ONE_SHARD, TWINS, ZEROS};
@@ -23,6 +23,8 @@ const SCAN: &str = "scan --page 64 --pages 4 --extents 3 disk.img";
 const INDEX: &str = "index --page 64 --pages 4 --extents 3 disk.img";
 
 const LOCATORS: &str = "locators --page 64 --pages 4 --extents 3 disk.img";
+
+const SUPERBLOCKS: &str = "superblocks --page 64 --pages 4 --extents 3 disk.img";
 
 /// The line of the run of the disk with one shard, and that of the shard.
 const TWO_LINES: &str =
@@ -160,10 +162,58 @@ fn the_locators_of_a_disk_with_an_unreadable_page(rt: HostRuntime) -> Result<(),
     Ok(())
 }
 
+/// One superblock record on pages 0 and 1 of extent 0.
+#[test]
+fn the_superblocks_and_the_sizes_of_a_disk_with_one_shard(rt: HostRuntime) -> Result<(), Fail> {
+    let (disk, _) = one_shard(rt.alloc())?;
+    for (words, status, lines) in [
+        (SUPERBLOCKS, 0, "record 0 SSB1 1 counts\n"),
+        (
+            "superblocks --page 64 --pages 4 --extents 3 disk.img 0:3",
+            1,
+            "record 0 SSB1 1 counts\nlost 3\n",
+        ),
+        (
+            "superblocks --page 128 --pages 2 --extents 3 disk.img",
+            1,
+            "damaged 0 SSB1\n",
+        ),
+        ("sizes disk.img", 0, "0 SSB1 1 64 4 3\n"),
+    ] {
+        check(&rt, rt.alloc(), words, image(&disk), (status, lines, ""))?;
+    }
+    let map = b"0 +\n0 600 +\n";
+    let words = "sizes --map disk.map disk.img";
+    let lines = "0 SSB1 1 64 4 3\nlost 512 1024\n";
+    check(&rt, rt.alloc(), words, with_map(&disk, map), (1, lines, ""))
+}
+
+/// Nothing may be gained, and a lost page is a doubt that can't be accepted.
+#[test]
+fn what_may_be_reclaimed_of_a_disk_with_one_shard(rt: HostRuntime) -> Result<(), Fail> {
+    let (disk, _) = one_shard(rt.alloc())?;
+    for (words, status, lines) in [
+        ("", 0, ""),
+        (" 0:3", 1, "doubt superblock-lost 3\n"),
+        (" --accept=tail-lost 0:3", 1, "doubt superblock-lost 3\n"),
+        (" 1:0", 1, "doubt tail-lost 1 0 0\n"),
+        (" 1:1 1:2", 1, "doubt tail-lost 1 1 2\n"),
+        (" 1:1 --accept tail", 1, "doubt tail-lost 1 1 1\n"),
+        (" 1:1 --accept tail-lost", 0, "accepted tail-lost 1 1 1\n"),
+    ] {
+        let words = format!(in rt.alloc();
+            "reclaimable --page 64 --pages 4 --extents 3 disk.img{words}"
+        )?;
+        check(&rt, rt.alloc(), &words, image(&disk), (status, lines, ""))?;
+    }
+    Ok(())
+}
+
 #[test]
 fn a_disk_of_zeros_has_findings(rt: HostRuntime) -> Result<(), Fail> {
     check(&rt, rt.alloc(), SCAN, image(&[0; 768]), (1, ZEROS, ""))?;
     check(&rt, rt.alloc(), LOCATORS, image(&[0; 768]), (1, "", ""))?;
+    check(&rt, rt.alloc(), SUPERBLOCKS, image(&[0; 768]), (1, "", ""))?;
     check_index(&rt, rt.alloc(), &[0; 768], (1, &NO_SHARDS))
 }
 

@@ -1,0 +1,36 @@
+-- What `sizes` tells, and why it doesn't, from what its parts give.
+use Rattle.std.proofs.Common.{◌≡◌, ℕ, List, Bool, Option}
+use Rattle.scrub_cli.specs.declared.fault.Fault.{Fault}
+use Rattle.scrub_cli.specs.declared.fault.Fault.TheVariants.{NotUtf8, Help, Words, Geometry, Extent, Pointer, BadPage, NoMap, MapLine, NoImage, TooLong, Output, OutOfMemory}
+use Rattle.scrub_cli.specs.declared.words.SizesWords.{SizesWords}
+use Rattle.scrub_cli.specs.Known.{KnownMaps, KnownRaw}
+use Rattle.scrub_cli.specs.Rescue.{IsMapFault}
+use Rattle.scrub_cli.specs.SizesTold.{AreSizesTold, IsSizesFault}
+
+-- a fault of the map is one of `sizes`
+pub map_fault_of_sizes : (maps : KnownMaps) (words : SizesWords) (fault : Fault) → IsMapFault maps words.map fault → IsSizesFault maps words fault
+map_fault_of_sizes maps words NotUtf8 is = absurd is
+map_fault_of_sizes maps words (Help text) is = absurd is
+map_fault_of_sizes maps words (Words text) is = absurd is
+map_fault_of_sizes maps words (Geometry fault) is = absurd is
+map_fault_of_sizes maps words Extent is = absurd is
+map_fault_of_sizes maps words Pointer is = absurd is
+map_fault_of_sizes maps words (BadPage word) is = absurd is
+map_fault_of_sizes maps words (NoMap name) is = is
+map_fault_of_sizes maps words (MapLine k) is = is
+map_fault_of_sizes maps words (NoImage name) is = absurd is
+map_fault_of_sizes maps words TooLong is = absurd is
+map_fault_of_sizes maps words (Output written) is = absurd is
+map_fault_of_sizes maps words OutOfMemory is = tt
+
+-- what is told of the image that was opened is told of what is known of it
+pub told_as_known : (known : KnownRaw) (bytes : Option (List ℕ)) (most : ℕ) (marks : List Bool) (text : List ℕ) (status : ℕ) →
+    bytes ≡ known.bytes → most ≡ known.most_failures →
+    AreSizesTold (record { bytes = bytes; most_failures = most }) marks text status → AreSizesTold known marks text status
+told_as_known known bytes most marks text status same bound told = record {
+  failures = told.failures;
+  few = rw (← bound) told.few;
+  is_clean = told.is_clean;
+  listed = rw (← same) told.listed;
+  ended = told.ended;
+}

@@ -1,0 +1,14 @@
+-- A name that is there is read.
+use Rattle.std.proofs.Common.{◌≡◌, ◌∙◌, None, sym, codes}
+use Rattle.clap.specs.Words.{found_of, rows_of, first_of}
+use Rattle.clap.proofs.WalkLemmas.{first_value-rows}
+use Rattle.scrub_cli.proofs.words.image_name.Goals as goal
+
+pub unreachable-requires : goal.unreachable-requires
+unreachable-requires c =
+    let none : None ≡ first_of (codes "image") (rows_of (found_of c.args.matches.now)) =
+    c.in-None.ensures ∙ first_value-rows (found_of c.args.matches.now) (codes "image") in
+    cc (none, c.requires.1)
+
+pub returns : goal.returns
+returns c = sym (c.in-Some.ensures ∙ first_value-rows (found_of c.args.matches.now) (codes "image"))
