@@ -3,7 +3,7 @@
 ghost use Rattle.std.specs.Prelude.{◌≤◌};
 
 use crate::ending::{Stop, Wanted};
-use crate::{checks, frames, lists, loading, pool, records, report, runs, scans};
+use crate::{checks, frames, lists, loading, maps, pool, records, report, runs, scans};
 use std::alloc::Global;
 use std::sync::Wait;
 use std::thread::Threads;
@@ -25,6 +25,8 @@ pub enum Alone {
     WriteRecord,
     ReadRecord,
     Choose,
+    ChooseWithPages,
+    FindSuperblocks,
     MakePlan,
     Restrict,
     WriteRun,
@@ -50,6 +52,10 @@ pub enum Alone {
     Reserve,
     NewPool,
     Step,
+    ReadMap,
+    LostBlocks,
+    ListSuperblocks,
+    ListSizes,
 }
 
 /// The calls that take the runtime.
@@ -61,6 +67,8 @@ pub enum Running {
     ScanAll(Workers),
     ScrubInOrder,
     Scrub(Workers),
+    ListLocators(Workers),
+    ListReclaimable(Workers),
 }
 
 /// How many workers scan beside the caller.
@@ -85,7 +93,7 @@ impl Workers {
 }
 
 /// All calls, each by its name, the number of workers that stands behind it, or else no text, and which it is.
-pub const CALLS: [(&str, &str, Call); 42] = [
+pub const CALLS: [(&str, &str, Call); 54] = [
     ("MemDisk::blank", "", Call::Alone(Alone::Blank)),
     ("load", "", Call::Alone(Alone::Load)),
     ("write_frame", "", Call::Alone(Alone::WriteFrame)),
@@ -93,6 +101,8 @@ pub const CALLS: [(&str, &str, Call); 42] = [
     ("write_record", "", Call::Alone(Alone::WriteRecord)),
     ("read_record", "", Call::Alone(Alone::ReadRecord)),
     ("choose", "", Call::Alone(Alone::Choose)),
+    ("choose_with_pages", "", Call::Alone(Alone::ChooseWithPages)),
+    ("find_superblocks", "", Call::Alone(Alone::FindSuperblocks)),
     ("Plan::make", "", Call::Alone(Alone::MakePlan)),
     ("Plan::restrict", "", Call::Alone(Alone::Restrict)),
     ("write_run", "", Call::Alone(Alone::WriteRun)),
@@ -118,6 +128,10 @@ pub const CALLS: [(&str, &str, Call); 42] = [
     ("WorkerCore::reserve", "", Call::Alone(Alone::Reserve)),
     ("PoolCore::new", "", Call::Alone(Alone::NewPool)),
     ("PoolCore::step", "", Call::Alone(Alone::Step)),
+    ("read_map", "", Call::Alone(Alone::ReadMap)),
+    ("RescueMap::lost_blocks", "", Call::Alone(Alone::LostBlocks)),
+    ("list_superblocks", "", Call::Alone(Alone::ListSuperblocks)),
+    ("list_sizes", "", Call::Alone(Alone::ListSizes)),
     ("check_all", "", Call::Running(Running::CheckAll)),
     ("ExtentQueue::new", "", Call::Running(Running::NewQueue)),
     ("ExtentQueue::split", "", Call::Running(Running::Split)),
@@ -140,6 +154,36 @@ pub const CALLS: [(&str, &str, Call); 42] = [
     ("scrub", "0", Call::Running(Running::Scrub(Workers::None))),
     ("scrub", "1", Call::Running(Running::Scrub(Workers::One))),
     ("scrub", "2", Call::Running(Running::Scrub(Workers::Two))),
+    (
+        "list_locators",
+        "0",
+        Call::Running(Running::ListLocators(Workers::None)),
+    ),
+    (
+        "list_locators",
+        "1",
+        Call::Running(Running::ListLocators(Workers::One)),
+    ),
+    (
+        "list_locators",
+        "2",
+        Call::Running(Running::ListLocators(Workers::Two)),
+    ),
+    (
+        "list_reclaimable",
+        "0",
+        Call::Running(Running::ListReclaimable(Workers::None)),
+    ),
+    (
+        "list_reclaimable",
+        "1",
+        Call::Running(Running::ListReclaimable(Workers::One)),
+    ),
+    (
+        "list_reclaimable",
+        "2",
+        Call::Running(Running::ListReclaimable(Workers::Two)),
+    ),
 ];
 
 /// Makes the values of a call and, where that is wanted, calls it and compares its answer.
@@ -159,6 +203,12 @@ pub fn ended<R: Threads + Wait + Sync>(
         }
         Call::Running(Running::ScrubInOrder) => report::scrub_in_order(rt, alloc, wanted),
         Call::Running(Running::Scrub(workers)) => report::scrub(rt, alloc, wanted, workers.count()),
+        Call::Running(Running::ListLocators(workers)) => {
+            report::list_locators(rt, alloc, wanted, workers.count())
+        }
+        Call::Running(Running::ListReclaimable(workers)) => {
+            report::list_reclaimable(rt, alloc, wanted, workers.count())
+        }
     }
 }
 
@@ -172,6 +222,8 @@ fn ended_alone(alloc: Global, call: Alone, wanted: Wanted) -> Result<(), Stop> {
         Alone::WriteRecord => records::write_record(alloc, wanted),
         Alone::ReadRecord => records::read_record(alloc, wanted),
         Alone::Choose => records::choose(alloc, wanted),
+        Alone::ChooseWithPages => records::choose_with_pages(alloc, wanted),
+        Alone::FindSuperblocks => loading::find_superblocks(alloc, wanted),
         Alone::MakePlan => records::make_plan(alloc, wanted),
         Alone::Restrict => records::restrict(alloc, wanted),
         Alone::WriteRun => runs::write_run(alloc, wanted),
@@ -197,5 +249,9 @@ fn ended_alone(alloc: Global, call: Alone, wanted: Wanted) -> Result<(), Stop> {
         Alone::Reserve => pool::reserve(alloc, wanted),
         Alone::NewPool => pool::new_pool(alloc, wanted),
         Alone::Step => pool::step(alloc, wanted),
+        Alone::ReadMap => maps::read_map(alloc, wanted),
+        Alone::LostBlocks => maps::lost_blocks(alloc, wanted),
+        Alone::ListSuperblocks => report::list_superblocks(alloc, wanted),
+        Alone::ListSizes => loading::list_sizes(alloc, wanted),
     }
 }

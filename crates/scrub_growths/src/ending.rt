@@ -3,6 +3,7 @@
 use scrub_disk::{GeometryFault, LoadFault, OutOfMemory};
 use scrub_fakes::Misfit;
 use scrub_frame::FrameFault;
+use scrub_map::MapFault;
 use scrub_pool::PoolFault;
 use scrub_report::ScrubFault;
 use scrub_run::RunFault;
@@ -103,6 +104,15 @@ impl From<RunFault> for Stop {
         match fault {
             RunFault::NotARun => Stop::Wrong,
             RunFault::OutOfMemory => Stop::OutOfMemory,
+        }
+    }
+}
+
+impl From<MapFault> for Stop {
+    fn from(fault: MapFault) -> Stop {
+        match fault {
+            MapFault::Line(_) => Stop::Wrong,
+            MapFault::OutOfMemory => Stop::OutOfMemory,
         }
     }
 }

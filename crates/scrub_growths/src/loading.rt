@@ -1,9 +1,10 @@
-//! Disks in memory, blank or loaded, page by page.
+//! Disks in memory, blank or loaded, page by page; and the superblocks of raw bytes.
 
 use crate::disks::one_shard;
 use crate::ending::{Stop, Wanted, right};
 use scrub_disk::{MemDisk, PageSource};
 use scrub_fakes::{RawBytes, small_geometry};
+use scrub_super::{FoundRecord, LostBytes, RecordKind};
 use std::alloc::Global;
 
 /// The bytes of a page of a small disk, or None where it is unreadable.
@@ -66,4 +67,38 @@ pub fn load(alloc: Global, wanted: Wanted) -> Result<(), Stop> {
     let of_short = scrub_disk::load(alloc, &mut short, small_geometry(), &[])?;
     let of_failing = scrub_disk::load(alloc, &mut failing, small_geometry(), &[])?;
     right(has_bytes(&of_short, &bytes, [10, 11]) && has_bytes(&of_failing, &bytes, [4, NONE]))
+}
+
+/// The superblock of those bytes, whose second block of 512 is marked as lost.
+pub fn find_superblocks(alloc: Global, wanted: Wanted) -> Result<(), Stop> {
+    let bytes = one_shard_bytes(alloc)?;
+    let mut raw = RawBytes::new(&bytes);
+    wanted.made()?;
+    let found = scrub_super::find_superblocks(alloc, &mut raw, &[false, true])?;
+    let record = FoundRecord {
+        offset: 0,
+        kind: RecordKind::Ssb1,
+        generation: 1,
+        geometry: small_geometry(),
+    };
+    let lost = LostBytes {
+        from: 512,
+        to: 1024,
+    };
+    right(
+        found.records.as_slice() == [record].as_slice()
+            && found.lost.as_slice() == [lost].as_slice(),
+    )
+}
+
+/// The lines of what is found there.
+pub fn list_sizes(alloc: Global, wanted: Wanted) -> Result<(), Stop> {
+    let bytes = one_shard_bytes(alloc)?;
+    let mut raw = RawBytes::new(&bytes);
+    wanted.made()?;
+    let listing = scrub_report::list_sizes(alloc, &mut raw, &[false, true])?;
+    right(
+        listing.text.as_slice() == b"0 SSB1 1 64 4 3\nlost 512 1024\n".as_slice()
+            && !listing.is_clean,
+    )
 }

@@ -1,5 +1,5 @@
 //! Tries every call that can lack memory on small values, so that a script can refuse each of its growths in turn. The
-//! first word names a call; for `scan_all` and `scrub` the second one tells how many workers scan beside the caller. The
+//! first word names a call; for those that start workers the second one says how many scan beside the caller. The
 //! word behind is `answered`, or `made` where the values of the call are to be made and no more. Prints `right`, with status
 //! 0, where the answer is the right one whole; `out of memory`, with status 4, where a growth was refused; and else `wrong`,
 //! with status 1. Without words each call is made once, and its line begins with its name. The word `calls` lists the
@@ -13,6 +13,7 @@ mod ending;
 mod frames;
 mod lists;
 mod loading;
+mod maps;
 mod pool;
 mod records;
 mod report;

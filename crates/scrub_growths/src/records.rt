@@ -6,7 +6,7 @@ use crate::ending::{Stop, Wanted, refused, right};
 use scrub_disk::PageSource;
 use scrub_fakes::small_geometry;
 use scrub_frame::{Locator, digest_of, write_locator};
-use scrub_super::{MAX_RUNS, Plan, Superblock};
+use scrub_super::{MAX_RUNS, Plan, Rank, RecordKind, Superblock, SuperblockPage};
 use std::alloc::Global;
 use std::slice;
 
@@ -81,6 +81,30 @@ pub fn choose(alloc: Global, wanted: Wanted) -> Result<(), Stop> {
             && chosen.records() == 1
             && !chosen.tie()
             && chosen.bad_pages().is_empty(),
+    )
+}
+
+/// That superblock, and what each page of extent 0 holds.
+pub fn choose_with_pages(alloc: Global, wanted: Wanted) -> Result<(), Stop> {
+    let (disk, run) = one_shard(alloc)?;
+    wanted.made()?;
+    let (chosen, pages) = scrub_super::choose_with_pages(alloc, &disk)?;
+    let superblock = chosen.superblock().ok_or(Stop::Wrong)?;
+    let record = SuperblockPage::Record {
+        kind: RecordKind::Ssb1,
+        generation: 1,
+        rank: Rank::Counts,
+    };
+    let expected = [
+        record,
+        SuperblockPage::Covered,
+        SuperblockPage::Zero,
+        SuperblockPage::Zero,
+    ];
+    right(
+        is_of_one_shard(superblock, &run)
+            && chosen.page() == Some(0)
+            && pages.as_slice() == expected.as_slice(),
     )
 }
 

@@ -1,4 +1,4 @@
-//! Whole scrubs, beside the published reports.
+//! Whole scrubs, beside the published reports, and what is listed of a disk as lines.
 
 ghost use Rattle.std.specs.Prelude.{◌≤◌};
 
@@ -7,10 +7,21 @@ use crate::ending::{Stop, Wanted, right};
 use crate::takings::is_partition;
 use scrub_fakes::published::{ONE_SHARD, TWINS};
 use scrub_pool::NoGate;
-use scrub_report::ScrubAnswer;
+use scrub_report::{Accepted, ScrubAnswer};
 use std::alloc::Global;
 use std::sync::Wait;
 use std::thread::Threads;
+
+/// The named locators of the disk with one shard.
+const LOCATORS: &str = "run 0 2 0 117 22222222-2222-2222-2222-222222222222 sound
+shard 00000000000000000000000000000001 1 0 3 11111111-1111-1111-1111-111111111111 sound
+";
+
+/// What may be reclaimed of the disk of twins and a shared place: two shards have to be changed for the one chunk.
+const RECLAIMABLE: &str = "reclaim 1 41
+move 1 41 3 11111111-1111-1111-1111-111111111111 shard 00000000000000000000000000000001
+move 1 41 3 11111111-1111-1111-1111-111111111111 shard 00000000000000000000000000000002
+";
 
 /// Whether an answer has this report and index, and is clean or not.
 fn is_answer(answer: &ScrubAnswer, report: &str, index: &[u8], is_clean: bool) -> bool {
@@ -44,4 +55,58 @@ pub fn scrub<R: Threads + Wait + Sync>(
     wanted.made()?;
     let (answer, takings) = scrub_report::scrub(rt, alloc, &disk, workers, &NoGate)?;
     right(is_answer(&answer, ONE_SHARD, &index, true) && is_partition(&takings, workers))
+}
+
+/// The superblock of the disk with one shard, as a line.
+pub fn list_superblocks(alloc: Global, wanted: Wanted) -> Result<(), Stop> {
+    let (disk, _) = one_shard(alloc)?;
+    wanted.made()?;
+    let listing = scrub_report::list_superblocks(alloc, &disk)?;
+    right(listing.text.as_slice() == b"record 0 SSB1 1 counts\n".as_slice() && listing.is_clean)
+}
+
+/// The named locators of the disk with one shard, by so many workers and the caller.
+pub fn list_locators<R: Threads + Wait + Sync>(
+    rt: &R,
+    alloc: Global,
+    wanted: Wanted,
+    workers: u32,
+) -> Result<(), Stop>
+    requires { workers ≤ 64 }
+{
+    let (disk, _) = one_shard(alloc)?;
+    wanted.made()?;
+    let (listing, takings) = scrub_report::list_locators(rt, alloc, &disk, workers, &NoGate)?;
+    right(
+        listing.text.as_slice() == LOCATORS.as_bytes()
+            && listing.is_clean
+            && is_partition(&takings, workers),
+    )
+}
+
+/// What may be reclaimed of the disk of twins and a shared place, by so many workers and the caller.
+pub fn list_reclaimable<R: Threads + Wait + Sync>(
+    rt: &R,
+    alloc: Global,
+    wanted: Wanted,
+    workers: u32,
+) -> Result<(), Stop>
+    requires { workers ≤ 64 }
+{
+    let (disk, _) = twins_and_shared(alloc)?;
+    let accepted = Accepted {
+        superblock_damaged: false,
+        superblock_stray: false,
+        tail: false,
+        tail_lost: false,
+    };
+    wanted.made()?;
+    let (listing, takings) = scrub_report::list_reclaimable(
+        rt, alloc, &disk, workers, &NoGate, accepted,
+    )?;
+    right(
+        listing.text.as_slice() == RECLAIMABLE.as_bytes()
+            && listing.is_clear
+            && is_partition(&takings, workers),
+    )
 }

@@ -27,8 +27,14 @@ mod one_worker;
 #[cfg(test)]
 mod records;
 #[cfg(test)]
+mod rescue_maps;
+#[cfg(test)]
 mod run_payloads;
 #[cfg(test)]
+mod sizes_anywhere;
+#[cfg(test)]
 mod superblock;
+#[cfg(test)]
+mod superblock_pages;
 #[cfg(test)]
 mod whole_extents;

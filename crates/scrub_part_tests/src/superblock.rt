@@ -200,22 +200,29 @@ fn locators_round(alloc: Global, bytes: &[u8]) -> Result<[Locator; 2], Fail> {
     Ok([read_locator(first), read_locator(second)])
 }
 
-#[test]
-fn a_record_stands_in_the_locators_of_another(rt: HostRuntime) -> Result<(), Fail> {
-    // A record of generation 9 without runs, 66 bytes, taken from a disk of its own.
-    let mut source = small_disk(rt.alloc())?;
-    put_record(rt.alloc(), &mut source, 0, 9, &[3, 4], &[])?;
+/// A disk whose record of generation 5 on page 0, 186 bytes, has in its locators a record of generation 9, 66 bytes, that begins
+/// on page 1.
+pub(crate) fn nested_records(rt: &impl Abort, alloc: Global) -> Result<MemDisk, Fail> {
+    // The inner record is taken from a disk of its own.
+    let mut source = small_disk(alloc)?;
+    put_record(alloc, &mut source, 0, 9, &[3, 4], &[])?;
     let mut page = [0u8; 64];
     let mut next = [0u8; 64];
     let read = source.read_page(0, 0, &mut page);
     assert!(rt; read.is_ok());
     let read = source.read_page(0, 1, &mut next);
     assert!(rt; read.is_ok());
-    let mut record = Vec::from_slice(rt.alloc(), &page)?;
+    let mut record = Vec::from_slice(alloc, &page)?;
     record.extend_from_slice(&next[..2])?;
-    let runs = locators_round(rt.alloc(), &record)?;
-    let mut disk = small_disk(rt.alloc())?;
-    put_record(rt.alloc(), &mut disk, 0, 5, &[41, 155], &runs)?;
+    let runs = locators_round(alloc, &record)?;
+    let mut disk = small_disk(alloc)?;
+    put_record(alloc, &mut disk, 0, 5, &[41, 155], &runs)?;
+    Ok(disk)
+}
+
+#[test]
+fn a_record_stands_in_the_locators_of_another(rt: HostRuntime) -> Result<(), Fail> {
+    let disk = nested_records(&rt, rt.alloc())?;
     let inner = Expected {
         newest: Some((1, 9)),
         records: 2,

@@ -33,6 +33,8 @@ mod plain_scan;
 #[cfg(test)]
 mod published;
 #[cfg(test)]
+mod reclaimable;
+#[cfg(test)]
 mod retired;
 #[cfg(test)]
 mod scanned;
