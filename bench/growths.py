@@ -30,7 +30,7 @@ OUT_OF_MEMORY = (4, b"out of memory\n", b"")
 # No program makes so many allocations.
 NONE_REFUSED = 10**9
 # The calls that start workers, with how many.
-WITH_WORKERS = ["scan_all 1", "scan_all 2", "scrub 1", "scrub 2"]
+WITH_WORKERS = ["scan_all 1", "scan_all 2", "scrub 1", "scrub 2", "list_reclaimable 1", "list_reclaimable 2"]
 # These make none, and every other call at least one.
 WITHOUT_GROWTH = {"ExtentQueue::split"}
 

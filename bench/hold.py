@@ -1,9 +1,10 @@
 #!/usr/bin/env python3
-"""Holds a program against reference.py on made-up disks: report, index, named locators and status of each, byte for byte.
+"""Holds a program against reference.py on made-up disks: report, index, named locators, superblocks, what may be reclaimed,
+sizes and status of each, byte for byte; half of the disks have a map of GNU ddrescue, and some of these maps are refused.
 
 usage: hold.py PROGRAM [COUNT] [SEED]      PROGRAM '-' runs no program and only counts which findings the disks have
-Stops at the first difference, and leaves the image and what was printed in the folder hold-difference of the system's
-folder for passing files.
+Stops at the first difference, and leaves the image, its map and what was printed in the folder hold-difference of the
+system's folder for passing files.
 """
 import os
 import random
@@ -12,7 +13,8 @@ import sys
 import tempfile
 from collections import Counter
 sys.path.insert(0, os.path.dirname(os.path.abspath(__file__)))
-from reference import Image, MAGIC, PLAIN, SEALED, scrub, report_text, sha, write_locator, write_run
+from reference import (ACCEPTABLE, MAGIC, PLAIN, SEALED, Image, MapFault, lost_by_map, read_map, reclaimable, report_text, scrub,
+                       sha, sizes, superblocks, write_locator, write_run)
 
 DIFFERENCE = os.path.join(tempfile.gettempdir(), "hold-difference")
 
@@ -26,12 +28,13 @@ class Made:
     def __init__(self, c):
         self.c = c
         self.p = c.choice([64, 64, 64, 128, 256])
-        self.n = c.choice([1, 2, 4, 8, 16])
+        self.n = c.choice([1, 2, 4, 8, 8, 16, 16, 16])
         self.e = c.choice([2, 3, 4, 5, 6])
         self.size = self.p * self.n
         self.raw = bytearray(self.size * self.e)
         self.w = [0] * (self.e - 1)
         self.known = []
+        self.records = []
         self.uuids = [c.randbytes(16) for _ in range(6)]
 
     def put(self, e, o, t):
@@ -104,7 +107,7 @@ class Made:
                 runs.insert(c.choice([0, 0, len(runs)]), self.spoilt(l) if c.random() < .05 else l)
                 if c.random() < .05:
                     runs.append(l)
-        for _ in range(c.choice([0, 1, 1, 1, 1, 2, 3])):
+        for _ in range(c.choice([0, 1, 1, 1, 1, 2, 2, 3])):
             ws = [c.choice([w, w, w, w, w, w, min(self.size, w + c.randrange(40)), max(0, w - c.randrange(40)), self.size + 1 if c.random() < .1 else w]) for w in self.w]
             if c.random() < .15:
                 ws = self.w
@@ -124,6 +127,8 @@ class Made:
             for g in [g] + ([c.randrange(self.n)] if c.random() < .1 else []):
                 if g * self.p + len(t) <= self.size:
                     self.put(0, g * self.p, t)
+                    self.records.append((g * self.p, len(t)))
+        self.harm_records()
         for _ in range(c.choice([0, 0, 0, 0, 1, 2, 5])):
             self.raw[c.randrange(len(self.raw))] ^= 1 << c.randrange(8)
         if c.random() < .1:
@@ -131,48 +136,149 @@ class Made:
         if c.random() < .1:
             at = c.randrange(len(self.raw) - 3); self.raw[at:at + 2] = MAGIC
         bad = [(c.randrange(self.e), c.randrange(self.n)) for _ in range(c.choice([0, 0, 0, 0, 0, 1, 1, 2, 4]))]
+        if c.random() < .1:
+            bad.append((0, c.randrange(self.n)))
         if c.random() < .05:
             del self.raw[c.randrange(len(self.raw)):]
         return bad
 
+    def harm_records(self):
+        """A bit of a record, letters of a kind or stray bytes on a page of extent 0, and a record of other sizes."""
+        c = self.c
+        if self.records and c.random() < .3:
+            begin, size = c.choice(self.records)
+            self.raw[begin + c.randrange(size)] ^= 1 << c.randrange(8)
+        if c.random() < .1:
+            self.put(0, c.randrange(self.n) * self.p, c.choice([b"SSB1", b"SSB2", b"SSB3", b"x"]))
+        if c.random() < .15:
+            p, n, e = c.choice([64, 64, 64, 128, 60, 512]), c.choice([0, 4, 4, 16, 16]), c.choice([1, 2, 3, 3, 9])
+            t = b"SSB1" + c.randbytes(8) + b"".join(x.to_bytes(4, "big") for x in (p, n, e)) + bytes(2)
+            t += c.choice([0, 0, 0, p * n, p * n + 1]).to_bytes(4, "big") * max(0, e - 1)
+            t += sha(t)
+            at = 64 * c.randrange(min(len(self.raw) // 64, c.choice([4, 2 ** 20])))
+            if at + len(t) <= len(self.raw):
+                self.raw[at:at + len(t)] = t
+
+    def map(self):
+        """The bytes of a map, most of whose blocks could be read."""
+        c, end = self.c, len(self.raw)
+        harm = c.choice([0, 0, .02, .1])
+        lines, place = ["# Mapfile. Created by GNU ddrescue version 1.27"] * c.choice([0, 1, 3]), 0
+        lines.append(c.choice(["0x00000000     ?               1", "0x1F +", "0 F 01", "  017 /\t2 "]))
+        while place < end and c.random() < 1 - harm / 10:
+            size = c.choice([0, 1, self.p // 2, self.p, self.p, 2 * self.p, 512, 512, 1024, end, end, end + 512])
+            status = c.choice("-*/?") if c.random() < harm else "+"
+            numbers = [c.choice(["0x%08X", "0X%x", "%d", "0%o"]) % x for x in (place, size)]
+            lines.append(c.choice(["  ", " \t", " "]).join([*numbers, status]))
+            place += size + (c.choice([1, self.p]) if c.random() < harm / 2 else 0)
+            if c.random() < .1:
+                lines.append(c.choice(["", " \t", "#", "\t# 0 1 +"]))
+        text = c.choice(["\n", "\n", "\r\n"]).join(lines) + c.choice(["\n", "\n", ""])
+        text = bytearray(text.encode())
+        if c.random() < .15:
+            text[c.randrange(len(text))] = c.choice(b"08xX+-?# \n\r\tz")
+        return bytes(text)
+
+
+SCANS = ("scan", "index", "locators")
+
+
+def right_answers(made, bad, text, accepted):
+    """For each line of words the right status, output and error stream; and what the disk is, where its map isn't refused."""
+    geometry = ["--page", str(made.p), "--pages", str(made.n), "--extents", str(made.e)]
+    pairs = [f"{e}:{g}" for e, g in bad]
+    accept = [word for kind in accepted for word in ("--accept", kind)]
+    lines = {**{command: [command, *geometry] for command in (*SCANS, "superblocks")},
+             "reclaimable": ["reclaimable", *geometry, *accept], "sizes": ["sizes"]}
+    raw, blocks, lost = bytes(made.raw), None, []
+    if text is not None:
+        try:
+            blocks = read_map(text)
+        except MapFault as fault:
+            told = (2, b"", f"shardscrub: map refused: line {fault}\n".encode())
+            return [(words, [] if command == "sizes" else pairs, told) for command, words in lines.items()], None
+        lost = [divmod(q, made.n) for q in lost_by_map(blocks, made.p, made.n * made.e)]
+    image = Image(raw, made.p, made.n, made.e, bad + lost)
+    report, index, clean, named = scrub(image)
+    answers = {"scan": (report_text(report), clean), "index": (index, clean), "locators": (named.encode(), clean)}
+    for command, (printed, good) in (("superblocks", superblocks(image)), ("reclaimable", reclaimable(image, accepted)),
+                                     ("sizes", sizes(raw, blocks))):
+        answers[command] = printed.encode(), good
+    held = [(words, [] if command == "sizes" else pairs, (0 if answers[command][1] else 1, answers[command][0], b""))
+            for command, words in lines.items()]
+    return held, (report, clean, answers)
+
+
+def count(seen, report, clean, answers):
+    """Adds up which findings the disk has."""
+    for key in ("broken", "candidates", "dangling", "doubtful", "hidden", "orphans", "shared", "twins"):
+        seen[key] += bool(report[key])
+    seen.update({x["reason"] for x in report["dangling"]} | {"run " + x["state"] for x in report["runs"]})
+    seen.update({x.split()[0] for e in report["extents"] for x in e["items"]})
+    seen["clean"] += clean
+    seen["tie"] += report["super"]["tie"]
+    seen["retired"] += bool(report["retired"])
+    seen["nothing planned"] += not report["extents"]
+    seen["keep"] += any(x["keep"] for x in report["candidates"])
+    seen["tail"] += any(e["tail"] for e in report["extents"])
+    seen["no superblock"] += report["super"]["page"] is None
+    seen["bad in 0"] += bool(report["super"]["bad"])
+    words = {command: [line.split() for line in answers[command][0].decode().splitlines()] for command in
+             ("superblocks", "reclaimable", "sizes")}
+    seen.update({f"superblocks: {w[0]}" + (f" {w[-1]}" if w[0] == "record" else "") for w in words["superblocks"]})
+    seen.update({"reclaimable: " + " ".join(w[:2] if w[0] in ("doubt", "accepted") else w[:1]) for w in words["reclaimable"]})
+    seen.update({"sizes: " + ("lost" if w[0] == "lost" else w[1]) for w in words["sizes"]})
+    seen["sizes: several"] += len({tuple(w[3:]) for w in words["sizes"] if w[0] != "lost"}) > 1
+    for command in words:
+        seen[f"{command}: status 0"] += answers[command][1]
+
+
+def leave(made, text, right, printed):
+    os.makedirs(DIFFERENCE, exist_ok=True)
+    for name, content in (("image", made.raw), ("map", text), ("right", right), ("told", printed)):
+        if content is not None:
+            with open(f"{DIFFERENCE}/{name}", "wb") as file:
+                file.write(content)
+
+
+def is_held(program, room, made, text, held):
+    """Whether the program says the same of this disk; what differs is printed and left behind."""
+    for name, content in (("image", made.raw), ("map", text)):
+        if content is not None:
+            with open(f"{room}/{name}", "wb") as file:
+                file.write(content)
+    for words, pairs, right in held:
+        line = [*words, *(["--map", f"{room}/map"] if text is not None else []), f"{room}/image", *pairs]
+        done = subprocess.run([program, *line], stdin=subprocess.DEVNULL, capture_output=True)
+        if (done.returncode, done.stdout, done.stderr) != right:
+            leave(made, text, right[1], done.stdout)
+            print(f"{words[0]} differs: status {done.returncode}, right {right[0]}")
+            print(f"error stream {done.stderr!r}, right {right[2]!r}")
+            print("words:", " ".join(line).replace(room, DIFFERENCE))
+            return False
+    return True
+
 
 def main():
-    program, count, seed = sys.argv[1], int((sys.argv + [0, 0])[2] or 1000), int((sys.argv + [0, 0, 0])[3] or 1)
+    program, turns, seed = sys.argv[1], int((sys.argv + [0, 0])[2] or 1000), int((sys.argv + [0, 0, 0])[3] or 1)
     seen = Counter()
     with tempfile.TemporaryDirectory() as room:
-        path = f"{room}/image"
-        for turn in range(count):
-            made = Made(random.Random(seed * 1_000_003 + turn))
+        for turn in range(turns):
+            c = random.Random(seed * 1_000_003 + turn)
+            made = Made(c)
             bad = made.make()
-            report, index, clean, lines = scrub(Image(bytes(made.raw), made.p, made.n, made.e, bad))
-            for key in ("broken", "candidates", "dangling", "doubtful", "hidden", "orphans", "shared", "twins"):
-                seen[key] += bool(report[key])
-            seen.update({x["reason"] for x in report["dangling"]} | {"run " + x["state"] for x in report["runs"]})
-            seen.update({x.split()[0] for e in report["extents"] for x in e["items"]})
-            seen["clean"] += clean
-            seen["tie"] += report["super"]["tie"]
-            seen["retired"] += bool(report["retired"])
-            seen["nothing planned"] += not report["extents"]
-            seen["keep"] += any(x["keep"] for x in report["candidates"])
-            seen["tail"] += any(e["tail"] for e in report["extents"])
-            seen["no superblock"] += report["super"]["page"] is None
-            seen["bad in 0"] += bool(report["super"]["bad"])
-            if program == "-":
-                continue
-            with open(path, "wb") as file:
-                file.write(made.raw)
-            words = ["--page", str(made.p), "--pages", str(made.n), "--extents", str(made.e), path] + [f"{e}:{g}" for e, g in bad]
-            for command, right in (("scan", report_text(report)), ("index", index), ("locators", lines.encode())):
-                done = subprocess.run([program, command, *words], stdin=subprocess.DEVNULL, capture_output=True)
-                if (done.returncode, done.stdout, done.stderr) != (0 if clean else 1, right, b""):
-                    os.makedirs(DIFFERENCE, exist_ok=True)
-                    open(f"{DIFFERENCE}/image", "wb").write(made.raw)
-                    open(f"{DIFFERENCE}/right", "wb").write(right)
-                    open(f"{DIFFERENCE}/told", "wb").write(done.stdout)
-                    print(f"turn {turn}: {command} differs: status {done.returncode}, right {0 if clean else 1}; error stream {done.stderr!r}")
-                    print("words:", " ".join([command, *words]).replace(path, f"{DIFFERENCE}/image"))
-                    return 1
-    print(f"{count} disks, all the same" if program != "-" else f"{count} disks", dict(sorted(seen.items())))
+            text = made.map() if c.random() < .5 else None
+            accepted = [kind for kind in ACCEPTABLE if c.random() < .5] if c.random() < .7 else []
+            held, disk = right_answers(made, bad, text, accepted)
+            seen["map"] += text is not None
+            if disk is None:
+                seen["map refused"] += 1
+            else:
+                count(seen, *disk)
+            if program != "-" and not is_held(program, room, made, text, held):
+                print(f"turn {turn}")
+                return 1
+    print(f"{turns} disks, all the same" if program != "-" else f"{turns} disks", dict(sorted(seen.items())))
     return 0
 
 

@@ -1,8 +1,10 @@
 #!/usr/bin/env python3
-"""Measures `shardscrub scan` on disks that are made to cost much, each beside one clean extent of the same size. It is no
-part of the gate.
+"""Measures `shardscrub scan` on disks that are made to cost much, each beside one clean extent of the same size, and
+`shardscrub sizes` on files that are. It is no part of the gate.
 
-usage: bench/hostile.py [--turns COUNT] [PROGRAM]      (default: 3, crates/scrub_cli/out/scrub_cli)
+usage: bench/hostile.py [--turns COUNT] [--sizes] [PROGRAM]      (default: 3, crates/scrub_cli/out/scrub_cli)
+
+With --sizes only the files for `sizes` are measured.
 
 First one extent of 64 MiB, in pages of 1,024 bytes: the smallest that make an extent of that size, so that it has the most
 pages. Each of its 65,536 pages begins with a head that claims a chunk up to the write pointer. A scanner that hashed what
@@ -20,6 +22,17 @@ behind it: that is the price of the form, and it grows with the square of the nu
 
 At last extents of 8 MiB in pages of 4,096 bytes, with a chunk of 4 MB in whose payload other chunks begin, which are no
 items: an index run names one of them 6,400 times, or 200 of them 32 times each. Each place costs a hashing.
+
+For `sizes`, files of 64 MiB, beside one with one superblock and zeros:
+
+forged records   the most bytes to be hashed. The head of a record stands wherever one may begin: at each multiple of 64 in
+                 the first 4 MiB, and then at each of 128, of 256, of 512 and of 1,024, since the page size grows with the
+                 extent. All fields are right, and no digest is. The letters of a head are neither a write pointer nor the
+                 number of an extent, so a record's pointers and retired extents end where the next head begins; its 32
+                 locators and its digest lie over the heads behind it. A record takes up to the next head and 1,952 bytes
+                 more: 196,573 records and 415 MiB.
+forged pointers  heads at the same places, each of which claims as many extents as its place allows, by powers of two. The
+                 first wrong pointer is the next head. Where the pointers end before it, the record has to be hashed.
 
 The scans are by no worker beside the main thread, and images of one size go by turns. What is printed is a table of the
 least time that each took and of the most memory. To be hashed are the payloads of the chunks that stand, of those that an
@@ -40,6 +53,9 @@ from scan import (CLOSING_MARK, KIB, LEAST_LARGE, MIB, MOST_LARGE, ROUND_SEALED,
 
 HEAD = 22
 MOST_LOCATORS = 64
+MOST_PAGES = 1 << 16
+FIRST = 64 * MIB  # the bytes that `sizes` looks at
+RECORD_HEAD, DIGEST, MOST_RUN_BYTES = 28, 32, 32 * 60
 ALL_HEADS = b"\x11" * 16
 NO_HEAD = b"\xff" * 16
 PAGES = 1 << 16
@@ -108,6 +124,102 @@ def hidden_places(file, page, pages, count, times):
     return disk.made(status=1, clean=False, shards=shards, hidden=count * times, orphans=1, live=disk.pointers[1])
 
 
+def places():
+    """Where a record may begin, by rising offset, each with the least page size whose extents reach behind it."""
+    page = 64
+    for offset in range(0, FIRST, 64):
+        while offset + RECORD_HEAD + MOST_RUN_BYTES + DIGEST > page * MOST_PAGES and page < KIB:
+            page *= 2
+        if offset % page == 0:
+            yield offset, page
+
+
+def record_head(page, pages, extents, runs, retired):
+    return b"SSB2" + struct.pack(">QIIIHH", 1, page, pages, extents, runs, retired)
+
+
+def forged_records(file):
+    """Wherever a record may begin, the longest one whose fields are right. Returns how many bytes they make one hash."""
+    found = list(places())
+    hashed = 0
+    for (offset, page), (behind, _) in zip(found, [*found[1:], (FIRST, None)]):
+        words = (behind - offset - RECORD_HEAD) // 4
+        least = behind + MOST_RUN_BYTES + DIGEST
+        pages = -(-least // page)
+        if pages > MOST_PAGES:
+            continue
+        # Half of the words are pointers and half are retired extents, so that no more extents are needed than there may be.
+        extents = min((words + 1) // 2, (1 << 32) // (page * pages) - 1) + 1
+        retired = min(words - (extents - 1), extents - 1)
+        file.seek(offset)
+        file.write(record_head(page, pages, extents, 32, retired) + bytes(4 * (extents - 1))
+                   + struct.pack(f">{retired}I", *range(1, retired + 1)))
+        hashed += RECORD_HEAD + 4 * (extents - 1 + retired) + MOST_RUN_BYTES
+    return hashed
+
+
+def forged_pointers(file):
+    """Wherever a record may begin, a head that claims as many extents as there may be. Returns what has to be hashed."""
+    found = list(places())
+    hashed = 0
+    for (offset, page), (behind, _) in zip(found, [*found[1:], (FIRST, None)]):
+        extents = 1 << 15
+        while extents > 2:
+            least = offset + RECORD_HEAD + 4 * (extents - 1) + DIGEST
+            pages = -(-least // page)
+            if pages <= MOST_PAGES and page * pages * extents <= 1 << 32:
+                break
+            extents //= 2
+        file.seek(offset)
+        file.write(record_head(page, pages, extents, 0, 0))
+        if least - DIGEST <= behind and least <= FIRST:
+            hashed += least - DIGEST - offset
+    return hashed
+
+
+def one_record(file):
+    record = record_head(KIB, MOST_PAGES, 2, 0, 0) + bytes(4)
+    file.write(record + sha256(record).digest())
+    return len(record)
+
+
+# The files for `sizes`, with what is right: status and output.
+FILES = (
+    ("one record", one_record, (0, b"0 SSB2 1 1024 65536 2\n")),
+    ("forged records", forged_records, (1, b"")),
+    ("forged pointers", forged_pointers, (1, b"")),
+)
+
+
+def make_file(path, kind):
+    """Makes such a file of 64 MiB there, and returns how many of its bytes have to be hashed."""
+    with open(path, "w+b") as file:
+        file.truncate(FIRST)
+        hashed = kind(file)
+        file.truncate(FIRST)
+    return hashed
+
+
+def compare_sizes(program, room, turns):
+    """Prints the rows of the files for `sizes`, and returns whether all answers are right."""
+    print_heads("File of 64 MiB", "To be hashed, MiB", "`sizes`, s", "Processors, s", "`sha256sum` of as many, s", "Peak, MiB")
+    for name, kind, right in FILES:
+        path, answer = f"{room}/file", f"{room}/answer"
+        hashed = apart(make_file, path, kind)
+        runs, hashes = [], []
+        for _ in range(turns):
+            runs.append(measured([program, "sizes", path], answer))
+            if (runs[-1].status, Path(answer).read_bytes()) != right:
+                print(f"{name}: no right answer, status {runs[-1].status}")
+                return False
+            hashes.append(measured(["sha256sum", path], answer))
+        seconds, processor, memory = taken(runs)
+        print_row(name, f"{hashed / MIB:.1f}", f"{seconds:.2f}", f"{processor:.2f}", f"{taken(hashes)[0] * hashed / FIRST:.2f}",
+                  memory // MIB)
+        os.remove(path)
+    return True
+
+
 # For each size of page and number of pages, what is measured beside a clean extent of that size.
 GROUPS = (
     (KIB, PAGES, {
@@ -150,19 +262,22 @@ def compare(program, room, page, pages, hostile, turns):
 
 
 def main(words):
-    parser = argparse.ArgumentParser(description="Measures `shardscrub scan` on disks that are made to cost much.")
+    parser = argparse.ArgumentParser(description="Measures `shardscrub` on disks and files that are made to cost much.")
     parser.add_argument("--turns", type=int, default=3, help="how often each is run")
+    parser.add_argument("--sizes", action="store_true", help="measure `sizes` alone")
     parser.add_argument("program", nargs="?", type=Path, default=PROGRAM)
     given = parser.parse_args(words)
     if given.turns < 1:
         parser.error("--turns is at least 1")
     program = given.program.resolve()
-    if not can_measure([program]):
+    if not can_measure([program], ["sha256sum"]):
         return 2
-    print_heads("Image", "Extent, MiB", "Pages", "Items", "To be hashed, MiB", "Scan, s", "Processors, s",
-                "Of the clean one's", "Peak, MiB")
     with tempfile.TemporaryDirectory(prefix="shardscrub-bench-") as room:
-        right = [compare(str(program), room, *group, given.turns) for group in GROUPS]
+        right = [compare_sizes(str(program), room, given.turns)]
+        if not given.sizes:
+            print_heads("Image", "Extent, MiB", "Pages", "Items", "To be hashed, MiB", "Scan, s", "Processors, s",
+                        "Of the clean one's", "Peak, MiB")
+            right += [compare(str(program), room, *group, given.turns) for group in GROUPS]
     return 0 if all(right) else 1
 
 

@@ -20,6 +20,8 @@ from refusals import TOP, answer, made
 
 SMALL = "--page 64 --pages 4 --extents 3 examples/one-shard.img"
 SEVERAL = "--page 64 --pages 16 --extents 5 examples/several-findings.img 3:1"
+RECLAIMED = "--page 64 --pages 8 --extents 5 examples/reclaimed-before.img"
+RESCUED = "--page 512 --pages 4 --extents 4 --map examples/rescued.map examples/rescued.img"
 WORDS = [
     "",
     f"scan {SMALL}",
@@ -29,6 +31,15 @@ WORDS = [
     f"scan --workers 2 {SEVERAL}",
     f"index {SEVERAL}",
     "items --page 64 --pages 4 --extents 3 --extent 1 examples/one-chunk.img",
+    f"superblocks {SEVERAL}",
+    f"reclaimable {SEVERAL}",
+    f"reclaimable --workers 2 --accept tail {RECLAIMED}",
+    "sizes examples/several-findings.img",
+    "sizes --map examples/rescued.map examples/rescued.img",
+    f"scan {RESCUED}",
+    f"superblocks {RESCUED}",
+    f"reclaimable --workers 0 {RESCUED}",
+    f"items --extent 3 {RESCUED}",
     "scan --help",
     "scan --workers 65",
 ]

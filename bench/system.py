@@ -1,5 +1,5 @@
 #!/usr/bin/env python3
-"""Looks at what the built program does with the system: files of all kinds, words, and both streams. `./check` runs it.
+"""Looks at what the built program does with the system: files of all kinds, maps, words, and both streams. `./check` runs it.
 
 usage: bench/system.py [PROGRAM]    (default: crates/scrub_cli/out/scrub_cli)
 
@@ -14,15 +14,18 @@ import signal
 import subprocess
 import sys
 import tempfile
+import time
 from pathlib import Path
 
 TOP = Path(__file__).resolve().parent.parent
 sys.path.insert(0, str(TOP / "bench"))
 from hold import frame
-from reference import Image, item_line, report_text, scrub, sha, tile, write_locator, write_run
+import reference
+from reference import Image, item_line, reclaimable, report_text, scrub, sha, superblocks, tile, write_locator, write_run
 
 PROGRAM = str(Path(sys.argv[1] if len(sys.argv) > 1 else TOP / "crates/scrub_cli/out/scrub_cli").resolve())
 SECONDS = 60
+MAP_SECONDS = 10
 ONE_SHARD = str(TOP / "examples/one-shard.img")
 SMALL = ["--page", "64", "--pages", "4", "--extents", "3"]
 counts = {True: 0, False: 0}
@@ -44,7 +47,7 @@ def check(what, found, wanted):
         print(f"FAILED: {what}: {str(found)[:300]}, and not {str(wanted)[:300]}", flush=True)
 
 
-def sizes(p, n, e):
+def geometry(p, n, e):
     return ["--page", str(p), "--pages", str(n), "--extents", str(e)]
 
 
@@ -76,15 +79,33 @@ def items_of(raw, p, n, e, extent, pointer):
     return int(unclean), "".join(item_line(item) + "\n" for item in items).encode(), b""
 
 
+def listed(lines, good):
+    """The answer that prints these lines."""
+    return 0 if good else 1, lines.encode(), b""
+
+
+def sizes_of(path, blocks=None):
+    """The answer of `sizes` by the reference, which needs no more than the first 64 MiB."""
+    with open(path, "rb") as file:
+        return listed(*reference.sizes(file.read(1 << 26), blocks))
+
+
 def check_scan(what, path, p, n, e, workers=(0, 1, 3, 64)):
-    """Compares report, index, locators and statuses with those of the reference, and by several numbers of workers."""
-    report, index, clean, lines = scrub(Image(Path(path).read_bytes(), p, n, e, []))
+    """Compares all answers on a disk with those of the reference, those of scans by several numbers of workers."""
+    image = Image(Path(path).read_bytes(), p, n, e, [])
+    report, index, clean, lines = scrub(image)
     status = 0 if clean else 1
+    right = listed(*reclaimable(image, ["tail"]))
     for number in workers:
-        found = answer("scan", *sizes(p, n, e), "--workers", str(number), path)
+        found = answer("reclaimable", "--accept", "tail", *geometry(p, n, e), "--workers", str(number), path)
+        check(f"{what}, what may be reclaimed, by {number} workers", found, right)
+    check(f"{what}, superblocks", answer("superblocks", *geometry(p, n, e), path), listed(*superblocks(image)))
+    check(f"{what}, sizes", answer("sizes", path), sizes_of(path))
+    for number in workers:
+        found = answer("scan", *geometry(p, n, e), "--workers", str(number), path)
         check(f"{what}, scan by {number} workers", found, (status, report_text(report), b""))
-    check(f"{what}, index", answer("index", *sizes(p, n, e), path), (status, index, b""))
-    check(f"{what}, locators", answer("locators", *sizes(p, n, e), path), (status, lines.encode(), b""))
+    check(f"{what}, index", answer("index", *geometry(p, n, e), path), (status, index, b""))
+    check(f"{what}, locators", answer("locators", *geometry(p, n, e), path), (status, lines.encode(), b""))
 
 
 # What a file gives
@@ -98,7 +119,7 @@ def large_pages(room):
     parts = [(0, superblock(p, n, e, [0, 0, p * n], [])), (3 * p * n, b"\x01"), (3 * p * n + place, chunk)]
     path = written(room, "large-pages", parts, p * n * e)
     raw = Path(path).read_bytes()
-    check("items of large pages", answer("items", *sizes(p, n, e), "--extent", "3", path), items_of(raw, p, n, e, 3, p * n))
+    check("items of large pages", answer("items", *geometry(p, n, e), "--extent", "3", path), items_of(raw, p, n, e, 3, p * n))
     check_scan("large pages", path, p, n, e)
 
 
@@ -107,7 +128,7 @@ def four_gibibytes(room):
     p, n, e = 65536, 1024, 64
     chunk = frame(bytes([0x44]) * 16, b"abc")
     path = written(room, "largest", [((e - 1) * p * n, chunk)], p * n * e)
-    words = ["items", *sizes(p, n, e), "--extent", str(e - 1), "--pointer", "41", path]
+    words = ["items", *geometry(p, n, e), "--extent", str(e - 1), "--pointer", "41", path]
     check("the last extent of 4 GiB", answer(*words), (0, b"chunk 0 41 44444444-4444-4444-4444-444444444444 3\n", b""))
     os.truncate(path, p * n * e + 1)
     check("a byte behind 4 GiB", answer(*words), (3, b"", b"shardscrub: image too long\n"))
@@ -119,6 +140,8 @@ def failing_reads():
     words = ["items", *SMALL, "--extent", "1", "/proc/self/mem"]
     lines = b"lost 0 64\nlost 64 128\nlost 128 192\nlost 192 256\n"
     check("reads that fail", answer(*words), (1, lines, b""))
+    status, out, told = answer("sizes", "/proc/self/mem")
+    check("reads that fail, sizes", (status, out[:7], told), (1, b"lost 0 ", b""))
 
 
 def no_disks(room):
@@ -128,6 +151,7 @@ def no_disks(room):
     for name in [room, "/dev/null", pipe, os.path.join(room, "nothing")]:
         told = f"shardscrub: image cannot be opened: {name}\n".encode()
         check(f"{name} isn't opened", answer("scan", *SMALL, name), (3, b"", told))
+        check(f"{name} isn't opened by sizes", answer("sizes", name), (3, b"", told))
     link = os.path.join(room, "link")
     os.symlink(ONE_SHARD, link)
     check("a link to a file is opened", answer("scan", *SMALL, link), answer("scan", *SMALL, ONE_SHARD))
@@ -141,6 +165,98 @@ def cut_short():
         check_scan("one shard cut to 668 bytes", file.name, 64, 4, 3)
 
 
+def lengths_for_sizes(room):
+    """Files of all lengths: a record that ends with the file, one that the file's end cuts, none, and the last place."""
+    record = superblock(64, 4, 3, [0, 0], [])
+    for size in (0, 1, 63, 64, len(record) - 1, len(record), len(record) + 1, 511, 512, 513):
+        path = written(room, "length", [(0, record[:size])], size)
+        check(f"sizes of {size} bytes", answer("sizes", path), sizes_of(path))
+    path = written(room, "cut", [(1024, record), (1280, record)], 1280 + len(record) - 1)
+    check("sizes of a file that ends in a record", answer("sizes", path), sizes_of(path))
+    largest = superblock(1024, 65536, 64, [0] * 63, [])
+    last = (1 << 26) - 1024
+    path = written(room, "long", [(0, largest), (last, largest), (1 << 26, largest)], (1 << 32) + 1)
+    check("sizes of a file above 4 GiB", answer("sizes", path), sizes_of(path))
+    # What was found is not the file's size: a mark behind the end says nothing.
+    lines = f"0 SSB1 1 1024 65536 64\n{last} SSB1 1 1024 65536 64\n".encode()
+    check("sizes of a file above 4 GiB, told", answer("sizes", path), (0, lines, b""))
+    os.remove(path)
+
+
+# Maps
+
+COMMANDS = (["scan"], ["index"], ["locators"], ["reclaimable"], ["superblocks"], ["items", "--extent", "2"])
+
+
+def given_map(room, text):
+    path = os.path.join(room, "map")
+    Path(path).write_bytes(text)
+    return path
+
+
+def maps(room):
+    """A map does what pairs do, in whatever form its lines end; and what isn't a map isn't one."""
+    text = b"# a comment\xff\n\n0x0 ?\n0 0x80 +\n0x80 64 -\n0300 576 +\n"
+    pairs = ["0:2"]
+    for name, form in [("a map", text), ("carriage returns", text.replace(b"\n", b"\r\n")), ("no line feed", text[:-1]),
+                       ("tabs", text.replace(b" ", b"\t ")), ("no block behind", text + b"768 0 -\n99999999 1 *\n")]:
+        path = given_map(room, form)
+        for command in COMMANDS:
+            right = answer(*command, *SMALL, ONE_SHARD, *pairs)
+            check(f"{name}, {command[0]}", answer(*command, *SMALL, "--map", path, ONE_SHARD), right)
+            check(f"{name} and a pair, {command[0]}", answer(*command, *SMALL, "--map", path, ONE_SHARD, "2:0"),
+                  answer(*command, *SMALL, ONE_SHARD, *pairs, "2:0"))
+        check(f"{name}, sizes", answer("sizes", "--map", path, ONE_SHARD), sizes_of(ONE_SHARD, reference.read_map(form)))
+    path = given_map(room, b"0 ?\n0 768 +\n")
+    check("a map of all", answer("scan", *SMALL, "--map", path, ONE_SHARD), answer("scan", *SMALL, ONE_SHARD))
+    link = os.path.join(room, "link-to-map")
+    os.symlink(path, link)
+    check("a link to a map", answer("scan", *SMALL, "--map", link, ONE_SHARD), answer("scan", *SMALL, ONE_SHARD))
+
+
+def no_maps(room):
+    """What is neither a regular file nor a block device is no map, and neither is one of which a read fails."""
+    pipe = os.path.join(room, "pipe-for-map")
+    os.mkfifo(pipe)
+    for name in [room, "/dev/null", pipe, os.path.join(room, "no-map"), "/proc/self/mem"]:
+        told = (3, b"", f"shardscrub: map cannot be opened: {name}\n".encode())
+        for command in COMMANDS:
+            check(f"{name} is no map, {command[0]}", answer(*command, *SMALL, "--map", name, "/nothing/here"), told)
+        check(f"{name} is no map, sizes", answer("sizes", "--map", name, "/nothing/here"), told)
+    pair = (2, b"", b"shardscrub: bad page refused: 3:0\n")
+    check("a pair before the map", answer("scan", *SMALL, "--map", room, ONE_SHARD, "3:0"), pair)
+
+
+def refused_maps(room):
+    """The first line that breaks the rules, by its number, before the image is opened."""
+    state = b"0 ?\n"
+    for text, line in [
+        (b"", 1), (b"\n", 2), (b"# a", 2), (b"# a\n\n", 3), (b"0\n", 1), (b"0 x\n", 1), (b"0 + 1 2\n", 1), (b"0 + 0x1\n", 1),
+        (b"-1 +\n", 1), (b"\xff\n", 1), (state + b"0 1\n", 2), (state + b"0 1 F\n", 2), (state + b"0 08 +\n", 2),
+        (state + b"0x 1 +\n", 2), (state + b"+0 1 +\n", 2), (state + b"0 1 + 1\n", 2), (state + b"0 1 + #\n", 2),
+        (state + b"0 9223372036854775807 +\n9223372036854775807 1 +\n", 3), (state + b"9223372036854775808 0 +\n", 2),
+        (state + b"0x7FFFFFFFFFFFFFFF 1 +\n", 2), (state + b"8 8 +\n# a\n15 1 +\nx\n", 4), (state + b"0 1 +\r\r\n", 2),
+        (state + b"0 99999999999999999999999999 +\n", 2), (state + b"0 1 +\n\n0 1 +\n", 4), (state + b"0,1 +\n", 2),
+    ]:
+        path = given_map(room, text)
+        told = (2, b"", f"shardscrub: map refused: line {line}\n".encode())
+        check(f"refused map {text!r}", answer("scan", *SMALL, "--map", path, "/nothing/here"), told)
+        check(f"refused map {text!r}, sizes", answer("sizes", "--map", path, "/nothing/here"), told)
+
+
+def long_maps(room):
+    """A million lines are read in seconds, and the last of them may be the one that is refused."""
+    lines = [b"0x00000000     ?"] + [b"0x%08X  0x00000200  +" % (512 * i) for i in range(1_000_000 - 1)]
+    for name, last, right in [
+        ("good", lines[-1], answer("scan", *SMALL, ONE_SHARD)),
+        ("refused", lines[-2], (2, b"", b"shardscrub: map refused: line 1000000\n")),
+    ]:
+        path = given_map(room, b"\n".join([*lines[:-1], last]))
+        began = time.monotonic()
+        check(f"a map of a million lines, {name}", answer("scan", *SMALL, "--map", path, ONE_SHARD), right)
+        check(f"a map of a million lines, {name}, in seconds", time.monotonic() - began < MAP_SECONDS, True)
+
+
 # Large sizes
 
 def many_items(room):
@@ -148,7 +264,7 @@ def many_items(room):
     p, n, e = 64, 65536, 2
     path = written(room, "items", [(p * n + 64 * i, b"\x01") for i in range(0, n, 3)], p * n * e)
     raw = Path(path).read_bytes()
-    check("65,536 items", answer("items", *sizes(p, n, e), "--extent", "1", path), items_of(raw, p, n, e, 1, p * n))
+    check("65,536 items", answer("items", *geometry(p, n, e), "--extent", "1", path), items_of(raw, p, n, e, 1, p * n))
 
 
 def many_extents(room):
@@ -204,21 +320,33 @@ def words(room):
 def refusals():
     """Each refusal has its status and its text, whole, and nothing on the output."""
     for words, status, text in [
-        (["items", *sizes(60, 4, 3), "--extent", "1", "x"], 2, "geometry refused: PageSize"),
-        (["scan", *sizes(64, 0, 3), "x"], 2, "geometry refused: Pages"),
-        (["scan", *sizes(64, 4, 1), "x"], 2, "geometry refused: Extents"),
-        (["scan", *sizes(65536, 65536, 2), "x"], 2, "geometry refused: ExtentBytes"),
-        (["scan", *sizes(65536, 1024, 65), "x"], 2, "geometry refused: TotalBytes"),
+        (["items", *geometry(60, 4, 3), "--extent", "1", "x"], 2, "geometry refused: PageSize"),
+        (["scan", *geometry(64, 0, 3), "x"], 2, "geometry refused: Pages"),
+        (["scan", *geometry(64, 4, 1), "x"], 2, "geometry refused: Extents"),
+        (["scan", *geometry(65536, 65536, 2), "x"], 2, "geometry refused: ExtentBytes"),
+        (["scan", *geometry(65536, 1024, 65), "x"], 2, "geometry refused: TotalBytes"),
         (["items", *SMALL, "--extent", "3", "x"], 2, "extent out of range"),
         (["items", *SMALL, "--extent", "1", "--pointer", "257", "x"], 2, "pointer out of range"),
         (["items", *SMALL, "--extent", "1", "x", "1:4"], 2, "bad page refused: 1:4"),
         (["scan", *SMALL, "x", "1:x"], 2, "bad page refused: 1:x"),
         (["scan", *SMALL, "/nothing/here"], 3, "image cannot be opened: /nothing/here"),
+        (["superblocks", *SMALL, "x", "1:4"], 2, "bad page refused: 1:4"),
+        (["reclaimable", *geometry(64, 4, 1), "x"], 2, "geometry refused: Extents"),
+        (["sizes", "/nothing/here"], 3, "image cannot be opened: /nothing/here"),
     ]:
         check(text, answer(*words), (status, b"", f"shardscrub: {text}\n".encode()))
-    status, out, told = answer("scan", *SMALL, "--workers", "65", ONE_SHARD)
-    check("65 workers", (status, out, b"65" in told and len(told) > 16), (2, b"", True))
-    for words in [["--help"], ["scan", "--help"], ["index", "--help"], ["items", "--help"]]:
+    for words, part in [
+        (["scan", *SMALL, "--workers", "65", ONE_SHARD], b"65"),
+        (["superblocks", *SMALL, "--workers", "1", ONE_SHARD], b"--workers"),
+        (["reclaimable", *SMALL, "--accept", "tie", ONE_SHARD], b"tie"),
+        (["scan", *SMALL, "--accept", "tail", ONE_SHARD], b"--accept"),
+        (["sizes", *SMALL, ONE_SHARD], b"--page"),
+        (["sizes", ONE_SHARD, "0:1"], b"0:1"),
+        (["sizes"], b"IMAGE"),
+    ]:
+        status, out, told = answer(*words)
+        check(f"refused words: {' '.join(words)}", (status, out, part in told and len(told) > 16), (2, b"", True))
+    for words in [["--help"]] + [[name, "--help"] for name in ("scan", "index", "items", "superblocks", "reclaimable", "sizes")]:
         status, out, told = answer(*words)
         check(f"help: {' '.join(words)}", (status, out, len(told) > 500 and told.endswith(b"\n")), (0, b"", True))
 
@@ -273,6 +401,11 @@ def main():
         four_gibibytes(room)
         failing_reads()
         no_disks(room)
+        lengths_for_sizes(room)
+        maps(room)
+        no_maps(room)
+        refused_maps(room)
+        long_maps(room)
         cut_short()
         many_items(room)
         many_extents(room)

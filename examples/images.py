@@ -1,5 +1,5 @@
 #!/usr/bin/env python3
-"""Makes the images of this folder, by the layouts of docs/FORMAT.md.
+"""Makes the images of this folder by the layouts of docs/FORMAT.md, and two maps of GNU ddrescue.
 
 usage: examples/images.py [FOLDER]      (default: this folder)
 
@@ -49,16 +49,16 @@ def run(*entries):
 
 
 class Disk:
-    """The bytes of a disk with pages of 64 bytes, all zero at first."""
+    """The bytes of a disk, all zero at first. Pages have 64 bytes where nothing else is said."""
 
-    def __init__(self, pages, extents):
-        self.pages, self.extents = pages, extents
-        self.bytes = bytearray(PAGE * pages * extents)
+    def __init__(self, pages, extents, page=PAGE):
+        self.page, self.pages, self.extents = page, pages, extents
+        self.bytes = bytearray(page * pages * extents)
         self.pointers = [0] * (extents - 1)
 
     def put(self, extent, offset, text):
-        place = extent * PAGE * self.pages + offset
-        assert offset + len(text) <= PAGE * self.pages
+        place = extent * self.page * self.pages + offset
+        assert offset + len(text) <= self.page * self.pages
         self.bytes[place:place + len(text)] = text
 
     def chunk(self, extent, offset, name, payload, form=frame):
@@ -73,13 +73,17 @@ class Disk:
         Where retired extents are given, or an empty list of them, it is a record of the second kind.
         """
         kind, count = (b"SSB1", b"") if retired is None else (b"SSB2", be(2, len(retired)))
-        sizes = be(4, PAGE) + be(4, self.pages) + be(4, self.extents) + be(2, len(runs)) + count
+        sizes = be(4, self.page) + be(4, self.pages) + be(4, self.extents) + be(2, len(runs)) + count
         listed = b"".join(be(4, number) for number in [*self.pointers, *(retired or [])])
-        self.put(0, page * PAGE, sealed(kind + be(8, generation) + sizes + listed + b"".join(runs)))
+        self.put(0, page * self.page, sealed(kind + be(8, generation) + sizes + listed + b"".join(runs)))
 
     def spoil(self, extent, offset):
         """Changes one bit of the byte there."""
-        self.bytes[extent * PAGE * self.pages + offset] ^= 1
+        self.bytes[extent * self.page * self.pages + offset] ^= 1
+
+    def reset(self, extent):
+        """Moves the write pointer of the extent to its start. What was written there stays."""
+        self.pointers[extent - 1] = 0
 
 
 def one_chunk():
@@ -99,6 +103,13 @@ def no_superblock():
     """The disk with one shard, with one bit of the record's generation changed."""
     disk = one_shard()
     disk.spoil(0, 11)
+    return disk
+
+
+def tie():
+    """The disk with one shard, and another superblock of the same generation, which names no run."""
+    disk = one_shard()
+    disk.superblock(2, 1)
     return disk
 
 
@@ -171,8 +182,113 @@ def several_findings():
     return disk
 
 
-IMAGES = (one_chunk, one_shard, no_superblock, collision, closed_collision, lost_run, retired_extent, twins,
-          several_findings)
+def later_shard(disk, begin):
+    """One shard and a superblock; then a run that binds a second shard, at this byte of extent 3. Returns both runs.
+
+    The one chunk of the second shard was written to extent 1 before that superblock. The run was written behind it.
+    """
+    disk.chunk(1, 0, uuid(0xA0), b"the first shard, before it was written anew")
+    only = disk.chunk(1, 81, uuid(0xB0), b"the second shard")
+    anew = disk.chunk(2, 0, uuid(0xA1), b"the first shard")
+    older = disk.chunk(3, 0, uuid(0xE0), run((shard(1), [anew])))
+    disk.superblock(0, 1, older)
+    return disk.chunk(3, begin, uuid(0xE1), run((shard(2), [only]))), older
+
+
+def later_run():
+    """The run of the second shard was written, and no superblock names it yet."""
+    disk = Disk(8, 4)
+    later_shard(disk, 192)
+    return disk
+
+
+def flipped_bit():
+    """A newer superblock on page 4 names that run, and one bit of it is changed: the last one of its first write pointer."""
+    disk = Disk(8, 4)
+    disk.superblock(4, 2, *later_shard(disk, 192))
+    disk.spoil(0, 4 * PAGE + 29)
+    return disk
+
+
+def failing():
+    """The same disk before anything is harmed, with pages of 512 bytes."""
+    disk = Disk(4, 4, 512)
+    disk.superblock(2, 2, *later_shard(disk, 512))
+    return disk
+
+
+# The sectors of that disk that its drive doesn't read: the page of the newer superblock, and that of the later run.
+UNREADABLE = (2, 13)
+
+
+def rescued():
+    """What GNU ddrescue copies of that disk: zeros where it couldn't read."""
+    disk = failing()
+    for sector in UNREADABLE:
+        disk.bytes[512 * sector:512 * (sector + 1)] = bytes(512)
+    return disk
+
+
+def formatted_twice():
+    """The disk with one shard, which was formatted once more with other sizes; of the new format only page 1 was written."""
+    disk = Disk(3, 2, 128)
+    disk.bytes[:] = one_shard().bytes
+    disk.superblock(1, 1)
+    return disk
+
+
+def letters():
+    """The payload of a chunk is the letters that a superblock begins with, a hundred times."""
+    disk = Disk(8, 3)
+    chunk = disk.chunk(1, 0, uuid(0x11), b"--" + b"SSB1" * 100)
+    disk.superblock(0, 1, disk.chunk(2, 0, uuid(0x22), run((shard(1), [chunk]))))
+    return disk
+
+
+def reclaimed_before():
+    """Extent 1 was reset once and written again in part. Of extents 2, 3 and 4 something may be reclaimed.
+
+    Two shards name the chunk that is to be kept in extent 2, and the superblock that in extent 4, which is an index run.
+    """
+    disk = Disk(8, 5)
+    disk.chunk(1, 0, uuid(0xA0), b"what was here before the extent was reset, " * 5)
+    disk.reset(1)
+    first = disk.chunk(1, 0, uuid(0xA1), b"the first shard")
+    disk.chunk(2, 0, uuid(0xB0), b"a shard that was deleted" * 3)
+    both = disk.chunk(2, 110, uuid(0xB1), b"what two shards have")
+    gone = disk.chunk(3, 0, uuid(0xC0), b"another that was deleted")
+    disk.chunk(4, 0, uuid(0xE0), run((shard(1), [first]), (shard(2), [gone])))
+    newer = run((shard(2), [both]), (shard(3), [both]))
+    older = disk.chunk(1, 53, uuid(0xE1), run((shard(1), [first])))
+    disk.superblock(0, 1, disk.chunk(4, 232, uuid(0xE2), newer), older)
+    return disk
+
+
+def blocks(*lines):
+    """A map of GNU ddrescue: lines with positions and sizes in sectors of 512 bytes, and the status of each."""
+    return "".join(f"0x{512 * place:08X}  0x{512 * size:08X}  {status}\n" for place, size, status in lines)
+
+
+READ_AND_NOT = blocks((0, 2, "+"), (2, 1, "-"), (3, 10, "+"), (13, 1, "-"), (14, 2, "+"))
+
+
+def failing_map():
+    """Which sectors of the failing disk can be read: for the test mode of GNU ddrescue."""
+    return "# The sectors that can be read (+), and those that can't (-)\n0x00000000     ?\n" + READ_AND_NOT
+
+
+def rescued_map():
+    """What GNU ddrescue writes beside its copy of the failing disk, without the lines that have its words and times."""
+    return ("# Mapfile. Created by GNU ddrescue version 1.27\n"
+            "# Finished\n"
+            "# current_pos  current_status  current_pass\n"
+            "0x00001800     +               1\n"
+            "#      pos        size  status\n") + READ_AND_NOT
+
+
+IMAGES = (one_chunk, one_shard, no_superblock, tie, collision, closed_collision, lost_run, retired_extent, twins,
+          several_findings, later_run, flipped_bit, failing, rescued, formatted_twice, letters, reclaimed_before)
+MAPS = (failing_map, rescued_map)
 
 
 def main(arguments):
@@ -183,6 +299,9 @@ def main(arguments):
     for image in IMAGES:
         name = image.__name__.replace("_", "-") + ".img"
         (folder / name).write_bytes(image().bytes)
+    for made in MAPS:
+        name = made.__name__.replace("_", ".")
+        (folder / name).write_text(made(), encoding="ascii")
     return 0
 
 
