@@ -18,3 +18,7 @@ module _ {D : Type 0} {s : _} where
   -- what was found, and where
   abbrev pub scanned : ExtentResult D s → Scanned
   scanned r = record { extent = r.extent; pointer = r.pointer; findings = r.findings }
+
+  -- how often the scan asked for a page, as it was counted
+  abbrev pub calls : ExtentResult D s → ℕ
+  calls r = r.asked

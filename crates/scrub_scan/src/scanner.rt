@@ -10,6 +10,7 @@ ghost use Rattle.scrub_scan.specs.Extent.{Extent, FrameAt, NoFrameAt, HasGap, bo
 ghost use Rattle.scrub_scan.specs.Item.{start_of, stop_of, IsItem};
 ghost use Rattle.scrub_scan.specs.Pages.{HoldBoth, IsTarget, target_of, Scans, IsFound, Passes, IsPassed, Claims, AskedBy, HasRead, Reaches, place_behind, last_page, frame_cost};
 
+use crate::counted_source::{CountedSource, PagesAsked};
 use crate::item::Item;
 use crate::pages::{Target, TwoPages};
 use crate::zeros::is_zero;
@@ -70,13 +71,14 @@ fn readable_item(part: &[u8], start: u32, stop: u32) -> Item
 
 impl Scanner {
     /// A scanner that has read nothing.
-    pub fn new(alloc: Global, page: usize) -> Result<Scanner, OutOfMemory>
-        requires { 0 < page }
+    pub fn new(alloc: Global, page: usize, asked: PagesAsked) -> Result<Scanner, OutOfMemory>
+        requires page { 0 < page }
+        requires none { asked ≡ 0 }
         ensures scans { (image : Image) (t : Target) → page ≡ image.geometry.page → IfOk result (Scans image t) }
         ensures asked { IfOk result (λ s. s.pages.asked ≡ 0) }
         ensures read { IfOk result (λ s. HasRead s.pages 0) }
     {
-        let pages = TwoPages::new(alloc, page)?;
+        let pages = TwoPages::new(alloc, page, asked)?;
         Ok(Scanner {
             pages,
             matcher: Matcher::new(1),
@@ -84,8 +86,22 @@ impl Scanner {
         })
     }
 
+    /// The count of its reads, once it reads no more.
+    pub fn into_asked(self) -> PagesAsked
+        ensures { result ≡ self.pages.asked }
+    {
+        let Scanner { pages, .. } = self;
+        let TwoPages { asked, .. } = pages;
+        asked
+    }
+
     /// The item that begins at a place below the pointer.
-    pub fn item_at<D: PageSource>(&mut self, disk: &D, target: &Target, start: usize) -> Item
+    pub fn item_at<D: PageSource>(
+        &mut self,
+        disk: &CountedSource<'_, D>,
+        target: &Target,
+        start: usize,
+    ) -> Item
         requires target { IsTarget (D.image disk.now) target.now }
         requires scans { Scans (D.image disk.now) target.now self.old }
         requires below { start < target.now.pointer }
@@ -107,7 +123,7 @@ impl Scanner {
     /// The frame that stands at a place below the pointer, whose page becomes the near one.
     pub fn frame_at<D: PageSource>(
         &mut self,
-        disk: &D,
+        disk: &CountedSource<'_, D>,
         target: &Target,
         start: usize,
     ) -> Option<Found>
@@ -187,7 +203,12 @@ impl Scanner {
     /// Whether a frame may stand at a place, by its head, by the page that is known to be unreadable, and by what closes it.
     /// It is asked before anything is hashed, so that a head which claims a frame whose far end isn't there costs three
     /// pages at most.
-    fn may_stand<D: PageSource>(&mut self, disk: &D, target: &Target, start: usize) -> bool
+    fn may_stand<D: PageSource>(
+        &mut self,
+        disk: &CountedSource<'_, D>,
+        target: &Target,
+        start: usize,
+    ) -> bool
         requires target { IsTarget (D.image disk.now) target.now }
         requires scans { Scans (D.image disk.now) target.now self.old }
         requires below { start < target.now.pointer }
@@ -241,7 +262,7 @@ impl Scanner {
     /// Whether these bytes stand at a place. What stands there is put into `out`, where all of it can be read.
     fn has_bytes<D: PageSource>(
         &mut self,
-        disk: &D,
+        disk: &CountedSource<'_, D>,
         target: &Target,
         place: usize,
         wanted: &[u8],
@@ -271,7 +292,7 @@ impl Scanner {
     /// Fills `out` with the bytes from a place on, and says whether all of them can be read.
     fn fill<D: PageSource>(
         &mut self,
-        disk: &D,
+        disk: &CountedSource<'_, D>,
         target: &Target,
         place: usize,
         out: &mut [u8],
@@ -308,7 +329,7 @@ impl Scanner {
     /// The frame that stands at a place. Its bytes are hashed as they pass.
     fn pass_frame<D: PageSource>(
         &mut self,
-        disk: &D,
+        disk: &CountedSource<'_, D>,
         target: &Target,
         start: usize,
     ) -> Option<Found>
@@ -352,7 +373,12 @@ impl Scanner {
     }
 
     /// Feeds what stands from a place up to the bound above it: `No` where that can't be read.
-    fn pass_page<D: PageSource>(&mut self, disk: &D, target: &Target, place: usize) -> Fed
+    fn pass_page<D: PageSource>(
+        &mut self,
+        disk: &CountedSource<'_, D>,
+        target: &Target,
+        place: usize,
+    ) -> Fed
         requires target { IsTarget (D.image disk.now) target.now }
         requires scans { Scans (D.image disk.now) target.now self.old }
         requires below { place < target.now.pointer }

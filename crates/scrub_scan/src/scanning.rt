@@ -7,6 +7,7 @@ ghost use Rattle.scrub_scan.specs.Scanned.{result_image, scanned};
 ghost use Rattle.scrub_scan.specs.AllFindings.{AreAllFindings, IsOfImage};
 
 use crate::all_findings::AllFindings;
+use crate::counted_source::lend;
 use crate::extent_result::ExtentResult;
 use crate::findings::{Findings, PageNumbers};
 use crate::pages::Target;
@@ -30,12 +31,14 @@ fn scan_under<'d, D: PageSource>(
     ensures extent { IfOk result (λ r. (scanned r).extent ≡ extent) }
     ensures pointer { IfOk result (λ r. (scanned r).pointer ≡ pointer) }
 {
-    let target = Target::new(disk, extent, pointer);
-    let mut scanner = Scanner::new(alloc, target.page)?;
-    let items = tile_by(alloc, disk, &target, &mut scanner)?;
+    // The only loan: whatever reads below gets the source through it, and the result gets its count.
+    let (counted, asked) = lend(disk);
+    let target = Target::new(&counted, extent, pointer);
+    let mut scanner = Scanner::new(alloc, target.page, asked)?;
+    let items = tile_by(alloc, &counted, &target, &mut scanner)?;
     let Surveyed { tail, bad_pages } = survey(
         alloc,
-        disk,
+        &counted,
         &target,
         items.as_slice(),
         &mut scanner.pages,
@@ -46,7 +49,7 @@ fn scan_under<'d, D: PageSource>(
         tail_first: tail.first,
         bad_pages: PageNumbers { pages: bad_pages },
     };
-    Ok(ExtentResult::new(disk, extent, pointer, findings, scanner.pages.asked))
+    Ok(ExtentResult::new(disk, extent, pointer, findings, scanner.into_asked()))
 }
 
 /// What a planned extent of a source's image holds under the plan's write pointer. Its result tells how often a page was

@@ -8,6 +8,7 @@ ghost use Rattle.scrub_frame.specs.Frame.{magic, head, head_size, mark, payload_
 ghost use Rattle.scrub_scan.specs.Extent.{Extent, extent_of, FrameAt, NoFrameAt, HasGap};
 ghost use Rattle.scrub_scan.specs.Standing.{IsStandingAt, Stands, HasPayload, IsClaimedAt, IsOnlyFrame, HasPlainFrame};
 
+use crate::counted_source::lend;
 use crate::pages::Target;
 use crate::reading::read_bytes;
 use crate::scanner::{Found, Scanner};
@@ -51,9 +52,10 @@ pub fn frame_stands<D: PageSource>(
     if offset >= pointer {
         return Ok(None);
     }
-    let target = Target::new(disk, extent, pointer);
-    let mut scanner = Scanner::new(alloc, target.page)?;
-    match scanner.frame_at(disk, &target, offset as usize) {
+    let (counted, asked) = lend(disk);
+    let target = Target::new(&counted, extent, pointer);
+    let mut scanner = Scanner::new(alloc, target.page, asked)?;
+    match scanner.frame_at(&counted, &target, offset as usize) {
         Some(found) => {
             let Found {
                 form,

@@ -12,7 +12,7 @@ returns-clause-read g c = λ n h. elim c.if-ne.branch [
       near_read c.args.self.now c.if-ne.self n c.args.page
       (ap (λ (p : TwoPages). p.near.number) w.self-is ∙ w.read.ensures.number)
       (ap (λ (p : TwoPages). p.far.number) w.self-is)
-      (λ small. omega (arith, ap (λ (p : TwoPages). p.asked) w.self-is, w.saturating_add-self.ensures, small))
+      (λ small. omega (arith, ap (λ (p : TwoPages). p.asked) w.self-is, w.read.ensures.counted, small))
       h
   | else-ne w ↦ subst (λ (p : TwoPages). HasRead p n) (sym w.self-is) h
 ]
