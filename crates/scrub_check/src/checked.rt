@@ -186,9 +186,9 @@ fn check_each<D: PageSource>(
     Ok(checked)
 }
 
-/// What each of these locators is worth, in their order. The findings are searched, and the disk is looked at, by as many
-/// threads as there are processors. A place that several of them point to is looked at once, and its payload is hashed only
-/// where the UUID and the length in the head of the frame there are those of one of them.
+/// What each of these locators is worth, in their order. The findings are searched, and the disk is looked at, on several
+/// threads where there is much to do. A place that several of them point to is looked at once, and its payload is hashed only
+/// where the frame there is sealed, or its head has the UUID and the length of one of them.
 pub fn check_all<R: Threads + Sync, D: PageSource>(
     rt: &R,
     alloc: Global,

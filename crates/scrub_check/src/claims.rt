@@ -98,8 +98,7 @@ pub(crate) fn head_claimed_at<D: PageSource>(
     Ok(claim_at(alloc, disk, plan, all, &start)?.head)
 }
 
-/// Asks what is claimed at some places, each once, by as many threads as there are processors; the claims are by rising
-/// places.
+/// Asks what is claimed at some places, each once, on several threads where there are many; the claims are by rising places.
 pub(crate) fn claims_at<R: Threads + Sync, D: PageSource>(
     rt: &R,
     alloc: Global,

@@ -8,6 +8,7 @@ pub mod checked;
 mod chunk_uuids;
 mod chunks;
 mod claims;
+mod counted_items;
 mod cursor;
 mod extents;
 mod live;

@@ -79,7 +79,7 @@ pub(crate) fn each_once(starts: Vec<Start>) -> Result<Vec<Start>, OutOfMemory>
     Ok(starts)
 }
 
-/// Looks at some places, each once, by as many threads as there are processors; the looks are by rising places.
+/// Looks at some places, each once, on several threads; the looks are by rising places.
 pub(crate) fn looks_at<R: Threads + Sync, D: PageSource>(
     rt: &R,
     alloc: Global,

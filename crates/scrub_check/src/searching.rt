@@ -1,9 +1,10 @@
-//! Where among items an item begins at a place.
+//! Where among items an item begins at a place. The starts are seen by `counted_items` alone, which counts them.
 
-ghost use Rattle.std.specs.Prelude.{◌≡◌, ◌≤◌, ◌<◌, ◌+◌, ◌^◌, ℕ, List, IfSome, IfNone, Contains, map, length, slice_index};
+ghost use Rattle.std.specs.Prelude.{◌≡◌, ◌≤◌, ◌<◌, ◌^◌, ℕ, IfSome, IfNone, Contains, map, length, slice_index};
 ghost use Rattle.std.specs.List.Sorted.{IsStrictlyIncreasing};
 ghost use Rattle.scrub_scan.specs.Item.{start_of};
 
+use crate::counted_items::{CountedItems, ShowsStarts};
 use scrub_scan::Item;
 
 /// What a search for an item came to.
@@ -13,49 +14,6 @@ pub struct Found {
     pub at: Option<usize>,
     /// How many items were looked at.
     pub probes: u32,
-}
-
-/// Places that are shown one by one, and counted as they are. A search that sees them by this alone can't look at one that
-/// isn't counted.
-trait ShowsStarts {
-    /// The places, in their order.
-    ghost starts: { Self → List ℕ };
-    /// How many were shown, each as often as it was.
-    ghost shown: { Self → ℕ };
-
-    /// How many places there are.
-    fn count(&self) -> usize
-        ensures { result ≡ length (starts self.now) };
-
-    /// The place with this index.
-    fn start(&mut self, i: usize) -> u32
-        requires inside { i < length (starts self.old) }
-        requires counts { shown self.old + 1 < 2 ^ 32 }
-        ensures start { result ≡ slice_index (starts self.old) i }
-        ensures same { starts self.new ≡ starts self.old }
-        ensures one_more { shown self.new ≡ shown self.old + 1 };
-}
-
-/// Items whose starts are shown, and how many were.
-#[derive(Drop)]
-struct CountedItems<'a> {
-    items: &'a [Item],
-    shown: u32,
-}
-
-impl ShowsStarts for CountedItems<'_> {
-    ghost starts = { λ c. map start_of c.items.now };
-
-    ghost shown = { λ c. c.shown };
-
-    fn count(&self) -> usize {
-        self.items.len()
-    }
-
-    fn start(&mut self, i: usize) -> u32 {
-        self.shown += 1;
-        self.items[i].start()
-    }
 }
 
 /// The index of a place among places that rise. It halves them with each that it is shown.
@@ -84,6 +42,23 @@ fn search<S: ShowsStarts>(among: &mut S, start: u32) -> Option<usize>
     None
 }
 
+/// What the search for a place comes to, with as many probes as the places counted.
+fn find<S: ShowsStarts>(among: &mut S, start: u32) -> Found
+    requires rising { IsStrictlyIncreasing (S.starts among.old) }
+    requires unseen { S.shown among.old ≡ 0 }
+    ensures found { IfSome result.at (λ i. (i < length (S.starts among.old)) × (slice_index (S.starts among.old) i ≡ start)) }
+    ensures none { IfNone result.at (¬ Contains (S.starts among.old) start) }
+    ensures counted { result.probes ≡ S.shown among.new }
+    ensures few { (digits : ℕ) → length (S.starts among.old) < 2 ^ digits → S.shown among.new ≤ digits }
+    ensures some { 0 < length (S.starts among.old) → 1 ≤ S.shown among.new }
+{
+    let at = search(among, start);
+    Found {
+        at,
+        probes: among.looks(),
+    }
+}
+
 /// The item that begins at a byte of the extent, among items whose starts rise. It halves the items with each that it
 /// looks at, so that these are at most as many as the number of items has binary digits; where there are items it looks at
 /// one at least.
@@ -94,10 +69,5 @@ pub fn find_start(items: &[Item], start: u32) -> Found
     ensures probes { (digits : ℕ) → length items.now < 2 ^ digits → result.probes ≤ digits }
     ensures looked { 0 < length items.now → 1 ≤ result.probes }
 {
-    let mut among = CountedItems { items, shown: 0 };
-    let at = search(&mut among, start);
-    Found {
-        at,
-        probes: among.shown,
-    }
+    find(&mut CountedItems::new(items), start)
 }
