@@ -147,8 +147,8 @@ fn answer_of<R: Threads + Sync, D: PageSource>(
 }
 
 /// Scrubs a disk: which superblock counts, what lies in each planned extent, in the order of their numbers, and what the
-/// index that the superblock names is worth. One thread reads the extents; what the locators are worth is found by as many
-/// threads as there are processors.
+/// index that the superblock names is worth. One thread reads the extents; what the locators are worth is found on several
+/// threads where there is much to do.
 pub fn scrub_in_order<R: Threads + Sync, D: PageSource>(
     rt: &R,
     alloc: Global,
