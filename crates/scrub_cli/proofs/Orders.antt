@@ -16,11 +16,11 @@ use Rattle.scrub_cli.specs.declared.words.ScanWords.{ScanWords}
 use Rattle.scrub_cli.specs.declared.words.ReclaimWords.{ReclaimWords}
 use Rattle.scrub_cli.specs.declared.words.SizesWords.{SizesWords}
 use Rattle.scrub_cli.specs.declared.words.Request.{Request}
-use Rattle.scrub_cli.specs.declared.words.Request.TheVariants.{Demo, Items, Scan, Index, Locators, Reclaimable, Superblocks, Sizes}
+use Rattle.scrub_cli.specs.declared.words.Request.TheVariants.{Demo, Items, Scan, Index, Locators, Reclaimable, Superblocks, Sizes, Version}
 use Rattle.scrub_cli.specs.Accepting.{AreAccepted}
 use Rattle.scrub_cli.specs.CommandLine.{shardscrub_app}
 use Rattle.scrub_cli.specs.Order.{AreExchanged, HasOptions, option_word}
-use Rattle.scrub_cli.specs.Words.{AreImageWords, AreItemsWords, AreReclaimWords, AreScanWords, AreSizesWords, AskFor, IsAskedBy, IsNumberOf, IsWorkersOf}
+use Rattle.scrub_cli.specs.Words.{AreImageWords, AreItemsWords, AreReclaimWords, AreScanWords, AreSizesWords, IsAskedBy, IsNumberOf, IsWorkersOf, NameCommand}
 use Rattle.scrub_cli.proofs.Walks.{EachRule, parts}
 use Rattle.scrub_cli.proofs.Whole.{built_items, built_reclaimable, built_sizes, built_superblocks, disk}
 use Rattle.scrub_cli.proofs.SameRows.{AreSame, found_same}
@@ -111,6 +111,7 @@ module _ (xs ys : List Row) (same : AreSame xs ys) where
       (ys, renamed name (codes "sizes") asked.0 asked.1, sizes_same words (subst (λ (rows : List Row). AreSizesWords rows words) (pair_rows name (codes "sizes") xs asked.0 asked.1) asked.2))
   asked_same name (Locators words) asked =
       (ys, renamed name (codes "locators") asked.0 asked.1, scan_same words (subst (λ (rows : List Row). AreScanWords rows words) (pair_rows name (codes "locators") xs asked.0 asked.1) asked.2))
+  asked_same name Version asked = absurd asked
 
 -- the commands as `clap` builds them are known by their names
 disk_by_name : (name : Text) → EachRule IsByName (disk name).rules
@@ -197,26 +198,26 @@ module _ (command : Text) (below : Shape) (enters : Enters command below) where
   rows_are words = ap (λ (w : Walk). entered (built shardscrub_app) w.stopped) (ends words) ∙ enters.rows words
 
   exchanged : EachRule IsByName below.rules → below.arg_required_else_help ≡ false → (words others : List Text) (x : AreExchanged words others) → x.command ≡ command
-      → (request : Request) → AskFor words request → AskFor others request
+      → (request : Request) → NameCommand words request → NameCommand others request
   exchanged by_name plain words others x named request asked =
       let pair : List Text = option_word x.name x.value ∷ (option_word x.other_name x.other_value ∷ x.after) in
       let turned : List Text = option_word x.other_name x.other_value ∷ (option_word x.name x.value ∷ x.after) in
       let words_are : words ≡ command ∷ (x.before ++ pair) = x.one ∙ ap (λ (c : Text). c ∷ (x.before ++ pair)) named in
       let others_are : others ≡ command ∷ (x.before ++ turned) = x.other ∙ ap (λ (c : Text). c ∷ (x.before ++ turned)) named in
-      let was : AskFor (command ∷ (x.before ++ pair)) request = subst (λ (ws : List Text). AskFor ws request) words_are asked in
+      let was : NameCommand (command ∷ (x.before ++ pair)) request = subst (λ (ws : List Text). NameCommand ws request) words_are asked in
       let clean = (parts (level_fault below [] nothing_held (x.before ++ pair) false []) [] (sym (fault_is (x.before ++ pair)) ∙ was.0)).0 in
       let both = end_exchanged below by_name x.name x.value x.other_name x.other_value x.named x.other_named x.apart x.after x.before x.no_end plain clean in
       let faults : fault_of shardscrub_app (command ∷ (x.before ++ turned)) ≡ [] = fault_is (x.before ++ turned) ∙ joined (level_fault below [] nothing_held (x.before ++ turned) false []) [] both.0 refl in
       let asks : IsAskedBy (Some (rows_at below (x.before ++ pair))) request = subst (λ (met : Option (Text × List Row)). IsAskedBy met request) (rows_are (x.before ++ pair)) was.1 in
       let still = asked_same _ _ both.1 below.name request asks in
-      subst (λ (ws : List Text). AskFor ws request) (sym others_are)
+      subst (λ (ws : List Text). NameCommand ws request) (sym others_are)
       (faults, subst (λ (met : Option (Text × List Row)). IsAskedBy met request) (sym (rows_are (x.before ++ turned))) still)
 
 -- the law
-pub order_is_free : (words others : List Text) (request : Request) → AreExchanged words others → AskFor words request → AskFor others request
+pub order_is_free : (words others : List Text) (request : Request) → AreExchanged words others → NameCommand words request → NameCommand others request
 order_is_free words others request x asked = go x.options
   where
-    go : HasOptions x.command → AskFor others request
+    go : HasOptions x.command → NameCommand others request
     go (inl scan) = exchanged (codes "scan") (disk (codes "scan")) enters_scan (disk_by_name (codes "scan")) refl words others x scan request asked
     go (inr (inl index)) = exchanged (codes "index") (disk (codes "index")) enters_index (disk_by_name (codes "index")) refl words others x index request asked
     go (inr (inr (inl locators))) = exchanged (codes "locators") (disk (codes "locators")) enters_locators (disk_by_name (codes "locators")) refl words others x locators request asked

@@ -3,16 +3,22 @@ use Rattle.std.specs.Prelude.{◌≡◌, ◌≢◌, ◌⊎◌, ◌||◌, ℕ, Bo
 use Rattle.std.specs.Str.{bytes_eq}
 use Rattle.clap.specs.Words.{IsSignedIn, without_minus, Row, Text, first_of, one_of}
 use Rattle.clap.specs.declared.error.kind.ErrorKind.{ErrorKind}
-use Rattle.clap.specs.declared.error.kind.ErrorKind.TheVariants.{DisplayHelp, OutOfMemory as no_memory}
+use Rattle.clap.specs.declared.error.kind.ErrorKind.TheVariants.{DisplayHelp, DisplayVersion, OutOfMemory as no_memory}
+use Rattle.scrub_cli.specs.declared.words.Request.{Request}
+use Rattle.scrub_cli.specs.declared.words.Request.TheVariants.{Version}
 use Rattle.scrub_cli.specs.declared.words.WordsFault.{WordsFault}
 use Rattle.scrub_cli.specs.declared.words.WordsFault.TheVariants.{Refused, Help, OutOfMemory}
 
--- help comes of a question for help alone, and a refusal of neither that nor want of memory;
+-- help comes of a question for help alone, and a refusal of none for help or the version, nor of want of memory;
 -- want of memory may come of any error, as its text takes memory
 abbrev pub ComesOf : WordsFault → ErrorKind → Type 0
-ComesOf (Refused text) kind = (kind ≢ DisplayHelp) × (kind ≢ no_memory)
+ComesOf (Refused text) kind = (kind ≢ DisplayHelp) × (kind ≢ DisplayVersion) × (kind ≢ no_memory)
 ComesOf (Help text) kind = kind ≡ DisplayHelp
 ComesOf OutOfMemory kind = Unit {0}
+
+-- an error of this kind is a question for the version, and this is its request
+abbrev pub IsVersionAsked : ErrorKind → Request → Type 0
+IsVersionAsked kind request = (kind ≡ DisplayVersion) × (request ≡ Version)
 
 -- a value was found for the option, and its parser took it as a whole number up to a greatest one
 abbrev pub HasNumberTo : ℕ → List Row → Text → Type 0

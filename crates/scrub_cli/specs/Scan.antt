@@ -3,6 +3,7 @@ use Rattle.std.specs.Prelude.{◌≡◌, ℕ, List, Bool}
 use Rattle.scrub_disk.specs.declared.geometry.Geometry.{Geometry as Sizes}
 use Rattle.scrub_disk.specs.Faults.{HasSizes, IsFirstBroken}
 use Rattle.scrub_disk.specs.Image.{Image}
+use Rattle.scrub_report.specs.Answer.{IsPartitionOfPlanned}
 use Rattle.scrub_report.specs.Index.{IsIndex}
 use Rattle.scrub_report.specs.Locators.{AreLocatorLines}
 use Rattle.scrub_report.specs.declared.doubts.Accepted.{Accepted}
@@ -61,6 +62,14 @@ pub record IsScanAnswer (wanted : Wanted) (known : KnownRaw) (maps : KnownMaps) 
   pub image : Image
   pub disk : IsDiskOf known maps words image
   pub answered : IsDiskAnswer wanted image text status
+
+-- what is wanted of such an image, of which each planned extent is in one of the lists, once
+pub record AreTakingsOf (wanted : Wanted) (known : KnownRaw) (maps : KnownMaps) (words : ImageWords) (text : List ℕ) (status : ℕ)
+    (lists : List (List ℕ)) : Type 0 where
+  pub image : Image
+  pub disk : IsDiskOf known maps words image
+  pub answered : IsDiskAnswer wanted image text status
+  pub partition : IsPartitionOfPlanned image lists
 
 -- Why nothing is told: each fault comes only where none before it does, and want of memory comes anywhere.
 abbrev pub IsScanFault : KnownRaw → KnownMaps → ImageWords → Fault → Type 0

@@ -2,17 +2,20 @@
 //! reclaimed of it, or what a disk or an image has of superblocks, and the status that it ends with. How the disk came to be
 //! read is left to the commands, and where the answer goes to the run.
 
-ghost use Rattle.std.specs.Prelude.{◌≡◌, ◌≤◌, ◌<◌, ◌^◌, IfOk};
+ghost use Rattle.std.specs.Prelude.{◌≡◌, ◌+◌, ◌≤◌, ◌<◌, ◌^◌, IfOk, length};
 ghost use Rattle.std.specs.List.{list_all};
+ghost use Rattle.scrub_report.specs.Answer.{IsPartitionOfPlanned};
 ghost use Rattle.scrub_report.specs.Scrubbed.{is_clean_item};
+ghost use Rattle.scrub_cli.specs.Answer.{IsVersionAnswer};
 ghost use Rattle.scrub_cli.specs.Lines.{lines_of, status_of_clean};
 ghost use Rattle.scrub_cli.specs.Scan.{IsDiskAnswer};
 ghost use Rattle.scrub_cli.specs.SizesTold.{AreSizesTold};
 ghost use Rattle.scrub_cli.specs.Superblock.{AreSuperblocksTold};
 ghost use Rattle.scrub_cli.specs.declared.answer.Wanted.TheVariants.{Report, Index, Locators, Reclaimable};
 
+use crate::command::VERSION;
 use scrub_disk::{OutOfMemory, PageSource, RawImage};
-use scrub_pool::NoGate;
+use scrub_pool::{NoGate, Takings};
 use scrub_report::{
     Accepted, ScrubFault, are_clean_items, list_locators, list_reclaimable, list_sizes,
     list_superblocks, scrub,
@@ -29,8 +32,6 @@ pub struct Answer {
     pub text: Vec<u8>,
     /// The status that the run ends with once all of it is written: 0 clean, 1 findings.
     pub status: u8,
-    /// How many workers scanned the disk beside the caller: 0 to 64, and 0 where one extent alone was read.
-    pub workers: u32,
 }
 
 /// What is wanted of a whole disk.
@@ -53,6 +54,16 @@ fn status_of(clean: bool) -> u8
     if clean { 0 } else { 1 }
 }
 
+/// The program's name and version.
+pub fn version(alloc: Global) -> Result<Answer, OutOfMemory>
+    ensures { IfOk result (λ a. IsVersionAnswer a.text.items a.status) }
+{
+    Ok(Answer {
+        text: Vec::from_slice(alloc, VERSION.as_bytes())?,
+        status: 0,
+    })
+}
+
 /// The lines of some items, each with a line feed.
 fn lines(alloc: Global, items: &[Item]) -> Result<Vec<u8>, OutOfMemory>
     ensures { IfOk result (λ text. text.items ≡ lines_of items.now) }
@@ -70,15 +81,10 @@ fn lines(alloc: Global, items: &[Item]) -> Result<Vec<u8>, OutOfMemory>
 pub fn listing(alloc: Global, items: &[Item]) -> Result<Answer, OutOfMemory>
     ensures text { IfOk result (λ a. a.text.items ≡ lines_of items.now) }
     ensures status { IfOk result (λ a. a.status ≡ status_of_clean (list_all is_clean_item items.now)) }
-    ensures workers { IfOk result (λ a. a.workers ≡ 0) }
 {
     let status = status_of(are_clean_items(items));
     let text = lines(alloc, items)?;
-    Ok(Answer {
-        text,
-        status,
-        workers: 0,
-    })
+    Ok(Answer { text, status })
 }
 
 /// The report of a disk, with its status. So many workers scan the disk beside the caller.
@@ -87,19 +93,16 @@ fn reported<R: Threads + Wait + Sync, D: PageSource>(
     alloc: Global,
     disk: &D,
     workers: u32,
-) -> Result<Answer, ScrubFault>
+) -> Result<(Answer, Takings), ScrubFault>
     requires { workers ≤ 64 }
-    ensures answer { IfOk result (λ a. IsDiskAnswer Report (D.image disk.now) a.text.items a.status) }
-    ensures workers { IfOk result (λ a. a.workers ≡ workers) }
+    ensures answer { IfOk result (λ r. IsDiskAnswer Report (D.image disk.now) r.0.text.items r.0.status) }
+    ensures workers { IfOk result (λ r. length r.1.lists ≡ workers + 1) }
+    ensures partition { IfOk result (λ r. IsPartitionOfPlanned (D.image disk.now) r.1.lists) }
 {
     let (found, takings) = scrub(rt, alloc, disk, workers, &NoGate)?;
     let status = status_of(found.is_clean());
     let text = found.into_report();
-    Ok(Answer {
-        text,
-        status,
-        workers: takings.workers(),
-    })
+    Ok((Answer { text, status }, takings))
 }
 
 /// The index that is recovered from a disk, with the status of its report.
@@ -108,19 +111,16 @@ fn recovered<R: Threads + Wait + Sync, D: PageSource>(
     alloc: Global,
     disk: &D,
     workers: u32,
-) -> Result<Answer, ScrubFault>
+) -> Result<(Answer, Takings), ScrubFault>
     requires { workers ≤ 64 }
-    ensures answer { IfOk result (λ a. IsDiskAnswer Index (D.image disk.now) a.text.items a.status) }
-    ensures workers { IfOk result (λ a. a.workers ≡ workers) }
+    ensures answer { IfOk result (λ r. IsDiskAnswer Index (D.image disk.now) r.0.text.items r.0.status) }
+    ensures workers { IfOk result (λ r. length r.1.lists ≡ workers + 1) }
+    ensures partition { IfOk result (λ r. IsPartitionOfPlanned (D.image disk.now) r.1.lists) }
 {
     let (found, takings) = scrub(rt, alloc, disk, workers, &NoGate)?;
     let status = status_of(found.is_clean());
     let text = found.into_index();
-    Ok(Answer {
-        text,
-        status,
-        workers: takings.workers(),
-    })
+    Ok((Answer { text, status }, takings))
 }
 
 /// The lines of a disk's named locators, with the status of its report.
@@ -129,19 +129,16 @@ fn listed<R: Threads + Wait + Sync, D: PageSource>(
     alloc: Global,
     disk: &D,
     workers: u32,
-) -> Result<Answer, ScrubFault>
+) -> Result<(Answer, Takings), ScrubFault>
     requires { workers ≤ 64 }
-    ensures answer { IfOk result (λ a. IsDiskAnswer Locators (D.image disk.now) a.text.items a.status) }
-    ensures workers { IfOk result (λ a. a.workers ≡ workers) }
+    ensures answer { IfOk result (λ r. IsDiskAnswer Locators (D.image disk.now) r.0.text.items r.0.status) }
+    ensures workers { IfOk result (λ r. length r.1.lists ≡ workers + 1) }
+    ensures partition { IfOk result (λ r. IsPartitionOfPlanned (D.image disk.now) r.1.lists) }
 {
     let (listing, takings) = list_locators(rt, alloc, disk, workers, &NoGate)?;
     let status = status_of(listing.is_clean);
     let text = listing.text;
-    Ok(Answer {
-        text,
-        status,
-        workers: takings.workers(),
-    })
+    Ok((Answer { text, status }, takings))
 }
 
 /// The lines of what may be reclaimed of a disk where some kinds of doubts are accepted.
@@ -151,34 +148,26 @@ fn reclaimable<R: Threads + Wait + Sync, D: PageSource>(
     disk: &D,
     workers: u32,
     accepted: Accepted,
-) -> Result<Answer, ScrubFault>
+) -> Result<(Answer, Takings), ScrubFault>
     requires { workers ≤ 64 }
-    ensures answer { IfOk result (λ a. IsDiskAnswer (Reclaimable accepted) (D.image disk.now) a.text.items a.status) }
-    ensures workers { IfOk result (λ a. a.workers ≡ workers) }
+    ensures answer { IfOk result (λ r. IsDiskAnswer (Reclaimable accepted) (D.image disk.now) r.0.text.items r.0.status) }
+    ensures workers { IfOk result (λ r. length r.1.lists ≡ workers + 1) }
+    ensures partition { IfOk result (λ r. IsPartitionOfPlanned (D.image disk.now) r.1.lists) }
 {
     let (listing, takings) = list_reclaimable(rt, alloc, disk, workers, &NoGate, accepted)?;
     let status = status_of(listing.is_clear);
     let text = listing.text;
-    Ok(Answer {
-        text,
-        status,
-        workers: takings.workers(),
-    })
+    Ok((Answer { text, status }, takings))
 }
 
 /// The lines of a disk's superblocks.
 pub fn superblock_listing<D: PageSource>(alloc: Global, disk: &D) -> Result<Answer, OutOfMemory>
-    ensures answer { IfOk result (λ a. AreSuperblocksTold (D.image disk.now) a.text.items a.status) }
-    ensures workers { IfOk result (λ a. a.workers ≡ 0) }
+    ensures { IfOk result (λ a. AreSuperblocksTold (D.image disk.now) a.text.items a.status) }
 {
     let listing = list_superblocks(alloc, disk)?;
     let status = status_of(listing.is_clean);
     let text = listing.text;
-    Ok(Answer {
-        text,
-        status,
-        workers: 0,
-    })
+    Ok(Answer { text, status })
 }
 
 /// The lines of the superblock records of a raw image, some blocks of which are marked as lost.
@@ -188,31 +177,27 @@ pub fn sizes_listing<R: RawImage>(
     marked: &[bool],
 ) -> Result<Answer, OutOfMemory>
     requires { R.reads raw.old < 2 ^ 62 }
-    ensures answer { IfOk result (λ a. AreSizesTold (record { bytes = R.bytes raw.old; most_failures = R.most_failures raw.old })
+    ensures { IfOk result (λ a. AreSizesTold (record { bytes = R.bytes raw.old; most_failures = R.most_failures raw.old })
         marked.now a.text.items a.status) }
-    ensures workers { IfOk result (λ a. a.workers ≡ 0) }
 {
     let listing = list_sizes(alloc, raw, marked)?;
     let status = status_of(listing.is_clean);
     let text = listing.text;
-    Ok(Answer {
-        text,
-        status,
-        workers: 0,
-    })
+    Ok(Answer { text, status })
 }
 
-/// What is wanted of a disk that this many workers scan beside the caller, with the status of its report.
+/// What is wanted of a disk that this many workers scan beside the caller, with its status, and who took which extents.
 pub fn disk_answer<R: Threads + Wait + Sync, D: PageSource>(
     rt: &R,
     alloc: Global,
     disk: &D,
     workers: u32,
     wanted: Wanted,
-) -> Result<Answer, ScrubFault>
+) -> Result<(Answer, Takings), ScrubFault>
     requires { workers ≤ 64 }
-    ensures answer { IfOk result (λ a. IsDiskAnswer wanted (D.image disk.now) a.text.items a.status) }
-    ensures workers { IfOk result (λ a. a.workers ≡ workers) }
+    ensures answer { IfOk result (λ r. IsDiskAnswer wanted (D.image disk.now) r.0.text.items r.0.status) }
+    ensures workers { IfOk result (λ r. length r.1.lists ≡ workers + 1) }
+    ensures partition { IfOk result (λ r. IsPartitionOfPlanned (D.image disk.now) r.1.lists) }
 {
     match wanted {
         Wanted::Report => reported(rt, alloc, disk, workers),

@@ -12,6 +12,7 @@ ghost use Rattle.scrub_cli.specs.Demo.{demo_shard, demo_pointers, IsDemoDisk, Is
 use crate::answer::{Answer, Wanted, disk_answer};
 use scrub_disk::{Geometry, MemDisk, OutOfMemory};
 use scrub_frame::{FrameFault, Locator, locate, write_frame};
+use scrub_pool::Takings;
 use scrub_report::ScrubFault;
 use scrub_run::{Entry, ShardId, write_run};
 use scrub_super::{Superblock, write_record};
@@ -88,10 +89,13 @@ fn demo_disk(alloc: Global) -> Result<MemDisk, OutOfMemory>
     Ok(disk)
 }
 
-/// The report of the demo's disk, which two workers scan beside the caller.
-pub fn demo<R: Threads + Wait + Sync>(rt: &R, alloc: Global) -> Result<Answer, ScrubFault>
-    ensures answer { IfOk result (λ a. IsDemoAnswer a.text.items a.status) }
-    ensures workers { IfOk result (λ a. a.workers ≡ 2) }
+/// The report of the demo's disk, which two workers scan beside the caller, and who took which extents.
+pub fn demo<R: Threads + Wait + Sync>(
+    rt: &R,
+    alloc: Global,
+) -> Result<(Answer, Takings), ScrubFault>
+    ensures answer { IfOk result (λ r. IsDemoAnswer r.0.text.items r.0.status) }
+    ensures workers { IfOk result (λ r. length r.1.lists ≡ 3) }
 {
     let disk = demo_disk(alloc)?;
     disk_answer(rt, alloc, &disk, WORKERS, Wanted::Report)

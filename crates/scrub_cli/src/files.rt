@@ -1,7 +1,8 @@
 //! Raw images and maps in files of the system. No contract says what a file holds: all that is known of an image is how
 //! often it was read, and how often that failed.
 
-ghost use Rattle.std.specs.Prelude.{◌≤◌, ◌^◌, None};
+ghost use Rattle.std.specs.Prelude.{◌↔◌, ◌⊎◌, ◌≤◌, ◌^◌, IsTrue, None};
+ghost use Rattle.scrub_cli.specs.FileKind.{IsBlockDevice, IsRegularFile};
 ghost use Rattle.scrub_cli.specs.Known.{file, map_file};
 
 use crate::images::{Images, MapReadFault};
@@ -9,7 +10,7 @@ use scrub_disk::{RawFault, RawImage};
 use std::alloc::Global;
 use std::fs::{File, Files, metadata};
 use std::io::{ErrorKind, Read};
-use std::os::unix::fs::{FileExt, FileTypeExt};
+use std::os::unix::fs::{FileExt, MetadataExt};
 
 /// A file that is read as a raw image.
 #[derive(Drop)]
@@ -46,11 +47,26 @@ impl RawImage for FileImage {
     }
 }
 
-/// The file or the block device of this path. Nothing else can be read whole, so nothing else is opened: not a directory,
-/// of which every read fails, and not a pipe, which would be waited for until somebody writes to it.
+/// The bits of a file's mode that say of which kind it is, as `stat` of POSIX has them, and two of the kinds.
+const KIND_BITS: u32 = 0o170000;
+
+const REGULAR_FILE: u32 = 0o100000;
+
+const BLOCK_DEVICE: u32 = 0o060000;
+
+/// Whether a file of this mode is opened. Nothing but a regular file and a block device can be read whole, so nothing else
+/// is: not a directory, of which every read fails, and not a pipe, which would be waited for until somebody writes to it.
+fn is_opened(mode: u32) -> bool
+    ensures { IsTrue result ↔ (IsRegularFile mode ⊎ IsBlockDevice mode) }
+{
+    let kind = mode & KIND_BITS;
+    kind == REGULAR_FILE || kind == BLOCK_DEVICE
+}
+
+/// The regular file or the block device of this path. A link is followed.
 fn open_readable<R: Files<File = File>>(runtime: &R, name: &str) -> Option<File> {
-    let kind = metadata(runtime, name).ok()?.file_type();
-    if !kind.is_file() && !kind.is_block_device() {
+    let mode = metadata(runtime, name).ok()?.mode();
+    if !is_opened(mode) {
         return None;
     }
     File::open(runtime, name).ok()
@@ -93,8 +109,31 @@ impl<R: Files<File = File>> Images for NamedFiles<'_, R> {
 
 #[cfg(test)]
 mod tests {
-    use super::NamedFiles;
+    use super::{NamedFiles, is_opened};
     use crate::images::{Images, MapReadFault};
+
+    /// The numbers are those of `inode(7)` of Linux: the kind, then the permissions, also with the set-user-ID, set-group-ID
+    /// and sticky bits.
+    #[test]
+    fn of_all_kinds_of_files_two_are_opened(rt: HostRuntime) {
+        for (mode, wanted) in [
+            (0o100644, true),
+            (0o100000, true),
+            (0o107777, true),
+            (0o060660, true),
+            (0o060000, true),
+            (0o067777, true),
+            (0o040755, false),
+            (0o020666, false),
+            (0o010644, false),
+            (0o140777, false),
+            (0o120777, false),
+            (0o160000, false),
+            (0o000777, false),
+        ] {
+            assert!(rt; is_opened(mode) == wanted, "{mode}");
+        }
+    }
 
     #[test]
     fn neither_a_folder_nor_a_device_without_blocks_nor_a_name_without_a_file_is_an_image_or_a_map(

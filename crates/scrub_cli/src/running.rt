@@ -1,22 +1,50 @@
 //! A run of the program: words in, an answer and a status out.
 
-ghost use Rattle.std.specs.Prelude.{MatchResult};
+ghost use Rattle.std.specs.Prelude.{◌≤◌, IfOk, MatchResult};
 ghost use Rattle.scrub_cli.specs.Answer.{IsAnswerOfRun, IsFault, RunWrites, WritesAnswer};
+ghost use Rattle.scrub_cli.specs.Demo.{IsDemoAnswer};
+ghost use Rattle.scrub_cli.specs.Scan.{IsScanAnswer, IsScanFault};
 ghost use Rattle.scrub_cli.specs.Words.{texts};
 
-use crate::answer::{Answer, Wanted};
+use crate::answer::{Answer, Wanted, version};
 use crate::demo::demo;
 use crate::fault::Fault;
 use crate::images::Images;
 use crate::items::items;
 use crate::scan::{scan, superblocks};
 use crate::sizes::sizes;
-use crate::words::{Request, read_words};
-use scrub_report::write_out;
+use crate::words::{Request, ScanWords, read_words};
+use scrub_report::{ScrubFault, write_out};
 use std::alloc::Global;
 use std::io::Write;
 use std::sync::Wait;
 use std::thread::Threads;
+
+/// The answer of `demo`. Who took which extents is dropped.
+fn demo_answer<R: Threads + Wait + Sync>(rt: &R, alloc: Global) -> Result<Answer, ScrubFault>
+    ensures { IfOk result (λ a. IsDemoAnswer a.text.items a.status) }
+{
+    let (answer, _takings) = demo(rt, alloc)?;
+    Ok(answer)
+}
+
+/// The answer of a command that scans a disk. Who took which extents is dropped.
+fn scan_answer<'a, R: Threads + Wait + Sync, I: Images>(
+    rt: &R,
+    alloc: Global,
+    words: &ScanWords<'a>,
+    images: &mut I,
+    wanted: Wanted,
+) -> Result<Answer, Fault<'a>>
+    requires { words.now.workers ≤ 64 }
+    ensures { MatchResult result
+        (λ a. IsScanAnswer wanted (I.known images.old words.now.image.name.now) (I.known_map images.old) words.now.image
+        a.text.items a.status)
+        (IsScanFault (I.known images.old words.now.image.name.now) (I.known_map images.old) words.now.image) }
+{
+    let (answer, _takings) = scan(rt, alloc, words, images, wanted)?;
+    Ok(answer)
+}
 
 /// The answer of the command that the words name, whole and in memory.
 fn answer<'a, R: Threads + Wait + Sync, I: Images>(
@@ -30,13 +58,13 @@ fn answer<'a, R: Threads + Wait + Sync, I: Images>(
         (IsFault (I.known images.old) (I.known_map images.old) (texts words.entry.now)) }
 {
     match read_words(alloc, words)? {
-        Request::Demo => Ok(demo(rt, alloc)?),
+        Request::Demo => Ok(demo_answer(rt, alloc)?),
         Request::Items(words) => items(alloc, &words, images),
-        Request::Scan(words) => scan(rt, alloc, &words, images, Wanted::Report),
-        Request::Index(words) => scan(rt, alloc, &words, images, Wanted::Index),
-        Request::Locators(words) => scan(rt, alloc, &words, images, Wanted::Locators),
+        Request::Scan(words) => scan_answer(rt, alloc, &words, images, Wanted::Report),
+        Request::Index(words) => scan_answer(rt, alloc, &words, images, Wanted::Index),
+        Request::Locators(words) => scan_answer(rt, alloc, &words, images, Wanted::Locators),
         Request::Reclaimable(words) => {
-            scan(
+            scan_answer(
                 rt,
                 alloc,
                 &words.scan,
@@ -46,6 +74,7 @@ fn answer<'a, R: Threads + Wait + Sync, I: Images>(
         }
         Request::Superblocks(words) => superblocks(alloc, &words, images),
         Request::Sizes(words) => sizes(alloc, &words, images),
+        Request::Version => Ok(version(alloc)?),
     }
 }
 

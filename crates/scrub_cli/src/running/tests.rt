@@ -16,6 +16,7 @@ use std::test::Fail;
 use std::thread::Threads;
 use uuid::Uuid;
 
+mod no_bytes;
 mod scans;
 
 /// The frame of `abc` under the UUID of sixteen bytes 11.
@@ -459,6 +460,15 @@ fn words_that_are_no_command_are_refused(rt: HostRuntime) -> Result<(), Fail> {
         "sizes disk.img 1:0",
     ] {
         check_text(&rt, rt.alloc(), words, (2, "error: "))?;
+    }
+    Ok(())
+}
+
+#[test]
+fn the_version_goes_to_the_output(rt: HostRuntime) -> Result<(), Fail> {
+    for words in ["--version", "-V"] {
+        let wanted = (0, "shardscrub 1.0.0\n", "");
+        check(&rt, rt.alloc(), words, image(&[]), wanted)?;
     }
     Ok(())
 }

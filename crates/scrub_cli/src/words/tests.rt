@@ -42,6 +42,18 @@ fn no_words_and_the_word_demo_ask_for_the_demo(rt: HostRuntime) -> Result<(), Fa
 }
 
 #[test]
+fn the_version(rt: HostRuntime) -> Result<(), Fail> {
+    for words in ["--version", "-V", "--version demo"] {
+        let split: Vec<&str> = words.split_whitespace().collect(rt.alloc())?;
+        assert!(rt;
+            matches!(read_words(rt.alloc(), &split)?, Request::Version),
+            "{words}"
+        );
+    }
+    Ok(())
+}
+
+#[test]
 fn items_with_all_options(rt: HostRuntime) -> Result<(), Fail> {
     let words = "items --page 64 --pages 4 --extents 3 --extent 1 --pointer 41 disk.img 1:3 x 2:0";
     let split: Vec<&str> = words.split_whitespace().collect(rt.alloc())?;
@@ -152,6 +164,8 @@ fn a_refusal_says_what_is_wrong(rt: HostRuntime) -> Result<(), Fail> {
             "invalid value 'tie' for '--accept <KIND>'",
         ),
         ("sizes --map disk.map", "<IMAGE>"),
+        ("demo --version", "--version"),
+        ("version", "'version'"),
         ("sizes x --map a --map b", "--map"),
     ] {
         let text = refusal(&rt, words)?;

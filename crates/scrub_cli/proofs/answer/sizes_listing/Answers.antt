@@ -2,8 +2,8 @@
 use Rattle.std.proofs.Common.{arith, ◌-◌}
 use Rattle.scrub_cli.proofs.answer.sizes_listing.Goals as goal
 
-pub returns-clause-answer : goal.returns-clause-answer
-returns-clause-answer g c =
+pub returns : goal.returns
+returns g c =
     let listing = c.in_ok-listing.listing in
     let bound = g.met.R.RawImage.failures_are_bounded c.list_sizes.new.raw in
     let same = c.in_ok-listing.ensures.same_bound in

@@ -11,35 +11,35 @@ returns-in-Items g c =
     answered (g.I.Images.known c.args.images.now) (g.I.Images.known_map c.args.images.now) (map (λ word. word.now) c.args.words.now) (Items c.in-Items.words) c.items.result
     (rw c.in-Items.is at c.in_ok-read_words.ensures) c.items.ensures
 
-pub scan-requires : goal.scan-requires
-scan-requires g c =
+pub scan_answer-requires : goal.scan_answer-requires
+scan_answer-requires g c =
     let asked : AskFor (map (λ word. word.now) c.args.words.now) (Scan c.in-Scan.words) = rw c.in-Scan.is at c.in_ok-read_words.ensures in
     (search rules, few_workers asked.1.0 c.in-Scan.words.workers asked.1.2.workers)
 
-pub scan-requires-in-Index : goal.scan-requires-in-Index
-scan-requires-in-Index g c =
+pub scan_answer-requires-in-Index : goal.scan_answer-requires-in-Index
+scan_answer-requires-in-Index g c =
     let asked : AskFor (map (λ word. word.now) c.args.words.now) (Index c.in-Index.words) = rw c.in-Index.is at c.in_ok-read_words.ensures in
     (search rules, few_workers asked.1.0 c.in-Index.words.workers asked.1.2.workers)
 
-pub scan-requires-in-Locators : goal.scan-requires-in-Locators
-scan-requires-in-Locators g c =
+pub scan_answer-requires-in-Locators : goal.scan_answer-requires-in-Locators
+scan_answer-requires-in-Locators g c =
     let asked : AskFor (map (λ word. word.now) c.args.words.now) (Locators c.in-Locators.words) = rw c.in-Locators.is at c.in_ok-read_words.ensures in
     (search rules, few_workers asked.1.0 c.in-Locators.words.workers asked.1.2.workers)
 
 pub returns-in-Scan : goal.returns-in-Scan
 returns-in-Scan g c =
-    answered (g.I.Images.known c.args.images.now) (g.I.Images.known_map c.args.images.now) (map (λ word. word.now) c.args.words.now) (Scan c.in-Scan.words) c.scan.result
-    (rw c.in-Scan.is at c.in_ok-read_words.ensures) c.scan.ensures.answer
+    answered (g.I.Images.known c.args.images.now) (g.I.Images.known_map c.args.images.now) (map (λ word. word.now) c.args.words.now) (Scan c.in-Scan.words) c.scan_answer.result
+    (rw c.in-Scan.is at c.in_ok-read_words.ensures) c.scan_answer.ensures
 
 pub returns-in-Index : goal.returns-in-Index
 returns-in-Index g c =
-    answered (g.I.Images.known c.args.images.now) (g.I.Images.known_map c.args.images.now) (map (λ word. word.now) c.args.words.now) (Index c.in-Index.words) c.scan-in-Index.result
-    (rw c.in-Index.is at c.in_ok-read_words.ensures) c.scan-in-Index.ensures.answer
+    answered (g.I.Images.known c.args.images.now) (g.I.Images.known_map c.args.images.now) (map (λ word. word.now) c.args.words.now) (Index c.in-Index.words) c.scan_answer-in-Index.result
+    (rw c.in-Index.is at c.in_ok-read_words.ensures) c.scan_answer-in-Index.ensures
 
 pub returns-in-Locators : goal.returns-in-Locators
 returns-in-Locators g c =
-    answered (g.I.Images.known c.args.images.now) (g.I.Images.known_map c.args.images.now) (map (λ word. word.now) c.args.words.now) (Locators c.in-Locators.words) c.scan-in-Locators.result
-    (rw c.in-Locators.is at c.in_ok-read_words.ensures) c.scan-in-Locators.ensures.answer
+    answered (g.I.Images.known c.args.images.now) (g.I.Images.known_map c.args.images.now) (map (λ word. word.now) c.args.words.now) (Locators c.in-Locators.words) c.scan_answer-in-Locators.result
+    (rw c.in-Locators.is at c.in_ok-read_words.ensures) c.scan_answer-in-Locators.ensures
 
 pub returns-in-Superblocks : goal.returns-in-Superblocks
 returns-in-Superblocks g c =
@@ -51,12 +51,12 @@ returns-in-Sizes g c =
     answered (g.I.Images.known c.args.images.now) (g.I.Images.known_map c.args.images.now) (map (λ word. word.now) c.args.words.now) (Sizes c.in-Sizes.words) c.sizes.result
     (rw c.in-Sizes.is at c.in_ok-read_words.ensures) c.sizes.ensures
 
-pub scan-requires-in-Reclaimable : goal.scan-requires-in-Reclaimable
-scan-requires-in-Reclaimable g c =
+pub scan_answer-requires-in-Reclaimable : goal.scan_answer-requires-in-Reclaimable
+scan_answer-requires-in-Reclaimable g c =
     let asked : AskFor (map (λ word. word.now) c.args.words.now) (Reclaimable c.in-Reclaimable.words) = rw c.in-Reclaimable.is at c.in_ok-read_words.ensures in
     (search rules, few_workers asked.1.0 c.in-Reclaimable.words.scan.workers asked.1.2.scan.workers)
 
 pub returns-in-Reclaimable : goal.returns-in-Reclaimable
 returns-in-Reclaimable g c =
     answered (g.I.Images.known c.args.images.now) (g.I.Images.known_map c.args.images.now) (map (λ word. word.now) c.args.words.now) (Reclaimable c.in-Reclaimable.words)
-    c.scan-in-Reclaimable.result (rw c.in-Reclaimable.is at c.in_ok-read_words.ensures) c.scan-in-Reclaimable.ensures.answer
+    c.scan_answer-in-Reclaimable.result (rw c.in-Reclaimable.is at c.in_ok-read_words.ensures) c.scan_answer-in-Reclaimable.ensures

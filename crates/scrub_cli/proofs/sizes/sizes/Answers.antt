@@ -27,5 +27,5 @@ returns g c =
       marked = c.in_ok-marked.ensures map.blocks map.keeps;
       told = subst (λ marks. AreSizesTold known marks c.in_ok-sizes_listing.field-0.text.items c.in_ok-sizes_listing.field-0.status) c.deref.ensures.value
           (told_as_known known _ _ _ _ _ (c.in-Some.ensures.told ∙ ap (λ k. k.bytes) same) (c.in-Some.ensures.bounded ∙ ap (λ k. k.most_failures) same)
-          c.in_ok-sizes_listing.ensures.answer);
+          c.in_ok-sizes_listing.ensures);
     }

@@ -1,0 +1,85 @@
+//! The scan of a file of no bytes: how often it is read, and the report of a disk on which no page is readable.
+
+ghost use Rattle.std.specs.Prelude.{[], Some, None};
+
+use crate::images::{Images, MapReadFault};
+use crate::running::run;
+use scrub_disk::{RawFault, RawImage};
+use scrub_fakes::RawBytes;
+use scrub_fakes::published::ZEROS;
+use std::alloc::Global;
+use std::sync::atomic::{AtomicU64, Ordering};
+use std::test::Fail;
+
+/// The raw image of no bytes. Its reads are counted where the test sees them.
+#[derive(Drop)]
+struct NoBytes<'a> {
+    raw: RawBytes<'a>,
+    reads: &'a AtomicU64,
+}
+
+impl RawImage for NoBytes<'_> {
+    ghost bytes = { λ image. Some image.raw.bytes.now };
+
+    ghost reads = { λ image. image.raw.reads };
+
+    ghost failures = { λ image. image.raw.failures };
+
+    ghost most_failures = { λ image. image.raw.faults };
+
+    ghost failures_are_reads = { λ image. image.raw.counted };
+
+    ghost failures_are_bounded = { λ image. image.raw.bounded };
+
+    fn read_at(&mut self, offset: u64, out: &mut [u8]) -> Result<usize, RawFault> {
+        self.reads.fetch_add(1, Ordering::SeqCst);
+        self.raw.read_at(offset, out)
+    }
+}
+
+/// That image under each name, and no map.
+#[derive(Drop)]
+struct EmptyFile<'a> {
+    reads: &'a AtomicU64,
+}
+
+impl<'a> Images for EmptyFile<'a> {
+    type Image = NoBytes<'a>;
+
+    ghost known = { λ _ _. record { bytes = Some []; most_failures = 0 } };
+
+    ghost known_map = { λ _ _. None };
+
+    fn image(&mut self, _name: &str) -> Option<NoBytes<'a>> {
+        let raw = RawBytes::new(&[]);
+        Some(NoBytes {
+            raw,
+            reads: self.reads,
+        })
+    }
+
+    fn map(&mut self, _alloc: Global, _name: &str) -> Result<Vec<u8>, MapReadFault> {
+        Err(MapReadFault::NotOpened)
+    }
+}
+
+/// Each of the 12 pages is asked for once, and what is behind them once. The report is that of a disk of zeros, except that
+/// all items are lost and all pages unreadable.
+#[test]
+fn a_file_of_no_bytes_is_a_disk_of_lost_pages(rt: HostRuntime) -> Result<(), Fail> {
+    let alloc = rt.alloc();
+    let lost = ZEROS
+        .replace(alloc, "pad", "lost")?
+        .replace(alloc, r#""bad":[]"#, r#""bad":[0,1,2,3]"#)?;
+    let words: Vec<&str> = "scan --page 64 --pages 4 --extents 3 disk.img"
+        .split_whitespace()
+        .collect(alloc)?;
+    let reads = AtomicU64::new(0);
+    let mut images = EmptyFile { reads: &reads };
+    let (mut out, mut err) = (Vec::new(alloc), Vec::new(alloc));
+    let status = run(&rt, alloc, &words, &mut images, &mut out, &mut err);
+    assert_eq!(rt; (status, str::from_utf8(&out)?), (1, lost.as_str()));
+    assert!(rt; err.is_empty());
+    assert_eq!(rt; reads.load(Ordering::SeqCst), 13);
+    Ok(())
+}
