@@ -7,7 +7,9 @@ use crate::disks::{
 use crate::ending::{Stop, Wanted, right};
 use crate::runs::is_one_shard;
 use scrub_check::{ReadRuns, RunState};
+use scrub_disk::MemDisk;
 use scrub_fakes::{SHARD, plan_of};
+use scrub_frame::Locator;
 use scrub_merge::merge;
 use scrub_run::Run;
 use scrub_scan::scan_in_order;
@@ -89,5 +91,29 @@ pub fn check_all<R: Threads + Sync>(rt: &R, alloc: Global, wanted: Wanted) -> Re
     let named = names_in(alloc, &judged)?;
     wanted.made()?;
     let checked = scrub_check::check_all(rt, alloc, &disk, &plan, &all, &named)?;
+    right(checked.as_slice() == judged.as_slice())
+}
+
+/// The same, where the run was read before.
+pub fn check_named<R: Threads + Sync>(rt: &R, alloc: Global, wanted: Wanted) -> Result<(), Stop> {
+    let (disk, run) = nine_locators(alloc)?;
+    check_named_on(rt, alloc, wanted, &disk, run)
+}
+
+/// What the locators are worth that a disk with this run names.
+fn check_named_on<R: Threads + Sync>(
+    rt: &R,
+    alloc: Global,
+    wanted: Wanted,
+    disk: &MemDisk,
+    run: Locator,
+) -> Result<(), Stop> {
+    let plan = plan_of(alloc, disk)?;
+    let all = scan_in_order(alloc, disk, &plan)?;
+    let read = scrub_check::read_runs(alloc, disk, &plan, &all)?;
+    let judged = judged_names(alloc, run)?;
+    let named = names_in(alloc, &judged)?;
+    wanted.made()?;
+    let checked = scrub_check::check_named(rt, alloc, disk, &plan, &all, read.states(), &named)?;
     right(checked.as_slice() == judged.as_slice())
 }

@@ -9,11 +9,11 @@ use scrub_check::{Checked, Named, Owner, Status};
 use scrub_disk::{Geometry, MemDisk};
 use scrub_fakes::{
     ENDS_IN_MAGIC, FOURS, ONES, SHARD, THREES, TWOS, abc_at, mark_bad, plan_of, put_chunk,
-    put_superblock, shard_of, small_disk,
+    put_contents, put_superblock, shard_of, small_disk,
 };
 use scrub_frame::{Locator, digest_of, write_locator};
 use scrub_run::ShardId;
-use scrub_super::Plan;
+use scrub_super::{Plan, Superblock};
 use std::alloc::Global;
 use std::slice;
 use uuid::Uuid;
@@ -81,7 +81,23 @@ pub fn four_extents(alloc: Global) -> Result<MemDisk, Stop>
     Ok(MemDisk::blank(alloc, Geometry::new(64, 4, 4)?)?)
 }
 
-/// The plan of such a disk, restricted to extents 1 and 3.
+/// A disk of four extents with `abc` in extent 1, the run of one shard that names it in extent 2, and a superblock that
+/// retires extent 3. The run's locator comes with it.
+pub fn one_retired(alloc: Global) -> Result<(MemDisk, Locator), Stop> {
+    let mut disk = four_extents(alloc)?;
+    put_chunk(alloc, &mut disk, 1, 0, ONES, b"abc")?;
+    let run = put_run(alloc, &mut disk, 2, 0, TWOS, &[abc_at(1, 0)])?;
+    let superblock = Superblock::with_retired(
+        1,
+        Vec::from_slice(alloc, &[41, 155, 0])?,
+        Vec::from_slice(alloc, &[3])?,
+        Vec::from_slice(alloc, slice::from_ref(&run))?,
+    );
+    put_contents(alloc, &mut disk, 0, &superblock)?;
+    Ok((disk, run))
+}
+
+/// The plan of a disk of four extents without a superblock, restricted to extents 1 and 3.
 pub fn restricted(alloc: Global, disk: &MemDisk, wanted: Wanted) -> Result<Plan, Stop>
     requires { (image_of disk.now).geometry.extents ≡ 4 }
     ensures { IfOk result (λ plan. plan.geometry ≡ (image_of disk.now).geometry) }

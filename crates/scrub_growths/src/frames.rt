@@ -1,9 +1,9 @@
-//! Frames of both forms that are appended, beside their bytes field by field.
+//! Frames of both forms that are appended, beside their bytes field by field; and locators that are read.
 
 use crate::disks::one_shard_payload;
 use crate::ending::{Stop, Wanted, refused, right};
-use scrub_fakes::{ABC_DIGEST, ONES, TWOS};
-use scrub_frame::FrameFault;
+use scrub_fakes::{ABC_DIGEST, ONES, TWOS, abc_at};
+use scrub_frame::{FrameFault, write_locator};
 use std::alloc::Global;
 use uuid::Uuid;
 
@@ -65,4 +65,19 @@ pub fn write_sealed(alloc: Global, wanted: Wanted) -> Result<(), Stop> {
     let answer = scrub_frame::write_sealed(&mut out, Uuid::from_bytes(ONES), b"abc");
     appended(answer, &out)?;
     right(out.as_slice() == frame.as_slice())
+}
+
+/// Three locators, which were written one after another.
+pub fn read_locators(alloc: Global, wanted: Wanted) -> Result<(), Stop> {
+    let locators = [abc_at(1, 0), abc_at(2, 41), abc_at(1, 82)];
+    let mut bytes = Vec::new(alloc);
+    for locator in &locators {
+        bytes.extend_from_slice(&write_locator(locator))?;
+    }
+    if bytes.len() != 180 {
+        return Err(Stop::Wrong);
+    }
+    wanted.made()?;
+    let read = scrub_frame::read_locators(alloc, &bytes, 3)?;
+    right(read.as_slice() == locators.as_slice())
 }

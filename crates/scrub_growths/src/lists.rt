@@ -3,7 +3,7 @@
 
 use crate::disks::{judged_names, nine_locators, twins_and_shared};
 use crate::ending::{Stop, Wanted, right};
-use scrub_check::{Place, SharedPlace};
+use scrub_check::{Candidate, Place, SharedPlace};
 use scrub_fakes::{ONES, SHARD, plan_of};
 use scrub_scan::scan_in_order;
 use std::alloc::Global;
@@ -36,6 +36,16 @@ pub fn broken_shards(alloc: Global, wanted: Wanted) -> Result<(), Stop> {
     right(broken.as_slice() == [SHARD].as_slice())
 }
 
+/// How many bytes are live in the extents of the disk of twins and a shared place: one chunk of two, and the run.
+const LIVE: [u32; 2] = [41, 232];
+
+/// The shared place of that disk.
+const SHARED: SharedPlace = SharedPlace {
+    extent: 1,
+    offset: 41,
+    count: 2,
+};
+
 /// The place of an `abc` in extent 1.
 fn abc_place(offset: u32) -> Place {
     Place {
@@ -44,6 +54,16 @@ fn abc_place(offset: u32) -> Place {
         length: 3,
         uuid: Uuid::from_bytes(ONES),
     }
+}
+
+/// How many bytes are live in each extent.
+pub fn all_live_bytes(alloc: Global, wanted: Wanted) -> Result<(), Stop> {
+    let (disk, checked) = twins_and_shared(alloc)?;
+    let plan = plan_of(alloc, &disk)?;
+    let all = scan_in_order(alloc, &disk, &plan)?;
+    wanted.made()?;
+    let live = scrub_check::all_live_bytes(alloc, &all, &checked)?;
+    right(live.as_slice() == LIVE.as_slice())
 }
 
 /// The chunk that no locator names.
@@ -71,12 +91,15 @@ pub fn shared(alloc: Global, wanted: Wanted) -> Result<(), Stop> {
     let (_, checked) = twins_and_shared(alloc)?;
     wanted.made()?;
     let shared = scrub_check::shared(alloc, &checked)?;
-    let place = SharedPlace {
-        extent: 1,
-        offset: 41,
-        count: 2,
-    };
-    right(shared.as_slice() == [place].as_slice())
+    right(shared.as_slice() == [SHARED].as_slice())
+}
+
+/// Whether the extent that is half live is the one candidate.
+fn is_half_live(candidates: &[Candidate]) -> bool {
+    match candidates {
+        [one] => one.extent() == 1 && one.free() == 41 && one.keep() == [41].as_slice(),
+        _ => false,
+    }
 }
 
 /// The extent that is half live.
@@ -86,8 +109,20 @@ pub fn candidates(alloc: Global, wanted: Wanted) -> Result<(), Stop> {
     let all = scan_in_order(alloc, &disk, &plan)?;
     wanted.made()?;
     let candidates = scrub_check::candidates(alloc, &plan, &all, &checked, false)?;
-    match candidates.as_slice() {
-        [one] => { right(one.extent() == 1 && one.free() == 41 && one.keep() == [41].as_slice()) }
-        _ => Err(Stop::Wrong),
-    }
+    right(is_half_live(&candidates))
+}
+
+/// All that follows from which chunks are live, at once.
+pub fn liveness_of(alloc: Global, wanted: Wanted) -> Result<(), Stop> {
+    let (disk, checked) = twins_and_shared(alloc)?;
+    let plan = plan_of(alloc, &disk)?;
+    let all = scan_in_order(alloc, &disk, &plan)?;
+    wanted.made()?;
+    let told = scrub_check::liveness_of(alloc, &plan, &all, &checked, false)?;
+    right(
+        told.live.as_slice() == LIVE.as_slice()
+            && told.orphans.as_slice() == [abc_place(0)].as_slice()
+            && told.shared.as_slice() == [SHARED].as_slice()
+            && is_half_live(&told.candidates),
+    )
 }

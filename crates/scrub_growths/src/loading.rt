@@ -1,9 +1,9 @@
-//! Disks in memory, blank or loaded, page by page; and the superblocks of raw bytes.
+//! Disks in memory, blank or loaded, page by page; extents that are read whole; and the superblocks of raw bytes.
 
 use crate::disks::one_shard;
 use crate::ending::{Stop, Wanted, right};
 use scrub_disk::{MemDisk, PageSource};
-use scrub_fakes::{RawBytes, small_geometry};
+use scrub_fakes::{RawBytes, mark_bad, small_geometry};
 use scrub_super::{FoundRecord, LostBytes, RecordKind};
 use std::alloc::Global;
 
@@ -69,7 +69,32 @@ pub fn load(alloc: Global, wanted: Wanted) -> Result<(), Stop> {
     right(has_bytes(&of_short, &bytes, [10, 11]) && has_bytes(&of_failing, &bytes, [4, NONE]))
 }
 
-/// The superblock of those bytes, whose second block of 512 is marked as lost.
+/// Extent 2 of the disk with one shard, of which page 1 is unreadable.
+pub fn read_extent(alloc: Global, wanted: Wanted) -> Result<(), Stop> {
+    let bytes = one_shard_bytes(alloc)?;
+    let (mut disk, _) = one_shard(alloc)?;
+    mark_bad(&mut disk, 2, 1)?;
+    if disk.geometry().extents() <= 2 {
+        return Err(Stop::Wrong);
+    }
+    wanted.made()?;
+    let extent = scrub_disk::read_extent(alloc, &disk, 2)?;
+    right(
+        extent.readable.as_slice() == [true, false, true, true].as_slice()
+            && extent.bytes.len() == 256
+            && extent.bytes.get(..64) == bytes.get(512..576)
+            && extent.bytes.get(128..) == bytes.get(640..768),
+    )
+}
+
+/// The pages of five that could not be read.
+pub fn unreadable_pages(alloc: Global, wanted: Wanted) -> Result<(), Stop> {
+    wanted.made()?;
+    let pages = scrub_disk::unreadable_pages(alloc, &[false, true, false, true, false])?;
+    right(pages.as_slice() == [0, 2, 4].as_slice())
+}
+
+/// The superblock of the bytes of the disk with one shard, whose second block of 512 is marked as lost.
 pub fn find_superblocks(alloc: Global, wanted: Wanted) -> Result<(), Stop> {
     let bytes = one_shard_bytes(alloc)?;
     let mut raw = RawBytes::new(&bytes);

@@ -1,6 +1,6 @@
 //! Tries every call that can lack memory on small values, so that a script can refuse each of its growths in turn. The
-//! first word names a call; for those that start workers the second one says how many scan beside the caller. The
-//! word behind is `answered`, or `made` where the values of the call are to be made and no more. Prints `right`, with status
+//! first word names a call. For those that start workers the second one says how many scan beside the caller, and for
+//! superblocks of the second kind it is `SSB2`. The word behind is `answered`, or `made` where the values of the call are to be made and no more. Prints `right`, with status
 //! 0, where the answer is the right one whole; `out of memory`, with status 4, where a growth was refused; and else `wrong`,
 //! with status 1. Without words each call is made once, and its line begins with its name. The word `calls` lists the
 //! calls. Which growths are refused is left to `bench/growths.py`.
@@ -21,7 +21,7 @@ mod runs;
 mod scans;
 mod takings;
 
-use crate::calls::{CALLS, Call, ended};
+use crate::calls::{Call, NamedCall, ended, first_calls, other_calls};
 use crate::ending::{Stop, Wanted};
 use scrub_report::{WriteFault, write_out};
 use std::env::Env;
@@ -75,16 +75,21 @@ fn wanted_by(words: &[String]) -> Option<(Call, Wanted)> {
     Some((named_by(names)?, wanted))
 }
 
-/// The call of this name and, where it has one, this number of workers.
+/// The call of this name and, where it has one, this second word.
 fn named_by(names: &[String]) -> Option<Call> {
-    let (name, workers) = match names {
+    let (name, second) = match names {
         [name] => (name.as_str(), ""),
-        [name, workers] => (name.as_str(), workers.as_str()),
+        [name, second] => (name.as_str(), second.as_str()),
         _ => return None,
     };
-    for (known, count, call) in CALLS {
-        if known == name && count == workers {
-            return Some(call);
+    named_in(&first_calls(), name, second).or_else(|| named_in(&other_calls(), name, second))
+}
+
+/// The call of this name and this second word among some.
+fn named_in(calls: &[NamedCall], name: &str, second: &str) -> Option<Call> {
+    for (known, other, call) in calls {
+        if *known == name && *other == second {
+            return Some(*call);
         }
     }
     None
@@ -103,20 +108,24 @@ fn tell<O: Write>(ending: Result<(), Stop>, out: &mut O) -> u8 {
     }
 }
 
-/// Writes the name of a call and its number of workers, if it has one.
-fn write_name<O: Write>(out: &mut O, name: &str, workers: &str) -> Result<(), WriteFault> {
+/// Writes the name of a call and its second word, if it has one.
+fn write_name<O: Write>(out: &mut O, name: &str, second: &str) -> Result<(), WriteFault> {
     write_out(out, name.as_bytes())?;
-    if !workers.is_empty() {
+    if !second.is_empty() {
         write_out(out, b" ")?;
-        write_out(out, workers.as_bytes())?;
+        write_out(out, second.as_bytes())?;
     }
     Ok(())
 }
 
 /// Writes the words that name each call, in a line each.
 fn list<O: Write>(out: &mut O) -> u8 {
-    for (name, workers, _) in CALLS {
-        if write_name(out, name, workers).is_err() || write_out(out, b"\n").is_err() {
+    list_in(&first_calls(), out).max(list_in(&other_calls(), out))
+}
+
+fn list_in<O: Write>(calls: &[NamedCall], out: &mut O) -> u8 {
+    for (name, second, _) in calls {
+        if write_name(out, name, second).is_err() || write_out(out, b"\n").is_err() {
             return 1;
         }
     }
@@ -125,12 +134,20 @@ fn list<O: Write>(out: &mut O) -> u8 {
 
 /// Makes each call once and writes how it ended. Gives the greatest status.
 fn all<R: AllocGlobal + Threads + Wait + Sync, O: Write>(rt: &R, out: &mut O) -> u8 {
+    all_in(rt, &first_calls(), out).max(all_in(rt, &other_calls(), out))
+}
+
+fn all_in<R: AllocGlobal + Threads + Wait + Sync, O: Write>(
+    rt: &R,
+    calls: &[NamedCall],
+    out: &mut O,
+) -> u8 {
     let mut status = 0;
-    for (name, workers, call) in CALLS {
-        if write_name(out, name, workers).is_err() || write_out(out, b" ").is_err() {
+    for (name, second, call) in calls {
+        if write_name(out, name, second).is_err() || write_out(out, b" ").is_err() {
             return 1;
         }
-        status = status.max(tell(ended(rt, rt.alloc(), call, Wanted::Answer), out));
+        status = status.max(tell(ended(rt, rt.alloc(), *call, Wanted::Answer), out));
     }
     status
 }

@@ -1,6 +1,6 @@
-//! Index runs that are written, beside their bytes field by field, or read, and what their merging binds.
+//! Index runs that are written, beside their bytes field by field, read or copied, and what their merging binds.
 
-use crate::disks::{one_shard_payload, payload_of};
+use crate::disks::{one_shard_payload, payload_of, two_shards_payload};
 use crate::ending::{Stop, Wanted, right};
 use scrub_fakes::published::NO_SHARDS;
 use scrub_fakes::{SHARD, abc_at};
@@ -56,6 +56,22 @@ pub fn read_run(alloc: Global, wanted: Wanted) -> Result<(), Stop> {
     right(is_one_shard(&run) && none.entries().is_empty())
 }
 
+/// A copy of the run of two shards.
+pub fn copy_run(alloc: Global, wanted: Wanted) -> Result<(), Stop> {
+    let run = scrub_run::read_run(alloc, &two_shards_payload(alloc)?)?;
+    wanted.made()?;
+    let copy = run.copy(alloc)?;
+    match (run.entries(), copy.entries()) {
+        ([first, second], [one, other]) => right(
+            one.id() == first.id()
+                && one.locators() == first.locators()
+                && other.id() == second.id()
+                && other.locators() == second.locators(),
+        ),
+        _ => Err(Stop::Wrong),
+    }
+}
+
 /// Runs of the shard alone, newest first: one that is told here as its deletion, its chunk, or lost.
 fn runs_of(alloc: Global, told: &[Option<bool>]) -> Result<Vec<Option<Run>>, Stop> {
     let named = one_shard_payload(alloc)?;
@@ -85,14 +101,30 @@ fn binds_in_doubt(map: &ShardMap) -> bool {
 }
 
 /// Three runs of one shard, of which the newest deletes it; and two, of which the newer is lost.
+const THREE: [Option<bool>; 3] = [Some(false), Some(true), Some(true)];
+
+const TWO: [Option<bool>; 2] = [None, Some(true)];
+
+/// What these bind.
 pub fn merge(alloc: Global, wanted: Wanted) -> Result<(), Stop> {
-    let three = runs_of(alloc, &[Some(false), Some(true), Some(true)])?;
-    let two = runs_of(alloc, &[None, Some(true)])?;
+    let (three, two) = (runs_of(alloc, &THREE)?, runs_of(alloc, &TWO)?);
     if three.len() != 3 || two.len() != 2 {
         return Err(Stop::Wrong);
     }
     wanted.made()?;
     let deleted = scrub_merge::merge(alloc, &three)?;
     let doubtful = scrub_merge::merge(alloc, &two)?;
+    right(deleted.bindings().is_empty() && binds_in_doubt(&doubtful))
+}
+
+/// The same of runs that are handed over.
+pub fn merge_owned(alloc: Global, wanted: Wanted) -> Result<(), Stop> {
+    let (three, two) = (runs_of(alloc, &THREE)?, runs_of(alloc, &TWO)?);
+    if three.len() != 3 || two.len() != 2 {
+        return Err(Stop::Wrong);
+    }
+    wanted.made()?;
+    let deleted = scrub_merge::merge_owned(alloc, three)?;
+    let doubtful = scrub_merge::merge_owned(alloc, two)?;
     right(deleted.bindings().is_empty() && binds_in_doubt(&doubtful))
 }

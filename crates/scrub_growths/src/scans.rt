@@ -9,7 +9,7 @@ use crate::disks::{abc_alone, four_extents, nine_locators, one_shard, one_shard_
 use crate::ending::{Stop, Wanted, right};
 use scrub_disk::{MemDisk, PageSource};
 use scrub_fakes::{ABC_DIGEST, ENDS_IN_MAGIC, ONES, TWOS, plan_of};
-use scrub_frame::{Form, digest_of};
+use scrub_frame::{Form, Head, digest_of};
 use scrub_scan::{AllFindings, ExtentResult, Item, Standing};
 use scrub_super::Plan;
 use std::alloc::Global;
@@ -157,6 +157,30 @@ pub fn frame_stands(alloc: Global, wanted: Wanted) -> Result<(), Stop> {
     let first = scrub_scan::frame_stands(alloc, &disk, 297, 2, 0)?;
     let second = scrub_scan::frame_stands(alloc, &disk, 297, 2, 256)?;
     let none = scrub_scan::frame_stands(alloc, &disk, 297, 1, 41)?;
+    right(first == Some(long) && second == Some(abc) && none.is_none())
+}
+
+/// The head of a plain frame.
+fn head(uuid: [u8; 16], length: u32) -> Head {
+    Head {
+        form: Form::Plain,
+        uuid: Uuid::from_bytes(uuid),
+        length,
+    }
+}
+
+/// The heads of these two frames, and of none at that place.
+pub fn claimed_frame(alloc: Global, wanted: Wanted) -> Result<(), Stop> {
+    let (disk, _) = nine_locators(alloc)?;
+    let geometry = disk.geometry();
+    if geometry.extents() <= 2 || geometry.extent_bytes() < 297 {
+        return Err(Stop::Wrong);
+    }
+    wanted.made()?;
+    let first = scrub_scan::claimed_frame(alloc, &disk, 297, 2, 0)?;
+    let second = scrub_scan::claimed_frame(alloc, &disk, 297, 2, 256)?;
+    let none = scrub_scan::claimed_frame(alloc, &disk, 297, 1, 41)?;
+    let (long, abc) = (head(ENDS_IN_MAGIC, 220), head(ONES, 3));
     right(first == Some(long) && second == Some(abc) && none.is_none())
 }
 

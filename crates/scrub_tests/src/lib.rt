@@ -15,17 +15,27 @@ mod events;
 #[cfg(test)]
 mod extents;
 #[cfg(test)]
+mod forged_heads;
+#[cfg(test)]
 mod hidden_places;
 #[cfg(test)]
 mod index_runs;
 #[cfg(test)]
+mod large;
+#[cfg(test)]
+mod listings;
+#[cfg(test)]
 mod lists;
+#[cfg(test)]
+mod loaded;
 #[cfg(test)]
 mod named;
 #[cfg(test)]
 mod one_reader;
 #[cfg(test)]
 mod ordered_map;
+#[cfg(test)]
+mod other_disks;
 #[cfg(test)]
 mod page_counts;
 #[cfg(test)]
@@ -44,6 +54,8 @@ mod scrub;
 mod sealed;
 #[cfg(test)]
 mod sealed_frames;
+#[cfg(test)]
+mod shared_chunk;
 #[cfg(test)]
 mod sizes;
 #[cfg(test)]

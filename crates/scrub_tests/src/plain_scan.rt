@@ -170,18 +170,23 @@ pub(crate) fn check_scan(rt: &impl Abort, alloc: Global, disk: &MemDisk) -> Resu
     Ok(())
 }
 
-/// Compares the tiling of extent 1 with what the reference finds, under each pointer.
-pub(crate) fn check_tilings(rt: &impl Abort, alloc: Global, disk: &MemDisk) -> Result<(), Fail> {
+/// Compares the tiling of an extent with what the reference finds, under each pointer.
+pub(crate) fn check_tilings(
+    rt: &impl Abort,
+    alloc: Global,
+    disk: &MemDisk,
+    number: u32,
+) -> Result<(), Fail> {
     let geometry = disk.geometry();
-    assert!(rt; geometry.extents() > 1);
-    let extent = read_extent(alloc, disk, 1)?;
+    assert!(rt; number < geometry.extents());
+    let extent = read_extent(alloc, disk, number)?;
     for pointer in 0..=geometry.extent_bytes() {
         let copied = Copied {
             extent: &extent,
             page: geometry.page(),
             pointer,
         };
-        let items = tile(alloc, disk, 1, pointer)?;
+        let items = tile(alloc, disk, number, pointer)?;
         same(rt, items.as_slice(), items_of(alloc, &copied)?.as_slice());
     }
     Ok(())

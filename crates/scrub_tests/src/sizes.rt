@@ -8,10 +8,7 @@ use crate::compare::same;
 use crate::disks::{payload_of, put_abc_and_its_run, shard};
 use crate::told::{lists_of, scrubbed};
 use scrub_book::Book;
-use scrub_check::{
-    Checked, Owner, SharedPlace, Status, broken_shards, dangling, hidden, named_locators, shared,
-    twins,
-};
+use scrub_check::{named_locators, twins};
 use scrub_disk::{Geometry, MemDisk, PageSource, load};
 use scrub_fakes::{ONES, RawBytes, TWOS, abc_at, plan_of, put_chunk, put_superblock, small_disk};
 use scrub_merge::merge;
@@ -34,7 +31,7 @@ fn entry_of_64(alloc: Global, number: u32) -> Result<Entry, Fail> {
 }
 
 /// The payload of a run of so many shards, each of 64 chunks.
-fn run_of_shards(alloc: Global, shards: u32) -> Result<Vec<u8>, Fail> {
+pub(crate) fn run_of_shards(alloc: Global, shards: u32) -> Result<Vec<u8>, Fail> {
     let mut entries = Vec::new(alloc);
     for number in 0..shards {
         entries.push(entry_of_64(alloc, number)?)?;
@@ -44,7 +41,12 @@ fn run_of_shards(alloc: Global, shards: u32) -> Result<Vec<u8>, Fail> {
 
 /// A disk of three extents with so many chunks of `abc` under one UUID in extent 1, and in extent 2 the run of so many
 /// shards, which name the first of the chunks, 64 each.
-fn filled(alloc: Global, geometry: Geometry, chunks: u32, shards: u32) -> Result<MemDisk, Fail> {
+pub(crate) fn filled(
+    alloc: Global,
+    geometry: Geometry,
+    chunks: u32,
+    shards: u32,
+) -> Result<MemDisk, Fail> {
     let mut disk = MemDisk::blank(alloc, geometry)?;
     for number in 0..chunks {
         put_chunk(alloc, &mut disk, 1, number.saturating_mul(41), ONES, b"abc")?;
@@ -99,38 +101,6 @@ fn many_extents_may_be_reclaimed(rt: HostRuntime) -> Result<(), Fail> {
     assert!(rt; told.live.len() == 2_000);
     assert!(rt; told.candidates.len() == 2_000);
     same(&rt, told.candidates[1_999].extent(), 2_000);
-    Ok(())
-}
-
-/// Many locators of this status, each of its own shard; two after another point to one place.
-fn many_checked(alloc: Global, status: Status) -> Result<Vec<Checked>, Fail> {
-    let mut checked = Vec::new(alloc);
-    for number in 0..200_000 {
-        checked.push(Checked {
-            owner: Owner::Shard(shard(number)),
-            locator: abc_at(1, number / 2),
-            status,
-        })?;
-    }
-    Ok(checked)
-}
-
-#[test]
-fn each_of_many_locators_is_told(rt: HostRuntime) -> Result<(), Fail> {
-    let lost = many_checked(rt.alloc(), Status::NoFrame)?;
-    assert!(rt; dangling(rt.alloc(), &lost)?.len() == 200_000);
-    assert!(rt; broken_shards(rt.alloc(), &lost)?.len() == 200_000);
-    let passed = many_checked(rt.alloc(), Status::Hidden)?;
-    assert!(rt; hidden(rt.alloc(), &passed)?.len() == 200_000);
-    let sound = many_checked(rt.alloc(), Status::Sound)?;
-    let shared = shared(rt.alloc(), &sound)?;
-    assert!(rt; shared.len() == 100_000);
-    let last = SharedPlace {
-        extent: 1,
-        offset: 99_999,
-        count: 2,
-    };
-    same(&rt, shared[99_999], last);
     Ok(())
 }
 

@@ -13,11 +13,11 @@ use std::test::Fail;
 
 /// Compares the tilings of extent 1 of a disk, and of each disk that has one more page of it unreadable.
 fn check_swept(rt: &impl Abort, alloc: Global, disk: &MemDisk) -> Result<(), Fail> {
-    check_tilings(rt, alloc, disk)?;
+    check_tilings(rt, alloc, disk, 1)?;
     for page in 0..disk.geometry().pages() {
         let mut marked = copy_of(alloc, disk)?;
         mark_bad(&mut marked, 1, page)?;
-        check_tilings(rt, alloc, &marked)?;
+        check_tilings(rt, alloc, &marked, 1)?;
     }
     Ok(())
 }

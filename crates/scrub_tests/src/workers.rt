@@ -3,6 +3,7 @@
 ghost use Rattle.std.specs.Prelude.{◌≤◌};
 
 mod left_alone;
+mod listings;
 mod meeting;
 mod pausing;
 mod reading_watch;

@@ -1,0 +1,86 @@
+//! The two listings for which a disk is scanned, by any number of workers.
+
+ghost use Rattle.std.specs.Prelude.{◌≤◌};
+
+use scrub_disk::PageSource;
+use scrub_pool::{Gate, Takings};
+use scrub_report::{Accepted, ScrubFault, list_locators, list_reclaimable};
+use std::alloc::Global;
+use std::sync::Wait;
+use std::test::Fail;
+use std::thread::Threads;
+
+/// Which listing.
+#[derive(Debug, Clone, Copy, PartialEq, Eq)]
+pub(crate) enum Which {
+    /// The named locators.
+    Locators,
+    /// What may be reclaimed, with no doubt accepted.
+    Reclaimable,
+}
+
+/// A listing, and who took which extents for it.
+#[derive(Drop)]
+pub(crate) struct Listing {
+    /// Its lines.
+    pub(crate) text: Vec<u8>,
+    /// Whether the program ends with status 0 where it prints them.
+    pub(crate) is_good: bool,
+    pub(crate) takings: Takings,
+}
+
+/// No kind of doubt.
+const NONE: Accepted = Accepted {
+    superblock_damaged: false,
+    superblock_stray: false,
+    tail: false,
+    tail_lost: false,
+};
+
+/// A listing of a disk, by so many workers and the caller.
+fn answer<D: PageSource, G: Gate, R: Threads + Wait + Sync>(
+    rt: &R,
+    alloc: Global,
+    disk: &D,
+    workers: u32,
+    gate: &G,
+    which: Which,
+) -> Result<Listing, ScrubFault>
+    requires { workers ≤ 64 }
+{
+    match which {
+        Which::Locators => {
+            let (listing, takings) = list_locators(rt, alloc, disk, workers, gate)?;
+            Ok(Listing {
+                text: listing.text,
+                is_good: listing.is_clean,
+                takings,
+            })
+        }
+        Which::Reclaimable => {
+            let (listing, takings) = list_reclaimable(rt, alloc, disk, workers, gate, NONE)?;
+            Ok(Listing {
+                text: listing.text,
+                is_good: listing.is_clear,
+                takings,
+            })
+        }
+    }
+}
+
+/// The same, where out of memory fails the test.
+pub(crate) fn listed<D: PageSource, G: Gate, R: Threads + Wait + Sync>(
+    rt: &R,
+    alloc: Global,
+    disk: &D,
+    workers: u32,
+    gate: &G,
+    which: Which,
+) -> Result<Listing, Fail>
+    requires { workers ≤ 64 }
+{
+    match answer(rt, alloc, disk, workers, gate, which) {
+        Ok(listed) => Ok(listed),
+        Err(ScrubFault::OutOfMemory) => Err(Fail::from("out of memory")),
+    }
+}
