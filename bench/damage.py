@@ -2,7 +2,7 @@
 """Damages each superblock of two small disks in every way that one bit or one page can, and looks at what `shardscrub
 reclaimable` then names. `./check` runs it.
 
-usage: bench/damage.py [PROGRAM]    (default: crates/scrub_cli/out/scrub_cli)
+usage: bench/damage.py [PROGRAM]    (default: the program of ./shardscrub)
 
 Each disk has two superblocks, of which the older one would let go an extent that holds the one chunk of a shard. On one disk
 both superblocks have the same write pointers, nothing is behind them, and each record has a page for itself. On the other
@@ -22,9 +22,10 @@ from pathlib import Path
 TOP = Path(__file__).resolve().parent.parent
 sys.path[:0] = [str(TOP / "bench"), str(TOP / "examples")]
 from images import Disk, run, shard, uuid
+import program
 from reference import Image, reclaimable, records_of, scrub
 
-PROGRAM = str(Path(sys.argv[1] if len(sys.argv) > 1 else TOP / "crates/scrub_cli/out/scrub_cli").resolve())
+PROGRAM = str(Path(sys.argv[1] if len(sys.argv) > 1 else program.default()).resolve())
 EXTENTS = 5
 # Each disk's bytes of a page and pages of an extent. The older superblock is on page 0, the newer one in the middle.
 PLAIN, WITH_TAILS = (256, 4), (64, 8)

@@ -12,10 +12,14 @@ more and then had, or a thread isn't started and its work done without it; where
 memory alone. Last, the calls with workers are run with each growth of a worker refused, and none of the caller's: by then the
 caller has scanned all extents, and want of memory has to be the answer all the same. The refusals come of the library of C
 of `refusals.py`.
-Prints a line for each call; the last line is 'N passed, M failed', which counts calls, and those with workers twice. Exit
-status: 0 where each ended so, 1 where one didn't, 2 where `cc` can't make the library.
+
+Before that it reads the sources of the libraries that the program is made of: each public function that is passed an
+allocator, or can answer out of memory, has to be a call here, or one of the few below that take no memory.
+Prints a line for each call; the last line is 'N passed, M failed', which counts calls, those with workers twice, and the
+reading of the sources once. Exit status: 0 where each ended so, 1 where one didn't, 2 where `cc` can't make the library.
 """
 import os
+import re
 import subprocess
 import sys
 import tempfile
@@ -30,9 +34,20 @@ OUT_OF_MEMORY = (4, b"out of memory\n", b"")
 # No program makes so many allocations.
 NONE_REFUSED = 10**9
 # The calls that start workers, with how many.
-WITH_WORKERS = ["scan_all 1", "scan_all 2", "scrub 1", "scrub 2", "list_reclaimable 1", "list_reclaimable 2"]
+WITH_WORKERS = [
+    f"{call} {workers}" for call in ["scan_all", "scrub", "list_locators", "list_reclaimable"] for workers in [1, 2]
+]
 # These make none, and every other call at least one.
 WITHOUT_GROWTH = {"ExtentQueue::split"}
+# These look as if they took memory, and take none: an empty list, what a list had, a fault of another kind.
+NOT_CALLED = {"WorkerCore::new", "Run::take", "Geometry::new", "write_out"}
+# The crates whose public functions are calls here, by what stands behind `scrub_` in their names.
+LIBRARIES = ["disk", "map", "frame", "super", "scan", "run", "merge", "check", "book", "pool", "report"]
+# A public function: how far it is indented, its name, and its signature up to the clauses or the body.
+FUNCTION = re.compile(r"^( *)pub fn (\w+)(.*?)(?=\n *(?:requires|ensures|\{)| \{)", re.MULTILINE | re.DOTALL)
+# The type of the methods behind it.
+IMPL = re.compile(r"^impl(?:<.*?>)? (\w+)", re.MULTILINE)
+TAKES_MEMORY = re.compile(r"alloc: Global|OutOfMemory|Fault>|StepRefused")
 
 
 def sweep(program, library, call, before, all_later):
@@ -44,6 +59,29 @@ def sweep(program, library, call, before, all_later):
         if met < refused:
             return ends, got == RIGHT
         ends["refused" if got == OUT_OF_MEMORY else "had" if got == RIGHT else "wrong"] += 1
+
+
+def taking_memory(source, is_public):
+    """The public functions of a source file that take memory, by their signatures. A method has its type's name before it."""
+    types = [(found.start(), found[1]) for found in IMPL.finditer(source)]
+    for found in FUNCTION.finditer(source):
+        indent, name, signature = found.groups()
+        owner = [named for place, named in types if place < found.start()][-1] if indent else None
+        if TAKES_MEMORY.search(signature) and is_public(owner or name):
+            yield f"{owner}::{name}" if owner else name
+
+
+def missing(calls):
+    """The public functions that take memory and are no call. Public is what `lib.rt` brings out, by its name or its module."""
+    made = {call.split()[0] for call in calls} | NOT_CALLED
+    for library in LIBRARIES:
+        folder = TOP / "crates" / f"scrub_{library}" / "src"
+        root = (folder / "lib.rt").read_text()
+        names = set(re.findall(r"\w+", " ".join(re.findall(r"^pub use ([^;]*);", root, re.MULTILINE))))
+        for path in sorted(folder.rglob("*.rt")):
+            is_open = f"pub mod {path.stem};" in root
+            found = taking_memory(path.read_text(), lambda name: is_open or name in names)
+            yield from (name for name in found if name not in made)
 
 
 def tried(program, library, call):
@@ -71,7 +109,9 @@ def tried_by_workers(program, library, call):
 def main():
     program = Path(sys.argv[1] if len(sys.argv) > 1 else TOP / "crates/scrub_growths/out/scrub_growths").resolve()
     calls = subprocess.run([program, "calls"], capture_output=True, text=True).stdout.splitlines()
-    passed = failed = 0
+    absent = list(missing(calls))
+    passed, failed = int(not absent), int(bool(absent))
+    print(f"public functions that take memory and aren't called: {' '.join(absent) or 'none'}", flush=True)
     with tempfile.TemporaryDirectory() as folder, ThreadPoolExecutor(os.cpu_count()) as threads:
         library = made(folder)
         for is_right, line in threads.map(lambda call: tried(program, library, call), calls):

@@ -2,7 +2,7 @@
 """Measures `shardscrub scan` on disks that are made to cost much, each beside one clean extent of the same size, and
 `shardscrub sizes` on files that are. It is no part of the gate.
 
-usage: bench/hostile.py [--turns COUNT] [--sizes] [PROGRAM]      (default: 3, crates/scrub_cli/out/scrub_cli)
+usage: bench/hostile.py [--turns COUNT] [--sizes] [PROGRAM]      (default: 3, the program of ./shardscrub)
 
 With --sizes only the files for `sizes` are measured.
 
@@ -47,7 +47,8 @@ import tempfile
 from hashlib import sha256
 from pathlib import Path
 
-from items import PROGRAM, ROUND_PAYLOAD, can_measure, head, measured
+from items import ROUND_PAYLOAD, can_measure, head, measured
+from program import default
 from scan import (CLOSING_MARK, KIB, LEAST_LARGE, MIB, MOST_LARGE, ROUND_SEALED, SEALED_MAGIC, Disk, apart, is_right,
                   make_image, print_heads, print_row, taken)
 
@@ -265,11 +266,11 @@ def main(words):
     parser = argparse.ArgumentParser(description="Measures `shardscrub` on disks and files that are made to cost much.")
     parser.add_argument("--turns", type=int, default=3, help="how often each is run")
     parser.add_argument("--sizes", action="store_true", help="measure `sizes` alone")
-    parser.add_argument("program", nargs="?", type=Path, default=PROGRAM)
+    parser.add_argument("program", nargs="?", type=Path)
     given = parser.parse_args(words)
     if given.turns < 1:
         parser.error("--turns is at least 1")
-    program = given.program.resolve()
+    program = (given.program or default()).resolve()
     if not can_measure([program], ["sha256sum"]):
         return 2
     with tempfile.TemporaryDirectory(prefix="shardscrub-bench-") as room:

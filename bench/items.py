@@ -1,7 +1,7 @@
 #!/usr/bin/env python3
 """Measures `shardscrub items` beside `sha256sum` on two images of 128 MiB. It is no part of the gate.
 
-usage: bench/items.py [PROGRAM]      (default: crates/scrub_cli/out/scrub_cli, as ./shardscrub builds it)
+usage: bench/items.py [PROGRAM]      (default: the program of ./shardscrub)
 
 Both read the same file by turns, five times each. The program hashes the payloads, which are at most half of the file,
 and sha256sum hashes all of it. Exit status: 0 where all is within what is wanted, 1 where something is beyond it or the
@@ -19,7 +19,8 @@ from collections import Counter
 from pathlib import Path
 from typing import NamedTuple
 
-PROGRAM = Path(__file__).resolve().parent.parent / "crates/scrub_cli/out/scrub_cli"
+from program import default
+
 PAGE, PAGES, EXTENTS = 4096, 16384, 2
 EXTENT = PAGE * PAGES
 IMAGE = EXTENT * EXTENTS
@@ -97,7 +98,7 @@ def can_measure(programs, beside=()):
     """Whether these programs are there, and those that they are measured beside. What isn't there is told."""
     for program in programs:
         if not (program.is_file() and os.access(program, os.X_OK)):
-            print(f"no program to measure: {program} (./shardscrub builds {PROGRAM})", file=sys.stderr)
+            print(f"no program to measure: {program} (./build builds one)", file=sys.stderr)
             return False
     for name in beside:
         if not shutil.which(name):
@@ -129,7 +130,7 @@ def compare(program, room, name, pieces, most_time, right):
 
 
 def main(arguments):
-    program = Path(arguments[0]).resolve() if arguments else PROGRAM
+    program = Path(arguments[0]).resolve() if arguments else default()
     if len(arguments) > 1:
         print("usage: bench/items.py [PROGRAM]", file=sys.stderr)
         return 2

@@ -1,7 +1,7 @@
 #!/usr/bin/env python3
 """Refuses each allocation of the program in turn, and looks at what it answers. `./check` runs it.
 
-usage: bench/refuse.py [PROGRAM]    (default: crates/scrub_cli/out/scrub_cli)
+usage: bench/refuse.py [PROGRAM]    (default: the program of ./shardscrub)
 
 For each line of words below the program is run with its first allocation refused, then with its second, and so on until
 a run meets no refusal; then the same with all later allocations refused too. Each run has to end with status 4, nothing
@@ -16,7 +16,8 @@ import tempfile
 from collections import Counter
 from pathlib import Path
 
-from refusals import TOP, answer, made
+from program import default
+from refusals import answer, made
 
 SMALL = "--page 64 --pages 4 --extents 3 examples/one-shard.img"
 SEVERAL = "--page 64 --pages 16 --extents 5 examples/several-findings.img 3:1"
@@ -31,12 +32,15 @@ WORDS = [
     f"scan --workers 2 {SEVERAL}",
     f"index {SEVERAL}",
     "items --page 64 --pages 4 --extents 3 --extent 1 examples/one-chunk.img",
+    f"locators {SEVERAL}",
+    f"locators --workers 2 {SEVERAL}",
     f"superblocks {SEVERAL}",
     f"reclaimable {SEVERAL}",
     f"reclaimable --workers 2 --accept tail {RECLAIMED}",
     "sizes examples/several-findings.img",
     "sizes --map examples/rescued.map examples/rescued.img",
     f"scan {RESCUED}",
+    f"locators --workers 0 {RESCUED}",
     f"superblocks {RESCUED}",
     f"reclaimable --workers 0 {RESCUED}",
     f"items --extent 3 {RESCUED}",
@@ -47,7 +51,7 @@ OUT_OF_MEMORY = (4, b"", b"shardscrub: out of memory\n")
 
 
 def main():
-    program = Path(sys.argv[1] if len(sys.argv) > 1 else TOP / "crates/scrub_cli/out/scrub_cli").resolve()
+    program = Path(sys.argv[1] if len(sys.argv) > 1 else default()).resolve()
     passed = failed = 0
     with tempfile.TemporaryDirectory() as folder:
         library = made(folder)

@@ -2,7 +2,7 @@
 """Measures `shardscrub scan` beside `sha256sum` on several kinds of disk. It is no part of the gate.
 
 usage: bench/scan.py [--mib SIZE] [--turns COUNT] [--workers N,..] [--only NAME]... [PROGRAM]...
-           (default: 512, 3, 0,1,3, all disks, crates/scrub_cli/out/scrub_cli)
+           (default: 512, 3, 0,1,3, all disks, the program of ./shardscrub)
        bench/scan.py [--mib SIZE] --make FOLDER
            makes the images alone, and prints the words for each
 
@@ -41,7 +41,8 @@ from collections import Counter
 from hashlib import sha256
 from pathlib import Path
 
-from items import PROGRAM, ROUND_PAYLOAD, can_measure, head, measured
+from items import ROUND_PAYLOAD, can_measure, head, measured
+from program import default
 
 KIB, MIB = 1 << 10, 1 << 20
 LEAST_LARGE, MOST_LARGE = 64 * KIB, MIB
@@ -319,7 +320,7 @@ def main(words):
     parser.add_argument("--workers", type=numbers, default=[0, 1, 3], metavar="N,..", help="how many workers: each 0 to 64")
     parser.add_argument("--only", action="append", choices=[name_of(kind) for kind in DISKS], help="this disk, and no other")
     parser.add_argument("--make", metavar="FOLDER", help="make the images there, and measure nothing")
-    parser.add_argument("program", nargs="*", type=Path, default=[PROGRAM])
+    parser.add_argument("program", nargs="*", type=Path)
     given = parser.parse_args(words)
     if not 128 <= given.mib <= 704 or given.mib % 32 or given.turns < 1:
         parser.error("--mib is a multiple of 32 from 128 to 704, and --turns at least 1")
@@ -330,7 +331,7 @@ def main(words):
             made = apart(make_image, path, kind, given.mib)
             print(" ".join(["scan", *made["sizes"], path, *made["bad"]]), flush=True)
         return 0
-    programs = [program.resolve() for program in given.program]
+    programs = [program.resolve() for program in given.program or [default()]]
     if not can_measure(programs, ["sha256sum"]):
         return 2
     print_heads("Image", "MiB", "Items", "Hashed, MiB", "sha256sum of as many, s", "Loading, s", "Workers", "Scan, s",

@@ -1,14 +1,17 @@
 #!/usr/bin/env python3
-"""Looks at what the built program does with the system: files of all kinds, maps, words, and both streams. `./check` runs it.
+"""Looks at what the built program does with the system: files of all kinds, block devices, maps, words, both streams, the
+calls that it makes, and the threads that it starts. `./check` runs it.
 
-usage: bench/system.py [PROGRAM]    (default: crates/scrub_cli/out/scrub_cli)
+usage: bench/system.py [PROGRAM]    (default: the program of ./shardscrub)
 
 No contract can say what a file gives or what a stream takes, so each check here is of something that a proof can't see.
-Answers on images are those of reference.py. Prints a line for each check that fails; the last line is
-'N passed, M failed'. Exit status: 0 where all passed, else 1.
+Answers on images are those of reference.py. What needs `strace`, or a loop device, is left out where there is none, and a line
+says so. Prints a line for each check that fails; the last line is 'N passed, M failed'. Exit status: 0 where all passed,
+else 1.
 """
 import os
 import random
+import re
 import resource
 import signal
 import subprocess
@@ -20,10 +23,11 @@ from pathlib import Path
 TOP = Path(__file__).resolve().parent.parent
 sys.path.insert(0, str(TOP / "bench"))
 from hold import frame
+import program
 import reference
 from reference import Image, item_line, reclaimable, report_text, scrub, sha, superblocks, tile, write_locator, write_run
 
-PROGRAM = str(Path(sys.argv[1] if len(sys.argv) > 1 else TOP / "crates/scrub_cli/out/scrub_cli").resolve())
+PROGRAM = str(Path(sys.argv[1] if len(sys.argv) > 1 else program.default()).resolve())
 SECONDS = 60
 MAP_SECONDS = 10
 ONE_SHARD = str(TOP / "examples/one-shard.img")
@@ -382,17 +386,204 @@ def short_output(room):
     check("an output that fails after each number of bytes", (len(ends) > 500, ends.count(False)), (True, 0))
 
 
-def writes(room):
-    """A long answer goes out in few writes."""
-    trace = os.path.join(room, "trace")
+# What the program asks of the system
+
+SEVERAL = ["--page", "64", "--pages", "16", "--extents", "5"]
+SEVERAL_IMAGE = TOP / "examples/several-findings.img"
+ON_IMAGE = (["scan", *SEVERAL], ["index", *SEVERAL], ["locators", *SEVERAL], ["superblocks", *SEVERAL],
+            ["reclaimable", *SEVERAL], ["items", *SEVERAL, "--extent", "3"], ["sizes"])
+
+# Calls that change nothing outside of the process and can't be made to: on its own memory, threads and signals, on the clock,
+# and such as read. Those whose arguments decide are in changes_nothing_by.
+HARMLESS = set("""
+    access arch_prctl brk clock_gettime clock_nanosleep close exit exit_group faccessat faccessat2 fstat futex getcpu getpid
+    getrandom gettid lseek madvise mprotect mremap munmap nanosleep newfstatat poll pread64 read readlink readlinkat rseq
+    rt_sigaction rt_sigprocmask rt_sigreturn restart_syscall sched_getaffinity sched_yield set_robust_list set_tid_address
+    sigaltstack stat statx sysinfo uname
+""".split())
+
+
+def no_tracing(room):
+    """Why no run can be traced here; None where it can."""
     try:
-        subprocess.run(["strace", "-f", "-e", "trace=write", "-o", trace, PROGRAM, "scan", *SMALL, ONE_SHARD],
-                       stdout=subprocess.DEVNULL, check=True, timeout=SECONDS)
+        run = subprocess.run(["strace", "-f", "-o", os.path.join(room, "probe"), "true"], stdin=subprocess.DEVNULL,
+                             capture_output=True, timeout=SECONDS)
     except FileNotFoundError:
-        print("left out, since not found: strace", flush=True)
-        return
-    count = sum(" write(1," in line for line in open(trace, encoding="latin-1"))
-    check("writes of a report", count, 1)
+        return "not found: strace"
+    return None if run.returncode == 0 else f"strace can't trace here: {run.stderr.decode(errors='replace').strip()[-200:]}"
+
+
+def traced(room, *words, **more):
+    """The answer of a run, and the calls of all its threads, each with its name, its arguments and what it gave.
+
+    With -ff each thread has a file of its own, in which no call of another thread cuts a line in two. Buffers aren't
+    shown, and names of files always are.
+    """
+    given = {"stdin": subprocess.DEVNULL, "capture_output": True, "timeout": SECONDS, **more}
+    with tempfile.TemporaryDirectory(dir=room) as folder:
+        command = ["strace", "-ff", "-qq", "-s", "0", "-o", os.path.join(folder, "trace"), PROGRAM, *words]
+        run = subprocess.run(command, **given)
+        files = sorted(Path(folder).iterdir(), key=lambda path: int(path.suffix[1:]))
+        lines = [line for path in files for line in path.read_text(errors="replace").splitlines()]
+    calls = []
+    for line in lines:
+        if line.startswith(("+++ ", "--- ")):
+            continue
+        call = re.fullmatch(r"(\w+)\((.*)\) += (.*)", line)
+        calls.append(call.groups() if call else ("unread", line, ""))
+    return (run.returncode, run.stdout, run.stderr), calls
+
+
+def changes_nothing_by(call):
+    """Whether nothing outside of the process is changed by this call. A call that isn't known here may change something."""
+    name, arguments, _ = call
+    words = set(re.findall(r"\w+", re.sub(r'"(?:[^"\\]|\\.)*"', "", arguments)))
+    if name in ("open", "openat"):
+        flags = {word for word in words if word.startswith("O_")}
+        return "O_RDONLY" in flags and flags <= {"O_RDONLY", "O_CLOEXEC", "O_NOCTTY"}
+    if name in ("write", "writev"):
+        return arguments.startswith(("1, ", "2, "))
+    if name == "mmap":
+        return "PROT_WRITE" not in words or "MAP_PRIVATE" in words
+    if name in ("clone", "clone3"):
+        return "CLONE_THREAD" in words
+    if name == "prlimit64":
+        return re.fullmatch(r"0, RLIMIT_\w+, NULL, .*", arguments) is not None
+    return name in HARMLESS
+
+
+def suspects(calls):
+    """The calls that may change something. The first program that is started is the traced one, by strace."""
+    starts = [call for call in calls if call[0] == "execve"]
+    return starts[1:] + [call for call in calls if call[0] != "execve" and not changes_nothing_by(call)]
+
+
+def opened(calls):
+    """The names of the files that were opened in the folder of the run: those of the C library all begin with a slash."""
+    names = [re.findall(r'"((?:[^"\\]|\\.)*)"', given) for name, given, _ in calls if name in ("open", "openat")]
+    return [name for quoted in names for name in quoted if not name.startswith("/")]
+
+
+def state(folder):
+    """The bytes of each file, and all that the system says of it but when it was last read; and of the folder."""
+    paths = [folder, *sorted(Path(folder).iterdir())]
+    said = [os.stat(path) for path in paths]
+    kept = [(x.st_mode, x.st_ino, x.st_nlink, x.st_uid, x.st_size, x.st_mtime_ns, x.st_ctime_ns) for x in said]
+    return list(zip(map(str, paths), kept, [b""] + [path.read_bytes() for path in paths[1:]]))
+
+
+def few_writes(room):
+    """A long answer goes out in few writes."""
+    _, calls = traced(room, "scan", *SMALL, ONE_SHARD)
+    check("writes of a report", sum(name in ("write", "writev") and given.startswith("1, ") for name, given, _ in calls), 1)
+
+
+def changes_nothing(room):
+    """Each command on an image, with a map and without one, with an answer, a refusal and an output that fails: files are
+    opened for reading alone, and of those in the folder only the named ones; nothing is written but to the streams 1 and 2; no
+    other call is made that may change something; and image, map and folder are afterwards what they were."""
+    kept = os.path.join(room, "kept")
+    os.mkdir(kept)
+    raw = SEVERAL_IMAGE.read_bytes()
+    for name, text in [("image", raw), ("longer", raw + b"\0"), ("map", b"0 ?\n0 5000 +\n"), ("no-map", b"0 ?\n0 1 x\n")]:
+        Path(kept, name).write_bytes(text)
+    runs = [([], []), (["--help"], []), (["repair"], [])]
+    for command in ON_IMAGE:
+        for given in ([], ["--map", "map"]):
+            runs += [([*command, *given, name], [*given[1:], name]) for name in ("image", "longer")]
+            runs.append(([*command, *given, "nothing"], given[1:]))
+        runs.append(([*command, "--map", "no-map", "image"], ["no-map"]))
+    for words, files in runs:
+        for stream in (subprocess.PIPE, "/dev/full"):
+            out = stream if stream == subprocess.PIPE else os.open(stream, os.O_WRONLY)
+            where = {"cwd": kept, "capture_output": False, "stdout": out, "stderr": subprocess.PIPE}
+            before = state(kept)
+            found, calls = traced(room, *words, **where)
+            right = answer(*words, **where)
+            after = state(kept)
+            what = f"{' '.join(words)!r} to {'a pipe' if stream == subprocess.PIPE else stream}"
+            check(f"{what}, calls that may change something", suspects(calls), [])
+            check(f"{what}, files that are opened", opened(calls), files)
+            check(f"{what}, files before and after", after == before, True)
+            check(f"{what}, answer", found, right)
+            if out != subprocess.PIPE:
+                os.close(out)
+
+
+def started(room, *words):
+    """How many threads a run starts, the main thread aside."""
+    _, calls = traced(room, *words)
+    return sum(name in ("clone", "clone3") and gave.isdigit() for name, _, gave in calls)
+
+
+def threads(room):
+    """`--workers N` starts N threads, and what doesn't scan the disk starts none. Counted are all threads of a run: `scan` and
+    `index` start one more, which makes the index. The disk has no superblock and so no locators, which other threads would
+    check."""
+    disk = [*SMALL, str(TOP / "examples/no-superblock.img")]
+    for command, others in [("scan", 1), ("index", 1), ("locators", 0), ("reclaimable", 0)]:
+        for number in (0, 1, 3, 64):
+            found = started(room, command, "--workers", str(number), *disk)
+            check(f"threads of {command} by {number} workers", found, number + others)
+        check(f"threads of {command}", started(room, command, *disk), 1 + others)
+    for words in (["items", "--extent", "1", *disk], ["superblocks", *disk], ["sizes", disk[-1]]):
+        check(f"threads of {words[0]}", started(room, *words), 0)
+    check("threads of demo", started(room), 2 + 1)
+
+
+def loop_device(path):
+    """A block device with the bytes of this file, which may be written to; or why there is none."""
+    try:
+        run = subprocess.run(["losetup", "--find", "--show", path], stdin=subprocess.DEVNULL, capture_output=True, timeout=SECONDS)
+    except FileNotFoundError:
+        return None, "not found: losetup"
+    told = run.stderr.decode(errors="replace").strip()
+    return (run.stdout.decode().strip(), None) if run.returncode == 0 else (None, f"no loop device can be made: {told}")
+
+
+def on_device(room, kept, image, device, is_traced):
+    """What each command answers of a block device is what it answers of the file, and neither is changed."""
+    def held():
+        said = os.stat(device)
+        with open(device, "rb") as file:
+            return file.read(), said.st_mtime_ns, said.st_ctime_ns, state(kept)
+
+    before = held()
+    short, long = geometry(64, 16, 4), geometry(64, 16, 6)
+    others = [["scan", *short], ["scan", *long], ["items", *long, "--extent", "5"]]
+    for words in [*ON_IMAGE, *others, ["scan", *SEVERAL, "--map", os.path.join(kept, "map")]]:
+        right = answer(*words, image)
+        check(f"{' '.join(words)} of a block device", answer(*words, device), right)
+        if is_traced:
+            found, calls = traced(room, *words, device)
+            check(f"{' '.join(words)} of a block device, calls that may change something", (found, suspects(calls)), (right, []))
+    check("a block device before and after", held() == before, True)
+
+
+def block_devices(room, is_traced):
+    """A block device is read as an image, and one as a map. Each is a loop device over a file, taken off again in any case."""
+    kept = os.path.join(room, "beneath")
+    os.mkdir(kept)
+    image = os.path.join(kept, "image")
+    map_file = os.path.join(kept, "map")
+    Path(image).write_bytes(SEVERAL_IMAGE.read_bytes())
+    lines = b"0 ?\n0 4096 +\n4096 512 -\n# "
+    Path(map_file).write_bytes(lines + b"x" * (511 - len(lines)) + b"\n")
+    devices = []
+    try:
+        for path in (image, map_file):
+            device, why = loop_device(path)
+            if device is None:
+                print(f"left out, block devices, since {why}", flush=True)
+                return
+            devices.append(device)
+        on_device(room, kept, image, devices[0], is_traced)
+        for command in ON_IMAGE:
+            right = answer(*command, "--map", map_file, image)
+            check(f"{command[0]}, a map in a block device", answer(*command, "--map", devices[1], devices[0]), right)
+    finally:
+        for device in devices:
+            subprocess.run(["losetup", "--detach", device], check=True, timeout=SECONDS)
 
 
 def main():
@@ -414,7 +605,14 @@ def main():
         refusals()
         failing_output()
         short_output(room)
-        writes(room)
+        why = no_tracing(room)
+        if why is None:
+            few_writes(room)
+            changes_nothing(room)
+            threads(room)
+        else:
+            print(f"left out, what the program asks of the system, since {why}", flush=True)
+        block_devices(room, why is None)
     print(f"{counts[True]} passed, {counts[False]} failed")
     sys.exit(counts[False] > 0)
 

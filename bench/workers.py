@@ -3,7 +3,7 @@
 the gate.
 
 usage: bench/workers.py [--mib SIZE] [--turns COUNT] [--runs COUNT] [PROGRAM]
-       (default: 512, 3, 2000, crates/scrub_cli/out/scrub_cli)
+       (default: 512, 3, 2000, the program of ./shardscrub)
 
 Disks of SIZE MiB, each scanned by 0, 1, 3 and 64 workers beside the main thread, by turns:
 
@@ -26,7 +26,8 @@ import sys
 import tempfile
 from pathlib import Path
 
-from items import PROGRAM, can_measure, measured
+from items import can_measure, measured
+from program import default
 from scan import KIB, MIB, SMALL_PAYLOAD, Disk, apart, large, make_image, print_heads, print_row, taken
 
 WORKERS = (0, 1, 3, 64)
@@ -102,11 +103,11 @@ def main(words):
     parser.add_argument("--mib", type=int, default=512, help="size of the images: a multiple of 64 from 192 to 704")
     parser.add_argument("--turns", type=int, default=3, help="how often each is run")
     parser.add_argument("--runs", type=int, default=2000, help="how often the small disk is scanned by 7 workers")
-    parser.add_argument("program", nargs="?", type=Path, default=PROGRAM)
+    parser.add_argument("program", nargs="?", type=Path)
     given = parser.parse_args(words)
     if not 192 <= given.mib <= 704 or given.mib % 64 or given.turns < 1 or given.runs < 0:
         parser.error("--mib is a multiple of 64 from 192 to 704, --turns at least 1, and --runs at least 0")
-    program = given.program.resolve()
+    program = (given.program or default()).resolve()
     if not can_measure([program]):
         return 2
     print_heads("Disk", "Loading, s", "Workers", "Scan, s", "Processors, s", "Above loading, of none's speed", "Peak, MiB",
