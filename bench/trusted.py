@@ -1,18 +1,20 @@
 #!/usr/bin/env python3
-"""Writes docs/TRUSTED.md: the spec files on which the contract of the whole scrub rests, in the order in which they are read.
+"""Writes docs/TRUSTED.md: the spec files on which the contract of the whole scrub rests, in the order in which they are read;
+and what the contracts of the two listings and of the whole program rest on beside them.
 
 usage: bench/trusted.py             writes the page
        bench/trusted.py --check     says whether the page is as it would be written
 
 It begins at the words of the contract of `scrub` in crates/scrub_report, follows each to its definition by the imports of the
 file that says it, and goes on with the words of that definition. A type of the code that a definition names is followed too,
-with what contracts see of it. What is reached is told file by file, and what else stands in these files is told apart. Names
-that aren't of this repository are listed by their modules, and followed no further.
+with what contracts see of it. What is reached is listed file by file, and what else is in these files is listed apart. Names
+that aren't of this repository are listed by their modules, and followed no further. The other contracts are read in the same
+way; of each, only what the ones before it don't rest on is listed.
 
 It reads text and checks nothing else: that each name means what its import says is for the prover. A word that a definition
 binds is followed all the same where the file has or imports that name, so more may be told as needed than is, and never less.
 
-With --check the last line is 'N passed, M failed': one for each spec file, and one for the page. Exit status: 0 where nothing
+With --check the last line is 'N passed, M failed': one for each row of a spec file, and one for the page. Exit status: 0 where nothing
 failed, else 1.
 """
 import re
@@ -21,8 +23,13 @@ from pathlib import Path
 
 TOP = Path(__file__).resolve().parent.parent
 PAGE = TOP / "docs/TRUSTED.md"
-# The function whose contract is the headline, and the file that has it.
+# The function whose contract is the headline: its crate, the file that has it, and its name. Then the others, each with what it is.
 HEADLINE = ("scrub_report", "answer", "scrub")
+OTHERS = [
+    (("scrub_report", "listing", "list_locators"), "`locators` is made of it"),
+    (("scrub_report", "reclaiming", "list_reclaimable"), "`reclaimable` is made of it"),
+    (("scrub_cli", "main", "run_process"), "the program, from the arguments of its process to both streams and the status"),
+]
 
 # What is said of a file whose own first sentence doesn't say it.
 SENTENCES = {
@@ -88,7 +95,7 @@ class Spec:
         self.definitions = {}
         name = None
         for line in code.splitlines():
-            begun = re.match(rf"(?:  )?(?:abbrev )?(?:pub )?(?:abbrev |record |data )?({WORD}) (?:[(:{{]|=)", line)
+            begun = re.match(rf"(?:  )?(?:abbrev |unfoldable )?(?:pub )?(?:abbrev |record |data )?({WORD}) (?:[(:{{]|=)", line)
             at_top = begun and (not line.startswith("  ") or re.match(r"  (?:abbrev|pub record|record)\b", line))
             if re.match(r"(?:module|pub mod|pub use)\b", line):
                 name = None
@@ -162,7 +169,7 @@ class Code:
         return resolved(text, imports, {})[1], type_words(text)
 
     def contract(self, function):
-        found = re.search(rf"(?m)^pub fn {function}\b", self.text)
+        found = re.search(rf"(?m)^(?:pub )?fn {function}\b", self.text)
         end = re.search(r"(?m)^\{", self.text[found.start():])
         return self.text[found.start():found.start() + end.start()]
 
@@ -196,7 +203,7 @@ class Reader:
         if parts[0] != "Rattle" or parts[1] not in CRATES:
             self.outside.setdefault(module, set()).add(name)
         elif parts[3] == "declared":
-            self.follow_type(parts[1], parts[5], upper)
+            self.follow_type(parts[1], next(part for part in parts[4:] if part[0].isupper()), upper)
         else:
             self.follow_definition(self.spec(parts[1], ".".join(parts[3:])), name, upper)
 
@@ -264,9 +271,10 @@ class Reader:
         return done
 
 
-def read_all():
+def read(headline):
+    """What a contract rests on."""
     reader = Reader()
-    crate, file, function = HEADLINE
+    crate, file, function = headline
     path = TOP / "crates" / crate / "src" / f"{file}.rt"
     code = reader.codes[path]
     contract = code.contract(function)
@@ -276,9 +284,15 @@ def read_all():
         owner = reader.owner(path, crate, name)
         if owner is not None:
             reader.follow_type(owner, name, None)
-    files = set(map(short, reader.definitions))
-    reader.faults += [f"bench/trusted.py has a sentence for {file}, which isn't needed" for file in SENTENCES if file not in files]
     return reader
+
+
+def read_all():
+    """What the headline rests on, and each of the others."""
+    readers = [read(headline) for headline in [HEADLINE, *(other for other, _ in OTHERS)]]
+    files = {short(path) for reader in readers for path in reader.definitions}
+    readers[0].faults += [f"bench/trusted.py has a sentence for {file}, which isn't needed" for file in SENTENCES if file not in files]
+    return readers
 
 
 def short(path):
@@ -293,10 +307,53 @@ def named(names):
     return ", ".join(f"`{name}`" for name in names)
 
 
-def page_of(reader):
+def linked(path):
+    return f"[`{short(path)}`](../crates/{short(path)})"
+
+
+def needed(reader, path):
+    """The definitions of a file that a contract rests on, in their order."""
+    return [name for name in reader.specs[path].definitions if name in reader.definitions[path]]
+
+
+def types_of(reader):
+    """The types of the code that a contract rests on: pairs of the file and the name, lowest crate first."""
+    files = sorted(reader.types, key=lambda path: (CRATES.index(short(path).split("/")[0]), path))
+    return [(path, name) for path in files for name in sorted(reader.types[path])]
+
+
+def beside(reader, before, headline, what):
+    """The section of a contract other than the headline: what it rests on, and the contracts before it don't."""
+    files = reader.order()
+    count = sum(len(needed(reader, path)) for path in files)
+    known = {(path, name) for other in before for path in other.definitions for name in other.definitions[path]}
+    out = ["", f"## What `{headline[2]}` rests on beside", "",
+           f"`{headline[2]}` of `{headline[0]}`: {what}. Its contract rests on {count} definitions in {len(files)} files. These are beside "
+           "those of the sections above:", "", "| File, in `crates/` | Lines | What it says | Definitions |", "|---|---|---|---|"]
+    for path in files:
+        names = [name for name in needed(reader, path) if (path, name) not in known]
+        if names:
+            spec = reader.specs[path]
+            out.append(f"| {linked(path)} | {spec.lines} | {sentence_of(spec)} | {named(names)} |")
+    seen = {pair for other in before for pair in types_of(other)}
+    types = [f"`{name}` ({linked(path)})" for path, name in types_of(reader) if (path, name) not in seen]
+    out += ["", f"Types of the code beside: {', '.join(types)}."]
+    spared = [path for path in before[0].order() if path not in reader.definitions]
+    if spared:
+        out += ["", f"It needs nothing of {named(map(short, spared))}."]
+    words = {(module, name) for other in before for module in other.outside for name in other.outside[module]}
+    fresh = {module: sorted(name for name in names if (module, name) not in words) for module, names in reader.outside.items()}
+    fresh = [f"{named(names)} of `{module}`" for module, names in sorted(fresh.items()) if names]
+    if fresh:
+        out += ["", f"Words of the toolchain beside: {'; '.join(fresh)}."]
+    return out
+
+
+def page_of(readers):
+    reader, others = readers[0], readers[1:]
     files = reader.order()
     specs = [reader.specs[path] for path in files]
-    reached = [[name for name in spec.definitions if name in reader.definitions[spec.path]] for spec in specs]
+    reached = [needed(reader, path) for path in files]
     lines = sum(spec.lines for spec in specs)
     count = sum(map(len, reached))
     out = ["# What the theorem rests on", ""]
@@ -305,13 +362,13 @@ def page_of(reader):
             "of, and trusts the toolchain, knows what is promised; no body of a function, no proof and no other definition has to be "
             f"read for it. They are {count} definitions in {len(files)} files of {lines} lines.", ""]
     out += ["`bench/trusted.py` made this page, by following the words of that contract to their definitions, and the words of these "
-            "to theirs. `./check` compares. What each definition says in one sentence is in [DEFINITIONS.md](DEFINITIONS.md).", ""]
+            "to theirs. `./check` compares. What each definition says in one sentence is in [DEFINITIONS.md](DEFINITIONS.md). Further down it lists "
+            "what three more contracts rest on beside: those of `list_locators`, of `list_reclaimable`, and of the whole program.", ""]
     out += ["## The files, in reading order", "",
             "Each file stands behind those that it rests on. *Needed* is how many of its definitions the theorem rests on, of how many.", "",
             "| | File, in `crates/` | Lines | Needed | What it says |", "|---|---|---|---|---|"]
     for place, (spec, names) in enumerate(zip(specs, reached), 1):
-        link = f"[`{short(spec.path)}`](../crates/{short(spec.path)})"
-        out.append(f"| {place} | {link} | {spec.lines} | {len(names)} of {len(spec.definitions)} | {sentence_of(spec)} |")
+        out.append(f"| {place} | {linked(spec.path)} | {spec.lines} | {len(names)} of {len(spec.definitions)} | {sentence_of(spec)} |")
     out += ["", "## What else stands in these files", "",
             "The theorem doesn't rest on these: other public clauses speak of them, or steps of the code, or they are lemmas.", "",
             "| File | Not needed |", "|---|---|"]
@@ -323,20 +380,23 @@ def page_of(reader):
             "These definitions speak of types of the code, by their public fields and variants, by the facts that a type has as ghost "
             "fields, or by the value that contracts see of it (its model).", "", "| File, in `crates/` | Types |", "|---|---|"]
     for path in sorted(reader.types, key=lambda path: (CRATES.index(short(path).split("/")[0]), path)):
-        out.append(f"| [`{short(path)}`](../crates/{short(path)}) | {named(sorted(reader.types[path]))} |")
+        out.append(f"| {linked(path)} | {named(sorted(reader.types[path]))} |")
+    out += ["", "## Words of the toolchain", "",
+            "Here the definitions end in words of the toolchain's library and crates, by their modules.", "", "| Module | Words |", "|---|---|"]
+    for module in sorted(reader.outside):
+        out.append(f"| `{module}` | {named(sorted(reader.outside[module]))} |")
+    for place, (headline, what) in enumerate(OTHERS, 1):
+        out += beside(readers[place], readers[:place], headline, what)
     every = [path for crate in CRATES for path in sorted((TOP / "crates" / crate / "specs").glob("*.antt")) if path.name != "Lib.antt"]
+    files = {path for reader in readers for path in reader.definitions}
     rest = [path for path in every if path not in files]
-    out += ["", "## Spec files that it doesn't rest on", "",
+    out += ["", "## Spec files that none of them rests on", "",
             f"{len(rest)} of {len(every)}, beside each crate's list of them, `Lib.antt`. They have what other public clauses say, steps of the "
             "code, and lemmas.", "", "| Crate | Files |", "|---|---|"]
     for crate in CRATES:
         stems = [path.stem for path in rest if short(path).split("/")[0] == crate]
         if stems:
             out.append(f"| `{crate}` | {named(stems)} |")
-    out += ["", "## Words of the toolchain", "",
-            "Here the definitions end in words of the toolchain's library and crates, by their modules.", "", "| Module | Words |", "|---|---|"]
-    for module in sorted(reader.outside):
-        out.append(f"| `{module}` | {named(sorted(reader.outside[module]))} |")
     return "\n".join(out) + "\n"
 
 
@@ -344,25 +404,26 @@ def main(words):
     if words not in ([], ["--check"]):
         print(__doc__, file=sys.stderr)
         return 2
-    reader = read_all()
-    page = page_of(reader)
+    readers = read_all()
+    page = page_of(readers)
+    faults = list(dict.fromkeys(fault for reader in readers for fault in reader.faults))
     if not words:
-        for fault in reader.faults:
+        for fault in faults:
             print(fault, file=sys.stderr)
         PAGE.write_text(page, encoding="utf-8")
-        return int(reader.faults != [])
+        return int(faults != [])
     passed, failed = 0, 0
     there = PAGE.read_text(encoding="utf-8") if PAGE.is_file() else ""
     rows = set(there.splitlines())
-    for row in page.split("## What else", 1)[0].splitlines():
-        if re.match(r"\| \d+ \|", row):
+    for row in page.splitlines():
+        if re.match(r"\| (?:\d+ \| )?\[`\w+/specs/", row):
             passed, failed = passed + (row in rows), failed + (row not in rows)
             if row not in rows:
                 print(f"FAILED: docs/TRUSTED.md hasn't the line {row}")
     passed, failed = passed + (there == page), failed + (there != page)
     if there != page:
         print("FAILED: docs/TRUSTED.md isn't as bench/trusted.py writes it")
-    for fault in reader.faults:
+    for fault in faults:
         failed += 1
         print(f"FAILED: {fault}")
     print(f"{passed} passed, {failed} failed")
