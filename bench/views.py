@@ -1,0 +1,731 @@
+#!/usr/bin/env python3
+"""Holds view/summary.jq and view/changes.jq against the reports that they are made of. Needs jq.
+
+usage: bench/views.py
+
+The reports are those of each image of examples/, with the arguments that examples/README.md runs it with, those of two
+made-up disks of 300 extents at several times of their lives, and those of small disks of hold.py. Each line that is printed
+is compared with one that is made here: sums of the report's items where the filters take the report's own sums, the
+unreadable pages by the lost items, and the doubts by the lines of `reclaimable`. Each finding and each change has to come up
+in some report. Ends with 'N passed, M failed', and with status 0 where all passed, else with 1.
+"""
+import functools
+import json
+import os
+import random
+import re
+import subprocess
+import sys
+import tempfile
+from collections import Counter, defaultdict
+from concurrent.futures import ThreadPoolExecutor
+from decimal import ROUND_HALF_UP, Decimal
+from fractions import Fraction
+from pathlib import Path
+from typing import NamedTuple
+TOP = Path(__file__).resolve().parent.parent
+sys.path[:0] = [str(TOP / "bench"), str(TOP / "examples")]
+from hold import Made
+from images import MAGIC, Disk, run, sealed_frame, shard, uuid
+from reference import Image, doubts_of, scrub
+
+SUMMARY, CHANGES = TOP / "view/summary.jq", TOP / "view/changes.jq"
+SMALL_DISKS = 200
+SMALL_PAIRS = 40
+# Numbers of this size and above aren't exact in floating point.
+INEXACT = 2 ** 53
+
+
+class Scanned(NamedTuple):
+    """A report, and the words of each doubt of `reclaimable` behind `doubt`."""
+    name: str
+    report: dict
+    doubts: list
+
+
+# What the reports are of
+
+def shardscrub(*words):
+    """What the program prints, or nothing where it refuses its arguments or the image."""
+    done = subprocess.run([TOP / "shardscrub", *map(str, words)], cwd=TOP, stdin=subprocess.DEVNULL, capture_output=True)
+    if done.returncode in (2, 3):
+        return ""
+    if done.returncode not in (0, 1) or done.stderr:
+        raise SystemExit(f"shardscrub {' '.join(map(str, words))}: status {done.returncode}: {done.stderr.decode()}")
+    return done.stdout.decode()
+
+
+def known(doubts):
+    """Without those that aren't in a report."""
+    return [words for words in doubts if words[0] not in ("superblock-damaged", "superblock-stray")]
+
+
+def scanned(name, arguments, report):
+    """A report that scan printed, and what `reclaimable` says of the same disk."""
+    lines = [line.split() for line in shardscrub("reclaimable", *arguments).splitlines()]
+    return Scanned(name, json.loads(report), known([words[1:] for words in lines if words[0] == "doubt"]))
+
+
+def example_reports():
+    """Of each image of examples/, by the arguments with which examples/README.md has it looked at, each once.
+
+    An image of which that page asks only the sizes is looked at with these.
+    """
+    page = (TOP / "examples/README.md").read_text(encoding="utf-8")
+    found = {}
+    for words in re.findall(r"\./shardscrub (?:scan|index|locators|superblocks|reclaimable|items) ([^|;>\n]*)", page):
+        sizes = re.findall(r"--(?:page|pages|extents|map) \S+", words)
+        image_and_pages = re.sub(r"--\S+?(?: |=)\S+", "", words).split()
+        found[" ".join([*sizes, *image_and_pages])] = None
+    for image in sorted((TOP / "examples").glob("*.img")):
+        name = f"examples/{image.name}"
+        if not any(name in arguments for arguments in found):
+            *_, page, pages, extents = shardscrub("sizes", name).split()
+            found[f"--page {page} --pages {pages} --extents {extents} {name}"] = None
+    answers = {arguments: shardscrub("scan", *arguments.split()) for arguments in found}
+    return [scanned(f"examples: {arguments}", arguments.split(), report) for arguments, report in answers.items() if report]
+
+
+class Grown:
+    """A made-up disk of 300 extents of 80 pages of 64 bytes, whose reports are taken at several times of its life.
+
+    Extents 1 to 270 have chunks, of which each ninth is nearly all garbage; extents 281 to 298 have an index run each.
+    """
+    PAGES, EXTENTS = 80, 300
+
+    def __init__(self, seed):
+        self.random = random.Random(seed)
+        self.disk = Disk(self.PAGES, self.EXTENTS)
+        self.chunks = []
+        for extent in range(1, 271):
+            self.fill(extent)
+        self.shards = self.bound_chunks()
+        self.runs = [self.index_run(281 + k, self.shards[k::18]) for k in range(18)]
+
+    def named(self):
+        """A new UUID; each twentieth is one of four, and so some chunks have twins."""
+        return uuid(self.random.randrange(0xF0, 0xF4)) if self.random.random() < .05 else self.random.randbytes(16)
+
+    def fill(self, extent):
+        is_garbage, offset = extent % 9 == 0, 0
+        while offset < 3000:
+            form = [sealed_frame] if self.random.random() < .3 else []
+            payload = self.random.randbytes(self.random.randrange(1, 1200))
+            locator = self.disk.chunk(extent, offset, self.named(), payload, *form)
+            if self.random.random() < (.1 if is_garbage else .9):
+                self.chunks.append(locator)
+            offset = self.disk.pointers[extent - 1]
+            if self.random.random() < .1:
+                offset += -offset % self.disk.page
+
+    def bound_chunks(self):
+        """Pairs of an identifier and one to five chunks; now and then one that another shard has too."""
+        free, shards = self.chunks[:], []
+        self.random.shuffle(free)
+        for number in range(1, 250):
+            some = [free.pop() for _ in range(self.random.randrange(1, 6))]
+            if number % 40 == 0:
+                some.append(self.random.choice(shards)[1][0])
+            shards.append((self.random.randbytes(12) + number.to_bytes(4, "big"), some))
+        return shards
+
+    def index_run(self, extent, shards):
+        return self.disk.chunk(extent, 0, self.named(), run(*sorted(shards)))
+
+    def collide(self, extent):
+        """Behind what an extent has: a chunk whose end a crash lost, a new one over it, and the new one's locator."""
+        begin = self.disk.pointers[extent - 1]
+        bound = begin + 38 + -(begin + 38) % self.disk.page
+        self.disk.chunk(extent, begin, bytes(14) + MAGIC, b"x" * (bound + 2 - 38 - begin))
+        return self.disk.chunk(extent, bound, uuid(extent % 256), b"abc")
+
+
+def report_of(folder, name, disk, bad=()):
+    image = folder / "image"
+    image.write_bytes(disk.bytes)
+    sizes = ["--page", disk.page, "--pages", disk.pages, "--extents", disk.extents]
+    arguments = [*sizes, image, *(f"{extent}:{page}" for extent, page in bad)]
+    return scanned(name, arguments, shardscrub("scan", *arguments))
+
+
+def damaged_lives(folder):
+    """A disk, with damage that leaves no doubt to a report, without that again, and with two extents retired."""
+    grown = Grown(1)
+    disk, runs = grown.disk, grown.runs
+    hidden = [grown.collide(extent) for extent in (7, 14, 21, 28, 35, 42)]
+    runs.insert(0, grown.index_run(299, [(shard(200 + k), [locator]) for k, locator in enumerate(hidden)]))
+    disk.superblock(0, 3, *runs)
+    yield report_of(folder, "a first disk", disk)
+    kept = bytes(disk.bytes)
+    for extent in range(50, 80, 4):
+        disk.spoil(extent, grown.random.randrange(1500))
+    bad = [(100, 3), (100, 4), (100, 5), (110, 0), (111, 7), (111, 9), (120, 20), (121, 1)]
+    yield report_of(folder, "the first disk, damaged", disk, bad)
+    yield report_of(folder, "the first disk, with other pages that can't be read", disk, bad[2:] + [(130, 11), (200, 0)])
+    disk.bytes[:] = kept
+    disk.superblock(40, 4, *runs, retired=[60, 100])
+    yield report_of(folder, "the first disk, with retired extents", disk, [(101, 1), (110, 0)])
+    disk.superblock(0, 5, *runs[1:], retired=[100])
+    yield report_of(folder, "the first disk, without its newest run", disk, [(60, 2), (60, 3)])
+
+
+def doubtful_lives(folder):
+    """A disk with each doubt, some of which go away again."""
+    grown = Grown(2)
+    disk, runs = grown.disk, grown.runs
+    disk.superblock(0, 2 ** 53, *runs)
+    yield report_of(folder, "a second disk", disk)
+    disk.superblock(0, 2 ** 53 + 1, *runs[1:])
+    yield report_of(folder, "the second disk, a generation later", disk)
+    disk.superblock(0, 2 ** 53, *runs)
+    for extent in (10, 20, 30, 40, 50, 60, 275):
+        disk.put(extent, disk.pointers[extent - 1] + extent, b"later")
+    yield report_of(folder, "the second disk, with tails", disk)
+    disk.put(10, 4000, b"later still")
+    disk.put(20, disk.pointers[19] + 20, bytes(5))
+    disk.put(281, 60, b"?")
+    behind = [(30, 75), (30, 76), (31, 79), (276, 0), (276, 1), (276, 3), (277, 9)]
+    across = [(extent, disk.pointers[extent - 1] // 64) for extent in (32, 33, 34)]
+    below = [(extent, 2) for extent in (285, 40, 41)]
+    yield report_of(folder, "the second disk, with each doubt but two", disk, behind + across + below)
+    disk.spoil(282, 60)
+    disk.superblock(40, 2 ** 53, *runs[:9])
+    extent_0 = [(0, page) for page in (70, 72, 74, 76, 77, 79)]
+    yield report_of(folder, "the second disk, with a tie and pages of extent 0 lost", disk, extent_0 + below)
+    disk.superblock(0, 2 ** 53 - 1, *runs[1:])
+    disk.put(0, 40 * 64, bytes(40 * 64))
+    yield report_of(folder, "the second disk, with an older superblock", disk, below)
+    disk.put(10, disk.pointers[9], bytes(200))
+    disk.reset(281)
+    disk.superblock(0, 2 ** 53 - 1, *runs[1:])
+    yield report_of(folder, "the second disk, with another superblock of that generation", disk)
+    disk.spoil(0, 20)
+    yield report_of(folder, "the second disk, without a superblock", disk, [(0, 5), (31, 79), (40, 2)])
+
+
+def unowned_disks(folder):
+    """Clean disks of so many chunks that nobody names and so many empty index runs, round nine of ten chunks and ten of them."""
+    for orphans, runs in ((9, 1), (8, 1), (9, 2), (9, 0), (10, 0), (18, 2)):
+        disk = Disk(24, 4)
+        for k in range(orphans):
+            disk.chunk(1, 64 * k, uuid(k), b"abc")
+        disk.superblock(0, 4, *(disk.chunk(2, 128 * k, uuid(0x80 + k), run()) for k in range(runs)))
+        yield report_of(folder, f"{orphans} chunks without an owner and {runs} index runs", disk)
+
+
+def small_disks():
+    """Reports of hold.py's disks by the slow reference; half of them once more, with a bit flipped and a page lost."""
+    disks, pairs = [], []
+    for seed in range(SMALL_DISKS):
+        choice = random.Random(seed)
+        made = Made(choice)
+        bad = made.make()
+        disks.append(by_reference(f"small disk {seed}", made, bad))
+        if len(pairs) < SMALL_PAIRS and disks[-1].report["super"]["page"] is not None and seed % 2:
+            for _ in range(3):
+                made.raw[choice.randrange(len(made.raw))] ^= 1 << choice.randrange(8)
+            lost = (choice.randrange(made.e), choice.randrange(made.n))
+            pairs.append((disks[-1], by_reference(f"small disk {seed}, later", made, [*bad[1:], lost])))
+    return disks, pairs
+
+
+def by_reference(name, made, bad):
+    image = Image(bytes(made.raw), made.p, made.n, made.e, bad)
+    report = json.loads(json.dumps(scrub(image)[0]))
+    return Scanned(name, report, known([list(map(str, words)) for words in doubts_of(image, report)]))
+
+
+# How numbers and lists are written
+
+def counted(number, noun):
+    return f"{number} {noun}" + "s" * (number != 1)
+
+
+def size(number):
+    text = counted(number, "byte")
+    for unit, of in (("MiB", 2 ** 20), ("KiB", 2 ** 10)):
+        if number >= of:
+            return f"{text} ({(Decimal(number) / of).quantize(Decimal('.1'), ROUND_HALF_UP)} {unit})"
+    return text
+
+
+def first_ones(texts, rest="other"):
+    texts = list(map(str, texts))
+    return ", ".join(texts[:4]) + (f" and {counted(len(texts) - 4, rest)}" if len(texts) > 4 else "")
+
+
+def listed(texts, rest="other"):
+    texts = list(texts)
+    return ": " + first_ones(texts, rest) if texts else ""
+
+
+def with_total(total, texts, rest):
+    """The one text, or how much they are together and the first four."""
+    if len(texts) == 1:
+        return texts[0]
+    more = [f"and {counted(len(texts) - 4, rest)}"] if len(texts) > 4 else []
+    return f"{total}: {'; '.join(texts[:4] + more)}"
+
+
+def ranges(pairs):
+    """Pages as texts, neighbours of one extent together."""
+    texts, left = [], set(pairs)
+    for extent, page in sorted(left):
+        if (extent, page - 1) not in left:
+            last = page
+            while (extent, last + 1) in left:
+                last += 1
+            texts.append(f"{extent}:{page}" + (f"-{last}" if last > page else ""))
+    return texts
+
+
+def bad_pages(report):
+    pages = {(extent["extent"], page) for extent in report["extents"] for page in extent["bad"]}
+    return pages | {(0, page) for page in report["super"]["bad"]}
+
+
+def items_of(report):
+    """(extent, kind, start, bytes) of each item."""
+    for extent in report["extents"]:
+        for line in extent["items"]:
+            kind, start, stop = line.split(" ")[:3]
+            yield extent["extent"], kind, int(start), int(stop) - int(start)
+
+
+# What a summary has to be
+
+def sides(report):
+    """The unreadable pages that lie below the pointer of their extent, across it, and behind it."""
+    lost = {(extent, start // report["geometry"]["page"]): length
+            for extent, kind, start, length in items_of(report) if kind == "lost"}
+    where = defaultdict(list)
+    for place in bad_pages(report):
+        if place[0] > 0:
+            length = lost.get(place)
+            where["behind" if length is None else "below" if length == report["geometry"]["page"] else "across"].append(place)
+    return where
+
+
+def unreadable_text(report, has_superblock):
+    bad, where = bad_pages(report), sides(report)
+    lists = {"extent 0": [place for place in bad if place[0] == 0]}
+    if has_superblock:
+        lists |= {"below a write pointer": where["below"], "across one": where["across"], "behind one": where["behind"]}
+    else:
+        lists["others"] = [place for place in bad if place[0] > 0]
+    texts = (f"{name}: {first_ones(ranges(places), 'other range') or 'none'}" for name, places in lists.items())
+    return counted(len(bad), "page") + (": " + "; ".join(texts) if bad else "")
+
+
+def doubt_lines(report, doubts):
+    """The lines of the doubts, from those of `reclaimable`."""
+    by_kind = defaultdict(list)
+    for kind, *words in doubts:
+        by_kind[kind].append(words)
+    texts = {"no-superblock": "no valid superblock of these sizes",
+             "tie": "two or more superblocks have the greatest generation"}
+    pages = [int(page) for page, in by_kind["superblock-lost"]]
+    neighbours = [text.removeprefix("0:") for text in ranges((0, page) for page in pages)]
+    texts["superblock-lost"] = (f"page {pages[0]} of extent 0" if len(pages) == 1
+                                else f"{len(pages)} pages of extent 0{listed(neighbours, 'other range')}")
+    runs = [(k, state, report["runs"][int(k)]) for k, state in by_kind["run-lost"]]
+    texts["run-lost"] = counted(len(runs), "index run") + listed(
+        f"run {k} {state} in extent {run['extent']} at byte {run['offset']}" for k, state, run in runs)
+    tails = by_kind["tail"]
+    texts["tail"] = with_total(f"{len(tails)} extents, {size(sum(int(length) for *_, length in tails))}",
+                               [f"extent {extent} from byte {begin}, {size(int(length))}" for extent, begin, length in tails],
+                               "other")
+    lost = [tuple(map(int, words)) for words in by_kind["tail-lost"]]
+    texts["tail-lost"] = with_total(f"{counted(len({extent for extent, *_ in lost}), 'extent')}, "
+                                    f"{sum(last + 1 - first for _, first, last in lost)} pages",
+                                    [f"extent {extent}, page {first}" if first == last
+                                     else f"extent {extent}, pages {first}-{last}" for extent, first, last in lost],
+                                    "other range")
+    return [f"    {kind}: {text}" for kind, text in texts.items() if by_kind[kind]]
+
+
+def findings(report, doubts):
+    kinds = Counter(kind for _, kind, _, _ in items_of(report))
+    several = Counter(kind for kind, *_ in doubts)
+    found = ["no superblock"] * several["no-superblock"] + ["a tie of superblocks"] * several["tie"]
+    shared, of_extent_0 = len(report["shared"]), several["superblock-lost"]
+    others = len(bad_pages(report)) - of_extent_0
+    chunks, orphans = kinds["chunk"] + kinds["sealed"], len(report["orphans"])
+    is_nearly_all = chunks >= 10 and Fraction(orphans, chunks) >= Fraction(9, 10) and not several["no-superblock"]
+    for number, text in ((of_extent_0, counted(of_extent_0, "unreadable page") + " of extent 0, which may have held "
+                          + ("one" if several["no-superblock"] else "a newer superblock")),
+                         (several["run-lost"], counted(several["run-lost"], "lost run")),
+                         (is_nearly_all, f"{orphans} of {chunks} chunks have no owner"),
+                         (len(report["broken"]), counted(len(report["broken"]), "broken shard")),
+                         (len(hidden_places(report)), counted(len(hidden_places(report)), "hidden chunk")),
+                         (shared, counted(shared, "chunk") + " with several owners"),
+                         (others, counted(others, "other unreadable page" if of_extent_0 else "unreadable page")),
+                         (kinds["torn"], counted(kinds["torn"], "torn item")),
+                         (kinds["noise"], counted(kinds["noise"], "noise item")),
+                         (several["tail"], counted(several["tail"], "tail"))):
+        found += [text] * (number > 0)
+    return found
+
+
+def hidden_places(report):
+    return sorted({(hidden["extent"], hidden["offset"], hidden["length"]) for hidden in report["hidden"]})
+
+
+def verdict(report, doubts):
+    found = ", ".join(findings(report, doubts))
+    if not report["clean"]:
+        return f"NOT CLEAN{', AND IN DOUBT' if doubts else ''}: {found}"
+    if found:
+        return f"IN DOUBT: {found}; superblocks not checked"
+    return "NOTHING WRONG IN THIS REPORT; superblocks not checked: run superblocks"
+
+
+def summary_of(report, doubts):
+    """The lines of a summary, by the report and the doubts of `reclaimable`."""
+    has_superblock = not any(kind == "no-superblock" for kind, *_ in doubts)
+    unknown = "unknown, without a superblock"
+    geometry, top = report["geometry"], report["super"]
+    orphans = {(orphan["extent"], orphan["offset"]) for orphan in report["orphans"]}
+    sums = defaultdict(lambda: [0, 0])
+    named = {candidate["extent"] for candidate in report["candidates"]}
+    for extent, kind, start, length in items_of(report):
+        keys = [kind]
+        if kind in ("chunk", "sealed"):
+            is_orphan = (extent, start) in orphans
+            keys = ["live"] * (not is_orphan) + ["orphan"] * is_orphan + ["garbage"] * (is_orphan and extent in named)
+        for key in keys:
+            sums[key][0] += 1
+            sums[key][1] += length
+
+    def chunks(key):
+        return f"{counted(sums[key][0], 'chunk')}, {size(sums[key][1])}"
+
+    generation = top["generation"] or 0
+    told = str(generation) if generation < INEXACT else "of 2^53 or more, whose digits superblocks has"
+    lost = sum(kind == "run-lost" for kind, *_ in doubts)
+    broken = sorted({locator["owner"].removeprefix("shard ") for locator in report["dangling"] if "shard" in locator["owner"]})
+    reasons = Counter(locator["reason"] for locator in report["dangling"] if "shard" in locator["owner"])
+    why = (f"; {counted(reasons.total(), 'bad locator')}: "
+           + ", ".join(f"{reasons[reason]} {reason}" for reason in sorted(reasons))
+           + "; locators says how much of each is left") if reasons else ""
+    generation_name = f"generation {generation}" if generation < INEXACT else "that generation"
+    whole = sums["live"][0] + sums["orphan"][0]
+    if report["shards"] == 0 and sums["orphan"][0] > 0:
+        shards = (f"0 known, though {counted(whole, 'whole chunk')} {'is' if whole == 1 else 'are'} on the disk: "
+                  f"is {generation_name} stale?")
+    else:
+        shards = f"{report['shards']} known, {len(broken)} broken, {len(report['doubtful'])} doubtful"
+    misfits = {(locator["extent"], locator["offset"]) for locator in report["dangling"]
+               if locator["reason"] in ("wrong_uuid", "wrong_length", "wrong_digest")}
+    claimed = len(misfits & orphans)
+    keep = ("" if claimed == 0 else "; 1 of them is claimed by a locator that it doesn't fit: keep it" if claimed == 1
+            else f"; {claimed} of them are claimed by locators that they don't fit: keep them")
+    hidden = hidden_places(report)
+    kept = sum(len(candidate["keep"]) for candidate in report["candidates"])
+    gain = f"{counted(len(named), 'extent')}, {size(sum(c['free'] for c in report['candidates']))}"
+    texts = {
+        "sizes": f"{geometry['extents']} extents of {counted(geometry['pages'], 'page')} of {geometry['page']} bytes, "
+                 + size(geometry["extents"] * geometry["pages"] * geometry["page"])
+                 + (f"; {len(report['retired'])} retired{listed(report['retired'])}" if has_superblock else ""),
+        "superblock": f"generation {told}, on page {top['page']}; {counted(top['records'], 'record')}; "
+                      "is that generation the last in the node's log?" if has_superblock
+                      else "none of these sizes: run sizes and superblocks",
+        "index runs": f"{len(report['runs'])} named, {len(report['runs']) - lost} read, {lost} lost",
+        "shards": shards,
+        "broken": f"{len(broken)} of {counted(report['shards'], 'shard')}{listed(broken)}{why}",
+        "live": f"{chunks('live')}; {len(report['shared'])} with several owners",
+        "unnamed": chunks("orphan") + keep + (f"; in candidates (garbage if nothing is in doubt): {chunks('garbage')}"
+                                              if has_superblock else "; owner unknown"),
+        "hidden": counted(len(hidden), "chunk")
+                  + (f", {size(sum(length for *_, length in hidden))} of payload, readable by "
+                     f"{'its' if len(hidden) == 1 else 'their'} locators, inside torn, noise or other items" if hidden else "")
+                  + listed(f"extent {extent} at byte {offset}" for extent, offset, _ in hidden),
+        "other items": "; ".join(f"{sums[kind][0]} {kind}, {size(sums[kind][1])}" for kind in ("torn", "noise", "pad")),
+        "unreadable": unreadable_text(report, has_superblock),
+        "doubts": (f"{len(doubts)}, see docs/REPORT.md" if doubts else "none that a report knows")
+                  + "; superblock damage isn't in a report: run superblocks",
+        "candidates": f"nothing may be reclaimed until each doubt is settled (the report alone would list {gain})" if doubts
+                      else f"{gain}, {counted(kept, 'chunk')} to move first, if reclaimable agrees: run it before any reset, "
+                           f"and compare {generation_name} with the node's log"}
+    if not has_superblock:
+        texts |= {name: unknown for name in ("index runs", "shards", "broken", "live", "hidden")}
+    lines = [f"  {name:<12}{text}" for name, text in texts.items()]
+    return [verdict(report, doubts), *lines[:-1], *doubt_lines(report, doubts), lines[-1]]
+
+
+# What the changes between two reports have to be
+
+def places(report):
+    found = sorted({(hidden["extent"], hidden["offset"], hidden["uuid"]) for hidden in report["hidden"]})
+    return [f"extent {extent} at {offset} ({uuid})" for extent, offset, uuid in found]
+
+
+def tails_of(report):
+    return {e["extent"]: f"extent {e['extent']} from {e['tail_at']} ({e['tail']})" for e in report["extents"] if e["tail"]}
+
+
+def lost_runs(report):
+    """Of the runs that are lost, the text of each by its number and place."""
+    lost = [(k, f"extent {run['extent']} at {run['offset']}", run["state"])
+            for k, run in enumerate(report["runs"]) if run["entries"] is None]
+    return {(k, place): f"run {k} {state} in {place}" for k, place, state in lost}
+
+
+def named_runs(report):
+    return {f"extent {run['extent']} at {run['offset']}" for run in report["runs"]}
+
+
+@functools.cache
+def jq_rounds():
+    """Whether jq takes two neighbours for the same number. Newer ones don't."""
+    return json.loads(subprocess.run(["jq", "-n", f"{INEXACT} == {INEXACT + 1}"], capture_output=True, check=True).stdout)
+
+
+def as_jq_reads(value):
+    return float(value) if isinstance(value, int) and value >= INEXACT and jq_rounds() else value
+
+
+def generation_line(old, new):
+    before, now = old["super"]["generation"], new["super"]["generation"]
+
+    def text(generation):
+        return "none" if generation is None else str(generation) if generation < INEXACT else "2^53 or more"
+
+    def contents(report):
+        return [(e["extent"], e["pointer"]) for e in report["extents"]], [(r["extent"], r["offset"]) for r in report["runs"]]
+
+    line = f"generation: {text(before)} -> {text(now)}"
+    if None in (before, now):
+        return line + (": a superblock is there again" if now is not None else
+                       ". NO SUPERBLOCK ANY MORE: reclaim nothing" if before is not None else "")
+    if as_jq_reads(now) < as_jq_reads(before):
+        return line + ". SMALLER THAN BEFORE: a newer superblock was lost, or the reports are in the wrong order. Reclaim nothing"
+    if as_jq_reads(now) > as_jq_reads(before):
+        return line
+    if contents(old) != contents(new):
+        return (line + (". THE SAME" if now < INEXACT else ". PERHAPS THE SAME")
+                + ", AND THE SUPERBLOCK SAYS OTHER THINGS: find out who wrote it, and reclaim nothing until then")
+    return line + ("" if now < INEXACT else ". jq can't tell whether these are the same: superblocks has the digits")
+
+
+def page_changes(old, new):
+    bad_before, bad_now = bad_pages(old), bad_pages(new)
+    seen_before, seen_now = ({0} | {e["extent"] for e in report["extents"]} for report in (old, new))
+    lists = {"newly unreadable": {place for place in bad_now - bad_before if place[0] in seen_before},
+             "unreadable, in extents that were retired before": {place for place in bad_now if place[0] not in seen_before},
+             "readable again (was the map given, and the same pages?)":
+                 {place for place in bad_before - bad_now if place[0] in seen_now}}
+    return [f"{name}: {counted(len(pages), 'page')}{listed(ranges(pages), 'other range')}"
+            for name, pages in lists.items() if pages]
+
+
+def list_changes(old, new):
+    """The lines of shards, runs, chunks, tails and retired extents."""
+    reasons = defaultdict(set)
+    for locator in new["dangling"]:
+        reasons[locator["owner"]].add(locator["reason"])
+    lost_before, lost_now = lost_runs(old), lost_runs(new)
+    were = {place for _, place in lost_before}
+    no_longer = were - {place for _, place in lost_now}
+    tails_before, tails_now = tails_of(old), tails_of(new)
+    looked_at = {e["extent"] for e in new["extents"]}
+    moved = [f"{text} -> {tails_now[extent].split(' ', 2)[2]}" for extent, text in tails_before.items()
+             if extent in tails_now and tails_now[extent] != text]
+
+    def besides(these, others):
+        return [one for one in these if one not in others]
+
+    lines = []
+    for name, noun, texts in (
+            ("newly broken", "shard",
+             [f"{i} ({' and '.join(sorted(reasons[f'shard {i}']))})" for i in besides(new["broken"], old["broken"])]),
+            ("no longer broken (whole again, deleted, or in no index run that is read)", "shard",
+             besides(old["broken"], new["broken"])),
+            ("newly doubtful", "shard", besides(new["doubtful"], old["doubtful"])),
+            ("no longer doubtful", "shard", besides(old["doubtful"], new["doubtful"])),
+            ("newly lost", "index run", [text for (_, place), text in lost_now.items() if place not in were]),
+            ("read again", "index run", sorted(no_longer & named_runs(new))),
+            ("lost, and no longer named", "index run", sorted(no_longer - named_runs(new))),
+            ("newly hidden", "chunk", besides(places(new), places(old))),
+            ("no longer hidden (an item again, or damaged, or no longer named)", "chunk", besides(places(old), places(new))),
+            ("new", "tail", [text for extent, text in tails_now.items() if extent not in tails_before]),
+            ("changed", "tail", moved),
+            ("gone (below the write pointer now, zero, or unreadable)", "tail",
+             [text for extent, text in tails_before.items() if extent not in tails_now and extent in looked_at]),
+            ("newly retired, so not looked at", "extent", besides(new["retired"], old["retired"])),
+            ("no longer retired", "extent", besides(old["retired"], new["retired"]))):
+        if texts:
+            lines.append(f"{name}: {counted(len(texts), noun)}{listed(texts)}")
+    return lines
+
+
+def count_changes(old, new):
+    """The lines of numbers, by name."""
+    sums = []
+    for report in (old, new):
+        orphans = {(orphan["extent"], orphan["offset"]) for orphan in report["orphans"]}
+        kinds = Counter(kind for _, kind, _, _ in items_of(report))
+        live = sum(length for extent, kind, start, length in items_of(report)
+                   if kind in ("chunk", "sealed") and (extent, start) not in orphans)
+        sums.append({"shards known": report["shards"], "live": size(live), "chunks that nobody names": len(orphans),
+                     "chunks with several owners": len(report["shared"]),
+                     "torn items": kinds["torn"], "noise items": kinds["noise"]})
+    return [f"{name}: {sums[0][name]} -> {sums[1][name]}" for name in sums[0] if sums[0][name] != sums[1][name]]
+
+
+def changes_of(old, new):
+    """The lines of the changes: the first, the second and the last in this order, and the others in some order."""
+    word = {True: "clean", False: "NOT CLEAN"}
+    lines = page_changes(old, new)
+    if old["super"]["tie"] != new["super"]["tie"]:
+        lines.append(f"tie of superblocks: {str(old['super']['tie']).lower()} -> {str(new['super']['tie']).lower()}")
+    if None in (old["super"]["page"], new["super"]["page"]):
+        lines.append("not compared, without a superblock in both: shards, chunks, index runs, tails, retired extents")
+    else:
+        lines += list_changes(old, new) + count_changes(old, new)
+    before, now = (report | {"super": {key: as_jq_reads(value) for key, value in report["super"].items()}}
+                   for report in (old, new))
+    differing = [key for key in sorted(old) if before[key] != now[key]]
+    lines.append(f"the reports differ in: {', '.join(differing)}" if differing else "nothing changed")
+    gains = [f"{size(sum(c['free'] for c in report['candidates']))} in {counted(len(report['candidates']), 'candidate')}"
+             for report in (old, new)]
+    return [f"{word[new['clean']]}, " + ("as before" if old["clean"] == new["clean"] else f"was {word[old['clean']]}"),
+            "  " + generation_line(old, new), *(f"  {line}" for line in lines),
+            f"  to gain: {gains[0]} -> {gains[1]}; ask reclaimable before a reset"]
+
+
+# The comparison
+
+passed = failed = 0
+
+
+def tell(good, text):
+    global passed, failed
+    passed, failed = passed + bool(good), failed + (not good)
+    if not good:
+        print(f"FAILED: {text}")
+
+
+def jq(words, view, text="", files=()):
+    done = subprocess.run(["jq", *words, "-f", view, *files], input=text.encode(), capture_output=True)
+    return done.returncode, done.stdout.decode(), done.stderr.decode()
+
+
+def hold(name, printed, wanted):
+    wrong = [f"  printed {line!r}" for line in printed if line not in wanted]
+    wrong += [f"  wanted  {line!r}" for line in wanted if line not in printed]
+    tell(printed == wanted, "\n".join([name, *(wrong or ["  the lines are in another order"])]))
+
+
+def hold_summaries(reports):
+    """Each report in a file of many, with a name, and the first one alone. Returns the lines of all summaries."""
+    rows = "".join(json.dumps({"disk": one.name, "status": 0, "text": ""} | one.report) + "\n" for one in reports)
+    status, printed, error = jq(["-r"], SUMMARY, rows)
+    tell((status, error) == (0, ""), f"summaries: status {status}, {error}")
+    summaries = re.split(r"\n(?! )", printed.removesuffix("\n"))
+    tell(len(summaries) == len(reports), f"{len(summaries)} summaries of {len(reports)} reports")
+    all_wanted = [summary_of(one.report, one.doubts) for one in reports]
+    for one, summary, wanted in zip(reports, summaries, all_wanted):
+        hold(f"summary of {one.name}", summary.split("\n"), [f"{one.name}: {wanted[0]}", *wanted[1:]])
+    alone = jq(["-r"], SUMMARY, json.dumps(reports[0].report))
+    tell(alone == (0, "\n".join(all_wanted[0]) + "\n", ""), f"a summary without a name: {alone}")
+    return [line for lines in all_wanted for line in lines]
+
+
+def hold_changes(pairs, folder):
+    """What changed between the reports of each pair. Returns the lines of all."""
+    files = {}
+    for one in {id(one): one for pair in pairs for one in pair}.values():
+        files[id(one)] = folder / f"{len(files)}.json"
+        files[id(one)].write_text(json.dumps(one.report), encoding="ascii")
+    with ThreadPoolExecutor(os.cpu_count()) as several:
+        answers = list(several.map(lambda pair: jq(["-nr"], CHANGES, files=[files[id(one)] for one in pair]), pairs))
+    all_wanted = []
+    for (old, new), (status, printed, error) in zip(pairs, answers):
+        name = f"changes from {old.name} to {new.name}"
+        tell((status, error) == (0, ""), f"{name}: status {status}, {error}")
+        lines, wanted = printed.splitlines(), changes_of(old.report, new.report)
+        all_wanted += wanted
+        # The order of the lines between the second and the last but one is left to the filter.
+        hold(name, lines[:2] + sorted(lines[2:-2]) + lines[-2:], wanted[:2] + sorted(wanted[2:-2]) + wanted[-2:])
+    return all_wanted
+
+
+# What has to come up in some summary, and in the changes between some two reports.
+IN_SUMMARIES = ("NOTHING WRONG IN THIS REPORT; ", " tail; superblocks not checked", " chunks have no owner; superblocks not checked",
+                "NOT CLEAN: ", "NOT CLEAN, AND IN DOUBT: ", "no superblock", "a tie of", " page of extent 0, which may have held one",
+                " pages of extent 0, which may have held a newer superblock", " lost run", " broken shard", " hidden chunk",
+                " with several owners, ", ", 1 unreadable page", " other unreadable page", " torn item", " noise item",
+                "known, though 1 whole chunk is ", " whole chunks are ", "is that generation stale?", " bad locator: ",
+                " is claimed by ", " are claimed by ", "by its locators, ", "by their locators, ", "; others: none",
+                "pointer: none", "across one: none", "behind one: none", "    no-superblock: ", "    tie: ",
+                "    superblock-lost: page ", " pages of extent 0: ", "    run-lost: ", "    tail: extent ", "; and 3 others",
+                "    tail-lost: extent ", ", pages ", "; and 1 other range", "compare that generation", "of 2^53 or more", "KiB", "MiB",
+                " other range", "owner unknown")
+IN_CHANGES = ("clean, as before", "clean, was NOT CLEAN", "NOT CLEAN, as before", "NOT CLEAN, was clean", "there again",
+              "NO SUPERBLOCK", "SMALLER", ". THE SAME", "PERHAPS THE SAME", "jq can't tell", "nothing changed", "differ in: ",
+              "not compared", "tie of superblocks: ", "shards known: ", "  live: ", "chunks that nobody names: ",
+              "chunks with several owners: ", "torn items: ", "noise items: ", "newly unreadable: ", "retired before: ",
+              "same pages?): ", "newly broken: ", "that is read): ", "newly doubtful: ", "no longer doubtful: ", "newly lost: ",
+              "read again: ", "lost, and no longer named: ", "newly hidden: ", "or no longer named): ", "  new: ", "  changed: ",
+              "or unreadable): ", "newly retired, ", "no longer retired: ", " other range")
+
+
+def hold_coverage(lines, parts):
+    """None of the comparisons was of nothing."""
+    for part in parts:
+        tell(any(part in line for line in lines), f"nothing has {part!r}")
+
+
+def is_refusal(status, printed, error, text):
+    return (status, printed) == (5, "") and error.count("\n") == 1 and text in error
+
+
+def hold_refusals(reports):
+    """What isn't a report, or isn't two of one disk, is refused with one line and status 5, and nothing is printed."""
+    report = reports[0].report
+    row = {"disk": "sda\n", "status": 3, "text": "shardscrub: image cannot be opened: sda\n"}
+    answer = jq(["-r"], SUMMARY, json.dumps(row))
+    wanted = (0, "sda : NOT ANSWERED, status 3: shardscrub: image cannot be opened: sda \n", "")
+    tell(answer == wanted, f"a row without a report: {answer}")
+    less = {key: report[key] for key in report if key != "twins"}
+    for what in (less, row | less, row | {"lines": []}, {"disk": "sda"}, [report], 3, None):
+        status, printed, error = jq(["-r"], SUMMARY, json.dumps(what))
+        tell(is_refusal(status, printed, error, "not a report of shardscrub scan"), f"summary of {str(what)[:60]}: {status} {error}")
+
+    other = next(one.report for one in reports if one.report["geometry"] != report["geometry"])
+    for words, given, text in ((["-nr"], [report], "two reports are needed"),
+                               (["-nr"], [report, report, report], "two reports are needed"),
+                               (["-r"], [report, report], "two reports are needed"),
+                               (["-nr"], [], "two reports are needed"),
+                               (["-nr"], [report, other], "the reports have other sizes"),
+                               (["-nr"], [report, less], "not a report of shardscrub scan"),
+                               (["-nr"], [row, report], "not a report of shardscrub scan"),
+                               (["-nr"], [report | {"disk": "a"}, report | {"disk": "b"}], "the reports are of two disks")):
+        status, printed, error = jq(words, CHANGES, "".join(map(json.dumps, given)))
+        tell(is_refusal(status, printed, error, text), f"changes, {text}: {status} {printed} {error}")
+
+
+def main():
+    with tempfile.TemporaryDirectory() as room:
+        folder = Path(room)
+        examples = example_reports()
+        images = {path.name for path in (TOP / "examples").glob("*.img")}
+        tell(all(any(image in one.name for one in examples) for image in images), "not every image of examples/ is held")
+        first, second = list(damaged_lives(folder)), list(doubtful_lives(folder))
+        disks, pairs = small_disks()
+        for lives in (first, second):
+            for old, new in zip(lives, lives[1:] + lives[:1]):
+                pairs += [(old, new), (new, old)]
+        for old in examples:
+            pairs += [(old, new) for new in examples if new.report["geometry"] == old.report["geometry"]][:2]
+        reports = examples + first + second + list(unowned_disks(folder)) + disks
+        hold_coverage(hold_summaries(reports), IN_SUMMARIES)
+        hold_coverage(hold_changes(pairs, folder), IN_CHANGES)
+        hold_refusals(reports)
+    print(f"{passed} passed, {failed} failed")
+    return 1 if failed else 0
+
+
+if __name__ == "__main__":
+    sys.exit(main())
