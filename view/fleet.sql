@@ -1,0 +1,62 @@
+-- Reads the rows that view/row prints, those of scan and those of reclaimable, into the tables of a new database:
+--
+--   cat scan.jsonl reclaimable.jsonl | sqlite3 fleet.db '.read view/fleet.sql'
+--
+-- Needs SQLite 3.38 or newer. If a line is refused, the status is 1 and the database stays empty.
+.bail on
+BEGIN;
+
+-- Each line is one value: no line has the byte 037, since JSON escapes it.
+CREATE TEMP TABLE input (line TEXT);
+.mode ascii
+.separator "\037" "\n"
+.import /dev/stdin input
+
+-- What scan said. The last four are NULL if the disk wasn't answered.
+CREATE TABLE disks (
+    disk TEXT PRIMARY KEY NOT NULL,
+    status INTEGER NOT NULL,
+    text TEXT NOT NULL,
+    generation TEXT,        -- SQLite would round one above 2^63 - 1; 'null' without a superblock
+    broken INTEGER,         -- shards
+    unreadable INTEGER,     -- pages
+    candidates INTEGER,     -- bytes that the candidates would free: no permission to reset one
+    CHECK (status < 2 AND broken IS NOT NULL OR status >= 2 AND broken IS NULL)
+);
+INSERT INTO disks
+SELECT
+    line ->> 'disk', line ->> 'status', line ->> 'text',
+    line -> '$.super.generation',
+    json_array_length(line, '$.broken'),
+    json_array_length(line, '$.super.bad') + (SELECT total(json_array_length(value, '$.bad')) FROM json_each(line, '$.extents')),
+    iif(line -> 'candidates' IS NULL, NULL, (SELECT total(value ->> 'free') FROM json_each(line, '$.candidates')))
+FROM input WHERE json_type(line, '$.lines') IS NULL;
+
+CREATE TABLE broken (disk TEXT NOT NULL, shard TEXT NOT NULL);
+INSERT INTO broken
+SELECT line ->> 'disk', value FROM input, json_each(line, '$.broken');
+
+-- What reclaimable said. The gain is in bytes. It is 0 if there is a doubt, and NULL if the disk wasn't answered.
+CREATE TABLE reclaimable (
+    disk TEXT PRIMARY KEY NOT NULL,
+    status INTEGER NOT NULL,
+    text TEXT NOT NULL,
+    gain INTEGER,
+    CHECK (status < 2 AND gain IS NOT NULL OR status >= 2 AND gain IS NULL)
+);
+INSERT INTO reclaimable
+SELECT
+    line ->> 'disk', line ->> 'status', line ->> 'text',
+    iif(json_type(line, '$.lines') = 'null', NULL,
+        (SELECT total(value ->> 2) FROM json_each(line, '$.lines') WHERE value ->> 0 = 'reclaim'))
+FROM input WHERE json_type(line, '$.lines') IS NOT NULL;
+
+-- The doubts of reclaimable, and each disk that it didn't answer.
+CREATE TABLE doubts (disk TEXT NOT NULL, kind TEXT NOT NULL, words TEXT NOT NULL);
+INSERT INTO doubts
+SELECT line ->> 'disk', value ->> 1, (SELECT coalesce(group_concat(value, ' '), '') FROM json_each(doubt.value) WHERE key > 1)
+FROM input, json_each(line, '$.lines') AS doubt WHERE value ->> 0 = 'doubt';
+INSERT INTO doubts
+SELECT disk, 'unanswered', coalesce(reclaimable.text, '') FROM disks LEFT JOIN reclaimable USING (disk) WHERE gain IS NULL;
+
+COMMIT;
