@@ -3,17 +3,23 @@
 
 usage: bench/view.py [CHROMIUM]      (default: the first of chromium, chromium-browser, google-chrome that is found)
 
-Opens each report of examples/README.md, alone and with locators that fit it, and compares the counts that the page tells
-with those made of the report here; hovers over its items, and follows each link beside the picture. Then the ways to open
-a file, what can't be opened, a file of several reports, the reports of disks that hold.py makes up, and a made-up report
-of 100,000 items, with the time that it takes. Screenshots go into a new folder of the system's folder for passing files.
-Ends with 'N passed, M failed'. Exit status: 0 where all passed, 1 where something failed, 2 where Chromium isn't found or
-doesn't start.
+The picture must never look better than the disk. So this opens the disks of picture.py, alone and with each choice of the
+outputs of superblocks, locators and reclaimable, and compares each count, the verdict with its computed colour, the
+headline, the cells of the overview by their pixels, and that nothing on the screen is green unless the verdict is sound.
+It does the same with the reports of examples/README.md and of disks that hold.py makes up. It hovers over items and follows
+each link; it tries the ways to open a file, what can't be opened, outputs that don't fit, rows of disks without a report,
+and made-up reports of 100,000 items and of 65,536 extents, with the times that they take. At last it opens wrong pages, made
+by changing one place of the page, and each has to be seen as wrong. Where ./shardscrub is built, its outputs have to be
+those that the disks of picture.py are opened with.
+
+Screenshots go into a new folder of the system's folder for temporary files. Ends with 'N passed, M failed'. Exit status: 0
+if all passed, 1 if something failed, 2 if Chromium isn't found or doesn't start.
 """
 import base64
 import fcntl
 import functools
 import http.server
+import itertools
 import json
 import os
 import random
@@ -27,14 +33,18 @@ import time
 from collections import Counter
 from pathlib import Path
 sys.path.insert(0, os.path.dirname(os.path.abspath(__file__)))
+import picture
 from hold import Made
-from reference import Image, scrub
+from picture import OUTPUTS, Pictured, is_chunk, items_of, joined, kind_of
+from reference import Image
 
 TOP = Path(__file__).resolve().parent.parent
 PAGE = TOP / "view/report.html"
 BROWSERS = ("chromium", "chromium-browser", "google-chrome")
 ITEMS = 100_000
-MADE_UP = 200
+MADE_UP = 100
+# Whether ./shardscrub would run without a build.
+BUILT = TOP / "crates/scrub_cli/out/shardscrub.built"
 # The most that a draw may take, and from the text of that report to its picture, in milliseconds.
 MOST_DRAW, MOST_OPENING = 250, 5000
 
@@ -117,11 +127,18 @@ class Browser:
         for _ in range(600):
             told = json.loads(self.value("document.getElementById('told')?.textContent ?? '{}'"))
             if told.get("state") and state in (None, told["state"]):
-                # One frame more, for what is drawn late.
-                self.value("new Promise(done => requestAnimationFrame(() => requestAnimationFrame(done)))")
+                self.settle()
                 return told
             time.sleep(.05)
         return {}
+
+    def forget(self):
+        """Empties what the page reports, so that what it reports next is waited for."""
+        self.value("document.getElementById('told').textContent = '{}'")
+
+    def settle(self):
+        """Waits for what is drawn with the next frame."""
+        self.value("new Promise(done => requestAnimationFrame(() => requestAnimationFrame(done)))")
 
     def text(self, name):
         return self.value(f"document.getElementById('{name}').innerText")
@@ -180,70 +197,23 @@ def example_reports():
 
 def written(report):
     """A report as one line, as scan prints it."""
-    return json.dumps(report, separators=(",", ":")) + "\n"
-
-
-def items_of(report):
-    """(extent, words) of each item."""
-    return [(told["extent"], line.split(" ")) for told in report["extents"] for line in told["items"]]
-
-
-def is_chunk(words):
-    return words[0] in ("chunk", "sealed")
+    return json.dumps(report, sort_keys=True, separators=(",", ":")) + "\n"
 
 
 def live_chunks(report):
-    orphans = {(place["extent"], place["offset"]) for place in report["orphans"]}
-    return [(extent, words) for extent, words in items_of(report)
-            if is_chunk(words) and (extent, int(words[1])) not in orphans]
+    kind = kind_of(report)
+    return [(extent, words) for extent, words in items_of(report) if kind(extent, words) == "live"]
 
 
-def counted(report):
-    """What the page has to tell of a report."""
-    page = report["geometry"]["page"]
-    items = items_of(report)
-    counts, lengths = Counter(), Counter()
-    for _, words in items:
-        kind = "chunk" if is_chunk(words) else words[0]
-        counts[kind] += 1
-        lengths[kind] += int(words[2]) - int(words[1])
-    live_bytes = sum(told["live"] for told in report["extents"])
-    past = [(number + 1) * page - max(number * page, told["pointer"])
-            for told in report["extents"] for number in told["bad"] if (number + 1) * page > told["pointer"]]
-    past += [page] * len(report["super"]["bad"])
-    kinds = {kind: {"count": counts[kind], "bytes": lengths[kind]} for kind in ("pad", "torn", "noise", "lost")}
-    kinds["live"] = {"count": counts["chunk"] - len(report["orphans"]), "bytes": live_bytes}
-    kinds["orphan"] = {"count": len(report["orphans"]), "bytes": lengths["chunk"] - live_bytes}
-    kinds["bad page"] = {"count": len(past), "bytes": sum(past)}
-    has_superblock = report["super"]["page"] is not None
-    kinds["superblock"] = {"count": int(has_superblock), "bytes": page * has_superblock}
-    extents, size = report["geometry"]["extents"], page * report["geometry"]["pages"]
-    wrong = (not has_superblock) + report["super"]["tie"] + len(report["super"]["bad"])
-    wrong += sum(len(told["bad"]) for told in report["extents"]) + counts["torn"] + counts["noise"] + counts["lost"]
-    wrong += sum(run["state"] != "read" for run in report["runs"])
-    wrong += sum(len(report[key]) for key in ("dangling", "hidden", "shared"))
-    return {
-        "clean": report["clean"], "extents": len(report["extents"]), "retired": len(report["retired"]), "wrong": wrong,
-        "candidates": len(report["candidates"]), "free": sum(place["free"] for place in report["candidates"]),
-        "kinds": kinds, "twins": len(report["twins"]), "hidden": len(report["hidden"]),
-        "dangling": sum(one["extent"] < extents and one["offset"] < size for one in report["dangling"]),
-        "tails": sum(told["tail"] > 0 for told in report["extents"]),
-        "generation": "null" if not has_superblock else str(report["super"]["generation"]),
-        "misfits": 0, "fault": None,
-    }
-
-
-def wrong_places(report):
-    """The places that the page has to link of what is wrong, by its groups; none has more than its first ten at once."""
-    page, extents = report["geometry"]["page"], report["geometry"]["extents"]
-    chosen, size = report["super"], page * report["geometry"]["pages"]
-    groups = [[(0, chosen["page"] * page)] if chosen["tie"] else [], [(0, number * page) for number in chosen["bad"]],
-              [(told["extent"], number * page) for told in report["extents"] for number in told["bad"]]]
-    for kind in ("torn", "noise", "lost"):
-        groups.append([(extent, int(words[1])) for extent, words in items_of(report) if words[0] == kind])
-    told = [[run for run in report["runs"] if run["state"] != "read"], report["dangling"], report["hidden"], report["shared"]]
-    groups += [[(one["extent"], one["offset"]) for one in group] for group in told]
-    return [place for group in groups for place in group[:10] if place[0] < extents and place[1] < size]
+def disk_of(command):
+    """The disk of an example, by the words that gave its report; None for the demo's, which has no file."""
+    words = command.split()
+    if "examples/" not in command:
+        return None
+    page, pages, extents = (int(words[words.index(name) + 1]) for name in ("--page", "--pages", "--extents"))
+    file = next(index for index, word in enumerate(words) if word.startswith("examples/"))
+    bad = [tuple(map(int, pair.split(":"))) for pair in words[file + 1:]]
+    return Pictured(Image((TOP / words[file]).read_bytes(), page, pages, extents, bad))
 
 
 def fitting_locators(report):
@@ -293,7 +263,9 @@ def made_up_report(items):
         at = place if extent == extents - 2 else None
         if 0 < 2 * live <= place and extent % 50 == 0:
             candidates.append({"extent": extent, "free": place - live, "keep": keep})
-        told.append({"bad": [], "extent": extent, "items": lines, "live": live, "pointer": place,
+        lost = [line.split() for line in lines if line.startswith("lost")]
+        bad = {number for _, start, stop in lost for number in range(int(start) // page, -(-int(stop) // page))}
+        told.append({"bad": sorted(bad), "extent": extent, "items": lines, "live": live, "pointer": place,
                      "tail": 3 if at is not None else 0, "tail_at": at})
         owner = f"shard {extent:032x}"
         where = {"extent": extent, "length": 10, "offset": 5, "owner": owner, "uuid": twin}
@@ -314,17 +286,31 @@ class Test:
     def __init__(self, browser, site, room, shots):
         self.browser, self.site, self.room, self.shots = browser, site, room, shots
         self.passed = self.failed = 0
+        # The page that is opened, and whether failures are printed: both change for wrong pages.
+        self.page, self.is_loud = "report.html", True
 
     def check(self, what, is_right, found=""):
         if is_right:
             self.passed += 1
         else:
             self.failed += 1
-            print(f"FAILED: {what}" + (f": {str(found)[:600]}" if found != "" else ""), flush=True)
+            if self.is_loud:
+                print(f"FAILED: {what}" + (f": {str(found)[:900]}" if found != "" else ""), flush=True)
 
     def put(self, name, text):
         (self.room / name).write_text(text, encoding="utf-8")
         return self.room / name
+
+    def open(self, report, outputs, name="disk"):
+        """Opens a report with those outputs that aren't None, and gives what the page reports."""
+        self.put(f"{name}.json", written(report))
+        files = [f"{name}.json"]
+        for output in OUTPUTS:
+            if outputs.get(output) is not None:
+                self.put(f"{name}.{output}", outputs[output])
+                files.append(f"{name}.{output}")
+        self.browser.open(f"{self.site}/{self.page}?{'&'.join(files)}")
+        return self.browser.told()
 
     def check_counts(self, what, told, right):
         differing = {key: (told.get(key), right[key]) for key in right if told.get(key) != right[key]}
@@ -334,60 +320,201 @@ class Test:
         self.check(f"{what}: nothing went wrong in the page", not self.browser.errors, self.browser.errors)
         self.browser.errors.clear()
 
+    def check_picture(self, what, told, report, outputs):
+        """Compares all that the page shows of a disk with what picture.py makes of its report and its outputs."""
+        self.check_counts(what, told, picture.told_of(report, outputs))
+        right = picture.verdict(report, outputs)
+        self.check_verdict(what, told, right)
+        texts = self.browser.value("[...document.querySelectorAll('#headline div')].map((box) => "
+                                   "[...box.children].map((one) => one.textContent).filter(Boolean))")
+        self.check(f"{what}: the headline has its sizes", texts == picture.headline_lines(report, outputs),
+                   (texts, picture.headline_lines(report, outputs)))
+        links = self.browser.value("[...document.querySelectorAll('#wrong a')].map((link) => link.getAttribute('href'))")
+        places = [f"#{extent}:{offset}" for extent, offset in picture.linked_places(report, outputs)]
+        self.check(f"{what}: the links of what is wrong are its places", links == places, (links, places))
+        self.check_overview(what, told, report, outputs)
+        self.check_gain(what, report, outputs)
+        self.check_doubts(what, told, report, outputs)
+        self.check_labels(what, report, outputs)
+        self.check_first_screen(what, report, outputs)
+
+    def check_verdict(self, what, told, right):
+        """The verdict's class, its computed colour, its words, and the rule that only a sound one has any green."""
+        shown = told.get("verdict", {})
+        colour = self.browser.value("getComputedStyle(document.getElementById('verdict')).color")
+        self.check(f"{what}: the verdict is {right}, in its colour",
+                   shown.get("is") == right and colour == picture.COLOURS[right], (shown, colour))
+        word = self.browser.text("verdict-word")
+        begins = {"wrong": "✖ Wrong", "doubt": "? In doubt", "sound": "✔ Sound"}[right]
+        self.check(f"{what}: the verdict's word is '{begins}'", word.startswith(begins), word)
+        green = self.green_pixels()
+        self.check(f"{what}: green is seen if and only if the verdict is sound", (green > 20) == (right == "sound"), green)
+        self.check(f"{what}: no green at all unless it is sound", right == "sound" or green == 0, green)
+
+    def check_doubts(self, what, told, report, outputs):
+        """The banner, the list of doubts and the tile have one count, and each doubt its sentences, its link and no green."""
+        right = picture.verdict_word(report, outputs)
+        self.check(f"{what}: the banner's first line", self.browser.text("verdict-word") == right, (told["verdict"]["word"], right))
+        parts = picture.banner_parts(report)
+        self.check(f"{what}: the banner says {parts}", all(part in told["verdict"]["text"] for part in parts), told["verdict"]["text"])
+        title = f"What is in doubt ({picture.doubts_text(report, outputs) or 0})"
+        self.check(f"{what}: the title of the doubts", self.browser.text("doubts-title") == title, self.browser.text("doubts-title"))
+        listed = self.browser.value("[...document.querySelectorAll('#doubts .note.doubt li')].map((one) => "
+                                    "[one.textContent, one.querySelector('a')?.getAttribute('href') ?? null])")
+        right = [[text, place and f"#{place[0]}:{place[1]}"] for text, place in picture.shown_doubts(report, outputs)]
+        self.check(f"{what}: the list of doubts", listed == right, (listed, right))
+        ticks = self.browser.value("document.body.innerText.includes('✔')")
+        self.check(f"{what}: there is a tick only where the verdict is sound", ticks == (picture.verdict(report, outputs) == "sound"))
+
+    def check_labels(self, what, report, outputs):
+        shown = self.browser.value("Object.fromEntries(disk.report.extents.map(({extent}) => [extent, labelOf(disk.rows[extent])]))")
+        right = picture.labels(report, outputs)
+        differing = [(extent, shown.get(extent), right[extent]) for extent in right if shown.get(extent) != right[extent]]
+        self.check(f"{what}: the words beside the bars", len(shown) == len(right) and not differing, differing[:5])
+
+    def check_first_screen(self, what, report, outputs):
+        """The first extent with a finding or a tail is in sight. Where it is on the first screen, nothing is scrolled."""
+        first = picture.first_in_need(report, outputs)
+        top, height, row = self.browser.value("(({scrollTop, clientHeight}) => [scrollTop, clientHeight, ROW])(document.getElementById('scroll'))")
+        is_right = top == 0 if (first + 1) * row <= height else top <= first * row and (first + 1) * row <= top + height
+        self.check(f"{what}: extent {first} is in sight", is_right, (top, height, row))
+
+    def in_sight(self):
+        """Scrolls to the top, and gives how many extents, from 0 on, have their bars in sight then."""
+        self.browser.value("document.getElementById('scroll').scrollTop = 0")
+        self.browser.settle()
+        return self.browser.value("Math.floor(document.getElementById('scroll').clientHeight / ROW)")
+
+    def green_pixels(self):
+        """How many pixels of the screen are greener than they are red or blue."""
+        shot = self.browser.call("Page.captureScreenshot", format="png")["data"]
+        return self.browser.value(f"""(async () => {{
+            const image = await createImageBitmap(await (await fetch('data:image/png;base64,{shot}')).blob());
+            const canvas = new OffscreenCanvas(image.width, image.height), context = canvas.getContext('2d');
+            context.drawImage(image, 0, 0);
+            const pixels = context.getImageData(0, 0, image.width, image.height).data;
+            let green = 0;
+            for (let at = 0; at < pixels.length; at += 4) {{
+                if (pixels[at + 1] > pixels[at] + 20 && pixels[at + 1] > pixels[at + 2] + 20) green++;
+            }}
+            return green;
+        }})()""")
+
+    def check_overview(self, what, told, report, outputs):
+        """Looks at a pixel of each cell of the overview: it has the colour of the worst of its extents."""
+        grid, names = told["overview"], list(picture.CLASSES)
+        of_extents = [names.index(name) for name in picture.classes(report, outputs)]
+        each = grid["perCell"]
+        right = [list(picture.CLASSES.values())[min(of_extents[first:first + each])] for first in range(0, len(of_extents), each)]
+        # Signs are in the middle of a cell, and a line round it.
+        seen = self.browser.value(f"""(() => {{
+            const canvas = document.getElementById('overview'), ratio = devicePixelRatio;
+            const pixels = canvas.getContext('2d').getImageData(0, 0, canvas.width, canvas.height).data, colours = [];
+            for (let cell = 0; cell < {grid['cells']}; cell++) {{
+                const x = Math.round((cell % {grid['columns']} * {grid['cell']} + 1.25) * ratio);
+                const y = Math.round((Math.floor(cell / {grid['columns']}) * {grid['cell']} + 1.25) * ratio);
+                const at = 4 * (y * canvas.width + x);
+                colours.push('#' + [...pixels.slice(at, at + 3)].map((part) => part.toString(16).padStart(2, '0')).join(''));
+            }}
+            return colours;
+        }})()""")
+        differing = [(cell, *pair) for cell, pair in enumerate(zip(seen, right)) if pair[0] != pair[1]]
+        self.check(f"{what}: each cell of the overview has the colour of its worst extent",
+                   len(seen) == len(right) and not differing, (len(seen), len(right), differing[:5]))
+        fits = self.browser.value("(({bottom, right}) => bottom <= innerHeight && right <= innerWidth)"
+                                  "(document.getElementById('overview').getBoundingClientRect())")
+        self.check(f"{what}: the whole overview is on one screen, in cells of 2 pixels or more", fits and grid["cell"] >= 2, grid)
+
+    def check_gain(self, what, report, outputs):
+        """What the page says of the extents to gain: never a permission that reclaimable didn't give."""
+        state, text = picture.gain_state(outputs), self.browser.text("candidates").replace(",", "")
+        short_size = lambda count: picture.short_size(count).replace(",", "")
+        notes = self.browser.value("[...document.querySelectorAll('#candidates .note')].map((one) => one.className)")
+        lines = (outputs.get("reclaimable") or "").splitlines()
+        title = self.browser.text("candidates-title")
+        self.check(f"{what}: the heading of the candidates", title == picture.gain_title(report, outputs), title)
+        if state != "clear":
+            for place in report["candidates"][:10]:
+                parts = [f"extent {place['extent']}: {short_size(place['free'])}"]
+                parts += [f"at {offset}" for offset in place["keep"][:8]]
+                self.check(f"{what}: the candidate extent {place['extent']} is listed", all(part in text for part in parts), text)
+        if state == "ask":
+            self.check(f"{what}: reclaimable has to be asked", notes == ["note doubt"] and "no permission" in text
+                       and "shardscrub reclaimable --page" in text, (notes, text))
+        elif state == "barred":
+            self.check(f"{what}: nothing may be reclaimed", notes == [] and title.startswith("Barred")
+                       and not re.search("reset|first move|accept", text), (notes, text))
+        else:
+            accepted = any(line.startswith("accepted") for line in lines)
+            self.check(f"{what}: what was accepted is in amber", notes == ["note doubt"] * accepted, notes)
+            named = [line.split() for line in lines if line.startswith("reclaim")][:10]
+            moves = [line.split() for line in lines if line.startswith("move") and line.split()[1] in [one[1] for one in named]]
+            parts = [f"extent {one[1]}: reset it to gain {short_size(int(one[2]))}" for one in named]
+            parts += [f"{one[3]} byte" for one in moves] + [f"at {one[2]} of {one[5]} {one[6]}" for one in moves]
+            self.check(f"{what}: what reclaimable names is listed", all(part in text for part in parts), (parts, text))
+
     def check_hovering(self, what, report, most, owners=None):
-        """Hovers over the middle of items that are wide enough, of extents in sight. Each has to be told by its line."""
+        """Hovers over the middle of items that are wide enough, of extents in sight. Each has to be shown by its line."""
+        in_sight = self.in_sight()
         size = report["geometry"]["page"] * report["geometry"]["pages"]
-        items = [(extent, words) for extent, words in items_of(report)
-                 if extent < 10 and (int(words[2]) - int(words[1])) * 600 > size]
+        items = [(extent, words) for extent, words in joined(report)
+                 if extent < in_sight and (int(words[2]) - int(words[1])) * 600 > size]
         for extent, words in items[:most]:
             told = self.browser.hovered(extent, (int(words[1]) + int(words[2])) / 2)
             right = " ".join(words) in str(told)
             if owners and right and (extent, words[1]) in owners:
                 right = all(owner in told for owner in owners[extent, words[1]])
-            self.check(f"{what}: hovering over {words[:3]} of extent {extent} tells it", right, told)
+            self.check(f"{what}: hovering over {words[:3]} of extent {extent} shows it", right, told)
 
     def check_colours(self, what, report):
         """Looks at the pixels of items that are wide enough, of extents in sight."""
+        in_sight = self.in_sight()
         size = report["geometry"]["page"] * report["geometry"]["pages"]
         fills = self.browser.value("Object.fromEntries(KINDS.filter(Boolean).map(({name, fill}) => [name, fill]))")
-        live = {(extent, words[1]) for extent, words in live_chunks(report)}
-        for extent, words in items_of(report):
-            if extent > 9 or (int(words[2]) - int(words[1])) * 100 < size:
+        kind_of_item = kind_of(report)
+        for extent, words in joined(report):
+            if extent >= in_sight or (int(words[2]) - int(words[1])) * 100 < size:
                 continue
-            kind = words[0] if not is_chunk(words) else "live" if (extent, words[1]) in live else "orphan"
+            kind = kind_of_item(extent, words)
             seen = self.browser.colours(extent, words[1], words[2], 8)
             self.check(f"{what}: {words[:3]} of extent {extent} has the colour of {kind}", fills[kind] in seen, seen)
         for key, colour, down in (("twins", "TWIN", -14), ("hidden", "HIDDEN", 15)):
             for place in report[key]:
-                if place["extent"] <= 9 and (place["length"] + 38) * 100 > size:
+                if place["extent"] < in_sight and (place["length"] + 38) * 100 > size:
                     seen = self.browser.colours(place["extent"], place["offset"], place["offset"] + place["length"] + 38, down)
                     self.check(f"{what}: {key} has its band at {place['offset']} of extent {place['extent']}",
                                self.browser.value(colour) in seen, seen)
 
     def check_marks(self, what, report):
-        """Hovers over the places of hidden and dangling locators and of tails, of extents in sight; and compares the links
-        of what is wrong, and the list of candidates."""
+        """Hovers over the places of hidden and dangling locators and of tails, of extents in sight."""
+        in_sight = self.in_sight()
         size = report["geometry"]["page"] * report["geometry"]["pages"]
         for locator in report["hidden"] + report["dangling"]:
-            if 0 < locator["extent"] <= min(9, report["geometry"]["extents"] - 1) and locator["offset"] < size:
+            if 0 < locator["extent"] < min(in_sight, report["geometry"]["extents"]) and locator["offset"] < size:
                 told = self.browser.hovered(locator["extent"], locator["offset"] + .5)
                 right = [locator["owner"], locator["uuid"], locator.get("reason", "hidden: a whole chunk")]
-                self.check(f"{what}: hovering tells of {right}", all(part in str(told) for part in right), told)
+                self.check(f"{what}: hovering shows {right}", all(part in str(told) for part in right), told)
         for told in report["extents"]:
-            if told["tail"] and told["extent"] <= 9:
+            if told["tail"] and told["extent"] < in_sight:
                 seen = self.browser.hovered(told["extent"], told["tail_at"] + .5)
-                self.check(f"{what}: hovering tells the tail of extent {told['extent']}",
+                self.check(f"{what}: hovering shows the tail of extent {told['extent']}",
                            f"the first at {told['tail_at']:,}" in str(seen), seen)
-        links = self.browser.value("[...document.querySelectorAll('#wrong a')].map((link) => link.getAttribute('href'))")
-        right = [f"#{extent}:{offset}" for extent, offset in wrong_places(report)]
-        self.check(f"{what}: the links of what is wrong are its places", links == right, (links, right))
-        lines = self.browser.text("candidates").replace(",", "")
-        for place in report["candidates"]:
-            parts = [f"extent {place['extent']}: frees {place['free']} byte"] + [f"at {offset}" for offset in place["keep"][:8]]
-            self.check(f"{what}: the candidate extent {place['extent']} is listed", all(part in lines for part in parts), lines)
-        tails = {told["extent"] for told in report["extents"] if told["tail"]}
-        warned = sum(place["extent"] in tails for place in report["candidates"])
-        self.check(f"{what}: a candidate with a tail has its warning", lines.count("Find out first") == warned, lines)
+
+    def check_without_superblock(self, what, report):
+        """Nothing is called live, written or an orphan where no superblock is known, and no write pointer is drawn."""
+        if picture.has_superblock(report):
+            return
+        legend = self.browser.text("legend").lower()
+        self.check(f"{what}: the legend has neither live chunks nor orphans nor a write pointer",
+                   not any(word in legend for word in ("live", "orphan", "write pointer")) and "owner unknown" in legend, legend)
+        pointers = self.browser.value("disk.rows.filter((row) => row.pointer !== null).length")
+        self.check(f"{what}: no write pointer is drawn", pointers == 0, pointers)
+        in_sight = self.in_sight()
+        told = next((told for told in report["extents"] if told["items"] and told["extent"] < in_sight), None)
+        if told:
+            seen = str(self.browser.hovered(told["extent"], 1))
+            self.check(f"{what}: hovering calls nothing live, written or an orphan",
+                       not re.search(r"live|written|orphan|named by", seen), seen)
 
     def check_links(self, what):
         """Follows the links of what is wrong, of candidates and of retired extents, a hundred at most."""
@@ -403,135 +530,243 @@ class Test:
             self.check(f"{what}: the link to {place} leads there", here.startswith(f"extent {extent}") and in_sight,
                        (here, x, y, box))
 
+    def choices(self, outputs):
+        """Each choice of the outputs, from none to all."""
+        for count in range(len(OUTPUTS) + 1):
+            for names in itertools.combinations(OUTPUTS, count):
+                yield {name: outputs[name] for name in names}
+
+    def disks_that_are_looked_at(self):
+        for name in picture.LOOKED_AT:
+            disk = picture.looked_at(name)
+            self.check_program(name, disk)
+            is_great = disk.report["geometry"]["extents"] > 1000
+            for outputs in ({}, disk.outputs) if is_great else self.choices(disk.outputs):
+                what = f"the disk {name} with {', '.join(outputs) or 'its report alone'}"
+                told = self.open(disk.report, outputs, name)
+                self.check_picture(what, told, disk.report, outputs)
+                self.check_without_superblock(what, disk.report)
+                self.browser.call("Input.dispatchMouseEvent", type="mouseMoved", x=1, y=1)
+                if len(outputs) in (0, len(OUTPUTS)):
+                    self.browser.screenshot(self.shots / f"{name}-{'all' if outputs else 'report'}.png")
+            self.check_hovering(name, disk.report, 40)
+            self.check_colours(name, disk.report)
+            self.check_marks(name, disk.report)
+            self.check_links(name)
+            self.check_overview_clicks(name, disk)
+            self.check_silence(name)
+
+    def check_overview_clicks(self, what, disk):
+        """A click on a cell leads to the first of its worst extents."""
+        grid = self.browser.told()["overview"]
+        box = self.browser.value("(({left, top}) => ({left, top}))(document.getElementById('overview').getBoundingClientRect())")
+        names = list(picture.CLASSES)
+        of_extents = [names.index(name) for name in picture.classes(disk.report, disk.outputs)]
+        for cell in {0, grid["cells"] // 2, grid["cells"] - 1}:
+            some = of_extents[cell * grid["perCell"]:(cell + 1) * grid["perCell"]]
+            right = cell * grid["perCell"] + some.index(min(some))
+            x = box["left"] + (cell % grid["columns"] + .5) * grid["cell"]
+            y = box["top"] + (cell // grid["columns"] + .5) * grid["cell"]
+            for kind in ("mousePressed", "mouseReleased"):
+                self.browser.call("Input.dispatchMouseEvent", type=kind, x=x, y=y, button="left", clickCount=1)
+            here = self.browser.text("here")
+            self.check(f"{what}: a click on cell {cell} leads to extent {right}", re.match(rf"extent {right}\b", here), here)
+
+    def check_program(self, what, disk):
+        """Whether the built program prints what this disk is opened with."""
+        if not BUILT.exists():
+            return
+        image = self.room / "image"
+        image.write_bytes(disk.raw)
+        sizes = [str(word) for name, key in (("--page", "page"), ("--pages", "pages"), ("--extents", "extents"))
+                 for word in (name, disk.report["geometry"][key])]
+        for command, right in {"scan": written(disk.report), **disk.outputs}.items():
+            done = subprocess.run([TOP / "shardscrub", command, *sizes, image, *(f"{e}:{g}" for e, g in disk.bad)],
+                                  capture_output=True, encoding="utf-8", stdin=subprocess.DEVNULL)
+            self.check(f"{what}: {command} prints what the page is opened with", done.stdout == right, done.stderr)
+
     def example(self, number, command, report):
-        name = f"{number:02}"
-        self.put(f"{name}.json", written(report))
-        lines = fitting_locators(report)
-        self.put(f"{name}.locators", "".join(line + "\n" for line in lines))
-        right = counted(report)
-        self.browser.open(f"{self.site}/report.html?{name}.json")
-        self.check_counts(command, self.browser.told(), right | {"locators": None})
+        name, disk = f"{number:02}", disk_of(command)
+        outputs = {"locators": "".join(line + "\n" for line in fitting_locators(report))} if disk is None else disk.outputs
+        self.check(f"{command}: the report is that of the image", disk is None or disk.report == report)
+        told = self.open(report, {}, name)
+        self.check_picture(command, told, report, {})
         self.check_hovering(command, report, 40)
         self.check_colours(command, report)
         self.check_marks(command, report)
-        self.browser.screenshot(self.shots / f"example-{name}.png")
+        self.check_without_superblock(command, report)
         self.check_links(command)
-        self.browser.open(f"{self.site}/report.html?{name}.json&{name}.locators")
-        self.check_counts(f"{command}, with locators", self.browser.told(), right | {"locators": len(lines)})
+        told = self.open(report, outputs, name)
+        self.check_picture(f"{command}, with outputs", told, report, outputs)
         owners = {}
-        for line in lines:
+        for line in outputs["locators"].splitlines():
             words = line.split(" ")
             owners.setdefault((int(words[2]), words[3]), []).append(f"{words[0]} {words[1]}")
-        self.check_hovering(f"{command}, with locators", report, 40, owners)
-        self.browser.screenshot(self.shots / f"example-{name}-locators.png")
+        self.check_hovering(f"{command}, with outputs", report, 40, owners)
+        self.browser.screenshot(self.shots / f"example-{name}.png")
         self.check_silence(command)
 
     def ways_to_open(self, report):
         """The page as a file of the system, which may read no other file by itself."""
-        browser, right = self.browser, counted(report)
-        json_file, locators = self.room / "01.json", self.room / "01.locators"
-        count = len(fitting_locators(report))
+        browser = self.browser
+        outputs = {"locators": "".join(line + "\n" for line in fitting_locators(report))}
+        alone, both = picture.told_of(report, {}), picture.told_of(report, outputs)
+        json_file, locators = self.put("01.json", written(report)), self.put("01.locators", outputs["locators"])
         for way, put in (("the file picker", browser.choose_files), ("drag and drop", browser.drop_files)):
             browser.open(PAGE.as_uri())
+            self.check(f"by {way}: the commands are shown before anything is open",
+                       "shardscrub superblocks --page P" in browser.text("empty"))
             put(json_file)
-            self.check_counts(f"by {way}", browser.told(), right | {"locators": None})
+            self.check_counts(f"by {way}", browser.told(), alone)
+            browser.forget()
             put(locators)
-            time.sleep(.3)
-            self.check_counts(f"locators by {way} later", browser.told(), right | {"locators": count})
+            self.check_counts(f"locators by {way} later", browser.told(), both)
             browser.open(PAGE.as_uri())
             put(locators, json_file)
-            self.check_counts(f"both by {way}", browser.told(), right | {"locators": count})
+            self.check_counts(f"both by {way}", browser.told(), both)
             browser.open(PAGE.as_uri())
             put(locators)
             self.check(f"locators alone by {way}: the report is asked for", "Open the report" in browser.told()["fault"])
             put(json_file)
-            self.check_counts(f"the report by {way} later", browser.told("drawn"), right | {"locators": count})
+            self.check_counts(f"the report by {way} later", browser.told("drawn"), both)
+            browser.forget()
+            put(json_file)
+            self.check_counts(f"the report once more by {way}: the outputs of the one before are closed", browser.told(), alone)
         self.check_silence("the ways to open")
 
     def what_cannot_be_opened(self, report):
         browser = self.browser
         cases = (
-            ("a list", "[1]\n", "neither a report nor a locator"),
-            ("half a report", written(report)[:200], "JSON"),
-            ("a report without a key", written({key: report[key] for key in report if key != "twins"}), "no key twins"),
-            ("an unknown item", written(report).replace('"chunk ', '"lump ', 1), "isn't understood"),
-            ("an extent that is left out", written(report | {"extents": report["extents"][1:]}), "doesn't tell of extent 1"),
-            ("a word of a locator that is left out", "run 0 2 0 117 sound\n", "line 1"),
+            ("a list", "wrong.json", "[1]\n", "it isn't a report"),
+            ("half a report", "wrong.json", written(report)[:200], "it isn't JSON, or not all of it"),
+            ("a report without a key", "wrong.json", written({key: report[key] for key in report if key != "twins"}), "no key twins"),
+            ("an unknown item", "wrong.json", written(report).replace('"chunk ', '"lump ', 1), "isn't understood"),
+            ("an extent that is left out", "wrong.json", written(report | {"extents": report["extents"][1:]}), "nothing of extent 1"),
+            ("a line between two reports", "wrong.json", written(report) + "image too long\n" + written(report), "line 2"),
+            ("a word of a locator that is left out", "wrong.txt", "run 0 2 0 117 sound\n", "line 1 isn't a line of locators"),
+            ("an unknown state", "wrong.txt", "record 0 SSB1 1 new\n", "line 1 isn't a line of superblocks"),
+            ("an unknown doubt", "wrong.txt", "doubt tail 1 1 1\ndoubt rain\n", "line 2 isn't a line of reclaimable"),
+            ("half a line", "wrong.txt", "record 0 SSB1 1 counts\ndamaged 4", "isn't whole"),
+            ("sizes", "wrong.txt", "0 SSB1 6 64 16 5\n", "the output of sizes"),
+            ("something else", "wrong.txt", "hello\n", "neither a report nor an output"),
+            ("an empty file of no known kind", "wrong.txt", "", "name doesn't say what it is"),
         )
-        for what, text, right in cases:
-            self.put("wrong.json", text)
-            browser.open(f"{self.site}/report.html?wrong.json")
+        for what, name, text, right in cases:
+            self.put(name, text)
+            browser.open(f"{self.site}/report.html?{name}")
             fault = browser.told().get("fault") or ""
             self.check(f"{what} is refused", right in fault and browser.text("fault") == fault.strip(), fault)
+            self.check(f"{what}: no picture is shown", browser.value("document.querySelector('main').hidden"
+                                                                    " && document.getElementById('answer').hidden"))
         browser.open(f"{self.site}/report.html?no-such.json")
-        self.check("a path without a file is told", "404" in browser.told()["fault"])
+        self.check("a path without a file is refused", "404" in browser.told()["fault"])
         browser.open(PAGE.as_uri() + "?no-such.json")
-        self.check("a file of the system isn't read by itself, which is told", "Choose the report above" in browser.told()["fault"])
-        self.put("other.locators", "run 0 2 0 117 22222222-2222-2222-2222-222222222222 sound\n")
-        self.put("wrong.json", written(report))
-        browser.open(f"{self.site}/report.html?wrong.json&other.locators")
-        told = browser.told()
-        self.check("locators of another disk are told", told["misfits"] > 0 and "don't fit" in told["fault"], told)
-        self.put("wrong.json", written(report | {"clean": not report["clean"]}))
-        browser.open(f"{self.site}/report.html?wrong.json")
-        self.check("a report that contradicts itself is told", "contradicts itself" in browser.told()["fault"])
+        self.check("a file of the system isn't read by itself, and the page says so", "Choose the report above" in browser.told()["fault"])
+        self.put("right.json", written(report))
+        self.put("one.superblocks", "")
+        self.put("two.superblocks", "")
+        browser.open(f"{self.site}/report.html?right.json&one.superblocks&two.superblocks")
+        self.check("two outputs of one command are refused", "second output of superblocks" in browser.told()["fault"])
+        told = self.open(report | {"clean": not report["clean"]}, {})
+        self.check("a report that contradicts itself is never sound", "contradicts itself" in told["fault"]
+                   and told["verdict"]["is"] == ("wrong" if report["clean"] else "doubt"), told)
+        browser.forget()
+        browser.choose_files(self.put("half.json", written(report)[:100]))
+        self.check("what is refused later leaves the picture, with the fault above", "JSON" in browser.told()["fault"]
+                   and not browser.value("document.querySelector('main').hidden"))
         self.check_silence("what can't be opened")
 
-    def locators_that_do_not_fit(self, reports):
-        """Each line left out, told twice, and with each of its words but the owner changed."""
+    def outputs_that_do_not_fit(self):
+        """All outputs, with each line of one of them left out, given twice, and with each of its words changed: none of these may
+        fit, and with none of these the disk may look sound. That damaged pages are left out shows by the other outputs alone."""
         browser = self.browser
-        for command, report in reports.items():
-            lines = fitting_locators(report)
-            self.put("report.json", written(report))
-            browser.open(f"{self.site}/report.html?report.json")
-            browser.told()
-            for index, line in enumerate(lines):
-                *owner, extent, offset, length, uuid, status = line.split(" ")
-                other = "no_frame" if status != "no_frame" else "unreadable"
-                changed = [[int(extent) + 1, offset, length, uuid, status], [extent, int(offset) + 1, length, uuid, status],
-                           [extent, offset, int(length) + 1, uuid, status], [extent, offset, length, uuid[::-1], status],
-                           [extent, offset, length, uuid, other]]
-                changed = [[" ".join(map(str, [*owner, *words]))] for words in changed]
-                for instead in [[], [line, line], *changed]:
-                    text = "".join(one + "\n" for one in lines[:index] + instead + lines[index + 1:])
-                    misfits = browser.value(f"(addOwners(disk, readLocators({json.dumps(text)})), disk.misfits)")
-                    self.check(f"{command}: {instead} in place of '{line}' doesn't fit", misfits > 0, misfits)
-        self.check_silence("locators that don't fit")
+        for name in ("in-order", "flipped-bit", "tail", "no-superblock", "hidden"):
+            disk = picture.looked_at(name)
+            self.open(disk.report, {})
+            for output, text in disk.outputs.items():
+                lines = text.splitlines()
+                for index, line in enumerate(lines[:12]):
+                    for instead in ([], [line, line], *([one] for one in changed(line))):
+                        other = "".join(one + "\n" for one in lines[:index] + instead + lines[index + 1:])
+                        files = [{"name": f"x.{one}", "text": right} for one, right in (disk.outputs | {output: other}).items()]
+                        asked = (f"(openTexts({json.dumps(files)}), "
+                                 "(({misfits, fault, verdict}) => ({misfits, fault, is: verdict?.is}))"
+                                 "(JSON.parse(document.getElementById('told').textContent)))")
+                        told = browser.value(asked)
+                        is_seen = told.get("misfits") or "isn't a line" in (told["fault"] or "")
+                        self.check(f"{name}: {instead} in place of '{line}' doesn't fit", is_seen and told.get("is") != "sound", told)
+                        browser.value("outputs = {}, openRow(0)")
+        disk = picture.looked_at("in-order")
+        told = self.open(disk.report, disk.outputs | {"superblocks": "record 0 SSB1 40 counts\n"})
+        self.check("a superblock of another generation: no verdict is sound", told["verdict"]["is"] == "doubt"
+                   and "superblocks doesn't fit" in browser.text("fault"), told)
+        self.check("outputs of another disk: they are named", "doesn't fit" in browser.text("opened"))
+        self.check_silence("outputs that don't fit")
 
-    def several_disks(self, reports):
-        """A file of one report on each line, with the disk's name in front."""
+    def rows_of_disks(self, reports):
+        """A file with a row for each disk. Some have no report, and are wrong."""
         browser = self.browser
-        self.put("disks.jsonl", "".join(written({"disk": name} | report) for name, report in reports.items()))
+        rows = [{"disk": name, "status": 0 if report["clean"] else 1, "text": "", **report} for name, report in reports.items()]
+        unanswered = [{"disk": "too-long", "status": 3, "text": "shardscrub: image too long"},
+                      {"disk": "no-memory", "status": 4, "text": ""}, {"disk": "unbuilt", "status": 70, "text": "shardscrub: no rt"}]
+        rows[1:1] = unanswered[:1]
+        rows += unanswered[1:]
+        self.put("disks.jsonl", "".join(map(written, rows)))
         browser.open(f"{self.site}/report.html?disks.jsonl")
-        browser.told()
-        for index, (name, report) in enumerate(reports.items()):
+        told = browser.told()
+        listed = browser.value("[...document.getElementById('disks').options].map((one) => one.textContent)")
+        self.check("each row is in the chooser", len(listed) == len(rows) and all(
+            one.startswith(row["disk"] + ": ") for one, row in zip(listed, rows)), listed)
+        for index, row in enumerate(rows):
+            what = f"row {index}, {row['disk']}"
             browser.value(f"(choice => {{ choice.value = {index}; choice.dispatchEvent(new Event('change')); }})"
                           "(document.getElementById('disks'))")
-            self.check_counts(f"{name}, of several", browser.told(), counted(report))
-            self.check(f"{name}, of several: its name is shown", browser.text("name") == f"{name} (disks.jsonl)")
-        self.check_silence("several disks")
+            told = browser.told()
+            self.check(f"{what}: its name is shown", browser.text("name") == f"{row['disk']} (disks.jsonl)", browser.text("name"))
+            if "super" in row:
+                self.check_counts(what, told, picture.told_of(row, {}))
+                self.check_verdict(what, told, picture.verdict(row, {}))
+                self.check(f"{what}: it isn't called wrong in the chooser unless it is",
+                           listed[index].endswith(": wrong") == (not row["clean"]), listed[index])
+            else:
+                self.check_verdict(what, told, "wrong")
+                text = browser.text("verdict")
+                self.check(f"{what}: its status and its text are shown, and no picture", f"status {row['status']}" in text
+                           and row["text"] in text and browser.value("document.querySelector('main').hidden"), text)
+                self.check(f"{what}: the chooser has its status", listed[index].endswith(f"no report, status {row['status']}"))
+        browser.value("(choice => { choice.value = 1; choice.dispatchEvent(new Event('change')); })(document.getElementById('disks'))")
+        browser.screenshot(self.shots / "row-without-report.png")
+        wrong = {"disk": "x", "status": 1 if rows[0]["clean"] else 0, **reports[rows[0]["disk"]]}
+        self.put("row.jsonl", written(wrong))
+        browser.open(f"{self.site}/report.html?row.jsonl")
+        self.check("a status that isn't the report's is a contradiction", "contradicts itself" in (browser.told()["fault"] or ""))
+        self.check_silence("rows of disks")
 
     def made_up_disks(self):
-        reports = {}
+        disks = {}
         for turn in range(MADE_UP):
             made = Made(random.Random(turn))
             bad = made.make()
-            reports[f"made-up disk {turn}"], _, _, _ = scrub(Image(bytes(made.raw), made.p, made.n, made.e, bad))
-        self.several_disks(reports)
-        for name, report in list(reports.items())[::10]:
-            lines = fitting_locators(report)
-            self.put("made-up.json", written(report))
-            self.put("made-up.locators", "".join(line + "\n" for line in lines))
-            self.browser.open(f"{self.site}/report.html?made-up.json&made-up.locators")
-            self.check_counts(f"{name}, with locators", self.browser.told(), counted(report) | {"locators": len(lines)})
-            self.check_hovering(name, report, 20)
-            self.check_colours(name, report)
-            self.check_marks(name, report)
-            self.check_links(name)
+            disks[f"made-up disk {turn}"] = Pictured(Image(bytes(made.raw), made.p, made.n, made.e, bad),
+                                                     picture.ACCEPTABLE[:turn % 5])
+        seen = Counter()
+        for turn, (name, disk) in enumerate(disks.items()):
+            outputs = list(self.choices(disk.outputs))[turn % 8]
+            told = self.open(disk.report, outputs)
+            seen[picture.verdict(disk.report, outputs)] += 1
+            self.check_picture(f"{name} with {', '.join(outputs)}", told, disk.report, outputs)
+            if turn % 10 == 0:
+                self.check_hovering(name, disk.report, 20)
+                self.check_colours(name, disk.report)
+                self.check_marks(name, disk.report)
+                self.check_without_superblock(name, disk.report)
+                self.check_links(name)
+        print(f"made-up disks by verdict: {dict(seen)}", flush=True)
         self.check_silence("made-up disks")
 
     def keys_and_buttons(self):
         browser = self.browser
+        self.put("01.json", written(next(iter(example_reports().values()))))
         browser.open(f"{self.site}/report.html?01.json")
         browser.told()
         here = lambda: browser.text("here").split("\n")[0]
@@ -549,48 +784,165 @@ class Test:
             self.check(f"{key} goes to '{right}'", here().startswith(right), here())
         whole = browser.text("range")
         press("+", 187)
-        time.sleep(.1)
+        browser.settle()
         self.check("+ zooms in", browser.text("range").startswith("bytes "), browser.text("range"))
         press("0", 48)
-        time.sleep(.1)
+        browser.settle()
         self.check("0 shows whole extents", browser.text("range") == whole, browser.text("range"))
         for button in ("nearer", "farther"):
             browser.value(f"document.getElementById('{button}').click()")
-        time.sleep(.1)
+        browser.settle()
         self.check("zooming in and out shows whole extents", browser.text("range") == whole, browser.text("range"))
+        self.put("tail.json", written(picture.looked_at("tail").report))
+        browser.open(f"{self.site}/report.html?tail.json#2:0")
+        browser.told()
+        top = browser.value("document.getElementById('scroll').scrollTop")
+        self.check("an address that names a place leads there, not to the first finding", top == 0 and here().startswith("extent 2:"),
+                   (top, here()))
         self.check_silence("keys and buttons")
+
+    def check_times(self, what, told, lines):
+        took = told["milliseconds"]
+        print(f"{what}, {lines:,} lines of outputs: prepared in {took['prepared']:.0f} ms, listed in {took['listed']:.0f}, "
+              f"drawn in {took['drawn']:.0f}", flush=True)
+        self.check(f"{what}: opened soon enough", sum(took.values()) <= MOST_OPENING, took)
+
+    def check_drawing(self, what, *expressions):
+        timed = ("(() => {{ const begun = performance.now(); for (let turn = 0; turn < 20; turn++) {{ {} }}"
+                 " return (performance.now() - begun) / 20; }})()")
+        for part, expression in expressions:
+            took = self.browser.value(timed.format(expression))
+            print(f"    {part}: {took:.1f} ms", flush=True)
+            self.check(f"{what}: {part} in {MOST_DRAW} ms", took <= MOST_DRAW, took)
 
     def many_items(self):
         browser, report = self.browser, made_up_report(ITEMS)
-        items = len(items_of(report))
         lines = fitting_locators(report)
-        self.put("many.json", written(report))
-        self.put("many.locators", "".join(line + "\n" for line in lines))
-        for address, locators in (("many.json", None), ("many.json&many.locators", len(lines))):
-            browser.open(f"{self.site}/report.html?{address}")
-            told = browser.told()
-            self.check_counts(f"{items} items, {address}", told, counted(report) | {"locators": locators})
-            took = told["milliseconds"]
-            print(f"{items:,} items in {report['geometry']['extents']:,} extents, {locators or 0:,} locators: prepared in "
-                  f"{took['prepared']:.0f} ms, listed in {took['listed']:.0f}, drawn in {took['drawn']:.0f}", flush=True)
-            self.check("many items: opened soon enough", sum(took.values()) <= MOST_OPENING, took)
-        timed = ("(() => {{ const begun = performance.now(); for (let turn = 0; turn < 20; turn++) {{ {} }}"
-                 " return (performance.now() - begun) / 20; }})()")
-        for what, expression in (("whole extents", "draw();"), ("a sixteenth of them", "view = {from: 3e5, span: 65536}; draw();"),
-                                 ("a page", "view = {from: 3e5, span: 4096}; draw();"),
-                                 ("what lies under the mouse, 1,000 times", "for (let x = 160; x < 1160; x++) "
-                                  "pixelAt(600, 400) && describe(disk.rows[1], x * 800, x * 800 + 900, 9);")):
-            took = browser.value(timed.format(expression))
-            print(f"    {what}: {took:.1f} ms", flush=True)
-            self.check(f"many items: {what} in {MOST_DRAW} ms", took <= MOST_DRAW, took)
+        what = f"{len(items_of(report)):,} items in {report['geometry']['extents']:,} extents"
+        for outputs in ({}, {"locators": "".join(line + "\n" for line in lines)}):
+            told = self.open(report, outputs, "many")
+            self.check_picture(what, told, report, outputs)
+            self.check_times(what, told, sum(map(len, outputs.values())) and len(lines))
+        self.check_drawing("many items", ("whole extents", "draw();"), ("a sixteenth of them", "view = {from: 3e5, span: 65536}; draw();"),
+                           ("a page", "view = {from: 3e5, span: 4096}; draw();"), ("the overview", "drawOverview();"),
+                           ("what lies under the mouse, 1,000 times", "for (let x = 160; x < 1160; x++) "
+                            "pixelAt(600, 600) && describe(disk.rows[1], x * 800, x * 800 + 900, 9);"))
         browser.value("show(0, disk.size)")
-        self.check_links(f"{items} items")
+        self.check_links(what)
         for name, place in (("many-items", ""), ("many-items-end", "#999:4000000")):
             browser.open(f"{self.site}/report.html?many.json&many.locators{place}")
             browser.told()
-            time.sleep(.2)
             browser.screenshot(self.shots / f"{name}.png")
         self.check_silence("many items")
+
+    def many_extents(self):
+        """65,536 extents: a real disk, which has no superblock, and a made-up report with one. Also in a small window, where
+        several extents share a cell."""
+        disk, (report, outputs) = picture.looked_at("most-extents"), picture.most_rows()
+        for what, report, outputs in (("65,536 extents without a superblock", disk.report, disk.outputs),
+                                      ("65,536 extents with a superblock, made up", report, outputs)):
+            told = self.open(report, outputs, "extents")
+            self.check_picture(what, told, report, outputs)
+            self.check(f"{what}: a cell for each extent", told["overview"]["perCell"] == 1, told["overview"])
+            self.check_times(what, told, sum(len(text.splitlines()) for text in outputs.values()))
+            self.check_drawing(what, ("the bars", "draw();"), ("the overview", "drawOverview();"))
+        self.browser.screenshot(self.shots / "extents-made-up.png")
+        self.browser.call("Emulation.setDeviceMetricsOverride", width=1000, height=600, deviceScaleFactor=1, mobile=False)
+        told = self.open(report, outputs, "extents")
+        self.check_overview(f"{what}, in a small window", told, report, outputs)
+        self.check(f"{what}, in a small window: several extents share a cell", told["overview"]["perCell"] > 1, told["overview"])
+        self.browser.screenshot(self.shots / "extents-small-window.png")
+        self.browser.call("Emulation.clearDeviceMetricsOverride")
+        self.check_silence("many extents")
+
+    def wrong_pages(self):
+        """Pages with one place changed, so that they look better than the disk or count wrongly: each has to be seen here."""
+        text = PAGE.read_text(encoding="utf-8")
+        passed, failed = self.passed, self.failed
+        unseen = []
+        self.page, self.is_loud = "wrong.html", False
+        for what, old, new, name in WRONG_PAGES:
+            if text.count(old) != 1:
+                unseen.append(f"{what}: its place is there {text.count(old)} times")
+                continue
+            self.put("wrong.html", text.replace(old, new))
+            self.failed = 0
+            disk = picture.looked_at(name)
+            for outputs in ({}, disk.outputs):
+                told = self.open(disk.report, outputs, name)
+                if told.get("state") != "drawn":
+                    unseen.append(f"{what}: nothing is drawn, so nothing is shown")
+                    break
+                self.check_picture(what, told, disk.report, outputs)
+                self.check_without_superblock(what, disk.report)
+            if self.failed == 0:
+                unseen.append(f"{what}: not seen")
+        self.browser.errors.clear()
+        self.page, self.is_loud, self.passed, self.failed = "report.html", True, passed, failed
+        for what, *_ in WRONG_PAGES:
+            self.check(f"the wrong page '{what}' is seen", not any(one.startswith(what) for one in unseen),
+                       [one for one in unseen if one.startswith(what)])
+
+
+def changed(line):
+    """The line with one of its words changed, for each word that may be; a locator's and a move's owner isn't in a report."""
+    words = line.split(" ")
+    kept = 2 if words[0] in ("run", "shard") else 1
+    for index in range(kept, len(words)):
+        word = words[index]
+        if words[0] == "move" and index > 4:
+            continue
+        if word.isdigit():
+            other = str(int(word) + 1)
+        elif word in ("SSB1", "SSB2"):
+            continue
+        else:
+            other = {"counts": "older", "older": "counts", "damaged": "stray", "sound": "hidden", "hidden": "sound"}.get(word, word[::-1])
+        if other != word:
+            yield " ".join([*words[:index], other, *words[index + 1:]])
+
+
+# Wrong pages: what is wrong, the place in the page, what stands there then, and the disk that shows it.
+WRONG_PAGES = (
+    ("the verdict takes no notice of tails", "if (tails) areDoubts.push", "if (false) areDoubts.push", "tail"),
+    ("the verdict needs no superblocks", "if (!areDoubts.length && isRead && isWhole) {", "if (!tails && isRead) {", "in-order"),
+    ("a damaged superblock is no finding", "disk.damagedPages.map(({word, page: number}) => ofPage(0, number, `: ${word}`)), false);",
+     "[], false);", "flipped-bit"),
+    ("without a superblock chunks are live", "if (!hasSuperblock) kind = CHUNK;", "if (!hasSuperblock) kind = LIVE;", "no-superblock"),
+    ("without a superblock the end of an extent is a write pointer", "pointer: hasSuperblock ? told.pointer : null", "pointer: told.pointer",
+     "no-superblock"),
+    ("unreadable pages are counted as items too", 'group("Torn", ofKind(TORN));', 'group("Torn", ofKind(TORN)); group("Lost", ofKind(LOST));',
+     "hidden"),
+    ("noise isn't joined", "last.stop === item.start) last.stop", "last.stop === -1) last.stop", "hidden"),
+    ("a broken shard is as many findings as it has dangling locators", "return [...dangling].map(([owner, locators]) => {",
+     "return [...dangling].flatMap(([owner, locators]) => locators.map((one) => [owner, [one]])).map(([owner, locators]) => {", "hidden"),
+    ("broken shards come last", 'group("Broken shards", brokenShards(disk));\n', "", "hidden"),
+    ("an unread page behind a pointer is left out", "BAD_PAGE,\n    Math.max(number * page, told.pointer)", "PAD,\n    Math.max(number * page, told.pointer)",
+     "hidden"),
+    ("unread pages of the headline leave out extent 0", "const badPages = (isChosen", "disk.rows[0].badPages = NONE; const badPages = (isChosen",
+     "lost-superblock"),
+    ("a chunk with a changed payload is an orphan", "places.wrongDigests.has(key) ? DAMAGED : ORPHAN", "ORPHAN", "hidden"),
+    ("candidates look like a permission", 'return [note("doubt", "Candidates', 'return [note("sound", "Candidates', "in-order"),
+    ("doubts of reclaimable are taken for an answer", 'openDoubts ? "barred" : "clear"', '"clear"', "flipped-bit"),
+    ("an extent with a tail looks well in the overview", "if (row.tail || (row.extent === 0", "if ((row.extent === 0", "tail"),
+    ("extent 0 looks well without superblocks", "row.extent === 0 && (disk.superblocks === null || !isFit(disk))",
+     "row.extent === 0 && !isFit(disk)", "in-order"),
+    ("a doubt that is a finding too isn't in the list of doubts", "const lines = disk.doubts.filter((line) => line.kind === kind);",
+     'const lines = disk.doubts.filter((line) => line.kind === kind && kind !== "superblock-damaged");', "flipped-bit"),
+    ("the tile offers what a doubt bars", 'const gain = headline.openDoubts ? ["nothing now"', 'const gain = headline.openDoubts ? [shortSize(headline.gain)',
+     "flipped-bit"),
+    ("candidates aren't barred beside their bars", '"barred candidate" : "candidate"', '"candidate" : "candidate"', "tail"),
+    ("hidden chunks aren't beside their bar", 'if (hidden) live.push(many(hidden, "hidden chunk"));', "", "hidden"),
+    ("damage has no hidden chunks in it", "damagedHidden: sum(rows.map(damagedBytesInHidden))", "damagedHidden: 0", "hidden"),
+    ("bytes of two hidden chunks are counted twice", "const from = Math.max(seen, offset)", "const from = Math.max(0, offset)", "hidden-twice"),
+    ("without a superblock a damaged page may be accepted", "const isLast = disk.hasSuperblock ?", "const isLast = true ?", "no-superblock"),
+    ("the first extent in doubt isn't brought into sight", "if (!isSame) scrollToFirst();", "", "tail"),
+    ("an open file has a tick", "`open: scan, ${file}`", "`✔ scan, ${file}`", "tail"),
+    ("what is wrong looks well in the overview", "if (row.isWrong) return CLASS_OF.wrong;", "", "hidden"),
+    ("hidden chunks are green", 'HIDDEN = "#7f3b08"', 'HIDDEN = "#009e73"', "hidden"),
+    ("lost shards are called damaged", 'counts.readable ? "damaged" : "lost"', '"damaged"', "hidden"),
+    ("sizes of the headline are off by ten", "bytes * 10 / unit) / 10", "bytes * 100 / unit) / 10", "hidden"),
+)
 
 
 class Quiet(http.server.SimpleHTTPRequestHandler):
@@ -618,16 +970,19 @@ def main(arguments):
         reports = example_reports()
         test.check("the page of examples has reports", len(reports) > 5, len(reports))
         try:
+            test.disks_that_are_looked_at()
             for number, (command, report) in enumerate(reports.items(), 1):
                 test.example(number, command, report)
             first = next(iter(reports.values()))
             test.ways_to_open(first)
             test.what_cannot_be_opened(first)
-            test.locators_that_do_not_fit(reports)
-            test.several_disks(reports)
+            test.outputs_that_do_not_fit()
+            test.rows_of_disks(reports)
             test.made_up_disks()
             test.keys_and_buttons()
             test.many_items()
+            test.many_extents()
+            test.wrong_pages()
         finally:
             browser.close()
             server.shutdown()
