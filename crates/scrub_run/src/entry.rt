@@ -1,7 +1,9 @@
 //! An entry of an index run. How it stands in a payload is left to `reading` and `writing`.
 
 ghost use Rattle.std.specs.Prelude.{◌≡◌, [], IfOk};
+ghost use Rattle.scrub_run.specs.Locators.{listed};
 
+use crate::locators::Locators;
 use crate::shard_id::ShardId;
 use scrub_frame::{Locator, OutOfMemory};
 use std::alloc::Global;
@@ -13,21 +15,32 @@ use std::mem;
 #[derive(Debug, Drop)]
 pub struct Entry {
     id: ShardId,
-    locators: Vec<Locator>,
+    locators: Locators,
 }
 
 impl Model for Entry {
     ghost use Rattle.scrub_run.specs.Entry.{EntryValue};
+    ghost use Rattle.scrub_run.specs.Locators.{listed};
 
     ghost Value = { EntryValue };
 
-    ghost view = { λ e. record { id = e.id; locators = e.locators.items } };
+    ghost view = { λ e. record { id = e.id; locators = listed e.locators } };
 }
 
 impl Entry {
     /// An entry of what is handed in. Takes no memory. An entry of a run has at most 64 locators; more may be held here.
     pub fn new(id: ShardId, locators: Vec<Locator>) -> Entry
         ensures { result ≡ record { id = id; locators = locators.items } }
+    {
+        Entry {
+            id,
+            locators: Locators::Many(locators),
+        }
+    }
+
+    /// An entry of these locators.
+    pub(crate) fn of(id: ShardId, locators: Locators) -> Entry
+        ensures { result ≡ record { id = id; locators = listed locators } }
     {
         Entry { id, locators }
     }
@@ -50,8 +63,7 @@ impl Entry {
     pub(crate) fn copy(&self, alloc: Global) -> Result<Entry, OutOfMemory>
         ensures { IfOk result (λ e. e ≡ self.now) }
     {
-        let locators = Vec::from_slice(alloc, self.locators())?;
-        Ok(Entry::new(self.id, locators))
+        Ok(Entry::of(self.id, self.locators.copy(alloc)?))
     }
 
     /// Hands out what it is, and has no locator from then on. Takes no memory.
@@ -59,7 +71,7 @@ impl Entry {
         ensures taken { result ≡ self.old }
         ensures emptied { self.new ≡ record { id = self.old.id; locators = [] } }
     {
-        let locators = mem::replace(&mut self.locators, Vec::new(alloc));
-        Entry::new(self.id, locators)
+        let locators = mem::replace(&mut self.locators, Locators::Many(Vec::new(alloc)));
+        Entry::of(self.id, locators)
     }
 }

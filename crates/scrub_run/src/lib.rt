@@ -4,6 +4,7 @@
 #![tactic(auto)]
 
 pub mod entry;
+mod locators;
 pub mod reading;
 pub mod run;
 pub mod shard_id;

@@ -9,10 +9,11 @@ ghost use Rattle.scrub_run.specs.Run.{run_magic, RisesById, IsRun};
 
 use crate::OutOfMemory;
 use crate::entry::Entry;
+use crate::locators::Locators;
 use crate::run::Run;
 use crate::shard_id::{ShardId, is_below};
 use byteorder::{BigEndian, ByteOrder};
-use scrub_frame::{LOCATOR_BYTES, digest_of, read_locators};
+use scrub_frame::{LOCATOR_BYTES, digest_of};
 use std::alloc::Global;
 use thiserror::Error;
 
@@ -87,8 +88,8 @@ fn read_entry(alloc: Global, bytes: &[u8]) -> Result<Entry, OutOfMemory>
 {
     let mut id = [0u8; 16];
     id.copy_from_slice(&bytes[..16]);
-    let locators = read_locators(alloc, &bytes[BARE_ENTRY_BYTES..], bytes[16] as usize)?;
-    Ok(Entry::new(ShardId(id), locators))
+    let locators = Locators::read(alloc, &bytes[BARE_ENTRY_BYTES..], bytes[16] as usize)?;
+    Ok(Entry::of(ShardId(id), locators))
 }
 
 /// Whether an identifier is above those of all entries, which rise: the last one decides.
