@@ -1,5 +1,5 @@
 -- Lists that tell one thing of each locator, as they grow.
-use Rattle.std.proofs.Common.{◌≡◌, ◌<◌, ◌≤◌, ◌+◌, ℕ, List, [], ◌∷◌, ◌++◌, Option, length, take, get_or, arith, sym, ◌∙◌, subst}
+use Rattle.std.proofs.Common.{◌≡◌, ◌<◌, ◌≤◌, ◌+◌, ℕ, List, [], ◌∷◌, ◌++◌, Option, length, map, take, get_or, arith, sym, ◌∙◌, subst}
 use Rattle.std.specs.List.{AllZip}
 use Rattle.std.proofs.lemmas.List.{take_all}
 use Rattle.std.proofs.lemmas.Slice.Zip.{AllZip-long}
@@ -35,3 +35,13 @@ pub counted : (image : Image) (plan : PlanValue) (runs : Runs) (states : List Ru
 counted image plan runs states few told =
     let r : length runs ≡ length plan.runs = AllZip-long (IsRunIn image plan) plan.runs runs told.runs in
     record { same = AllZip-long (HasRunStateIn image plan) plan.runs states told.states ∙ sym r; few = omega (arith, r, few) }
+
+-- pairs that are right for each locator are so as two lists
+pub split : (image : Image) (plan : PlanValue) (locators : List Locator) (read : List (Option (List EntryValue) × RunState)) →
+    AllZip (λ l one. IsRunIn image plan l one.0 × HasRunStateIn image plan l one.1) locators read → AreToldOf image plan locators (map (λ one. one.0) read) (map (λ one. one.1) read)
+split image plan [] [] each = record { runs = tt; states = tt }
+split image plan [] (one ∷ read) each = absurd each
+split image plan (l ∷ locators) [] each = absurd each
+split image plan (l ∷ locators) (one ∷ read) each =
+    let rest = split image plan locators read each.1 in
+    record { runs = (each.0.0, rest.runs); states = (each.0.1, rest.states) }

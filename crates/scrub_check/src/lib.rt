@@ -36,7 +36,7 @@ pub use liveness::{Liveness, liveness_of};
 pub use named::{Named, Owner, named_locators};
 pub use place::{Place, SharedPlace};
 pub use reclaiming::{candidates, candidates_are_safe, one_list_of_candidates};
-pub use runs::{ReadRuns, RunState, read_runs};
+pub use runs::{ReadRuns, RunState, read_all_runs, read_runs};
 pub use searching::{Found, find_start};
 pub use shared_places::{one_list_of_shared_places, shared};
 pub use status::{Status, status_of};

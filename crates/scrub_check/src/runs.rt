@@ -1,12 +1,14 @@
 //! Which index runs can be read, and why the others are lost. What the entries of several runs come to is found by
 //! `scrub_merge`.
 
-ghost use Rattle.std.specs.Prelude.{◌≡◌, IfOk};
+ghost use Rattle.std.specs.Prelude.{◌≡◌, IfOk, map as list_map};
 ghost use Rattle.scrub_check.specs.WholeScan.{IsWholeScan};
 ghost use Rattle.scrub_check.specs.ChunkRun.{StandsThere, HasPayloadThere, IsToldOf};
 ghost use Rattle.scrub_check.specs.Runs.{IsRunIn, HasRunStateIn, AreReadRuns};
 
 use crate::status::{Status, status_of};
+use rayon::current_num_threads;
+use rayon::prelude::*;
 use scrub_disk::{OutOfMemory, PageSource};
 use scrub_frame::Locator;
 use scrub_run::{Run, RunFault, read_run};
@@ -14,6 +16,7 @@ use scrub_scan::{AllFindings, Standing, claimed_frame, read_payload};
 use scrub_super::Plan;
 use std::alloc::Global;
 use std::marker::Model;
+use std::thread::Threads;
 
 /// What became of an index run.
 #[derive(Debug, Clone, Copy, PartialEq, Eq)]
@@ -153,5 +156,49 @@ pub fn read_runs<D: PageSource>(
         runs.push(run)?;
         states.push(state)?;
     }
+    Ok(ReadRuns { runs, states })
+}
+
+/// These runs, and what became of each, in two lists.
+fn unzipped(
+    alloc: Global,
+    read: Vec<(Option<Run>, RunState)>,
+) -> Result<(Vec<Option<Run>>, Vec<RunState>), OutOfMemory>
+    ensures runs { IfOk result (λ r. r.0.items ≡ list_map (λ one. one.0) read.items) }
+    ensures states { IfOk result (λ r. r.1.items ≡ list_map (λ one. one.1) read.items) }
+{
+    let mut runs = Vec::with_capacity(alloc, read.len())?;
+    let mut states = Vec::with_capacity(alloc, read.len())?;
+    for (run, state) in read {
+        runs.push(run)?;
+        states.push(state)?;
+    }
+    Ok((runs, states))
+}
+
+/// What `read_runs` gives, read by as many threads as there are processors at most. Each holds one payload at a time.
+pub fn read_all_runs<R: Threads + Sync, D: PageSource>(
+    rt: &R,
+    alloc: Global,
+    disk: &D,
+    plan: &Plan,
+    all: &AllFindings<'_, D>,
+) -> Result<ReadRuns, OutOfMemory>
+    requires { IsWholeScan (D.image disk.now) plan.now all.now.extents }
+    ensures { IfOk result (AreReadRuns (D.image disk.now) plan.now) }
+{
+    let locators = plan.runs();
+    let read = locators
+        .par_iter()
+        .with_min_len(locators.len().div_ceil(current_num_threads(rt)))
+        .map(
+            |locator: &Locator| -> Result<(Option<Run>, RunState), OutOfMemory>
+                requires { IsWholeScan (D.image disk.now) plan.now all.now.extents }
+                ensures { IfOk result (λ r. IsRunIn (D.image disk.entry.now) plan.entry.now locator.now r.0
+                    × HasRunStateIn (D.image disk.entry.now) plan.entry.now locator.now r.1) }
+            { run_of(alloc, disk, plan, all, locator) },
+        )
+        .collect::<Result<Vec<(Option<Run>, RunState)>, OutOfMemory>>(rt, alloc)??;
+    let (runs, states) = unzipped(alloc, read)?;
     Ok(ReadRuns { runs, states })
 }
