@@ -1,5 +1,5 @@
 -- What the code keeps of a disk until the report stands.
-use Rattle.std.specs.Prelude.{◌≡◌, ◌&&◌, ℕ, Bool, List, Option, is_some}
+use Rattle.std.specs.Prelude.{◌≡◌, ◌&&◌, ℕ, Bool, List, Option, is_some, map}
 use Rattle.std.specs.List.{list_all}
 use Rattle.scrub_disk.specs.Image.{Image}
 use Rattle.scrub_super.specs.Chosen.{Choice, IsChoice}
@@ -7,10 +7,19 @@ use Rattle.scrub_super.specs.Plan.{PlanValue, IsPlanOf}
 use Rattle.scrub_scan.specs.Scanned.{Scanned}
 use Rattle.scrub_scan.specs.AllFindings.{AreAllFindings}
 use Rattle.scrub_check.specs.declared.runs.RunState.{RunState}
-use Rattle.scrub_check.specs.Runs.{AreCounted, ReadRunsValue}
+use Rattle.scrub_check.specs.Runs.{AreCounted, AreReadRuns, ReadRunsValue}
+use Rattle.scrub_check.specs.declared.liveness.Liveness.{Liveness}
+use Rattle.scrub_check.specs.Candidates.{AreCandidates}
+use Rattle.scrub_check.specs.Checked.{AreChecked}
+use Rattle.scrub_check.specs.Chunks.{orphans}
+use Rattle.scrub_check.specs.Live.{live_bytes}
+use Rattle.scrub_check.specs.Named.{named}
+use Rattle.scrub_check.specs.Shared.{AreShared}
+use Rattle.scrub_merge.specs.ShardMap.{IsShardMap}
+use Rattle.scrub_report.specs.declared.parts.Judged.{Judged}
 use Rattle.scrub_report.specs.declared.parts.Parts.{Parts}
 use Rattle.scrub_report.specs.Report.{entry_counts}
-use Rattle.scrub_report.specs.Scrubbed.{IsScrubbed, Scrubbed, is_clean_choice, is_clean_extent, is_clean_list}
+use Rattle.scrub_report.specs.Scrubbed.{IsScrubbed, Scrubbed, is_clean_choice, is_clean_extent, is_clean_list, is_in_doubt}
 
 -- what was chosen, planned and scanned is as it is in the image
 pub record IsScan (image : Image) (choice : Choice) (plan : PlanValue) (all : List Scanned) : Type 0 where
@@ -22,6 +31,27 @@ pub record IsScan (image : Image) (choice : Choice) (plan : PlanValue) (all : Li
 pub record AreKeptOf (read : ReadRunsValue) (entries : List (Option ℕ)) (states : List RunState) : Type 0 where
   pub entries_are : entries ≡ entry_counts read.runs
   pub states_are : states ≡ read.states
+
+module _ {D : Type 0} where
+  -- the locators are judged as they are in an image, and what is kept of runs is that of the runs that were read
+  pub record AreJudgedOf (image : Image) (j : Judged D) : Type 0 where
+    pub read : ReadRunsValue
+    pub counted : AreCounted read
+    pub kept : AreKeptOf read j.entries.items j.states.items
+    pub doubt : j.in_doubt ≡ is_in_doubt j.chosen read
+    pub choice : IsChoice image j.chosen
+    pub plan : IsPlanOf j.chosen j.plan
+    pub all : AreAllFindings image j.plan j.all.extents
+    pub read_are : AreReadRuns image j.plan read
+    pub bindings : IsShardMap read.runs j.map
+    pub checked : AreChecked image j.plan (named j.plan.runs j.map) j.checked.items
+
+  -- what follows from which of its chunks are live
+  pub record IsLivenessOf (j : Judged D) (l : Liveness) : Type 0 where
+    pub live : l.live.items ≡ map (live_bytes j.checked.items) j.all.extents
+    pub orphans_are : l.orphans.items ≡ orphans j.all.extents j.checked.items
+    pub shared : AreShared j.checked.items l.shared.items
+    pub candidates : AreCandidates j.plan j.all.extents j.checked.items j.in_doubt l.candidates.items
 
 module _ {D : Type 0} {s : _} where
   -- the parts as what was found, where these runs were read

@@ -4,6 +4,7 @@ ghost use Rattle.std.specs.Prelude.{◌≡◌, ◌+◌, ◌<◌, ◌≤◌, ◌^
 ghost use Rattle.scrub_disk.specs.Image.{Image};
 ghost use Rattle.scrub_run.specs.Run.{IsRun, run_bytes};
 ghost use Rattle.scrub_check.specs.Checked.{AreBrokenShards};
+ghost use Rattle.scrub_check.specs.Chunks.{twins};
 ghost use Rattle.scrub_report.specs.Answer.{AnswerValue, IsScrubAnswer, ArePlannedExtents, IsPartitionOfPlanned, IsCountOfPlanned};
 ghost use Rattle.scrub_report.specs.Index.{IsIndex, index_entries};
 ghost use Rattle.scrub_report.specs.Parts.{IsScan};
@@ -14,7 +15,8 @@ use crate::index::index_bytes;
 use crate::parts::Parts;
 use crate::report::report_text;
 use crate::scanning::{Scan, scan_by, scan_by_one};
-use crate::scrubbing::{is_clean, parts_of};
+use crate::scrubbing::{is_clean, parts_and_twins};
+use scrub_check::Place;
 use scrub_disk::{OutOfMemory, PageSource};
 use scrub_pool::{Gate, PoolFault, Takings};
 use std::alloc::Global;
@@ -99,8 +101,10 @@ fn index_and_report<R: Threads + Sync, D: PageSource>(
     rt: &R,
     alloc: Global,
     parts: &Parts<'_, D>,
+    twin_chunks: &[Place],
     is_clean: bool,
 ) -> Result<(Vec<u8>, Vec<u8>), OutOfMemory>
+    requires twins { twin_chunks.now ≡ twins parts.now.all.extents }
     requires broken { AreBrokenShards parts.now.checked.items parts.now.broken.items }
     requires few { All (λ b. length b.locators ≤ 64) parts.now.map }
     requires count { length parts.now.map < 2 ^ 32 }
@@ -119,10 +123,11 @@ fn index_and_report<R: Threads + Sync, D: PageSource>(
                 bytes.items ≡ run_bytes (index_entries parts.entry.now.checked.items parts.entry.now.map)) }
         { index_bytes(alloc, parts.map.bindings(), &parts.checked, &parts.broken) },
         &mut || -> Result<Vec<u8>, OutOfMemory>
+            requires twins { twin_chunks.now ≡ twins parts.now.all.extents }
             requires entries { length parts.now.entries.items ≡ length parts.now.plan.runs }
             requires states { length parts.now.states.items ≡ length parts.now.entries.items }
             ensures report { IfOk result (λ text. text.items ≡ kept_text parts.entry.now is_clean) }
-        { report_text(alloc, parts, is_clean) },
+        { report_text(alloc, parts, twin_chunks, is_clean) },
     );
     Ok((index?, report?))
 }
@@ -136,9 +141,9 @@ fn answer_of<R: Threads + Sync, D: PageSource>(
     requires { IsScan (D.image scan.disk.now) scan.chosen scan.plan scan.all.extents }
     ensures { IfOk result (IsScrubAnswer (D.image scan.entry.disk.now)) }
 {
-    let parts = parts_of(rt, alloc, scan)?;
+    let (parts, twin_chunks) = parts_and_twins(rt, alloc, scan)?;
     let is_clean = is_clean(&parts);
-    let (index, report) = index_and_report(rt, alloc, &parts, is_clean)?;
+    let (index, report) = index_and_report(rt, alloc, &parts, &twin_chunks, is_clean)?;
     Ok(ScrubAnswer {
         report,
         index,

@@ -15,10 +15,9 @@ use crate::shards::doubtful_ids;
 use crate::sizes::{write_geometry, write_super};
 use crate::written::{write_list_member, write_member};
 use json::Writer;
-use scrub_check::{Checked, dangling, hidden, twins};
+use scrub_check::{Checked, Place, dangling, hidden};
 use scrub_disk::{OutOfMemory, PageSource};
 use scrub_merge::Binding;
-use scrub_scan::AllFindings;
 use std::alloc::Global;
 
 /// Writes the key `dangling`.
@@ -73,19 +72,6 @@ fn write_orphans<D: PageSource>(
     ensures before { out.new.before ≡ out.old.before }
 {
     write_list_member(alloc, out, "orphans", &parts.liveness.orphans)
-}
-
-/// Writes the key `twins`.
-fn write_twins<D: PageSource>(
-    alloc: Global,
-    out: &mut Writer,
-    all: &AllFindings<'_, D>,
-) -> Result<(), OutOfMemory>
-    ensures tokens { OnOk result (out.new.tokens ≡ out.old.tokens ++
-        member_tokens (codes "twins") (list (map place_data (twins all.now.extents)))) }
-    ensures before { out.new.before ≡ out.old.before }
-{
-    write_list_member(alloc, out, "twins", &twins(alloc, all)?)
 }
 
 /// Writes the keys from `broken` up to `doubtful`.
@@ -146,13 +132,15 @@ pub(crate) fn write_last<D: PageSource>(
     alloc: Global,
     out: &mut Writer,
     parts: &Parts<'_, D>,
+    twin_chunks: &[Place],
 ) -> Result<(), OutOfMemory>
+    requires { twin_chunks.now ≡ twins parts.now.all.extents }
     ensures tokens { OnOk result (out.new.tokens ≡ out.old.tokens ++ members_tokens (last_keys parts.now)) }
     ensures before { out.new.before ≡ out.old.before }
 {
     write_list_member(alloc, out, "shared", &parts.liveness.shared)?;
     out.key("super")?;
     write_super(alloc, out, &parts.chosen)?;
-    write_twins(alloc, out, &parts.all)?;
+    write_list_member(alloc, out, "twins", twin_chunks)?;
     Ok(())
 }

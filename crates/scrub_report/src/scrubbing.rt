@@ -2,20 +2,22 @@
 
 ghost use Rattle.std.specs.Prelude.{◌≡◌, IfOk, is_none, is_some, length, option_map};
 ghost use Rattle.std.specs.List.{list_all, list_any};
+ghost use Rattle.scrub_disk.specs.Image.{Image};
 ghost use Rattle.scrub_check.specs.Checked.{is_sound, AreChecked};
+ghost use Rattle.scrub_check.specs.Chunks.{twins};
 ghost use Rattle.scrub_check.specs.Named.{named};
 ghost use Rattle.scrub_check.specs.Runs.{AreRunStates};
 ghost use Rattle.scrub_check.specs.WholeScan.{IsWholeScan};
-ghost use Rattle.scrub_report.specs.Parts.{ArePartsOf, IsScan, is_clean_kept};
+ghost use Rattle.scrub_report.specs.Parts.{AreJudgedOf, ArePartsOf, IsLivenessOf, IsScan, is_clean_kept};
 ghost use Rattle.scrub_report.specs.Report.{entry_counts};
 ghost use Rattle.scrub_report.specs.Scrubbed.{is_clean_list, is_in_doubt};
 
 use crate::order::{are_clean_extents, is_clean_choice};
-use crate::parts::Parts;
+use crate::parts::{Judged, Parts};
 use crate::scanning::Scan;
 use scrub_check::{
-    Checked, ReadRuns, RunState, SharedPlace, Status, broken_shards, check_named, liveness_of,
-    named_locators, read_runs,
+    Checked, Liveness, Place, ReadRuns, RunState, SharedPlace, Status, broken_shards, check_named,
+    liveness_of, named_locators, read_all_runs, twins,
 };
 use scrub_disk::{OutOfMemory, PageSource};
 use scrub_merge::{ShardMap, merge_owned};
@@ -23,7 +25,7 @@ use scrub_run::Run;
 use scrub_scan::AllFindings;
 use scrub_super::{Chosen, Plan};
 use std::alloc::Global;
-use std::thread::Threads;
+use std::thread::{Threads, join_mut};
 
 /// Whether an index run is lost.
 fn has_lost_run(read: &ReadRuns) -> bool
@@ -75,15 +77,15 @@ fn judged_locators<R: Threads + Sync, D: PageSource>(
     check_named(rt, alloc, disk, plan, all, states, &named)
 }
 
-/// What is found on a disk, from what was chosen, planned and scanned. Of the runs that were read only what the report tells
-/// is kept once they are merged, since their entries stand in the map.
-pub(crate) fn parts_of<'d, R: Threads + Sync, D: PageSource>(
+/// What is found on a disk up to what its named locators are worth, from what was chosen, planned and scanned. Once the runs
+/// are merged their entries are in the map, so only what the report needs of the runs is kept.
+fn judged_of<'d, R: Threads + Sync, D: PageSource>(
     rt: &R,
     alloc: Global,
     scan: Scan<'d, D>,
-) -> Result<Parts<'d, D>, OutOfMemory>
+) -> Result<Judged<'d, D>, OutOfMemory>
     requires { IsScan (D.image scan.disk.now) scan.chosen scan.plan scan.all.extents }
-    ensures { IfOk result (ArePartsOf (D.image scan.entry.disk.now)) }
+    ensures { IfOk result (AreJudgedOf (D.image scan.entry.disk.now)) }
 {
     let Scan {
         disk,
@@ -91,13 +93,81 @@ pub(crate) fn parts_of<'d, R: Threads + Sync, D: PageSource>(
         plan,
         all,
     } = scan;
-    let read = read_runs(alloc, disk, &plan, &all)?;
+    let read = read_all_runs(rt, alloc, disk, &plan, &all)?;
     let in_doubt = is_in_doubt(&chosen, &read);
     let entries = entry_counts(alloc, read.runs())?;
     let (runs, states) = read.into_parts();
     let map = merge_owned(alloc, runs)?;
     let checked = judged_locators(rt, alloc, disk, &plan, &all, &states, &map)?;
-    let liveness = liveness_of(alloc, &plan, &all, &checked, in_doubt)?;
+    Ok(Judged {
+        chosen,
+        plan,
+        all,
+        in_doubt,
+        entries,
+        states,
+        map,
+        checked,
+    })
+}
+
+/// What follows from which chunks are live.
+fn liveness_in<D: PageSource>(
+    alloc: Global,
+    judged: &Judged<'_, D>,
+) -> Result<Liveness, OutOfMemory>
+    ensures { IfOk result (IsLivenessOf judged.now) }
+{
+    liveness_of(
+        alloc,
+        &judged.plan,
+        &judged.all,
+        &judged.checked,
+        judged.in_doubt,
+    )
+}
+
+/// What follows from which chunks are live, and the twins among the chunks, both found at the same time.
+fn liveness_and_twins<R: Threads + Sync, D: PageSource>(
+    rt: &R,
+    alloc: Global,
+    judged: &Judged<'_, D>,
+) -> Result<(Liveness, Vec<Place>), OutOfMemory>
+    ensures liveness { IfOk result (λ r. IsLivenessOf judged.now r.0) }
+    ensures twins { IfOk result (λ r. r.1.items ≡ twins judged.now.all.extents) }
+{
+    let (liveness, twin_chunks) = join_mut(
+        rt,
+        &mut || -> Result<Liveness, OutOfMemory>
+            ensures liveness { IfOk result (IsLivenessOf judged.entry.now) }
+        { liveness_in(alloc, judged) },
+        &mut || -> Result<Vec<Place>, OutOfMemory>
+            ensures twins { IfOk result (λ v. v.items ≡ twins judged.entry.now.all.extents) }
+        { twins(alloc, &judged.all) },
+    );
+    Ok((liveness?, twin_chunks?))
+}
+
+/// What is found on a disk, from what its locators are worth and what follows from which chunks are live.
+fn parts_from<'d, D: PageSource>(
+    alloc: Global,
+    judged: Judged<'d, D>,
+    liveness: Liveness,
+) -> Result<Parts<'d, D>, OutOfMemory>
+    requires { IsLivenessOf judged liveness }
+    ensures parts { (image : Image) → AreJudgedOf image judged.entry → IfOk result (ArePartsOf image) }
+    ensures all { IfOk result (λ parts. parts.all.extents ≡ judged.entry.all.extents) }
+{
+    let Judged {
+        chosen,
+        plan,
+        all,
+        entries,
+        states,
+        map,
+        checked,
+        ..
+    } = judged;
     Ok(Parts {
         broken: broken_shards(alloc, &checked)?,
         chosen,
@@ -109,6 +179,36 @@ pub(crate) fn parts_of<'d, R: Threads + Sync, D: PageSource>(
         checked,
         liveness,
     })
+}
+
+/// What is found on a disk, from what was chosen, planned and scanned.
+pub(crate) fn parts_of<'d, R: Threads + Sync, D: PageSource>(
+    rt: &R,
+    alloc: Global,
+    scan: Scan<'d, D>,
+) -> Result<Parts<'d, D>, OutOfMemory>
+    requires { IsScan (D.image scan.disk.now) scan.chosen scan.plan scan.all.extents }
+    ensures { IfOk result (ArePartsOf (D.image scan.entry.disk.now)) }
+{
+    let judged = judged_of(rt, alloc, scan)?;
+    let liveness = liveness_in(alloc, &judged)?;
+    parts_from(alloc, judged, liveness)
+}
+
+/// The same, and the twins among the chunks, which only the report names.
+pub(crate) fn parts_and_twins<'d, R: Threads + Sync, D: PageSource>(
+    rt: &R,
+    alloc: Global,
+    scan: Scan<'d, D>,
+) -> Result<(Parts<'d, D>, Vec<Place>), OutOfMemory>
+    requires { IsScan (D.image scan.disk.now) scan.chosen scan.plan scan.all.extents }
+    ensures parts { IfOk result (λ r. ArePartsOf (D.image scan.entry.disk.now) r.0) }
+    ensures twins { IfOk result (λ r. r.1.items ≡ twins r.0.all.extents) }
+{
+    let judged = judged_of(rt, alloc, scan)?;
+    let (liveness, twin_chunks) = liveness_and_twins(rt, alloc, &judged)?;
+    let parts = parts_from(alloc, judged, liveness)?;
+    Ok((parts, twin_chunks))
 }
 
 fn is_sound(status: Status) -> bool

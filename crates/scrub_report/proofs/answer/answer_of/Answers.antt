@@ -8,18 +8,18 @@ use Rattle.scrub_report.proofs.answer.answer_of.Goals as goal
 
 pub index_and_report-requires-clause-few : goal.index_and_report-requires-clause-few
 index_and_report-requires-clause-few g c κs within =
-    let are = c.in_ok-parts.ensures in
+    let are = c.in_ok-parts.ensures.parts in
     entries_fit (g.D.PageSource.image c.args.scan.disk.now) (found_in c.in_ok-parts.parts are.read) are.scrubbed
 
 pub index_and_report-requires-clause-count : goal.index_and_report-requires-clause-count
 index_and_report-requires-clause-count g c κs within =
-    let are = c.in_ok-parts.ensures in
+    let are = c.in_ok-parts.ensures.parts in
     countable (g.D.PageSource.image c.args.scan.disk.now) (found_in c.in_ok-parts.parts are.read) are.scrubbed
 
 pub returns : goal.returns
 returns g c =
     let parts = c.in_ok-parts.parts in
-    let are = c.in_ok-parts.ensures in
+    let are = c.in_ok-parts.ensures.parts in
     let found : Scrubbed = found_in parts are.read in
     record {
       report = record {

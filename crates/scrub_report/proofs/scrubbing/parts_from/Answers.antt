@@ -1,0 +1,25 @@
+-- What follows from which chunks are live is that of the checked locators.
+use Rattle.std.proofs.Common.{rules}
+use Rattle.scrub_report.proofs.scrubbing.parts_from.Goals as goal
+
+pub invariant_of-result : goal.invariant_of-result
+invariant_of-result g c = record { live_told = c.requires.live; orphans_told = c.requires.orphans_are }
+
+pub returns-clause-parts : goal.returns-clause-parts
+returns-clause-parts g c = λ image are.
+    record {
+      read = are.read;
+      counted = are.counted;
+      kept = are.kept;
+      scrubbed = record {
+        choice = are.choice;
+        plan = are.plan;
+        all = are.all;
+        read = are.read_are;
+        bindings = are.bindings;
+        checked = are.checked;
+        shared = c.requires.shared;
+        broken = search rules;
+        candidates = search (rules, are.doubt, c.requires.candidates);
+      };
+    }
