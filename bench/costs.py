@@ -6,8 +6,8 @@ usage: bench/costs.py [PROGRAM]    (default: the program of ./shardscrub)
 A library put before the C library counts the threads that a run starts, and its allocations of one given size. Three
 claims are checked:
 - Merging the runs copies no list of locators: each list is allocated once, where its run is read.
-- The index has a thread of its own: a scan without workers starts one thread where there is nothing to look at, and a
-  command that makes no index starts none.
+- The twins are found by a thread of their own, and so is the index made: a scan without workers starts two threads where
+  there is one run and nothing to look at, and a command that makes neither starts none.
 - Several threads look at places: where there are many, a run has at least as many threads as processors, with the main
   one. It is run on one processor, on two, and so on.
 
@@ -179,7 +179,7 @@ def threads(counting, room):
     processors = sorted(os.sched_getaffinity(0))[:MOST_PROCESSORS]
     for number in range(1, len(processors) + 1):
         given = set(processors[:number])
-        for command, wanted in [("scan", 1), ("index", 1), ("locators", 0)]:
+        for command, wanted in [("scan", 2), ("index", 2), ("locators", 0)]:
             _, started = counting.run([command, "--workers", "0", *sound], 0, processors=given)
             check(f"threads of {command} on {number} processors, nothing to look at", started, started == wanted, wanted)
         _, started = counting.run(["locators", "--workers", "0", *hidden], 1, processors=given)

@@ -518,17 +518,17 @@ def started(room, *words):
 
 def threads(room):
     """`--workers N` starts N threads, and what doesn't scan the disk starts none. Counted are all threads of a run: `scan` and
-    `index` start one more, which makes the index. The disk has no superblock and so no locators, which other threads would
-    check."""
+    `index` start two more, which find the twins and make the index. The disk has no superblock and so no runs and no
+    locators, which other threads would read and check."""
     disk = [*SMALL, str(TOP / "examples/no-superblock.img")]
-    for command, others in [("scan", 1), ("index", 1), ("locators", 0), ("reclaimable", 0)]:
+    for command, others in [("scan", 2), ("index", 2), ("locators", 0), ("reclaimable", 0)]:
         for number in (0, 1, 3, 64):
             found = started(room, command, "--workers", str(number), *disk)
             check(f"threads of {command} by {number} workers", found, number + others)
         check(f"threads of {command}", started(room, command, *disk), 1 + others)
     for words in (["items", "--extent", "1", *disk], ["superblocks", *disk], ["sizes", disk[-1]]):
         check(f"threads of {words[0]}", started(room, *words), 0)
-    check("threads of demo", started(room), 2 + 1)
+    check("threads of demo", started(room), 2 + 2)
 
 
 def loop_device(path):
