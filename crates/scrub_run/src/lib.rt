@@ -15,4 +15,4 @@ pub use reading::{RunFault, read_run};
 pub use run::{Run, one_run};
 pub use scrub_frame::OutOfMemory;
 pub use shard_id::ShardId;
-pub use writing::write_run;
+pub use writing::{RunWriter, write_run};

@@ -24,7 +24,7 @@ pub(crate) const MAGIC: [u8; 4] = [0x52, 0x55, 0x4E, 0x31];
 const MAX_LOCATORS: usize = 64;
 
 /// The bytes of an entry without locators.
-const BARE_ENTRY_BYTES: usize = 17;
+pub(crate) const BARE_ENTRY_BYTES: usize = 17;
 
 /// Why no run was read.
 #[derive(Debug, Clone, Copy, PartialEq, Eq, Error)]

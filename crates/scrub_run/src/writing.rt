@@ -1,28 +1,85 @@
-//! Index runs, written as payloads.
+//! Index runs, written as payloads, entry by entry.
 
-ghost use Rattle.std.specs.Prelude.{◌≡◌, ◌+◌, ◌*◌, ◌<◌, ◌≤◌, ◌++◌, ◌^◌, All, IfOk, OnOk, length};
+ghost use Rattle.std.specs.Prelude.{◌≡◌, ◌*◌, ◌<◌, ◌≤◌, ◌++◌, ◌^◌, All, IfOk, OnOk, length};
+ghost use Rattle.byteorder.specs.Endian.{big_bytes};
+ghost use Rattle.sha2.specs.Sha256.{sha256};
 ghost use Rattle.scrub_run.specs.Entry.{entry_bytes, IsEntry};
-ghost use Rattle.scrub_run.specs.Run.{run_bytes, RisesById, IsRun};
+ghost use Rattle.scrub_run.specs.Run.{run_bytes, run_magic, RisesById, IsRun};
 
 use crate::OutOfMemory;
 use crate::entry::Entry;
-use crate::reading::MAGIC;
+use crate::reading::{BARE_ENTRY_BYTES, MAGIC};
 use scrub_frame::{LOCATOR_BYTES, append_locators, digest_of};
 use std::alloc::Global;
+use std::marker::Model;
 
-/// Appends an entry.
-fn append_entry(out: &mut Vec<u8>, entry: &Entry) -> Result<(), OutOfMemory>
-    requires { length entry.now.locators ≤ 64 }
-    ensures fit { OnOk result (IsEntry entry.now) }
-    ensures items { OnOk result (out.new.items ≡ out.old.items ++ entry_bytes entry.now) }
+/// The bytes of a run beside those of its entries: magic, number of entries, digest.
+const BARE_RUN_BYTES: usize = 40;
+
+/// The payload of an index run while it is written: its head, and the entries so far.
+#[derive(Drop)]
+pub struct RunWriter {
+    out: Vec<u8>,
+}
+
+impl Model for RunWriter {
+    ghost use Rattle.std.specs.Prelude.{ℕ, List};
+
+    ghost Value = { List ℕ };
+
+    ghost view = { λ w. w.out.items };
+}
+
+impl RunWriter {
+    /// The head of a run of this many entries. There is room for the whole run, where they have this many locators together.
+    pub fn new(alloc: Global, entries: u32, locators: usize) -> Result<RunWriter, OutOfMemory>
+        requires { locators ≤ 64 * entries }
+        ensures { IfOk result (λ w. w ≡ run_magic ++ big_bytes 4 entries) }
+    {
+        let room = BARE_RUN_BYTES + BARE_ENTRY_BYTES * entries as usize + LOCATOR_BYTES * locators;
+        let mut out = Vec::with_capacity(alloc, room)?;
+        out.extend_from_slice(&MAGIC)?;
+        out.extend_from_slice(&entries.to_be_bytes())?;
+        Ok(RunWriter { out })
+    }
+
+    /// Appends an entry.
+    pub fn append(&mut self, entry: &Entry) -> Result<(), OutOfMemory>
+        requires { length entry.now.locators ≤ 64 }
+        ensures fit { OnOk result (IsEntry entry.now) }
+        ensures written { OnOk result (self.new ≡ self.old ++ entry_bytes entry.now) }
+    {
+        let id = entry.id();
+        let locators = entry.locators();
+        self.out.extend_from_slice(&id.0)?;
+        self.out.push(locators.len() as u8)?;
+        self.out.reserve(LOCATOR_BYTES * locators.len())?;
+        append_locators(&mut self.out, locators);
+        Ok(())
+    }
+
+    /// The payload: what was written, and the digest of it.
+    pub fn finish(self) -> Result<Vec<u8>, OutOfMemory>
+        ensures { IfOk result (λ payload. payload.items ≡ self ++ sha256 self) }
+    {
+        let mut out = self.out;
+        let digest = digest_of(&out);
+        out.extend_from_slice(&digest)?;
+        Ok(out)
+    }
+}
+
+/// How many locators the entries have together.
+fn locator_count(entries: &[Entry]) -> usize
+    requires few { All (λ e. length e.locators ≤ 64) entries.now }
+    requires count { length entries.now < 2 ^ 32 }
+    ensures { result ≤ 64 * length entries.now }
 {
-    let id = entry.id();
-    let locators = entry.locators();
-    out.extend_from_slice(&id.0)?;
-    out.push(locators.len() as u8)?;
-    out.reserve(LOCATOR_BYTES * locators.len())?;
-    append_locators(out, locators);
-    Ok(())
+    let mut count = 0;
+    for one in entries {
+        count += one.locators().len();
+    }
+    count
 }
 
 /// The payload that is the run of these entries. It is read again as the same entries.
@@ -33,12 +90,9 @@ pub fn write_run(alloc: Global, entries: &[Entry]) -> Result<Vec<u8>, OutOfMemor
     ensures written { IfOk result (λ out. out.items ≡ run_bytes entries.now) }
     ensures read_again { IfOk result (λ out. IsRun out.items entries.now) }
 {
-    let mut out = Vec::from_slice(alloc, &MAGIC)?;
-    out.extend_from_slice(&(entries.len() as u32).to_be_bytes())?;
+    let mut run = RunWriter::new(alloc, entries.len() as u32, locator_count(entries))?;
     for entry in entries {
-        append_entry(&mut out, entry)?;
+        run.append(entry)?;
     }
-    let digest = digest_of(&out);
-    out.extend_from_slice(&digest)?;
-    Ok(out)
+    run.finish()
 }

@@ -7,5 +7,5 @@ use Rattle.scrub_run.proofs.writing.write_run.Given as goal
 abbrev pub invariant-loop-entry : goal.invariant-loop-entry
 invariant-loop-entry l = record {
   fit : (k : ℕ) (d : EntryValue) → k < l.entry-index → IsEntry (get_or l.entries k d);
-  written : l.out.items ≡ l.initial.out.items ++ flat_map entry_bytes (take l.entry-index l.entries);
+  written : l.run ≡ l.initial.run ++ flat_map entry_bytes (take l.entry-index l.entries);
 }
