@@ -35,6 +35,13 @@ impl Binding {
         }
     }
 
+    /// What the run says: the shard, and its locators.
+    pub fn entry(&self) -> &Entry
+        ensures { result.now ≡ record { id = self.now.id; locators = self.now.locators } }
+    {
+        &self.entry
+    }
+
     /// The identifier of the shard.
     pub fn id(&self) -> ShardId
         ensures { result ≡ self.now.id }
