@@ -6,24 +6,14 @@ ghost use Rattle.scrub_run.specs.Entry.{IsBelow, entry_bytes};
 ghost use Rattle.scrub_run.specs.Run.{run_bytes};
 ghost use Rattle.scrub_check.specs.declared.checked.Checked.{Checked};
 ghost use Rattle.scrub_check.specs.Checked.{AreBrokenShards, is_broken};
-ghost use Rattle.scrub_report.specs.Index.{index_entries, indexed};
+ghost use Rattle.scrub_report.specs.Index.{index_entries};
 ghost use Rattle.scrub_report.specs.Kept.{all_locators};
 
 use scrub_check::Checked;
 use scrub_disk::OutOfMemory;
-use scrub_frame::{LOCATOR_BYTES, append_locators, digest_of};
 use scrub_merge::Binding;
-use scrub_run::ShardId;
+use scrub_run::{RunWriter, ShardId};
 use std::alloc::Global;
-
-/// What each run begins with: `RUN1`.
-const MAGIC: [u8; 4] = [0x52, 0x55, 0x4E, 0x31];
-
-/// The bytes of a run beside those of its entries: magic, number of entries, digest.
-const BARE_RUN_BYTES: usize = 40;
-
-/// The bytes of an entry beside those of its locators: identifier, number of locators.
-const BARE_ENTRY_BYTES: usize = 17;
 
 /// Whether a shard is among some, by a search.
 fn is_among(ids: &[ShardId], id: ShardId) -> bool
@@ -48,7 +38,7 @@ fn kept_sizes(bindings: &[Binding], broken: &[ShardId]) -> (usize, usize)
     requires few { All (λ b. length b.locators ≤ 64) bindings.now }
     requires count { length bindings.now < 2 ^ 32 }
     ensures few { result.0 ≤ length bindings.now }
-    ensures bound { result.1 ≤ 64 * length bindings.now }
+    ensures bound { result.1 ≤ 64 * result.0 }
     ensures entries { (checked : List Checked) → AreBrokenShards checked broken.now →
         result.0 ≡ length (index_entries checked bindings.now) }
     ensures locators { (checked : List Checked) → AreBrokenShards checked broken.now →
@@ -65,34 +55,20 @@ fn kept_sizes(bindings: &[Binding], broken: &[ShardId]) -> (usize, usize)
     (entries, locators)
 }
 
-/// Appends the entry that a binding is.
-fn append_entry(out: &mut Vec<u8>, binding: &Binding) -> Result<(), OutOfMemory>
-    requires { length binding.now.locators ≤ 64 }
-    ensures { OnOk result (out.new.items ≡ out.old.items ++ entry_bytes (indexed binding.now)) }
-{
-    let id = binding.id();
-    let locators = binding.locators();
-    out.extend_from_slice(&id.0)?;
-    out.push(locators.len() as u8)?;
-    out.reserve(LOCATOR_BYTES * locators.len())?;
-    append_locators(out, locators);
-    Ok(())
-}
-
 /// Appends the entries of the shards that aren't broken, in their order.
 fn append_kept(
-    out: &mut Vec<u8>,
+    run: &mut RunWriter,
     bindings: &[Binding],
     broken: &[ShardId],
 ) -> Result<(), OutOfMemory>
     requires sorted { AllPairs IsBelow broken.now }
     requires few { All (λ b. length b.locators ≤ 64) bindings.now }
     ensures { (checked : List Checked) → AreBrokenShards checked broken.now →
-        OnOk result (out.new.items ≡ out.old.items ++ flat_map entry_bytes (index_entries checked bindings.now)) }
+        OnOk result (run.new ≡ run.old ++ flat_map entry_bytes (index_entries checked bindings.now)) }
 {
     for binding in bindings {
         if is_kept(binding, broken) {
-            append_entry(out, binding)?;
+            run.append(binding.entry())?;
         }
     }
     Ok(())
@@ -111,15 +87,10 @@ pub(crate) fn index_bytes(
     requires count { length bindings.now < 2 ^ 32 }
     ensures { IfOk result (λ bytes. bytes.items ≡ run_bytes (index_entries checked.now bindings.now)) }
 {
-    // The contract tells by them which shards are broken; the code is given those.
+    // The contract says by them which shards are broken; the code is given those.
     let _ = checked;
     let (entries, locators) = kept_sizes(bindings, broken);
-    let room = BARE_RUN_BYTES + BARE_ENTRY_BYTES * entries + LOCATOR_BYTES * locators;
-    let mut out = Vec::with_capacity(alloc, room)?;
-    out.extend_from_slice(&MAGIC)?;
-    out.extend_from_slice(&(entries as u32).to_be_bytes())?;
-    append_kept(&mut out, bindings, broken)?;
-    let digest = digest_of(&out);
-    out.extend_from_slice(&digest)?;
-    Ok(out)
+    let mut run = RunWriter::new(alloc, entries as u32, locators)?;
+    append_kept(&mut run, bindings, broken)?;
+    run.finish()
 }

@@ -9,4 +9,4 @@ use Rattle.scrub_report.proofs.index.append_kept.Given as goal
 
 abbrev pub invariant-loop-binding : goal.invariant-loop-binding
 invariant-loop-binding l = (checked : List Checked) → AreBrokenShards checked l.broken →
-    l.out.items ≡ l.fn.out.items ++ flat_map entry_bytes (index_entries checked (take l.binding-index l.bindings))
+    l.run ≡ l.fn.run ++ flat_map entry_bytes (index_entries checked (take l.binding-index l.bindings))

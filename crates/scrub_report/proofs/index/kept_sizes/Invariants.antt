@@ -9,7 +9,7 @@ use Rattle.scrub_report.proofs.index.kept_sizes.Given as goal
 abbrev pub invariant-loop-binding : goal.invariant-loop-binding
 invariant-loop-binding l = record {
   few : l.entries ≤ l.binding-index;
-  bound : l.locators ≤ 64 * l.binding-index;
+  bound : l.locators ≤ 64 * l.entries;
   counted : (checked : List Checked) → AreBrokenShards checked l.broken → l.entries ≡ length (index_entries checked (take l.binding-index l.bindings));
   summed : (checked : List Checked) → AreBrokenShards checked l.broken → l.locators ≡ length (all_locators (index_entries checked (take l.binding-index l.bindings)));
 }
