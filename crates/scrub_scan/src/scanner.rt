@@ -238,13 +238,11 @@ impl Scanner {
             return false;
         }
         let close = head.form.close_bytes();
-        let mut found = [0; CLOSE_BYTES];
         self.has_bytes(
             disk,
             target,
             start + size - close,
             &head.form.close(&head.uuid)[..close],
-            &mut found[..close],
         )
     }
 
@@ -259,20 +257,18 @@ impl Scanner {
         }
     }
 
-    /// Whether these bytes stand at a place. What stands there is put into `out`, where all of it can be read.
+    /// Whether these bytes, no more than close a frame, stand at a place.
     fn has_bytes<D: PageSource>(
         &mut self,
         disk: &CountedSource<'_, D>,
         target: &Target,
         place: usize,
         wanted: &[u8],
-        out: &mut [u8],
     ) -> bool
         requires target { IsTarget (D.image disk.now) target.now }
         requires scans { Scans (D.image disk.now) target.now self.old }
         requires within { place + length wanted.now ≤ target.now.pointer }
-        requires same { length out.old ≡ length wanted.now }
-        requires short { length wanted.now ≤ 64 }
+        requires short { length wanted.now ≤ 18 }
         ensures scans { Scans (D.image disk.now) target.now self.new }
         ensures near { self.new.pages.near ≡ self.old.pages.near }
         ensures found { result ≡ true → AreBytesAt (target_of (D.image disk.now) target.now).byte place wanted.now }
@@ -283,10 +279,12 @@ impl Scanner {
             self.new.pages.asked ≡ self.old.pages.asked }
         ensures read { (n : ℕ) → HasRead self.old.pages n → HasRead self.new.pages n }
     {
-        if !self.fill(disk, target, place, out) {
+        let mut bytes = [0; CLOSE_BYTES];
+        let found = &mut bytes[..wanted.len()];
+        if !self.fill(disk, target, place, found) {
             return false;
         }
-        *out == *wanted
+        *found == *wanted
     }
 
     /// Fills `out` with the bytes from a place on, and says whether all of them can be read.
