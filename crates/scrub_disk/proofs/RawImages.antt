@@ -14,8 +14,17 @@ use Rattle.scrub_disk.specs.Image.{Image}
 use Rattle.scrub_disk.specs.Held.{held}
 use Rattle.scrub_disk.specs.WholePages.{page_room}
 use Rattle.scrub_disk.specs.Memory.{Marks}
-use Rattle.scrub_disk.specs.Raw.{IsPageAt, HoldsRaw}
+use Rattle.scrub_disk.specs.Raw.{IsReadOn, IsPageAt, HoldsRaw}
 use Rattle.scrub_disk.specs.Marked.{HoldsUnmarked, MarksAll}
+
+-- reads, and more reads
+pub read_on_more : {R : Type 0} {bytes : R → Option (List ℕ)} {most failures : R → ℕ} {a b c : R} →
+    IsReadOn bytes most failures a b → IsReadOn bytes most failures b c → IsReadOn bytes most failures a c
+read_on_more h k = record {
+  same_bytes = k.same_bytes ∙ h.same_bytes;
+  same_bound = k.same_bound ∙ h.same_bound;
+  counted = omega (arith, h.counted, k.counted);
+}
 
 -- a disk whose unmarked bytes are the raw ones has the raw pages
 pub holds_raw : (g : Geometry) (told bytes : List ℕ) (marks : List Bool) → length bytes ≡ g.page * g.pages * g.extents → length marks ≡ g.pages * g.extents →

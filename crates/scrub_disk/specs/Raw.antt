@@ -14,6 +14,13 @@ pub record IsRead (raw : Option (List ℕ)) (offset : ℕ) (out : List ℕ) (n :
   pub within : n ≤ length out
   pub told : IfSome raw (λ bytes. ReadFrom bytes offset out n)
 
+-- A raw image before and after some reads: its bytes and the bound on its failures are the same, and the failures are still
+-- counted.
+pub record IsReadOn {R : Type 0} (bytes : R → Option (List ℕ)) (most_failures failures : R → ℕ) (old new : R) : Type 0 where
+  pub same_bytes : bytes new ≡ bytes old
+  pub same_bound : most_failures new ≡ most_failures old
+  pub counted : failures old ≤ failures new
+
 -- page q of extent e stands at byte (e * N + q) * P
 abbrev pub raw_place : Geometry → ℕ → ℕ → ℕ
 raw_place g e q = page_number g e q * g.page

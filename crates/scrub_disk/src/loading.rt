@@ -3,7 +3,7 @@
 ghost use Rattle.std.specs.Prelude.{◌≡◌, ◌≢◌, ◌≤◌, ◌+◌, ◌-◌, ◌*◌, ◌<◌, ◌^◌, ◌/◌, ◌⊎◌, [], All, false, true, IfOk, IfSome, length, slice_get, Err, Some};
 ghost use Rattle.std.specs.Bool.{OnTrue, OnFalse};
 ghost use Rattle.scrub_disk.specs.Image.{AreBytesAt, disk_bytes};
-ghost use Rattle.scrub_disk.specs.Raw.{HoldsRaw, LosesOnly, IsLoadedWith};
+ghost use Rattle.scrub_disk.specs.Raw.{IsReadOn, HoldsRaw, LosesOnly, IsLoadedWith};
 ghost use Rattle.scrub_disk.specs.Marked.{HoldsUnmarked, MarksAll, MarksOnly};
 ghost use Rattle.scrub_disk.specs.Memory.{image_of};
 
@@ -32,9 +32,7 @@ fn read_whole<R: RawImage>(raw: &mut R, offset: u64, out: &mut [u8]) -> bool
     ensures whole { IfSome (R.bytes raw.old) (λ bytes. OnTrue result (AreBytesAt (slice_get bytes) offset out.new)) }
     ensures not_whole { IfSome (R.bytes raw.old) (λ bytes. OnFalse result
         ((length bytes < offset + length out.new) ⊎ (R.failures raw.old < R.failures raw.new))) }
-    ensures failures { R.failures raw.old ≤ R.failures raw.new }
-    ensures same_bytes { R.bytes raw.new ≡ R.bytes raw.old }
-    ensures same_bound { R.most_failures raw.new ≡ R.most_failures raw.old }
+    ensures image { IsReadOn (λ r. R.bytes r) (λ r. R.most_failures r) (λ r. R.failures r) raw.old raw.new }
     ensures reads { R.reads raw.new ≤ R.reads raw.old + length out.old }
 {
     let mut done = 0;
@@ -55,9 +53,7 @@ fn read_pages<R: RawImage>(raw: &mut R, page: usize, bytes: &mut [u8], unreadabl
     ensures read { IfSome (R.bytes raw.old) (λ told. HoldsUnmarked told page unreadable.new bytes.new) }
     ensures lost { IfSome (R.bytes raw.old) (λ told.
         MarksOnly told page (length unreadable.new) (R.failures raw.new - R.failures raw.old) unreadable.new) }
-    ensures failures { R.failures raw.old ≤ R.failures raw.new }
-    ensures same_bytes { R.bytes raw.new ≡ R.bytes raw.old }
-    ensures same_bound { R.most_failures raw.new ≡ R.most_failures raw.old }
+    ensures image { IsReadOn (λ r. R.bytes r) (λ r. R.most_failures r) (λ r. R.failures r) raw.old raw.new }
     ensures reads { R.reads raw.new ≤ R.reads raw.old + length bytes.old }
 {
     for (number, mark) in unreadable.iter_mut().enumerate() {
@@ -72,9 +68,7 @@ fn has_byte_at<R: RawImage>(raw: &mut R, offset: u64) -> bool
     ensures there { IfSome (R.bytes raw.old) (λ told. OnTrue result (offset < length told)) }
     ensures not_there { IfSome (R.bytes raw.old) (λ told. OnFalse result
         ((length told ≤ offset) ⊎ (R.failures raw.old < R.failures raw.new))) }
-    ensures failures { R.failures raw.old ≤ R.failures raw.new }
-    ensures same_bytes { R.bytes raw.new ≡ R.bytes raw.old }
-    ensures same_bound { R.most_failures raw.new ≡ R.most_failures raw.old }
+    ensures image { IsReadOn (λ r. R.bytes r) (λ r. R.most_failures r) (λ r. R.failures r) raw.old raw.new }
     ensures reads { R.reads raw.new ≡ R.reads raw.old + 1 }
 {
     match raw.read_at(offset, &mut [0u8]) {
@@ -94,10 +88,8 @@ fn read_disk<R: RawImage>(
     ensures pages { IfOk result (λ disk. IfSome (R.bytes raw.old) (λ told. HoldsRaw told (image_of disk))) }
     ensures lost { IfOk result (λ disk. IfSome (R.bytes raw.old) (λ told.
         LosesOnly told geometry [] (R.failures raw.new - R.failures raw.old) (image_of disk))) }
-    ensures failures { R.failures raw.old ≤ R.failures raw.new }
     ensures fault { result ≢ Err LoadFault.TooLong }
-    ensures same_bytes { R.bytes raw.new ≡ R.bytes raw.old }
-    ensures same_bound { R.most_failures raw.new ≡ R.most_failures raw.old }
+    ensures image { IsReadOn (λ r. R.bytes r) (λ r. R.most_failures r) (λ r. R.failures r) raw.old raw.new }
     ensures reads { R.reads raw.new ≤ R.reads raw.old + geometry.page * (geometry.pages * geometry.extents) }
 {
     let pages = geometry.pages() as usize * geometry.extents() as usize;

@@ -50,6 +50,11 @@ pub record HasRead (p : TwoPages) (n : ℕ) : Type 0 where
   pub far : IfSome p.far.number (Contains calls)
   pub below : (q : ℕ) → q < n → Contains calls q
 
+-- pages before and after some reads into the far one: the near one is the same, and what was asked for still counts
+pub record KeepsNear (old new : TwoPages) : Type 0 where
+  pub near : new.near ≡ old.near
+  pub read : (n : ℕ) → HasRead old n → HasRead new n
+
 -- an extent of the image, and a pointer into it
 pub record IsTarget (image : Image) (t : Target) : Type 0 where
   pub in_extents : t.extent < image.geometry.extents

@@ -8,7 +8,7 @@ ghost use Rattle.scrub_frame.specs.Matching.{left};
 ghost use Rattle.scrub_scan.specs.declared.pages.Target.{Target};
 ghost use Rattle.scrub_scan.specs.Extent.{Extent, FrameAt, NoFrameAt, HasGap, bound};
 ghost use Rattle.scrub_scan.specs.Item.{start_of, stop_of, IsItem};
-ghost use Rattle.scrub_scan.specs.Pages.{HoldBoth, IsTarget, target_of, Scans, IsFound, Passes, IsPassed, Claims, AskedBy, HasRead, Reaches, place_behind, last_page, frame_cost};
+ghost use Rattle.scrub_scan.specs.Pages.{HoldBoth, IsTarget, target_of, Scans, IsFound, Passes, IsPassed, Claims, AskedBy, HasRead, KeepsNear, Reaches, place_behind, last_page, frame_cost};
 
 use crate::counted_source::{CountedSource, PagesAsked};
 use crate::item::Item;
@@ -213,14 +213,13 @@ impl Scanner {
         requires scans { Scans (D.image disk.now) target.now self.old }
         requires below { start < target.now.pointer }
         ensures scans { Scans (D.image disk.now) target.now self.new }
-        ensures near { self.new.pages.near ≡ self.old.pages.near }
+        ensures kept { KeepsNear self.old.pages self.new.pages }
         ensures claims { result ≡ true → Claims (target_of (D.image disk.now) target.now) start }
         ensures none { result ≡ false → NoFrameAt (target_of (D.image disk.now) target.now) start }
         ensures asked { self.new.pages.asked ≤ self.old.pages.asked + 4 }
         ensures known { (f : Form) (u b : List ℕ) → FrameAt (target_of (D.image disk.now) target.now) start f u b →
             last_page target.now start f (length b) ≤ start / target.now.page →
             self.old.pages.near.number ≡ Some (start / target.now.page) → self.new.pages.asked ≡ self.old.pages.asked }
-        ensures read { (n : ℕ) → HasRead self.old.pages n → HasRead self.new.pages n }
     {
         let room = target.pointer - start;
         if room < LEAST_OVERHEAD {
@@ -238,13 +237,11 @@ impl Scanner {
             return false;
         }
         let close = head.form.close_bytes();
-        let mut found = [0; CLOSE_BYTES];
         self.has_bytes(
             disk,
             target,
             start + size - close,
             &head.form.close(&head.uuid)[..close],
-            &mut found[..close],
         )
     }
 
@@ -259,34 +256,33 @@ impl Scanner {
         }
     }
 
-    /// Whether these bytes stand at a place. What stands there is put into `out`, where all of it can be read.
+    /// Whether these bytes, no more than close a frame, stand at a place.
     fn has_bytes<D: PageSource>(
         &mut self,
         disk: &CountedSource<'_, D>,
         target: &Target,
         place: usize,
         wanted: &[u8],
-        out: &mut [u8],
     ) -> bool
         requires target { IsTarget (D.image disk.now) target.now }
         requires scans { Scans (D.image disk.now) target.now self.old }
         requires within { place + length wanted.now ≤ target.now.pointer }
-        requires same { length out.old ≡ length wanted.now }
-        requires short { length wanted.now ≤ 64 }
+        requires short { length wanted.now ≤ 18 }
         ensures scans { Scans (D.image disk.now) target.now self.new }
-        ensures near { self.new.pages.near ≡ self.old.pages.near }
+        ensures kept { KeepsNear self.old.pages self.new.pages }
         ensures found { result ≡ true → AreBytesAt (target_of (D.image disk.now) target.now).byte place wanted.now }
         ensures none { result ≡ false → ¬ AreBytesAt (target_of (D.image disk.now) target.now).byte place wanted.now }
         ensures asked { self.new.pages.asked ≤ self.old.pages.asked + 2 }
         ensures known { self.old.pages.near.number ≡ Some (place / target.now.page) →
             place + length wanted.now ≤ (place / target.now.page + 1) * target.now.page →
             self.new.pages.asked ≡ self.old.pages.asked }
-        ensures read { (n : ℕ) → HasRead self.old.pages n → HasRead self.new.pages n }
     {
-        if !self.fill(disk, target, place, out) {
+        let mut bytes = [0; CLOSE_BYTES];
+        let found = &mut bytes[..wanted.len()];
+        if !self.fill(disk, target, place, found) {
             return false;
         }
-        *out == *wanted
+        *found == *wanted
     }
 
     /// Fills `out` with the bytes from a place on, and says whether all of them can be read.
@@ -302,14 +298,13 @@ impl Scanner {
         requires within { place + length out.old ≤ target.now.pointer }
         requires short { length out.old ≤ 64 }
         ensures scans { Scans (D.image disk.now) target.now self.new }
-        ensures near { self.new.pages.near ≡ self.old.pages.near }
+        ensures kept { KeepsNear self.old.pages self.new.pages }
         ensures filled { result ≡ true → AreBytesAt (target_of (D.image disk.now) target.now).byte place out.new }
         ensures gap { result ≡ false → HasGap (target_of (D.image disk.now) target.now).byte place (length out.old) }
         ensures asked { self.new.pages.asked ≤ self.old.pages.asked + 2 }
         ensures known { self.old.pages.near.number ≡ Some (place / target.now.page) →
             place + length out.old ≤ (place / target.now.page + 1) * target.now.page →
             self.new.pages.asked ≡ self.old.pages.asked }
-        ensures read { (n : ℕ) → HasRead self.old.pages n → HasRead self.new.pages n }
     {
         let mut done = 0;
         while done < out.len() {
@@ -384,12 +379,11 @@ impl Scanner {
         requires below { place < target.now.pointer }
         requires left { left self.old.matcher ≡ target.now.pointer - place }
         ensures scans { Scans (D.image disk.now) target.now self.new }
-        ensures near { self.new.pages.near ≡ self.old.pages.near }
+        ensures kept { KeepsNear self.old.pages self.new.pages }
         ensures answer { (start : ℕ) → Passes (target_of (D.image disk.now) target.now) start place self.old.matcher →
             IsPassed (target_of (D.image disk.now) target.now) start (bound (target_of (D.image disk.now) target.now) place) self.new.matcher result }
         ensures asked { self.new.pages.asked ≤ self.old.pages.asked + 1 }
         ensures known { self.old.pages.near.number ≡ Some (place / target.now.page) → self.new.pages.asked ≡ self.old.pages.asked }
-        ensures read { (n : ℕ) → HasRead self.old.pages n → HasRead self.new.pages n }
         ensures reached { Reaches self.new.pages (place / target.now.page) }
     {
         let stop = target.bound(place);

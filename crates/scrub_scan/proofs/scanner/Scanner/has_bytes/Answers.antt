@@ -1,6 +1,7 @@
 -- Other bytes stand there, or some can't be read.
-use Rattle.std.proofs.Common.{arith, sym, ◌∙◌, subst, List, ℕ, ◌≡◌}
+use Rattle.std.proofs.Common.{arith, sym, ◌∙◌, subst, List, [], ◌∷◌, ℕ, ◌≡◌, length}
 use Rattle.std.proofs.lemmas.Bool.{false≢true}
+use Rattle.std.proofs.lemmas.List.{length-take-le}
 use Rattle.std.proofs.lemmas.Slice.Eq.{bytes_eq-Decides}
 use Rattle.scrub_disk.specs.Image.{byte, AreBytesAt}
 use Rattle.scrub_scan.specs.Extent.{HasGap}
@@ -11,13 +12,13 @@ pub returns-then-not-fill-clause-none : goal.returns-then-not-fill-clause-none
 returns-then-not-fill-clause-none g c = λ _ stands.
     let at = byte (g.D.PageSource.image c.args.disk.now) c.args.target.now.extent in
     no_gap_in at c.args.place c.args.wanted.now stands
-    (subst (λ (n : ℕ). HasGap at c.args.place n) c.requires.same (c.fill.ensures.gap c.if-not-fill.true))
+    (subst (λ (n : ℕ). HasGap at c.args.place n) (length-take-le (length c.args.wanted.now) _ (omega arith)) (c.fill.ensures.gap c.if-not-fill.true))
 
 pub returns-clause-none : goal.returns-clause-none
 returns-clause-none g c = λ differs stands.
     let at = byte (g.D.PageSource.image c.args.disk.now) c.args.target.now.extent in
     let same : c.fill.new.out ≡ c.args.wanted.now =
-    same_bytes at c.args.place c.fill.new.out c.args.wanted.now (omega arith) (c.fill.ensures.filled c.if-not-fill.false) stands in
+    same_bytes at c.args.place c.fill.new.out c.args.wanted.now (omega (arith, length-take-le {A = ℕ} (length c.args.wanted.now) (0 ∷ 0 ∷ 0 ∷ 0 ∷ 0 ∷ 0 ∷ 0 ∷ 0 ∷ 0 ∷ 0 ∷ 0 ∷ 0 ∷ 0 ∷ 0 ∷ 0 ∷ 0 ∷ 0 ∷ 0 ∷ []) (omega arith))) (c.fill.ensures.filled c.if-not-fill.false) stands in
     false≢true (sym differs ∙ c.eq.ensures ∙ (bytes_eq-Decides c.fill.new.out c.args.wanted.now).1 same)
 
 pub returns-clause-found : goal.returns-clause-found

@@ -78,7 +78,7 @@ returns-clause-known g c = λ f u b k last near.
     let end : c.args.start + length b + frame_overhead f - 1 < (q + 1) * t.page = below_bound (c.args.start + length b + frame_overhead f - 1) q t.page t.positive last in
     let page : place / t.page ≡ q = page_of q place t.page t.positive (omega (arith, div-mul-le_self c.args.start t.page, size, c.close_bytes-close.ensures.value)) (omega (arith, end, same.2, round, size, c.close_bytes-close.ensures.value)) in
     let next : (place / t.page + 1) * t.page ≡ (q + 1) * t.page = ap (λ i. (i + 1) * t.page) page in
-    c.has_bytes.ensures.known (ap (λ h. h.number) c.fill.ensures.near ∙ near ∙ ap Some (sym page)) (omega (arith, next, end, same.2, round, size, c.close_bytes-close.ensures.value, length-take c.close_bytes-close.result c.close.result))
+    c.has_bytes.ensures.known (ap (λ h. h.number) c.fill.ensures.kept.near ∙ near ∙ ap Some (sym page)) (omega (arith, next, end, same.2, round, size, c.close_bytes-close.ensures.value, length-take c.close_bytes-close.result c.close.result))
     ∙ c.fill.ensures.known near (omega (arith, end))
 
 pub returns-clause-claims : goal.returns-clause-claims
