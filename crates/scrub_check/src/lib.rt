@@ -26,6 +26,7 @@ mod sound_starts;
 pub mod status;
 mod verdicts;
 mod walked;
+mod whole_scan;
 
 pub use broken::{broken_shards, one_list_of_broken_shards};
 pub use candidate::Candidate;
