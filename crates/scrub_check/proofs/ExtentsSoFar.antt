@@ -1,27 +1,15 @@
 -- What is told of the extents so far, and of one more.
-use Rattle.std.proofs.Common.{◌≡◌, ◌+◌, ◌++◌, ◌∷◌, [], ℕ, List, Some, slice_get, map, take, sym, ◌∙◌, ap}
+use Rattle.std.proofs.Common.{◌≡◌, ◌+◌, ◌++◌, [], ◌∷◌, ℕ, List, Some, slice_get, take, sym, ◌∙◌, ap}
 use Rattle.std.specs.List.{filter_map}
-use Rattle.std.proofs.lemmas.List.{map-append, append-nil}
+use Rattle.std.proofs.lemmas.List.{append-nil}
 use Rattle.std.proofs.lemmas.Grind.{flat_map-append}
 use Rattle.scrub_scan.specs.declared.item.Item.{Item}
 use Rattle.scrub_scan.specs.Scanned.{Scanned}
 use Rattle.scrub_scan.proofs.Taken.{take_next}
-use Rattle.scrub_check.specs.declared.checked.Checked.{Checked}
 use Rattle.scrub_check.specs.declared.place.Place.{Place}
 use Rattle.scrub_check.specs.Chunks.{place_of, chunks_in, chunks}
-use Rattle.scrub_check.specs.Live.{live_bytes}
 
 module _ (all : List Scanned) (i : ℕ) (f : Scanned) (at : slice_get all i ≡ Some f) where
-  -- its live bytes
-  pub live_bytes_more : (checked : List Checked) (old new : List ℕ) (n : ℕ) → old ≡ map (live_bytes checked) (take i all) → n ≡ live_bytes checked f → new ≡ old ++ n ∷ [] →
-      new ≡ map (live_bytes checked) (take (i + 1) all)
-  live_bytes_more checked old new n is its grown =
-      grown
-      ∙ ap (λ ns. ns ++ n ∷ []) is
-      ∙ ap (λ m. map (live_bytes checked) (take i all) ++ m ∷ []) its
-      ∙ sym (map-append (live_bytes checked) (take i all) (f ∷ []))
-      ∙ ap (map (live_bytes checked)) (sym (take_next all i f at))
-
   -- its chunks
   pub chunks_more : (old found new : List Place) (e : ℕ) (items : List Item) → old ≡ chunks (take i all) → found ≡ filter_map (place_of e) items → e ≡ f.extent → items ≡ f.findings.items → new ≡ old ++ found →
       new ≡ chunks (take (i + 1) all)

@@ -1,5 +1,5 @@
 -- What a locator is worth, from what was found at its place.
-use Rattle.std.proofs.Common.{◌≡◌, ◌<◌, ◌-◌, ℕ, List, map, length, get_or, slice_index, Bool, false, Option, Some, None, MatchBool, MatchOption, IfSome, IfNone, inl, inr, arith, refl, sym, ◌∙◌, ap, subst}
+use Rattle.std.proofs.Common.{◌≡◌, ◌<◌, ℕ, List, map, length, get_or, slice_index, Bool, false, Option, Some, None, MatchBool, MatchOption, IfSome, IfNone, inl, inr, arith, refl, sym, ◌∙◌, ap, subst}
 use Rattle.std.specs.List.{Contains}
 use Rattle.std.proofs.lemmas.List.{get_or-map}
 use Rattle.std.proofs.lemmas.List.Elements.{All-get_or}

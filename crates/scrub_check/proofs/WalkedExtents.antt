@@ -1,5 +1,5 @@
 -- What is told of the extents, one after the other.
-use Rattle.std.proofs.Common.{◌≡◌, ◌<◌, ◌≤◌, ◌+◌, ◌++◌, ◌∷◌, [], ℕ, Bool, not, List, Some, slice_get, map, length, get_or, take, arith, refl, sym, ◌∙◌, ap, subst}
+use Rattle.std.proofs.Common.{◌≡◌, ◌<◌, ◌+◌, ◌++◌, ◌∷◌, [], ℕ, Bool, not, List, Option, Some, None, slice_get, map, length, get_or, take, arith, refl, sym, ◌∙◌, ap, subst}
 use Rattle.std.specs.List.{filter, filter_map, sum_by}
 use Rattle.std.specs.List.Sorted.{IsStrictlyIncreasing}
 use Rattle.std.proofs.lemmas.List.{map-append, append-nil, length-map, get_or-map}
@@ -24,8 +24,9 @@ use Rattle.scrub_check.specs.declared.walked.LiveChunks.{LiveChunks}
 use Rattle.scrub_check.specs.declared.walked.Told.{Told}
 use Rattle.scrub_check.specs.Live.{size_of, live_bytes, has_sound_at}
 use Rattle.scrub_check.specs.Chunks.{place_of, chunks_in, chunks, orphans}
-use Rattle.scrub_check.specs.Candidates.{is_reclaimable, candidate_of, reclaimable}
-use Rattle.scrub_check.specs.SoundStarts.{AreSoundStarts, is_named_by}
+use Rattle.scrub_check.specs.Candidates.{is_reclaimable, candidate_of}
+use Rattle.scrub_check.specs.Verdicts.{reclaimable_by}
+use Rattle.scrub_check.specs.SoundStarts.{AreSoundStarts}
 use Rattle.scrub_check.specs.Walked.{HasPassed, orphans_by, AreLiveBy, AreLiveChunks, AreToldOf}
 use Rattle.scrub_check.proofs.Reclaimable.{told_of_live}
 use Rattle.scrub_check.proofs.SortedStarts.{orphans_found}
@@ -56,10 +57,22 @@ orphans_grown checked starts fs f e items are number its =
     ∙ sym (filter-append left (chunks fs) (chunks_in f))
     ∙ ap (filter left) all
 
+-- of no extents none may be reclaimed
+pub none_reclaimable : (g : Option Geometry) (checked : List Checked) → [] ≡ reclaimable_by g [] checked
+none_reclaimable None checked = refl
+none_reclaimable (Some g) checked = refl
+
+-- those of them that may be reclaimed, where that is asked for
+reclaimable_more : (g : Option Geometry) (checked : List Checked) (fs : List Scanned) (f : Scanned) → reclaimable_by g fs checked ++ reclaimable_by g (f ∷ []) checked ≡ reclaimable_by g (fs ++ f ∷ []) checked
+reclaimable_more None checked fs f = refl
+reclaimable_more (Some g) checked fs f =
+    sym (map-append (candidate_of checked) (filter (is_reclaimable g checked) fs) (filter (is_reclaimable g checked) (f ∷ [])))
+    ∙ ap (map (candidate_of checked)) (sym (filter-append (is_reclaimable g checked) fs (f ∷ [])))
+
 -- what is told of one more extent
-pub told_more : (g : Geometry) (checked : List Checked) (starts : List Start) (fs : List Scanned) (f : Scanned) (e : ℕ) (items : List Item) (live : LiveChunks) (old new : Told) →
+pub told_more : (g : Option Geometry) (checked : List Checked) (starts : List Start) (fs : List Scanned) (f : Scanned) (e : ℕ) (items : List Item) (live : LiveChunks) (old new : Told) →
     AreSoundStarts checked starts → AreToldOf g checked fs old → e ≡ f.extent → items ≡ f.findings.items → AreLiveChunks checked f live →
-    new.live.items ≡ old.live.items ++ live.bytes ∷ [] → new.orphans.items ≡ old.orphans.items ++ orphans_by starts e items → new.reclaimable.items ≡ old.reclaimable.items ++ reclaimable g (f ∷ []) checked →
+    new.live.items ≡ old.live.items ++ live.bytes ∷ [] → new.orphans.items ≡ old.orphans.items ++ orphans_by starts e items → new.reclaimable.items ≡ old.reclaimable.items ++ reclaimable_by g (f ∷ []) checked →
     AreToldOf g checked (fs ++ f ∷ []) new
 told_more g checked starts fs f e items live old new are told number its chunk sizes garbage candidates = record {
   sizes =
@@ -70,13 +83,12 @@ told_more g checked starts fs f e items live old new are told number its chunk s
   garbage = garbage ∙ ap (λ ps. ps ++ orphans_by starts e items) told.garbage ∙ orphans_grown checked starts fs f e items are number its;
   candidates =
       candidates
-      ∙ ap (λ cs. cs ++ reclaimable g (f ∷ []) checked) told.candidates
-      ∙ sym (map-append (candidate_of checked) (filter (is_reclaimable g checked) fs) (filter (is_reclaimable g checked) (f ∷ [])))
-      ∙ ap (map (candidate_of checked)) (sym (filter-append (is_reclaimable g checked) fs (f ∷ [])));
+      ∙ ap (λ cs. cs ++ reclaimable_by g (f ∷ []) checked) told.candidates
+      ∙ reclaimable_more g checked fs f;
 }
 
 -- of the extents so far, and the next one
-pub told_next : (g : Geometry) (checked : List Checked) (all : List Scanned) (i : ℕ) (f : Scanned) (t : Told) → slice_get all i ≡ Some f → AreToldOf g checked (take i all ++ f ∷ []) t → AreToldOf g checked (take (i + 1) all) t
+pub told_next : (g : Option Geometry) (checked : List Checked) (all : List Scanned) (i : ℕ) (f : Scanned) (t : Told) → slice_get all i ≡ Some f → AreToldOf g checked (take i all ++ f ∷ []) t → AreToldOf g checked (take (i + 1) all) t
 told_next g checked all i f t at told = subst (λ (fs : List Scanned). AreToldOf g checked fs t) (sym (take_next all i f at)) told
 
 -- a cursor that has passed none from the next extent on, where there is one

@@ -1,5 +1,5 @@
 -- A cursor over sorted places: what it has passed, and what it finds.
-use Rattle.std.proofs.Common.{◌≡◌, ◌<◌, ◌≤◌, ◌+◌, ◌==◌, ◌&&◌, ℕ, Bool, true, false, List, length, get_or, arith, refl, sym, ◌∙◌, ap, nat_lt, inl, inr, Ok, Err, Ordering, Less, Equal, Greater, nat_cmp, is_eq, is_lt}
+use Rattle.std.proofs.Common.{◌≡◌, ◌<◌, ◌≤◌, ◌+◌, ℕ, true, false, List, length, get_or, arith, refl, sym, ◌∙◌, ap, nat_lt, inl, inr, Ok, Err, Ordering, Less, Equal, Greater, nat_cmp, is_eq, is_lt}
 use Rattle.std.specs.Ordering.{ordering_then, ordering_index}
 use Rattle.std.specs.Cmp.{ranked}
 use Rattle.std.specs.List.{count_by}
@@ -11,7 +11,7 @@ use Rattle.scrub_check.specs.declared.sound_starts.Start.{Start}
 use Rattle.scrub_check.specs.SoundStarts.{start_cmp, is_start}
 use Rattle.scrub_check.specs.Walked.{LiesBefore, AreBefore, IsFirstFrom, HasPassed}
 use Rattle.scrub_check.proofs.Counts.{rises_against}
-use Rattle.scrub_check.proofs.SortedStarts.{start_total, start_ties, found_counts}
+use Rattle.scrub_check.proofs.SortedStarts.{start_total, found_counts}
 
 -- a place that is below another lies before its byte, and the other way round
 pub less_before : (a b p q : ℕ) → is_lt (ordering_then (nat_cmp a b) (nat_cmp p q)) ≡ true → (a ≤ b) × (a ≡ b → p < q)

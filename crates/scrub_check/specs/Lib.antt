@@ -15,6 +15,7 @@ pub use Rattle.scrub_scan.specs.Scanned
 pub use Rattle.scrub_scan.specs.AllFindings
 pub use Rattle.scrub_merge.specs.Binding
 -- The steps of the code.
+pub mod OneScan
 pub mod Judged
 pub mod Looks
 pub mod Seen

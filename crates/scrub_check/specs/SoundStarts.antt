@@ -10,7 +10,7 @@ use Rattle.scrub_check.specs.declared.place.SharedPlace.{SharedPlace}
 use Rattle.scrub_check.specs.declared.checked.Checked.{Checked}
 use Rattle.scrub_check.specs.declared.sound_starts.Start.{Start}
 use Rattle.scrub_check.specs.Checked.{is_sound}
-use Rattle.scrub_check.specs.Live.{is_chunk, sound_at, has_sound_at}
+use Rattle.scrub_check.specs.Live.{is_chunk, sound_at}
 
 -- by extent, and then by byte
 abbrev pub start_cmp : Start → Start → Ordering
@@ -31,10 +31,6 @@ sound_starts checked = map start_named (filter (λ c. is_sound c.status) checked
 -- the same in some order: each place stands there as often as sound ones point to it
 abbrev pub AreSoundStarts : List Checked → List Start → Type 0
 AreSoundStarts checked starts = (s : Start) → count_by (is_start s) starts ≡ sound_at checked s.extent s.offset
-
--- a sound locator points there
-abbrev pub has_sound_to : List Checked → Start → Bool
-has_sound_to checked s = has_sound_at checked s.extent s.offset
 
 -- one of these places is that of an item of extent e, which is a chunk
 abbrev pub is_live_by : List Start → ℕ → Item → Bool

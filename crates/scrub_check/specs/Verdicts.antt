@@ -1,5 +1,5 @@
 -- What the named locators say of places and extents, sorted by the code, and what that says of an extent.
-use Rattle.std.specs.Prelude.{◌++◌, ◌∷◌, [], ℕ, not, List, map}
+use Rattle.std.specs.Prelude.{◌++◌, ◌∷◌, [], ℕ, not, Option, Some, None, List, map}
 use Rattle.std.specs.List.{filter}
 use Rattle.std.specs.List.Sorted.{IsPermutation}
 use Rattle.scrub_disk.specs.declared.geometry.Geometry.{Geometry}
@@ -19,6 +19,11 @@ pub record AreVerdicts (checked : List Checked) (v : Verdicts) : Type 0 where
   pub sound : AreSoundStarts checked v.sound.now
   pub unsound : AreUnsoundExtents checked v.unsound
 
--- the candidates, and behind them the extent, where it may be reclaimed
-abbrev pub with_reclaimable : Geometry → List Checked → List CandidateValue → Scanned → List CandidateValue
-with_reclaimable g checked candidates f = candidates ++ reclaimable g (f ∷ []) checked
+-- the extents that may be reclaimed, where that is asked for: the sizes of the disk are given to find it by
+abbrev pub reclaimable_by : Option Geometry → List Scanned → List Checked → List CandidateValue
+reclaimable_by None all checked = []
+reclaimable_by (Some g) all checked = reclaimable g all checked
+
+-- the candidates, and behind them the extent, where that is asked for and it may be reclaimed
+abbrev pub with_reclaimable : Option Geometry → List Checked → List CandidateValue → Scanned → List CandidateValue
+with_reclaimable g checked candidates f = candidates ++ reclaimable_by g (f ∷ []) checked

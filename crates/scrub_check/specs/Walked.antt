@@ -1,5 +1,5 @@
 -- The sorted places that sound locators point to, as they are walked beside the items of the extents.
-use Rattle.std.specs.Prelude.{◌≡◌, ◌<◌, ◌≤◌, ℕ, false, not, List, length, map, slice_index_or}
+use Rattle.std.specs.Prelude.{◌≡◌, ◌<◌, ◌≤◌, ℕ, false, not, Option, List, length, map, slice_index_or}
 use Rattle.std.specs.Ordering.{is_lt}
 use Rattle.std.specs.List.{filter, filter_map, sum_by}
 use Rattle.std.specs.List.Sorted.{IsSorted}
@@ -16,7 +16,7 @@ use Rattle.scrub_check.specs.declared.walked.Told.{Told}
 use Rattle.scrub_check.specs.Live.{size_of, live_chunks, live_bytes}
 use Rattle.scrub_check.specs.Chunks.{place_of, orphans}
 use Rattle.scrub_check.specs.SoundStarts.{start_cmp, is_live_by, is_named_by}
-use Rattle.scrub_check.specs.Candidates.{reclaimable}
+use Rattle.scrub_check.specs.Verdicts.{reclaimable_by}
 
 -- a place lies before byte p of extent e
 abbrev pub LiesBefore : ℕ → ℕ → Start → Type 0
@@ -56,8 +56,8 @@ pub record AreLiveChunks (checked : List Checked) (f : Scanned) (l : LiveChunks)
   pub sizes : l.bytes ≡ live_bytes checked f
   pub begins : l.starts.items ≡ map start_of (live_chunks checked f)
 
--- what is told of some extents: their live bytes, their orphans, and which of them may be reclaimed
-pub record AreToldOf (g : Geometry) (checked : List Checked) (extents : List Scanned) (t : Told) : Type 0 where
+-- what is told of some extents: their live bytes, their orphans, and, where that is asked for, which of them may be reclaimed
+pub record AreToldOf (g : Option Geometry) (checked : List Checked) (extents : List Scanned) (t : Told) : Type 0 where
   pub sizes : t.live.items ≡ map (live_bytes checked) extents
   pub garbage : t.orphans.items ≡ orphans extents checked
-  pub candidates : t.reclaimable.items ≡ reclaimable g extents checked
+  pub candidates : t.reclaimable.items ≡ reclaimable_by g extents checked

@@ -16,6 +16,7 @@ use crate::named::{Named, Owner};
 use crate::runs::RunState;
 use crate::seen::{Seen, see};
 use crate::status::{Status, status_by_looks, told_by_findings};
+use crate::whole_scan::WholeScan;
 use rayon::prelude::*;
 use scrub_disk::{OutOfMemory, PageSource};
 use scrub_frame::Locator;
@@ -74,19 +75,16 @@ fn told_by_run(plan: &Plan, states: &[RunState], one: &Named) -> Option<Status>
 
 /// What a named locator is worth, where the findings tell it, or what became of the index run that it is of.
 fn told_before<D: PageSource>(
-    disk: &D,
-    plan: &Plan,
-    all: &AllFindings<'_, D>,
+    scan: &WholeScan<'_, D>,
     states: &[RunState],
     one: &Named,
 ) -> Option<Status>
-    requires scan { IsWholeScan (D.image disk.now) plan.now all.now.extents }
-    requires states { AreRunStates (D.image disk.now) plan.now states.now }
-    ensures { IsToldBefore (D.image disk.now) plan.now one.now result }
+    requires { AreRunStates (D.image scan.now.disk.now) scan.now.plan.now states.now }
+    ensures { IsToldBefore (D.image scan.now.disk.now) scan.now.plan.now one.now result }
 {
-    match told_by_findings(disk, plan, all, &one.locator) {
+    match told_by_findings(scan, &one.locator) {
         Some(status) => Some(status),
-        None => told_by_run(plan, states, one),
+        None => told_by_run(scan.plan, states, one),
     }
 }
 
@@ -94,24 +92,21 @@ fn told_before<D: PageSource>(
 fn all_told_before<R: Threads + Sync, D: PageSource>(
     rt: &R,
     alloc: Global,
-    disk: &D,
-    plan: &Plan,
-    all: &AllFindings<'_, D>,
+    scan: &WholeScan<'_, D>,
     states: &[RunState],
     named: &[Named],
 ) -> Result<Vec<Option<Status>>, OutOfMemory>
-    requires scan { IsWholeScan (D.image disk.now) plan.now all.now.extents }
-    requires states { AreRunStates (D.image disk.now) plan.now states.now }
+    requires { AreRunStates (D.image scan.now.disk.now) scan.now.plan.now states.now }
     ensures count { IfOk result (λ v. length v.items ≡ length named.now) }
-    ensures told { IfOk result (λ v. AllZip (IsToldBefore (D.image disk.now) plan.now) named.now v.items) }
+    ensures told { IfOk result (λ v. AllZip (IsToldBefore (D.image scan.now.disk.now) scan.now.plan.now) named.now v.items) }
 {
     let told = named
         .par_iter()
         .map(
             |one: &Named| -> Option<Status>
-                requires { IsWholeScan (D.image disk.now) plan.now all.now.extents × AreRunStates (D.image disk.now) plan.now states.now }
-                ensures { IsToldBefore (D.image disk.entry.now) plan.entry.now one.now result }
-            { told_before(disk, plan, all, states, one) },
+                requires { AreRunStates (D.image scan.now.disk.now) scan.now.plan.now states.now }
+                ensures { IsToldBefore (D.image scan.entry.now.disk.now) scan.entry.now.plan.now one.now result }
+            { told_before(scan, states, one) },
         )
         .collect::<Vec<Option<Status>>>(rt, alloc)?;
     Ok(told)
@@ -139,21 +134,18 @@ fn left_locators(
 /// A named locator with what it is worth, by what was told before, or else by what was seen at its place.
 fn check_one<D: PageSource>(
     alloc: Global,
-    disk: &D,
-    plan: &Plan,
-    all: &AllFindings<'_, D>,
+    scan: &WholeScan<'_, D>,
     seen: &Seen,
     one: &Named,
     told: Option<Status>,
 ) -> Result<Checked, OutOfMemory>
-    requires scan { IsWholeScan (D.image disk.now) plan.now all.now.extents }
-    requires seen { AreSeen (D.image disk.now) plan.now seen.now }
-    requires told { IsToldBefore (D.image disk.now) plan.now one.now told }
-    ensures { IfOk result (IsChecked (D.image disk.now) plan.now one.now) }
+    requires seen { AreSeen (D.image scan.now.disk.now) scan.now.plan.now seen.now }
+    requires told { IsToldBefore (D.image scan.now.disk.now) scan.now.plan.now one.now told }
+    ensures { IfOk result (IsChecked (D.image scan.now.disk.now) scan.now.plan.now one.now) }
 {
     let status = match told {
         Some(status) => status,
-        None => status_by_looks(alloc, disk, plan, all, seen, &one.locator)?,
+        None => status_by_looks(alloc, scan, seen, &one.locator)?,
     };
     Ok(Checked {
         owner: one.owner,
@@ -165,22 +157,19 @@ fn check_one<D: PageSource>(
 /// These locators with what they are worth, in their order.
 fn check_each<D: PageSource>(
     alloc: Global,
-    disk: &D,
-    plan: &Plan,
-    all: &AllFindings<'_, D>,
+    scan: &WholeScan<'_, D>,
     seen: &Seen,
     named: &[Named],
     told: &[Option<Status>],
 ) -> Result<Vec<Checked>, OutOfMemory>
-    requires scan { IsWholeScan (D.image disk.now) plan.now all.now.extents }
-    requires seen { AreSeen (D.image disk.now) plan.now seen.now }
+    requires seen { AreSeen (D.image scan.now.disk.now) scan.now.plan.now seen.now }
     requires count { length told.now ≡ length named.now }
-    requires told { AllZip (IsToldBefore (D.image disk.now) plan.now) named.now told.now }
-    ensures { IfOk result (λ v. AreChecked (D.image disk.now) plan.now named.now v.items) }
+    requires told { AllZip (IsToldBefore (D.image scan.now.disk.now) scan.now.plan.now) named.now told.now }
+    ensures { IfOk result (λ v. AreChecked (D.image scan.now.disk.now) scan.now.plan.now named.now v.items) }
 {
     let mut checked = Vec::with_capacity(alloc, named.len())?;
     for i in 0..named.len() {
-        let one = check_one(alloc, disk, plan, all, seen, &named[i], told[i])?;
+        let one = check_one(alloc, scan, seen, &named[i], told[i])?;
         checked.push(one)?;
     }
     Ok(checked)
@@ -218,10 +207,11 @@ pub fn check_named<R: Threads + Sync, D: PageSource>(
     requires states { AreRunStates (D.image disk.now) plan.now states.now }
     ensures { IfOk result (λ v. AreChecked (D.image disk.now) plan.now named.now v.items) }
 {
-    let told = all_told_before(rt, alloc, disk, plan, all, states, named)?;
+    let scan = WholeScan { disk, plan, all };
+    let told = all_told_before(rt, alloc, &scan, states, named)?;
     let left = left_locators(alloc, named, &told)?;
-    let seen = see(rt, alloc, disk, plan, all, &left)?;
-    check_each(alloc, disk, plan, all, &seen, named, &told)
+    let seen = see(rt, alloc, &scan, &left)?;
+    check_each(alloc, &scan, &seen, named, &told)
 }
 
 /// Neither sound nor hidden.

@@ -1,16 +1,16 @@
 //! The chunks of a disk at their places, which of them no sound locator names, and which have one UUID.
 
-ghost use Rattle.std.specs.Prelude.{◌≡◌, not, IfOk, List};
+ghost use Rattle.std.specs.Prelude.{◌≡◌, IfOk};
 ghost use Rattle.std.specs.List.{filter, filter_map};
-ghost use Rattle.scrub_check.specs.declared.checked.Checked.{Checked};
-ghost use Rattle.scrub_check.specs.SoundStarts.{AreSoundStarts, is_named_by};
 ghost use Rattle.scrub_check.specs.ChunkUuids.{is_twin_by};
 ghost use Rattle.scrub_check.specs.Chunks.{frame_of_item, place_of, chunks, orphans, twins};
 
 use crate::checked::Checked;
 use crate::chunk_uuids::ChunkUuids;
 use crate::place::Place;
-use crate::sound_starts::{SoundStarts, Start};
+use crate::sound_starts::SoundStarts;
+use crate::verdicts::Verdicts;
+use crate::walked::walk;
 use scrub_disk::{OutOfMemory, PageSource};
 use scrub_scan::{AllFindings, Item, Standing};
 use std::alloc::Global;
@@ -51,16 +51,6 @@ pub(crate) fn place_of(extent: u32, item: &Item) -> Option<Place>
     })
 }
 
-/// Whether one of these places is that of a chunk.
-fn names(sound: &SoundStarts, chunk: &Place) -> bool
-    ensures { result ≡ is_named_by sound.now chunk.now }
-{
-    sound.has(Start {
-        extent: chunk.extent,
-        offset: chunk.offset,
-    })
-}
-
 /// The chunks among items of an extent, at their places.
 fn chunks_in(alloc: Global, extent: u32, items: &[Item]) -> Result<Vec<Place>, OutOfMemory>
     ensures { IfOk result (λ v. v.items ≡ filter_map (place_of extent) items.now) }
@@ -87,21 +77,6 @@ fn all_chunks<D: PageSource>(
     Ok(chunks)
 }
 
-/// Those of these chunks that none of these places is of.
-fn orphans_among(
-    alloc: Global,
-    chunks: &[Place],
-    sound: &SoundStarts,
-) -> Result<Vec<Place>, OutOfMemory>
-    ensures { IfOk result (λ v. v.items ≡ filter (λ p. not (is_named_by sound.now p)) chunks.now) }
-{
-    chunks
-        .iter()
-        .copied()
-        .filter(|chunk| !names(sound, chunk))
-        .collect(alloc)
-}
-
 /// The chunks to whose place no sound locator points, by extent and then start.
 pub fn orphans<D: PageSource>(
     alloc: Global,
@@ -111,20 +86,9 @@ pub fn orphans<D: PageSource>(
     ensures { IfOk result (λ v. v.items ≡ orphans all.now.extents checked.now) }
 {
     let sound = SoundStarts::of(alloc, checked)?;
-    orphans_by(alloc, all, &sound)
-}
-
-/// The same, where the places are known that sound locators point to.
-pub(crate) fn orphans_by<D: PageSource>(
-    alloc: Global,
-    all: &AllFindings<'_, D>,
-    sound: &SoundStarts,
-) -> Result<Vec<Place>, OutOfMemory>
-    ensures { (checked : List Checked) → AreSoundStarts checked sound.now →
-        IfOk result (λ v. v.items ≡ orphans all.now.extents checked) }
-{
-    let chunks = all_chunks(alloc, all)?;
-    orphans_among(alloc, &chunks, sound)
+    let verdicts = Verdicts::of(alloc, checked, &sound)?;
+    let told = walk(alloc, None, &verdicts, all)?;
+    Ok(told.orphans)
 }
 
 /// Those of these chunks whose UUID is twice or more among these.

@@ -4,16 +4,15 @@
 ghost use Rattle.std.specs.Prelude.{◌≡◌, ◌<◌, ◌≤◌, IfOk, IfSome, All, Contains};
 ghost use Rattle.scrub_disk.specs.Image.{unreadable_pages, extent_bytes};
 ghost use Rattle.scrub_check.specs.Looks.{CanBeLookedAt, IsClaimSeen, AreClaims, IsClaimedIn, AreReadableClaims};
-ghost use Rattle.scrub_check.specs.WholeScan.{IsWholeScan};
 
 use crate::extents::{findings_of, has_gap};
 use crate::looks::each_once;
 use crate::sound_starts::Start;
+use crate::whole_scan::WholeScan;
 use rayon::prelude::*;
 use scrub_disk::{OutOfMemory, PageSource};
 use scrub_frame::Head;
-use scrub_scan::{AllFindings, claimed_frame};
-use scrub_super::Plan;
+use scrub_scan::claimed_frame;
 use std::alloc::Global;
 use std::thread::Threads;
 
@@ -48,22 +47,19 @@ fn readable_claim<D: PageSource>(
 /// Asks what is claimed at a place.
 fn claim_at<D: PageSource>(
     alloc: Global,
-    disk: &D,
-    plan: &Plan,
-    all: &AllFindings<'_, D>,
+    scan: &WholeScan<'_, D>,
     start: &Start,
 ) -> Result<Claim, OutOfMemory>
-    requires scan { IsWholeScan (D.image disk.now) plan.now all.now.extents }
-    requires place { CanBeLookedAt (D.image disk.now) plan.now start.now }
+    requires { CanBeLookedAt (D.image scan.now.disk.now) scan.now.plan.now start.now }
     ensures start { IfOk result (λ claim. claim.start ≡ start.now) }
-    ensures seen { IfOk result (λ claim. IsClaimSeen (D.image disk.now) plan.now claim.start claim.head) }
+    ensures seen { IfOk result (λ claim. IsClaimSeen (D.image scan.now.disk.now) scan.now.plan.now claim.start claim.head) }
 {
-    let pointer = plan.pointer(start.extent);
-    let bad_pages = findings_of(all, start.extent).bad_pages();
-    let claimed = claimed_frame(alloc, disk, pointer, start.extent, start.offset)?;
+    let pointer = scan.plan.pointer(start.extent);
+    let bad_pages = findings_of(scan.all, start.extent).bad_pages();
+    let claimed = claimed_frame(alloc, scan.disk, pointer, start.extent, start.offset)?;
     Ok(Claim {
         start: *start,
-        head: readable_claim(disk, bad_pages, start, claimed),
+        head: readable_claim(scan.disk, bad_pages, start, claimed),
     })
 }
 
@@ -81,35 +77,29 @@ pub(crate) fn seen_claim(claims: &[Claim], start: Start) -> Option<Claim>
 /// The head of the frame that is claimed at a place. It is asked only where it wasn't before.
 pub(crate) fn head_claimed_at<D: PageSource>(
     alloc: Global,
-    disk: &D,
-    plan: &Plan,
-    all: &AllFindings<'_, D>,
+    scan: &WholeScan<'_, D>,
     claims: &[Claim],
     start: Start,
 ) -> Result<Option<Head>, OutOfMemory>
-    requires scan { IsWholeScan (D.image disk.now) plan.now all.now.extents }
-    requires place { CanBeLookedAt (D.image disk.now) plan.now start }
-    requires claims { AreClaims (D.image disk.now) plan.now claims.now }
-    ensures { IfOk result (IsClaimSeen (D.image disk.now) plan.now start) }
+    requires place { CanBeLookedAt (D.image scan.now.disk.now) scan.now.plan.now start }
+    requires claims { AreClaims (D.image scan.now.disk.now) scan.now.plan.now claims.now }
+    ensures { IfOk result (IsClaimSeen (D.image scan.now.disk.now) scan.now.plan.now start) }
 {
     if let Some(claim) = seen_claim(claims, start) {
         return Ok(claim.head);
     }
-    Ok(claim_at(alloc, disk, plan, all, &start)?.head)
+    Ok(claim_at(alloc, scan, &start)?.head)
 }
 
 /// Asks what is claimed at some places, each once, on several threads where there are many; the claims are by rising places.
 pub(crate) fn claims_at<R: Threads + Sync, D: PageSource>(
     rt: &R,
     alloc: Global,
-    disk: &D,
-    plan: &Plan,
-    all: &AllFindings<'_, D>,
+    scan: &WholeScan<'_, D>,
     starts: Vec<Start>,
 ) -> Result<Vec<Claim>, OutOfMemory>
-    requires scan { IsWholeScan (D.image disk.now) plan.now all.now.extents }
-    requires places { All (CanBeLookedAt (D.image disk.now) plan.now) starts.items }
-    ensures { IfOk result (λ v. AreClaims (D.image disk.now) plan.now v.items) }
+    requires { All (CanBeLookedAt (D.image scan.now.disk.now) scan.now.plan.now) starts.items }
+    ensures { IfOk result (λ v. AreClaims (D.image scan.now.disk.now) scan.now.plan.now v.items) }
 {
     let starts = each_once(starts)?;
     starts
@@ -117,9 +107,9 @@ pub(crate) fn claims_at<R: Threads + Sync, D: PageSource>(
         .par_iter()
         .map(
             |start: &Start| -> Result<Claim, OutOfMemory>
-                requires { IsWholeScan (D.image disk.now) plan.now all.now.extents × CanBeLookedAt (D.image disk.now) plan.now start.now }
-                ensures { IfOk result (λ claim. IsClaimSeen (D.image disk.entry.now) plan.entry.now claim.start claim.head) }
-            { claim_at(alloc, disk, plan, all, start) },
+                requires { CanBeLookedAt (D.image scan.now.disk.now) scan.now.plan.now start.now }
+                ensures { IfOk result (λ claim. IsClaimSeen (D.image scan.entry.now.disk.now) scan.entry.now.plan.now claim.start claim.head) }
+            { claim_at(alloc, scan, start) },
         )
         .collect::<Result<Vec<Claim>, OutOfMemory>>(rt, alloc)?
 }

@@ -26,12 +26,13 @@ mod sound_starts;
 pub mod status;
 mod verdicts;
 mod walked;
+mod whole_scan;
 
 pub use broken::{broken_shards, one_list_of_broken_shards};
 pub use candidate::Candidate;
 pub use checked::{Checked, check_all, check_named, dangling, hidden};
 pub use chunks::{orphans, twins};
-pub use live::{all_live_bytes, live_bytes};
+pub use live::live_bytes;
 pub use liveness::{Liveness, liveness_of};
 pub use named::{Named, Owner, named_locators};
 pub use place::{Place, SharedPlace};

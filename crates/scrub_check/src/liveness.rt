@@ -32,7 +32,7 @@ pub struct Liveness {
     pub candidates: Vec<Candidate>,
 }
 
-/// What `all_live_bytes`, `orphans`, `shared` and `candidates` give, together. The places that sound locators point to are
+/// The live bytes of each extent, and what `orphans`, `shared` and `candidates` give, together. The places that sound locators point to are
 /// sorted once, and walked once beside the items of the extents, so that each chunk is looked at once.
 pub fn liveness_of<D: PageSource>(
     alloc: Global,
@@ -48,7 +48,7 @@ pub fn liveness_of<D: PageSource>(
 {
     let sound = SoundStarts::of(alloc, checked)?;
     let verdicts = Verdicts::of(alloc, checked, &sound)?;
-    let told = walk(alloc, plan.geometry(), &verdicts, all)?;
+    let told = walk(alloc, Some(plan.geometry()), &verdicts, all)?;
     Ok(Liveness {
         live: told.live,
         orphans: told.orphans,

@@ -8,10 +8,10 @@ ghost use Rattle.scrub_check.specs.Looks.{CanBeLookedAt, IsSeenAt, AreLooks};
 
 use crate::sorted_list::sorted;
 use crate::sound_starts::Start;
+use crate::whole_scan::WholeScan;
 use rayon::prelude::*;
 use scrub_disk::{OutOfMemory, PageSource};
 use scrub_scan::{Standing, frame_stands};
-use scrub_super::Plan;
 use std::alloc::Global;
 use std::thread::Threads;
 
@@ -27,16 +27,15 @@ pub struct Look {
 /// Looks at a place.
 fn look_at<D: PageSource>(
     alloc: Global,
-    disk: &D,
-    plan: &Plan,
+    scan: &WholeScan<'_, D>,
     start: &Start,
 ) -> Result<Look, OutOfMemory>
-    requires { CanBeLookedAt (D.image disk.now) plan.now start.now }
+    requires { CanBeLookedAt (D.image scan.now.disk.now) scan.now.plan.now start.now }
     ensures start { IfOk result (λ look. look.start ≡ start.now) }
-    ensures seen { IfOk result (λ look. IsSeenAt (D.image disk.now) plan.now look.start look.standing) }
+    ensures seen { IfOk result (λ look. IsSeenAt (D.image scan.now.disk.now) scan.now.plan.now look.start look.standing) }
 {
-    let pointer = plan.pointer(start.extent);
-    let standing = frame_stands(alloc, disk, pointer, start.extent, start.offset)?;
+    let pointer = scan.plan.pointer(start.extent);
+    let standing = frame_stands(alloc, scan.disk, pointer, start.extent, start.offset)?;
     Ok(Look {
         start: *start,
         standing,
@@ -55,19 +54,18 @@ fn seen_at(looks: &[Look], start: Start) -> Option<Look>
 /// What stands at a place. It is looked at only where it wasn't before.
 pub(crate) fn standing_at<D: PageSource>(
     alloc: Global,
-    disk: &D,
-    plan: &Plan,
+    scan: &WholeScan<'_, D>,
     looks: &[Look],
     start: Start,
 ) -> Result<Option<Standing>, OutOfMemory>
-    requires place { CanBeLookedAt (D.image disk.now) plan.now start }
-    requires looks { AreLooks (D.image disk.now) plan.now looks.now }
-    ensures { IfOk result (IsSeenAt (D.image disk.now) plan.now start) }
+    requires place { CanBeLookedAt (D.image scan.now.disk.now) scan.now.plan.now start }
+    requires looks { AreLooks (D.image scan.now.disk.now) scan.now.plan.now looks.now }
+    ensures { IfOk result (IsSeenAt (D.image scan.now.disk.now) scan.now.plan.now start) }
 {
     if let Some(look) = seen_at(looks, start) {
         return Ok(look.standing);
     }
-    Ok(look_at(alloc, disk, plan, &start)?.standing)
+    Ok(look_at(alloc, scan, &start)?.standing)
 }
 
 /// Some places, each once, by extent and then byte.
@@ -83,12 +81,11 @@ pub(crate) fn each_once(starts: Vec<Start>) -> Result<Vec<Start>, OutOfMemory>
 pub(crate) fn looks_at<R: Threads + Sync, D: PageSource>(
     rt: &R,
     alloc: Global,
-    disk: &D,
-    plan: &Plan,
+    scan: &WholeScan<'_, D>,
     starts: Vec<Start>,
 ) -> Result<Vec<Look>, OutOfMemory>
-    requires { All (CanBeLookedAt (D.image disk.now) plan.now) starts.items }
-    ensures { IfOk result (λ v. AreLooks (D.image disk.now) plan.now v.items) }
+    requires { All (CanBeLookedAt (D.image scan.now.disk.now) scan.now.plan.now) starts.items }
+    ensures { IfOk result (λ v. AreLooks (D.image scan.now.disk.now) scan.now.plan.now v.items) }
 {
     let starts = each_once(starts)?;
     starts
@@ -97,9 +94,9 @@ pub(crate) fn looks_at<R: Threads + Sync, D: PageSource>(
         .with_min_len(1)
         .map(
             |start: &Start| -> Result<Look, OutOfMemory>
-                requires { CanBeLookedAt (D.image disk.now) plan.now start.now }
-                ensures { IfOk result (λ look. IsSeenAt (D.image disk.entry.now) plan.entry.now look.start look.standing) }
-            { look_at(alloc, disk, plan, start) },
+                requires { CanBeLookedAt (D.image scan.now.disk.now) scan.now.plan.now start.now }
+                ensures { IfOk result (λ look. IsSeenAt (D.image scan.entry.now.disk.now) scan.entry.now.plan.now look.start look.standing) }
+            { look_at(alloc, scan, start) },
         )
         .collect::<Result<Vec<Look>, OutOfMemory>>(rt, alloc)?
 }

@@ -10,7 +10,6 @@ ghost use Rattle.scrub_scan.specs.Scanned.{Scanned, scanned};
 ghost use Rattle.scrub_scan.specs.AllFindings.{extent_numbers};
 ghost use Rattle.scrub_check.specs.declared.checked.Checked.{Checked};
 ghost use Rattle.scrub_check.specs.Live.{live_bytes};
-ghost use Rattle.scrub_check.specs.SoundStarts.{AreSoundStarts};
 ghost use Rattle.scrub_check.specs.Verdicts.{AreVerdicts, with_reclaimable};
 ghost use Rattle.scrub_check.specs.Walked.{AreLiveChunks};
 ghost use Rattle.scrub_check.specs.Candidates.{CandidateValue, has_sound_alone, is_reclaimable, candidate_of, by_free, reclaimable, AreCandidates};
@@ -85,9 +84,10 @@ fn candidate_of<D: PageSource>(found: &ExtentResult<'_, D>, live: LiveChunks) ->
     Candidate::new(found.extent(), free_bytes(found, live.bytes), live.starts)
 }
 
-/// Adds an extent of these live chunks to the candidates, if it may be reclaimed.
+/// Adds an extent of these live chunks to the candidates, if it may be reclaimed, and the sizes of the disk are given to find
+/// that by.
 pub(crate) fn add_reclaimable<D: PageSource>(
-    geometry: Geometry,
+    geometry: Option<Geometry>,
     verdicts: &Verdicts<'_>,
     found: &ExtentResult<'_, D>,
     live: LiveChunks,
@@ -96,6 +96,9 @@ pub(crate) fn add_reclaimable<D: PageSource>(
     ensures { (checked : List Checked) → AreVerdicts checked verdicts.now → AreLiveChunks checked (scanned found.now) live →
         OnOk result (candidates.new.items ≡ with_reclaimable geometry checked candidates.old.items (scanned found.now)) }
 {
+    let Some(geometry) = geometry else {
+        return Ok(());
+    };
     if !is_reclaimable(geometry, verdicts, found, live.bytes) {
         return Ok(());
     }
@@ -157,23 +160,8 @@ pub fn candidates<D: PageSource>(
     ensures { IfOk result (λ v. AreCandidates plan.now all.now.extents checked.now in_doubt v.items) }
 {
     let sound = SoundStarts::of(alloc, checked)?;
-    candidates_by(alloc, plan, all, checked, &sound, in_doubt)
-}
-
-/// The same, where the places are known that sound locators point to.
-pub(crate) fn candidates_by<D: PageSource>(
-    alloc: Global,
-    plan: &Plan,
-    all: &AllFindings<'_, D>,
-    checked: &[Checked],
-    sound: &SoundStarts,
-    in_doubt: bool,
-) -> Result<Vec<Candidate>, OutOfMemory>
-    ensures { AreSoundStarts checked.now sound.now →
-        IfOk result (λ v. AreCandidates plan.now all.now.extents checked.now in_doubt v.items) }
-{
-    let verdicts = Verdicts::of(alloc, checked, sound)?;
-    let told = walk(alloc, plan.geometry(), &verdicts, all)?;
+    let verdicts = Verdicts::of(alloc, checked, &sound)?;
+    let told = walk(alloc, Some(plan.geometry()), &verdicts, all)?;
     candidates_among(alloc, plan, in_doubt, told.reclaimable)
 }
 

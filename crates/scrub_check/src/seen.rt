@@ -6,17 +6,15 @@ ghost use Rattle.scrub_disk.specs.Image.{Image};
 ghost use Rattle.scrub_super.specs.Plan.{PlanValue};
 ghost use Rattle.scrub_check.specs.Looks.{start_named_by, CanBeLookedAt, IsOpen};
 ghost use Rattle.scrub_check.specs.Seen.{AreSeen};
-ghost use Rattle.scrub_check.specs.WholeScan.{IsWholeScan};
 
 use crate::claims::{Claim, claims_at};
 use crate::looks::{Look, looks_at};
 use crate::sound_starts::Start;
 use crate::status::untold_start;
+use crate::whole_scan::WholeScan;
 use rayon::prelude::*;
 use scrub_disk::{OutOfMemory, PageSource};
 use scrub_frame::Locator;
-use scrub_scan::AllFindings;
-use scrub_super::Plan;
 use std::alloc::Global;
 use std::thread::Threads;
 
@@ -66,18 +64,15 @@ fn untold_starts<R: Threads + Sync>(
 pub(crate) fn see<R: Threads + Sync, D: PageSource>(
     rt: &R,
     alloc: Global,
-    disk: &D,
-    plan: &Plan,
-    all: &AllFindings<'_, D>,
+    scan: &WholeScan<'_, D>,
     left: &[Locator],
 ) -> Result<Seen, OutOfMemory>
-    requires scan { IsWholeScan (D.image disk.now) plan.now all.now.extents }
-    requires left { All (IsOpen (D.image disk.now) plan.now) left.now }
-    ensures { IfOk result (AreSeen (D.image disk.now) plan.now) }
+    requires { All (IsOpen (D.image scan.now.disk.now) scan.now.plan.now) left.now }
+    ensures { IfOk result (AreSeen (D.image scan.now.disk.now) scan.now.plan.now) }
 {
     let starts = untold_starts(rt, alloc, &[], left)?;
-    let claims = claims_at(rt, alloc, disk, plan, all, starts)?;
+    let claims = claims_at(rt, alloc, scan, starts)?;
     let starts = untold_starts(rt, alloc, &claims, left)?;
-    let looks = looks_at(rt, alloc, disk, plan, starts)?;
+    let looks = looks_at(rt, alloc, scan, starts)?;
     Ok(Seen { claims, looks })
 }

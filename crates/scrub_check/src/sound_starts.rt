@@ -1,11 +1,10 @@
 //! The places that sound named locators point to, sorted, so that whether one points to a place is found by search.
 
-ghost use Rattle.std.specs.Prelude.{◌≡◌, ◌↔◌, nat_lt, IsTrue, IfOk, List};
+ghost use Rattle.std.specs.Prelude.{◌≡◌, ◌↔◌, IsTrue, IfOk};
 ghost use Rattle.std.specs.List.{count_by};
 ghost use Rattle.std.specs.List.Sorted.{IsSorted, IsStrictlySortedBy};
-ghost use Rattle.scrub_check.specs.declared.checked.Checked.{Checked};
 ghost use Rattle.scrub_check.specs.Distinct.{AreDistinct};
-ghost use Rattle.scrub_check.specs.SoundStarts.{start_cmp, is_start, sound_starts, AreSoundStarts, has_sound_to};
+ghost use Rattle.scrub_check.specs.SoundStarts.{start_cmp, is_start, sound_starts, AreSoundStarts};
 
 use crate::checked::Checked;
 use crate::sorted_list::{count_of, rises_strictly, sorted};
@@ -93,13 +92,5 @@ impl SoundStarts {
         ensures { result ≡ count_by (is_start start) self.now }
     {
         count_of(&self.starts, &start)
-    }
-
-    /// Whether a place stands there.
-    pub(crate) fn has(&self, start: Start) -> bool
-        ensures stands { result ≡ nat_lt 0 (count_by (is_start start) self.now) }
-        ensures sound { (checked : List Checked) → AreSoundStarts checked self.now → result ≡ has_sound_to checked start }
-    {
-        self.starts.binary_search(&start).is_ok()
     }
 }

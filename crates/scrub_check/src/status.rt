@@ -20,6 +20,7 @@ use crate::looks::standing_at;
 use crate::searching::find_start;
 use crate::seen::Seen;
 use crate::sound_starts::Start;
+use crate::whole_scan::WholeScan;
 use scrub_disk::{Geometry, OutOfMemory, PageSource};
 use scrub_frame::{Form, Head, LEAST_OVERHEAD, Locator};
 use scrub_scan::{AllFindings, Item, Standing};
@@ -135,28 +136,25 @@ fn told_by_item(items: &[Item], locator: &Locator) -> Option<Status>
 
 /// What a locator is worth, where the findings tell it; `None` where its place has to be looked at.
 pub(crate) fn told_by_findings<D: PageSource>(
-    disk: &D,
-    plan: &Plan,
-    all: &AllFindings<'_, D>,
+    scan: &WholeScan<'_, D>,
     locator: &Locator,
 ) -> Option<Status>
-    requires { IsWholeScan (D.image disk.now) plan.now all.now.extents }
-    ensures told { IfSome result (HasStatusIn (D.image disk.now) plan.now locator.now) }
-    ensures open { IfNone result (IsOpen (D.image disk.now) plan.now locator.now) }
+    ensures told { IfSome result (HasStatusIn (D.image scan.now.disk.now) scan.now.plan.now locator.now) }
+    ensures open { IfNone result (IsOpen (D.image scan.now.disk.now) scan.now.plan.now locator.now) }
 {
-    let geometry = plan.geometry();
+    let geometry = scan.plan.geometry();
     if !lies_in_range(geometry, locator) {
         return Some(Status::OutOfRange);
     }
-    if plan.is_retired(locator.extent) {
+    if scan.plan.is_retired(locator.extent) {
         return Some(Status::Retired);
     }
-    let pointer = plan.pointer(locator.extent);
+    let pointer = scan.plan.pointer(locator.extent);
     if end_of(locator) > pointer as u64 {
         return Some(Status::PastPointer);
     }
-    let findings = findings_of(all, locator.extent);
-    if is_unreadable(disk, findings.bad_pages(), locator) {
+    let findings = findings_of(scan.all, locator.extent);
+    if is_unreadable(scan.disk, findings.bad_pages(), locator) {
         return Some(Status::Unreadable);
     }
     told_by_item(findings.items(), locator)
@@ -205,23 +203,20 @@ pub(crate) fn untold_start(claims: &[Claim], locator: &Locator) -> Option<Start>
 /// it either by what stands there.
 pub(crate) fn status_by_looks<D: PageSource>(
     alloc: Global,
-    disk: &D,
-    plan: &Plan,
-    all: &AllFindings<'_, D>,
+    scan: &WholeScan<'_, D>,
     seen: &Seen,
     locator: &Locator,
 ) -> Result<Status, OutOfMemory>
-    requires scan { IsWholeScan (D.image disk.now) plan.now all.now.extents }
-    requires left { IsOpen (D.image disk.now) plan.now locator.now }
-    requires seen { AreSeen (D.image disk.now) plan.now seen.now }
-    ensures { IfOk result (HasStatusIn (D.image disk.now) plan.now locator.now) }
+    requires left { IsOpen (D.image scan.now.disk.now) scan.now.plan.now locator.now }
+    requires seen { AreSeen (D.image scan.now.disk.now) scan.now.plan.now seen.now }
+    ensures { IfOk result (HasStatusIn (D.image scan.now.disk.now) scan.now.plan.now locator.now) }
 {
     let start = start_of(locator);
-    let claimed = head_claimed_at(alloc, disk, plan, all, &seen.claims, start)?;
+    let claimed = head_claimed_at(alloc, scan, &seen.claims, start)?;
     if let Some(status) = told_by_claim(locator, claimed) {
         return Ok(status);
     }
-    let standing = standing_at(alloc, disk, plan, &seen.looks, start)?;
+    let standing = standing_at(alloc, scan, &seen.looks, start)?;
     Ok(judged(locator, standing, Status::Hidden))
 }
 
@@ -237,9 +232,10 @@ pub fn status_of<D: PageSource>(
     requires { IsWholeScan (D.image disk.now) plan.now all.now.extents }
     ensures { IfOk result (HasStatusIn (D.image disk.now) plan.now locator.now) }
 {
-    match told_by_findings(disk, plan, all, locator) {
+    let scan = WholeScan { disk, plan, all };
+    match told_by_findings(&scan, locator) {
         Some(status) => Ok(status),
-        None => status_by_looks(alloc, disk, plan, all, &Seen::nothing(alloc), locator),
+        None => status_by_looks(alloc, &scan, &Seen::nothing(alloc), locator),
     }
 }
 

@@ -40,7 +40,7 @@ pub(crate) struct Told {
     pub live: Vec<u32>,
     /// The chunks in them to whose place no sound locator points, by extent and then start.
     pub orphans: Vec<Place>,
-    /// Those that may be reclaimed.
+    /// Those that may be reclaimed, where that is asked for.
     pub reclaimable: Vec<Candidate>,
 }
 
@@ -102,7 +102,7 @@ fn live_among(
 /// Tells of one more extent.
 fn tell_extent<D: PageSource>(
     alloc: Global,
-    geometry: Geometry,
+    geometry: Option<Geometry>,
     verdicts: &Verdicts<'_>,
     found: &ExtentResult<'_, D>,
     cursor: &mut Cursor<'_>,
@@ -124,10 +124,10 @@ fn tell_extent<D: PageSource>(
     add_reclaimable(geometry, verdicts, found, live, &mut told.reclaimable)
 }
 
-/// What is told of all extents. The places are walked once, since the extents rise, and the items in each of them.
+/// What is told of all extents; which may be reclaimed, only where the sizes of the disk are given. The places are walked once, since the extents rise, and the items in each of them.
 pub(crate) fn walk<D: PageSource>(
     alloc: Global,
-    geometry: Geometry,
+    geometry: Option<Geometry>,
     verdicts: &Verdicts<'_>,
     all: &AllFindings<'_, D>,
 ) -> Result<Told, OutOfMemory>

@@ -51,7 +51,6 @@ pub enum Alone {
     Dangling,
     Hidden,
     BrokenShards,
-    AllLiveBytes,
     Orphans,
     Twins,
     Shared,
@@ -192,12 +191,11 @@ pub fn first_calls() -> [NamedCall; 35] {
 }
 
 /// The other half.
-pub fn other_calls() -> [NamedCall; 34] {
+pub fn other_calls() -> [NamedCall; 33] {
     [
         ("dangling", "", Call::Alone(Alone::Dangling)),
         ("hidden", "", Call::Alone(Alone::Hidden)),
         ("broken_shards", "", Call::Alone(Alone::BrokenShards)),
-        ("all_live_bytes", "", Call::Alone(Alone::AllLiveBytes)),
         ("orphans", "", Call::Alone(Alone::Orphans)),
         ("twins", "", Call::Alone(Alone::Twins)),
         ("shared", "", Call::Alone(Alone::Shared)),
@@ -329,7 +327,6 @@ fn ended_alone(alloc: Global, call: Alone, wanted: Wanted) -> Result<(), Stop> {
         Alone::Dangling => lists::dangling(alloc, wanted),
         Alone::Hidden => lists::hidden(alloc, wanted),
         Alone::BrokenShards => lists::broken_shards(alloc, wanted),
-        Alone::AllLiveBytes => lists::all_live_bytes(alloc, wanted),
         Alone::Orphans => lists::orphans(alloc, wanted),
         Alone::Twins => lists::twins(alloc, wanted),
         Alone::Shared => lists::shared(alloc, wanted),

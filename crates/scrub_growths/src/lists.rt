@@ -56,16 +56,6 @@ fn abc_place(offset: u32) -> Place {
     }
 }
 
-/// How many bytes are live in each extent.
-pub fn all_live_bytes(alloc: Global, wanted: Wanted) -> Result<(), Stop> {
-    let (disk, checked) = twins_and_shared(alloc)?;
-    let plan = plan_of(alloc, &disk)?;
-    let all = scan_in_order(alloc, &disk, &plan)?;
-    wanted.made()?;
-    let live = scrub_check::all_live_bytes(alloc, &all, &checked)?;
-    right(live.as_slice() == LIVE.as_slice())
-}
-
 /// The chunk that no locator names.
 pub fn orphans(alloc: Global, wanted: Wanted) -> Result<(), Stop> {
     let (disk, checked) = twins_and_shared(alloc)?;

@@ -1,8 +1,8 @@
 //! What the calls of the checks tell of a disk.
 
 use scrub_check::{
-    Candidate, Checked, Place, Status, all_live_bytes, candidates, check_all, named_locators,
-    orphans, read_runs, status_of,
+    Candidate, Checked, Place, Status, candidates, check_all, liveness_of, named_locators, orphans,
+    read_runs, status_of,
 };
 use scrub_disk::MemDisk;
 use scrub_fakes::plan_of;
@@ -67,7 +67,7 @@ pub(crate) fn lists_of<R: Threads + Sync>(
     let all = scan_in_order(alloc, disk, &plan)?;
     let checked = checked_of(rt, alloc, disk)?;
     Ok(Lists {
-        live: all_live_bytes(alloc, &all, &checked)?,
+        live: liveness_of(alloc, &plan, &all, &checked, false)?.live,
         orphans: orphans(alloc, &all, &checked)?,
         candidates: candidates(alloc, &plan, &all, &checked, false)?,
         candidates_in_doubt: candidates(alloc, &plan, &all, &checked, true)?,

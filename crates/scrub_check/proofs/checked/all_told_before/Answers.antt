@@ -8,13 +8,13 @@ use Rattle.scrub_check.proofs.checked.all_told_before.Goals as goal
 
 pub returns : goal.returns
 returns g c =
-    let image = g.D.PageSource.image c.args.disk.now in
-    let plan = c.args.plan.now in
+    let image = g.D.PageSource.image c.args.scan.now.disk.now in
+    let plan = c.args.scan.now.plan.now in
     let named = c.args.named.now in
     let slice = ap (λ it. it.slice.now) c.map.ensures.base ∙ c.par_iter.ensures in
     let h = c.in_ok-told.ensures in
     let chain = h.1 in
-    let given = subst (λ f. AllZip (λ z r. IsToldBefore (g.D.PageSource.image f.0.now) f.1.now z.now r) chain.0 h.0) c.map.ensures.f chain.2 in
+    let given = subst (λ f. AllZip (λ z r. IsToldBefore (g.D.PageSource.image f.0.now.disk.now) f.0.now.plan.now z.now r) chain.0 h.0) c.map.ensures.f chain.2 in
     let each = slice-AllZip chain.0 named (chain.1 ∙ slice) (IsToldBefore image plan) h.0 given in
     let told : AllZip (IsToldBefore image plan) named c.in_ok-told.told.items = subst (λ (os : List (Option Status)). AllZip (IsToldBefore image plan) named os) (sym h.2) each in
     record { count = AllZip-long (IsToldBefore image plan) named c.in_ok-told.told.items told; told = told }

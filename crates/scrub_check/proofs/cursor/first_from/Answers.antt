@@ -1,4 +1,4 @@
-use Rattle.std.proofs.Common.{◌≡◌, ◌∙◌, arith, ap, sym, get_or, true, false, is_lt, length}
+use Rattle.std.proofs.Common.{◌≡◌, ◌∙◌, arith, ap, sym, get_or, true, false, is_lt}
 use Rattle.std.proofs.lemmas.List.{get_or_default}
 use Rattle.scrub_check.specs.declared.sound_starts.Start.{Start}
 use Rattle.scrub_check.specs.SoundStarts.{start_cmp}

@@ -1,4 +1,3 @@
-use Rattle.std.proofs.Common.{length}
 use Rattle.scrub_check.specs.Walked.{AreBefore}
 use Rattle.scrub_check.proofs.cursor.first_from.Given as goal
 

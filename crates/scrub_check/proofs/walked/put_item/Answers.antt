@@ -1,11 +1,9 @@
-use Rattle.std.proofs.Common.{◌≡◌, ◌+◌, ◌++◌, ◌∷◌, [], true, false, cond, not, ℕ, Bool, Some, nat_lt, refl, sym, ◌∙◌, ap}
+use Rattle.std.proofs.Common.{◌≡◌, ◌+◌, ◌++◌, ◌∷◌, [], true, false, ℕ, nat_lt, refl, sym, ◌∙◌, ap}
 use Rattle.std.specs.List.{count_by}
 use Rattle.std.proofs.lemmas.List.{append-nil}
 use Rattle.scrub_scan.specs.Item.{start_of}
 use Rattle.scrub_check.specs.declared.walked.LiveChunks.{LiveChunks}
-use Rattle.scrub_check.specs.Chunks.{place_of}
 use Rattle.scrub_check.specs.SoundStarts.{is_start}
-use Rattle.scrub_check.specs.Walked.{live_by, orphans_by}
 use Rattle.scrub_check.proofs.WalkedItems.{a_chunk, live_more, other_more}
 use Rattle.scrub_check.proofs.walked.put_item.Goals as goal
 

@@ -4,7 +4,7 @@ use Rattle.scrub_scan.specs.declared.findings.Findings.{Findings}
 use Rattle.scrub_scan.specs.Scanned.{Scanned, scanned, result_image}
 use Rattle.scrub_check.specs.declared.sound_starts.Start.{Start}
 use Rattle.scrub_check.specs.declared.walked.Told.{Told}
-use Rattle.scrub_check.specs.Candidates.{reclaimable}
+use Rattle.scrub_check.specs.Verdicts.{reclaimable_by}
 use Rattle.scrub_check.specs.Walked.{orphans_by, AreLiveBy, AreLiveChunks, AreToldOf}
 use Rattle.scrub_check.proofs.Sizes.{sizes_fit}
 use Rattle.scrub_check.proofs.WalkedExtents.{starts_found, live_of_extent, told_more}
@@ -36,7 +36,7 @@ returns-clause-told g c = λ checked extents verdicts told.
     let its : items ≡ f.findings.items = c.items-items.ensures ∙ ap (λ (x : Findings). x.items) c.findings.ensures.value in
     let chunks : AreLiveChunks checked f live =
     live_of_extent checked starts f e items live verdicts.sound c.extent.ensures its (subst (λ (ss : List Start). AreLiveBy ss e items live) c.requires.over c.in_ok-live.ensures.live) in
-    IfOk-weaker c.add_reclaimable.result (λ _. new.reclaimable.items ≡ old.reclaimable.items ++ reclaimable geometry (f ∷ []) checked) (λ _. AreToldOf geometry checked (extents ++ f ∷ []) new)
+    IfOk-weaker c.add_reclaimable.result (λ _. new.reclaimable.items ≡ old.reclaimable.items ++ reclaimable_by geometry (f ∷ []) checked) (λ _. AreToldOf geometry checked (extents ++ f ∷ []) new)
     (λ v is. told_more geometry checked starts extents f e items live old new verdicts.sound told c.extent.ensures its chunks c.in_ok-push.ensures.items
     (c.in_ok-live.ensures.orphans ∙ ap (λ (ss : List Start). old.orphans.items ++ orphans_by ss e items) c.requires.over) is)
     (c.add_reclaimable.ensures checked verdicts chunks)

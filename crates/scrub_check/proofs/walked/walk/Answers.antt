@@ -1,15 +1,15 @@
-use Rattle.std.proofs.Common.{◌≡◌, List, take, get_or, arith, ◌∙◌, subst}
+use Rattle.std.proofs.Common.{List, take, get_or, arith, ◌∙◌, subst}
 use Rattle.std.proofs.lemmas.List.{take_all}
 use Rattle.scrub_scan.specs.Scanned.{Scanned, scanned}
 use Rattle.scrub_scan.specs.AllFindings.{extent_numbers}
 use Rattle.scrub_check.specs.Walked.{AreToldOf}
 use Rattle.scrub_check.proofs.WalkedPlaces.{passed_further}
-use Rattle.scrub_check.proofs.WalkedExtents.{told_next, passed_extent, passed_extents}
+use Rattle.scrub_check.proofs.WalkedExtents.{none_reclaimable, told_next, passed_extent, passed_extents}
 use Rattle.scrub_check.proofs.walked.walk.Goals as goal
 
 pub loop-i-init : goal.loop-i-init
 loop-i-init g c = record {
-  told = λ checked verdicts. record { sizes = c.in_ok-with_capacity.ensures.items; garbage = c.new.ensures.items; candidates = c.new-2.ensures.items };
+  told = λ checked verdicts. record { sizes = c.in_ok-with_capacity.ensures.items; garbage = c.new.ensures.items; candidates = c.new-2.ensures.items ∙ none_reclaimable c.args.geometry checked };
   over = c.new-cursor.ensures.over;
   passed = λ inside. passed_further c.new-cursor.result 0 0 (get_or (extent_numbers c.args.all.now.extents) 0 0) 0 c.new-cursor.ensures.passed (omega arith) (λ same. omega arith);
 }

@@ -1,4 +1,4 @@
-use Rattle.std.proofs.Common.{◌≡◌, ◌∙◌, refl, get_or}
+use Rattle.std.proofs.Common.{◌∙◌, refl, get_or}
 use Rattle.scrub_check.specs.declared.sound_starts.Start.{Start}
 use Rattle.scrub_check.specs.SoundStarts.{start_cmp}
 use Rattle.scrub_check.proofs.SortedStarts.{start_ties}

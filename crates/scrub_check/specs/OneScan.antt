@@ -1,0 +1,15 @@
+-- That a scan is whole can hold in one way alone.
+use Rattle.std.proofs.Common.{List}
+use Rattle.std.proofs.Props.{props}
+use Rattle.scrub_disk.specs.Image.{Image}
+use Rattle.scrub_super.specs.Plan.{PlanValue}
+use Rattle.scrub_scan.specs.Scanned.{Scanned}
+use Rattle.scrub_scan.specs.Props.{IsFindings-prop}
+use Rattle.scrub_scan.specs.AllFindings.{AreAllFindings}
+use Rattle.scrub_check.specs.WholeScan.{IsWholeScan}
+
+AreAllFindings-prop : (image : Image) (plan : PlanValue) (all : List Scanned) → IsProp (AreAllFindings image plan all)
+AreAllFindings-prop image plan all = hlevel (IsFindings-prop, props)
+
+pub IsWholeScan-prop : (image : Image) (plan : PlanValue) (all : List Scanned) → IsProp (IsWholeScan image plan all)
+IsWholeScan-prop image plan all = hlevel (AreAllFindings-prop, props)
