@@ -21,7 +21,7 @@ use Rattle.scrub_super.specs.Pages.{kind_of}
 use Rattle.scrub_super.specs.Blocks.{IsMarked, byte_left}
 use Rattle.scrub_super.specs.BlocksRead.{AreBlockMarks, IsReadableTo, BeginsInPlace, TellsRecord}
 use Rattle.scrub_super.specs.Anywhere.{StandsAnywhere, IsFoundRecord, AreFoundRecords}
-use Rattle.scrub_super.proofs.Records.{one_record_lem}
+use Rattle.scrub_super.proofs.OneRecord.{one_record_lem}
 use Rattle.scrub_super.proofs.BlocksFront.{left_at, left_there}
 use Rattle.scrub_super.proofs.RisingLists.{rises_more}
 

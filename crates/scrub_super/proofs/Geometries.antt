@@ -12,7 +12,9 @@ use Rattle.scrub_disk.specs.Limits.{IsPageSize, ArePages, AreExtents}
 use Rattle.scrub_disk.specs.Faults.{HasSizes, IsFirstBroken}
 use Rattle.scrub_super.specs.Contents.{Contents}
 use Rattle.scrub_super.specs.Record.{digit_of, front_bytes, BeginsWithRecord}
-use Rattle.scrub_super.proofs.Records.{count_in, is_head, front_at}
+use Rattle.scrub_super.proofs.Fronts.{front_of_head}
+use Rattle.scrub_super.proofs.Listed.{count_in}
+use Rattle.scrub_super.proofs.RecordParts.{is_head}
 
 -- ---- sizes are given by their numbers
 
@@ -82,7 +84,7 @@ sizes_accepted g (Err fault) told p n e hp hn he broken is =
 
 front_spelled : (g : Geometry) (x y : List ℕ) (c : Contents) → IsFirstChunk x y 26 → BeginsWithRecord g x c →
     y ≡ front_bytes (digit_of (count_in c)) g c.generation (length c.runs)
-front_spelled g x y c first b = first.same ∙ front_at g x c.generation (length c.runs) (count_in c) (is_head g x c b).spelled
+front_spelled g x y c first b = first.same ∙ (front_of_head x (is_head b)).spelled
 
 page_told : (g : Geometry) (d n r p : ℕ) → p ≡ big_number 4 (drop 12 (front_bytes d g n r)) → p ≡ g.page
 page_told g d n r p is = is ∙ big_number-reads_back 4 g.page (big_bytes 4 g.pages ++ (big_bytes 4 g.extents ++ big_bytes 2 r)) (omega (arith, g.page_size.most))

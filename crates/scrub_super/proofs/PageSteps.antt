@@ -23,7 +23,7 @@ use Rattle.scrub_super.specs.RecordsSeen.{AddsRecord, AreSeenFrom, StandsFrom}
 use Rattle.scrub_super.specs.Pages.{AreSuperblockPages, IsSuperblockPage}
 use Rattle.scrub_super.specs.PagesFound.{AreFoundOnPages, IsFoundOf, IsFoundOnPage, IsKnownOfPage, IsRecordReach, image_with}
 use Rattle.scrub_super.proofs.Laws.{one_record_on_page}
-use Rattle.scrub_super.proofs.Records.{length_record}
+use Rattle.scrub_super.proofs.RecordParts.{length_record}
 use Rattle.scrub_super.proofs.RecordsSeenSteps.{found_none, found_more}
 use Rattle.scrub_super.proofs.Standing.{readable_bytes, stands_of_front, front_of_stands}
 
@@ -39,7 +39,7 @@ found_by_head g x y start n r to k cuts kind hx some at hk ht = (
   record {
     kind = hk ∙ kind_by some.contents.retired k some.listed;
     generation = sym some.generation;
-    to = omega (arith, ht, length_record g some.contents some.begins.contents, at.digest_at, some.count, ap record_head_size some.listed, ap retired_count some.listed);
+    to = omega (arith, ht, length_record some.begins.contents, at.digest_at, some.count, ap record_head_size some.listed, ap retired_count some.listed);
   },
 )
   where
@@ -53,9 +53,9 @@ pub found_at_page : (image : Image) (bytes : List ℕ) (readable : List Bool) (q
     IfNone o ((c : Contents) → BeginsWithRecord image.geometry (between (q * size) (s * size) bytes) c → ⊥) → IsFoundOnPage image q o
 found_at_page image bytes readable q s size (Some f) hs h up some none =
     let begins : BeginsWithRecord image.geometry (readable_bytes image bytes q s) some.0 = rw (ap (λ n. between (q * n) (s * n) bytes) hs) at some.1 in
-    (some.0, stands_of_front image bytes readable q s some.0 h up begins, rw hs at some.2)
+    (some.0, stands_of_front h up begins, rw hs at some.2)
 found_at_page image bytes readable q s size None hs h up some none = λ x.
-    none x.0 (rw (ap (λ n. between (q * n) (s * n) bytes) hs) (front_of_stands image bytes readable q s x.0 h up x.1))
+    none x.0 (rw (ap (λ n. between (q * n) (s * n) bytes) hs) (front_of_stands h up x.1))
 
 -- one more page is written down
 pub found_more_at : (image : Image) (found : List (Option Found)) (p q n : ℕ) (o : Option Found) → p ≡ q + 1 → length found ≡ n → q < n → IsFoundOnPage image q o →
@@ -73,7 +73,7 @@ found_more_at image found p q n o hp hn here at later r low high = elim (cases_e
 pub seen_more : (image : Image) (found : List (Option Found)) (p q : ℕ) (f : Found) (old new : RecordsSeen) → p ≡ q + 1 → AreFoundOnPages image found → q < length found → get_or found q None ≡ Some f →
     AddsRecord old new q f.generation → AreSeenFrom (StandsFrom image) p old → AreSeenFrom (StandsFrom image) q new
 seen_more image found p q f old new hp are here is adds seen =
-    found_more (StandsFrom image) q f.generation old new (at.0, at.1, sym at.2.generation)
+    found_more f.generation (at.0, at.1, sym at.2.generation)
     (λ m t. sym t.2 ∙ ap (λ (c : Contents). c.generation) (one_record_on_page image q t.0 at.0 t.1 at.1) ∙ sym at.2.generation)
     (rw (sym hp) seen) adds
   where
@@ -83,7 +83,7 @@ seen_more image found p q f old new hp are here is adds seen =
 pub seen_none : (image : Image) (found : List (Option Found)) (p q : ℕ) (seen : RecordsSeen) → p ≡ q + 1 → AreFoundOnPages image found → q < length found → get_or found q None ≡ None →
     AreSeenFrom (StandsFrom image) p seen → AreSeenFrom (StandsFrom image) q seen
 seen_none image found p q seen hp are here is before =
-    found_none (StandsFrom image) q seen (λ m t. at (t.0, t.1)) (rw (sym hp) before)
+    found_none (λ m t. at (t.0, t.1)) (rw (sym hp) before)
   where
     at : IsFoundOnPage image q None
     at = rw is at (are.each q (omega (arith, here, are.count)))
