@@ -1,5 +1,5 @@
 -- The choice that follows from what was found in extent 0.
-use Rattle.std.proofs.Common.{◌≡◌, ◌≢◌, ◌<◌, ◌≤◌, ◌+◌, ◌*◌, ◌/◌, ◌-◌, ℕ, List, [], Bool, true, false, cond, length, drop, get_or, arith, refl, sym, ◌∙◌, ap, Option, Some, None, inl, inr, IsTrue, ◌↔◌, filter, not, is_none, length-drop}
+use Rattle.std.proofs.Common.{◌≡◌, ◌<◌, ◌≤◌, ◌+◌, ◌*◌, ◌/◌, ◌-◌, ℕ, List, [], Bool, true, false, cond, length, drop, get_or, arith, refl, sym, ◌∙◌, ap, Option, Some, None, inl, inr, IsTrue, ◌↔◌, filter, not, is_none, length-drop}
 use Rattle.std.specs.List.{range_with_len}
 use Rattle.std.proofs.lemmas.Bool.{cases_eq, cases_lt, le-ltb, false≢true}
 use Rattle.std.proofs.lemmas.Option.{same_Some, none-some}

@@ -87,7 +87,8 @@ found_extent xs n r rising result = by r (searched xs n r result falls)
 
     by : (o : Result ℕ ℕ) →
         MatchResult o (λ i. (i < length xs) × (get_or xs i 0 ≡ n))
-        (λ i. (i ≤ length xs) × ((k : ℕ) → k < i → get_or xs k 0 < n) × ((k : ℕ) → i ≤ k → k < length xs → n < get_or xs k 0)) →
+        (λ i. (i ≤ length xs) × ((k : ℕ) → k < i → get_or xs k 0 < n) × ((k : ℕ) → i ≤ k → k < length xs → n < get_or xs k 0))
+        →
         is_ok o ≡ list_any (λ m. m == n) xs
     by (Ok i) at = sym (list_any_at (λ m. m == n) xs i 0 at.0 (grind (arith, nat_tests, at.1)))
     by (Err i) at = sym (list_any_none (λ m. m == n) xs (λ k d below. rw (get_or_default xs k d 0 below) (elim (cases_lt k i) [

@@ -1,7 +1,7 @@
 -- A record that is put together from what was read of it.
 use Rattle.std.proofs.Common.{◌≡◌, ◌<◌, ◌≤◌, ◌+◌, ◌*◌, ◌-◌, ◌^◌, ℕ, List, [], length, take, drop, get_or, arith, refl, sym, subst, ◌∙◌, ap, length-drop, All, Option, Some, None, IfSome, option_map}
 use Rattle.std.specs.List.{flat_map, between}
-use Rattle.std.specs.Option.{unwrap_or}
+use Rattle.std.specs.Option.{option_map_or, unwrap_or}
 use Rattle.std.proofs.lemmas.List.{take_all, length-take-le, nil_from_length}
 use Rattle.std.proofs.lemmas.Grind.{same_number_lists}
 use Rattle.byteorder.specs.Endian.{big_bytes, big_number}
@@ -13,6 +13,8 @@ use Rattle.scrub_frame.specs.Locator.{locator_bytes, IsLocator}
 use Rattle.scrub_frame.proofs.Bytes.{bytes-number, number-take}
 use Rattle.scrub_frame.proofs.Locators.{fields_read, same_locators}
 use Rattle.scrub_super.specs.declared.head.Cuts.{Cuts}
+use Rattle.scrub_super.specs.declared.pages.RecordKind.TheVariants.{Ssb1, Ssb2}
+use Rattle.scrub_super.specs.Pages.{kind_of}
 use Rattle.scrub_super.specs.Contents.{Contents, retired_in}
 use Rattle.scrub_super.specs.Planned.{AreRetired}
 use Rattle.scrub_super.specs.Record.{ArePointers, BeginsWithRecord}
@@ -225,6 +227,15 @@ record_found {g} x {n} {r} {k} bytes head at enough limit within count extents d
 pub small_some : {g : Geometry} {x : List ℕ} {n r : ℕ} {k : Option ℕ} → BeginsWithSome g x n r k →
     retired_count k < 2 ^ 16
 small_some {g} some = rw some.listed at (small_count g some.contents.retired some.begins.contents.retired)
+
+-- a record is of the second kind where its head tells how many extents are retired
+pub told_kind : {g : Geometry} {x : List ℕ} {n r : ℕ} {k : Option ℕ} (some : BeginsWithSome g x n r k) →
+    option_map_or (λ _. Ssb2) k Ssb1 ≡ kind_of some.contents
+told_kind some = rw (← some.listed) (by some.contents.retired)
+  where
+    by : (o : Option (List ℕ)) → option_map_or (λ _. Ssb2) (option_map length o) Ssb1 ≡ option_map_or (λ _. Ssb2) o Ssb1
+    by None = refl
+    by (Some xs) = refl
 
 -- what was read of the parts of a record is what the record tells
 pub contents_read : {g : Geometry} {x ws : List ℕ} {o : Option (List ℕ)} {rs : List Locator} {n r : ℕ} {k : Option ℕ} {cuts : Cuts} →

@@ -44,7 +44,8 @@ returns-clause-ok c =
 
 pub returns-clause-read_again : goal.returns-clause-read_again
 returns-clause-read_again c = λ rest.
-    record_again c.args.geometry c.args.superblock.now c.args.out.now.items _ rest _ (omega arith) (returns-clause-ok c) (record {
+    record_again c.args.geometry c.args.superblock.now c.args.out.now.items _ rest _ (omega arith) (returns-clause-ok c)
+    (record {
       generation = c.append_body.ensures.generation;
       pointers = c.requires.pointers;
       retired = c.requires.retired;
