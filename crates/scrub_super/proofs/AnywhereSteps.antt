@@ -192,14 +192,6 @@ pub record AreRecordsBelow (at : ℕ → Option ℕ) (limit : ℕ) (records : Li
   pub below : (r : FoundRecord) → Contains records r → r.offset < limit
   pub found : (r : FoundRecord) → Contains records r → IsFoundRecord at r
 
-pub no_records : (at : ℕ → Option ℕ) → AreRecordsBelow at 0 []
-no_records at = record {
-  rising = λ i j d hi hj. absurd (omega (arith, hj));
-  in_list = λ r low f. absurd (omega (arith, low));
-  below = λ r c. absurd (omega (arith, c.1));
-  found = λ r c. absurd (omega (arith, c.1));
-}
-
 -- a multiple of 64 below the next one is this one or lower
 this_or_lower : (slot o : ℕ) → o % 64 ≡ 0 → o < (slot + 1) * 64 → (o ≡ slot * 64) ⊎ (o < slot * 64)
 this_or_lower slot o step low =

@@ -1,5 +1,5 @@
 -- Rising extents: read one after another, and searched.
-use Rattle.std.proofs.Common.{◌≡◌, ◌<◌, ◌≤◌, ◌+◌, ◌*◌, ◌-◌, ◌/◌, ◌==◌, ◌++◌, ℕ, zero, suc, List, [], ◌∷◌, true, false, cond, length, take, drop, length-drop, get_or, arith, refl, sym, ◌∙◌, ap, Result, Ok, Err, is_ok, nat_cmp, inl, inr, MatchResult}
+use Rattle.std.proofs.Common.{◌≡◌, ◌<◌, ◌≤◌, ◌+◌, ◌*◌, ◌-◌, ◌==◌, ◌++◌, ℕ, zero, suc, List, [], ◌∷◌, true, false, cond, length, take, drop, length-drop, get_or, arith, refl, sym, ◌∙◌, ap, Result, Ok, Err, is_ok, nat_cmp, inl, inr, MatchResult}
 use Rattle.std.specs.List.{list_any}
 use Rattle.std.specs.List.Sorted.{IsStrictlyIncreasing, IsBinarySearchResult}
 use Rattle.std.proofs.Math.Numerals.{add-one}
@@ -28,40 +28,24 @@ pub read_number : (x : List ℕ) (i : ℕ) {n : ℕ} → n ≡ big_number 4 (tak
 read_number x i is =
     is ∙ ap (big_number 4) (take_all (length x - 4 * i) (drop (4 * i) x) (omega (arith, length-drop (4 * i) x)))
 
-pub rise_first : (e : ℕ) (x : List ℕ) → RiseTo e x 0 0
-rise_first e x = record {
-  none = λ _. refl;
-  last_is = λ j h. absurd (omega (arith, h));
-  rising = λ j h. absurd (omega (arith, h));
-  from_one = λ j h. absurd (omega (arith, h));
-  below = λ j h. absurd (omega (arith, h));
+pub rise_more : {e : ℕ} {x : List ℕ} {i last n : ℕ} → RiseTo e x i last → n ≡ number_in x i → last < n → n < e →
+    RiseTo e x (i + 1) n
+rise_more {i = i} h is above within = record {
+  none = λ no. absurd (omega (arith, no));
+  last_is = λ j at. let k : j ≡ i = omega (arith, at) in rw k is;
+  rising = λ j at. elim (cases_eq (j + 1) i) [
+    | inl here ↦ rw here (omega (arith, h.last_is j here, is, above))
+    | inr before ↦ h.rising j (omega (arith, at, before))
+  ];
+  from_one = λ j at. elim (cases_eq j i) [
+    | inl here ↦ rw here (omega (arith, is, above))
+    | inr before ↦ h.from_one j (omega (arith, at, before))
+  ];
+  below = λ j at. elim (cases_eq j i) [
+    | inl here ↦ rw here (omega (arith, is, within))
+    | inr before ↦ h.below j (omega (arith, at, before))
+  ];
 }
-
-module _ {e : ℕ} {x : List ℕ} {i last : ℕ} (h : RiseTo e x i last) where
-  pub rise_more : {n : ℕ} → n ≡ number_in x i → last < n → n < e → RiseTo e x (i + 1) n
-  rise_more is above within = record {
-    none = λ no. absurd (omega (arith, no));
-    last_is = λ j at. let k : j ≡ i = omega (arith, at) in rw k is;
-    rising = λ j at. elim (cases_eq (j + 1) i) [
-      | inl here ↦ rw here (omega (arith, h.last_is j here, is, above))
-      | inr before ↦ h.rising j (omega (arith, at, before))
-    ];
-    from_one = λ j at. elim (cases_eq j i) [
-      | inl here ↦ rw here (omega (arith, is, above))
-      | inr before ↦ h.from_one j (omega (arith, at, before))
-    ];
-    below = λ j at. elim (cases_eq j i) [
-      | inl here ↦ rw here (omega (arith, is, within))
-      | inr before ↦ h.below j (omega (arith, at, before))
-    ];
-  }
-
-  pub rise_all : length x / 4 ≤ i → SpellExtents e x
-  rise_all all = record {
-    rising = λ k fits. h.rising k (omega (arith, fits, all));
-    from_one = λ k fits. h.from_one k (omega (arith, fits, all));
-    below = λ k fits. h.below k (omega (arith, fits, all));
-  }
 
 -- where the next number isn't above the last, the numbers don't rise
 pub not_above : {e : ℕ} {x : List ℕ} (i : ℕ) {last n : ℕ} → RiseTo e x i last → n ≡ number_in x i →

@@ -25,20 +25,6 @@ pub record AreRunsTo (lost : List Bool) (block : ℕ) (ranges : List LostBytes) 
   pub are : (l : LostBytes) → Contains ranges l →
       (first stop : ℕ) × IsLostRun lost first stop × (stop ≤ block) × (l.from ≡ first * 512) × (l.to ≡ stop * 512)
 
-pub no_runs : (lost : List Bool) → AreRunsTo lost 0 []
-no_runs lost = record {
-  rising = λ i j d hi hj. absurd (omega (arith, hj));
-  in_list = λ l first stop run low hf ht. absurd (omega (arith, run.some, low));
-  are = λ l c. absurd (omega (arith, c.1));
-}
-
-pub none_before : (lost : List Bool) → RunsFrom lost 0 0
-none_before lost = record {
-  from = omega arith;
-  all = λ n low high. absurd (omega (arith, high));
-  not_before = λ n e. absurd (omega (arith, e));
-}
-
 module _ {lost : List Bool} (block : ℕ) where
   -- one block more, which isn't lost, or is
   pub starts_behind : get_or lost block false ≡ false → RunsFrom lost (block + 1) (block + 1)

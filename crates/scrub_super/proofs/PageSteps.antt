@@ -106,12 +106,6 @@ module _ {image : Image} {found : List (Option Found)} {p q : ℕ} (hp : p ≡ q
 
 -- ---- how far records reach
 
-pub no_reach : (image : Image) → IsRecordReach image 0 0
-no_reach image = record {
-  ends = λ r c low s. absurd (omega (arith, low));
-  reached = λ i low. absurd (omega (arith, low));
-}
-
 module _ {image : Image} {q reach : ℕ} (h : IsRecordReach image q reach) where
   pub reach_more : {new : ℕ} {f : Found} → new ≡ max reach f.to → IsFoundOnPage image q (Some f) →
       IsRecordReach image (q + 1) new
