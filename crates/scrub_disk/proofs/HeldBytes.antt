@@ -29,7 +29,8 @@ page_within P N E e i pos he hi = (page_room P N E e (i / P) he (div_below i P N
 pub in_page : (bytes : List ℕ) (n P k : ℕ) → k < P → n * P + P ≤ length bytes →
     slice_get (between (n * P) (n * P + P) bytes) k ≡ Some (get_or bytes (n * P + k) 0)
 in_page bytes n P k hk fits =
-    let l : length (between (n * P) (n * P + P) bytes) ≡ n * P + P - n * P = length-between bytes (n * P) (n * P + P) fits in
+    let l : length (between (n * P) (n * P + P) bytes) ≡ n * P + P - n * P =
+    length-between bytes (n * P) (n * P + P) fits in
     slice_get-get_or (between (n * P) (n * P + P) bytes) k 0 (omega (arith, l))
     ∙ ap Some (get_or-between bytes (n * P) (n * P + P) k 0 (omega arith))
 
@@ -40,16 +41,20 @@ pub byte-held : (g : Geometry) (bytes : List ℕ) (bad : List Bool) (e i : ℕ) 
     ≡ cond (get_or bad (e * g.pages + i / g.page) false) None (Some (get_or bytes (e * (g.page * g.pages) + i) 0))
 byte-held g bytes bad e i l he hi =
     let pos : 0 < g.page = omega (arith, g.page_size.least) in
-    let w : (e * g.pages + i / g.page) * g.page + g.page ≤ length bytes = omega (arith, page_within g.page g.pages g.extents e i pos he hi, l) in
+    let w : (e * g.pages + i / g.page) * g.page + g.page ≤ length bytes =
+    omega (arith, page_within g.page g.pages g.extents e i pos he hi, l) in
     let at : slice_get (between ((e * g.pages + i / g.page) * g.page) ((e * g.pages + i / g.page) * g.page + g.page) bytes) (i % g.page) ≡ Some (get_or bytes (e * (g.page * g.pages) + i) 0) =
     in_page bytes (e * g.pages + i / g.page) g.page (i % g.page) (mod-lt i pos) w
     ∙ ap (λ n. Some (get_or bytes n 0)) (place g.page g.pages e i) in
     let here : nat_lt i (g.page * g.pages) ≡ true = lt-ltb i (g.page * g.pages) hi in
-    ap (λ t. cond t (byte_of_page (get_or bad (e * g.pages + i / g.page) false) ((e * g.pages + i / g.page) * g.page)) None) here
+    ap
+    (λ t. cond t (byte_of_page (get_or bad (e * g.pages + i / g.page) false) ((e * g.pages + i / g.page) * g.page)) None)
+    here
     ∙ by_mark (get_or bad (e * g.pages + i / g.page) false) _ _ (i % g.page) at
   where
     byte_of_page : Bool → ℕ → Option ℕ
-    byte_of_page b from = option_and_then (λ s. slice_get s (i % g.page)) (cond b None (Some (between from (from + g.page) bytes)))
+    byte_of_page b from =
+        option_and_then (λ s. slice_get s (i % g.page)) (cond b None (Some (between from (from + g.page) bytes)))
 
     by_mark : (b : Bool) (page : List ℕ) (x k : ℕ) → slice_get page k ≡ Some x →
         option_and_then (λ s. slice_get s k) (cond b None (Some page)) ≡ cond b None (Some x)
@@ -57,7 +62,8 @@ byte-held g bytes bad e i l he hi =
     by_mark false page x k h = h
 
 -- a marked page is unreadable
-pub marked_page : (g : Geometry) (bytes : List ℕ) (bad : List Bool) (e p : ℕ) → get_or bad (e * g.pages + p) false ≡ true → (held g bytes bad).page e p ≡ None
+pub marked_page : (g : Geometry) (bytes : List ℕ) (bad : List Bool) (e p : ℕ) →
+    get_or bad (e * g.pages + p) false ≡ true → (held g bytes bad).page e p ≡ None
 marked_page g bytes bad e p h = rw h refl
 
 -- two places of pages that are one have one extent and one page
@@ -68,22 +74,30 @@ apart N e p f q hp hq eq = (
 )
 
 -- what a mark on one page changes
-pub marks : (g : Geometry) (bytes : List ℕ) (bad : List Bool) (e p : ℕ) → length bad ≡ g.pages * g.extents → e < g.extents → p < g.pages →
+pub marks : (g : Geometry) (bytes : List ℕ) (bad : List Bool) (e p : ℕ) → length bad ≡ g.pages * g.extents →
+    e < g.extents → p < g.pages →
     Marks (held g bytes bad) (held g bytes (set bad (e * g.pages + p) true)) e p
 marks g bytes bad e p l he hp =
     let r : e * g.pages + g.pages ≤ g.extents * g.pages = row_fits e g.pages g.extents g.pages he (omega arith) in
     let within : e * g.pages + p < length bad = omega (arith, l, r) in
     record {
       geometry = refl;
-      marked = marked_page g bytes (set bad (e * g.pages + p) true) e p (get_or-set_same bad (e * g.pages + p) true false within);
+      marked =
+          marked_page g bytes (set bad (e * g.pages + p) true) e p
+          (get_or-set_same bad (e * g.pages + p) true false within);
       others = λ f q hf hq ne.
-          let away : (f * g.pages + q) ≢ (e * g.pages + p) = λ eq. let a = apart g.pages f q e p hq hp eq in elim ne [ inl n ↦ n a.0 | inr n ↦ n a.1 ] in
-          ap (λ b. cond b None (Some (between ((f * g.pages + q) * g.page) ((f * g.pages + q) * g.page + g.page) bytes)))
+          let away : (f * g.pages + q) ≢ (e * g.pages + p) = λ eq. let a = apart g.pages f q e p hq hp eq in elim ne [
+            | inl n ↦ n a.0
+            | inr n ↦ n a.1
+          ] in
+          ap
+          (λ b. cond b None (Some (between ((f * g.pages + q) * g.page) ((f * g.pages + q) * g.page + g.page) bytes)))
           (get_or-set_other bad (e * g.pages + p) (f * g.pages + q) true false away);
     }
 
 -- a disk of zeros is blank
-pub blank : (g : Geometry) → IsBlank (held g (replicate (g.page * (g.pages * g.extents)) 0) (replicate (g.pages * g.extents) false)) g
+pub blank : (g : Geometry) →
+    IsBlank (held g (replicate (g.page * (g.pages * g.extents)) 0) (replicate (g.pages * g.extents) false)) g
 blank g = record {
   geometry = refl;
   zero = λ e p he hp.
@@ -91,21 +105,26 @@ blank g = record {
       let n : e * g.pages + p < g.pages * g.extents = omega (arith, r) in
       let s : e * g.pages + p + 1 ≤ g.pages * g.extents = omega (arith, n) in
       let t : g.page * (e * g.pages + p + 1) ≤ g.page * (g.pages * g.extents) = mul-le-mul_left g.page s in
-      ap (λ b. cond b None (Some (between {X = ℕ} ((e * g.pages + p) * g.page) ((e * g.pages + p) * g.page + g.page) (replicate (g.page * (g.pages * g.extents)) 0))))
+      ap
+      (λ b. cond b None (Some (between {X = ℕ} ((e * g.pages + p) * g.page) ((e * g.pages + p) * g.page + g.page) (replicate (g.page * (g.pages * g.extents)) 0))))
       (get_or-replicate (g.pages * g.extents) (e * g.pages + p) false false n)
       ∙ ap Some (zeros ((e * g.pages + p) * g.page) g.page (g.page * (g.pages * g.extents)) (omega (arith, t)));
 }
   where
     zeros : (a n m : ℕ) → a + n ≤ m → between {X = ℕ} a (a + n) (replicate m 0) ≡ replicate n 0
     zeros a n m h =
-        same_lists _ _ (length-between (replicate m 0) a (a + n) (omega (arith, length-replicate {A = ℕ} m 0)) ∙ (let e : a + n - a ≡ n = omega arith in e) ∙ sym (length-replicate {A = ℕ} n 0))
+        same_lists _ _
+        (length-between (replicate m 0) a (a + n) (omega (arith, length-replicate {A = ℕ} m 0)) ∙ (let e : a + n - a ≡ n = omega arith in e) ∙ sym (length-replicate {A = ℕ} n 0))
         (λ k d hk.
-        let l : length (between {X = ℕ} a (a + n) (replicate m 0)) ≡ a + n - a = length-between (replicate m 0) a (a + n) (omega (arith, length-replicate {A = ℕ} m 0)) in
-        get_or-between (replicate m 0) a (a + n) k d (omega (arith, l)) ∙ get_or-replicate m (a + k) 0 d (omega (arith, l)) ∙ sym (get_or-replicate n k 0 d (omega (arith, l))))
+        let l : length (between {X = ℕ} a (a + n) (replicate m 0)) ≡ a + n - a =
+        length-between (replicate m 0) a (a + n) (omega (arith, length-replicate {A = ℕ} m 0)) in
+        get_or-between (replicate m 0) a (a + n) k d (omega (arith, l))
+        ∙ get_or-replicate m (a + k) 0 d (omega (arith, l)) ∙ sym (get_or-replicate n k 0 d (omega (arith, l))))
 
 -- what a write of the bytes ys at an offset of extent e changes
 pub puts : (g : Geometry) (xs ys new : List ℕ) (bad : List Bool) (e offset : ℕ) →
-    length xs ≡ g.page * g.pages * g.extents → length new ≡ length xs → e < g.extents → offset + length ys ≤ g.page * g.pages →
+    length xs ≡ g.page * g.pages * g.extents → length new ≡ length xs → e < g.extents →
+    offset + length ys ≤ g.page * g.pages →
     ((k : ℕ) → k < length ys → get_or new (e * (g.page * g.pages) + offset + k) 0 ≡ get_or ys k 0) →
     ((i : ℕ) → i < length xs → (i < e * (g.page * g.pages) + offset) ⊎ (e * (g.page * g.pages) + offset + length ys ≤ i) → get_or new i 0 ≡ get_or xs i 0) →
     Puts (held g xs bad) (held g new bad) e offset ys
@@ -114,8 +133,10 @@ puts g xs ys new bad e offset l m he fits inside outside = record {
   written = λ k hk.
       let i : offset + k < g.page * g.pages = omega arith in
       byte-held g new bad e (offset + k) (m ∙ l) he i
-      ∙ ap (λ n. cond (get_or bad (e * g.pages + (offset + k) / g.page) false) None (Some n)) (ap (λ n. get_or new n 0) (let q : e * (g.page * g.pages) + (offset + k) ≡ e * (g.page * g.pages) + offset + k = omega arith in q) ∙ inside k hk)
-      ∙ mapped (get_or bad (e * g.pages + (offset + k) / g.page) false) (get_or ys k 0) (get_or xs (e * (g.page * g.pages) + (offset + k)) 0)
+      ∙ ap (λ n. cond (get_or bad (e * g.pages + (offset + k) / g.page) false) None (Some n))
+      (ap (λ n. get_or new n 0) (let q : e * (g.page * g.pages) + (offset + k) ≡ e * (g.page * g.pages) + offset + k = omega arith in q) ∙ inside k hk)
+      ∙ mapped (get_or bad (e * g.pages + (offset + k) / g.page) false) (get_or ys k 0)
+      (get_or xs (e * (g.page * g.pages) + (offset + k)) 0)
       ∙ ap (option_map (λ _. get_or ys k 0)) (sym (byte-held g xs bad e (offset + k) l he i));
   kept = λ i hi away.
       byte-held g new bad e i (m ∙ l) he hi
@@ -134,17 +155,27 @@ puts g xs ys new bad e offset l m he fits inside outside = record {
     mapped false x y = refl
 
     within : (f i : ℕ) → f < g.extents → i < g.page * g.pages → f * (g.page * g.pages) + i < length xs
-    within f i hf hi = let r : f * (g.page * g.pages) + g.page * g.pages ≤ g.extents * (g.page * g.pages) = row_fits f (g.page * g.pages) g.extents (g.page * g.pages) hf (omega arith) in omega (arith, l, r)
+    within f i hf hi =
+        let r : f * (g.page * g.pages) + g.page * g.pages ≤ g.extents * (g.page * g.pages) = row_fits f (g.page * g.pages) g.extents (g.page * g.pages) hf (omega arith) in
+        omega (arith, l, r)
 
-    elsewhere : (f i : ℕ) → i < g.page * g.pages → f ≢ e → (f * (g.page * g.pages) + i < e * (g.page * g.pages) + offset) ⊎ (e * (g.page * g.pages) + offset + length ys ≤ f * (g.page * g.pages) + i)
+    elsewhere : (f i : ℕ) → i < g.page * g.pages → f ≢ e →
+        (f * (g.page * g.pages) + i < e * (g.page * g.pages) + offset) ⊎ (e * (g.page * g.pages) + offset + length ys ≤ f * (g.page * g.pages) + i)
     elsewhere f i hi ne = elim (cases_lt f e) [
-      | inl h ↦ let r : f * (g.page * g.pages) + g.page * g.pages ≤ e * (g.page * g.pages) = row_fits f (g.page * g.pages) e (g.page * g.pages) h (omega arith) in inl (omega (arith, r))
-      | inr h ↦ let above : e < f = omega arith in let r : e * (g.page * g.pages) + g.page * g.pages ≤ f * (g.page * g.pages) = row_fits e (g.page * g.pages) f (g.page * g.pages) above (omega arith) in inr (omega (arith, r))
+      | inl h ↦
+          let r : f * (g.page * g.pages) + g.page * g.pages ≤ e * (g.page * g.pages) = row_fits f (g.page * g.pages) e (g.page * g.pages) h (omega arith) in
+          inl (omega (arith, r))
+      | inr h ↦
+          let above : e < f = omega arith in
+          let r : e * (g.page * g.pages) + g.page * g.pages ≤ f * (g.page * g.pages) = row_fits e (g.page * g.pages) f (g.page * g.pages) above (omega arith) in
+          inr (omega (arith, r))
     ]
 
 -- a page whose mark was read and is set is unreadable
-pub read_marked : (g : Geometry) (bytes : List ℕ) (bad : List Bool) (e p n : ℕ) (b : Bool) → length bad ≡ g.pages * g.extents →
-    e < g.extents → p < g.pages → n ≡ g.pages → b ≡ get_or bad (e * n + p) b → b ≡ true → (held g bytes bad).page e p ≡ None
+pub read_marked : (g : Geometry) (bytes : List ℕ) (bad : List Bool) (e p n : ℕ) (b : Bool) →
+    length bad ≡ g.pages * g.extents →
+    e < g.extents → p < g.pages → n ≡ g.pages → b ≡ get_or bad (e * n + p) b → b ≡ true →
+    (held g bytes bad).page e p ≡ None
 read_marked g bytes bad e p n b l he hp same reads set' =
     let r : e * g.pages + g.pages ≤ g.extents * g.pages = row_fits e g.pages g.extents g.pages he (omega arith) in
     let i : e * g.pages + p < length bad = omega (arith, l, r) in
@@ -153,35 +184,46 @@ read_marked g bytes bad e p n b l he hp same reads set' =
 
 -- the same write through a slice of the vector that has the bytes, as the code makes it
 pub put_all : (g : Geometry) (v : Vec ℕ Global) (ys xs zs : List ℕ) (bad : List Bool) (e offset size : ℕ) →
-    length v.items ≡ g.page * g.pages * g.extents → e < g.extents → offset + length ys ≤ g.page * g.pages → size ≡ g.page * g.pages →
+    length v.items ≡ g.page * g.pages * g.extents → e < g.extents → offset + length ys ≤ g.page * g.pages →
+    size ≡ g.page * g.pages →
     xs ≡ v.items → zs ≡ ys →
     Puts (held g v.items bad) (held g (with_items v (put_mid (e * size + offset) (e * size + offset + length ys - (e * size + offset)) xs zs)).items bad) e offset ys
 put_all g v ys xs zs bad e offset size l he fits hs hx hz =
-    let r : e * (g.page * g.pages) + g.page * g.pages ≤ g.extents * (g.page * g.pages) = row_fits e (g.page * g.pages) g.extents (g.page * g.pages) he (omega arith) in
+    let r : e * (g.page * g.pages) + g.page * g.pages ≤ g.extents * (g.page * g.pages) =
+    row_fits e (g.page * g.pages) g.extents (g.page * g.pages) he (omega arith) in
     let n : e * size + offset + length ys - (e * size + offset) ≡ length ys = omega arith in
-    let m : length (put_mid (e * (g.page * g.pages) + offset) (length ys) v.items ys) ≡ length v.items = length-put v.items ys (e * (g.page * g.pages) + offset) (length ys) (omega (arith, l, r)) refl in
-    let same : (with_items v (put_mid (e * (g.page * g.pages) + offset) (length ys) v.items ys)).items ≡ put_mid (e * (g.page * g.pages) + offset) (length ys) v.items ys = with_items_is v (put_mid (e * (g.page * g.pages) + offset) (length ys) v.items ys) (m ∙ sym v.ok.0) in
+    let m : length (put_mid (e * (g.page * g.pages) + offset) (length ys) v.items ys) ≡ length v.items =
+    length-put v.items ys (e * (g.page * g.pages) + offset) (length ys) (omega (arith, l, r)) refl in
+    let same : (with_items v (put_mid (e * (g.page * g.pages) + offset) (length ys) v.items ys)).items ≡ put_mid (e * (g.page * g.pages) + offset) (length ys) v.items ys =
+    with_items_is v (put_mid (e * (g.page * g.pages) + offset) (length ys) v.items ys) (m ∙ sym v.ok.0) in
     rw (n, hs, hx, hz, same)
     (puts g v.items ys (put_mid (e * (g.page * g.pages) + offset) (length ys) v.items ys) bad e offset l m he fits
     (λ k hk. put_within v.items ys (e * (g.page * g.pages) + offset) (length ys) k refl (omega (arith, l, r)) hk)
     (λ i hi away. put_outside v.items ys (e * (g.page * g.pages) + offset) (length ys) i refl (omega (arith, l, r)) away hi))
 
 -- the bytes of a page that was read, whoever's image it is of: what a scanner by pages goes by
-pub byte-page : (d : Image) (e p k : ℕ) (page : List ℕ) → d.page e p ≡ Some page → length page ≡ d.geometry.page → p < d.geometry.pages → k < d.geometry.page →
+pub byte-page : (d : Image) (e p k : ℕ) (page : List ℕ) → d.page e p ≡ Some page → length page ≡ d.geometry.page →
+    p < d.geometry.pages → k < d.geometry.page →
     byte d e (p * d.geometry.page + k) ≡ Some (get_or page k 0)
 byte-page d e p k page h l hp hk =
     let next : p + 1 ≤ d.geometry.pages = omega (arith, hp) in
     let room : d.geometry.page * (p + 1) ≤ d.geometry.page * d.geometry.pages = mul-le-mul_left d.geometry.page next in
-    let here : nat_lt (p * d.geometry.page + k) (d.geometry.page * d.geometry.pages) ≡ true = lt-ltb (p * d.geometry.page + k) (d.geometry.page * d.geometry.pages) (omega (arith, room, hk)) in
-    ap (λ t. cond t (option_and_then (λ s. slice_get s ((p * d.geometry.page + k) % d.geometry.page)) (d.page e ((p * d.geometry.page + k) / d.geometry.page))) None) here
-    ∙ ap (λ q. option_and_then (λ s. slice_get s ((p * d.geometry.page + k) % d.geometry.page)) (d.page e q)) (div-mul-add p d.geometry.page k hk)
+    let here : nat_lt (p * d.geometry.page + k) (d.geometry.page * d.geometry.pages) ≡ true =
+    lt-ltb (p * d.geometry.page + k) (d.geometry.page * d.geometry.pages) (omega (arith, room, hk)) in
+    ap
+    (λ t. cond t (option_and_then (λ s. slice_get s ((p * d.geometry.page + k) % d.geometry.page)) (d.page e ((p * d.geometry.page + k) / d.geometry.page))) None)
+    here
+    ∙ ap (λ q. option_and_then (λ s. slice_get s ((p * d.geometry.page + k) % d.geometry.page)) (d.page e q))
+    (div-mul-add p d.geometry.page k hk)
     ∙ ap (λ m. option_and_then (λ s. slice_get s m) (d.page e p)) (mod-mul-add p d.geometry.page k hk)
     ∙ ap (option_and_then (λ s. slice_get s k)) h
     ∙ slice_get-get_or page k 0 (omega (arith, l, hk))
 
 -- no byte of an unreadable page is there
 pub byte-unreadable : (d : Image) (e i : ℕ) → d.page e (i / d.geometry.page) ≡ None → byte d e i ≡ None
-byte-unreadable d e i h = either (nat_lt i (d.geometry.page * d.geometry.pages)) (ap (option_and_then (λ s. slice_get s (i % d.geometry.page))) h)
+byte-unreadable d e i h =
+    either (nat_lt i (d.geometry.page * d.geometry.pages))
+    (ap (option_and_then (λ s. slice_get s (i % d.geometry.page))) h)
   where
     either : (b : Bool) {x : Option ℕ} → x ≡ None → cond b x None ≡ None
     either true e = e

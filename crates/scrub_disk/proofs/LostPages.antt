@@ -1,5 +1,5 @@
 -- Which pages of a loaded image are unreadable.
-use Rattle.std.proofs.Common.{◌≡◌, ◌<◌, ◌≤◌, ◌+◌, ◌-◌, ◌*◌, ℕ, Bool, true, false, cond, List, [], length, get_or, arith, refl, sym, ◌∙◌, inl, inr, ◌⊎◌, Option, Some, None, IfSome, subst}
+use Rattle.std.proofs.Common.{◌≡◌, ◌<◌, ◌≤◌, ◌+◌, ◌-◌, ◌*◌, ℕ, Bool, true, false, cond, List, [], length, get_or, arith, refl, sym, ◌∙◌, inl, inr, ◌⊎◌, Option, Some, None, IfSome}
 use Rattle.std.specs.List.{between, Contains}
 use Rattle.std.proofs.lemmas.Nat.{row_fits}
 use Rattle.std.proofs.lemmas.Option.{slice_get_within, none-some}
@@ -8,16 +8,18 @@ use Rattle.std.specs.Bool.{OnFalse}
 use Rattle.std.proofs.lemmas.Bool.{false≢true}
 use Rattle.scrub_disk.specs.Image.{Image, HasWholePages, disk_bytes}
 use Rattle.scrub_disk.specs.Held.{held}
-use Rattle.scrub_disk.specs.Raw.{IsPageAt, raw_place, HoldsRaw, LosesOnly, HoldsTold, IsLoadedWith}
+use Rattle.scrub_disk.specs.Raw.{IsPageAt, HoldsRaw, LosesOnly, HoldsTold, IsLoadedWith}
 use Rattle.scrub_disk.specs.Marked.{MarksAll, MarksOnly}
 
 -- a page that is whole at its place isn't cut
-uncut : (told : List ℕ) (place size : ℕ) (page : Option (List ℕ)) → 0 < size → length told < place + size → IfSome page (IsPageAt told place size) → page ≡ None
+uncut : (told : List ℕ) (place size : ℕ) (page : Option (List ℕ)) → 0 < size → length told < place + size →
+    IfSome page (IsPageAt told place size) → page ≡ None
 uncut told place size None some cut at = refl
 uncut told place size (Some bytes) some cut at =
     let last : size - 1 < length bytes = omega (arith, at.whole, some) in
-    let within : place + (size - 1) < length told = slice_get_within told (place + (size - 1)) (get_or bytes (size - 1) 0) (at.stands (size - 1) last) in
-    absurd (let none : ⊥ = omega (arith, within, cut, some) in none)
+    let within : place + (size - 1) < length told =
+    slice_get_within told (place + (size - 1)) (get_or bytes (size - 1) 0) (at.stands (size - 1) last) in
+    absurd (omega (arith, within, cut, some))
 
 -- a page is unreadable only where its number is marked
 marked_at : (b : Bool) (page : List ℕ) → cond b None (Some page) ≡ None → b ≡ true
@@ -26,29 +28,36 @@ marked_at false page e = absurd (none-some page (sym e))
 
 -- a disk whose unmarked pages are the raw ones, and whose marks are few, has lost few pages
 loses_only : (g : Geometry) (told bytes : List ℕ) (marks : List Bool) (failures : ℕ) →
-    MarksOnly told g.page (g.pages * g.extents) failures marks → HoldsRaw told (held g bytes marks) → LosesOnly told g [] failures (held g bytes marks)
+    MarksOnly told g.page (g.pages * g.extents) failures marks → HoldsRaw told (held g bytes marks) →
+    LosesOnly told g [] failures (held g bytes marks)
 loses_only g told bytes marks failures m holds = record {
-  cut = λ e p he hp cut. uncut told ((e * g.pages + p) * g.page) g.page ((held g bytes marks).page e p) (omega (arith, g.page_size.least)) cut (holds e p he hp);
+  cut = λ e p he hp cut.
+      uncut told ((e * g.pages + p) * g.page) g.page ((held g bytes marks).page e p) (omega (arith, g.page_size.least))
+      cut (holds e p he hp);
   failed = m.failed;
   few = m.few;
   only = λ e p he hp none.
       let row : e * g.pages + g.pages ≤ g.extents * g.pages = row_fits e g.pages g.extents g.pages he (omega arith) in
-      elim (m.only (e * g.pages + p) (omega (arith, row, hp)) (marked_at (get_or marks (e * g.pages + p) false) (between ((e * g.pages + p) * g.page) ((e * g.pages + p) * g.page + g.page) bytes) none)) [
+      elim
+      (m.only (e * g.pages + p) (omega (arith, row, hp)) (marked_at (get_or marks (e * g.pages + p) false) (between ((e * g.pages + p) * g.page) ((e * g.pages + p) * g.page + g.page) bytes) none)) [
         | inl cut ↦ inr (inl cut)
         | inr failed ↦ inr (inr failed)
       ];
 }
 
 -- the same of a disk that was loaded, where the raw image may not tell its bytes
-pub loses_loaded : (g : Geometry) (raw : Option (List ℕ)) (bytes : List ℕ) (marks : List Bool) (page count failures : ℕ) (image : Image) → image ≡ held g bytes marks → page ≡ g.page → count ≡ g.pages * g.extents →
-    IfSome raw (λ told. HoldsRaw told image) → IfSome raw (λ told. MarksOnly told page count failures marks) → IfSome raw (λ told. LosesOnly told g [] failures image)
+pub loses_loaded : (g : Geometry) (raw : Option (List ℕ)) (bytes : List ℕ) (marks : List Bool) (page count failures : ℕ) (image : Image) →
+    image ≡ held g bytes marks → page ≡ g.page → count ≡ g.pages * g.extents →
+    IfSome raw (λ told. HoldsRaw told image) → IfSome raw (λ told. MarksOnly told page count failures marks) →
+    IfSome raw (λ told. LosesOnly told g [] failures image)
 loses_loaded g None bytes marks page count failures image is same all holds m = tt
 loses_loaded g (Some told) bytes marks page count failures image is same all holds m =
-    subst (λ (d : Image). LosesOnly told g [] failures d) (sym is)
-    (loses_only g told bytes marks failures (subst (λ (n : ℕ). MarksOnly told g.page n failures marks) all (subst (λ (p : ℕ). MarksOnly told p count failures marks) same m)) (subst (λ (d : Image). HoldsRaw told d) is holds))
+    rw is
+    (loses_only g told bytes marks failures (rw (← all) (rw same at m)) (rw is at holds))
 
 -- pages that are named are lost too, and no more
-loses_marked : (told : List ℕ) (g : Geometry) (named : List (ℕ × ℕ)) (before after : ℕ) (old new : Image) → old.geometry ≡ g → before ≤ after →
+loses_marked : (told : List ℕ) (g : Geometry) (named : List (ℕ × ℕ)) (before after : ℕ) (old new : Image) →
+    old.geometry ≡ g → before ≤ after →
     LosesOnly told g [] before old → MarksAll old new named → LosesOnly told g named after new
 loses_marked told g named before after old new is le l m = record {
   cut = λ e p he hp cut. elim (changed e p he hp) [ inl same ↦ same ∙ l.cut e p he hp cut | inr gone ↦ gone.0 ];
@@ -57,55 +66,65 @@ loses_marked told g named before after old new is le l m = record {
   only = λ e p he hp none. elim (changed e p he hp) [
     | inr gone ↦ inl gone.1
     | inl same ↦ elim (l.only e p he hp (sym same ∙ none)) [
-      | inl unnamed ↦ absurd (let none : ⊥ = omega (arith, unnamed.1) in none)
+      | inl unnamed ↦ absurd (omega (arith, unnamed.1))
       | inr lost ↦ inr lost
     ]
   ];
 }
   where
-    changed : (e p : ℕ) → e < g.extents → p < g.pages → (new.page e p ≡ old.page e p) ⊎ ((new.page e p ≡ None) × Contains named (e, p))
-    changed e p he hp = m.others e p (subst (λ (h : Geometry). e < h.extents) (sym is) he) (subst (λ (h : Geometry). p < h.pages) (sym is) hp)
+    changed : (e p : ℕ) → e < g.extents → p < g.pages →
+        (new.page e p ≡ old.page e p) ⊎ ((new.page e p ≡ None) × Contains named (e, p))
+    changed e p he hp = m.others e p (rw is he) (rw is hp)
 
 -- marks take no bytes away from pages that stay readable
-holds_marked : (told : List ℕ) (named : List (ℕ × ℕ)) (old new : Image) → HoldsRaw told old → MarksAll old new named → HoldsRaw told new
+holds_marked : (told : List ℕ) (named : List (ℕ × ℕ)) (old new : Image) → HoldsRaw told old → MarksAll old new named →
+    HoldsRaw told new
 holds_marked told named old new h m e q he hq =
-    let he' : e < old.geometry.extents = subst (λ (g : Geometry). e < g.extents) m.geometry he in
-    let hq' : q < old.geometry.pages = subst (λ (g : Geometry). q < g.pages) m.geometry hq in
+    let he' : e < old.geometry.extents = rw m.geometry at he in
+    let hq' : q < old.geometry.pages = rw m.geometry at hq in
     elim (m.others e q he' hq') [
       | inl same ↦
-          subst (λ (g : Geometry). IfSome (new.page e q) (IsPageAt told (raw_place g e q) g.page)) (sym m.geometry)
-          (subst (λ (page : Option (List ℕ)). IfSome page (IsPageAt told (raw_place old.geometry e q) old.geometry.page)) (sym same) (h e q he' hq'))
-      | inr gone ↦ subst (λ (page : Option (List ℕ)). IfSome page (IsPageAt told (raw_place new.geometry e q) new.geometry.page)) (sym gone.0) tt
+          rw m.geometry
+          (rw same (h e q he' hq'))
+      | inr gone ↦ rw gone.0 tt
     ]
 
 -- A disk that was read from raw bytes, and behind whose last page no byte was found, is loaded once its named pages are
 -- marked. The failures are counted before the reads, before the last one and behind it.
 pub loaded_with : (raw was : Option (List ℕ)) (g : Geometry) (named : List (ℕ × ℕ)) (first before after end : ℕ) (there : Bool) (old new : Image) →
-    was ≡ raw → end ≡ disk_bytes g → there ≡ false → old.geometry ≡ g → first ≤ before → before ≤ after → HasWholePages new →
+    was ≡ raw → end ≡ disk_bytes g → there ≡ false → old.geometry ≡ g → first ≤ before → before ≤ after →
+    HasWholePages new →
     IfSome raw (λ told. HoldsRaw told old) → IfSome raw (λ told. LosesOnly told g [] (before - first) old) →
-    IfSome was (λ told. OnFalse there ((length told ≤ end) ⊎ (before < after))) → MarksAll old new named → IsLoadedWith raw (after - first) g named new
+    IfSome was (λ told. OnFalse there ((length told ≤ end) ⊎ (before < after))) → MarksAll old new named →
+    IsLoadedWith raw (after - first) g named new
 loaded_with raw was g named first before after end there old new same at absent is least le whole holds lost short m = record {
   geometry = m.geometry ∙ is;
   whole = whole;
   unreadable = m.marked;
-  told = of_told raw holds lost (subst (λ (r : Option (List ℕ)). IfSome r (λ told. OnFalse there ((length told ≤ end) ⊎ (before < after)))) same short);
+  told = of_told raw holds lost (rw same at short);
 }
   where
     not_found : (b : Bool) {P : Type 0} → b ≡ false → OnFalse b P → P
     not_found false e p = p
     not_found true e p = absurd (false≢true (sym e))
 
-    of_told : (r : Option (List ℕ)) → IfSome r (λ told. HoldsRaw told old) → IfSome r (λ told. LosesOnly told g [] (before - first) old) →
-        IfSome r (λ told. OnFalse there ((length told ≤ end) ⊎ (before < after))) → IfSome r (λ told. HoldsTold told (after - first) g named new)
+    of_told : (r : Option (List ℕ)) → IfSome r (λ told. HoldsRaw told old) →
+        IfSome r (λ told. LosesOnly told g [] (before - first) old) →
+        IfSome r (λ told. OnFalse there ((length told ≤ end) ⊎ (before < after))) →
+        IfSome r (λ told. HoldsTold told (after - first) g named new)
     of_told None holds lost short = tt
     of_told (Some told) holds lost short = record {
       pages = holds_marked told named old new holds m;
       lost = loses_marked told g named (before - first) (after - first) old new is (omega (arith, le)) lost m;
-      not_too_long = λ none. elim (not_found there absent short) [ inl fits ↦ omega (arith, fits, at) | inr more ↦ absurd (let no : ⊥ = omega (arith, none, more, least) in no) ];
+      not_too_long = λ none. elim (not_found there absent short) [
+        | inl fits ↦ omega (arith, fits, at)
+        | inr more ↦ absurd (omega (arith, none, more, least))
+      ];
     }
 
 -- What was loaded while few reads failed was loaded while at most many did: for a caller that knows only a bound.
-pub loaded_with_more : (raw : Option (List ℕ)) (few many : ℕ) (g : Geometry) (named : List (ℕ × ℕ)) (image : Image) → few ≤ many →
+pub loaded_with_more : (raw : Option (List ℕ)) (few many : ℕ) (g : Geometry) (named : List (ℕ × ℕ)) (image : Image) →
+    few ≤ many →
     IsLoadedWith raw few g named image → IsLoadedWith raw many g named image
 loaded_with_more raw few many g named image le l = record {
   geometry = l.geometry;
@@ -114,10 +133,16 @@ loaded_with_more raw few many g named image le l = record {
   told = of_told raw l.told;
 }
   where
-    of_told : (r : Option (List ℕ)) → IfSome r (λ told. HoldsTold told few g named image) → IfSome r (λ told. HoldsTold told many g named image)
+    of_told : (r : Option (List ℕ)) → IfSome r (λ told. HoldsTold told few g named image) →
+        IfSome r (λ told. HoldsTold told many g named image)
     of_told None t = tt
     of_told (Some told) t = record {
       pages = t.pages;
-      lost = record { cut = t.lost.cut; failed = t.lost.failed; few = omega (arith, t.lost.few, le); only = t.lost.only };
+      lost = record {
+        cut = t.lost.cut;
+        failed = t.lost.failed;
+        few = omega (arith, t.lost.few, le);
+        only = t.lost.only;
+      };
       not_too_long = λ none. t.not_too_long (omega (arith, none, le));
     }

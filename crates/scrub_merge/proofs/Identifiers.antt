@@ -42,19 +42,18 @@ not_less a b differ not_below = id_cmp_total.antisymm b a ∙ ap ordering_revers
     greater Greater h = refl
 
 -- rising entries with one identifier are one
-pub same_entry : (entries : List EntryValue) (e f : EntryValue) → RisesById entries → Contains entries e → Contains entries f → e.id ≡ f.id → e ≡ f
-same_entry entries e f rising c d same = elim (cases_lt c.0 d.0) [
-  | inl before ↦ absurd (not_below_itself f.id (rw same at (below c.0 d.0 e f before d.1 c.2 d.2)))
-  | inr not_before ↦ elim (cases_lt d.0 c.0) [
-    | inl after ↦ absurd (not_below_itself f.id (rw same at (below d.0 c.0 f e after c.1 d.2 c.2)))
+pub same_entry : (entries : List EntryValue) {e f : EntryValue} → RisesById entries → Contains entries e →
+    Contains entries f → e.id ≡ f.id → e ≡ f
+same_entry entries {e} {f} rising (i, hi, is) (j, hj, js) same = elim (cases_lt i j) [
+  | inl before ↦ absurd (not_below_itself f.id (rw same at (below i j before hj is js)))
+  | inr not_before ↦ elim (cases_lt j i) [
+    | inl after ↦ absurd (not_below_itself f.id (rw same at (below j i after hi js is)))
     | inr not_after ↦
-        let at : c.0 ≡ d.0 = omega (arith, not_before, not_after) in
-        sym c.2 ∙ ap (λ i. get_or entries i e) at ∙ get_or_default entries d.0 e f d.1 ∙ d.2
+        let at : i ≡ j = omega (arith, not_before, not_after) in
+        sym is ∙ rw (at, get_or_default entries j e f hj) js
   ]
 ]
   where
-    below : (i j : ℕ) (v w : EntryValue) → i < j → j < length entries → get_or entries i v ≡ v → get_or entries j w ≡ w → IsBelow v.id w.id
-    below i j v w order here hv hw =
-        let pair : IsBelow (get_or entries i v).id (get_or entries j v).id = rising i j v order here in
-        let at : get_or entries j v ≡ w = get_or_default entries j v w here ∙ hw in
-        rw (hv, at) at pair
+    below : (k l : ℕ) {v w : EntryValue} → k < l → l < length entries → get_or entries k v ≡ v →
+        get_or entries l w ≡ w → IsBelow v.id w.id
+    below k l {v} {w} order here hv hw = rw (hv, get_or_default entries l v w here, hw) at (rising k l v order here)

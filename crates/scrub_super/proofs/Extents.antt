@@ -1,7 +1,8 @@
 -- Rising extents: read one after another, and searched.
-use Rattle.std.proofs.Common.{◌≡◌, ◌<◌, ◌≤◌, ◌+◌, ◌*◌, ◌-◌, ◌/◌, ◌==◌, ◌++◌, ℕ, zero, suc, List, [], ◌∷◌, true, false, not, cond, length, take, drop, length-drop, get_or, filter, arith, refl, sym, ◌∙◌, ap, Result, Ok, Err, is_ok, nat_cmp, inl, inr, MatchResult}
-use Rattle.std.specs.List.{list_any, range_with_len}
+use Rattle.std.proofs.Common.{◌≡◌, ◌<◌, ◌≤◌, ◌+◌, ◌*◌, ◌-◌, ◌==◌, ◌++◌, ℕ, zero, suc, List, [], ◌∷◌, true, false, cond, length, take, drop, length-drop, get_or, arith, refl, sym, ◌∙◌, ap, Result, Ok, Err, is_ok, nat_cmp, inl, inr, MatchResult}
+use Rattle.std.specs.List.{list_any}
 use Rattle.std.specs.List.Sorted.{IsStrictlyIncreasing, IsBinarySearchResult}
+use Rattle.std.proofs.Math.Numerals.{add-one}
 use Rattle.std.proofs.lemmas.Bool.{cases_lt, cases_eq}
 use Rattle.std.proofs.lemmas.Bool.Decides.{nat_tests}
 use Rattle.std.proofs.lemmas.List.{map-id, append-nil, get_or_default, take_all}
@@ -22,88 +23,74 @@ pub record RiseTo (extents : ℕ) (bytes : List ℕ) (i last : ℕ) : Type 0 whe
   pub below : (j : ℕ) → j < i → number_in bytes j < extents
 
 -- the i-th number, as it is read
-pub read_number : (x : List ℕ) (i n : ℕ) → n ≡ big_number 4 (take (length x - 4 * i) (drop (4 * i) x)) → n ≡ number_in x i
-read_number x i n is = is ∙ ap (big_number 4) (take_all (length x - 4 * i) (drop (4 * i) x) (omega (arith, length-drop (4 * i) x)))
+pub read_number : (x : List ℕ) (i : ℕ) {n : ℕ} → n ≡ big_number 4 (take (length x - 4 * i) (drop (4 * i) x)) →
+    n ≡ number_in x i
+read_number x i is =
+    is ∙ ap (big_number 4) (take_all (length x - 4 * i) (drop (4 * i) x) (omega (arith, length-drop (4 * i) x)))
 
-pub rise_first : (e : ℕ) (x : List ℕ) → RiseTo e x 0 0
-rise_first e x = record {
-  none = λ _. refl;
-  last_is = λ j h. absurd (omega (arith, h));
-  rising = λ j h. absurd (omega (arith, h));
-  from_one = λ j h. absurd (omega (arith, h));
-  below = λ j h. absurd (omega (arith, h));
-}
-
-pub rise_more : (e : ℕ) (x : List ℕ) (i last n : ℕ) → RiseTo e x i last → n ≡ number_in x i → last < n → n < e → RiseTo e x (i + 1) n
-rise_more e x i last n h is above within = record {
+pub rise_more : {e : ℕ} {x : List ℕ} {i last n : ℕ} → RiseTo e x i last → n ≡ number_in x i → last < n → n < e →
+    RiseTo e x (i + 1) n
+rise_more {i = i} h is above within = record {
   none = λ no. absurd (omega (arith, no));
-  last_is = λ j at. is ∙ ap (number_in x) (let k : i ≡ j = omega (arith, at) in k);
+  last_is = λ j at. let k : j ≡ i = omega (arith, at) in rw k is;
   rising = λ j at. elim (cases_eq (j + 1) i) [
-    | inl here ↦ let told : last ≡ number_in x j = h.last_is j here in let next : n ≡ number_in x (j + 1) = is ∙ ap (number_in x) (sym here) in omega (arith, told, next, above)
+    | inl here ↦ rw here (omega (arith, h.last_is j here, is, above))
     | inr before ↦ h.rising j (omega (arith, at, before))
   ];
   from_one = λ j at. elim (cases_eq j i) [
-    | inl here ↦ let told : n ≡ number_in x j = is ∙ ap (number_in x) (sym here) in omega (arith, told, above)
+    | inl here ↦ rw here (omega (arith, is, above))
     | inr before ↦ h.from_one j (omega (arith, at, before))
   ];
   below = λ j at. elim (cases_eq j i) [
-    | inl here ↦ let told : n ≡ number_in x j = is ∙ ap (number_in x) (sym here) in omega (arith, told, within)
+    | inl here ↦ rw here (omega (arith, is, within))
     | inr before ↦ h.below j (omega (arith, at, before))
   ];
 }
 
 -- where the next number isn't above the last, the numbers don't rise
-pub not_above : (e : ℕ) (x : List ℕ) (i last n : ℕ) → RiseTo e x i last → n ≡ number_in x i → 4 * i + 4 ≤ length x → n ≤ last → SpellExtents e x → ⊥
-not_above e x zero last n h is fits low s = omega (arith, h.none refl, is, low, s.from_one 0 fits)
-not_above e x (suc i) last n h is fits low s =
-    let at : i + 1 ≡ suc i = omega arith in
-    let next : n ≡ number_in x (i + 1) = is ∙ ap (number_in x) (sym at) in
-    omega (arith, h.last_is i at, next, low, s.rising i (omega (arith, fits)))
+pub not_above : {e : ℕ} {x : List ℕ} (i : ℕ) {last n : ℕ} → RiseTo e x i last → n ≡ number_in x i →
+    4 * i + 4 ≤ length x → n ≤ last → SpellExtents e x → ⊥
+not_above zero h is fits low s = omega (arith, h.none refl, is, low, s.from_one 0 fits)
+not_above (suc i) h is fits low s =
+    omega (arith, h.last_is i (add-one i), rw (← add-one i) at is, low, s.rising i (omega (arith, fits)))
 
-pub not_below : (e : ℕ) (x : List ℕ) (i n : ℕ) → n ≡ number_in x i → 4 * i + 4 ≤ length x → e ≤ n → SpellExtents e x → ⊥
-not_below e x i n is fits high s = omega (arith, is, high, s.below i fits)
-
-pub rise_all : (e : ℕ) (x : List ℕ) (i last : ℕ) → RiseTo e x i last → length x / 4 ≤ i → SpellExtents e x
-rise_all e x i last h all = record {
-  rising = λ k fits. h.rising k (omega (arith, fits, all));
-  from_one = λ k fits. h.from_one k (omega (arith, fits, all));
-  below = λ k fits. h.below k (omega (arith, fits, all));
-}
-
-below_differs : (m n : ℕ) → m < n → (m == n) ≡ false
-below_differs m n less = grind (arith, nat_tests, less)
-
-above_differs : (m n : ℕ) → n < m → (m == n) ≡ false
-above_differs m n more = grind (arith, nat_tests, more)
+pub not_below : {e : ℕ} {x : List ℕ} (i : ℕ) {n : ℕ} → n ≡ number_in x i → 4 * i + 4 ≤ length x → e ≤ n →
+    SpellExtents e x → ⊥
+not_below i is fits high s = omega (arith, is, high, s.below i fits)
 
 -- a search among rising numbers
-pub found_extent : (xs : List ℕ) (n : ℕ) (r : Result ℕ ℕ) → IsStrictlyIncreasing xs → IsBinarySearchResult (λ y. nat_cmp y n) xs r → is_ok r ≡ list_any (λ m. m == n) xs
+pub found_extent : (xs : List ℕ) (n : ℕ) (r : Result ℕ ℕ) → IsStrictlyIncreasing xs →
+    IsBinarySearchResult (λ y. nat_cmp y n) xs r → is_ok r ≡ list_any (λ m. m == n) xs
 found_extent xs n r rising result = by r (searched xs n r result falls)
   where
     falls : (i j : ℕ) → i ≤ j → j < length xs → get_or xs i 0 ≤ get_or xs j 0
     falls i j low here = elim (cases_eq i j) [
-      | inl same ↦ omega (arith, ap (λ k. get_or xs k 0) same)
-      | inr other ↦ omega (arith, AllPairs-from_increasing xs rising i j 0 (omega (arith, low, other)) here)
+      | inl same ↦ rw same (omega arith)
+      | inr other ↦ omega (arith, AllPairs-from_increasing xs rising i j 0 (omega arith) here)
     ]
 
-    by : (o : Result ℕ ℕ) → MatchResult o (λ i. (i < length xs) × (get_or xs i 0 ≡ n)) (λ i. (i ≤ length xs) × ((k : ℕ) → k < i → get_or xs k 0 < n) × ((k : ℕ) → i ≤ k → k < length xs → n < get_or xs k 0)) →
+    by : (o : Result ℕ ℕ) →
+        MatchResult o (λ i. (i < length xs) × (get_or xs i 0 ≡ n))
+        (λ i. (i ≤ length xs) × ((k : ℕ) → k < i → get_or xs k 0 < n) × ((k : ℕ) → i ≤ k → k < length xs → n < get_or xs k 0))
+        →
         is_ok o ≡ list_any (λ m. m == n) xs
-    by (Ok i) at = let same : (get_or xs i 0 == n) ≡ true = grind (arith, nat_tests, at.1) in sym (list_any_at (λ m. m == n) xs i 0 at.0 same)
-    by (Err i) at = sym (list_any_none (λ m. m == n) xs (λ k d below. ap (λ m. m == n) (get_or_default xs k d 0 below) ∙ elim (cases_lt k i) [
-      | inl less ↦ below_differs (get_or xs k 0) n (at.1 k less)
-      | inr more ↦ above_differs (get_or xs k 0) n (at.2 k more below)
-    ]))
+    by (Ok i) at = sym (list_any_at (λ m. m == n) xs i 0 at.0 (grind (arith, nat_tests, at.1)))
+    by (Err i) at = sym (list_any_none (λ m. m == n) xs (λ k d below. rw (get_or_default xs k d 0 below) (elim (cases_lt k i) [
+      | inl less ↦ let low : get_or xs k 0 < n = at.1 k less in grind (arith, nat_tests)
+      | inr more ↦ let high : n < get_or xs k 0 = at.2 k more below in grind (arith, nat_tests)
+    ])))
 
 -- the extents in use up to one more
 module _ (retired : List ℕ) (i j : ℕ) (next : j ≡ i + 1) (low : 1 ≤ i) where
   more : extents_in_use j retired ≡ extents_in_use i retired ++ cond (is_in_use retired i) (i ∷ []) []
   more =
-      ap (λ n. filter (is_in_use retired) (range_with_len 1 n)) (let e : j - 1 ≡ i - 1 + 1 = omega (arith, next, low) in e)
-      ∙ ap (filter (is_in_use retired)) (sym (map-id (range_with_len 1 (i - 1 + 1)))) ∙ filter_of_map_range_with_len_more (is_in_use retired) (λ k. k) 1 (i - 1) i (omega (arith, low))
-      ∙ ap (λ xs. filter (is_in_use retired) xs ++ cond (is_in_use retired i) (i ∷ []) []) (map-id (range_with_len 1 (i - 1)))
+      let size : j - 1 ≡ i - 1 + 1 = omega arith in
+      rw size
+      (simp map-id at (filter_of_map_range_with_len_more (is_in_use retired) (λ k. k) 1 (i - 1) i (omega arith)))
 
   pub one_retired : list_any (λ r. r == i) retired ≡ true → extents_in_use j retired ≡ extents_in_use i retired
-  one_retired is = more ∙ ap (λ b. extents_in_use i retired ++ cond (not b) (i ∷ []) []) is ∙ append-nil (extents_in_use i retired)
+  one_retired is = more ∙ rw is (append-nil (extents_in_use i retired))
 
-  pub one_in_use : list_any (λ r. r == i) retired ≡ false → extents_in_use j retired ≡ extents_in_use i retired ++ i ∷ []
-  one_in_use is = more ∙ ap (λ b. extents_in_use i retired ++ cond (not b) (i ∷ []) []) is
+  pub one_in_use : list_any (λ r. r == i) retired ≡ false →
+      extents_in_use j retired ≡ extents_in_use i retired ++ i ∷ []
+  one_in_use is = rw is at more

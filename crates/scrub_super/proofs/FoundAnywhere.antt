@@ -9,7 +9,8 @@ use Rattle.scrub_super.proofs.BlocksFront.{same_left, loses_blocks}
 use Rattle.scrub_super.proofs.RisingLists.{one_rising_by}
 
 -- a record depends on the bytes below 2^26 alone
-same_record : (at also : ℕ → Option ℕ) (r : FoundRecord) → ((i : ℕ) → i < 2 ^ 26 → at i ≡ also i) → IsFoundRecord at r → IsFoundRecord also r
+same_record : (at also : ℕ → Option ℕ) (r : FoundRecord) → ((i : ℕ) → i < 2 ^ 26 → at i ≡ also i) →
+    IsFoundRecord at r → IsFoundRecord also r
 same_record at also r same f = (
   f.0,
   record {
@@ -17,14 +18,16 @@ same_record at also r same f = (
     page_bound = f.1.page_bound;
     within = f.1.within;
     contents = f.1.contents;
-    stands = λ k hk. sym (same (r.offset + k) (omega (arith, hk, f.1.within, r.geometry.extent_fits))) ∙ f.1.stands k hk;
+    stands = λ k hk.
+        sym (same (r.offset + k) (omega (arith, hk, f.1.within, r.geometry.extent_fits))) ∙ f.1.stands k hk;
   },
   f.2,
   f.3,
 )
 
-same_records : (at also : ℕ → Option ℕ) (records : List FoundRecord) → ((i : ℕ) → i < 2 ^ 26 → at i ≡ also i) → AreFoundRecords at records → AreFoundRecords also records
-same_records at also records same h = record {
+same_records : {at also : ℕ → Option ℕ} {records : List FoundRecord} → ((i : ℕ) → i < 2 ^ 26 → at i ≡ also i) →
+    AreFoundRecords at records → AreFoundRecords also records
+same_records {at} {also} same h = record {
   rising = h.rising;
   exact = λ r. (
     (λ c. same_record at also r same ((h.exact r).0 c)),
@@ -32,23 +35,24 @@ same_records at also records same h = record {
   );
 }
 
-pub found_told : (raw : Option (List ℕ)) (marks lost : List Bool) (failures : ℕ) (read : List ℕ) (records : List FoundRecord) (ranges : List LostBytes) →
-    IfSome raw (λ told. AreAllRead told marks failures read lost) → AreBlockMarks read lost → AreFoundRecords (byte_left read lost) records → AreLostRanges lost ranges →
+pub found_told : (raw : Option (List ℕ)) (marks : List Bool) (failures : ℕ) {lost : List Bool} {read : List ℕ} {records : List FoundRecord} {ranges : List LostBytes} →
+    IfSome raw (λ told. AreAllRead told marks failures read lost) → AreBlockMarks read lost →
+    AreFoundRecords (byte_left read lost) records → AreLostRanges lost ranges →
     IfSome raw (λ told. AreFoundWith told marks failures records ranges)
-found_told None marks lost failures read records ranges all blocks hr hl = tt
-found_told (Some told) marks lost failures read records ranges all blocks hr hl = record {
+found_told None marks failures all blocks hr hl = tt
+found_told (Some told) marks failures {lost} all blocks hr hl = record {
   lost = lost;
-  loses = loses_blocks told marks lost failures read all blocks;
-  found = record {
-    records_are = same_records (byte_left read lost) (byte_left told lost) records (λ i small. sym (same_left told marks lost failures read i all small)) hr;
-    ranges_are = hl;
-  };
+  loses = loses_blocks all blocks;
+  found = record { records_are = same_records (λ i small. sym (same_left all i small)) hr; ranges_are = hl };
 }
 
-pub one_answer_lem : (bytes : List ℕ) (lost : List Bool) (a b : List FoundRecord) (r s : List LostBytes) → AreFoundAnywhere bytes lost a r → AreFoundAnywhere bytes lost b s → (a ≡ b) × (r ≡ s)
+pub one_answer_lem : (bytes : List ℕ) (lost : List Bool) (a b : List FoundRecord) (r s : List LostBytes) →
+    AreFoundAnywhere bytes lost a r → AreFoundAnywhere bytes lost b s → (a ≡ b) × (r ≡ s)
 one_answer_lem bytes lost a b r s x y = (
   one_rising_by (λ f. f.offset) a b x.records_are.rising y.records_are.rising
-      (λ f c. (y.records_are.exact f).1 ((x.records_are.exact f).0 c)) (λ f c. (x.records_are.exact f).1 ((y.records_are.exact f).0 c)),
+      (λ f c. (y.records_are.exact f).1 ((x.records_are.exact f).0 c))
+      (λ f c. (x.records_are.exact f).1 ((y.records_are.exact f).0 c)),
   one_rising_by (λ l. l.from) r s x.ranges_are.rising y.ranges_are.rising
-      (λ l c. (y.ranges_are.exact l).1 ((x.ranges_are.exact l).0 c)) (λ l c. (x.ranges_are.exact l).1 ((y.ranges_are.exact l).0 c)),
+      (λ l c. (y.ranges_are.exact l).1 ((x.ranges_are.exact l).0 c))
+      (λ l c. (x.ranges_are.exact l).1 ((y.ranges_are.exact l).0 c)),
 )

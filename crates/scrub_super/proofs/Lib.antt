@@ -1,7 +1,13 @@
 -- Lemmas on records, the choice and the plan.
 pub mod Parts
 pub mod Cuts
-pub mod Records
+pub mod Fronts
+pub mod Listed
+pub mod RecordParts
+pub mod OneRecord
+pub mod Refused
+pub mod Found
+pub mod Written
 pub mod Heads
 pub mod Extents
 pub mod Plans

@@ -1,5 +1,5 @@
 -- The runs of lost blocks, one block after the other.
-use Rattle.std.proofs.Common.{◌≡◌, ◌<◌, ◌≤◌, ◌+◌, ◌-◌, ◌*◌, ◌++◌, ◌&&◌, ℕ, Bool, true, false, not, cond, List, [], ◌∷◌, length, get_or, arith, refl, sym, ◌∙◌, ap, subst, inl, inr}
+use Rattle.std.proofs.Common.{◌≡◌, ◌<◌, ◌≤◌, ◌+◌, ◌-◌, ◌*◌, ◌++◌, ◌&&◌, ℕ, Bool, true, false, not, cond, List, [], ◌∷◌, length, get_or, arith, refl, sym, ◌∙◌, inl, inr}
 use Rattle.std.specs.List.{Contains, AllPairs}
 use Rattle.std.proofs.lemmas.Bool.{cases_lt, false≢true}
 use Rattle.std.proofs.lemmas.List.{append-nil}
@@ -20,93 +20,84 @@ pub record RunsFrom (lost : List Bool) (first block : ℕ) : Type 0 where
 -- the runs that end below a block or with it
 pub record AreRunsTo (lost : List Bool) (block : ℕ) (ranges : List LostBytes) : Type 0 where
   pub rising : AllPairs (λ a b. a.from < b.from) ranges
-  pub in_list : (l : LostBytes) (first stop : ℕ) → IsLostRun lost first stop → stop ≤ block → l.from ≡ first * 512 → l.to ≡ stop * 512 → Contains ranges l
-  pub are : (l : LostBytes) → Contains ranges l → (first stop : ℕ) × IsLostRun lost first stop × (stop ≤ block) × (l.from ≡ first * 512) × (l.to ≡ stop * 512)
+  pub in_list : (l : LostBytes) (first stop : ℕ) → IsLostRun lost first stop → stop ≤ block → l.from ≡ first * 512 →
+      l.to ≡ stop * 512 → Contains ranges l
+  pub are : (l : LostBytes) → Contains ranges l →
+      (first stop : ℕ) × IsLostRun lost first stop × (stop ≤ block) × (l.from ≡ first * 512) × (l.to ≡ stop * 512)
 
-pub no_runs : (lost : List Bool) → AreRunsTo lost 0 []
-no_runs lost = record {
-  rising = λ i j d hi hj. absurd (omega (arith, hj));
-  in_list = λ l first stop run low hf ht. absurd (omega (arith, run.some, low));
-  are = λ l c. absurd (let e : ⊥ = omega (arith, c.1) in e);
-}
+module _ {lost : List Bool} (block : ℕ) where
+  -- one block more, which isn't lost, or is
+  pub starts_behind : get_or lost block false ≡ false → RunsFrom lost (block + 1) (block + 1)
+  starts_behind kept = record {
+    from = omega arith;
+    all = λ n low high. absurd (omega (arith, low, high));
+    not_before = λ n e marked.
+        let here : n ≡ block = omega (arith, e) in
+        false≢true (sym kept ∙ (rw here at marked));
+  }
 
-pub none_before : (lost : List Bool) → RunsFrom lost 0 0
-none_before lost = record {
-  from = omega arith;
-  all = λ n low high. absurd (omega (arith, high));
-  not_before = λ n e. absurd (let wrong : ⊥ = omega (arith, e) in wrong);
-}
-
--- one block more, which isn't lost, or is
-pub starts_behind : (lost : List Bool) (first block : ℕ) → get_or lost block false ≡ false → RunsFrom lost (block + 1) (block + 1)
-starts_behind lost first block kept = record {
-  from = omega arith;
-  all = λ n low high. absurd (omega (arith, low, high));
-  not_before = λ n e marked. let at : n ≡ block = omega (arith, e) in false≢true (sym kept ∙ ap (λ k. get_or lost k false) (sym at) ∙ marked);
-}
-
-pub goes_on : (lost : List Bool) (first block : ℕ) → get_or lost block false ≡ true → RunsFrom lost first block → RunsFrom lost first (block + 1)
-goes_on lost first block gone h = record {
-  from = omega (arith, h.from);
-  all = λ n low high. elim (cases_lt n block) [
-    | inl below ↦ h.all n low below
-    | inr here ↦ let at : n ≡ block = omega (arith, here, high) in ap (λ k. get_or lost k false) at ∙ gone
-  ];
-  not_before = h.not_before;
-}
+  pub goes_on : {first : ℕ} → get_or lost block false ≡ true → RunsFrom lost first block →
+      RunsFrom lost first (block + 1)
+  goes_on gone h = record {
+    from = omega (arith, h.from);
+    all = λ n low high. elim (cases_lt n block) [
+      | inl below ↦ h.all n low below
+      | inr here ↦ let here' : n ≡ block = omega (arith, here, high) in rw here' gone
+    ];
+    not_before = h.not_before;
+  }
 
 -- a run that ends with this block begins where the lost blocks do
-same_run : (lost : List Bool) (first block f : ℕ) → RunsFrom lost first (block + 1) → IsLostRun lost f (block + 1) → f ≡ first
-same_run lost first block f h run = elim (cases_lt f first) [
+same_run : {lost : List Bool} {first : ℕ} (block : ℕ) {f : ℕ} → RunsFrom lost first (block + 1) →
+    IsLostRun lost f (block + 1) →
+    f ≡ first
+same_run {lost} {first} block {f} h run = elim (cases_lt f first) [
   | inl low ↦
-      let at : first - 1 + 1 ≡ first = omega (arith, low) in
-      absurd (h.not_before (first - 1) at (run.all (first - 1) (omega (arith, low)) (omega (arith, h.from, low))))
+      absurd
+      (h.not_before (first - 1) (omega (arith, low)) (run.all (first - 1) (omega (arith, low)) (omega (arith, h.from, low))))
   | inr high ↦ elim (cases_lt first f) [
     | inl above ↦
-        let at : f - 1 + 1 ≡ f = omega (arith, above) in
-        absurd (run.not_before (f - 1) at (h.all (f - 1) (omega (arith, above)) (omega (arith, run.some, above))))
+        absurd
+        (run.not_before (f - 1) (omega (arith, above)) (h.all (f - 1) (omega (arith, above)) (omega (arith, run.some, above))))
     | inr same ↦ omega (arith, high, same)
   ]
 ]
 
 -- where no run ends with this block, the runs are those so far
-runs_kept : (lost : List Bool) (block : ℕ) (ranges : List LostBytes) → ((f : ℕ) → IsLostRun lost f (block + 1) → ⊥) → AreRunsTo lost block ranges → AreRunsTo lost (block + 1) ranges
-runs_kept lost block ranges none h = record {
+runs_kept : {lost : List Bool} {block : ℕ} {ranges : List LostBytes} →
+    ((f : ℕ) → IsLostRun lost f (block + 1) → ⊥) → AreRunsTo lost block ranges → AreRunsTo lost (block + 1) ranges
+runs_kept {lost} {block} none h = record {
   rising = h.rising;
   in_list = λ l first stop run low hf ht. elim (cases_lt block stop) [
-    | inl here ↦ let at : stop ≡ block + 1 = omega (arith, here, low) in absurd (none first (subst (λ (s : ℕ). IsLostRun lost first s) at run))
+    | inl here ↦ let end : stop ≡ block + 1 = omega (arith, here, low) in absurd (none first (rw end at run))
     | inr before ↦ h.in_list l first stop run before hf ht
   ];
   are = λ l c. let r = h.are l c in (r.0, r.1, r.2, omega (arith, r.3), r.4, r.5);
 }
 
-bytes_of_run : ℕ → ℕ → LostBytes
-bytes_of_run first stop = record { from = first * 512; to = stop * 512 }
-
-same_bytes : (l m : LostBytes) → l.from ≡ m.from → l.to ≡ m.to → l ≡ m
-unfolding bytes_of_run
-same_bytes l m hf ht =
-    ap (λ x. let r : LostBytes = record { from = x; to = l.to } in r) hf
-    ∙ ap (λ x. let r : LostBytes = record { from = m.from; to = x } in r) ht
+same_bytes : {l m : LostBytes} → l.from ≡ m.from → l.to ≡ m.to → l ≡ m
+same_bytes hf ht = λ i. record { from = hf i; to = ht i }
 
 -- and where one does, that one more
-runs_more : (lost : List Bool) (first block : ℕ) (ranges : List LostBytes) (l : LostBytes) → RunsFrom lost first (block + 1) → first < block + 1 → (IsMarked lost (block + 1) → ⊥) →
-    l.from ≡ first * 512 → l.to ≡ (block + 1) * 512 → AreRunsTo lost block ranges → AreRunsTo lost (block + 1) (ranges ++ l ∷ [])
-runs_more lost first block ranges l from some ends hf ht h = record {
-  rising = rises_more (λ x. x.from) ranges l h.rising (λ x c. let r = h.are x c in omega (arith, r.4, hf, lower r.0 r.1 r.2 r.3));
+runs_more : {lost : List Bool} {first block : ℕ} {ranges : List LostBytes} (l : LostBytes) →
+    RunsFrom lost first (block + 1) → first < block + 1 → (IsMarked lost (block + 1) → ⊥) →
+    l.from ≡ first * 512 → l.to ≡ (block + 1) * 512 → AreRunsTo lost block ranges →
+    AreRunsTo lost (block + 1) (ranges ++ l ∷ [])
+runs_more {lost} {first} {block} {ranges} l from some ends hf ht h = record {
+  rising =
+      rises_more (λ x. x.from) ranges l h.rising
+      (λ x c. let r = h.are x c in omega (arith, r.4, hf, lower r.0 r.1 r.2 r.3));
   in_list = λ x f stop run low xf xt. elim (cases_lt block stop) [
     | inl here ↦
-        let at : stop ≡ block + 1 = omega (arith, here, low) in
-        let begin : f ≡ first = same_run lost first block f from (subst (λ (s : ℕ). IsLostRun lost f s) at run) in
-        subst (λ (y : LostBytes). Contains (ranges ++ l ∷ []) y) (same_bytes l x (omega (arith, hf, xf, begin)) (omega (arith, ht, xt, at))) (Contains-push ranges l)
+        let end : stop ≡ block + 1 = omega (arith, here, low) in
+        let begin : f ≡ first = same_run block from (rw end at run) in
+        let same : x ≡ l = same_bytes (omega (arith, hf, xf, begin)) (omega (arith, ht, xt, end)) in
+        rw same (Contains-push ranges l)
     | inr before ↦ Contains-append_left ranges (l ∷ []) x (h.in_list x f stop run before xf xt)
   ];
   are = λ x c. elim (Contains-push_cases ranges l x c) [
     | inl was ↦ let r = h.are x was in (r.0, r.1, r.2, omega (arith, r.3), r.4, r.5)
-    | inr same ↦
-        let xf : l.from ≡ x.from = ap (λ y. y.from) same in
-        let xt : l.to ≡ x.to = ap (λ y. y.to) same in
-        (first, block + 1, this, omega arith, omega (arith, xf, hf), omega (arith, xt, ht))
+    | inr same ↦ rw (← same) (first, block + 1, this, omega arith, hf, ht)
   ];
 }
   where
@@ -120,36 +111,41 @@ runs_more lost first block ranges l from some ends hf ht h = record {
     ]
 
 -- the run that ends with a block, where its mark and the next one say so
-pub runs_next : (lost : List Bool) (first block : ℕ) (ranges more : List LostBytes) → RunsFrom lost first (block + 1) → more ≡ ranges ++ ended_run lost first block → AreRunsTo lost block ranges →
-    AreRunsTo lost (block + 1) more
-runs_next lost first block ranges more from e h = subst (λ (xs : List LostBytes). AreRunsTo lost (block + 1) xs) (sym e) (by (get_or lost block false) (get_or lost (block + 1) false) refl refl)
+pub runs_next : {lost : List Bool} {first block : ℕ} {ranges more : List LostBytes} → RunsFrom lost first (block + 1) →
+    more ≡ ranges ++ ended_run lost first block → AreRunsTo lost block ranges → AreRunsTo lost (block + 1) more
+runs_next {lost} {first} {block} {ranges} from e h =
+    rw e (by (get_or lost block false) (get_or lost (block + 1) false) refl refl)
   where
     this : LostBytes
     this = record { from = first * 512; to = (block + 1) * 512 }
 
     kept : ((f : ℕ) → IsLostRun lost f (block + 1) → ⊥) → AreRunsTo lost (block + 1) (ranges ++ [])
-    kept none = subst (λ (xs : List LostBytes). AreRunsTo lost (block + 1) xs) (sym (append-nil ranges)) (runs_kept lost block ranges none h)
+    kept none = rw append-nil (runs_kept none h)
 
     begins : get_or lost block false ≡ true → first < block + 1
     begins marked = elim (cases_lt first (block + 1)) [
       | inl low ↦ low
-      | inr high ↦ let at : block + 1 ≡ first = omega (arith, high, from.from) in absurd (from.not_before block at marked)
+      | inr high ↦ absurd (from.not_before block (omega (arith, high, from.from)) marked)
     ]
 
-    by : (b c : Bool) → get_or lost block false ≡ b → get_or lost (block + 1) false ≡ c → AreRunsTo lost (block + 1) (ranges ++ cond (b && not c) (this ∷ []) [])
+    by : (b c : Bool) → get_or lost block false ≡ b → get_or lost (block + 1) false ≡ c →
+        AreRunsTo lost (block + 1) (ranges ++ cond (b && not c) (this ∷ []) [])
     by false c hb hc = kept (λ f run. false≢true (sym hb ∙ run.all block (omega (arith, run.some)) (omega arith)))
     by true true hb hc = kept (λ f run. run.not_behind hc)
-    by true false hb hc = runs_more lost first block ranges this from (begins hb) (λ marked. false≢true (sym hc ∙ marked)) refl refl h
+    by true false hb hc = runs_more this from (begins hb) (λ marked. false≢true (sym hc ∙ marked)) refl refl h
 
 -- a run ends in the list
-run_within : (lost : List Bool) (first stop : ℕ) → IsLostRun lost first stop → stop ≤ length lost
-run_within lost first stop run = omega (arith, run.some, mark_within lost (stop - 1) (run.all (stop - 1) (omega (arith, run.some)) (omega (arith, run.some))))
+run_within : {lost : List Bool} {first stop : ℕ} → IsLostRun lost first stop → stop ≤ length lost
+run_within {lost} {stop = stop} run =
+    let last : IsMarked lost (stop - 1) = run.all (stop - 1) (omega (arith, run.some)) (omega (arith, run.some)) in
+    omega (arith, run.some, mark_within lost (stop - 1) last)
 
-pub all_runs : (lost : List Bool) (block : ℕ) (ranges : List LostBytes) → length lost ≤ block → AreRunsTo lost block ranges → AreLostRanges lost ranges
-all_runs lost block ranges enough h = record {
+pub all_runs : {lost : List Bool} {block : ℕ} {ranges : List LostBytes} → length lost ≤ block →
+    AreRunsTo lost block ranges → AreLostRanges lost ranges
+all_runs enough h = record {
   rising = h.rising;
   exact = λ l. (
     (λ c. let r = h.are l c in (r.0, r.1, r.2, r.4, r.5)),
-    (λ x. h.in_list l x.0 x.1 x.2 (omega (arith, run_within lost x.0 x.1 x.2, enough)) x.3 x.4),
+    (λ x. h.in_list l x.0 x.1 x.2 (omega (arith, run_within x.2, enough)) x.3 x.4),
   );
 }

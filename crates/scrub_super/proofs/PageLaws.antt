@@ -2,8 +2,7 @@
 use Rattle.std.proofs.Common.{◌≡◌, ◌<◌, ◌≤◌, ◌+◌, ◌*◌, ◌/◌, ◌-◌, ℕ, List, [], ◌∷◌, All, length, take, get_or, arith, refl, sym, ◌∙◌, ap, Some, None}
 use Rattle.std.proofs.lemmas.Option.{same_Some, none-some, slice_get-get_or}
 use Rattle.std.proofs.lemmas.List.{same_lists}
-use Rattle.std.proofs.lemmas.Nat.{div-mul-add}
-use Rattle.std.proofs.Math.Nat.{mul-le-mul_right}
+use Rattle.std.proofs.Math.Nat.{mul-le-mul_right, mul-div_cancel}
 use Rattle.scrub_disk.specs.Image.{Image, byte}
 use Rattle.scrub_disk.proofs.HeldBytes.{byte-unreadable}
 use Rattle.scrub_super.specs.declared.pages.RecordKind.{RecordKind}
@@ -19,44 +18,47 @@ use Rattle.scrub_super.proofs.Laws.{one_record_on_page}
 use Rattle.scrub_super.proofs.Standing.{some_bytes}
 
 -- no byte of an unreadable page is there
-no_first_byte : (image : Image) (q x : ℕ) → image.page 0 q ≡ None → byte image 0 (q * image.geometry.page) ≡ Some x → ⊥
-no_first_byte image q x lost there = none-some x
-    (sym (byte-unreadable image 0 (q * image.geometry.page)
-    (ap (image.page 0) (ap (λ n. n / image.geometry.page) (let e : q * image.geometry.page ≡ q * image.geometry.page + 0 = omega arith in e) ∙ div-mul-add q image.geometry.page 0 positive) ∙ lost))
-    ∙ there)
-  where
-    positive : 0 < image.geometry.page
-    positive = omega (arith, image.geometry.page_size.least)
+module _ (image : Image) (q : ℕ) (lost : image.page 0 q ≡ None) where
+  no_first_byte : {x : ℕ} → byte image 0 (q * image.geometry.page) ≡ Some x → ⊥
+  no_first_byte {x} there =
+      let here : (q * image.geometry.page) / image.geometry.page ≡ q = mul-div_cancel q positive in
+      none-some x (sym (byte-unreadable image 0 (q * image.geometry.page) (rw here lost)) ∙ there)
+    where
+      positive : 0 < image.geometry.page
+      positive = omega (arith, image.geometry.page_size.least)
 
-lost_record : (image : Image) (q : ℕ) (c : Contents) → image.page 0 q ≡ None → RecordStandsAt image q c → ⊥
-lost_record image q c lost s =
-    let e : q * image.geometry.page + 0 ≡ q * image.geometry.page = omega arith in
-    no_first_byte image q _ lost (ap (byte image 0) (sym e) ∙ s.stands 0 (omega (arith, some_bytes image c)))
+  lost_record : {c : Contents} → RecordStandsAt image q c → ⊥
+  lost_record {c} s =
+      let e : q * image.geometry.page + 0 ≡ q * image.geometry.page = omega arith in
+      no_first_byte (rw e at (s.stands 0 (omega (arith, some_bytes image c))))
 
-lost_covered : (image : Image) (q : ℕ) → image.page 0 q ≡ None → LiesInRecord image q → ⊥
-lost_covered image q lost l =
-    let rises : l.start * image.geometry.page ≤ q * image.geometry.page = mul-le-mul_right {m = l.start} {n = q} image.geometry.page (omega (arith, l.before)) in
-    let e : l.start * image.geometry.page + (q * image.geometry.page - l.start * image.geometry.page) ≡ q * image.geometry.page = omega (arith, rises) in
-    no_first_byte image q _ lost (ap (byte image 0) (sym e) ∙ l.stands.stands (q * image.geometry.page - l.start * image.geometry.page) (omega (arith, l.reaches, rises)))
+  lost_covered : LiesInRecord image q → ⊥
+  lost_covered l =
+      let rises : l.start * image.geometry.page ≤ q * image.geometry.page =
+      mul-le-mul_right {m = l.start} {n = q} image.geometry.page (omega (arith, l.before)) in
+      let e : l.start * image.geometry.page + (q * image.geometry.page - l.start * image.geometry.page) ≡ q * image.geometry.page =
+      omega (arith, rises) in
+      no_first_byte
+      (rw e at (l.stands.stands (q * image.geometry.page - l.start * image.geometry.page) (omega (arith, l.reaches, rises))))
 
-lost_unclaimed : (image : Image) (q : ℕ) (bytes : List ℕ) → image.page 0 q ≡ None → IsUnclaimed image q bytes → ⊥
-lost_unclaimed image q bytes lost u = none-some bytes (sym lost ∙ u.readable)
+  lost_unclaimed : {bytes : List ℕ} → IsUnclaimed image q bytes → ⊥
+  lost_unclaimed {bytes} u = none-some bytes (sym lost ∙ u.readable)
 
-same_bytes : (image : Image) (q : ℕ) (xs ys : List ℕ) → IsUnclaimed image q xs → IsUnclaimed image q ys → xs ≡ ys
-same_bytes image q xs ys x y = same_Some _ _ (sym x.readable ∙ y.readable)
+same_bytes : {image : Image} {q : ℕ} {xs ys : List ℕ} → IsUnclaimed image q xs → IsUnclaimed image q ys → xs ≡ ys
+same_bytes x y = same_Some _ _ (sym x.readable ∙ y.readable)
 
 -- zeros begin with no kind's four bytes
 zeros_no_magic : (xs : List ℕ) (kind : RecordKind) → All (λ b. b ≡ 0) xs → take 4 xs ≡ magic_of kind → ⊥
-zeros_no_magic [] Ssb1 zeros is = absurd (let e : ⊥ = omega (arith, ap length is) in e)
-zeros_no_magic [] Ssb2 zeros is = absurd (let e : ⊥ = omega (arith, ap length is) in e)
+zeros_no_magic [] Ssb1 zeros is = absurd (omega (arith, ap length is))
+zeros_no_magic [] Ssb2 zeros is = absurd (omega (arith, ap length is))
 zeros_no_magic (x ∷ xs) Ssb1 zeros is = omega (arith, zeros 0 0 (omega arith), ap (λ t. get_or t 0 0) is)
 zeros_no_magic (x ∷ xs) Ssb2 zeros is = omega (arith, zeros 0 0 (omega arith), ap (λ t. get_or t 0 0) is)
 
 one_magic : (j k : RecordKind) → magic_of j ≡ magic_of k → j ≡ k
 one_magic Ssb1 Ssb1 e = refl
 one_magic Ssb2 Ssb2 e = refl
-one_magic Ssb1 Ssb2 e = absurd (let no : ⊥ = omega (arith, ap (λ t. get_or t 3 0) e) in no)
-one_magic Ssb2 Ssb1 e = absurd (let no : ⊥ = omega (arith, ap (λ t. get_or t 3 0) e) in no)
+one_magic Ssb1 Ssb2 e = absurd (omega (arith, ap (λ t. get_or t 3 0) e))
+one_magic Ssb2 Ssb1 e = absurd (omega (arith, ap (λ t. get_or t 3 0) e))
 
 one_rank : (image : Image) (c : Contents) (a b : Rank) → IsRank image c a → IsRank image c b → a ≡ b
 one_rank image c Tie Tie x y = refl
@@ -69,33 +71,40 @@ one_rank image c Counts Older x y = absurd (y x.0)
 one_rank image c Older Tie x y = absurd (x y.0)
 one_rank image c Older Counts x y = absurd (x y.0)
 
-one_record_told : (image : Image) (q : ℕ) (j k : RecordKind) (n m : ℕ) (a b : Rank) (c d : Contents) → RecordStandsAt image q c → RecordStandsAt image q d →
-    j ≡ kind_of c → k ≡ kind_of d → n ≡ c.generation → m ≡ d.generation → IsRank image c a → IsRank image d b → Record j n a ≡ Record k m b
+one_record_told : (image : Image) (q : ℕ) (j k : RecordKind) (n m : ℕ) (a b : Rank) (c d : Contents) →
+    RecordStandsAt image q c → RecordStandsAt image q d →
+    j ≡ kind_of c → k ≡ kind_of d → n ≡ c.generation → m ≡ d.generation → IsRank image c a → IsRank image d b →
+    Record j n a ≡ Record k m b
 one_record_told image q j k n m a b c d s t hj hk hn hm x y =
     let same : c ≡ d = one_record_on_page image q c d s t in
-    ap (λ z. Record z n a) (hj ∙ ap kind_of same ∙ sym hk)
-    ∙ ap (λ z. Record k z a) (hn ∙ ap (λ (e : Contents). e.generation) same ∙ sym hm)
-    ∙ ap (Record k m) (one_rank image d a b (rw same at x) y)
+    let kinds : j ≡ k = hj ∙ ap kind_of same ∙ sym hk in
+    let generations : n ≡ m = hn ∙ ap (λ e. e.generation) same ∙ sym hm in
+    let ranks : a ≡ b = one_rank image d a b (rw same at x) y in
+    λ i. Record (kinds i) (generations i) (ranks i)
 
 -- ---- what a page holds is one thing, by the first that applies
 
-lost_alone : (image : Image) (q : ℕ) (b : SuperblockPage) → image.page 0 q ≡ None → IsSuperblockPage image q b → Lost ≡ b
+lost_alone : (image : Image) (q : ℕ) (b : SuperblockPage) → image.page 0 q ≡ None → IsSuperblockPage image q b →
+    Lost ≡ b
 lost_alone image q Lost x y = refl
-lost_alone image q (Record k n r) x y = absurd (lost_record image q y.0 x y.1)
+lost_alone image q (Record k n r) x y = absurd (lost_record image q x y.1)
 lost_alone image q Covered x y = absurd (lost_covered image q x y.1)
-lost_alone image q Zero x y = absurd (lost_unclaimed image q y.0 x y.1)
-lost_alone image q (Damaged k) x y = absurd (lost_unclaimed image q y.0 x y.1)
-lost_alone image q Stray x y = absurd (lost_unclaimed image q y.0 x y.1)
+lost_alone image q Zero x y = absurd (lost_unclaimed image q x y.1)
+lost_alone image q (Damaged k) x y = absurd (lost_unclaimed image q x y.1)
+lost_alone image q Stray x y = absurd (lost_unclaimed image q x y.1)
 
-record_alone : (image : Image) (q : ℕ) (b : SuperblockPage) (j : RecordKind) (n : ℕ) (a : Rank) → IsSuperblockPage image q (Record j n a) → IsSuperblockPage image q b → Record j n a ≡ b
-record_alone image q Lost j n a x y = absurd (lost_record image q x.0 y x.1)
-record_alone image q (Record k m r) j n a x y = one_record_told image q j k n m a r x.0 y.0 x.1 y.1 x.2 y.2 x.3 y.3 x.4 y.4
+record_alone : (image : Image) (q : ℕ) (b : SuperblockPage) (j : RecordKind) (n : ℕ) (a : Rank) →
+    IsSuperblockPage image q (Record j n a) → IsSuperblockPage image q b → Record j n a ≡ b
+record_alone image q Lost j n a x y = absurd (lost_record image q y x.1)
+record_alone image q (Record k m r) j n a x y =
+    one_record_told image q j k n m a r x.0 y.0 x.1 y.1 x.2 y.2 x.3 y.3 x.4 y.4
 record_alone image q Covered j n a x y = absurd (y.0 (x.0, x.1))
 record_alone image q Zero j n a x y = absurd (y.1.no_record (x.0, x.1))
 record_alone image q (Damaged k) j n a x y = absurd (y.1.no_record (x.0, x.1))
 record_alone image q Stray j n a x y = absurd (y.1.no_record (x.0, x.1))
 
-covered_alone : (image : Image) (q : ℕ) (b : SuperblockPage) → IsSuperblockPage image q Covered → IsSuperblockPage image q b → Covered ≡ b
+covered_alone : (image : Image) (q : ℕ) (b : SuperblockPage) → IsSuperblockPage image q Covered →
+    IsSuperblockPage image q b → Covered ≡ b
 covered_alone image q Lost x y = absurd (lost_covered image q y x.1)
 covered_alone image q (Record k m r) x y = absurd (x.0 (y.0, y.1))
 covered_alone image q Covered x y = refl
@@ -103,31 +112,35 @@ covered_alone image q Zero x y = absurd (y.1.outside x.1)
 covered_alone image q (Damaged k) x y = absurd (y.1.outside x.1)
 covered_alone image q Stray x y = absurd (y.1.outside x.1)
 
-zero_alone : (image : Image) (q : ℕ) (b : SuperblockPage) → IsSuperblockPage image q Zero → IsSuperblockPage image q b → Zero ≡ b
-zero_alone image q Lost x y = absurd (lost_unclaimed image q x.0 y x.1)
+zero_alone : (image : Image) (q : ℕ) (b : SuperblockPage) → IsSuperblockPage image q Zero → IsSuperblockPage image q b →
+    Zero ≡ b
+zero_alone image q Lost x y = absurd (lost_unclaimed image q y x.1)
 zero_alone image q (Record k m r) x y = absurd (x.1.no_record (y.0, y.1))
 zero_alone image q Covered x y = absurd (x.1.outside y.1)
 zero_alone image q Zero x y = refl
-zero_alone image q (Damaged k) x y = absurd (zeros_no_magic x.0 k x.2 (ap (take 4) (same_bytes image q x.0 y.0 x.1 y.1) ∙ y.2))
-zero_alone image q Stray x y = absurd (y.2 (rw (same_bytes image q x.0 y.0 x.1 y.1) at x.2))
+zero_alone image q (Damaged k) x y = absurd (zeros_no_magic x.0 k x.2 (ap (take 4) (same_bytes x.1 y.1) ∙ y.2))
+zero_alone image q Stray x y = absurd (y.2 (rw (same_bytes x.1 y.1) at x.2))
 
-damaged_alone : (image : Image) (q : ℕ) (b : SuperblockPage) (j : RecordKind) → IsSuperblockPage image q (Damaged j) → IsSuperblockPage image q b → Damaged j ≡ b
-damaged_alone image q Lost j x y = absurd (lost_unclaimed image q x.0 y x.1)
+damaged_alone : (image : Image) (q : ℕ) (b : SuperblockPage) (j : RecordKind) → IsSuperblockPage image q (Damaged j) →
+    IsSuperblockPage image q b → Damaged j ≡ b
+damaged_alone image q Lost j x y = absurd (lost_unclaimed image q y x.1)
 damaged_alone image q (Record k m r) j x y = absurd (x.1.no_record (y.0, y.1))
 damaged_alone image q Covered j x y = absurd (x.1.outside y.1)
-damaged_alone image q Zero j x y = absurd (zeros_no_magic y.0 j y.2 (ap (take 4) (same_bytes image q y.0 x.0 y.1 x.1) ∙ x.2))
-damaged_alone image q (Damaged k) j x y = ap Damaged (one_magic j k (sym x.2 ∙ ap (take 4) (same_bytes image q x.0 y.0 x.1 y.1) ∙ y.2))
-damaged_alone image q Stray j x y = absurd (y.3 j (ap (take 4) (same_bytes image q y.0 x.0 y.1 x.1) ∙ x.2))
+damaged_alone image q Zero j x y = absurd (zeros_no_magic y.0 j y.2 (ap (take 4) (same_bytes y.1 x.1) ∙ x.2))
+damaged_alone image q (Damaged k) j x y = ap Damaged (one_magic j k (sym x.2 ∙ ap (take 4) (same_bytes x.1 y.1) ∙ y.2))
+damaged_alone image q Stray j x y = absurd (y.3 j (ap (take 4) (same_bytes y.1 x.1) ∙ x.2))
 
-stray_alone : (image : Image) (q : ℕ) (b : SuperblockPage) → IsSuperblockPage image q Stray → IsSuperblockPage image q b → Stray ≡ b
-stray_alone image q Lost x y = absurd (lost_unclaimed image q x.0 y x.1)
+stray_alone : (image : Image) (q : ℕ) (b : SuperblockPage) → IsSuperblockPage image q Stray →
+    IsSuperblockPage image q b → Stray ≡ b
+stray_alone image q Lost x y = absurd (lost_unclaimed image q y x.1)
 stray_alone image q (Record k m r) x y = absurd (x.1.no_record (y.0, y.1))
 stray_alone image q Covered x y = absurd (x.1.outside y.1)
-stray_alone image q Zero x y = absurd (x.2 (rw (same_bytes image q y.0 x.0 y.1 x.1) at y.2))
-stray_alone image q (Damaged k) x y = absurd (x.3 k (ap (take 4) (same_bytes image q x.0 y.0 x.1 y.1) ∙ y.2))
+stray_alone image q Zero x y = absurd (x.2 (rw (same_bytes y.1 x.1) at y.2))
+stray_alone image q (Damaged k) x y = absurd (x.3 k (ap (take 4) (same_bytes x.1 y.1) ∙ y.2))
 stray_alone image q Stray x y = refl
 
-pub one_superblock_page : (image : Image) (q : ℕ) (a b : SuperblockPage) → IsSuperblockPage image q a → IsSuperblockPage image q b → a ≡ b
+pub one_superblock_page : (image : Image) (q : ℕ) (a b : SuperblockPage) → IsSuperblockPage image q a →
+    IsSuperblockPage image q b → a ≡ b
 one_superblock_page image q Lost b x y = lost_alone image q b x y
 one_superblock_page image q (Record k n r) b x y = record_alone image q b k n r x y
 one_superblock_page image q Covered b x y = covered_alone image q b x y
@@ -135,7 +148,8 @@ one_superblock_page image q Zero b x y = zero_alone image q b x y
 one_superblock_page image q (Damaged k) b x y = damaged_alone image q b k x y
 one_superblock_page image q Stray b x y = stray_alone image q b x y
 
-pub one_list_of_pages : (image : Image) (a b : List SuperblockPage) → AreSuperblockPages image a → AreSuperblockPages image b → a ≡ b
+pub one_list_of_pages : (image : Image) (a b : List SuperblockPage) → AreSuperblockPages image a →
+    AreSuperblockPages image b → a ≡ b
 one_list_of_pages image a b x y =
     same_lists a b (x.count ∙ sym y.count)
     (λ k d hk. one_superblock_page image k (get_or a k d) (get_or b k d) (x.each k _ (slice_get-get_or a k d hk)) (y.each k _ (slice_get-get_or b k d (omega (arith, hk, x.count, y.count)))))

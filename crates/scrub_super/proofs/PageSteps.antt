@@ -1,5 +1,5 @@
 -- What is found on each page of extent 0, what is seen from it, and how far records reach, one page at a time.
-use Rattle.std.proofs.Common.{◌≡◌, ◌<◌, ◌≤◌, ◌+◌, ◌*◌, ℕ, List, [], ◌∷◌, ◌++◌, Bool, false, cond, length, get_or, set, arith, sym, ◌∙◌, ap, Option, Some, None, IfSome, IfNone, option_map, inl, inr, max, slice_get, length-append, nat_lt}
+use Rattle.std.proofs.Common.{◌≡◌, ◌<◌, ◌≤◌, ◌+◌, ◌*◌, ℕ, List, [], ◌∷◌, ◌++◌, Bool, false, length, get_or, set, arith, sym, ◌∙◌, ap, Option, Some, None, IfSome, IfNone, inl, inr, max, slice_get, length-append, nat_lt}
 use Rattle.std.specs.List.{between}
 use Rattle.std.specs.Option.{option_map_or}
 use Rattle.std.proofs.lemmas.Bool.{cases_lt, cases_eq, ltb-true, lt-ltb}
@@ -16,52 +16,62 @@ use Rattle.scrub_super.specs.declared.pages.RecordKind.TheVariants.{Ssb1, Ssb2}
 use Rattle.scrub_super.specs.declared.pages.SuperblockPage.{SuperblockPage}
 use Rattle.scrub_super.specs.declared.surveying.Found.{Found}
 use Rattle.scrub_super.specs.Contents.{Contents}
-use Rattle.scrub_super.specs.Record.{BeginsWithRecord, record_bytes}
+use Rattle.scrub_super.specs.Record.{BeginsWithRecord}
 use Rattle.scrub_super.specs.declared.head.Cuts.{Cuts}
 use Rattle.scrub_super.specs.RecordRead.{AreCuts, BeginsWithSome, record_head_size, retired_count}
 use Rattle.scrub_super.specs.RecordsSeen.{AddsRecord, AreSeenFrom, StandsFrom}
 use Rattle.scrub_super.specs.Pages.{AreSuperblockPages, IsSuperblockPage}
 use Rattle.scrub_super.specs.PagesFound.{AreFoundOnPages, IsFoundOf, IsFoundOnPage, IsKnownOfPage, IsRecordReach, image_with}
 use Rattle.scrub_super.proofs.Laws.{one_record_on_page}
-use Rattle.scrub_super.proofs.Records.{length_record}
+use Rattle.scrub_super.proofs.Found.{told_kind}
+use Rattle.scrub_super.proofs.RecordParts.{length_record}
 use Rattle.scrub_super.proofs.RecordsSeenSteps.{found_none, found_more}
-use Rattle.scrub_super.proofs.Standing.{readable_bytes, stands_of_front, front_of_stands}
+use Rattle.scrub_super.proofs.Standing.{stands_of_front, front_of_stands}
 
 -- ---- what is found
 
 -- what a head tells of a record
-pub found_by_head : (g : Geometry) (x y : List ℕ) (start n r to : ℕ) (k : Option ℕ) (cuts : Cuts) (kind : RecordKind) → y ≡ x → BeginsWithSome g y n r k → AreCuts g r k cuts →
+pub found_by_head : {g : Geometry} {x y : List ℕ} {start n r to : ℕ} {k : Option ℕ} {cuts : Cuts} {kind : RecordKind} →
+    y ≡ x → BeginsWithSome g y n r k → AreCuts g r k cuts →
     kind ≡ option_map_or (λ _. Ssb2) k Ssb1 → to ≡ start + cuts.digest + 32 →
     (c : Contents) × BeginsWithRecord g x c × IsFoundOf g start c (record { kind = kind; generation = n; to = to })
-found_by_head g x y start n r to k cuts kind hx some at hk ht = (
+found_by_head hx some at hk ht = (
   some.contents,
   rw hx at some.begins,
   record {
-    kind = hk ∙ kind_by some.contents.retired k some.listed;
+    kind = hk ∙ told_kind some;
     generation = sym some.generation;
-    to = omega (arith, ht, length_record g some.contents some.begins.contents, at.digest_at, some.count, ap record_head_size some.listed, ap retired_count some.listed);
+    to =
+        omega (
+          arith,
+          ht,
+          length_record some.begins.contents,
+          at.digest_at,
+          some.count,
+          ap record_head_size some.listed,
+          ap retired_count some.listed,
+        );
   },
 )
-  where
-    kind_by : (o : Option (List ℕ)) (j : Option ℕ) → option_map length o ≡ j → option_map_or (λ _. Ssb2) j Ssb1 ≡ option_map_or (λ _. Ssb2) o Ssb1
-    kind_by None j e = ap (λ i. option_map_or (λ _. Ssb2) i Ssb1) (sym e)
-    kind_by (Some xs) j e = ap (λ i. option_map_or (λ _. Ssb2) i Ssb1) (sym e)
 
 -- what is found in the bytes from a page on is what is found at the page
-pub found_at_page : (image : Image) (bytes : List ℕ) (readable : List Bool) (q s size : ℕ) (o : Option Found) → size ≡ image.geometry.page → IsBuffered image 0 bytes readable → IsNextUnreadable readable q s →
+pub found_at_page : {image : Image} {bytes : List ℕ} {readable : List Bool} {q s size : ℕ} (o : Option Found) →
+    size ≡ image.geometry.page → IsBuffered image 0 bytes readable → IsNextUnreadable readable q s →
     IfSome o (λ f. (c : Contents) × BeginsWithRecord image.geometry (between (q * size) (s * size) bytes) c × IsFoundOf image.geometry (q * size) c f) →
-    IfNone o ((c : Contents) → BeginsWithRecord image.geometry (between (q * size) (s * size) bytes) c → ⊥) → IsFoundOnPage image q o
-found_at_page image bytes readable q s size (Some f) hs h up some none =
-    let begins : BeginsWithRecord image.geometry (readable_bytes image bytes q s) some.0 = rw (ap (λ n. between (q * n) (s * n) bytes) hs) at some.1 in
-    (some.0, stands_of_front image bytes readable q s some.0 h up begins, rw hs at some.2)
-found_at_page image bytes readable q s size None hs h up some none = λ x.
-    none x.0 (rw (ap (λ n. between (q * n) (s * n) bytes) hs) (front_of_stands image bytes readable q s x.0 h up x.1))
+    IfNone o ((c : Contents) → BeginsWithRecord image.geometry (between (q * size) (s * size) bytes) c → ⊥) →
+    IsFoundOnPage image q o
+found_at_page (Some f) hs h up some none =
+    let found = rw hs at some in
+    (found.0, stands_of_front h up found.1, found.2)
+found_at_page None hs h up some none = λ x. (rw hs at none) x.0 (front_of_stands h up x.1)
 
 -- one more page is written down
-pub found_more_at : (image : Image) (found : List (Option Found)) (p q n : ℕ) (o : Option Found) → p ≡ q + 1 → length found ≡ n → q < n → IsFoundOnPage image q o →
-    ((r : ℕ) → p ≤ r → r < n → IsFoundOnPage image r (get_or found r None)) → (r : ℕ) → q ≤ r → r < n → IsFoundOnPage image r (get_or (set found q o) r None)
-found_more_at image found p q n o hp hn here at later r low high = elim (cases_eq r q) [
-  | inl e ↦ rw (ap (λ k. get_or (set found q o) k None) e ∙ get_or-set_same found q o None (omega (arith, here, hn)), e) at_here
+pub found_more_at : (image : Image) (found : List (Option Found)) {p q n : ℕ} (o : Option Found) → p ≡ q + 1 →
+    length found ≡ n → q < n → IsFoundOnPage image q o →
+    ((r : ℕ) → p ≤ r → r < n → IsFoundOnPage image r (get_or found r None)) →
+    (r : ℕ) → q ≤ r → r < n → IsFoundOnPage image r (get_or (set found q o) r None)
+found_more_at image found {p} {q} {n} o hp hn here at later r low high = elim (cases_eq r q) [
+  | inl e ↦ rw (e, get_or-set_same found q o None (omega (arith, here, hn))) at_here
   | inr other ↦ rw (get_or-set_other found q r o None other) (later r (omega (arith, low, other, hp)) high)
 ]
   where
@@ -70,68 +80,76 @@ found_more_at image found p q n o hp hn here at later r low high = elim (cases_e
 
 -- ---- what is seen
 
-pub seen_more : (image : Image) (found : List (Option Found)) (p q : ℕ) (f : Found) (old new : RecordsSeen) → p ≡ q + 1 → AreFoundOnPages image found → q < length found → get_or found q None ≡ Some f →
-    AddsRecord old new q f.generation → AreSeenFrom (StandsFrom image) p old → AreSeenFrom (StandsFrom image) q new
-seen_more image found p q f old new hp are here is adds seen =
-    found_more (StandsFrom image) q f.generation old new (at.0, at.1, sym at.2.generation)
-    (λ m t. sym t.2 ∙ ap (λ (c : Contents). c.generation) (one_record_on_page image q t.0 at.0 t.1 at.1) ∙ sym at.2.generation)
-    (rw (sym hp) seen) adds
-  where
-    at : IsFoundOnPage image q (Some f)
-    at = rw is at (are.each q (omega (arith, here, are.count)))
+module _ {image : Image} {found : List (Option Found)} {p q : ℕ} (hp : p ≡ q + 1) (are : AreFoundOnPages image found)
+    (here : q < length found) where
+  on_page : IsFoundOnPage image q (get_or found q None)
+  on_page = are.each q (omega (arith, are.count))
 
-pub seen_none : (image : Image) (found : List (Option Found)) (p q : ℕ) (seen : RecordsSeen) → p ≡ q + 1 → AreFoundOnPages image found → q < length found → get_or found q None ≡ None →
-    AreSeenFrom (StandsFrom image) p seen → AreSeenFrom (StandsFrom image) q seen
-seen_none image found p q seen hp are here is before =
-    found_none (StandsFrom image) q seen (λ m t. at (t.0, t.1)) (rw (sym hp) before)
-  where
-    at : IsFoundOnPage image q None
-    at = rw is at (are.each q (omega (arith, here, are.count)))
+  pub seen_more : {f : Found} {old new : RecordsSeen} → get_or found q None ≡ Some f →
+      AddsRecord old new q f.generation → AreSeenFrom (StandsFrom image) p old → AreSeenFrom (StandsFrom image) q new
+  seen_more {f} is adds seen =
+      found_more f.generation (at.0, at.1, sym at.2.generation)
+      (λ m t. sym t.2
+      ∙ ap (λ (c : Contents). c.generation) (one_record_on_page image q t.0 at.0 t.1 at.1)
+      ∙ sym at.2.generation)
+      (rw hp at seen) adds
+    where
+      at : IsFoundOnPage image q (Some f)
+      at = rw is at on_page
+
+  pub seen_none : {seen : RecordsSeen} → get_or found q None ≡ None → AreSeenFrom (StandsFrom image) p seen →
+      AreSeenFrom (StandsFrom image) q seen
+  seen_none is before = found_none (λ m t. at (t.0, t.1)) (rw hp at before)
+    where
+      at : IsFoundOnPage image q None
+      at = rw is at on_page
 
 -- ---- how far records reach
 
-pub no_reach : (image : Image) → IsRecordReach image 0 0
-no_reach image = record {
-  ends = λ r c low s. absurd (omega (arith, low));
-  reached = λ i low. absurd (omega (arith, low));
-}
+module _ {image : Image} {q reach : ℕ} (h : IsRecordReach image q reach) where
+  pub reach_more : {new : ℕ} {f : Found} → new ≡ max reach f.to → IsFoundOnPage image q (Some f) →
+      IsRecordReach image (q + 1) new
+  reach_more {new} {f} is at = record {
+    ends = λ r c low s. elim (cases_lt r q) [
+      | inl before ↦ omega (arith, h.ends r c before s, le-max_left reach f.to, is)
+      | inr here ↦
+          let e : r ≡ q = omega (arith, low, here) in
+          let same : c ≡ at.0 = one_record_on_page image q c at.0 (rw e at s) at.1 in
+          rw (e, same) (omega (arith, le-max_right reach f.to, is, at.2.to))
+    ];
+    reached = λ i low. elim (cases_lt i reach) [
+      | inl before ↦ let x = h.reached i before in (x.0, omega (arith, x.1), x.2)
+      | inr past ↦ (
+        q,
+        omega arith,
+        (at.0, at.1, omega (arith, low, past, is, at.2.to, max-eq_right {n = reach} {m = f.to} (to_reaches i low past))),
+      )
+    ];
+  }
+    where
+      to_reaches : (i : ℕ) → i < new → reach ≤ i → reach ≤ f.to
+      to_reaches i low past = elim (cases_lt f.to reach) [
+        | inl less ↦
+            absurd (omega (arith, low, past, is, max-eq_left {n = reach} {m = f.to} (omega (arith, less))))
+        | inr more ↦ more
+      ]
 
-pub reach_more : (image : Image) (q reach new : ℕ) (f : Found) → new ≡ max reach f.to → IsRecordReach image q reach → IsFoundOnPage image q (Some f) → IsRecordReach image (q + 1) new
-reach_more image q reach new f is h at = record {
-  ends = λ r c low s. elim (cases_lt r q) [
-    | inl before ↦ omega (arith, h.ends r c before s, le-max_left reach f.to, is)
-    | inr here ↦
-        let e : r ≡ q = omega (arith, low, here) in
-        let same : c ≡ at.0 = one_record_on_page image q c at.0 (rw e at s) at.1 in
-        omega (arith, le-max_right reach f.to, is, at.2.to, ap (λ n. n * image.geometry.page) e, ap (λ d. length (record_bytes image.geometry d)) same)
-  ];
-  reached = λ i low. elim (cases_lt i reach) [
-    | inl before ↦ let x = h.reached i before in (x.0, omega (arith, x.1), x.2)
-    | inr past ↦ (q, omega arith, (at.0, at.1, omega (arith, low, past, is, at.2.to, max-eq_right {n = reach} {m = f.to} (to_reaches i low past))))
-  ];
-}
-  where
-    to_reaches : (i : ℕ) → i < new → reach ≤ i → reach ≤ f.to
-    to_reaches i low past = elim (cases_lt f.to reach) [
-      | inl less ↦ absurd (omega (arith, low, past, is, max-eq_left {n = reach} {m = f.to} (omega (arith, less))))
-      | inr more ↦ more
-    ]
-
-pub reach_kept : (image : Image) (q reach : ℕ) → IsRecordReach image q reach → IsFoundOnPage image q None → IsRecordReach image (q + 1) reach
-reach_kept image q reach h none = record {
-  ends = λ r c low s. elim (cases_lt r q) [
-    | inl before ↦ h.ends r c before s
-    | inr here ↦ let e : r ≡ q = omega (arith, low, here) in absurd (none (c, rw e at s))
-  ];
-  reached = λ i low. let x = h.reached i low in (x.0, omega (arith, x.1), x.2);
-}
+  pub reach_kept : IsFoundOnPage image q None → IsRecordReach image (q + 1) reach
+  reach_kept none = record {
+    ends = λ r c low s. elim (cases_lt r q) [
+      | inl before ↦ h.ends r c before s
+      | inr here ↦ let e : r ≡ q = omega (arith, low, here) in absurd (none (c, rw e at s))
+    ];
+    reached = λ i low. let x = h.reached i low in (x.0, omega (arith, x.1), x.2);
+  }
 
 -- a page is covered where a record from before reaches behind its first byte
-pub known_of : (image : Image) (bytes part : List ℕ) (readable : List Bool) (q start size reach : ℕ) → IsBuffered image 0 bytes readable → q < image.geometry.pages →
-    size ≡ image.geometry.page → start ≡ q * size → part ≡ between start (start + size) bytes → IsRecordReach image q reach →
-    IsKnownOfPage image q part (get_or readable q false) (nat_lt start reach)
-known_of image bytes part readable q start size reach h here hs ht hp r = record {
-  held = h.pages q here ∙ ap (λ t. cond (get_or readable q false) (Some t) None) (sym (hp ∙ ap (λ n. between n (n + size) bytes) begins ∙ ap (λ n. between (q * image.geometry.page) (q * image.geometry.page + n) bytes) hs));
+pub known_of : {image : Image} {bytes part : List ℕ} {readable : List Bool} {q start size reach : ℕ} →
+    IsBuffered image 0 bytes readable → q < image.geometry.pages →
+    size ≡ image.geometry.page → start ≡ q * size → part ≡ between start (start + size) bytes →
+    IsRecordReach image q reach → IsKnownOfPage image q part (get_or readable q false) (nat_lt start reach)
+known_of {image} {q = q} {start} {reach = reach} h here hs ht hp r = record {
+  held = rw (hp, ht, hs) (h.pages q here);
   covered_is = (
     (λ less.
         let x = r.reached start (ltb-true start reach less) in
@@ -147,32 +165,39 @@ known_of image bytes part readable q start size reach h here hs ht hp r = record
 }
   where
     begins : start ≡ q * image.geometry.page
-    begins = ht ∙ ap (λ n. q * n) hs
+    begins = rw hs at ht
 
 -- ---- what the pages hold
 
-pub each_more : (image : Image) (old new : List SuperblockPage) (q : ℕ) (page : SuperblockPage) → length old ≡ q → new ≡ old ++ page ∷ [] →
-    ((r : ℕ) (p : SuperblockPage) → slice_get old r ≡ Some p → IsSuperblockPage image r p) → IsSuperblockPage image q page →
+pub each_more : (image : Image) (old : List SuperblockPage) {new : List SuperblockPage} {q : ℕ} (page : SuperblockPage) →
+    length old ≡ q → new ≡ old ++ page ∷ [] →
+    ((r : ℕ) (p : SuperblockPage) → slice_get old r ≡ Some p → IsSuperblockPage image r p) →
+    IsSuperblockPage image q page →
     (r : ℕ) (p : SuperblockPage) → slice_get new r ≡ Some p → IsSuperblockPage image r p
-each_more image old new q page hq hn each here r p is = elim (cases_lt r q) [
-  | inl before ↦ each r p (slice_get-get_or old r p (omega (arith, before, hq)) ∙ ap Some (sym (get_or_append_left old (page ∷ []) p r (omega (arith, before, hq))) ∙ there))
+each_more image old {new} {q} page hq hn each here r p is = elim (cases_lt r q) [
+  | inl before ↦
+      let low : r < length old = omega (arith, before, hq) in
+      each r p (slice_get-get_or old r p low ∙ ap Some (sym (get_or_append_left old (page ∷ []) p r low) ∙ there))
   | inr past ↦
-      let last : r ≡ length old = omega (arith, past, hq, slice_get_within new r p is, ap length hn, length-append old (page ∷ [])) in
+      let last : r ≡ length old =
+      omega (arith, past, hq, slice_get_within new r p is, ap length hn, length-append old (page ∷ [])) in
       let told : page ≡ p = sym (get_or_push old page p r (sym last)) ∙ there in
       rw (last ∙ hq, sym told) here
 ]
   where
     there : get_or (old ++ page ∷ []) r p ≡ p
-    there = ap (λ t. get_or t r p) (sym hn) ∙ get_or_from_slice_get new r p p is
+    there = rw hn at (get_or_from_slice_get new r p p is)
 
 -- ---- what is found in memory is on the image
 
-pub found_on : (image : Image) (g : Geometry) (xs bytes : List ℕ) (ys readable : List Bool) (found : List (Option Found)) → g ≡ image.geometry → xs ≡ bytes → ys ≡ readable → IsBuffered image 0 bytes readable →
-    ((page : ℕ → ℕ → Option (List ℕ)) → IsBuffered (image_with g page) 0 xs ys → AreFoundOnPages (image_with g page) found) → AreFoundOnPages image found
-found_on image g xs bytes ys readable found hg hx hy h all = (rw (hg, hx, hy) at all) image.page h
+module _ {image : Image} {g : Geometry} {xs bytes : List ℕ} {ys readable : List Bool} {found : List (Option Found)}
+    (hg : g ≡ image.geometry) (hx : xs ≡ bytes) (hy : ys ≡ readable) (h : IsBuffered image 0 bytes readable) where
+  pub found_on : ((page : ℕ → ℕ → Option (List ℕ)) → IsBuffered (image_with g page) 0 xs ys → AreFoundOnPages (image_with g page) found) →
+      AreFoundOnPages image found
+  found_on all = (rw (hg, hx, hy) at all) image.page h
 
-pub pages_on : (image : Image) (g : Geometry) (xs bytes : List ℕ) (ys readable : List Bool) (zs found : List (Option Found)) (seen : RecordsSeen) (pages : List SuperblockPage) → g ≡ image.geometry → xs ≡ bytes → ys ≡ readable →
-    zs ≡ found → IsBuffered image 0 bytes readable → AreFoundOnPages image found → AreSeenFrom (StandsFrom image) 0 seen →
-    ((page : ℕ → ℕ → Option (List ℕ)) → IsBuffered (image_with g page) 0 xs ys → AreFoundOnPages (image_with g page) zs → AreSeenFrom (StandsFrom (image_with g page)) 0 seen → AreSuperblockPages (image_with g page) pages) →
-    AreSuperblockPages image pages
-pages_on image g xs bytes ys readable zs found seen pages hg hx hy hz h are see all = (rw (hg, hx, hy, hz) at all) image.page h are see
+  pub pages_on : {zs : List (Option Found)} {seen : RecordsSeen} {pages : List SuperblockPage} → zs ≡ found →
+      AreFoundOnPages image found → AreSeenFrom (StandsFrom image) 0 seen →
+      ((page : ℕ → ℕ → Option (List ℕ)) → IsBuffered (image_with g page) 0 xs ys → AreFoundOnPages (image_with g page) zs → AreSeenFrom (StandsFrom (image_with g page)) 0 seen → AreSuperblockPages (image_with g page) pages) →
+      AreSuperblockPages image pages
+  pages_on hz are see all = (rw (hg, hx, hy, hz) at all) image.page h are see

@@ -1,5 +1,5 @@
 -- Lists whose elements are spelled in parts of one size, one after another.
-use Rattle.std.proofs.Common.{◌≡◌, ◌<◌, ◌≤◌, ◌+◌, ◌*◌, ℕ, zero, suc, List, [], ◌∷◌, ◌++◌, length, take, drop, get_or, arith, refl, sym, ◌∙◌, ap, length-drop, take-append-drop, drop-drop, All, lit<, inl, inr}
+use Rattle.std.proofs.Common.{◌≡◌, ◌<◌, ◌≤◌, ◌+◌, ◌*◌, ℕ, zero, suc, List, [], ◌∷◌, ◌++◌, length, take, drop, get_or, arith, refl, sym, ap, length-drop, take-append-drop, drop-drop, All, lit<, inl, inr}
 use Rattle.std.specs.List.{flat_map}
 use Rattle.std.proofs.lemmas.Bool.{cases_lt}
 use Rattle.std.proofs.lemmas.List.{take_at, drop_at, get_or-take, get_or-drop, length-take-le, get_or_past}
@@ -26,37 +26,44 @@ pub length-values : {X : Type 0} (read : List ℕ → X) (size n : ℕ) (x : Lis
 length-values read size zero x = refl
 length-values read size (suc n) x = ap suc (length-values read size n (drop size x))
 
-pub get_or-values : {X : Type 0} (read : List ℕ → X) (size n k : ℕ) (d : X) (x : List ℕ) → k < n → get_or (values read size n x) k d ≡ read (take size (drop (size * k) x))
+pub get_or-values : {X : Type 0} (read : List ℕ → X) (size n k : ℕ) (d : X) (x : List ℕ) → k < n →
+    get_or (values read size n x) k d ≡ read (take size (drop (size * k) x))
 get_or-values read size zero k d x h = absurd (omega arith)
-get_or-values read size (suc n) zero d x h = ap (λ m. read (take size (drop m x))) (let e : 0 ≡ size * 0 = omega arith in e)
+get_or-values read size (suc n) zero d x h = let e : size * 0 ≡ 0 = omega arith in rw e
 get_or-values read size (suc n) (suc k) d x h =
-    get_or-values read size n k d (drop size x) (omega arith)
-    ∙ ap (λ t. read (take size t)) (drop-drop (size * k) size x)
-    ∙ ap (λ m. read (take size (drop m x))) (let e : size + size * k ≡ size * suc k = omega arith in e)
+    let e : size * suc k ≡ size + size * k = omega arith in
+    rw (e, ← drop-drop (size * k) size x) (get_or-values read size n k d (drop size x) (omega arith))
 
 -- where a part is spelled as it was read, so is the whole
 pub flat_map-values : {X : Type 0} (spell : X → List ℕ) (read : List ℕ → X) (size n : ℕ) (x : List ℕ) →
-    ((y : List ℕ) → length y ≡ size → AreBytes y → spell (read y) ≡ y) → length x ≡ size * n → AreBytes x → flat_map spell (values read size n x) ≡ x
+    ((y : List ℕ) → length y ≡ size → AreBytes y → spell (read y) ≡ y) → length x ≡ size * n → AreBytes x →
+    flat_map spell (values read size n x) ≡ x
 flat_map-values spell read size zero [] again l h = refl
 flat_map-values spell read size zero (b ∷ x) again l h = absurd (omega (arith, l))
 flat_map-values spell read size (suc n) x again l h =
     let fits : size ≤ length x = omega (arith, l) in
-    ap (λ t. t ++ flat_map spell (values read size n (drop size x))) (again (take size x) (length-take-le size x fits) (AreBytes-take size x fits h))
-    ∙ ap (λ t. take size x ++ t) (flat_map-values spell read size n (drop size x) again (omega (arith, length-drop size x, l)) (AreBytes-drop size x h))
-    ∙ take-append-drop size x
+    let first : spell (read (take size x)) ≡ take size x =
+    again _ (length-take-le size x fits) (AreBytes-take size x fits h) in
+    let rest : flat_map spell (values read size n (drop size x)) ≡ drop size x =
+    flat_map-values spell read size n _ again (omega (arith, length-drop size x, l)) (AreBytes-drop size x h) in
+    rw (first, rest) (take-append-drop size x)
 
 -- the part at place k is the one that spells the value there
-pub part-flat_map : {X : Type 0} (spell : X → List ℕ) (size k : ℕ) (d : X) (xs : List X) → All (λ v. length (spell v) ≡ size) xs → k < length xs →
+pub part-flat_map : {X : Type 0} (spell : X → List ℕ) (size k : ℕ) (d : X) (xs : List X) →
+    All (λ v. length (spell v) ≡ size) xs → k < length xs →
     take size (drop (size * k) (flat_map spell xs)) ≡ spell (get_or xs k d)
 part-flat_map spell size k d [] h hk = absurd (omega arith)
 part-flat_map spell size zero d (v ∷ xs) h hk =
-    ap (λ m. take size (drop m (spell v ++ flat_map spell xs))) (let e : size * 0 ≡ 0 = omega arith in e)
-    ∙ take_at (spell v) (flat_map spell xs) size (h 0 v (omega arith))
+    let e : size * 0 ≡ 0 = omega arith in
+    rw e (take_at (spell v) (flat_map spell xs) size (h 0 v (omega arith)))
 part-flat_map spell size (suc k) d (v ∷ xs) h hk =
-    ap (λ m. take size (drop m (spell v ++ flat_map spell xs))) (let e : size * suc k ≡ size + size * k = omega arith in e)
-    ∙ ap (take size) (sym (drop-drop (size * k) size (spell v ++ flat_map spell xs)))
-    ∙ ap (λ t. take size (drop (size * k) t)) (drop_at (spell v) (flat_map spell xs) size (h 0 v (omega arith)))
-    ∙ part-flat_map spell size k d xs (λ j e hj. h (suc j) e (omega (arith, hj))) (omega arith)
+    let e : size * suc k ≡ size + size * k = omega arith in
+    rw (
+      e,
+      ← drop-drop (size * k) size (spell v ++ flat_map spell xs),
+      drop_at (spell v) (flat_map spell xs) size (h 0 v (omega arith)),
+    )
+    (part-flat_map spell size k d xs (λ j e hj. h (suc j) e (omega (arith, hj))) (omega arith))
 
 -- a list that is written over as long a list
 pub refilled : {X : Type 0} (n : ℕ) (xs ys : List X) → n ≡ length xs → take n (xs ++ drop (length xs) ys) ≡ xs

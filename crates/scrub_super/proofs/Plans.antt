@@ -1,5 +1,5 @@
 -- The lists of a plan.
-use Rattle.std.proofs.Common.{◌≡◌, ◌<◌, ◌≤◌, ◌+◌, ◌*◌, ◌-◌, ℕ, List, [], ◌∷◌, true, filter, get_or, arith, refl, sym, ap, subst, All, replicate, Option, Some, None, IfSome}
+use Rattle.std.proofs.Common.{◌≡◌, ◌<◌, ◌≤◌, ◌+◌, ◌*◌, ◌-◌, ℕ, List, [], ◌∷◌, true, filter, length, get_or, arith, refl, ap, subst, All, replicate, Option, Some, None, IfSome}
 use Rattle.std.specs.List.{Contains, range_with_len}
 use Rattle.std.specs.List.Sorted.{IsStrictlyIncreasing}
 use Rattle.std.proofs.lemmas.List.{get_or-replicate, length-replicate}
@@ -11,24 +11,25 @@ use Rattle.scrub_frame.specs.declared.locator.Locator.{Locator}
 use Rattle.scrub_super.specs.Planned.{ArePlanned, AreRetired, is_in_use, extents_in_use}
 use Rattle.scrub_super.specs.Record.{ArePointers, AreRunLocators, AreContents}
 use Rattle.scrub_super.specs.Contents.{Contents}
-use Rattle.scrub_super.proofs.Records.{listed_extents}
+use Rattle.scrub_super.proofs.Listed.{listed_extents}
 
 -- the extents in use can be planned
 pub in_use_planned : (e : ℕ) (retired : List ℕ) → ArePlanned e (extents_in_use e retired)
 in_use_planned e retired = record {
-  rising = IsStrictlyIncreasing-filter (is_in_use retired) (range_with_len 1 (e - 1)) (λ k hk. rises k (omega (arith, hk, length-range_with_len 1 (e - 1))));
-  from_one = All-filter (is_in_use retired) (λ n. 1 ≤ n) (range_with_len 1 (e - 1))
-      (λ k d hk. let v : get_or (range_with_len 1 (e - 1)) k d ≡ 1 + k = value k d (omega (arith, hk, length-range_with_len 1 (e - 1))) in omega (arith, v));
-  below = All-filter (is_in_use retired) (λ n. n < e) (range_with_len 1 (e - 1)) (λ k d hk.
-      let v : get_or (range_with_len 1 (e - 1)) k d ≡ 1 + k = value k d (omega (arith, hk, length-range_with_len 1 (e - 1))) in
-      omega (arith, v, hk, length-range_with_len 1 (e - 1)));
+  rising =
+      IsStrictlyIncreasing-filter (is_in_use retired) all
+      (λ k hk. omega (arith, value k 0 (omega (arith, hk)), value (k + 1) 0 hk));
+  from_one = All-filter (is_in_use retired) (λ n. 1 ≤ n) all (λ k d hk. rw (value k d hk) (omega arith));
+  below =
+      All-filter (is_in_use retired) (λ n. n < e) all
+      (λ k d hk. rw (value k d hk) (omega (arith, hk, length-range_with_len 1 (e - 1))));
 }
   where
-    value : (k d : ℕ) → k < e - 1 → get_or (range_with_len 1 (e - 1)) k d ≡ 1 + k
-    value k d hk = get_or-range_with_len 1 (e - 1) k d hk
+    all : List ℕ
+    all = range_with_len 1 (e - 1)
 
-    rises : (k : ℕ) → k + 1 < e - 1 → get_or (range_with_len 1 (e - 1)) k 0 < get_or (range_with_len 1 (e - 1)) (k + 1) 0
-    rises k hk = omega (arith, value k 0 (omega (arith, hk)), value (k + 1) 0 hk)
+    value : (k d : ℕ) → k < length all → get_or all k d ≡ 1 + k
+    value k d hk = get_or-range_with_len 1 (e - 1) k d (omega (arith, hk, length-range_with_len 1 (e - 1)))
 
 -- they are all but extent 0 where none is retired
 pub all_kept : (e : ℕ) → extents_in_use e [] ≡ range_with_len 1 (e - 1)
@@ -44,32 +45,32 @@ all_in_use e retired = filter_passes (is_in_use retired) (range_with_len 1 (e - 
 
 -- what holds of each of the planned extents holds of some of them
 pub some_of : {X : Type 0} (P : X → Type 0) (xs ys : List X) → All P xs → All (Contains xs) ys → All P ys
-some_of P xs ys h each = λ k d hk. let there : Contains xs (get_or ys k d) = each k d hk in subst P there.2 (h there.0 (get_or ys k d) there.1)
+some_of P xs ys h each = λ k d hk. let there = each k d hk in subst P there.2 (h there.0 (get_or ys k d) there.1)
 
 -- some of the planned extents can be planned
-pub some_planned : (e : ℕ) (xs ys : List ℕ) → ArePlanned e xs → IsStrictlyIncreasing ys → All (Contains xs) ys → ArePlanned e ys
-some_planned e xs ys h rising each = record {
+pub some_planned : {e : ℕ} {xs ys : List ℕ} → ArePlanned e xs → IsStrictlyIncreasing ys → All (Contains xs) ys →
+    ArePlanned e ys
+some_planned {e} {xs} {ys} h rising each = record {
   rising = rising;
   from_one = some_of (λ n. 1 ≤ n) xs ys h.from_one each;
   below = some_of (λ n. n < e) xs ys h.below each;
 }
 
 -- pointers that are all the extent's size
-pub full_pointers : (g : Geometry) (size : ℕ) (n : ℕ) → n + 1 ≡ g.extents → size ≡ g.page * g.pages → ArePointers g (replicate n size)
-full_pointers g size n hn hs = record {
-  count = omega (arith, length-replicate n size, hn);
-  within = λ k d hk. at_most k d (omega (arith, hk, length-replicate n size));
+pub full_pointers : (g : Geometry) (n size : ℕ) → n + 1 ≡ g.extents → size ≡ g.page * g.pages →
+    ArePointers g (replicate n size)
+full_pointers g n size hn hs = record {
+  count = omega (arith, length-replicate n size);
+  within = λ k d hk. rw (get_or-replicate n k size d (omega (arith, hk, length-replicate n size))) (omega arith);
 }
-  where
-    at_most : (k d : ℕ) → k < n → get_or (replicate n size) k d ≤ g.page * g.pages
-    at_most k d hk = rw (get_or-replicate n k size d hk) (omega (arith, hs))
 
 pub none_retired : (e : ℕ) (xs : List ℕ) → xs ≡ [] → AreRetired e xs
 none_retired e xs is = rw is (listed_extents e None tt)
 
-pub no_runs : (rs : List Locator) → rs ≡ [] → AreRunLocators rs
-no_runs rs e = rw e (record { count = omega arith; each = λ k d hk. absurd (omega (arith, hk)) })
+pub no_runs : {rs : List Locator} → rs ≡ [] → AreRunLocators rs
+no_runs e = rw e (record { count = omega arith; each = λ k d hk. absurd (omega (arith, hk)) })
 
 -- what was chosen fits the geometry that it was chosen under
-pub chosen_fits : (o : Option Contents) (c : Contents) (g k : Geometry) → Some c ≡ o → g ≡ k → IfSome o (AreContents g) → AreContents k c
-chosen_fits o c g k is same h = rw (sym same) (rw (sym is) at h)
+pub chosen_fits : {o : Option Contents} {c : Contents} {g k : Geometry} → Some c ≡ o → g ≡ k →
+    IfSome o (AreContents g) → AreContents k c
+chosen_fits is same h = rw (← same) (rw (← is) at h)

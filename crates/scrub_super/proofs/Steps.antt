@@ -10,12 +10,13 @@ use Rattle.scrub_super.specs.RecordRead.{BeginsWithSome}
 use Rattle.scrub_disk.specs.Buffered.{IsBuffered}
 use Rattle.scrub_disk.specs.NextUnreadable.{IsNextUnreadable}
 use Rattle.scrub_super.specs.RecordsSeen.{StandsFrom, AreSeenFrom, AddsRecord}
-use Rattle.scrub_super.proofs.Records.{one_record_lem}
+use Rattle.scrub_super.proofs.OneRecord.{one_record_lem}
 use Rattle.scrub_super.proofs.Standing.{readable_bytes, stands_of_front, front_of_stands}
 use Rattle.scrub_super.proofs.RecordsSeenSteps.{found_none, found_more}
 
 -- where the readable pages end, from an unreadable page on and from a readable one on
-pub up_to_here : (readable : List Bool) (q : ℕ) → q < length readable → get_or readable q false ≡ false → IsNextUnreadable readable q q
+pub up_to_here : (readable : List Bool) (q : ℕ) → q < length readable → get_or readable q false ≡ false →
+    IsNextUnreadable readable q q
 up_to_here readable q here unmarked = record {
   above = omega arith;
   within = omega (arith, here);
@@ -23,7 +24,8 @@ up_to_here readable q here unmarked = record {
   unreadable = λ _. unmarked;
 }
 
-pub up_to_there : (readable : List Bool) (p q s : ℕ) → p ≡ q + 1 → get_or readable q false ≡ true → IsNextUnreadable readable p s → IsNextUnreadable readable q s
+pub up_to_there : (readable : List Bool) (p q s : ℕ) → p ≡ q + 1 → get_or readable q false ≡ true →
+    IsNextUnreadable readable p s → IsNextUnreadable readable q s
 up_to_there readable p q s hp marked up = record {
   above = omega (arith, up.above, hp);
   within = up.within;
@@ -34,29 +36,28 @@ up_to_there readable p q s hp marked up = record {
   unreadable = up.unreadable;
 }
 
--- the bytes that are searched at page q
-part_is : (image : Image) (bytes part : List ℕ) (q s size : ℕ) → size ≡ image.geometry.page → part ≡ between (q * size) (s * size) bytes → part ≡ readable_bytes image bytes q s
-part_is image bytes part q s size hs hp = hp ∙ ap (λ k. between (q * k) (s * k) bytes) hs
+-- one page down, where the bytes from page q on up to where the readable pages end are searched
+module _ {image : Image} {bytes part : List ℕ} {readable : List Bool} {p q s size : ℕ} (hp : p ≡ q + 1)
+    (hs : size ≡ image.geometry.page) (is : part ≡ between (q * size) (s * size) bytes)
+    (h : IsBuffered image 0 bytes readable) (up : IsNextUnreadable readable q s) where
+  part_is : part ≡ readable_bytes image bytes q s
+  part_is = rw hs at is
 
--- a record at page q
-pub step_more : (image : Image) (bytes part : List ℕ) (readable : List Bool) (p q s size n r : ℕ) (k : Option ℕ) (old new : RecordsSeen) → p ≡ q + 1 → size ≡ image.geometry.page →
-    part ≡ between (q * size) (s * size) bytes → IsBuffered image 0 bytes readable → IsNextUnreadable readable q s → BeginsWithSome image.geometry part n r k →
-    AddsRecord old new q n → AreSeenFrom (StandsFrom image) p old → AreSeenFrom (StandsFrom image) q new
-step_more image bytes part readable p q s size n r k old new hp hs is h up some adds found =
-    found_more (StandsFrom image) q n old new
-    (some.contents, stands_of_front image bytes readable q s some.contents h up (here some.contents some.begins), some.generation)
-    (λ m t. sym t.2 ∙ ap (λ c. c.generation) (one_record_lem image.geometry (readable_bytes image bytes q s) t.0 some.contents
-    (front_of_stands image bytes readable q s t.0 h up t.1) (here some.contents some.begins)) ∙ some.generation)
-    (rw (sym hp) found) adds
-  where
-    here : (c : Contents) → BeginsWithRecord image.geometry part c → BeginsWithRecord image.geometry (readable_bytes image bytes q s) c
-    here c b = rw (part_is image bytes part q s size hs is) at b
+  -- a record at page q
+  pub step_more : {n r : ℕ} {k : Option ℕ} {old new : RecordsSeen} → BeginsWithSome image.geometry part n r k →
+      AddsRecord old new q n → AreSeenFrom (StandsFrom image) p old →
+      AreSeenFrom (StandsFrom image) q new
+  step_more {n} some adds found =
+      found_more n (some.contents, stands_of_front h up begins, some.generation)
+      (λ m t.
+      let same : t.0 ≡ some.contents = one_record_lem image.geometry _ _ _ (front_of_stands h up t.1) begins in
+      sym t.2 ∙ ap (λ c. c.generation) same ∙ some.generation)
+      (rw hp at found) adds
+    where
+      begins : BeginsWithRecord image.geometry (readable_bytes image bytes q s) some.contents
+      begins = rw part_is at some.begins
 
--- no record at page q
-pub step_none : (image : Image) (bytes part : List ℕ) (readable : List Bool) (p q s size : ℕ) (found : RecordsSeen) → p ≡ q + 1 → size ≡ image.geometry.page →
-    part ≡ between (q * size) (s * size) bytes → IsBuffered image 0 bytes readable → IsNextUnreadable readable q s → ((c : Contents) → BeginsWithRecord image.geometry part c → ⊥) →
-    AreSeenFrom (StandsFrom image) p found → AreSeenFrom (StandsFrom image) q found
-step_none image bytes part readable p q s size found hp hs is h up none before =
-    found_none (StandsFrom image) q found
-    (λ m t. none t.0 (rw (part_is image bytes part q s size hs is) (front_of_stands image bytes readable q s t.0 h up t.1)))
-    (rw (sym hp) before)
+  -- no record at page q
+  pub step_none : {seen : RecordsSeen} → ((c : Contents) → BeginsWithRecord image.geometry part c → ⊥) →
+      AreSeenFrom (StandsFrom image) p seen → AreSeenFrom (StandsFrom image) q seen
+  step_none none before = found_none (λ m t. none t.0 (rw part_is (front_of_stands h up t.1))) (rw hp at before)

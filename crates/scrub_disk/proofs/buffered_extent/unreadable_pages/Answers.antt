@@ -8,9 +8,12 @@ pub loop-page-preserved : goal.loop-page-preserved
 loop-page-preserved c =
     elim c.if-not-readable-page.branch [
       | then-not-readable-page+in_ok-push w ↦
-          ap (λ v. v.items) w.unreadable-is ∙ w.in_ok-push.ensures.items ∙ ap (λ xs. xs ++ c.loop-page.page ∷ []) c.loop-page.invariant
-          ∙ sym (filter_yes (λ g. not (get_or c.args.readable.now g false)) c.loop-page.page (ap not w.if-not-readable-page.true))
+          ap (λ v. v.items) w.unreadable-is ∙ w.in_ok-push.ensures.items
+          ∙ ap (λ xs. xs ++ c.loop-page.page ∷ []) c.loop-page.invariant
+          ∙ sym
+          (filter_yes (λ g. not (get_or c.args.readable.now g false)) c.loop-page.page (ap not w.if-not-readable-page.true))
       | else-not-readable-page w ↦
           ap (λ v. v.items) w.unreadable-is ∙ c.loop-page.invariant
-          ∙ sym (filter_no (λ g. not (get_or c.args.readable.now g false)) c.loop-page.page (ap not w.if-not-readable-page.false))
+          ∙ sym
+          (filter_no (λ g. not (get_or c.args.readable.now g false)) c.loop-page.page (ap not w.if-not-readable-page.false))
     ]

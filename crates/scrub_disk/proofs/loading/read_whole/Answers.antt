@@ -10,13 +10,16 @@ loop-done-preserved g c =
     let within : c.loop-done.done ≤ length c.loop-done.out = omega arith in
     let piece : length c.read_at.new.out ≡ length c.loop-done.out - c.loop-done.done = search rules in
     let kept : length (put_mid c.loop-done.done (length c.loop-done.out - c.loop-done.done) c.loop-done.out c.read_at.new.out) ≡ length c.loop-done.out =
-    length-put c.loop-done.out c.read_at.new.out c.loop-done.done (length c.loop-done.out - c.loop-done.done) (omega arith) piece in
+    length-put c.loop-done.out c.read_at.new.out c.loop-done.done (length c.loop-done.out - c.loop-done.done)
+    (omega arith) piece in
     record {
       same_bytes = cc;
       same_bound = cc;
       failures = search rules;
       reads = omega arith;
       within = omega (arith, c.in-Ok.ensures.read.within, kept, piece);
-      so_far = read_more (g.R.RawImage.bytes c.args.raw.now) (g.R.RawImage.bytes c.loop-done.raw) c.args.offset c.loop-done.done c.in-Ok.n c.loop-done.out c.read_at.new.out
+      so_far =
+          read_more (g.R.RawImage.bytes c.args.raw.now) (g.R.RawImage.bytes c.loop-done.raw) c.args.offset
+          c.loop-done.done c.in-Ok.n c.loop-done.out c.read_at.new.out
           c.loop-done.invariant.same_bytes within piece c.loop-done.invariant.so_far c.in-Ok.ensures.read;
     }

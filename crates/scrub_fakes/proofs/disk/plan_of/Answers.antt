@@ -1,8 +1,7 @@
 -- The plan follows what was chosen on the disk, and has all extents but extent 0.
-use Rattle.std.proofs.Common.{◌≡◌, ◌∙◌, ◌==◌, ℕ, [], true, ap, sym, length, arith}
+use Rattle.std.proofs.Common.{◌≡◌, ◌∙◌, ◌==◌, ℕ, [], true, sym, length, arith}
 use Rattle.std.proofs.lemmas.Bool.Decides.{nat_tests}
 use Rattle.std.proofs.lemmas.List.{nil_from_length}
-use Rattle.scrub_super.specs.Planned.{extents_in_use}
 use Rattle.scrub_super.proofs.Plans.{all_kept}
 use Rattle.scrub_fakes.proofs.disk.plan_of.Goals as goal
 
@@ -12,5 +11,6 @@ is_none n empty = grind (arith, nat_tests, empty)
 
 pub returns-clause-planned : goal.returns-clause-planned
 returns-clause-planned c =
-    let none : c.in_ok-plan.plan.retired ≡ [] = sym c.retired.ensures.retired ∙ nil_from_length c.retired.result.now (is_none (length c.retired.result.now) (sym c.is_empty.ensures ∙ c.if-not-is_empty.false)) in
-    c.in_ok-plan.ensures.all ∙ ap (λ g. extents_in_use g.extents c.in_ok-plan.plan.retired) c.in_ok-chosen.ensures.geometry ∙ ap (extents_in_use c.args.disk.now.geometry.extents) none ∙ all_kept c.args.disk.now.geometry.extents
+    let empty = is_none (length c.retired.result.now) (sym c.is_empty.ensures ∙ c.if-not-is_empty.false) in
+    let none : c.in_ok-plan.plan.retired ≡ [] = sym c.retired.ensures.retired ∙ nil_from_length c.retired.result.now empty in
+    (rw (c.in_ok-chosen.ensures.geometry, none) at c.in_ok-plan.ensures.all) ∙ all_kept c.args.disk.now.geometry.extents

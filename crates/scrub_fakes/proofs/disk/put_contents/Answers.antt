@@ -1,12 +1,10 @@
 -- The record was written to an empty list, and put where the page begins.
 use Rattle.std.proofs.Common.{◌∙◌, refl}
-use Rattle.scrub_disk.specs.Memory.{image_of}
 use Rattle.scrub_fakes.proofs.Built.{puts_record}
 use Rattle.scrub_fakes.proofs.disk.put_contents.Goals as goal
 
 pub returns : goal.returns
 returns c =
-    puts_record (image_of c.args.disk.now) (image_of c.put.new.disk) c.args.page c.page.result c.len.result c.geometry-geometry.result
-    c.args.superblock.now c.args.superblock.now c.deref.result.now c.write_record.new.out.items c.new-record.result.items
-    c.geometry-geometry.ensures c.page.ensures refl c.new-record.ensures.items c.in_ok-write_record.ensures.ok c.deref.ensures.value
-    (c.len.ensures ∙ c.write_record.new.out.ok.0) c.in_ok-put.ensures
+    puts_record c.geometry-geometry.ensures c.page.ensures refl c.new-record.ensures.items
+    c.in_ok-write_record.ensures.ok c.deref.ensures.value (c.len.ensures ∙ c.write_record.new.out.ok.0)
+    c.in_ok-put.ensures

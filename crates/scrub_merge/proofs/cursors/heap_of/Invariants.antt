@@ -10,5 +10,6 @@ use Rattle.scrub_merge.proofs.cursors.heap_of.Given as goal
 abbrev pub invariant-loop-number : goal.invariant-loop-number
 invariant-loop-number l = record {
   heap : IsHeapOver (λ k. k < l.number) l.runs (heap_items l.heap);
-  runs : (k : ℕ) (entries : List EntryValue) → k < l.number → slice_get l.runs k ≡ Some (Some entries) → AreEntries entries;
+  runs : (k : ℕ) (entries : List EntryValue) → k < l.number → slice_get l.runs k ≡ Some (Some entries) →
+      AreEntries entries;
 }

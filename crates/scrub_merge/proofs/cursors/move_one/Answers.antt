@@ -1,9 +1,7 @@
 -- The heap has nothing of the run, and then what its cursor stands on.
-use Rattle.std.specs.BinaryHeap.{heap_items}
 use Rattle.scrub_merge.proofs.Heaps.{pushed_on, on_both}
 use Rattle.scrub_merge.proofs.cursors.move_one.Goals as goal
 
 pub returns-clause-heap : goal.returns-clause-heap
 returns-clause-heap c = on_both c.push_under.result c.push_under.ensures.pushed c.push_under.ensures.order
-    (λ p keeps. pushed_on c.args.runs.now c.args.places.now c.args.number c.index-runs-number.result (heap_items c.args.heap.now) (heap_items c.push_under.new.heap) c.requires.count c.requires.within
-    c.index-runs-number.is c.requires.heap p keeps)
+    (pushed_on c.args.runs.now c.args.places.now c.args.number c.requires.count c.requires.within c.index-runs-number.is c.requires.heap)

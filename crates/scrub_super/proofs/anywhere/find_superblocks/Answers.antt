@@ -4,5 +4,7 @@ use Rattle.scrub_super.proofs.anywhere.find_superblocks.Goals as goal
 
 pub returns-clause-found : goal.returns-clause-found
 returns-clause-found g c =
-    found_told (g.R.RawImage.bytes c.args.raw.now) c.args.marked.now c.in_ok-blocks.blocks.lost.items _ c.in_ok-blocks.blocks.bytes.items c.in_ok-records.records.items c.in_ok-lost.lost.items
-    c.in_ok-blocks.ensures.read c.in_ok-blocks.ensures.marks (rw (c.deref.ensures.value, c.deref-2.ensures.value) at c.in_ok-records.ensures) (rw c.deref-3.ensures.value at c.in_ok-lost.ensures)
+    found_told (g.R.RawImage.bytes c.args.raw.now) c.args.marked.now _ c.in_ok-blocks.ensures.read
+    c.in_ok-blocks.ensures.marks
+    (rw (c.deref.ensures.value, c.deref-2.ensures.value) at c.in_ok-records.ensures)
+    (rw c.deref-3.ensures.value at c.in_ok-lost.ensures)

@@ -9,8 +9,8 @@ loop-page-preserved-in-Some c =
     record {
       up_to = c.readable_end-end.ensures;
       few = omega (arith, c.loop-page.invariant.few, c.with_record-seen.ensures.records, next);
-      seen = λ page h. step_more (record { geometry = c.args.geometry; page = page }) c.args.bytes.now _ c.args.readable.now c.loop-page.page (c.loop-page.page - 1) c.readable_end-end.result
-          c.page-size.result c.in-Some.head.generation c.in-Some.head.runs c.in-Some.head.retired c.loop-page.seen c.with_record-seen.result next c.page-size.ensures refl h c.readable_end-end.ensures c.in-Some.ensures.found
+      seen = λ page h.
+          step_more next c.page-size.ensures refl h c.readable_end-end.ensures c.in-Some.ensures.found
           c.with_record-seen.ensures (c.loop-page.invariant.seen page h);
     }
 
@@ -20,12 +20,17 @@ loop-page-preserved c =
     record {
       up_to = c.readable_end-end.ensures;
       few = omega (arith, c.loop-page.invariant.few, next);
-      seen = λ page h. step_none (record { geometry = c.args.geometry; page = page }) c.args.bytes.now _ c.args.readable.now c.loop-page.page (c.loop-page.page - 1) c.readable_end-end.result
-          c.page-size.result c.loop-page.seen next c.page-size.ensures refl h c.readable_end-end.ensures c.in_default.ensures.none (c.loop-page.invariant.seen page h);
+      seen = λ page h.
+          step_none next c.page-size.ensures refl h c.readable_end-end.ensures c.in_default.ensures.none
+          (c.loop-page.invariant.seen page h);
     }
 
 pub readable_end-end-requires-clause-next : goal.readable_end-end-requires-clause-next
-readable_end-end-requires-clause-next c = let next : c.loop-page.page ≡ c.loop-page.page - 1 + 1 = omega (arith, c.loop-page-test.true) in rw (sym next) c.loop-page.invariant.up_to
+readable_end-end-requires-clause-next c =
+    let next : c.loop-page.page ≡ c.loop-page.page - 1 + 1 = omega (arith, c.loop-page-test.true) in
+    rw (sym next) c.loop-page.invariant.up_to
 
 pub returns : goal.returns
-returns c = λ page h. let e : c.loop-page.page ≡ 0 = omega (arith, c.loop-page-test.false) in rw e at (c.loop-page.invariant.seen page h)
+returns c = λ page h.
+    let e : c.loop-page.page ≡ 0 = omega (arith, c.loop-page-test.false) in
+    rw e at (c.loop-page.invariant.seen page h)

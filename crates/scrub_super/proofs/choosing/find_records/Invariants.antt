@@ -9,6 +9,7 @@ abbrev pub invariant-loop-page : goal.invariant-loop-page
 invariant-loop-page l = record {
   up_to : IsNextUnreadable l.readable l.page l.end;
   few : l.seen.records + l.page ≤ length l.readable;
-  seen : (page : ℕ → ℕ → Option (List ℕ)) → IsBuffered (record { geometry = l.geometry; page = page }) 0 l.bytes l.readable →
+  seen : (page : ℕ → ℕ → Option (List ℕ)) →
+      IsBuffered (record { geometry = l.geometry; page = page }) 0 l.bytes l.readable →
       AreSeenFrom (StandsFrom (record { geometry = l.geometry; page = page })) l.page l.seen;
 }

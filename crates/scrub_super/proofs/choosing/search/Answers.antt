@@ -4,5 +4,5 @@ use Rattle.scrub_super.proofs.choosing.search.Goals as goal
 
 pub returns-clause-seen : goal.returns-clause-seen
 returns-clause-seen g c =
-    found_of (g.D.PageSource.image c.args.disk.now) c.geometry.result _ c.in_ok-extent.extent.bytes.items _ c.in_ok-extent.extent.readable.items c.find_records-seen.result
-    c.geometry.ensures c.deref.ensures.value c.deref-2.ensures.value c.in_ok-extent.ensures c.find_records-seen.ensures
+    found_of c.geometry.ensures c.deref.ensures.value c.deref-2.ensures.value c.in_ok-extent.ensures
+    c.find_records-seen.ensures

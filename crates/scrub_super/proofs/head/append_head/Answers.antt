@@ -4,5 +4,6 @@ use Rattle.scrub_super.proofs.head.append_head.Goals as goal
 
 pub returns-in-Some-clause-items : goal.returns-in-Some-clause-items
 returns-in-Some-clause-items c =
-    head_written c.args.geometry c.args.out.now.items c.append-in-Some.new.out.items c.append-in-Some-2.new.out.items c.to_be_bytes.result c.args.head.generation c.args.head.runs c.in-Some.retired c.args.head.retired
-    c.in-Some.is (rw c.front_of-in-Some.ensures at c.append-in-Some.ensures.items) c.to_be_bytes.ensures c.append-in-Some-2.ensures.items
+    head_written c.args.geometry c.args.out.now.items c.args.head.generation c.args.head.runs
+    c.in-Some.is (rw c.front_of-in-Some.ensures at c.append-in-Some.ensures.items) c.to_be_bytes.ensures
+    c.append-in-Some-2.ensures.items

@@ -3,4 +3,4 @@ use Rattle.scrub_super.proofs.Extents.{found_extent}
 use Rattle.scrub_super.proofs.plan.has_extent.Goals as goal
 
 pub returns : goal.returns
-returns c = c.is_ok.ensures.value ∙ found_extent c.args.extents.now c.args.extent c.binary_search.result c.requires c.binary_search.ensures.position
+returns c = c.is_ok.ensures.value ∙ found_extent _ c.args.extent _ c.requires c.binary_search.ensures.position

@@ -1,5 +1,5 @@
 -- The law, by the parts that stand in bytes that begin with a record.
-use Rattle.scrub_super.proofs.Records.{one_record_lem}
+use Rattle.scrub_super.proofs.OneRecord.{one_record_lem}
 use Rattle.scrub_super.proofs.record.one_record.Goals as goal
 
 pub returns : goal.returns

@@ -1,25 +1,36 @@
 -- The room that was reserved is enough, and what is appended is the record.
-use Rattle.std.proofs.Common.{arith, ap, ◌∙◌, ◌++◌}
-use Rattle.scrub_super.specs.Record.{record_body}
-use Rattle.scrub_super.proofs.Records.{head_sizes, few_runs, small_head, cuts_size, record_written, record_again}
+use Rattle.std.proofs.Common.{arith}
+use Rattle.scrub_super.proofs.Fronts.{head_sizes}
+use Rattle.scrub_super.proofs.Written.{small_head, few_runs, cuts_size, record_written, record_again}
 use Rattle.scrub_super.proofs.record.write_record.Goals as goal
 
 pub cuts_of-requires-clause-small : goal.cuts_of-requires-clause-small
-cuts_of-requires-clause-small c = small_head c.args.geometry c.args.superblock.now c.head_of.result c.head_of.ensures c.requires.retired
+cuts_of-requires-clause-small c = small_head c.args.geometry c.args.superblock.now c.head_of.ensures c.requires.retired
 
 pub overflow_add-cuts_of : goal.overflow_add-cuts_of
 overflow_add-cuts_of c =
-    omega (arith, c.cuts_of.ensures.digest_at, small_head c.args.geometry c.args.superblock.now c.head_of.result c.head_of.ensures c.requires.retired, few_runs c.args.superblock.now c.head_of.result c.head_of.ensures c.requires.runs, c.args.geometry.extent_count.most, head_sizes c.head_of.result.retired)
+    omega (
+      arith,
+      c.cuts_of.ensures.digest_at,
+      small_head c.args.geometry c.args.superblock.now c.head_of.ensures c.requires.retired,
+      few_runs c.args.superblock.now c.head_of.ensures c.requires.runs,
+      c.args.geometry.extent_count.most,
+      head_sizes c.head_of.result.retired,
+    )
 
 pub append_body-requires-clause-room : goal.append_body-requires-clause-room
 append_body-requires-clause-room c =
-    omega (arith, cuts_size c.args.geometry c.args.superblock.now c.head_of.result c.cuts_of.result c.head_of.ensures c.cuts_of.ensures c.requires.pointers, c.in_ok-reserve.ensures)
+    omega (
+      arith,
+      cuts_size c.args.geometry c.args.superblock.now c.head_of.ensures c.cuts_of.ensures c.requires.pointers,
+      c.in_ok-reserve.ensures,
+    )
 
 pub append-requires : goal.append-requires
 append-requires c =
     omega (
       arith,
-      cuts_size c.args.geometry c.args.superblock.now c.head_of.result c.cuts_of.result c.head_of.ensures c.cuts_of.ensures c.requires.pointers,
+      cuts_size c.args.geometry c.args.superblock.now c.head_of.ensures c.cuts_of.ensures c.requires.pointers,
       c.append_body.ensures.size,
       c.append_body.ensures.capacity,
       c.in_ok-reserve.ensures,
@@ -27,11 +38,16 @@ append-requires c =
 
 pub returns-clause-ok : goal.returns-clause-ok
 returns-clause-ok c =
-    record_written c.args.geometry c.args.superblock.now c.args.out.now.items c.append_body.new.out.items c.append.new.out.items c.deref.result.now c.digest_of-digest.result c.len-start.result
-    (c.append_body.ensures.items ∙ ap (λ t. t ++ record_body c.args.geometry c.args.superblock.now) c.in_ok-reserve.ensures.items)
+    record_written c.args.geometry c.args.superblock.now c.args.out.now.items
+    (rw c.in_ok-reserve.ensures.items at c.append_body.ensures.items)
     c.deref.ensures.value (omega arith) c.digest_of-digest.ensures c.append.ensures.items
 
 pub returns-clause-read_again : goal.returns-clause-read_again
 returns-clause-read_again c = λ rest.
-    record_again c.args.geometry c.args.superblock.now c.args.out.now.items c.append.new.out.items rest _ (omega arith) (returns-clause-ok c)
-    c.append_body.ensures.generation c.requires.pointers c.requires.retired c.requires.runs c.append_body.ensures.fit
+    record_again c.args.geometry c.args.superblock.now c.args.out.now.items _ rest _ (omega arith) (returns-clause-ok c)
+    (record {
+      generation = c.append_body.ensures.generation;
+      pointers = c.requires.pointers;
+      retired = c.requires.retired;
+      runs = record { count = c.requires.runs; each = c.append_body.ensures.fit };
+    })

@@ -1,12 +1,12 @@
 -- What is found in memory is what the image holds.
 use Rattle.std.proofs.Common.{◌∙◌, ap, arith, length}
 use Rattle.scrub_super.specs.PagesFound.{AreFoundOnPages}
-use Rattle.scrub_super.specs.RecordsSeen.{AreSeenFrom, StandsFrom}
 use Rattle.scrub_super.proofs.PageSteps.{found_on, pages_on}
 use Rattle.scrub_super.proofs.surveying.choose_with_pages.Goals as goal
 
 pub seen_in-seen-requires : goal.seen_in-seen-requires
-seen_in-seen-requires g c = omega (arith, c.deref-3.ensures.len, c.in_ok-found.ensures.count, c.geometry-geometry.result.page_count.most)
+seen_in-seen-requires g c =
+    omega (arith, c.deref-3.ensures.len, c.in_ok-found.ensures.count, c.geometry-geometry.result.page_count.most)
 
 pub pages_of-requires-clause-count : goal.pages_of-requires-clause-count
 pages_of-requires-clause-count g c = ap length c.deref-6.ensures.value ∙ c.in_ok-found.ensures.count
@@ -15,16 +15,15 @@ pub chosen_by-requires-clause-seen : goal.chosen_by-requires-clause-seen
 chosen_by-requires-clause-seen g c κs within =
     let image = g.D.PageSource.image c.args.disk.now in
     let are : AreFoundOnPages image c.in_ok-found.found.items =
-    found_on image c.geometry-geometry.result _ c.in_ok-extent.extent.bytes.items _ c.in_ok-extent.extent.readable.items c.in_ok-found.found.items
-    c.geometry-geometry.ensures c.deref.ensures.value c.deref-2.ensures.value c.in_ok-extent.ensures c.in_ok-found.ensures.found in
+    found_on c.geometry-geometry.ensures c.deref.ensures.value c.deref-2.ensures.value c.in_ok-extent.ensures
+    c.in_ok-found.ensures.found in
     c.seen_in-seen.ensures image (rw c.deref-3.ensures.value are)
 
 pub returns-clause-pages : goal.returns-clause-pages
 returns-clause-pages g c =
     let image = g.D.PageSource.image c.args.disk.now in
     let are : AreFoundOnPages image c.in_ok-found.found.items =
-    found_on image c.geometry-geometry.result _ c.in_ok-extent.extent.bytes.items _ c.in_ok-extent.extent.readable.items c.in_ok-found.found.items
-    c.geometry-geometry.ensures c.deref.ensures.value c.deref-2.ensures.value c.in_ok-extent.ensures c.in_ok-found.ensures.found in
-    let seen : AreSeenFrom (StandsFrom image) 0 c.seen_in-seen.result = c.seen_in-seen.ensures image (rw c.deref-3.ensures.value are) in
-    pages_on image c.geometry-geometry.result _ c.in_ok-extent.extent.bytes.items _ c.in_ok-extent.extent.readable.items _ c.in_ok-found.found.items c.seen_in-seen.result c.in_ok-pages.pages.items
-    c.geometry-geometry.ensures c.deref-4.ensures.value c.deref-5.ensures.value c.deref-6.ensures.value c.in_ok-extent.ensures are seen c.in_ok-pages.ensures
+    found_on c.geometry-geometry.ensures c.deref.ensures.value c.deref-2.ensures.value c.in_ok-extent.ensures
+    c.in_ok-found.ensures.found in
+    pages_on c.geometry-geometry.ensures c.deref-4.ensures.value c.deref-5.ensures.value c.in_ok-extent.ensures
+    c.deref-6.ensures.value are (c.seen_in-seen.ensures image (rw c.deref-3.ensures.value are)) c.in_ok-pages.ensures

@@ -10,5 +10,6 @@ invariant-loop-page l = record {
   up_to : IsNextUnreadable l.readable l.page l.end;
   count : length l.found.items ≡ length l.readable;
   found : (page : ℕ → ℕ → Option (List ℕ)) → IsBuffered (image_with l.geometry page) 0 l.bytes l.readable →
-      (q : ℕ) → l.page ≤ q → q < length l.readable → IsFoundOnPage (image_with l.geometry page) q (get_or l.found.items q None);
+      (q : ℕ) → l.page ≤ q → q < length l.readable →
+      IsFoundOnPage (image_with l.geometry page) q (get_or l.found.items q None);
 }

@@ -1,13 +1,11 @@
 -- What the head tells of the record.
 use Rattle.std.proofs.Common.{refl}
-use Rattle.scrub_super.proofs.Records.{small_some}
+use Rattle.scrub_super.proofs.Found.{small_some}
 use Rattle.scrub_super.proofs.PageSteps.{found_by_head}
 use Rattle.scrub_super.proofs.surveying.found_at.Goals as goal
 
 pub cuts_of-requires-clause-small : goal.cuts_of-requires-clause-small
-cuts_of-requires-clause-small c = small_some c.args.geometry _ c.in_ok-head.head.generation c.in_ok-head.head.runs c.in_ok-head.head.retired c.in_ok-head.ensures.found
+cuts_of-requires-clause-small c = small_some c.in_ok-head.ensures.found
 
 pub returns-clause-found : goal.returns-clause-found
-returns-clause-found c =
-    found_by_head c.args.geometry _ _ c.args.start c.in_ok-head.head.generation c.in_ok-head.head.runs _ c.in_ok-head.head.retired c.cuts_of.result c.kind_by.result refl c.in_ok-head.ensures.found
-    c.cuts_of.ensures c.kind_by.ensures refl
+returns-clause-found c = found_by_head refl c.in_ok-head.ensures.found c.cuts_of.ensures c.kind_by.ensures refl

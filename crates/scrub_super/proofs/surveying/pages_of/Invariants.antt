@@ -10,7 +10,10 @@ use Rattle.scrub_super.proofs.surveying.pages_of.Given as goal
 abbrev pub invariant-loop-page : goal.invariant-loop-page
 invariant-loop-page l = record {
   count : length l.pages.items ≡ l.page;
-  each : (page : ℕ → ℕ → Option (List ℕ)) → IsBuffered (image_with l.fn.geometry page) 0 l.bytes l.readable → AreFoundOnPages (image_with l.fn.geometry page) l.found →
-      AreSeenFrom (StandsFrom (image_with l.fn.geometry page)) 0 l.seen → (q : ℕ) (p : SuperblockPage) → slice_get l.pages.items q ≡ Some p → IsSuperblockPage (image_with l.fn.geometry page) q p;
-  reach : (page : ℕ → ℕ → Option (List ℕ)) → AreFoundOnPages (image_with l.fn.geometry page) l.found → IsRecordReach (image_with l.fn.geometry page) l.page l.reach;
+  each : (page : ℕ → ℕ → Option (List ℕ)) → IsBuffered (image_with l.fn.geometry page) 0 l.bytes l.readable →
+      AreFoundOnPages (image_with l.fn.geometry page) l.found →
+      AreSeenFrom (StandsFrom (image_with l.fn.geometry page)) 0 l.seen → (q : ℕ) (p : SuperblockPage) →
+      slice_get l.pages.items q ≡ Some p → IsSuperblockPage (image_with l.fn.geometry page) q p;
+  reach : (page : ℕ → ℕ → Option (List ℕ)) → AreFoundOnPages (image_with l.fn.geometry page) l.found →
+      IsRecordReach (image_with l.fn.geometry page) l.page l.reach;
 }

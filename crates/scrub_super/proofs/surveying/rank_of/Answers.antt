@@ -6,19 +6,19 @@ use Rattle.scrub_super.proofs.surveying.rank_of.Goals as goal
 
 pub returns-in-Some : goal.returns-in-Some
 returns-in-Some c = λ image q d seen s e greatest.
-    newer_found image c.args.seen c.in-Some.newest d.generation seen c.in-Some.is (omega (arith, e, c.if-generation-newest.true)) greatest
+    newer_found seen c.in-Some.is (omega (arith, e, c.if-generation-newest.true)) greatest
 
 pub returns-in-Some-2 : goal.returns-in-Some-2
 returns-in-Some-2 c = λ image q d seen s e. (
-  greatest_found image c.args.seen c.in-Some.newest d.generation seen c.in-Some.is (omega (arith, e, c.if-generation-newest.false)),
-  (tie_found image c.args.seen c.in-Some-2.newest seen c.in-Some-2.is).0 c.if-newest.true,
+  greatest_found seen c.in-Some.is (omega (arith, e, c.if-generation-newest.false)),
+  (tie_found seen c.in-Some-2.is).0 c.if-newest.true,
 )
 
 pub returns-in_default : goal.returns-in_default
 returns-in_default c = λ image q d seen s e. (
-  greatest_found image c.args.seen c.in-Some.newest d.generation seen c.in-Some.is (omega (arith, e, c.if-generation-newest.false)),
-  (λ tie. false≢true (sym c.if-newest.false ∙ (tie_found image c.args.seen c.in-Some-2.newest seen c.in-Some-2.is).1 tie)),
+  greatest_found seen c.in-Some.is (omega (arith, e, c.if-generation-newest.false)),
+  (λ tie. false≢true (sym c.if-newest.false ∙ (tie_found seen c.in-Some-2.is).1 tie)),
 )
 
 pub returns-in_default-2 : goal.returns-in_default-2
-returns-in_default-2 c = λ image q d seen s e. absurd (nothing_found image c.args.seen q d seen c.in_default.is s)
+returns-in_default-2 c = λ image q d seen s e. absurd (nothing_found seen c.in_default.is s)

@@ -8,8 +8,9 @@ loop-page-preserved-in-Some c =
     let next : c.loop-page.page ≡ c.loop-page.page - 1 + 1 = omega (arith, c.loop-page-test.true) in
     record {
       few = omega (arith, c.loop-page.invariant.few, c.with_record-seen.ensures.records, next);
-      seen = λ image are. seen_more image c.args.found.now c.loop-page.page (c.loop-page.page - 1) c.in-Some.record c.loop-page.seen c.with_record-seen.result next are (omega (arith, c.loop-page.invariant.few, next))
-          c.in-Some.is c.with_record-seen.ensures (c.loop-page.invariant.seen image are);
+      seen = λ image are.
+          seen_more next are (omega (arith, c.loop-page.invariant.few, next)) c.in-Some.is c.with_record-seen.ensures
+          (c.loop-page.invariant.seen image are);
     }
 
 pub loop-page-preserved : goal.loop-page-preserved
@@ -17,9 +18,12 @@ loop-page-preserved c =
     let next : c.loop-page.page ≡ c.loop-page.page - 1 + 1 = omega (arith, c.loop-page-test.true) in
     record {
       few = omega (arith, c.loop-page.invariant.few, next);
-      seen = λ image are. seen_none image c.args.found.now c.loop-page.page (c.loop-page.page - 1) c.loop-page.seen next are (omega (arith, c.loop-page.invariant.few, next))
-          c.in_default.is (c.loop-page.invariant.seen image are);
+      seen = λ image are.
+          seen_none next are (omega (arith, c.loop-page.invariant.few, next)) c.in_default.is
+          (c.loop-page.invariant.seen image are);
     }
 
 pub returns : goal.returns
-returns c = λ image are. let e : c.loop-page.page ≡ 0 = omega (arith, c.loop-page-test.false) in rw e at (c.loop-page.invariant.seen image are)
+returns c = λ image are.
+    let e : c.loop-page.page ≡ 0 = omega (arith, c.loop-page-test.false) in
+    rw e at (c.loop-page.invariant.seen image are)

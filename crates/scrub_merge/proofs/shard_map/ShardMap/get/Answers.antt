@@ -11,7 +11,8 @@ pub returns-in-Ok-clause-found : goal.returns-in-Ok-clause-found
 returns-in-Ok-clause-found c =
     let key : BindingValue → ShardId = λ b. b.id in
     ap key c.index.ensures
-    ∙ id_cmp_exact _ _ (rw c.deref.ensures.value at (c.in-Ok.ensures.position key (answers_always _ _ _ (λ f a r g k. search rules)) c.index.result.now))
+    ∙ id_cmp_exact _ _
+    (rw c.deref.ensures.value at (c.in-Ok.ensures.position key (answers_always _ _ _ (λ f a r g k. search rules)) c.index.result.now))
 
 pub returns-in-Err-clause-none : goal.returns-in-Err-clause-none
 returns-in-Err-clause-none c = λ b among same.

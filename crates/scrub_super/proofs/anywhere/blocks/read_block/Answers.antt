@@ -6,6 +6,7 @@ use Rattle.scrub_super.proofs.anywhere.blocks.read_block.Goals as goal
 
 pub returns-then-is_marked-clause-read : goal.returns-then-is_marked-clause-read
 returns-then-is_marked-clause-read g c =
-    block_read (g.R.RawImage.bytes c.args.raw.now) c.args.offset (g.R.RawImage.failures c.args.raw.now) (g.R.RawImage.failures c.read_front.new.raw) c.in-Ok.len c.args.is_marked
+    block_read (g.R.RawImage.bytes c.args.raw.now) c.args.offset (g.R.RawImage.failures c.args.raw.now)
+    (g.R.RawImage.failures c.read_front.new.raw) c.in-Ok.len c.args.is_marked
     _ c.read_front.new.out c.in-Ok.ensures.within (omega arith) c.in-Ok.ensures.read c.in-Ok.ensures.ended
     (λ lost. (c.if-is_marked.true, ltb-true 0 c.in-Ok.len lost)) (λ _ some. lt-ltb 0 c.in-Ok.len some)

@@ -14,5 +14,6 @@ invariant-loop-number g l = record {
   marks : length l.blocks.lost.items ≡ l.number;
   begins : (n : ℕ) → IsMarked l.blocks.lost.items n → n * 512 < length l.blocks.bytes.items;
   read : IfSome (g.R.RawImage.bytes l.initial.raw) (λ told.
-      AreBlocksRead told l.marked (g.R.RawImage.failures l.raw - g.R.RawImage.failures l.initial.raw) l.blocks.bytes.items l.blocks.lost.items);
+      AreBlocksRead told l.marked (g.R.RawImage.failures l.raw - g.R.RawImage.failures l.initial.raw)
+      l.blocks.bytes.items l.blocks.lost.items);
 }

@@ -7,13 +7,14 @@ use Rattle.scrub_super.proofs.anywhere.ranges.lost_ranges.Goals.{then-not-lost-b
 pub loop-block-preserved : goal.loop-block-preserved
 loop-block-preserved c =
     let from : RunsFrom c.args.lost.now c.if-not-lost-block.first (c.loop-block.block + 1) = elim c.if-not-lost-block.branch [
-      | then-not-lost-block w ↦ rw w.first-is (starts_behind c.args.lost.now c.loop-block.first c.loop-block.block w.if-not-lost-block.true)
-      | else-not-lost-block w ↦ rw w.first-is (goes_on c.args.lost.now c.loop-block.first c.loop-block.block w.if-not-lost-block.false c.loop-block.invariant.runs_from)
+      | then-not-lost-block w ↦ rw w.first-is (starts_behind c.loop-block.block w.if-not-lost-block.true)
+      | else-not-lost-block w ↦
+          rw w.first-is (goes_on c.loop-block.block w.if-not-lost-block.false c.loop-block.invariant.runs_from)
     ] in
     record {
       runs_from = from;
-      ranges = runs_next c.args.lost.now c.if-not-lost-block.first c.loop-block.block c.loop-block.ranges.items c.add_run.new.ranges.items from c.in_ok-add_run.ensures c.loop-block.invariant.ranges;
+      ranges = runs_next from c.in_ok-add_run.ensures c.loop-block.invariant.ranges;
     }
 
 pub returns : goal.returns
-returns c = all_runs c.args.lost.now c.loop-block.block c.loop-block.ranges.items (omega (arith, c.loop-block-test.false)) c.loop-block.invariant.ranges
+returns c = all_runs (omega (arith, c.loop-block-test.false)) c.loop-block.invariant.ranges

@@ -6,11 +6,12 @@ use Rattle.scrub_super.proofs.anywhere.search.readable_end.Goals as goal
 
 pub returns-then-lost-block : goal.returns-then-lost-block
 returns-then-lost-block c =
-    end_at_block c.args.bytes.now c.args.lost.now c.args.offset c.loop-block.block c.max.result c.requires.marks c.requires.within c.loop-block.auto.block c.if-lost-block.true c.loop-block.invariant
+    end_at_block c.requires.marks c.requires.within c.loop-block.invariant c.loop-block.auto.block
+    c.if-lost-block.true
     (elim (cases_lt c.args.offset (c.loop-block.block * 512)) [
       | inl ahead ↦ inr (omega (arith, c.max.ensures, ahead), omega (arith, ahead))
       | inr past ↦ inl (omega (arith, c.max.ensures, past), past)
     ])
 
 pub returns : goal.returns
-returns c = end_with_bytes c.args.bytes.now c.args.lost.now c.args.offset c.loop-block.block c.requires.marks c.requires.within c.loop-block-test.false c.loop-block.invariant
+returns c = end_with_bytes c.requires.marks c.requires.within c.loop-block.invariant c.loop-block-test.false

@@ -1,0 +1,109 @@
+-- The parts of the bytes that begin with a record, by its own numbers and by those that a head tells.
+use Rattle.std.proofs.Common.{◌≡◌, ◌+◌, ◌*◌, ◌-◌, ℕ, List, ◌++◌, length, take, drop, arith, length-append, sym, ◌∙◌, ap, Option}
+use Rattle.std.specs.List.{flat_map, between}
+use Rattle.byteorder.specs.Endian.{big_bytes}
+use Rattle.sha2.specs.Sha256.{sha256}
+use Rattle.sha2.proofs.Facts256.{length-sha256}
+use Rattle.scrub_disk.specs.declared.geometry.Geometry.{Geometry}
+use Rattle.scrub_frame.specs.Locator.{locator_bytes}
+use Rattle.scrub_frame.proofs.Locators.{length-locators}
+use Rattle.scrub_super.specs.declared.head.Cuts.{Cuts}
+use Rattle.scrub_super.specs.Contents.{Contents, retired_in}
+use Rattle.scrub_super.specs.Record.{head_bytes, record_body, record_bytes, AreContents, BeginsWithRecord}
+use Rattle.scrub_super.specs.RecordRead.{record_head_size, retired_count, IsHead, AreCuts}
+use Rattle.scrub_super.proofs.Cuts.{AreParts, parts_of, whole_of, body_of}
+use Rattle.scrub_super.proofs.Fronts.{length_head, one_head}
+use Rattle.scrub_super.proofs.Listed.{count_in, length_pointers, length_retired, small_count}
+
+-- where the parts of a record begin, whose head tells these numbers
+abbrev pub retired_place : Geometry → Option ℕ → ℕ
+retired_place g k = record_head_size k + 4 * (g.extents - 1)
+
+abbrev pub runs_place : Geometry → Option ℕ → ℕ
+runs_place g k = retired_place g k + 4 * retired_count k
+
+abbrev pub digest_place : Geometry → ℕ → Option ℕ → ℕ
+digest_place g r k = runs_place g k + 60 * r
+
+-- the bytes of these parts
+abbrev pub pointer_bytes : Geometry → Option ℕ → List ℕ → List ℕ
+pointer_bytes g k x = take (4 * (g.extents - 1)) (drop (record_head_size k) x)
+
+abbrev pub retired_bytes : Geometry → Option ℕ → List ℕ → List ℕ
+retired_bytes g k x = take (4 * retired_count k) (drop (retired_place g k) x)
+
+abbrev pub run_bytes : Geometry → ℕ → Option ℕ → List ℕ → List ℕ
+run_bytes g r k x = take (60 * r) (drop (runs_place g k) x)
+
+module _ {g : Geometry} {r : ℕ} {k : Option ℕ} {cuts : Cuts} (at : AreCuts g r k cuts) (x : List ℕ) where
+  pub pointers_cut : between cuts.pointers cuts.retired x ≡ pointer_bytes g k x
+  pointers_cut =
+      let size : cuts.retired - cuts.pointers ≡ 4 * (g.extents - 1) = omega arith in
+      rw (size, at.pointers_at)
+
+  pub retired_cut : between cuts.retired cuts.runs x ≡ retired_bytes g k x
+  retired_cut = let size : cuts.runs - cuts.retired ≡ 4 * retired_count k = omega arith in rw (size, at.retired_at)
+
+  pub runs_cut : between cuts.runs cuts.digest x ≡ run_bytes g r k x
+  runs_cut = let size : cuts.digest - cuts.runs ≡ 60 * r = omega arith in rw (size, at.runs_at)
+
+-- what the digest of some contents is taken of, behind a head that tells these numbers
+abbrev pub body_behind : Geometry → ℕ → ℕ → Option ℕ → Contents → List ℕ
+body_behind g n r k c =
+    head_bytes g n r k ++
+    (flat_map (big_bytes 4) c.pointers ++ (flat_map (big_bytes 4) (retired_in c) ++ flat_map locator_bytes c.runs))
+
+-- the parts of a record of these contents
+abbrev pub AreRecordParts : Geometry → List ℕ → ℕ → ℕ → Option ℕ → Contents → Type 0
+AreRecordParts g x n r k c =
+    AreParts x (head_bytes g n r k) (flat_map (big_bytes 4) c.pointers) (flat_map (big_bytes 4) (retired_in c))
+    (flat_map locator_bytes c.runs) (sha256 (body_behind g n r k c))
+    (record_head_size k) (4 * (g.extents - 1)) (4 * retired_count k) (60 * r)
+
+-- the parts and the head of a record
+module _ {g : Geometry} {x : List ℕ} {c : Contents} (b : BeginsWithRecord g x c) where
+  pub record_parts : AreRecordParts g x c.generation (length c.runs) (count_in c) c
+  record_parts =
+      parts_of b.rest (length_head g c.generation (length c.runs) (count_in c)) (length_pointers b.contents.pointers)
+      (length_retired c.retired) (length-locators c.runs b.contents.runs.each)
+      (length-sha256 _) b.spelled
+
+  pub is_head : IsHead g (take (record_head_size (count_in c)) x) c.generation (length c.runs) (count_in c)
+  is_head = record {
+    fits = b.contents.generation;
+    few = b.contents.runs.count;
+    small = small_count g c.retired b.contents.retired;
+    spelled = record_parts.head_is;
+  }
+
+-- how long the record of some contents is
+pub length_record : {g : Geometry} {c : Contents} → AreContents g c →
+    length (record_bytes g c) ≡ digest_place g (length c.runs) (count_in c) + 32
+length_record {g} {c} h =
+    simp length-append
+    (omega (
+      arith,
+      length-sha256 (record_body g c),
+      length_head g c.generation (length c.runs) (count_in c),
+      length_pointers h.pointers,
+      length_retired c.retired,
+      length-locators c.runs h.runs.each,
+    ))
+
+pub record_of_parts : {g : Geometry} {x : List ℕ} {c : Contents} → AreContents g c →
+    AreRecordParts g x c.generation (length c.runs) (count_in c) c → BeginsWithRecord g x c
+record_of_parts contents parts = record { contents = contents; rest = _; spelled = whole_of parts }
+
+-- the same by a head that stands there
+module _ {g : Geometry} {x : List ℕ} {n r : ℕ} {k : Option ℕ} {c : Contents}
+    (h : IsHead g (take (record_head_size k) x) n r k) (b : BeginsWithRecord g x c) where
+  -- the head is that of the record
+  pub record_head : (c.generation ≡ n) × (length c.runs ≡ r) × (count_in c ≡ k)
+  record_head = one_head x (is_head b) h
+
+  pub told_parts : AreRecordParts g x n r k c
+  told_parts = rw (record_head.0, record_head.1, record_head.2) at (record_parts b)
+
+  -- the digest stands behind what it is taken of
+  pub told_digest : take 32 (drop (digest_place g r k) x) ≡ sha256 (take (digest_place g r k) x)
+  told_digest = told_parts.digest_is ∙ ap sha256 (sym (body_of told_parts))

@@ -1,0 +1,82 @@
+-- Why no record stands where a test of the bytes fails.
+use Rattle.std.proofs.Common.{◌≡◌, ◌<◌, ◌≤◌, ◌+◌, ◌*◌, ℕ, List, length, take, drop, get_or, arith, refl, sym, ◌∙◌, ap, Bool, false, IsTrue, Option}
+use Rattle.std.specs.List.{flat_map, between}
+use Rattle.std.specs.Array.{IsFirstChunk}
+use Rattle.std.proofs.lemmas.Bool.{false≢true}
+use Rattle.byteorder.specs.Endian.{big_bytes, big_number}
+use Rattle.sha2.specs.Sha256.{sha256}
+use Rattle.scrub_disk.specs.declared.geometry.Geometry.{Geometry}
+use Rattle.scrub_frame.proofs.Bytes.{number-bytes, number-take}
+use Rattle.scrub_super.specs.declared.head.Cuts.{Cuts}
+use Rattle.scrub_super.specs.Contents.{Contents}
+use Rattle.scrub_super.specs.Planned.{AreRetired}
+use Rattle.scrub_super.specs.Record.{BeginsWithRecord}
+use Rattle.scrub_super.specs.RecordRead.{IsFront, IsHead, AreCuts, record_head_size, number_in, SpellExtents}
+use Rattle.scrub_super.proofs.Fronts.{front_of_head}
+use Rattle.scrub_super.proofs.Listed.{AreSmall, length_numbers, small_pointers, listed_extents}
+use Rattle.scrub_super.proofs.Parts.{part-flat_map}
+use Rattle.scrub_super.proofs.RecordParts.{digest_place, is_head, told_parts, told_digest, pointers_cut, retired_cut}
+
+-- no record stands where no front does
+pub no_front : {g : Geometry} {x y : List ℕ} {c : Contents} → IsFirstChunk x y 26 →
+    ((d n r : ℕ) → IsFront g y d n r → ⊥) → BeginsWithRecord g x c → ⊥
+no_front {x = x} first none b = none _ _ _ (rw (← first.same) at (front_of_head x (is_head b)))
+
+-- the k-th number that is spelled
+spelled_number : (ws : List ℕ) (k : ℕ) → AreSmall ws → k < length ws →
+    number_in (flat_map (big_bytes 4) ws) k ≡ get_or ws k 0
+spelled_number ws k small here =
+    sym (number-take (drop (4 * k) (flat_map (big_bytes 4) ws)))
+    ∙ ap (big_number 4) (part-flat_map (big_bytes 4) 4 k 0 ws (λ j d hj. refl) here)
+    ∙ number-bytes (get_or ws k 0) (small k 0 here)
+
+-- retired extents are spelled as such
+spells_extents : {e : ℕ} {xs : List ℕ} → e ≤ 65536 → AreRetired e xs → SpellExtents e (flat_map (big_bytes 4) xs)
+spells_extents {e} {xs} few h = record {
+  rising = λ k hk.
+      let next : k + 1 < length xs = omega (arith, length_numbers xs) in
+      rw (value k (omega arith), value (k + 1) next) (h.rising k next);
+  from_one = λ k hk.
+      let here : k < length xs = omega (arith, length_numbers xs) in
+      rw (value k here) (h.from_one k 0 here);
+  below = λ k hk. let here : k < length xs = omega (arith, length_numbers xs) in rw (value k here) (h.below k 0 here);
+}
+  where
+    value : (k : ℕ) → k < length xs → number_in (flat_map (big_bytes 4) xs) k ≡ get_or xs k 0
+    value k here = spelled_number xs k (λ i z hi. omega (arith, h.below i z hi)) here
+
+-- where a head stands, but not the rest
+module _ {g : Geometry} {x : List ℕ} {n r : ℕ} {k : Option ℕ} {c : Contents}
+    (h : IsHead g (take (record_head_size k) x) n r k) (b : BeginsWithRecord g x c) where
+  -- the bytes end before the digest does
+  pub too_short : {e : ℕ} → e ≡ digest_place g r k → length x < e + 32 → ⊥
+  too_short he short = omega (arith, (told_parts h b).enough)
+
+  -- another digest stands there
+  pub other_digest : {e : ℕ} {answer : Bool} → e ≡ digest_place g r k →
+      (take 32 (drop e x) ≡ sha256 (take e x) → IsTrue answer) → answer ≡ false → ⊥
+  other_digest he body wrong = false≢true (sym wrong ∙ body (rw he (told_digest h b)))
+
+  -- a pointer is over the limit
+  pub over_limit : {cuts : Cuts} {most : ℕ} {answer : Bool} → AreCuts g r k cuts → most ≡ g.page * g.pages →
+      (((j : ℕ) → 4 * j + 4 ≤ length (between cuts.pointers cuts.retired x) →
+      number_in (between cuts.pointers cuts.retired x) j ≤ most) → IsTrue answer) →
+      answer ≡ false → ⊥
+  over_limit at limit all over =
+      false≢true (sym over ∙ all (rw (pointers_cut at x, (told_parts h b).pointers_are, limit) within))
+    where
+      within : (j : ℕ) → 4 * j + 4 ≤ length (flat_map (big_bytes 4) c.pointers) →
+          number_in (flat_map (big_bytes 4) c.pointers) j ≤ g.page * g.pages
+      within j hj =
+          let here : j < length c.pointers = omega (arith, length_numbers c.pointers) in
+          rw (spelled_number c.pointers j (small_pointers b.contents.pointers) here)
+          (b.contents.pointers.within j 0 here)
+
+  -- the retired extents don't rise, or one is none of the disk's
+  pub not_extents : {cuts : Cuts} {e : ℕ} {answer : Bool} → AreCuts g r k cuts → e ≡ g.extents →
+      (SpellExtents e (between cuts.retired cuts.runs x) → IsTrue answer) → answer ≡ false → ⊥
+  not_extents at count all over =
+      false≢true
+      (sym over
+      ∙ all (rw (retired_cut at x, (told_parts h b).retired_are, count)
+      (spells_extents g.extent_count.most (listed_extents g.extents c.retired b.contents.retired))))
