@@ -1,4 +1,4 @@
--- What the named locators say of places and extents, sorted by the code, and what that says of an extent.
+-- What the named locators say of places and extents, sorted by the code, and what follows for an extent.
 use Rattle.std.specs.Prelude.{◌++◌, ◌∷◌, [], ℕ, not, List, map}
 use Rattle.std.specs.List.{filter}
 use Rattle.std.specs.List.Sorted.{IsPermutation}
@@ -10,15 +10,15 @@ use Rattle.scrub_check.specs.Checked.{is_sound}
 use Rattle.scrub_check.specs.SoundStarts.{AreSoundStarts}
 use Rattle.scrub_check.specs.Candidates.{CandidateValue, reclaimable}
 
--- the extents that those name that aren't sound, in some order
+-- the extents of the checked locators that aren't sound, each as often as it is named, in some order
 abbrev pub AreUnsoundExtents : List Checked → List ℕ → Type 0
 AreUnsoundExtents checked extents = IsPermutation (map (λ c. c.locator.extent) (filter (λ c. not (is_sound c.status)) checked)) extents
 
--- both of these locators
+-- the starts of the sound ones of these locators, and the extents of the others
 pub record AreVerdicts (checked : List Checked) (v : Verdicts) : Type 0 where
   pub sound : AreSoundStarts checked v.sound.now
   pub unsound : AreUnsoundExtents checked v.unsound
 
--- the candidates, and behind them the extent, where it may be reclaimed
+-- the candidates, and behind them the extent, if it may be reclaimed
 abbrev pub with_reclaimable : Geometry → List Checked → List CandidateValue → Scanned → List CandidateValue
 with_reclaimable g checked candidates f = candidates ++ reclaimable g (f ∷ []) checked
