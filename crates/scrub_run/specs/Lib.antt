@@ -1,4 +1,5 @@
--- The words that public clauses say, and those of the crate below that they cite.
+-- For public clauses.
 pub mod Entry
 pub mod Run
+-- Files of other crates that public clauses cite.
 pub use Rattle.scrub_frame.specs.Locator
