@@ -1,4 +1,4 @@
--- What the statuses and the lists of this crate rest on.
+-- The scan of a whole disk, on which the statuses and the lists of this crate rest.
 use Rattle.std.specs.Prelude.{◌≡◌, List}
 use Rattle.scrub_disk.specs.Image.{Image}
 use Rattle.scrub_super.specs.Planned.{extents_in_use}

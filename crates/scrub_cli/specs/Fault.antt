@@ -29,7 +29,8 @@ fault_of_words (help text) = Help text
 fault_of_words (Refused text) = Words text
 fault_of_words no_memory_to_read = OutOfMemory
 
--- the status of a fault: 2 for arguments, 3 for files and streams, 4 if memory ran out, 0 for help
+-- the status of a fault: 2 for arguments and for the text of a map, 3 for files and streams, 4 if memory ran out, 0 for
+-- help
 abbrev pub status_of : Fault → ℕ
 status_of NotUtf8 = 2
 status_of (Help text) = 0
@@ -49,7 +50,7 @@ status_of OutOfMemory = 4
 abbrev pub line : List ℕ → List ℕ
 line told = codes "shardscrub: " ++ told ++ 10 ∷ []
 
--- the text of a fault on the error stream, up to its line feed; a text of `clap` has its own
+-- the text of a fault on the error stream, with its line feed; a text of `clap` has its own
 abbrev pub text_of : Fault → List ℕ
 text_of NotUtf8 = line (codes "a word is not UTF-8")
 text_of (Help text) = text.bytes.items
