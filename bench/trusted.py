@@ -1,21 +1,25 @@
 #!/usr/bin/env python3
-"""Writes docs/TRUSTED.md: the spec files on which the contract of the whole scrub rests, in the order in which they are read;
-and what the contracts of the two listings and of the whole program rest on beside them.
+"""Writes the two pages that are made from the spec files. docs/TRUSTED.md lists the spec files on which the contract of the whole
+scrub rests, in reading order, and what the contracts of the two listings and of the whole program add to them.
+docs/DEFINITIONS.md lists each public definition, with the comment above it as its sentence.
 
-usage: bench/trusted.py             writes the page
-       bench/trusted.py --check     says whether the page is as it would be written
+usage: bench/trusted.py             writes both pages
+       bench/trusted.py --check     reports whether both pages are as they would be written
 
-It begins at the words of the contract of `scrub` in crates/scrub_report, follows each to its definition by the imports of the
-file that says it, and goes on with the words of that definition. A type of the code that a definition names is followed too,
-with what contracts see of it. What is reached is listed file by file, and what else is in these files is listed apart. Names
-that aren't of this repository are listed by their modules, and followed no further. The other contracts are read in the same
-way; of each, only what the ones before it don't rest on is listed.
+For TRUSTED it begins at the words of the contract of `scrub` in crates/scrub_report, follows each to its definition by the imports
+of its file, and goes on with the words of that definition. It follows a type of the code that a definition names too, with what
+contracts see of it. It lists what it reached file by file, and apart from that what else is in these files. Names from outside this
+repository are listed by their modules, and followed no further. It reads the other contracts in the same way, and lists of each only
+what the ones before it don't rest on.
 
-It reads text and checks nothing else: that each name means what its import says is for the prover. A word that a definition
-binds is followed all the same where the file has or imports that name, so more may be told as needed than is, and never less.
+DEFINITIONS keeps its head, up to the line that MADE gives; what follows is made. Files come in the order of each crate's Lib.antt.
+Each definition needs a comment of one sentence directly above it.
 
-With --check the last line is 'N passed, M failed': one for each row of a spec file, and one for the page. Exit status: 0 where nothing
-failed, else 1.
+It reads text and checks nothing else: the prover checks that each name means what its import says. It also follows a word that a
+definition binds, if the file has or imports that name, so it may list more than is needed, and never less.
+
+With --check the last line is 'N passed, M failed': one for each row of a spec file in TRUSTED, one for each spec file in DEFINITIONS,
+and one for each page. Exit status: 0 if nothing failed, else 1.
 """
 import re
 import sys
@@ -23,6 +27,7 @@ from pathlib import Path
 
 TOP = Path(__file__).resolve().parent.parent
 PAGE = TOP / "docs/TRUSTED.md"
+DEFINITIONS = TOP / "docs/DEFINITIONS.md"
 # The function whose contract is the headline: its crate, the file that has it, and its name. Then the others, each with what it is.
 HEADLINE = ("scrub_report", "answer", "scrub")
 OTHERS = [
@@ -31,18 +36,17 @@ OTHERS = [
     (("scrub_cli", "main", "run_process"), "the program, from the arguments of its process to both streams and the status"),
 ]
 
-# What is said of a file whose own first sentence doesn't say it.
-SENTENCES = {
-    "scrub_frame/specs/Frame.antt": "A chunk's payload as it stands on disk: the bytes of a frame, in its plain and in its sealed form.",
-    "scrub_super/specs/Contents.antt": "What a superblock tells: generation, write pointers, retired extents if they are listed, and the index runs.",
-    "scrub_super/specs/Record.antt": "The bytes of a superblock record of either kind, and which contents have one.",
-    "scrub_super/specs/Plan.antt": "What a plan says, and how it follows from the superblock that counts, or from there being none.",
-    "scrub_scan/specs/Item.antt": "Which item begins at a place of an extent: the first case that applies, and where it stops.",
-    "scrub_scan/specs/Tiling.antt": "The tiling of an extent: items that join from 0 to the pointer, each the one at its start.",
-    "scrub_scan/specs/Findings.antt": "What is found in an extent of an image: its tiling, its tail and its unreadable pages.",
-    "scrub_scan/specs/Scanned.antt": "What is known of a scanned extent: its number, its pointer and its findings.",
-    "scrub_merge/specs/ShardMap.antt": "The shard map of a list of index runs: the newest bindings that have a locator.",
-}
+# The line that ends the head of DEFINITIONS, which is kept.
+MADE = "<!-- From here on bench/trusted.py made this page. -->"
+# Public standards: the words by which a comment names one, and what it is for.
+STANDARDS = [
+    ("FIPS 180-4", "SHA-256, each digest"),
+    ("RFC 9562", "UUIDs as text"),
+    ("RFC 8259", "JSON"),
+    ("GNU ddrescue", "map files of a rescue"),
+    ("integer constants of C", "numbers in map files"),
+    ("`st_mode` on Linux", "kinds of files"),
+]
 
 WORD = r"[^\W\d][\w?!'-]*"
 USE = re.compile(r"^\s*(?:ghost |pub )*use ([\w.]+)\.\{([^}]*)\}", re.M)
@@ -87,8 +91,9 @@ class Spec:
         text = path.read_text(encoding="utf-8")
         self.lines = text.count("\n")
         head = re.match(r"(?:--.*\n)+", text)
-        comment = " ".join(line[2:].strip() for line in head.group().splitlines()) if head else ""
-        self.sentence = re.split(r"(?<=\.) ", comment)[0]
+        self.head = " ".join(line[2:].strip() for line in head.group().splitlines()) if head else ""
+        self.sentence = re.split(r"(?<=\.) ", self.head)[0]
+        self.text = text
         code = without_comments(text, "--")
         self.imports = Imports(code)
         code = USE.sub("", code)
@@ -106,6 +111,19 @@ class Spec:
                 name = line.split()[0]
             if name:
                 self.definitions[name] += line + "\n"
+
+    def comments(self):
+        """The comment above each definition, on one line, and whether the definition is public; in the order of the file."""
+        lines = self.text.splitlines()
+        found = {}
+        for name, text in self.definitions.items():
+            place = lines.index(text.splitlines()[0])
+            begin = place
+            while begin > 0 and re.match(r" *--(?!--)", lines[begin - 1]):
+                begin -= 1
+            comment = " ".join(line.strip()[2:].strip() for line in lines[begin:place])
+            found[name] = (comment, re.match(r" *(?:abbrev |unfoldable )?pub ", lines[place]) is not None)
+        return found
 
     def reached(self, name):
         """What the definition says: names of this file, and imported ones by module and name there."""
@@ -289,18 +307,11 @@ def read(headline):
 
 def read_all():
     """What the headline rests on, and each of the others."""
-    readers = [read(headline) for headline in [HEADLINE, *(other for other, _ in OTHERS)]]
-    files = {short(path) for reader in readers for path in reader.definitions}
-    readers[0].faults += [f"bench/trusted.py has a sentence for {file}, which isn't needed" for file in SENTENCES if file not in files]
-    return readers
+    return [read(headline) for headline in [HEADLINE, *(other for other, _ in OTHERS)]]
 
 
 def short(path):
     return str(path.relative_to(TOP / "crates"))
-
-
-def sentence_of(spec):
-    return SENTENCES.get(short(spec.path), spec.sentence)
 
 
 def named(names):
@@ -327,17 +338,17 @@ def beside(reader, before, headline, what):
     files = reader.order()
     count = sum(len(needed(reader, path)) for path in files)
     known = {(path, name) for other in before for path in other.definitions for name in other.definitions[path]}
-    out = ["", f"## What `{headline[2]}` rests on beside", "",
-           f"`{headline[2]}` of `{headline[0]}`: {what}. Its contract rests on {count} definitions in {len(files)} files. These are beside "
-           "those of the sections above:", "", "| File, in `crates/` | Lines | What it says | Definitions |", "|---|---|---|---|"]
+    out = ["", f"## What `{headline[2]}` adds", "",
+           f"`{headline[2]}` of `{headline[0]}`: {what}. Its contract rests on {count} definitions in {len(files)} files. These aren't in "
+           "the sections above:", "", "| File, in `crates/` | Lines | What it says | Definitions |", "|---|---|---|---|"]
     for path in files:
         names = [name for name in needed(reader, path) if (path, name) not in known]
         if names:
             spec = reader.specs[path]
-            out.append(f"| {linked(path)} | {spec.lines} | {sentence_of(spec)} | {named(names)} |")
+            out.append(f"| {linked(path)} | {spec.lines} | {spec.sentence} | {named(names)} |")
     seen = {pair for other in before for pair in types_of(other)}
     types = [f"`{name}` ({linked(path)})" for path, name in types_of(reader) if (path, name) not in seen]
-    out += ["", f"Types of the code beside: {', '.join(types)}."]
+    out += ["", f"Types of the code that it adds: {', '.join(types)}."]
     spared = [path for path in before[0].order() if path not in reader.definitions]
     if spared:
         out += ["", f"It needs nothing of {named(map(short, spared))}."]
@@ -345,7 +356,7 @@ def beside(reader, before, headline, what):
     fresh = {module: sorted(name for name in names if (module, name) not in words) for module, names in reader.outside.items()}
     fresh = [f"{named(names)} of `{module}`" for module, names in sorted(fresh.items()) if names]
     if fresh:
-        out += ["", f"Words of the toolchain beside: {'; '.join(fresh)}."]
+        out += ["", f"Words of the toolchain that it adds: {'; '.join(fresh)}."]
     return out
 
 
@@ -357,27 +368,27 @@ def page_of(readers):
     lines = sum(spec.lines for spec in specs)
     count = sum(map(len, reached))
     out = ["# What the theorem rests on", ""]
-    out += ["The theorem on the whole scrub is the contract of `scrub`, which stands in the [README](../README.md#what-is-proved-of-it) "
-            "with its words. It says what its definitions say. Whoever has read these, with the types of the code that they speak "
-            "of, and trusts the toolchain, knows what is promised; no body of a function, no proof and no other definition has to be "
-            f"read for it. They are {count} definitions in {len(files)} files of {lines} lines.", ""]
-    out += ["`bench/trusted.py` made this page, by following the words of that contract to their definitions, and the words of these "
-            "to theirs. `./check` compares. What each definition says in one sentence is in [DEFINITIONS.md](DEFINITIONS.md). Further down it lists "
-            "what three more contracts rest on beside: those of `list_locators`, of `list_reclaimable`, and of the whole program.", ""]
+    out += ["The theorem on the whole scrub is the contract of `scrub`. The [README](../README.md#what-is-proved-of-it) has it with its "
+            "words. It says what its definitions say: if you read these, with the types of the code that they name, and trust the "
+            "toolchain, you know what is promised. You need no body of a function, no proof and no other definition. They are "
+            f"{count} definitions in {len(files)} files of {lines} lines.", ""]
+    out += ["`bench/trusted.py` makes this page: it follows the words of that contract to their definitions, and the words of these to "
+            "theirs. `./check` compares. [DEFINITIONS.md](DEFINITIONS.md) has a sentence for each definition. Further down are three "
+            "more contracts, with what they add: `list_locators`, `list_reclaimable`, and the whole program.", ""]
     out += ["## The files, in reading order", "",
-            "Each file stands behind those that it rests on. *Needed* is how many of its definitions the theorem rests on, of how many.", "",
+            "Each file comes after those that it rests on. *Needed*: how many of its definitions the theorem rests on, of how many.", "",
             "| | File, in `crates/` | Lines | Needed | What it says |", "|---|---|---|---|---|"]
     for place, (spec, names) in enumerate(zip(specs, reached), 1):
-        out.append(f"| {place} | {linked(spec.path)} | {spec.lines} | {len(names)} of {len(spec.definitions)} | {sentence_of(spec)} |")
-    out += ["", "## What else stands in these files", "",
-            "The theorem doesn't rest on these: other public clauses speak of them, or steps of the code, or they are lemmas.", "",
+        out.append(f"| {place} | {linked(spec.path)} | {spec.lines} | {len(names)} of {len(spec.definitions)} | {spec.sentence} |")
+    out += ["", "## What else is in these files", "",
+            "The theorem doesn't rest on these: other public clauses use them, or steps of the code, or they are lemmas.", "",
             "| File | Not needed |", "|---|---|"]
     for spec, names in zip(specs, reached):
         others = [name for name in spec.definitions if name not in names]
         if others:
             out.append(f"| `{short(spec.path)}` | {named(others)} |")
     out += ["", "## Types of the code", "",
-            "These definitions speak of types of the code, by their public fields and variants, by the facts that a type has as ghost "
+            "These definitions name types of the code, by their public fields and variants, by the facts that a type has as ghost "
             "fields, or by the value that contracts see of it (its model).", "", "| File, in `crates/` | Types |", "|---|---|"]
     for path in sorted(reader.types, key=lambda path: (CRATES.index(short(path).split("/")[0]), path)):
         out.append(f"| {linked(path)} | {named(sorted(reader.types[path]))} |")
@@ -391,13 +402,128 @@ def page_of(readers):
     files = {path for reader in readers for path in reader.definitions}
     rest = [path for path in every if path not in files]
     out += ["", "## Spec files that none of them rests on", "",
-            f"{len(rest)} of {len(every)}, beside each crate's list of them, `Lib.antt`. They have what other public clauses say, steps of the "
-            "code, and lemmas.", "", "| Crate | Files |", "|---|---|"]
+            f"{len(rest)} of {len(every)}, not counting each crate's list of them, `Lib.antt`. They are for other public clauses, steps of "
+            "the code, and lemmas.", "", "| Crate | Files |", "|---|---|"]
     for crate in CRATES:
         stems = [path.stem for path in rest if short(path).split("/")[0] == crate]
         if stems:
             out.append(f"| `{crate}` | {named(stems)} |")
     return "\n".join(out) + "\n"
+
+
+def sections_of(crate, faults):
+    """The spec files of a crate in the order of its Lib.antt: the comment above some of them, and these files."""
+    folder = TOP / "crates" / crate / "specs"
+    sections = []
+    lib = folder / "Lib.antt"
+    for line in lib.read_text(encoding="utf-8").splitlines() if lib.is_file() else []:
+        if line.startswith("-- "):
+            sections.append((line[3:], []))
+        elif line.startswith("pub mod "):
+            sections[-1][1].append(Spec(folder / f"{line.split()[2]}.antt"))
+    listed = {spec.path for _, specs in sections for spec in specs}
+    faults += [f"crates/{short(path)} isn't listed in its Lib.antt" for path in sorted(folder.glob("*.antt")) if path not in listed | {lib}]
+    return [(comment, specs) for comment, specs in sections if specs]
+
+
+def one_sentence(comment):
+    return comment != "" and not re.search(r"[.!?] +[A-Z`]", comment)
+
+
+def block_of(spec, faults):
+    """The lines of a file: its name, its first sentence, and a line for each public definition."""
+    if not spec.head:
+        faults.append(f"crates/{short(spec.path)} doesn't begin with a comment")
+    out = [f"### [`{spec.path.stem}`](../crates/{short(spec.path)})", "", spec.sentence, ""]
+    for name, (comment, is_public) in spec.comments().items():
+        if not one_sentence(comment):
+            faults.append(f"crates/{short(spec.path)}: {name} has no comment of one sentence above it")
+        if is_public:
+            out.append(f"- `{name}`: {comment.removesuffix('.')}")
+    return out + [""]
+
+
+def standards_of(specs):
+    """The table of public standards: of each the files whose comments name it."""
+    out = ["## Public standards", "", "Comments name these.", "", "| Standard | What for | Files |", "|---|---|---|"]
+    for words, what in STANDARDS:
+        files = [spec for spec in specs if words in " ".join([spec.head, *(comment for comment, _ in spec.comments().values())])]
+        out.append(f"| {words} | {what} | {', '.join(linked(spec.path) for spec in files)} |")
+    return out + [""]
+
+
+def definitions_page():
+    """The made part of DEFINITIONS: its lines, the block of each file, and what is wrong with the comments."""
+    faults, blocks, crates_out, specs = [], [], [], []
+    for crate in CRATES:
+        sections = sections_of(crate, faults)
+        if not sections:
+            continue
+        crates_out += [f"## `{crate}`", ""]
+        for comment, files in sections:
+            crates_out += [f"*{comment.removesuffix('.')}.*", ""]
+            for spec in files:
+                blocks.append((spec, block_of(spec, faults)))
+                crates_out += blocks[-1][1]
+                specs.append(spec)
+    count = sum(is_public for spec in specs for _, is_public in spec.comments().values())
+    counted = [MADE, "", f"These are {count} definitions in {len(specs)} files.", ""]
+    return counted + standards_of(specs) + crates_out, blocks, faults
+
+
+def head_of_definitions():
+    """What is written by hand: all before the line that MADE gives."""
+    text = DEFINITIONS.read_text(encoding="utf-8")
+    head, made, _ = text.partition(MADE)
+    return head, made != ""
+
+
+def check_definitions(faults):
+    """Compares DEFINITIONS with the comments: how many files and pages are right, and how many aren't."""
+    lines, blocks, found = definitions_page()
+    head, has_line = head_of_definitions()
+    faults += found if has_line else [*found, f"docs/DEFINITIONS.md hasn't the line {MADE}"]
+    there = DEFINITIONS.read_text(encoding="utf-8")
+    rows = set(there.splitlines())
+    wanted = {row for _, block in blocks for row in block}
+    passed = failed = 0
+    for spec, block in blocks:
+        missing = [row for row in block if row not in rows]
+        passed, failed = passed + (not missing), failed + bool(missing)
+        for row in missing:
+            print(f"FAILED: docs/DEFINITIONS.md hasn't the line {row}")
+    for row in there.partition(MADE)[2].splitlines():
+        if re.match(r"- `[^`]+`: ", row) and row not in wanted:
+            print(f"FAILED: docs/DEFINITIONS.md has a line that no comment gives: {row}")
+    same = there == head + "\n".join(lines).rstrip("\n") + "\n"
+    if not same:
+        print("FAILED: docs/DEFINITIONS.md isn't as bench/trusted.py writes it")
+    return passed + same, failed + (not same)
+
+
+def check_trusted(page):
+    passed, failed = 0, 0
+    there = PAGE.read_text(encoding="utf-8") if PAGE.is_file() else ""
+    rows = set(there.splitlines())
+    for row in page.splitlines():
+        if re.match(r"\| (?:\d+ \| )?\[`\w+/specs/", row):
+            passed, failed = passed + (row in rows), failed + (row not in rows)
+            if row not in rows:
+                print(f"FAILED: docs/TRUSTED.md hasn't the line {row}")
+    if there != page:
+        print("FAILED: docs/TRUSTED.md isn't as bench/trusted.py writes it")
+    return passed + (there == page), failed + (there != page)
+
+
+def write(page, faults):
+    PAGE.write_text(page, encoding="utf-8")
+    lines, _, found = definitions_page()
+    faults += found
+    head, has_line = head_of_definitions()
+    if has_line:
+        DEFINITIONS.write_text(head + "\n".join(lines).rstrip("\n") + "\n", encoding="utf-8")
+    else:
+        faults.append(f"docs/DEFINITIONS.md hasn't the line {MADE}, so it wasn't written")
 
 
 def main(words):
@@ -408,24 +534,15 @@ def main(words):
     page = page_of(readers)
     faults = list(dict.fromkeys(fault for reader in readers for fault in reader.faults))
     if not words:
+        write(page, faults)
         for fault in faults:
             print(fault, file=sys.stderr)
-        PAGE.write_text(page, encoding="utf-8")
         return int(faults != [])
-    passed, failed = 0, 0
-    there = PAGE.read_text(encoding="utf-8") if PAGE.is_file() else ""
-    rows = set(there.splitlines())
-    for row in page.splitlines():
-        if re.match(r"\| (?:\d+ \| )?\[`\w+/specs/", row):
-            passed, failed = passed + (row in rows), failed + (row not in rows)
-            if row not in rows:
-                print(f"FAILED: docs/TRUSTED.md hasn't the line {row}")
-    passed, failed = passed + (there == page), failed + (there != page)
-    if there != page:
-        print("FAILED: docs/TRUSTED.md isn't as bench/trusted.py writes it")
+    passed, failed = check_trusted(page)
+    more_passed, more_failed = check_definitions(faults)
     for fault in faults:
-        failed += 1
         print(f"FAILED: {fault}")
+    passed, failed = passed + more_passed, failed + more_failed + len(faults)
     print(f"{passed} passed, {failed} failed")
     return int(failed != 0)
 

@@ -1,11 +1,12 @@
--- The words that public clauses say, and those of the crates below that they cite.
+-- For public clauses.
 pub mod Extents
 pub mod Book
 pub mod Worker
 pub mod Pool
+-- Files of other crates that public clauses cite.
 pub use Rattle.scrub_disk.specs.Image
 pub use Rattle.scrub_super.specs.Plan
 pub use Rattle.scrub_scan.specs.Scanned
 pub use Rattle.scrub_scan.specs.AllFindings
--- The steps of the code.
+-- Steps of the code.
 pub mod Member

@@ -11,11 +11,12 @@ use Rattle.scrub_book.specs.Book.{BookValue}
 use Rattle.scrub_book.specs.Pool.{MemberValue, PoolState, PoolValue, IsPool}
 
 module _ {D : Type 0} {s : _} where
-  -- the results that it has
+  -- the results that a member has
   abbrev pub results_in : Member D s → List (ExtentResult D s)
   results_in (Working core) = results_of core
   results_in (Through taken) = []
 
+  -- the member of the machine that a member of the code is
   abbrev pub member_value : Member D s → MemberValue
   member_value (Working core) = record { held = held_by core; taken = taken_by core; results = map (λ (r : ExtentResult D s). scanned r) (results_of core); has_retired = false }
   member_value (Through taken) = record { held = None; taken = taken.items; results = []; has_retired = true }
@@ -27,6 +28,7 @@ module _ {D : Type 0} {s : _} where
 
 -- the state of the machine, of what the code keeps
 module _ {D : Type 0} {s : _} where
+  -- the state of the machine, from what the code keeps
   abbrev pub state_of : List ℕ → List (Member D s) → List (ExtentResult D s) → PoolState
   state_of queue members arrived = record { queue = queue; members = map (λ (m : Member D s). member_value m) members; arrivals = map (λ (r : ExtentResult D s). scanned r) arrived }
 
@@ -35,8 +37,8 @@ module _ {D : Type 0} {s : _} where
     pub room : HasRoom m
     pub images : All (λ (r : ExtentResult D s). result_image r ≡ image) (results_in m)
 
-  -- what the code keeps: a book that nothing came to, the machine's facts, the numbers of what arrived, and room for
-  -- each planned extent
+  -- what the code keeps: a book without results, the machine's facts, the numbers of what arrived, and room for each
+  -- planned extent
   pub record HoldsPool (image : Image) (book : BookValue D) (queue : List ℕ) (members : List (Member D s)) (arrived : List (ExtentResult D s)) (numbers : List ℕ) (room : ℕ) : Type 0 where
     pub nothing : book.came ≡ []
     pub geometry : book.plan.geometry ≡ image.geometry
@@ -46,10 +48,10 @@ module _ {D : Type 0} {s : _} where
     pub numbers_are : numbers ≡ extents_of arrived
     pub enough : length book.plan.planned ≤ room
 
-  -- the same, with room for the numbers too
+  -- what the code keeps, with room for the numbers too
   abbrev pub HasPool : Image → BookValue D → List ℕ → List (Member D s) → List (ExtentResult D s) → List ℕ → ℕ → ℕ → Type 0
   HasPool image book queue members arrived numbers room told = HoldsPool image book queue members arrived numbers room × (length book.plan.planned ≤ told)
 
-  -- the pool, of what the code keeps
+  -- the pool of the machine, from what the code keeps
   abbrev pub pool_value : BookValue D → List ℕ → List (Member D s) → List (ExtentResult D s) → PoolValue D
   pool_value book queue members arrived = record { source = book.source; plan = book.plan; state = state_of queue members arrived }

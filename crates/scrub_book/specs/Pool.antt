@@ -20,13 +20,13 @@ pub record MemberValue : Type 0 where
   pub results : List Scanned
   pub has_retired : Bool
 
--- the extents that nobody took yet, the members by their numbers, and what arrived, in that order
+-- the state of a pool: the extents that nobody took yet, the members by their numbers, and what arrived, in that order
 pub record PoolState : Type 0 where
   pub queue : List ℕ
   pub members : List MemberValue
   pub arrivals : List Scanned
 
--- the disk that is scanned, the plan, and the state
+-- a pool: the disk that is scanned, the plan, and the state
 pub record PoolValue (D : Type 0) : Type 0 where
   pub source : D
   pub plan : PlanValue
@@ -36,7 +36,7 @@ pub record PoolValue (D : Type 0) : Type 0 where
 abbrev pub idle : MemberValue
 idle = record { held = None; taken = []; results = []; has_retired = false }
 
--- so many members, and each planned extent in the queue
+-- the first state: so many members, and each planned extent in the queue
 abbrev pub start : PlanValue → ℕ → PoolState
 start plan workers = record { queue = plan.planned; members = replicate workers idle; arrivals = [] }
 
@@ -64,15 +64,15 @@ pub record IsScanned (image : Image) (plan : PlanValue) (one : Scanned) : Type 0
   pub pointer_is : pointer_of plan one.extent ≡ Some one.pointer
   pub found : IsFindings image one.extent one.pointer one.findings
 
--- a member that took extent e, and holds it
+-- a member after it took extent e, which it holds
 abbrev pub taking : MemberValue → ℕ → MemberValue
 taking m e = record m { held = Some e; taken = m.taken ++ e ∷ [] }
 
--- a member that is done with what it held, with one more result
+-- a member after it finished what it held, with one more result
 abbrev pub having_found : MemberValue → Scanned → MemberValue
 having_found m one = record m { held = None; results = m.results ++ one ∷ [] }
 
--- a member that retired, and handed on its results
+-- a member after it retired, which handed on its results
 abbrev pub through : MemberValue → MemberValue
 through m = record m { results = []; has_retired = true }
 
@@ -98,7 +98,7 @@ pub record IsDone (image : Image) (plan : PlanValue) (old : PoolState) (v : ℕ)
   pub scanned : IsScanned image plan one
   pub is : new ≡ record old { members = set old.members v (having_found member one) }
 
--- the results of member v arrive, and it is through
+-- the results of member v arrive, and it has retired
 pub record IsRetire (old : PoolState) (v : ℕ) (new : PoolState) : Type 0 where
   pub member : MemberValue
   pub at : slice_get old.members v ≡ Some member
@@ -114,7 +114,7 @@ IsStep image plan old (Take v) new = IsTake old v new
 IsStep image plan old (Done v) new = IsDone image plan old v new
 IsStep image plan old (Retire v) new = IsRetire old v new
 
--- an event either is taken or leaves the state
+-- an event changes the state if it isn't refused, and else leaves it
 abbrev pub Follows : Image → PlanValue → PoolState → Event → PoolState → Type 0
 Follows image plan old event new = ((refusal old event ≡ None) × IsStep image plan old event new) ⊎ (new ≡ old)
 
@@ -123,7 +123,7 @@ abbrev pub Leads : Image → PlanValue → PoolState → List Event → PoolStat
 Leads image plan old [] new = new ≡ old
 Leads image plan old (event ∷ events) new = (next : PoolState) × Follows image plan old event next × Leads image plan next events new
 
--- nothing is left to take, nothing is held, and all have retired
+-- no extent is left to take, no member holds one, and all have retired
 abbrev pub is_complete : PoolState → Bool
 is_complete p = length p.queue == 0 && list_all (λ m. is_none m.held && m.has_retired) p.members
 
@@ -140,12 +140,12 @@ having m = option_to_list m.held ++ extent_numbers m.results
 abbrev pub total : (ℕ → ℕ) → PoolState → ℕ
 total f p = sum_by f p.queue + sum_by (λ m. sum_by f (having m)) p.members + sum_by f (extent_numbers p.arrivals)
 
--- the account: queue, held extents, results and arrivals are together the planned extents, each as often. Whatever is
--- added up over them gives the same: 1 for each extent, or 1 for one of them alone
+-- queue, held extents, results and arrivals are together the planned extents, each as often: any number for each extent
+-- adds up to the same over both
 abbrev pub IsAccount : PlanValue → PoolState → Type 0
 IsAccount plan p = (f : ℕ → ℕ) → total f p ≡ sum_by f plan.planned
 
--- each result of a member is what the image holds; one that retired holds nothing and has none
+-- each result of a member is what the image holds, and one that retired holds nothing and has no result
 pub record IsMember (image : Image) (plan : PlanValue) (m : MemberValue) : Type 0 where
   pub results : All (IsScanned image plan) m.results
   pub left : m.has_retired ≡ true → (m.held ≡ None) × (m.results ≡ [])
@@ -161,7 +161,7 @@ pub record IsOnceEach (plan : PlanValue) (p : PoolState) : Type 0 where
   pub once : (e : ℕ) → Contains plan.planned e → count_by (λ x. x == e) (extent_numbers p.arrivals) ≡ 1
   pub no_other : All (Contains plan.planned) (extent_numbers p.arrivals)
 
--- whatever the schedule, a pool that is complete has each planned extent once, and its assembly is what one reader finds
+-- after any schedule a complete pool has each planned extent once, and its assembly is what one reader finds
 abbrev pub EveryScheduleFinds : Image → PlanValue → Type 0
 EveryScheduleFinds image plan =
     (workers : ℕ) (events : List Event) (p : PoolState) → Leads image plan (start plan workers) events p → is_complete p ≡ true →
@@ -180,12 +180,12 @@ pub record IsStepOf {D : Type 0} (image : Image) (old : PoolValue D) (event : Ev
   pub may : refusal old.state event ≡ None
   pub step : IsStep image old.plan old.state event new.state
 
--- the event that can lack memory
+-- the event is the one that can run out of memory: a member is done
 abbrev pub is_done : Event → Bool
 is_done (Take v) = false
 is_done (Done v) = true
 is_done (Retire v) = false
 
--- why a step is refused: by the state, or, of one that isn't and in which a member is done, for want of memory
+-- why a step is refused: by the state, or, if a member is done, because memory ran out
 abbrev pub IsStepRefused : PoolState → Event → StepRefused → Type 0
 IsStepRefused p event why = (refusal p event ≡ Some why) ⊎ ((refusal p event ≡ None) × (is_done event ≡ true) × (why ≡ OutOfMemory))

@@ -11,19 +11,19 @@ module _ {D : Type 0} {s : _} where
   abbrev pub held_by : WorkerCore D s → Option ℕ
   held_by core = core.held
 
-  -- the extents that it took, in that order
+  -- the extents that a worker took, in that order
   abbrev pub taken_by : WorkerCore D s → List ℕ
   taken_by core = core.taken.items
 
-  -- its results, in that order
+  -- the results of a worker, in the order of its extents
   abbrev pub results_of : WorkerCore D s → List (ExtentResult D s)
   results_of core = core.results.items
 
-  -- for how many extents, from the held one on, it has room
+  -- for how many extents, from the held one on, a worker has room
   abbrev pub spare_of : WorkerCore D s → ℕ
   spare_of core = core.spare
 
-  -- each extent that it took has its result, in that order, but for the one that it holds
+  -- each extent that a worker took has its result, in that order, but for the one that it holds
   abbrev pub HasResults : WorkerCore D s → Type 0
   HasResults core = taken_by core ≡ extents_of (results_of core) ++ option_to_list (held_by core)
 
@@ -31,6 +31,6 @@ module _ {D : Type 0} {s : _} where
   abbrev pub retired_taken : Retired D s → List ℕ
   retired_taken r = r.taken.items
 
-  -- their results
+  -- the results of a retired worker, in the order of its extents
   abbrev pub retired_results : Retired D s → List (ExtentResult D s)
   retired_results r = r.results.items

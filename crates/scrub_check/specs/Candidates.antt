@@ -12,42 +12,42 @@ use Rattle.scrub_check.specs.declared.checked.Checked.{Checked}
 use Rattle.scrub_check.specs.Checked.{is_sound}
 use Rattle.scrub_check.specs.Live.{live_chunks, live_bytes}
 
--- an extent to reclaim, how many bytes that frees, and the starts of the chunks to keep, rising
+-- an extent to reclaim, how many bytes that frees, and the starts of its live chunks, which are kept, rising
 pub record CandidateValue : Type 0 where
   pub extent : ℕ
   pub free : ℕ
   pub keep : List ℕ
 
--- no unreadable page has a byte below the write pointer
+-- no unreadable page of the extent has a byte below its write pointer
 abbrev pub is_readable : Geometry → Scanned → Bool
 is_readable g f = list_all (λ q. not (nat_lt (q * g.page) f.pointer)) f.findings.bad_pages
 
--- each named locator of that extent number is sound
+-- each named locator with this extent's number is sound
 abbrev pub has_sound_alone : List Checked → Scanned → Bool
 has_sound_alone checked f = list_all (λ c. not (c.locator.extent == f.extent) || is_sound c.status) checked
 
--- live chunks take at most half of what was written
+-- live chunks take at most half of the bytes below the write pointer
 abbrev pub is_half_garbage : List Checked → Scanned → Bool
 is_half_garbage checked f = not (nat_lt f.pointer (2 * live_bytes checked f))
 
--- the extent may be reclaimed: something was written to it, all of which can be read, each locator to it is sound, and
--- at least half of it is garbage
+-- the extent may be reclaimed: its pointer isn't 0, it is readable below that, each locator to it is sound, and at
+-- least half of what was written is garbage
 abbrev pub is_reclaimable : Geometry → List Checked → Scanned → Bool
 is_reclaimable g checked f = nat_lt 0 f.pointer && is_readable g f && has_sound_alone checked f && is_half_garbage checked f
 
--- it as a candidate
+-- an extent as a candidate
 abbrev pub candidate_of : List Checked → Scanned → CandidateValue
 candidate_of checked f = record { extent = f.extent; free = f.pointer - live_bytes checked f; keep = map start_of (live_chunks checked f) }
 
--- by what is freed, falling, and then by number
+-- the order of candidates: by what they free, falling, and then by number
 abbrev pub by_free : CandidateValue → CandidateValue → Ordering
 by_free a b = ordering_then (nat_cmp b.free a.free) (nat_cmp a.extent b.extent)
 
--- the extents that may be reclaimed
+-- those of the scanned extents that may be reclaimed, as candidates, in their order
 abbrev pub reclaimable : Geometry → List Scanned → List Checked → List CandidateValue
 reclaimable g all checked = map (candidate_of checked) (filter (is_reclaimable g checked) all)
 
--- the candidates, in their order: none without a superblock or in doubt, and else the extents that may be reclaimed
+-- the candidates, in their order: none without a superblock or in doubt, and else all extents that may be reclaimed
 pub record AreCandidates (plan : PlanValue) (all : List Scanned) (checked : List Checked) (in_doubt : Bool) (candidates : List CandidateValue) : Type 0 where
   pub filtered : IsPermutation (if plan.has_superblock && not in_doubt then reclaimable plan.geometry all checked else []) candidates
   pub ordered : IsStrictlySortedBy by_free candidates

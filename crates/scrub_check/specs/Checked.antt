@@ -1,4 +1,4 @@
--- The named locators with what they are worth, and the lists that are drawn from them alone.
+-- The named locators with their statuses, and the lists that are drawn from them alone.
 use Rattle.std.specs.Prelude.{◌≡◌, ◌&&◌, Bool, true, false, not, List, Option, MatchOption, All, AllPairs, Contains, map}
 use Rattle.std.specs.Str.{bytes_eq}
 use Rattle.std.specs.List.{filter, list_any}
@@ -15,57 +15,60 @@ use Rattle.scrub_check.specs.declared.status.Status.TheVariants.{Hidden, Sound}
 use Rattle.scrub_check.specs.Looks.{IsOpen}
 use Rattle.scrub_check.specs.Status.{HasStatusIn}
 
--- the locator and its owner
+-- a checked locator without its status: the locator and its owner
 abbrev pub named_of : Checked → Named
 named_of c = record { owner = c.owner; locator = c.locator }
 
--- this locator and its owner, with its status
+-- this named locator with its status
 pub record IsChecked (image : Image) (plan : PlanValue) (name : Named) (c : Checked) : Type 0 where
   pub same : named_of c ≡ name
   pub status : HasStatusIn image plan c.locator c.status
 
--- each locator has the status of its own
+-- each of the checked locators has its status by the plan
 abbrev pub HaveStatuses : Image → PlanValue → List Checked → Type 0
 HaveStatuses image plan checked = All (λ c. HasStatusIn image plan c.locator c.status) checked
 
--- what is told of a named locator before its place is seen: its status, or that its place has to be
+-- what is known of a named locator before its place is read: its status, or that its place has to be read
 abbrev pub IsToldBefore : Image → PlanValue → Named → Option Status → Type 0
 IsToldBefore image plan name told = MatchOption told (IsOpen image plan name.locator) (HasStatusIn image plan name.locator)
 
--- these locators in their order, each with its status
+-- these named locators in their order, each with its status
 pub record AreChecked (image : Image) (plan : PlanValue) (names : List Named) (checked : List Checked) : Type 0 where
   pub same : map named_of checked ≡ names
   pub statuses : HaveStatuses image plan checked
 
+-- the status is sound
 abbrev pub is_sound : Status → Bool
 is_sound Sound = true
 is_sound _ = false
 
+-- the status is hidden
 abbrev pub is_hidden : Status → Bool
 is_hidden Hidden = true
 is_hidden _ = false
 
--- neither sound nor hidden
+-- the status is neither sound nor hidden
 abbrev pub is_dangling : Status → Bool
 is_dangling status = not (is_sound status) && not (is_hidden status)
 
--- those that are hidden, and those that dangle, each in its order
+-- the hidden ones of the checked locators, in their order
 abbrev pub hidden : List Checked → List Checked
 hidden checked = filter (λ c. is_hidden c.status) checked
 
+-- the dangling ones of the checked locators, in their order
 abbrev pub dangling : List Checked → List Checked
 dangling checked = filter (λ c. is_dangling c.status) checked
 
--- a shard names it
+-- this shard names the locator
 abbrev pub is_owned_by : ShardId → Owner → Bool
 is_owned_by id (Shard other) = bytes_eq other.0 id.0
 is_owned_by id (Run k) = false
 
--- a locator of the shard dangles
+-- a locator that this shard names dangles
 abbrev pub is_broken : List Checked → ShardId → Bool
 is_broken checked id = list_any (λ c. is_owned_by id c.owner && is_dangling c.status) checked
 
--- the broken shards, all of them, by strictly rising identifier
+-- the broken shards, all of them, in strictly rising order of identifier
 pub record AreBrokenShards (checked : List Checked) (ids : List ShardId) : Type 0 where
   pub rising : AllPairs IsBelow ids
   pub each : All (λ id. is_broken checked id ≡ true) ids

@@ -1,4 +1,4 @@
--- What is read of a chunk that stands, once it is known to stand.
+-- What is read of a chunk that is known to be there.
 use Rattle.std.specs.Prelude.{ℕ, List, Option, Some, None}
 use Rattle.scrub_disk.specs.Image.{Image}
 use Rattle.scrub_frame.specs.declared.form.Form.{Form}
@@ -10,27 +10,27 @@ use Rattle.scrub_run.specs.Run.{IsRun}
 use Rattle.scrub_check.specs.declared.runs.RunState.{RunState}
 use Rattle.scrub_check.specs.declared.runs.RunState.TheVariants.{Read, NotARun}
 
--- the chunk that a locator names, as what stands there in a frame of this form
+-- the chunk that a locator names, as a frame of this form at its place
 abbrev pub standing_of : Locator → Form → Standing
 standing_of l f = record { extent = l.extent; offset = l.offset; form = f; uuid = l.uuid; length = l.length; digest = l.digest }
 
--- it stands there in one of the forms
+-- the chunk that a locator names is at its place, in one of the forms
 pub record StandsThere (image : Image) (l : Locator) : Type 0 where
   pub form : Form
   pub stands : Stands image (standing_of l form)
 
--- and has this payload
+-- the chunk at a locator's place has this payload, in one of the forms
 pub record HasPayloadThere (image : Image) (l : Locator) (payload : List ℕ) : Type 0 where
   pub form : Form
   pub has : HasPayload image (standing_of l form) payload
 
--- its payload is the run of these entries
+-- the payload of the chunk at a locator's place is the run of these entries
 pub record HoldsRun (image : Image) (l : Locator) (entries : List EntryValue) : Type 0 where
   pub payload : List ℕ
   pub has : HasPayloadThere image l payload
   pub run : IsRun payload entries
 
--- what is told of it: its run, or that its payload is none
+-- what is read of the chunk at a locator's place: its run, or that its payload is no run
 abbrev pub IsToldOf : Image → Locator → Option (List EntryValue) → RunState → Type 0
 IsToldOf image l (Some entries) Read = HoldsRun image l entries
 IsToldOf image l None NotARun = (entries : List EntryValue) → ¬ HoldsRun image l entries

@@ -8,14 +8,14 @@ use Rattle.std.specs.List.{count_by}
 use Rattle.std.specs.List.Sorted.{IsPermutation}
 use Rattle.scrub_check.specs.declared.place.Place.{Place}
 
--- UUIDs in the order of their bytes
+-- the order of UUIDs, by their bytes
 abbrev pub uuid_cmp : List ℕ → List ℕ → Ordering
 uuid_cmp = slice_cmp nat_cmp
 
--- the UUIDs of these chunks, in some order
+-- the UUIDs of these chunks, each as often as a chunk has it, in some order
 abbrev pub AreUuidsOf : List Place → List (List ℕ) → Type 0
 AreUuidsOf chunks uuids = IsPermutation (map (λ p. p.uuid) chunks) uuids
 
--- the UUID of a chunk stands there twice or more
+-- the chunk's UUID is among these twice or more
 abbrev pub is_twin_by : List (List ℕ) → Place → Bool
 is_twin_by uuids p = nat_lt 1 (count_by (λ other. bytes_eq other p.uuid) uuids)

@@ -1,4 +1,4 @@
--- How the frame that stands at a locator's place, or is claimed there, is held against the locator.
+-- How the frame at a locator's place, or the one that is claimed there, is compared with the locator.
 use Rattle.std.specs.Prelude.{◌≡◌, ◌≢◌, ◌⊎◌, ℕ, List, Option, Some, None, MatchOption}
 use Rattle.scrub_frame.specs.declared.form.Form.TheVariants.{Plain}
 use Rattle.scrub_frame.specs.declared.frame.Head.{Head}
@@ -20,19 +20,19 @@ IsMismatch l s WrongLength = (s.uuid ≡ l.uuid) × (s.length ≢ l.length)
 IsMismatch l s WrongDigest = (s.uuid ≡ l.uuid) × (s.length ≡ l.length) × (s.digest ≢ l.digest)
 IsMismatch l s _ = ⊥
 
--- it is the one that it names
+-- the frame is the one that the locator names
 pub record Agrees (l : Locator) (s : Standing) : Type 0 where
   pub uuid : s.uuid ≡ l.uuid
   pub length : s.length ≡ l.length
   pub digest : s.digest ≡ l.digest
 
--- what the locator is worth where this frame stands at its place, or none: `agreeing` where it is the one that it names
+-- the status of a locator by the frame at its place, or by none: `agreeing` if it is the one that the locator names
 abbrev pub IsJudged : Locator → Option Standing → Status → Status → Type 0
 IsJudged l None agreeing status = status ≡ NoFrame
 IsJudged l (Some s) agreeing status = IsMismatch l s status ⊎ (Agrees l s × (status ≡ agreeing))
 
--- what the frame that is claimed at the locator's place tells of it: no frame stands there where none is claimed, a plain one
--- of another UUID or length is another one, and the rest is left to a look at the payload
+-- what a claim at the locator's place says without a hash: no frame if nothing is claimed, another frame if a plain one
+-- of another UUID or length is, and else the payload has to be read
 abbrev pub IsToldByClaim : Locator → Option Head → Option Status → Type 0
 IsToldByClaim l None told = told ≡ Some NoFrame
 IsToldByClaim l (Some h) told = MatchOption told (h.form ≡ Plain → (h.uuid ≡ l.uuid) × (h.length ≡ l.length)) (λ status. (h.form ≡ Plain) × IsOther l h.uuid h.length status)

@@ -9,16 +9,16 @@ use Rattle.scrub_check.specs.Checked.{HaveStatuses}
 use Rattle.scrub_check.specs.WholeScan.{IsWholeScan}
 use Rattle.scrub_check.specs.Candidates.{CandidateValue, AreCandidates}
 
--- the locator is sound, and the candidate keeps the chunk that it points to
+-- the locator is sound, and its offset is among the starts that the candidate keeps
 pub record IsKept (a : CandidateValue) (c : Checked) : Type 0 where
   pub sound : c.status ≡ Sound
   pub kept : Contains a.keep c.locator.offset
 
--- each locator into the extent of a candidate is kept
+-- each checked locator into the extent of a candidate is kept
 abbrev pub AreSafe : List Checked → List CandidateValue → Type 0
 AreSafe checked candidates = All (λ a. All (λ c. c.locator.extent ≡ a.extent → IsKept a c) checked) candidates
 
--- the candidates are safe, where the statuses are those of a whole scan
+-- if the checked locators have their statuses by a whole scan, the candidates are safe, in doubt or not
 abbrev pub CandidatesAreSafe : Image → PlanValue → List Scanned → List Checked → Type 0
 CandidatesAreSafe image plan all checked = (in_doubt : Bool) (candidates : List CandidateValue) →
     IsWholeScan image plan all → HaveStatuses image plan checked → AreCandidates plan all checked in_doubt candidates → AreSafe checked candidates

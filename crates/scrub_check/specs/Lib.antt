@@ -1,4 +1,4 @@
--- The words that public clauses say, and those of the crates below that they cite.
+-- For public clauses.
 pub mod WholeScan
 pub mod Status
 pub mod Runs
@@ -9,12 +9,13 @@ pub mod Chunks
 pub mod Shared
 pub mod Candidates
 pub mod Kept
+-- Files of other crates that public clauses cite.
 pub use Rattle.scrub_disk.specs.Image
 pub use Rattle.scrub_super.specs.Plan
 pub use Rattle.scrub_scan.specs.Scanned
 pub use Rattle.scrub_scan.specs.AllFindings
 pub use Rattle.scrub_merge.specs.Binding
--- The steps of the code.
+-- Steps of the code.
 pub mod OneScan
 pub mod Judged
 pub mod Looks

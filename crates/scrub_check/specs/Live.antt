@@ -9,37 +9,39 @@ use Rattle.scrub_scan.specs.AllFindings.{entry_of}
 use Rattle.scrub_check.specs.declared.checked.Checked.{Checked}
 use Rattle.scrub_check.specs.Checked.{is_sound}
 
--- a sound locator that points to place p of extent e
+-- the checked locator is sound and points to place p of extent e
 abbrev pub is_sound_at : ℕ → ℕ → Checked → Bool
 is_sound_at e p c = is_sound c.status && (c.locator.extent == e) && (c.locator.offset == p)
 
--- how many sound locators point to place p of extent e, and whether one does
+-- how many sound locators point to place p of extent e
 abbrev pub sound_at : List Checked → ℕ → ℕ → ℕ
 sound_at checked e p = count_by (is_sound_at e p) checked
 
+-- whether a sound locator points to place p of extent e
 abbrev pub has_sound_at : List Checked → ℕ → ℕ → Bool
 has_sound_at checked e p = list_any (is_sound_at e p) checked
 
+-- the item is a chunk
 abbrev pub is_chunk : Item → Bool
 is_chunk (Chunk form start stop uuid length digest) = true
 is_chunk _ = false
 
--- an item of extent e is a live chunk
+-- the item of extent e is a live chunk: a sound locator points to its start
 abbrev pub is_live : List Checked → ℕ → Item → Bool
 is_live checked e item = is_chunk item && has_sound_at checked e (start_of item)
 
--- the live chunks of an extent, rising
+-- the live chunks of an extent, in the order of its items
 abbrev pub live_chunks : List Checked → Scanned → List Item
 live_chunks checked f = filter (is_live checked f.extent) f.findings.items
 
--- how many bytes of the extent an item takes
+-- how many bytes of the extent an item takes, from its start to its stop
 abbrev pub size_of : Item → ℕ
 size_of item = stop_of item - start_of item
 
--- how many the live chunks take
+-- how many bytes of an extent its live chunks take
 abbrev pub live_bytes : List Checked → Scanned → ℕ
 live_bytes checked f = sum_by size_of (live_chunks checked f)
 
--- the live bytes of extent e among those that were scanned, none where it wasn't
+-- the live bytes of extent e, or 0 if it wasn't scanned
 abbrev pub HasLiveBytes : List Scanned → List Checked → ℕ → ℕ → Type 0
 HasLiveBytes all checked e n = MatchOption (entry_of all e) (n ≡ 0) (λ f. n ≡ live_bytes checked f)

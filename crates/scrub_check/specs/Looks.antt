@@ -1,4 +1,4 @@
--- What stands at places of a disk that are looked at, since the findings don't tell it; and what is claimed there.
+-- What is at places of a disk that have to be read, since the findings don't say it; and what is claimed there.
 use Rattle.std.specs.Prelude.{◌≡◌, ◌<◌, ◌≤◌, ◌+◌, ℕ, List, false, Option, Some, None, MatchOption, All, Contains}
 use Rattle.scrub_disk.specs.Image.{Image, byte, extent_bytes}
 use Rattle.scrub_frame.specs.declared.locator.Locator.{Locator}
@@ -15,11 +15,11 @@ use Rattle.scrub_check.specs.declared.status.Status.{Status}
 use Rattle.scrub_check.specs.Judged.{IsToldByClaim}
 use Rattle.scrub_check.specs.Status.{CanStand, BeginsAt, HasStatus, is_retired}
 
--- where a locator points
+-- where a locator points: an extent and a byte of it
 abbrev pub start_named_by : Locator → Start
 start_named_by l = record { extent = l.extent; offset = l.offset }
 
--- a place that can be looked at: in an extent in use
+-- a place that can be looked at: in an extent of the disk that is in use
 pub record CanBeLookedAt (image : Image) (plan : PlanValue) (s : Start) : Type 0 where
   pub geometry : plan.geometry ≡ image.geometry
   pub from_one : 1 ≤ s.extent
@@ -27,19 +27,19 @@ pub record CanBeLookedAt (image : Image) (plan : PlanValue) (s : Start) : Type 0
   pub in_extent : s.offset ≤ extent_bytes image.geometry
   pub in_use : is_retired plan s.extent ≡ false
 
--- what was found at p of extent e: a frame that stands there, or none, and then none stands there
+-- what was found at p of extent e: the frame there, or that no frame is there
 abbrev pub IsFoundAt : Image → ℕ → ℕ → ℕ → Option Standing → Type 0
 IsFoundAt image w e p found = MatchOption found (NoFrameAt (extent_of image e w) p) (IsStandingAt image w e p)
 
--- the same at a place, under the write pointer that a plan has for its extent
+-- what was found at a place under the plan's write pointer: the frame there, or that no frame is there
 abbrev pub IsSeenAt : Image → PlanValue → Start → Option Standing → Type 0
 IsSeenAt image plan s found = (w : ℕ) → pointer_of plan s.extent ≡ Some w → IsFoundAt image w s.extent s.offset found
 
--- looks each tell what stands at their place
+-- each of these says which frame is at its place under the plan's pointer, or that none is
 abbrev pub AreLooks : Image → PlanValue → List Look → Type 0
 AreLooks image plan looks = All (λ look. IsSeenAt image plan look.start look.standing) looks
 
--- the frame that a locator names would lie in an extent in use, where it can be read, and no item begins at its place
+-- the frame that a locator names would be in an extent in use, where it can be read, and no item begins at its place
 pub record IsOpen (image : Image) (plan : PlanValue) (l : Locator) : Type 0 where
   pub in_use : is_retired plan l.extent ≡ false
   pub pointer : ℕ
@@ -47,7 +47,8 @@ pub record IsOpen (image : Image) (plan : PlanValue) (l : Locator) : Type 0 wher
   pub can : CanStand image pointer l
   pub apart : ¬ BeginsAt (extent_of image l.extent pointer) l.offset
 
--- what items tell of a locator whose frame would lie where it can be read: its status, or that none begins at its place
+-- what items say of a locator whose frame would be where it can be read: its status, or that no item begins at its
+-- place
 abbrev pub IsToldByItems : Image → ℕ → Locator → Option Status → Type 0
 IsToldByItems image w l told = MatchOption told (¬ BeginsAt (extent_of image l.extent w) l.offset) (HasStatus image w l)
 
@@ -55,25 +56,26 @@ IsToldByItems image w l told = MatchOption told (¬ BeginsAt (extent_of image l.
 abbrev pub IsClaimedIn : Image → Start → Head → Type 0
 IsClaimedIn image s h = s.offset + h.length + frame_overhead h.form ≤ extent_bytes image.geometry
 
--- it is claimed at p, and all its bytes can be read
+-- a frame is claimed at p, and all its bytes can be read
 pub record IsReadableClaim (x : Extent) (p : ℕ) (h : Head) : Type 0 where
   pub claimed : IsClaimedAt x p h
   pub readable : ¬ HasGap x.byte p (h.length + frame_overhead h.form)
 
--- what is claimed at a place: a frame whose bytes can all be read, or none, and then none stands there
+-- what is claimed at a place under the plan's pointer: a frame whose bytes can all be read, or none, and then no frame
+-- is there
 abbrev pub IsClaimSeen : Image → PlanValue → Start → Option Head → Type 0
 IsClaimSeen image plan s found = (w : ℕ) → pointer_of plan s.extent ≡ Some w → MatchOption found (NoFrameAt (extent_of image s.extent w) s.offset) (IsReadableClaim (extent_of image s.extent w) s.offset)
 
--- claims each tell what is claimed at their place
+-- each of these says which frame is claimed at its place, or that no frame is there
 abbrev pub AreClaims : Image → PlanValue → List Claim → Type 0
 AreClaims image plan claims = All (λ claim. IsClaimSeen image plan claim.start claim.head) claims
 
--- of a frame that is claimed, what is left where a byte of it can't be read: nothing
+-- what is left of a claimed frame: nothing if one of its bytes can't be read, and else the same
 abbrev pub AreReadableClaims : Image → Start → Option Head → Option Head → Type 0
 AreReadableClaims image s None left = left ≡ None
 AreReadableClaims image s (Some h) left = MatchOption left (HasGap (byte image s.extent) s.offset (h.length + frame_overhead h.form)) (λ k. (k ≡ h) × ¬ HasGap (byte image s.extent) s.offset (h.length + frame_overhead h.form))
 
--- one of these claims tells the status of a locator
+-- one of these claims, which is at the locator's place, says its status
 pub record IsToldAmong (claims : List Claim) (l : Locator) : Type 0 where
   pub claim : Claim
   pub among : Contains claims claim

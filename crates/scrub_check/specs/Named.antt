@@ -6,15 +6,16 @@ use Rattle.scrub_merge.specs.Binding.{BindingValue}
 use Rattle.scrub_check.specs.declared.named.Owner.TheVariants.{Run, Shard}
 use Rattle.scrub_check.specs.declared.named.Named.{Named}
 
--- the locators of runs, the first of them that of run k
+-- the locators of runs, each owned by its run, numbered from k on
 abbrev pub named_by_runs : ℕ → List Locator → List Named
 named_by_runs k [] = []
 named_by_runs k (l ∷ ls) = record { owner = Run k; locator = l } ∷ named_by_runs (k + 1) ls
 
--- the locators of a shard
+-- the locators of a shard, each owned by that shard
 abbrev pub named_by_shard : BindingValue → List Named
 named_by_shard b = map (λ l. record { owner = Shard b.id; locator = l }) b.locators
 
--- the locators of the runs, in order, and then those of the shards, by identifier and in the binding's order
+-- the named locators: those of the runs, in order, and then those of the shards, by identifier and in the binding's
+-- order
 abbrev pub named : List Locator → List BindingValue → List Named
 named runs bindings = named_by_runs 0 runs ++ flat_map named_by_shard bindings

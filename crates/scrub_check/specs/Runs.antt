@@ -13,57 +13,60 @@ use Rattle.scrub_check.specs.declared.runs.RunState.{RunState}
 use Rattle.scrub_check.specs.declared.runs.RunState.TheVariants.{Read, BadChunk, NotARun}
 use Rattle.scrub_check.specs.Status.{NamesChunk, HasStatus, HasStatusInRetired, is_retired}
 
--- the chunk that a locator names stands, be it hidden or sound, and its payload is the run of these entries
+-- the locator names a chunk, be it hidden or sound, whose payload is the run of these entries
 pub record NamesRun (image : Image) (w : ℕ) (l : Locator) (entries : List EntryValue) : Type 0 where
   pub names : NamesChunk image w l
   pub run : IsRun names.payload entries
 
--- the run of a locator, none where it is lost
+-- the entries of the run that a locator names, or None if it names none
 abbrev pub IsRunOf : Image → ℕ → Locator → Option (List EntryValue) → Type 0
 IsRunOf image w l (Some entries) = NamesRun image w l entries
 IsRunOf image w l None = (entries : List EntryValue) → ¬ NamesRun image w l entries
 
--- what became of it: read, lost with the status of its chunk, or lost since its payload is no run
+-- what became of a run: read, lost with the status of its chunk, or lost since the payload is no run
 abbrev pub HasRunState : Image → ℕ → Locator → RunState → Type 0
 HasRunState image w l Read = (entries : List EntryValue) × NamesRun image w l entries
 HasRunState image w l (BadChunk status) = HasStatus image w l status × ¬ NamesChunk image w l
 HasRunState image w l NotARun = NamesChunk image w l × ((entries : List EntryValue) → ¬ NamesRun image w l entries)
 
--- the same by a plan, in an extent in use: under the write pointer of its extent, and lost where it has none
+-- the run of a locator into an extent in use, under the plan's write pointer of it, or None if it has none
 abbrev pub IsRunInUse : Image → PlanValue → Locator → Option (List EntryValue) → Type 0
 IsRunInUse image plan l run = MatchOption (pointer_of plan l.extent) (run ≡ None) (λ w. IsRunOf image w l run)
 
+-- what became of a run in an extent in use, under the plan's write pointer of it, or lost as out of range if it has
+-- none
 abbrev pub HasRunStateInUse : Image → PlanValue → Locator → RunState → Type 0
 HasRunStateInUse image plan l state = MatchOption (pointer_of plan l.extent) (state ≡ BadChunk OutOfRange) (λ w. HasRunState image w l state)
 
--- in a retired extent it is lost with the status of its locator
+-- a run in a retired extent is lost with the status of its locator
 abbrev pub IsLostInRetired : Image → Locator → RunState → Type 0
 IsLostInRetired image l (BadChunk status) = HasStatusInRetired image l status
 IsLostInRetired image l _ = ⊥
 
--- and so by a plan, which tells whether its extent is retired
+-- the run of a locator by a plan, which says whether its extent is retired
 abbrev pub IsRunIn : Image → PlanValue → Locator → Option (List EntryValue) → Type 0
 IsRunIn image plan l run = MatchBool (is_retired plan l.extent) (run ≡ None) (IsRunInUse image plan l run)
 
+-- what became of a run by a plan, which says whether its extent is retired
 abbrev pub HasRunStateIn : Image → PlanValue → Locator → RunState → Type 0
 HasRunStateIn image plan l state = MatchBool (is_retired plan l.extent) (IsLostInRetired image l state) (HasRunStateInUse image plan l state)
 
--- index runs, newest first: the entries of each, none where it is lost, and what became of each
+-- index runs, newest first: the entries of each, None if it is lost, and what became of each
 pub record ReadRunsValue : Type 0 where
   pub runs : Runs
   pub states : List RunState
 
--- as many runs as states, at most 32
+-- there are as many runs as states, at most 32
 pub record AreCounted (r : ReadRunsValue) : Type 0 where
   pub same : len r.states ≡ len r.runs
   pub few : len r.runs ≤ 32
 
--- the runs that a plan names, in its order, and what became of each
+-- the runs that a plan names, in its order: what was read of each, and what became of it
 pub record AreReadRuns (image : Image) (plan : PlanValue) (r : ReadRunsValue) : Type 0 where
   pub count : len r.runs ≡ len plan.runs
   pub runs : AllZip (IsRunIn image plan) plan.runs r.runs
   pub states : AllZip (HasRunStateIn image plan) plan.runs r.states
 
--- states told before: those of the runs that a plan names, or of the first of them, or none
+-- what became of the runs that a plan names, or of the first of them, or of none
 abbrev pub AreRunStates : Image → PlanValue → List RunState → Type 0
 AreRunStates image plan states = (k : ℕ) (l : Locator) (s : RunState) → k < len plan.runs → k < len states → HasRunStateIn image plan (slice_index_or plan.runs k l) (slice_index_or states k s)

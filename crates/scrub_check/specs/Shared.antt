@@ -7,16 +7,16 @@ use Rattle.scrub_check.specs.declared.place.SharedPlace.{SharedPlace}
 use Rattle.scrub_check.specs.declared.checked.Checked.{Checked}
 use Rattle.scrub_check.specs.Live.{sound_at}
 
--- by extent, and then by place
+-- the order of places: by extent, and then by byte
 abbrev pub by_place : SharedPlace → SharedPlace → Ordering
 by_place a b = ordering_then (nat_cmp a.extent b.extent) (nat_cmp a.offset b.offset)
 
--- two sound locators or more point to it, and so many do
+-- two or more sound locators point to the place, and so many as it says
 pub record IsShared (checked : List Checked) (s : SharedPlace) : Type 0 where
   pub counted : s.count ≡ sound_at checked s.extent s.offset
   pub several : 2 ≤ s.count
 
--- the shared places, all of them, by place
+-- the shared places, all of them, strictly rising by extent and then by place
 pub record AreShared (checked : List Checked) (places : List SharedPlace) : Type 0 where
   pub rising : IsStrictlySortedBy by_place places
   pub each : All (IsShared checked) places

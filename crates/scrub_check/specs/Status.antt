@@ -1,4 +1,4 @@
--- What a locator is worth: the first line of the table that applies to it. It is judged at its own place; only the step
+-- The status of a locator: the first line of the table that applies to it. It is judged at its own place; only the step
 -- from hidden to sound asks the tiling.
 use Rattle.std.specs.Prelude.{◌≡◌, ◌≢◌, ◌<◌, ◌≤◌, ◌+◌, ◌==◌, ℕ, Bool, List, MatchBool, MatchOption, map, Contains}
 use Rattle.std.specs.Prelude.{length as len}
@@ -17,31 +17,31 @@ use Rattle.scrub_scan.specs.Tiling.{IsTiling}
 use Rattle.scrub_check.specs.declared.status.Status.{Status}
 use Rattle.scrub_check.specs.declared.status.Status.TheVariants.{OutOfRange, Retired, PastPointer, Unreadable, NoFrame, WrongUuid, WrongLength, WrongDigest, Hidden, Sound}
 
--- where the frame that a locator names would end at the least
+-- the least place at which the frame that a locator names would end
 abbrev pub end_of : Locator → ℕ
 end_of l = l.offset + l.length + least_overhead
 
--- it would lie in one of the extents that chunks are written to
+-- the locator's frame would be in an extent that chunks are written to
 pub record InRange (g : Geometry) (l : Locator) : Type 0 where
   pub from_one : 1 ≤ l.extent
   pub in_disk : l.extent < g.extents
   pub in_extent : end_of l ≤ extent_bytes g
 
--- it would end at or before the pointer
+-- the locator's frame would end at or before the pointer
 abbrev pub BelowPointer : ℕ → Locator → Type 0
 BelowPointer w l = end_of l ≤ w
 
--- one of its bytes can't be read
+-- one byte of the locator's frame can't be read
 abbrev pub HasUnreadableByte : Image → Locator → Type 0
 HasUnreadableByte image l = HasGap (byte image l.extent) l.offset (l.length + least_overhead)
 
--- it would lie where it can be read, in range and below the pointer
+-- the locator's frame would be in range, at or before the pointer, and on readable pages
 pub record CanStand (image : Image) (w : ℕ) (l : Locator) : Type 0 where
   pub in_range : InRange image.geometry l
   pub below : BelowPointer w l
   pub readable : ¬ HasUnreadableByte image l
 
--- a frame of u and b, of either form, stands at its place
+-- a frame of UUID u and payload b, of either form, is at the locator's place
 pub record FindsFrame (image : Image) (w : ℕ) (l : Locator) (u b : List ℕ) : Type 0 where
   pub can : CanStand image w l
   pub form : Form
@@ -53,14 +53,15 @@ pub record BeginsAt (x : Extent) (p : ℕ) : Type 0 where
   pub tiled : IsTiling x items
   pub begins : Contains (map start_of items) p
 
--- a chunk as the locator tells it stands at its place
+-- a frame with the locator's UUID, length and digest is at its place
 pub record NamesChunk (image : Image) (w : ℕ) (l : Locator) : Type 0 where
   pub payload : List ℕ
   pub found : FindsFrame image w l l.uuid payload
   pub length : len payload ≡ l.length
   pub digest : sha256 payload ≡ l.digest
 
--- the status of a locator in an image, under the write pointer of its extent
+-- the status of a locator in an image under the write pointer of its extent: the first that applies, from out of range
+-- on; hidden and sound name a chunk, and at a sound one's place an item begins
 abbrev pub HasStatus : Image → ℕ → Locator → Status → Type 0
 HasStatus image w l OutOfRange = ¬ InRange image.geometry l
 HasStatus image w l Retired = ⊥
@@ -73,25 +74,25 @@ HasStatus image w l WrongDigest = (b : List ℕ) × FindsFrame image w l l.uuid 
 HasStatus image w l Hidden = NamesChunk image w l × ¬ BeginsAt (extent_of image l.extent w) l.offset
 HasStatus image w l Sound = NamesChunk image w l × BeginsAt (extent_of image l.extent w) l.offset
 
--- an extent is retired
+-- the plan retires the extent
 abbrev pub is_retired : PlanValue → ℕ → Bool
 is_retired plan e = list_any (λ r. r == e) plan.retired
 
--- the status of a locator into a retired extent, whatever stands there
+-- the status of a locator into a retired extent, whatever is there: out of range, or retired
 abbrev pub HasStatusInRetired : Image → Locator → Status → Type 0
 HasStatusInRetired image l OutOfRange = ¬ InRange image.geometry l
 HasStatusInRetired image l Retired = InRange image.geometry l
 HasStatusInRetired image l _ = ⊥
 
--- the status of one into an extent in use: under the write pointer of its extent, and out of range where it has none
+-- the status of a locator into an extent in use: under the plan's pointer of it, or out of range if it has none
 abbrev pub HasStatusInUse : Image → PlanValue → Locator → Status → Type 0
 HasStatusInUse image plan l status = MatchOption (pointer_of plan l.extent) (status ≡ OutOfRange) (λ w. HasStatus image w l status)
 
--- the status of a locator by a plan, which tells whether its extent is retired
+-- the status of a locator by a plan, which says whether its extent is retired
 abbrev pub HasStatusIn : Image → PlanValue → Locator → Status → Type 0
 HasStatusIn image plan l status = MatchBool (is_retired plan l.extent) (HasStatusInRetired image l status) (HasStatusInUse image plan l status)
 
--- exactly one status applies: two that do are one, and it can't be that none does
+-- exactly one status applies: any two that do are one, and it can't be that none does
 pub record ExactlyOne (Applies : Status → Type 0) : Type 0 where
   pub one : (s t : Status) → Applies s → Applies t → s ≡ t
   pub some : ¬ ((s : Status) → ¬ Applies s)

@@ -1,4 +1,4 @@
--- What the named locators say of places and extents, sorted by the code, and what that says of an extent.
+-- What the named locators say of places and extents, sorted by the code, and what follows for an extent.
 use Rattle.std.specs.Prelude.{◌++◌, ◌∷◌, [], ℕ, not, Option, Some, None, List, map}
 use Rattle.std.specs.List.{filter}
 use Rattle.std.specs.List.Sorted.{IsPermutation}
@@ -10,20 +10,20 @@ use Rattle.scrub_check.specs.Checked.{is_sound}
 use Rattle.scrub_check.specs.SoundStarts.{AreSoundStarts}
 use Rattle.scrub_check.specs.Candidates.{CandidateValue, reclaimable}
 
--- the extents that those name that aren't sound, in some order
+-- the extents of the checked locators that aren't sound, each as often as it is named, in some order
 abbrev pub AreUnsoundExtents : List Checked → List ℕ → Type 0
 AreUnsoundExtents checked extents = IsPermutation (map (λ c. c.locator.extent) (filter (λ c. not (is_sound c.status)) checked)) extents
 
--- both of these locators
+-- the starts of the sound ones of these locators, and the extents of the others
 pub record AreVerdicts (checked : List Checked) (v : Verdicts) : Type 0 where
   pub sound : AreSoundStarts checked v.sound.now
   pub unsound : AreUnsoundExtents checked v.unsound
 
--- the extents that may be reclaimed, where that is asked for: the sizes of the disk are given to find it by
+-- the extents that may be reclaimed, if the sizes of the disk are given; else none
 abbrev pub reclaimable_by : Option Geometry → List Scanned → List Checked → List CandidateValue
 reclaimable_by None all checked = []
 reclaimable_by (Some g) all checked = reclaimable g all checked
 
--- the candidates, and behind them the extent, where that is asked for and it may be reclaimed
+-- the candidates, and behind them the extent, if the sizes are given and it may be reclaimed
 abbrev pub with_reclaimable : Option Geometry → List Checked → List CandidateValue → Scanned → List CandidateValue
 with_reclaimable g checked candidates f = candidates ++ reclaimable_by g (f ∷ []) checked

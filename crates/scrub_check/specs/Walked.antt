@@ -18,11 +18,11 @@ use Rattle.scrub_check.specs.Chunks.{place_of, orphans}
 use Rattle.scrub_check.specs.SoundStarts.{start_cmp, is_live_by, is_named_by}
 use Rattle.scrub_check.specs.Verdicts.{reclaimable_by}
 
--- a place lies before byte p of extent e
+-- the place is before byte p of extent e
 abbrev pub LiesBefore : ℕ → ℕ → Start → Type 0
 LiesBefore e p s = (s.extent ≤ e) × (s.extent ≡ e → s.offset < p)
 
--- so do the first n of some places
+-- the first n of some places are before byte p of extent e
 abbrev pub AreBefore : List Start → ℕ → ℕ → ℕ → Type 0
 AreBefore starts n e p = (k : ℕ) (d : Start) → k < n → LiesBefore e p (slice_index_or starts k d)
 
@@ -42,21 +42,21 @@ pub record HasPassed (c : Cursor) (e p : ℕ) : Type 0 where
 abbrev pub live_by : List Start → ℕ → List Item → List Item
 live_by starts e items = filter (is_live_by starts e) items
 
--- and the other chunks among them
+-- the places of the chunks of extent e that aren't among these
 abbrev pub orphans_by : List Start → ℕ → List Item → List Place
 orphans_by starts e items = filter (λ p. not (is_named_by starts p)) (filter_map (place_of e) items)
 
--- what is told of the first ones
+-- how many bytes the chunks at one of these places take, and where they begin
 pub record AreLiveBy (starts : List Start) (e : ℕ) (items : List Item) (l : LiveChunks) : Type 0 where
   pub sizes : l.bytes ≡ sum_by size_of (live_by starts e items)
   pub begins : l.starts.items ≡ map start_of (live_by starts e items)
 
--- and of the live chunks of an extent
+-- how many bytes the live chunks of an extent take, and where they begin
 pub record AreLiveChunks (checked : List Checked) (f : Scanned) (l : LiveChunks) : Type 0 where
   pub sizes : l.bytes ≡ live_bytes checked f
   pub begins : l.starts.items ≡ map start_of (live_chunks checked f)
 
--- what is told of some extents: their live bytes, their orphans, and, where that is asked for, which of them may be reclaimed
+-- the live bytes of some extents, their orphans, and, if the sizes are given, which of them may be reclaimed
 pub record AreToldOf (g : Option Geometry) (checked : List Checked) (extents : List Scanned) (t : Told) : Type 0 where
   pub sizes : t.live.items ≡ map (live_bytes checked) extents
   pub garbage : t.orphans.items ≡ orphans extents checked

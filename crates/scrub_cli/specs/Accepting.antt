@@ -1,17 +1,17 @@
--- The kinds of doubts that words accept.
+-- The kinds of doubts that arguments accept.
 use Rattle.std.specs.Prelude.{◌≡◌, ◌||◌, Bool, true, List, codes}
 use Rattle.std.specs.List.{list_all, list_any}
 use Rattle.std.specs.Str.{bytes_eq}
 use Rattle.clap.specs.Words.{Text}
 use Rattle.scrub_report.specs.declared.doubts.Accepted.{Accepted}
 
--- a word that is a kind of doubts
+-- the word is one of the four kinds of doubts that can be accepted
 abbrev pub is_kind : Text → Bool
 is_kind word =
     bytes_eq word (codes "superblock-damaged") || (bytes_eq word (codes "superblock-stray")
     || (bytes_eq word (codes "tail") || bytes_eq word (codes "tail-lost")))
 
--- a word is among these
+-- the word is among these
 abbrev pub has_kind : Text → List Text → Bool
 has_kind kind words = list_any (λ word. bytes_eq word kind) words
 

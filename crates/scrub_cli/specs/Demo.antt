@@ -1,4 +1,4 @@
--- The disk of the command `demo`, and what it tells of it.
+-- The disk of the command `demo`, and its answer.
 use Rattle.std.specs.Prelude.{ℕ, List, [], ◌∷◌, ◌++◌, None, length as len, replicate, codes}
 use Rattle.sha2.specs.Sha256.{sha256}
 use Rattle.scrub_disk.specs.Faults.{HasSizes}
@@ -14,34 +14,36 @@ use Rattle.scrub_super.specs.Record.{record_bytes}
 use Rattle.scrub_cli.specs.declared.answer.Wanted.TheVariants.{Report}
 use Rattle.scrub_cli.specs.Scan.{IsDiskAnswer}
 
--- the UUIDs of the chunk and of the run: sixteen bytes 11, and sixteen bytes 22 hexadecimal
+-- the UUID of the demo's chunk: sixteen bytes 11 hexadecimal
 abbrev pub ones : List ℕ
 ones = replicate 16 0x11
 
+-- the UUID of the demo's run: sixteen bytes 22 hexadecimal
 abbrev pub twos : List ℕ
 twos = replicate 16 0x22
 
--- the locator of a payload whose frame begins an extent
+-- the locator of a payload whose frame is at the start of an extent
 abbrev pub located : ℕ → List ℕ → List ℕ → Locator
 located e u payload = record { extent = e; offset = 0; length = len payload; uuid = u; digest = sha256 payload }
 
--- the one shard: fifteen zero bytes and 1
+-- the identifier of the demo's one shard: fifteen zero bytes and 1
 abbrev pub demo_shard : ShardId
 demo_shard = record { 0 = replicate 15 0 ++ 1 ∷ [] }
 
--- the run of the shard, whose one chunk is `abc`
+-- the bytes of the demo's run, with its one shard, whose one chunk is `abc`
 abbrev pub demo_run : List ℕ
 demo_run = run_bytes (record { id = demo_shard; locators = located 1 ones (codes "abc") ∷ [] } ∷ [])
 
--- the write pointers of extents 1 and 2
+-- the write pointers of the demo's extents 1 and 2
 abbrev pub demo_pointers : List ℕ
 demo_pointers = 41 ∷ 155 ∷ []
 
+-- what the demo's superblock says: generation 1, the pointers, and the locator of the run
 abbrev pub demo_superblock : Contents
 demo_superblock = record { generation = 1; pointers = demo_pointers; retired = None; runs = located 2 twos demo_run ∷ [] }
 
--- three extents of four pages of 64 bytes: zeros, then a chunk at the start of extent 1, then the run that names it at
--- the start of extent 2, then the record that names the run at the start of extent 0
+-- a disk of three extents of four pages of 64 bytes: zeros, then a chunk at the start of extent 1, the run that names
+-- it at the start of extent 2, and the record that names the run at the start of extent 0
 pub record IsDemoDisk (image : Image) : Type 0 where
   pub blank : Image
   pub sizes : HasSizes blank.geometry 64 4 3
@@ -52,7 +54,7 @@ pub record IsDemoDisk (image : Image) : Type 0 where
   pub run : Puts with_chunk with_run 2 0 (frame Plain twos demo_run)
   pub superblock : Puts with_run image 0 0 (record_bytes blank.geometry demo_superblock)
 
--- `demo` tells the report of its disk
+-- the answer is the report of the demo's disk, with its status
 pub record IsDemoAnswer (text : List ℕ) (status : ℕ) : Type 0 where
   pub image : Image
   pub disk : IsDemoDisk image

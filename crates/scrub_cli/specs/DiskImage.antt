@@ -1,5 +1,5 @@
--- What the words on an image file come to: the pages that they name, the image that is loaded without what its map lacks, and
--- why none is.
+-- What the arguments on an image file come to: the pages that they name, the image that is loaded without what its map
+-- lacks, and why none is.
 use Rattle.std.specs.Prelude.{◌≡◌, ◌<◌, ℕ, List, length, take, slice_index_or, Option, IfSome}
 use Rattle.std.specs.Borrow.{Bor}
 use Rattle.std.specs.List.{AllZip}
@@ -14,17 +14,17 @@ use Rattle.scrub_cli.specs.Known.{KnownMaps, KnownRaw}
 use Rattle.scrub_cli.specs.Pair.{IsPair}
 use Rattle.scrub_cli.specs.Rescue.{AreBlocksOf, IsMapFault, LosesByMap}
 
--- the word is a pair of an extent of a disk of these sizes and a page of that extent
+-- the argument is a pair of an extent of a disk of these sizes and a page of that extent
 pub record NamesPage (g : Sizes) (word : List ℕ) (at : ℕ × ℕ) : Type 0 where
   pub pair : IsPair word at.0 at.1
   pub in_extents : at.0 < g.extents
   pub in_pages : at.1 < g.pages
 
--- the words name these pages, in order
+-- the arguments name these pages, in order
 abbrev pub NamePages : Sizes → List (Bor (List ℕ)) → List (ℕ × ℕ) → Type 0
 NamePages g words pages = AllZip (λ word at. NamesPage g word.now at) words pages
 
--- the first of the words that names no page
+-- the first of the arguments that names no page
 pub record IsFirstBadPage (g : Sizes) (words : List (Bor (List ℕ))) (word : Bor (List ℕ)) : Type 0 where
   pub place : ℕ
   pub within : place < length words
@@ -33,14 +33,14 @@ pub record IsFirstBadPage (g : Sizes) (words : List (Bor (List ℕ))) (word : Bo
   pub before : NamePages g (take place words) pages
   pub names_none : (at : ℕ × ℕ) → ¬ NamesPage g word.now at
 
--- why words name no pages
+-- why arguments name no pages: this is the first that doesn't
 abbrev pub IsBadPageFault : Sizes → List (Bor (List ℕ)) → Fault → Type 0
 IsBadPageFault g words (BadPage word) = IsFirstBadPage g words word
 IsBadPageFault g words OutOfMemory = Unit {0}
 IsBadPageFault g words fault = ⊥
 
--- an image of these sizes that was loaded from this raw image, with the pages unreadable that the words name, and then with
--- those unreadable that the map lacks, where one is named
+-- an image of these sizes, loaded from this raw image, with the pages unreadable that the arguments name, and then
+-- those that the map lacks, if one is named
 pub record IsLoadedDisk (known : KnownRaw) (maps : KnownMaps) (words : ImageWords) (g : Sizes) (image : Image) : Type 0 where
   pub unreadable : List (ℕ × ℕ)
   pub named : NamePages g words.bad_pages.items unreadable
@@ -50,18 +50,19 @@ pub record IsLoadedDisk (known : KnownRaw) (maps : KnownMaps) (words : ImageWord
   pub loaded : IsLoadedWith known.bytes known.most_failures g unreadable before
   pub rescued : LosesByMap blocks before image
 
--- the words name pages, and their map was read, where one is named
+-- the arguments name pages, and their map was read, if one is named
 pub record AreReadBefore (maps : KnownMaps) (words : ImageWords) (g : Sizes) : Type 0 where
   pub pages : List (ℕ × ℕ)
   pub named : NamePages g words.bad_pages.items pages
   pub blocks : Option (List MapBlock)
   pub mapped : AreBlocksOf maps words.map blocks
 
--- the words name pages, but their map isn't read
+-- the arguments name pages, but their map isn't read
 abbrev pub IsMapFaultBehind : KnownMaps → ImageWords → Sizes → Fault → Type 0
 IsMapFaultBehind maps words g fault = (pages : List (ℕ × ℕ)) × NamePages g words.bad_pages.items pages × IsMapFault maps words.map fault
 
--- Why no disk of these sizes is loaded: each fault comes only where none before it does, and want of memory comes anywhere.
+-- why no disk of these sizes is loaded: a page argument, then the map, then the image, each only if nothing before it
+-- failed; or memory ran out, anywhere
 abbrev pub IsDiskFault : KnownRaw → KnownMaps → ImageWords → Sizes → Fault → Type 0
 IsDiskFault known maps words g (NoMap name) = IsMapFaultBehind maps words g (NoMap name)
 IsDiskFault known maps words g (MapLine k) = IsMapFaultBehind maps words g (MapLine k)

@@ -1,4 +1,4 @@
--- Which fault comes of a fault below; the status of each, and its text.
+-- Which fault of the program a fault of a call is; the status of each, and its text.
 use Rattle.std.specs.Prelude.{◌≡◌, ◌++◌, ◌∷◌, [], ℕ, List, codes}
 use Rattle.std.specs.Fmt.{decimal}
 use Rattle.scrub_disk.specs.declared.geometry.GeometryFault.TheVariants.{PageSize, Pages, Extents, ExtentBytes, TotalBytes}
@@ -13,19 +13,24 @@ use Rattle.scrub_cli.specs.declared.fault.Fault.TheVariants.{NotUtf8, Help, Word
 use Rattle.scrub_report.specs.Writing.{AppendsFront}
 use Rattle.scrub_cli.specs.Writing.{Held}
 
+-- the fault of the program for a fault of loading
 abbrev pub fault_of_load : LoadFault → Fault
 fault_of_load no_memory_to_load = OutOfMemory
 fault_of_load too_long = TooLong
 
+-- the fault of the program for a fault of a map
 abbrev pub fault_of_map : MapFault → Fault
 fault_of_map no_memory_for_map = OutOfMemory
 fault_of_map (Line k) = MapLine k
 
+-- the fault of the program for a fault of the arguments
 abbrev pub fault_of_words : WordsFault → Fault
 fault_of_words (help text) = Help text
 fault_of_words (Refused text) = Words text
 fault_of_words no_memory_to_read = OutOfMemory
 
+-- the status of a fault: 2 for arguments and for the text of a map, 3 for files and streams, 4 if memory ran out, 0 for
+-- help
 abbrev pub status_of : Fault → ℕ
 status_of NotUtf8 = 2
 status_of (Help text) = 0
@@ -45,7 +50,7 @@ status_of OutOfMemory = 4
 abbrev pub line : List ℕ → List ℕ
 line told = codes "shardscrub: " ++ told ++ 10 ∷ []
 
--- what a fault is told with, up to its line feed; a text of `clap` has its own
+-- the text of a fault on the error stream, with its line feed; a text of `clap` has its own
 abbrev pub text_of : Fault → List ℕ
 text_of NotUtf8 = line (codes "a word is not UTF-8")
 text_of (Help text) = text.bytes.items
@@ -65,7 +70,8 @@ text_of TooLong = line (codes "image too long")
 text_of (Output written) = line (codes "output failed after " ++ decimal written ++ codes " bytes")
 text_of OutOfMemory = line (codes "out of memory")
 
--- the run ended with the fault's status, and its error stream was given the fault's text, or a front of it where it failed
+-- the run ended with the fault's status, and its error stream got the fault's text, or the beginning of it if that
+-- stream failed
 pub record IsTold (fault : Fault) (ended : ℕ) (err : Held) : Type 0 where
   pub status : ended ≡ status_of fault
   pub text : AppendsFront err.0 err.1 (text_of fault)

@@ -11,17 +11,17 @@ use Rattle.scrub_cli.specs.DiskImage.{IsLoadedDisk, IsDiskFault}
 use Rattle.scrub_cli.specs.Known.{KnownMaps, KnownRaw}
 use Rattle.scrub_cli.specs.Lines.{IsListing}
 
--- the write pointer: the one that is given, or the extent's size
+-- the write pointer that is given, or else the extent's size
 abbrev pub given_pointer : ItemsWords → Sizes → ℕ
 given_pointer words g = unwrap_or words.pointer (extent_bytes g)
 
--- the disk has the sizes that are given, and the extent and the pointer lie in it
+-- the sizes that are given are those of a disk, and the extent and the pointer lie in it
 pub record AreInDisk (words : ItemsWords) (g : Sizes) : Type 0 where
   pub sizes : HasSizes g words.image.page words.image.pages words.image.extents
   pub in_disk : words.extent < g.extents
   pub in_extent : given_pointer words g ≤ extent_bytes g
 
--- the listing of the extent under the pointer, in an image that was loaded from this raw image
+-- the answer of `items`: the listing of the extent under the pointer, in an image that was loaded from this raw image
 pub record IsItemsAnswer (known : KnownRaw) (maps : KnownMaps) (words : ItemsWords) (text : List ℕ) (status : ℕ) : Type 0 where
   pub geometry : Sizes
   pub places : AreInDisk words geometry
@@ -29,7 +29,7 @@ pub record IsItemsAnswer (known : KnownRaw) (maps : KnownMaps) (words : ItemsWor
   pub loaded : IsLoadedDisk known maps words.image geometry image
   pub listed : IsListing (extent_of image words.extent (given_pointer words geometry)) text status
 
--- Why there is no listing: each fault comes only where none before it does, and want of memory comes anywhere.
+-- why `items` gives no listing: each fault only if none before it applies, or memory ran out, anywhere
 abbrev pub IsItemsFault : KnownRaw → KnownMaps → ItemsWords → Fault → Type 0
 IsItemsFault known maps words (Geometry fault) = IsFirstBroken words.image.page words.image.pages words.image.extents fault
 IsItemsFault known maps words Extent =

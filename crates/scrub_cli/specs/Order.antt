@@ -1,23 +1,24 @@
--- Words that differ in the order of options alone.
+-- Arguments that differ in the order of options alone.
 use Rattle.std.specs.Prelude.{◌≡◌, ◌≢◌, ◌⊎◌, List, ◌∷◌, ◌++◌, codes}
 use Rattle.std.specs.List.{All}
 use Rattle.clap.specs.Words.{Text}
 
--- a command that has options
+-- the command has options
 abbrev pub HasOptions : Text → Type 0
 HasOptions command =
     (command ≡ codes "scan") ⊎ (command ≡ codes "index") ⊎ (command ≡ codes "locators")
     ⊎ (command ≡ codes "reclaimable") ⊎ (command ≡ codes "superblocks") ⊎ (command ≡ codes "sizes") ⊎ (command ≡ codes "items")
 
--- an option and its value in one word, `--NAME=VALUE`
+-- an option and its value in one argument, `--NAME=VALUE`
 abbrev pub option_word : Text → Text → Text
 option_word name value = 45 ∷ 45 ∷ (name ++ (61 ∷ value))
 
--- a name has no equals sign
+-- the name has no equals sign
 abbrev pub IsName : Text → Type 0
 IsName name = All (λ byte. byte ≢ 61) name
 
--- the same words of a command, but for two neighbouring options that are exchanged; no `--` stands before them
+-- the same arguments of a command, but for two neighbouring options with different names that are exchanged, each in
+-- one argument with its value; no `--` comes before them
 pub record AreExchanged (words others : List Text) : Type 0 where
   pub command : Text
   pub options : HasOptions command

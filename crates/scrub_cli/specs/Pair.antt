@@ -1,4 +1,4 @@
--- What a word of two numbers says: two numbers in decimal digits, with a colon between.
+-- What an argument of two numbers says: two numbers in decimal digits, with a colon between.
 use Rattle.std.specs.Prelude.{◌≡◌, ℕ, List, ◌∷◌, ◌++◌}
 use Rattle.std.specs.Str.Parse.{IsNumeral, digits_value}
 

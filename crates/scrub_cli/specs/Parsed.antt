@@ -1,4 +1,4 @@
--- What a parse of the words leaves to be read, and what an error of `clap` comes to.
+-- What a parse of the arguments leaves to be read, and what an error of `clap` comes to.
 use Rattle.std.specs.Prelude.{◌≡◌, ◌≢◌, ◌⊎◌, ◌||◌, ℕ, Bool, true, false, List, Option, None, Some, codes, IfSome, pos}
 use Rattle.std.specs.Str.{bytes_eq}
 use Rattle.clap.specs.Words.{IsSignedIn, without_minus, Row, Text, first_of, one_of}
@@ -9,22 +9,22 @@ use Rattle.scrub_cli.specs.declared.words.Request.TheVariants.{Version}
 use Rattle.scrub_cli.specs.declared.words.WordsFault.{WordsFault}
 use Rattle.scrub_cli.specs.declared.words.WordsFault.TheVariants.{Refused, Help, OutOfMemory}
 
--- help comes of a question for help alone, and a refusal of none for help or the version, nor of want of memory;
--- want of memory may come of any error, as its text takes memory
+-- help comes only of a question for help, a refusal of neither help, the version nor lack of memory, and running out of
+-- memory of any error, as its text takes memory
 abbrev pub ComesOf : WordsFault → ErrorKind → Type 0
 ComesOf (Refused text) kind = (kind ≢ DisplayHelp) × (kind ≢ DisplayVersion) × (kind ≢ no_memory)
 ComesOf (Help text) kind = kind ≡ DisplayHelp
 ComesOf OutOfMemory kind = Unit {0}
 
--- an error of this kind is a question for the version, and this is its request
+-- an error of this kind asks for the version, and this is its request
 abbrev pub IsVersionAsked : ErrorKind → Request → Type 0
 IsVersionAsked kind request = (kind ≡ DisplayVersion) × (request ≡ Version)
 
--- a value was found for the option, and its parser took it as a whole number up to a greatest one
+-- a value was found for the option, and it is a whole number up to a greatest one
 abbrev pub HasNumberTo : ℕ → List Row → Text → Type 0
 HasNumberTo most found name = (text : Text) × (one_of name found ≡ Some (without_minus text)) × IsSignedIn (pos 0) (pos most) text
 
--- or as a number of 32 bits
+-- a value was found for the option, and it is a whole number of 32 bits
 abbrev pub HasNumber : List Row → Text → Type 0
 HasNumber found name = HasNumberTo 4294967295 found name
 
@@ -39,12 +39,12 @@ pub record HasImage (found : List Row) : Type 0 where
   pub extents : HasNumber found (codes "extents")
   pub image : HasImageName found
 
--- and all that `scan`, `index`, `locators` and `reclaimable` need
+-- what `clap` found has all that `scan`, `index`, `locators` and `reclaimable` need
 pub record HasScan (found : List Row) : Type 0 where
   pub disk : HasImage found
   pub workers : (one_of (codes "workers") found ≡ None) ⊎ HasNumberTo 64 found (codes "workers")
 
--- and all that `items` needs
+-- what `clap` found has all that `items` needs
 pub record HasItems (found : List Row) : Type 0 where
   pub disk : HasImage found
   pub extent : HasNumber found (codes "extent")
@@ -54,6 +54,7 @@ pub record HasItems (found : List Row) : Type 0 where
 abbrev pub IsDiskCommand : Text → Type 0
 IsDiskCommand name = (name ≡ codes "scan") ⊎ (name ≡ codes "index") ⊎ (name ≡ codes "locators") ⊎ (name ≡ codes "reclaimable")
 
+-- whether the command is one on the whole disk
 abbrev pub is_disk_command : Text → Bool
 is_disk_command name =
     bytes_eq name (codes "scan") || (bytes_eq name (codes "index")
@@ -74,5 +75,6 @@ IsWholeCommand name found =
     HasNeeds (is_disk_command name) (bytes_eq name (codes "superblocks")) (bytes_eq name (codes "sizes")) (bytes_eq name (codes "items"))
     (bytes_eq name (codes "demo")) found
 
+-- if a command was found, it is one of the program's, and has all that it needs
 abbrev pub IsWholeParse : Option (Text × List Row) → Type 0
 IsWholeParse command = IfSome command (λ met. IsWholeCommand met.0 met.1)

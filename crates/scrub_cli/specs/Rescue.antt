@@ -1,4 +1,4 @@
--- The map of the rescue that made an image: what is read of one that is named, and the pages that it costs.
+-- The map of the rescue that made an image: what is read of a map that is named, and the pages that are lost by it.
 use Rattle.std.specs.Prelude.{◌≡◌, ◌<◌, ℕ, List, Bool, true, false, slice_index_or, Option, None, Some, IfSome}
 use Rattle.std.specs.Borrow.{Bor}
 use Rattle.scrub_disk.specs.Held.{page_number}
@@ -12,7 +12,7 @@ use Rattle.scrub_cli.specs.declared.fault.Fault.{Fault}
 use Rattle.scrub_cli.specs.declared.fault.Fault.TheVariants.{NoMap, MapLine, OutOfMemory}
 use Rattle.scrub_cli.specs.Known.{KnownMaps}
 
--- a text of a map of which this is known
+-- the text is that of a map of which this is known: this one, or any if nothing is
 abbrev pub IsTextOf : Option (List ℕ) → List ℕ → Type 0
 IsTextOf told text = IfSome told (λ bytes. text ≡ bytes)
 
@@ -22,14 +22,14 @@ pub record HasBlocks (told : Option (List ℕ)) (blocks : List MapBlock) : Type 
   pub known : IsTextOf told text
   pub read : IsMap text blocks
 
--- the blocks of the map that is named, and none where none is
+-- the blocks of the map that is named, and None if none is
 abbrev pub AreBlocksOf : KnownMaps → Option (Bor (List ℕ)) → Option (List MapBlock) → Type 0
 AreBlocksOf maps None None = Unit {0}
 AreBlocksOf maps None (Some blocks) = ⊥
 AreBlocksOf maps (Some name) None = ⊥
 AreBlocksOf maps (Some name) (Some blocks) = HasBlocks (maps name.now) blocks
 
--- what is kept of a map lacks just the bytes that these blocks don't cover, and nothing is kept where none is named
+-- what is kept of a map lacks just the bytes that these blocks don't cover, and nothing is kept if none is named
 abbrev pub KeepsMap : Option RescueMap → Option (List MapBlock) → Type 0
 KeepsMap None None = Unit {0}
 KeepsMap None (Some blocks) = ⊥
@@ -42,7 +42,8 @@ pub record IsMapNamed (maps : KnownMaps) (named : Option (Bor (List ℕ))) (map 
   pub are : AreBlocksOf maps named blocks
   pub keeps : KeepsMap map blocks
 
--- Why the map that is named isn't read: it can't be opened, or this line of its text is the first that breaks the rules.
+-- why the map that is named isn't read: it can't be opened, this line of its text is the first that breaks the rules,
+-- or memory ran out
 abbrev pub IsMapFault : KnownMaps → Option (Bor (List ℕ)) → Fault → Type 0
 IsMapFault maps named (NoMap name) = named ≡ Some name
 IsMapFault maps named (MapLine k) =
@@ -50,7 +51,7 @@ IsMapFault maps named (MapLine k) =
 IsMapFault maps named OutOfMemory = Unit {0}
 IsMapFault maps named fault = ⊥
 
--- the image with each page unreadable that has a byte which isn't rescued, and each other page as it was before
+-- each page is unreadable that has a byte which wasn't rescued, and each other page is as it was
 pub record LosesPages (blocks : List MapBlock) (before image : Image) : Type 0 where
   pub geometry : image.geometry ≡ before.geometry
   pub lost : (e q : ℕ) → e < before.geometry.extents → q < before.geometry.pages →
@@ -58,12 +59,12 @@ pub record LosesPages (blocks : List MapBlock) (before image : Image) : Type 0 w
   pub kept : (e q : ℕ) → e < before.geometry.extents → q < before.geometry.pages →
       ¬ IsLostBlock blocks before.geometry.page (page_number before.geometry e q) → image.page e q ≡ before.page e q
 
--- the same by a map, and the image as it was where there is none
+-- the map makes unreadable each page that has a byte which wasn't rescued, and without a map the image is as it was
 abbrev pub LosesByMap : Option (List MapBlock) → Image → Image → Type 0
 LosesByMap None before image = image ≡ before
 LosesByMap (Some blocks) before image = LosesPages blocks before image
 
--- of the first pages by their numbers each that is marked is unreadable, and each other page is as it was before
+-- of the first pages by their numbers each marked one is unreadable, and each other page is as it was
 pub record LosesMarked (marks : List Bool) (count : ℕ) (before image : Image) : Type 0 where
   pub geometry : image.geometry ≡ before.geometry
   pub lost : (e q : ℕ) → e < before.geometry.extents → q < before.geometry.pages → page_number before.geometry e q < count →

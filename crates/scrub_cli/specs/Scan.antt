@@ -1,4 +1,4 @@
--- What the commands `scan`, `index`, `locators` and `reclaimable` tell of an image file, and why they don't.
+-- What the commands `scan`, `index`, `locators` and `reclaimable` answer of an image file, and why they don't.
 use Rattle.std.specs.Prelude.{◌≡◌, ℕ, List, Bool}
 use Rattle.scrub_disk.specs.declared.geometry.Geometry.{Geometry as Sizes}
 use Rattle.scrub_disk.specs.Faults.{HasSizes, IsFirstBroken}
@@ -19,51 +19,53 @@ use Rattle.scrub_cli.specs.Known.{KnownMaps, KnownRaw}
 use Rattle.scrub_cli.specs.Lines.{status_of_clean}
 use Rattle.scrub_report.specs.Scrubbed.{IsCleanImage}
 
--- 0 where the image is clean, and 1 where it isn't
+-- the status of an image: 0 if it is clean, and 1 if it isn't
 pub record IsStatusOfImage (image : Image) (status : ℕ) : Type 0 where
   pub is_clean : Bool
   pub told : IsCleanImage image is_clean
   pub ended : status ≡ status_of_clean is_clean
 
--- 0 where nothing speaks against reclaiming extents of the image but what is accepted, and 1 where something does
+-- the status of the doubts of an image: 0 if each is accepted, and 1 if one isn't
 pub record IsStatusOfDoubts (image : Image) (accepted : Accepted) (status : ℕ) : Type 0 where
   pub is_clear : Bool
   pub told : IsClear image accepted is_clear
   pub ended : status ≡ status_of_clean is_clear
 
--- the text is the report of the image, its index, the lines of its named locators, or those of what may be reclaimed
+-- the text is what is wanted of the image: its report, its index, the lines of its named locators, or those of what may
+-- be reclaimed
 abbrev pub Tells : Wanted → Image → List ℕ → Type 0
 Tells Report image text = IsReport image text
 Tells Index image text = IsIndex image text
 Tells Locators image text = AreLocatorLines image text
 Tells (Reclaimable accepted) image text = AreReclaimLines image accepted text
 
--- the status is that of the report, or that of what may be reclaimed
+-- the status is that of the image, or for what may be reclaimed that of its doubts
 abbrev pub IsStatusOf : Wanted → Image → ℕ → Type 0
 IsStatusOf Report image status = IsStatusOfImage image status
 IsStatusOf Index image status = IsStatusOfImage image status
 IsStatusOf Locators image status = IsStatusOfImage image status
 IsStatusOf (Reclaimable accepted) image status = IsStatusOfDoubts image accepted status
 
--- what is wanted of an image, with its status
+-- the text is what is wanted of an image, with its status
 pub record IsDiskAnswer (wanted : Wanted) (image : Image) (text : List ℕ) (status : ℕ) : Type 0 where
   pub tells : Tells wanted image text
   pub ended : IsStatusOf wanted image status
 
--- an image of the sizes that are given, which was loaded from this raw image
+-- an image of the sizes that are given, loaded from this raw image
 pub record IsDiskOf (known : KnownRaw) (maps : KnownMaps) (words : ImageWords) (image : Image) : Type 0 where
   pub geometry : Sizes
   pub sizes : HasSizes geometry words.page words.pages words.extents
   pub loaded : IsLoadedDisk known maps words geometry image
 
--- what is wanted of such an image
+-- the text is what is wanted of an image that was loaded so, with its status
 pub record IsScanAnswer (wanted : Wanted) (known : KnownRaw) (maps : KnownMaps) (words : ImageWords) (text : List ℕ)
     (status : ℕ) : Type 0 where
   pub image : Image
   pub disk : IsDiskOf known maps words image
   pub answered : IsDiskAnswer wanted image text status
 
--- what is wanted of such an image, of which each planned extent is in one of the lists, once
+-- the text is what is wanted of an image that was loaded so, and each of its planned extents is in one of the lists,
+-- once
 pub record AreTakingsOf (wanted : Wanted) (known : KnownRaw) (maps : KnownMaps) (words : ImageWords) (text : List ℕ) (status : ℕ)
     (lists : List (List ℕ)) : Type 0 where
   pub image : Image
@@ -71,7 +73,7 @@ pub record AreTakingsOf (wanted : Wanted) (known : KnownRaw) (maps : KnownMaps) 
   pub answered : IsDiskAnswer wanted image text status
   pub partition : IsPartitionOfPlanned image lists
 
--- Why nothing is told: each fault comes only where none before it does, and want of memory comes anywhere.
+-- why there is no answer: each fault only if none before it applies, or memory ran out, anywhere
 abbrev pub IsScanFault : KnownRaw → KnownMaps → ImageWords → Fault → Type 0
 IsScanFault known maps words (Geometry fault) = IsFirstBroken words.page words.pages words.extents fault
 IsScanFault known maps words OutOfMemory = Unit {0}

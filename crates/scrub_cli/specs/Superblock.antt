@@ -1,4 +1,4 @@
--- What the command `superblocks` tells of an image file.
+-- What the command `superblocks` answers of an image file.
 use Rattle.std.specs.Prelude.{◌≡◌, ℕ, List, Bool}
 use Rattle.scrub_disk.specs.Image.{Image}
 use Rattle.scrub_report.specs.Superblocks.{AreSuperblockLines, AreCleanSuperblocks}
@@ -7,14 +7,14 @@ use Rattle.scrub_cli.specs.Known.{KnownMaps, KnownRaw}
 use Rattle.scrub_cli.specs.Lines.{status_of_clean}
 use Rattle.scrub_cli.specs.Scan.{IsDiskOf}
 
--- the lines of the superblocks of an image, and 0 where they are clean
+-- the lines of the superblocks of an image, and status 0 if they are in good order, and else 1
 pub record AreSuperblocksTold (image : Image) (text : List ℕ) (status : ℕ) : Type 0 where
   pub lines : AreSuperblockLines image text
   pub is_clean : Bool
   pub clean : AreCleanSuperblocks image is_clean
   pub ended : status ≡ status_of_clean is_clean
 
--- those of an image of the sizes that are given, which was loaded from this raw image
+-- the answer of `superblocks`, for an image of the sizes that are given, loaded from this raw image
 pub record IsSuperblocksAnswer (known : KnownRaw) (maps : KnownMaps) (words : ImageWords) (text : List ℕ) (status : ℕ) : Type 0 where
   pub image : Image
   pub disk : IsDiskOf known maps words image

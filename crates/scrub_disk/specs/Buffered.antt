@@ -1,9 +1,9 @@
--- An extent in memory.
+-- An extent in memory: its bytes, and which of its pages could be read.
 use Rattle.std.specs.Prelude.{◌≡◌, ◌<◌, ◌+◌, ◌*◌, ℕ, List, Bool, false, Some, None, length, slice_index_or, slice_range, if◌then◌else◌, filter, not}
 use Rattle.std.specs.List.{range_with_len}
 use Rattle.scrub_disk.specs.Image.{Image, extent_bytes}
 
--- the bytes hold each readable page of extent e at its place, and the marks tell which pages are readable
+-- the bytes have each readable page of extent e at its place, and the marks say which pages are readable
 pub record IsBuffered (image : Image) (e : ℕ) (bytes : List ℕ) (readable : List Bool) : Type 0 where
   pub size : length bytes ≡ extent_bytes image.geometry
   pub count : length readable ≡ image.geometry.pages

@@ -3,15 +3,16 @@ use Rattle.std.specs.Prelude.{ℕ, ◌+◌, ◌*◌, List, Bool, false, Option, 
 use Rattle.scrub_disk.specs.declared.geometry.Geometry.{Geometry}
 use Rattle.scrub_disk.specs.Image.{Image}
 
--- Page q of extent e has this number among all pages of the disk.
+-- the number of page q of extent e among all pages of the disk: e times the pages of an extent, plus q
 abbrev pub page_number : Geometry → ℕ → ℕ → ℕ
 page_number g e q = e * g.pages + q
 
--- the bytes of a page, which is unreadable where its number is marked
+-- the bytes of a page, or None if its number is marked
 abbrev pub held_page : Geometry → List ℕ → List Bool → ℕ → ℕ → Option (List ℕ)
 held_page g bytes bad e q =
     let n = page_number g e q in
     if slice_index_or bad n false then None else Some (slice_range bytes (n * g.page) (n * g.page + g.page))
 
+-- the image that a list of bytes and a list of marks hold
 abbrev pub held : Geometry → List ℕ → List Bool → Image
 held g bytes bad = record { geometry = g; page = held_page g bytes bad }

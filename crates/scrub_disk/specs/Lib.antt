@@ -1,4 +1,4 @@
--- The words of this crate's public clauses, and of the crates above for images and their bytes.
+-- For public clauses.
 pub mod Limits
 pub mod Faults
 pub mod Image
@@ -6,7 +6,7 @@ pub mod Buffered
 pub mod Held
 pub mod Memory
 pub mod Raw
--- The steps of the code: marks while an image is loaded, and the search for the next unreadable page.
+-- Steps of the code: marks while an image is loaded, and the search for the next unreadable page.
 pub mod Marked
 pub mod NextUnreadable
 -- Lemmas that types need: pages are whole.

@@ -9,14 +9,14 @@ pub record MarksAll (old new : Image) (named : List (ℕ × ℕ)) : Type 0 where
   pub others : (e q : ℕ) → e < old.geometry.extents → q < old.geometry.pages →
       (new.page e q ≡ old.page e q) ⊎ ((new.page e q ≡ None) × Contains named (e, q))
 
--- Marks on the first pages: a marked page isn't whole before the bytes end, or is one of those that a failure cost, listed
--- here by their numbers, at most as many as the failures that were counted.
+-- of the first pages, each marked one isn't whole before the bytes end, or is one of those that failures cost, listed
+-- here by their numbers, at most as many as were counted
 pub record MarksOnly (bytes : List ℕ) (page : ℕ) (count : ℕ) (failures : ℕ) (marks : List Bool) : Type 0 where
   pub failed : List ℕ
   pub few : length failed ≤ failures
   pub only : (n : ℕ) → n < count → slice_index_or marks n false ≡ true → (length bytes < n * page + page) ⊎ Contains failed n
 
--- byte i of a list is byte i of the raw bytes, where its page isn't marked
+-- byte i of a list is byte i of the raw bytes, unless its page is marked
 abbrev pub HoldsUnmarked : List ℕ → ℕ → List Bool → List ℕ → Type 0
 HoldsUnmarked told page unreadable bytes =
     (i : ℕ) → i < length bytes → slice_index_or unreadable (i / page) true ≡ false → slice_get told i ≡ Some (slice_index bytes i)

@@ -6,7 +6,7 @@ use Rattle.scrub_disk.specs.declared.memory.MemDisk.{MemDisk}
 use Rattle.scrub_disk.specs.Image.{Image, byte, extent_bytes}
 use Rattle.scrub_disk.specs.Held.{held}
 
--- the image that a disk in memory holds
+-- the image that the bytes and marks of a disk in memory hold
 abbrev pub image_of : MemDisk → Image
 image_of d = held d.geometry d.bytes.items d.bad.items
 
@@ -15,8 +15,8 @@ pub record IsBlank (d : Image) (g : Geometry) : Type 0 where
   pub geometry : d.geometry ≡ g
   pub zero : (e q : ℕ) → e < g.extents → q < g.pages → d.page e q ≡ Some (replicate g.page 0)
 
--- Where a page is readable, the bytes put there stand at their place, and each other byte is as it was. No page
--- becomes readable or unreadable.
+-- the bytes put there are at their place wherever the page is readable, each other byte is as it was, and no page
+-- becomes readable or unreadable
 pub record Puts (old new : Image) (e offset : ℕ) (bytes : List ℕ) : Type 0 where
   pub geometry : new.geometry ≡ old.geometry
   pub written : (k : ℕ) → k < length bytes → byte new e (offset + k) ≡ option_map (λ _. slice_index bytes k) (byte old e (offset + k))

@@ -1,7 +1,7 @@
 -- The next unreadable page, by the marks on the readable ones.
 use Rattle.std.specs.Prelude.{◌≡◌, ◌<◌, ◌≤◌, ℕ, List, Bool, true, false, length, slice_index_or}
 
--- n is the least unreadable page from page q on, or the number of pages where there is none
+-- n is the least unreadable page from page q on, or the number of pages if there is none
 pub record IsNextUnreadable (readable : List Bool) (q n : ℕ) : Type 0 where
   pub above : q ≤ n
   pub within : n ≤ length readable

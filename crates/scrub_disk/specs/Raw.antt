@@ -4,12 +4,12 @@ use Rattle.scrub_disk.specs.declared.geometry.Geometry.{Geometry}
 use Rattle.scrub_disk.specs.Image.{Image, AreBytesAt, HasWholePages, disk_bytes}
 use Rattle.scrub_disk.specs.Held.{page_number}
 
--- the first n bytes of `out` stand at the offset, and there are none only at the end or where `out` has no room
+-- the first n bytes of `out` are those at the offset, and n is 0 only at the end or if `out` has no room
 pub record ReadFrom (bytes : List ℕ) (offset : ℕ) (out : List ℕ) (n : ℕ) : Type 0 where
   pub given : AreBytesAt (slice_get bytes) offset (take n out)
   pub ended : n ≡ 0 → (length out ≡ 0) ⊎ (length bytes ≤ offset)
 
--- a read gave the first n bytes of `out`, which are those of the raw image where it tells them
+-- a read gave the first n bytes of `out`, which are those of the raw image if its bytes are known
 pub record IsRead (raw : Option (List ℕ)) (offset : ℕ) (out : List ℕ) (n : ℕ) : Type 0 where
   pub within : n ≤ length out
   pub told : IfSome raw (λ bytes. ReadFrom bytes offset out n)
@@ -21,11 +21,11 @@ pub record IsReadOn {R : Type 0} (bytes : R → Option (List ℕ)) (most_failure
   pub same_bound : most_failures new ≡ most_failures old
   pub counted : failures old ≤ failures new
 
--- page q of extent e stands at byte (e * N + q) * P
+-- the byte of the raw image at which page q of extent e begins: its number among all pages, times the bytes of a page
 abbrev pub raw_place : Geometry → ℕ → ℕ → ℕ
 raw_place g e q = page_number g e q * g.page
 
--- a page that stands whole at a place of the bytes
+-- the whole page is at a place of the bytes
 pub record IsPageAt (bytes : List ℕ) (place size : ℕ) (page : List ℕ) : Type 0 where
   pub whole : length page ≡ size
   pub stands : AreBytesAt (slice_get bytes) place page
@@ -36,12 +36,12 @@ HoldsRaw bytes image =
     (e q : ℕ) → e < image.geometry.extents → q < image.geometry.pages →
     IfSome (image.page e q) (IsPageAt bytes (raw_place image.geometry e q) image.geometry.page)
 
--- page q of extent e isn't whole before the bytes end
+-- the raw bytes end before page q of extent e is whole
 abbrev pub IsCut : List ℕ → Geometry → ℕ → ℕ → Type 0
 IsCut bytes g e q = length bytes < raw_place g e q + g.page
 
--- Which pages a load leaves unreadable: each that isn't whole before the bytes end, and of the others only those that
--- were named and at most as many as the failures that were counted, listed here by their numbers.
+-- a load leaves unreadable each page that is cut, and of the others only named ones and those that failures cost,
+-- listed here by their numbers, at most as many as were counted
 pub record LosesOnly (bytes : List ℕ) (g : Geometry) (named : List (ℕ × ℕ)) (failures : ℕ) (image : Image) : Type 0 where
   pub cut : (e q : ℕ) → e < g.extents → q < g.pages → IsCut bytes g e q → image.page e q ≡ None
   pub failed : List ℕ
@@ -49,15 +49,15 @@ pub record LosesOnly (bytes : List ℕ) (g : Geometry) (named : List (ℕ × ℕ
   pub only : (e q : ℕ) → e < g.extents → q < g.pages → image.page e q ≡ None →
       Contains named (e, q) ⊎ (IsCut bytes g e q ⊎ Contains failed (page_number g e q))
 
--- What an image that was loaded holds of the raw bytes, where these are told: each readable page has the bytes of its
--- place; pages are lost only as `LosesOnly` says; and where no read failed, no byte stands behind the last page.
+-- if the raw bytes are known, each readable page has the bytes of its place, pages are lost only as `LosesOnly` says,
+-- and no byte is behind the last page unless a read failed
 pub record HoldsTold (bytes : List ℕ) (failures : ℕ) (g : Geometry) (named : List (ℕ × ℕ)) (image : Image) : Type 0 where
   pub pages : HoldsRaw bytes image
   pub lost : LosesOnly bytes g named failures image
   pub not_too_long : failures ≡ 0 → length bytes ≤ disk_bytes g
 
--- An image of these sizes that was loaded from raw bytes while at most `failures` reads failed: each page of it is
--- unreadable or whole, each page that was named is unreadable, and of the raw bytes it holds what `HoldsTold` says.
+-- an image of these sizes that was loaded with at most `failures` failed reads: each page is whole or unreadable, each
+-- named page is unreadable, and it has of the raw bytes what `HoldsTold` says
 pub record IsLoadedWith (raw : Option (List ℕ)) (failures : ℕ) (g : Geometry) (named : List (ℕ × ℕ)) (image : Image) : Type 0 where
   pub geometry : image.geometry ≡ g
   pub whole : HasWholePages image

@@ -10,8 +10,8 @@ use Rattle.scrub_disk.specs.Held.{held}
 use Rattle.scrub_disk.specs.Memory.{image_of}
 use Rattle.scrub_disk.specs.declared.memory.MemDisk.{MemDisk}
 
--- page q of extent e is among all pages, and its bytes are among all bytes, for P bytes a page, N pages an extent and
--- E extents
+-- lemma: page q of extent e is among all pages, and its bytes are among all bytes, for P bytes a page, N pages an
+-- extent and E extents
 pub page_room : (P N E e q : ℕ) → e < E → q < N → (e * N + q < N * E) × ((e * N + q) * P + P ≤ P * N * E)
 page_room P N E e q he hq =
     let r : e * N + N ≤ E * N = row_fits e N E N he (omega arith) in
@@ -19,7 +19,7 @@ page_room P N E e q he hq =
     let t : P * (e * N + q + 1) ≤ P * (N * E) = mul-le-mul_left P below in
     (omega (arith, below), omega (arith, t))
 
--- each page of what bytes of that length hold is whole
+-- lemma: each page of the image that bytes of that length hold is whole
 pub held_whole : (g : Geometry) (bytes : List ℕ) (bad : List Bool) → length bytes ≡ g.page * g.pages * g.extents → HasWholePages (held g bytes bad)
 held_whole g bytes bad l e q page he hq is =
     by_mark (get_or bad (e * g.pages + q) false) ((e * g.pages + q) * g.page) (omega (arith, (page_room g.page g.pages g.extents e q he hq).1, l)) is
@@ -30,6 +30,6 @@ held_whole g bytes bad l e q page he hq is =
         let same : between from (from + g.page) bytes ≡ page = cc in
         ap length (sym same) ∙ length-between bytes from (from + g.page) fits ∙ (let z : from + g.page - from ≡ g.page = omega arith in z)
 
--- so are those of a disk in memory
+-- lemma: each page of a disk in memory is whole
 pub memory_pages : (d : MemDisk) → HasWholePages (image_of d)
 memory_pages d = held_whole d.geometry d.bytes.items d.bad.items d.whole

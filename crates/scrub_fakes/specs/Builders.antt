@@ -28,7 +28,7 @@ pub record PutsRecord (old new : Image) (page : ℕ) (c : Contents) (size : ℕ)
   pub put : Puts old new 0 (page * old.geometry.page) (record_bytes old.geometry c)
   pub size_is : size ≡ length (record_bytes old.geometry c)
 
--- the plan of a disk, by the superblock that counts there
+-- the plan of a disk by the superblock that counts there
 pub record IsPlanOfDisk (image : Image) (plan : PlanValue) : Type 0 where
   pub choice : Choice
   pub chosen : IsChoice image choice

@@ -1,2 +1,2 @@
--- The words of this crate's public clauses.
+-- For public clauses.
 pub mod Builders

@@ -1,66 +1,67 @@
--- A chunk's payload as it stands on disk, in one of two forms. Both begin with a head: a magic of two bytes, a UUID, and
--- the payload's length in four bytes. In the plain form the payload and the same UUID again follow. In the sealed form the
--- payload's digest stands before the payload, and a closing mark behind the second UUID. Where on a disk such bytes may
--- stand is left to the crates above.
+-- The bytes of a frame: a chunk's payload as it is on disk, in the plain or in the sealed form. Both begin with a head:
+-- a magic of two bytes, a UUID, and the payload's length in four bytes. In the plain form the payload and the same UUID
+-- follow. In the sealed form the payload's digest comes before the payload, and a closing mark after the second UUID.
+-- Numbers are big-endian, and a digest is SHA-256 (FIPS 180-4). Where on a disk such bytes may be, the crates above
+-- say.
 use Rattle.std.specs.Prelude.{◌≡◌, ◌<◌, ◌+◌, ◌-◌, ◌^◌, ℕ, List, [], ◌∷◌, ◌++◌, length}
 use Rattle.byteorder.specs.Endian.{big_bytes}
 use Rattle.sha2.specs.Sha256.{sha256}
 use Rattle.scrub_frame.specs.declared.form.Form.{Form}
 use Rattle.scrub_frame.specs.declared.form.Form.TheVariants.{Plain, Sealed}
 
--- the second byte of a magic, by which the forms differ
+-- the second byte of a magic, by which the forms differ: 5E in a plain frame, 5F in a sealed one
 abbrev pub form_byte : Form → ℕ
 form_byte Plain = 0x5E
 form_byte Sealed = 0x5F
 
--- the two bytes that a frame begins with
+-- the two bytes that a frame begins with: C5 5E, or C5 5F in a sealed one
 abbrev pub magic : Form → List ℕ
 magic form = 0xC5 ∷ form_byte form ∷ []
 
--- how many bytes a head has, in either form
+-- how many bytes a head has, in either form: 22
 abbrev pub head_size : ℕ
 head_size = 22
 
--- what a frame begins with whose payload has this many bytes
+-- the head of a frame: the magic, a UUID, and the payload's length in four bytes
 abbrev pub head : Form → List ℕ → ℕ → List ℕ
 head form uuid size = magic form ++ (uuid ++ big_bytes 4 size)
 
--- what stands between the head and the payload: nothing, or the payload's digest
+-- what is between the head and the payload: nothing, or in a sealed frame the payload's digest
 abbrev pub seal : Form → List ℕ → List ℕ
 seal Plain payload = []
 seal Sealed payload = sha256 payload
 
--- how many bytes that are
+-- how many bytes a seal has: none, or 32 in a sealed frame
 abbrev pub seal_size : Form → ℕ
 seal_size Plain = 0
 seal_size Sealed = 32
 
--- what stands behind the second UUID: nothing, or the closing mark
+-- what follows the second UUID: nothing, or in a sealed frame the closing mark 3A A3
 abbrev pub mark : Form → List ℕ
 mark Plain = []
 mark Sealed = 0x3A ∷ 0xA3 ∷ []
 
--- the byte of a frame at which its payload begins
+-- the byte of a frame at which its payload begins: 22, or 54 in a sealed one
 abbrev pub payload_start : Form → ℕ
 payload_start form = head_size + seal_size form
 
--- how many bytes a frame has behind its payload: those of the second UUID and of the mark
+-- how many bytes the second UUID and the mark have: 16, or 18 in a sealed frame
 abbrev pub close_size : Form → ℕ
 close_size form = 16 + length (mark form)
 
--- how many bytes a frame has round its payload
+-- how many bytes a frame has round its payload: 38, or 72 in a sealed one
 abbrev pub frame_overhead : Form → ℕ
 frame_overhead form = payload_start form + close_size form
 
--- the least that a frame of either form has round its payload
+-- the least that a frame of either form has round its payload: 38 bytes
 abbrev pub least_overhead : ℕ
 least_overhead = frame_overhead Plain
 
--- the frame of a UUID and a payload
+-- the frame of a UUID and a payload: head, seal, payload, the UUID again, and the mark
 abbrev pub frame : Form → List ℕ → List ℕ → List ℕ
 frame form uuid payload = head form uuid (length payload) ++ (seal form payload ++ (payload ++ (uuid ++ mark form)))
 
--- what has a frame: a UUID of sixteen bytes, and a payload whose length four bytes can say
+-- these have a frame: a UUID of sixteen bytes, and a payload whose length fits four bytes
 pub record HasFrame (uuid payload : List ℕ) : Type 0 where
   pub sixteen : length uuid ≡ 16
   pub short : length payload < 2 ^ 32
@@ -71,10 +72,10 @@ pub record BeginsWithFrame (bytes : List ℕ) (form : Form) (uuid payload : List
   pub rest : List ℕ
   pub spelled : bytes ≡ frame form uuid payload ++ rest
 
--- no frame of either form is
+-- no frame of either form is a prefix of the bytes
 abbrev pub BeginsWithNoFrame : List ℕ → Type 0
 BeginsWithNoFrame bytes = (form : Form) (uuid payload : List ℕ) → ¬ BeginsWithFrame bytes form uuid payload
 
--- the longest payload that is written: with the bytes round it, it fills an extent of 2 ^ 26 bytes
+-- the longest payload that is written in a form: its frame fills an extent of 2^26 bytes
 abbrev pub longest_payload : Form → ℕ
 longest_payload form = 67108864 - frame_overhead form

@@ -19,7 +19,7 @@ pub record IsHitBy (gap : Gap) (size n : ℕ) : Type 0 where
   pub high : place < n * size + size
   pub inside : IsInGap gap place
 
--- the marks are as before, and each block that the gap hits is marked too
+-- each block that the gap hits is marked, and each other mark is as it was
 abbrev pub MarksGap : Gap → ℕ → List Bool → List Bool → Type 0
 MarksGap gap size before after =
     (n : ℕ) → n < length before → (slice_index_or after n false ≡ true) ↔ ((slice_index_or before n false ≡ true) ⊎ IsHitBy gap size n)

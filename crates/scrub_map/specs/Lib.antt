@@ -1,4 +1,4 @@
--- The words of this crate's public clauses.
+-- For public clauses.
 pub mod Number
 pub mod Fields
 pub mod Lines
@@ -6,6 +6,6 @@ pub mod Map
 pub mod Fault
 pub mod Rescued
 pub mod Kept
--- The steps of the code: gaps that are marked, and lines that are read.
+-- Steps of the code: gaps that are marked, and lines that are read.
 pub mod Gaps
 pub mod Reading

@@ -1,4 +1,4 @@
--- What a map is, and the first line at which a text isn't one.
+-- What a map file of GNU ddrescue is, and the first line at which a text isn't one.
 use Rattle.std.specs.Prelude.{◌≡◌, ◌≤◌, ◌+◌, ◌⊎◌, ℕ, List, [], ◌∷◌, ◌++◌, ⊤, not, length, filter, map}
 use Rattle.scrub_map.specs.Fields.{line_fields}
 use Rattle.scrub_map.specs.Lines.{IsBlock, IsState, map_lines, says_nothing}
@@ -15,7 +15,7 @@ AreBlocksFrom from (fields ∷ more) (block ∷ blocks) =
     IsBlock fields block × (from ≤ block.position) × AreBlocksFrom (block.position + block.size) more blocks
 AreBlocksFrom from _ _ = ⊥
 
--- a state, and these blocks behind it
+-- these lines are a map: a state, and these blocks behind it
 abbrev pub IsMapOf : List (List (List ℕ)) → List MapBlock → Type 0
 IsMapOf [] blocks = ⊥
 IsMapOf (state ∷ more) blocks = IsState state × AreBlocksFrom 0 more blocks
@@ -38,7 +38,7 @@ pub record BreaksAt (lines : List (List ℕ)) (k : ℕ) : Type 0 where
   pub begins : BeginsMap before
   pub breaks : ¬ BeginsMap (before ++ line ∷ [])
 
--- line k is the first that breaks a rule, or no line is a state and line k would be the one behind the last
+-- line k is the first that breaks a rule, or no line is a state and k is one more than the number of lines
 abbrev pub IsFirstBadLine : List ℕ → ℕ → Type 0
 IsFirstBadLine text k =
     BreaksAt (map_lines text) k ⊎ ((statements (map_lines text) ≡ []) × (k ≡ length (map_lines text) + 1))

@@ -1,23 +1,23 @@
--- Numbers as C writes them, without a sign.
+-- Numbers as the integer constants of C, without a sign.
 use Rattle.std.specs.Prelude.{◌≡◌, ◌<◌, ◌+◌, ◌*◌, ◌^◌, ◌==◌, ◌&&◌, ◌||◌, ℕ, Bool, List, drop, slice_index, if◌then◌else◌}
 use Rattle.std.specs.Char.{digit_value}
 use Rattle.std.specs.Str.Parse.{IsNumeral, digits_value}
 
--- the digits are one or more of this radix and nothing else, and they write n, which is at most 2^63 - 1
+-- the digits, one or more of this radix and nothing else, write n, which is at most 2^63 - 1
 pub record WritesNumber (radix : ℕ) (digits : List ℕ) (n : ℕ) : Type 0 where
   pub numeral : IsNumeral radix digits
   pub value : digits_value radix digits ≡ n
   pub small : n < 2 ^ 63
 
--- the text begins with 0x or 0X
+-- the text begins with `0x` or `0X`
 unfoldable pub is_hexadecimal : List ℕ → Bool
 is_hexadecimal text = (slice_index text 0 == 48) && ((slice_index text 1 == 120) || (slice_index text 1 == 88))
 
--- 16 behind 0x or 0X, 8 from a leading 0 on, else 10
+-- the radix of a number: 16 behind `0x` or `0X`, 8 if it begins with 0, else 10
 unfoldable pub radix_of : List ℕ → ℕ
 radix_of text = if is_hexadecimal text then 16 else (if slice_index text 0 == 48 then 8 else 10)
 
--- what is behind 0x or 0X, or all of the text
+-- the digits of a number: what is behind `0x` or `0X`, or else all of the text
 unfoldable pub digits_of_number : List ℕ → List ℕ
 digits_of_number text = if is_hexadecimal text then drop 2 text else text
 

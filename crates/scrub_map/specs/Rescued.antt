@@ -2,25 +2,25 @@
 use Rattle.std.specs.Prelude.{◌≡◌, ◌≤◌, ◌<◌, ◌+◌, ◌*◌, ◌⊎◌, ◌↔◌, ℕ, Bool, true, false, List, [], ◌∷◌, length, slice_index_or}
 use Rattle.scrub_map.specs.declared.block.MapBlock.{MapBlock}
 
--- a block whose status is + has byte i
+-- a block with status `+` has byte i
 pub record IsRescuedIn (block : MapBlock) (i : ℕ) : Type 0 where
   pub rescued : block.is_rescued ≡ true
   pub low : block.position ≤ i
   pub high : i < block.position + block.size
 
--- some block whose status is + has byte i
+-- some block with status `+` has byte i
 abbrev pub IsCovered : List MapBlock → ℕ → Type 0
 IsCovered [] i = ⊥
 IsCovered (block ∷ blocks) i = IsRescuedIn block i ⊎ IsCovered blocks i
 
--- block n of this size, in bytes, has a byte that no block of the map whose status is + covers
+-- block n of this size, in bytes, has a byte that no block of the map with status `+` covers
 pub record IsLostBlock (blocks : List MapBlock) (size n : ℕ) : Type 0 where
   pub place : ℕ
   pub low : n * size ≤ place
   pub high : place < n * size + size
   pub lost : ¬ IsCovered blocks place
 
--- a mark for each of the first blocks of this size: whether it is lost
+-- each of the first blocks of this size has a mark, which is true exactly if the block is lost
 pub record AreLostBlocks (blocks : List MapBlock) (size count : ℕ) (marks : List Bool) : Type 0 where
   pub one_each : length marks ≡ count
   pub lost : (n : ℕ) → n < count → (slice_index_or marks n false ≡ true) ↔ IsLostBlock blocks size n

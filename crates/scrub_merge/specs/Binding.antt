@@ -11,22 +11,22 @@ pub record BindingValue : Type 0 where
   pub run : ℕ
   pub doubtful : Bool
 
--- the entries of each run, the newest run first; a run that could not be read is lost, and has none
+-- the entries of each run, the newest run first; a lost run has none
 abbrev pub Runs : Type 0
 Runs = List (Option (List EntryValue))
 
--- the run of this number has this entry
+-- the run of this number is read, and has this entry
 pub record IsEntryOf (runs : Runs) (number : ℕ) (e : EntryValue) : Type 0 where
   pub entries : List EntryValue
   pub is_read : slice_get runs number ≡ Some (Some entries)
   pub among : Contains entries e
 
--- a lost run stands before the run of this number
+-- a lost run comes before the run of this number, so it is newer
 abbrev pub LostBefore : Runs → ℕ → Type 0
 LostBefore runs number = (k : ℕ) × (k < number) × (slice_get runs k ≡ Some None)
 
--- the newest binding of an identifier: its entry in the first run that isn't lost and has it. It is doubtful where a
--- lost run stands before that run.
+-- the newest binding of an identifier: its entry in the first run that isn't lost and has it, doubtful exactly if a
+-- lost run comes before that run
 pub record IsNewestBinding (runs : Runs) (b : BindingValue) : Type 0 where
   pub entry : IsEntryOf runs b.run (record { id = b.id; locators = b.locators })
   pub first : (k : ℕ) (e : EntryValue) → k < b.run → IsEntryOf runs k e → e.id ≡ b.id → ⊥

@@ -1,4 +1,4 @@
--- Cursors over index runs, one for each: what they have not passed yet, what stands under them, and how they move on.
+-- Cursors over index runs, one for each: what they have not passed yet, what is under them, and how they move on.
 use Rattle.std.specs.Prelude.{◌≡◌, ◌+◌, ◌<◌, ◌≤◌, ◌++◌, ℕ, zero, suc, Bool, false, cond, Option, Some, None, List, [], ◌∷◌, All, Contains, length, drop, filter, not, ◌==◌, slice_get}
 use Rattle.std.specs.Option.{option_map}
 use Rattle.std.specs.BinaryHeap.{IsHeap}
@@ -14,20 +14,20 @@ use Rattle.scrub_merge.specs.Binding.{BindingValue, Runs, IsNewestBinding}
 use Rattle.scrub_merge.specs.ShardMap.{IsShardMap}
 use Rattle.scrub_merge.specs.declared.under.Under.{Under}
 
--- identifiers in the order of their bytes
+-- the order of identifiers, by their bytes
 abbrev pub id_cmp : ShardId → ShardId → Ordering
 id_cmp a b = slice_cmp nat_cmp a.0 b.0
 
--- a binding that doesn't say that its shard was deleted
+-- the binding doesn't say that its shard was deleted
 abbrev pub has_locator : BindingValue → Bool
 has_locator b = not (length b.locators == 0)
 
--- the entry at a place of a run: none in a lost run, none behind the last entry
+-- the entry at a place of a run, or None in a lost run and behind the last entry
 abbrev pub entry_at : Option (List EntryValue) → ℕ → Option EntryValue
 entry_at None place = None
 entry_at (Some entries) place = slice_get entries place
 
--- whether it has this identifier
+-- whether there is an entry, with this identifier
 abbrev pub has_id : ShardId → Option EntryValue → Bool
 has_id id None = false
 has_id id (Some e) = is_eq (id_cmp e.id id)
@@ -38,23 +38,23 @@ ahead [] places = []
 ahead (run ∷ runs) [] = run ∷ ahead runs []
 ahead (run ∷ runs) (place ∷ places) = option_map (drop place) run ∷ ahead runs places
 
--- where the cursor of a run stands once it was moved on past an identifier
+-- where the cursor of a run is after an identifier: one place further exactly if its entry has that
 abbrev pub place_past : ShardId → Option (List EntryValue) → ℕ → ℕ
 place_past id run place = cond (has_id id (entry_at run place)) (place + 1) place
 
--- where all of them stand then
+-- where all cursors are after an identifier
 abbrev pub places_past : ShardId → Runs → List ℕ → List ℕ
 places_past id [] places = places
 places_past id (run ∷ runs) [] = []
 places_past id (run ∷ runs) (place ∷ places) = place_past id run place ∷ places_past id runs places
 
--- the entry that stands first in the run of this number
+-- the first entry of the run of this number, if it has one
 abbrev pub first_of : Runs → ℕ → Option EntryValue
 first_of [] number = None
 first_of (run ∷ runs) zero = entry_at run 0
 first_of (run ∷ runs) (suc number) = first_of runs number
 
--- an identifier stands first in a run, and no lesser one does
+-- an identifier is first in a run, and no lesser one is
 pub record IsLeast (runs : Runs) (id : ShardId) : Type 0 where
   pub number : ℕ
   pub entry : EntryValue
@@ -62,44 +62,45 @@ pub record IsLeast (runs : Runs) (id : ShardId) : Type 0 where
   pub own : entry.id ≡ id
   pub least : (k : ℕ) (e : EntryValue) → first_of runs k ≡ Some e → IsBelow e.id id → ⊥
 
--- the newest run in which an identifier stands first
+-- the run of this number is the newest in which the identifier is first
 pub record IsFirstWith (runs : Runs) (id : ShardId) (number : ℕ) : Type 0 where
   pub entry : EntryValue
   pub stands : first_of runs number ≡ Some entry
   pub own : entry.id ≡ id
   pub newest : (k : ℕ) (e : EntryValue) → k < number → first_of runs k ≡ Some e → e.id ≡ id → ⊥
 
--- what stands under the cursor of the run of this number
+-- an entry under the cursor of a run: its identifier with the number of the run
 abbrev pub under_by : ℕ → EntryValue → Under
 under_by number e = record { id = e.id; number = number }
 
--- the order of the heap: the greatest is what has the least identifier, and of equal ones that of the newest run
+-- the order of the heap: the least identifier is the greatest, and of equal ones that of the newest run
 abbrev pub under_cmp : Under → Under → Ordering
 under_cmp = then_cmp (flip_args (on (λ u. u.id.0) (slice_cmp nat_cmp))) (flip_args (on (λ u. u.number) nat_cmp))
 
+-- lemma: the order of the heap is total
 pub under_cmp_total : IsTotalOrder under_cmp
 under_cmp_total = then_total (back_total (on_texts (λ u. u.id.0))) (back_total (on_total (λ u. u.number) nat_cmp_total))
 
--- it stands first in the run of its number
+-- the identifier is first in the run of its number
 abbrev pub StandsFirst : Runs → Under → Type 0
 StandsFirst runs u = option_map (under_by u.number) (first_of runs u.number) ≡ Some u
 
--- how many are of the run of this number
+-- how many of these are of the run of this number
 abbrev pub of_run : ℕ → List Under → ℕ
 of_run number items = count_by (λ u. u.number == number) items
 
--- a heap of what stands first in the runs of some numbers, once each
+-- a heap of what is first in the runs of some numbers, once each
 pub record IsHeapOver (Among : ℕ → Type 0) (runs : Runs) (items : List Under) : Type 0 where
   pub order : IsHeap under_cmp items
   pub each : All (λ u. Among u.number × StandsFirst runs u) items
   pub all : (k : ℕ) (e : EntryValue) → Among k → first_of runs k ≡ Some e → Contains items (under_by k e)
   pub once : (k : ℕ) → of_run k items ≤ 1
 
--- a heap of what stands first in the runs
+-- a heap of what is first in each run
 abbrev pub IsHeapOf : Runs → List Under → Type 0
 IsHeapOf runs items = IsHeapOver (λ k. Unit {0}) runs items
 
--- the same without what stands first in one of them
+-- a heap of what is first in each run but this one
 abbrev pub IsHeapBut : ℕ → Runs → List Under → Type 0
 IsHeapBut number runs items = IsHeapOver (λ k. ¬ (k ≡ number)) runs items
 
@@ -111,11 +112,11 @@ AreEmpty runs = (k : ℕ) → first_of runs k ≡ None
 abbrev pub AreRising : Runs → Type 0
 AreRising runs = (k : ℕ) (entries : List EntryValue) → slice_get runs k ≡ Some (Some entries) → RisesById entries
 
--- whatever is bound by what is left, behind the bindings so far it is the shard map of the runs
+-- any shard map of what is left gives, behind the bindings so far, the shard map of the runs
 abbrev pub Continues : Runs → Runs → List BindingValue → Type 0
 Continues runs rest so_far = (later : List BindingValue) → IsShardMap rest later → IsShardMap runs (so_far ++ later)
 
--- an identifier was bound over what is left: its newest binding is the next of all, where that has a locator
+-- the newest binding of an identifier over what is left is appended, if it has a locator
 pub record IsBound (rest : Runs) (id : ShardId) (old new : List BindingValue) : Type 0 where
   pub binding : BindingValue
   pub newest : IsNewestBinding rest binding

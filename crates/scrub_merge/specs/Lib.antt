@@ -1,7 +1,8 @@
--- The words that public clauses say, and those of the crate below that they cite.
+-- For public clauses.
 pub mod Binding
 pub mod ShardMap
+-- Files of other crates that public clauses cite.
 pub use Rattle.scrub_run.specs.Entry
 pub use Rattle.scrub_run.specs.Run
--- The steps of the code: the cursors, as they move on.
+-- Steps of the code: the cursors, as they move on.
 pub mod Cursors

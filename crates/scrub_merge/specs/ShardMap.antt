@@ -1,4 +1,4 @@
--- The shard map of a list of index runs.
+-- The shard map of a list of index runs: the newest bindings that have a locator.
 use Rattle.std.specs.Prelude.{◌≡◌, ◌<◌, List, All, AllPairs, Contains, length, Some, slice_get, ℕ}
 use Rattle.scrub_run.specs.Entry.{EntryValue, IsBelow}
 use Rattle.scrub_run.specs.Run.{AreEntries}
@@ -9,12 +9,13 @@ pub record AreBindings (bindings : List BindingValue) : Type 0 where
   pub rising : AllPairs (λ b c. IsBelow b.id c.id) bindings
   pub bound : All (λ b. 0 < length b.locators) bindings
 
--- the shard map: the newest bindings of all identifiers whose newest binding has a locator, in rising order
+-- the shard map: the newest bindings of all identifiers whose newest binding has a locator, in strictly rising order of
+-- identifier
 pub record IsShardMap (runs : Runs) (bindings : List BindingValue) : Type 0 where
   pub bindings_of_map : AreBindings bindings
   pub newest : All (IsNewestBinding runs) bindings
   pub all : (b : BindingValue) → IsNewestBinding runs b → 0 < length b.locators → Contains bindings b
 
--- each run that isn't lost is one: its identifiers rise, and so on
+-- each run that isn't lost has the entries of a run
 abbrev pub AreRuns : Runs → Type 0
 AreRuns runs = (k : ℕ) (entries : List EntryValue) → slice_get runs k ≡ Some (Some entries) → AreEntries entries

@@ -11,17 +11,18 @@ use Rattle.scrub_pool.specs.Passes.{one_list}
 abbrev pub all_of : View → List ℕ
 all_of v = v.own ++ one_list v.joined
 
+-- a pass with these parts
 abbrev pub view_of : ℕ → ℕ → ℕ → List ℕ → List ℕ → List (List ℕ) → View
 view_of firsts lives out pushed own joined = record { firsts = firsts; lives = lives; out = out; pushed = pushed; own = own; joined = joined }
 
--- a pass that is neither the first nor out took nothing; the first alone has passes out; each but a joined one knows what
--- was pushed
+-- a joined pass took nothing, only the first pass has passes out, and each but a joined one knows what was pushed
 pub record IsView (pushed : List ℕ) (v : View) : Type 0 where
   pub none_out : v.firsts ≡ 0 → v.out ≡ 0
   pub nothing : v.firsts + v.lives ≡ 0 → (v.own ≡ []) × (v.joined ≡ [])
   pub knows : 0 < v.firsts + v.lives → v.pushed ≡ pushed
 
--- what was pushed, and what of it was taken
+-- the rule of the queue: what was pushed rises, and is some list and then the queue's content; all passes together took
+-- just that list, each extent as often
 pub record Accounts (items : List ℕ) (views : List View) : Type 0 where
   pub pushed : List ℕ
   pub before : List ℕ
@@ -32,12 +33,12 @@ pub record Accounts (items : List ℕ) (views : List View) : Type 0 where
   pub out_is : sum_by (λ v. v.out) views ≡ sum_by (λ v. v.lives) views
   pub each : (port : ℕ) (v : View) → get_elem? views port ≡ some v → IsView pushed v
 
--- what a pop with an extent tells: it was pushed, it is above all that this pass accounts for, and it joins its own
+-- a pop gave an extent: it was pushed, is above all that this pass accounts for, and joins what it took
 pub record IsTaken (v : View) (x : ℕ) (w : View) : Type 0 where
   pub view : w ≡ view_of v.firsts v.lives v.out v.pushed (v.own ++ x ∷ []) v.joined
   pub pushed : Contains v.pushed x
   pub above : All (λ y. y < x) (all_of v)
 
--- what a pop that finds nothing tells the first pass, with none out: it accounts for all that was pushed
+-- a pop gave nothing to the first pass with none out: it accounts for all that was pushed
 abbrev pub AreAllTaken : View → List ℕ → Type 0
 AreAllTaken v items = v.firsts ≡ 1 → v.out ≡ 0 → length items ≡ 0 → IsPermutation (all_of v) v.pushed

@@ -14,36 +14,36 @@ pub record PassValue : Type 0 where
   pub joined : List (List ℕ)
   pub out : ℕ
 
--- lists, one after another
+-- several lists, one after another
 abbrev pub one_list : List (List ℕ) → List ℕ
 one_list lists = flat_map (λ xs. xs) lists
 
--- all that stands in its own and joined lists
+-- all that was taken by a pass and by those joined into it
 abbrev pub taken_in : PassValue → List ℕ
 taken_in p = p.own ++ one_list p.joined
 
--- the first pass of a queue, by which nothing was taken yet
+-- the first pass of a queue, which took nothing yet
 abbrev pub new_pass : TableId → List ℕ → PassValue
 new_pass queue planned = record { queue = queue; planned = planned; first = true; own = []; joined = []; out = 0 }
 
--- a pass that was split from it, by which nothing was taken yet
+-- a pass that was split from the first one, and took nothing yet
 abbrev pub split_pass : TableId → List ℕ → PassValue
 split_pass queue planned = record { queue = queue; planned = planned; first = false; own = []; joined = []; out = 0 }
 
--- the first pass of a queue, whatever was taken by it and whichever passes are out
+-- the first pass of a queue over these planned extents, whatever it took and whichever passes are out
 abbrev pub IsFirst : TableId → List ℕ → PassValue → Type 0
 IsFirst queue planned p = (p.queue ≡ queue) × (p.planned ≡ planned) × (p.first ≡ true)
 
--- the first pass of a queue, with no other out
+-- the first pass of a queue over these planned extents, with no other out
 abbrev pub IsFirstAlone : TableId → List ℕ → PassValue → Type 0
 IsFirstAlone queue planned p = (p.queue ≡ queue) × (p.planned ≡ planned) × (p.first ≡ true) × (p.out ≡ 0)
 
--- by a pass a planned extent was taken, which is above all that it had
+-- a pass took a planned extent, which is above all that it had
 pub record IsTakenBy (old : PassValue) (e : ℕ) (new : PassValue) : Type 0 where
   pub planned : Contains old.planned e
   pub above : All (λ x. x < e) (taken_in old)
   pub is : new ≡ record old { own = old.own ++ e ∷ [] }
 
--- own and joined are together the planned extents, each once
+-- what a pass and those joined into it took is together the planned extents, each once
 abbrev pub HasTakenAll : PassValue → Type 0
 HasTakenAll p = IsPermutation (taken_in p) p.planned

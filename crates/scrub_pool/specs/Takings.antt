@@ -12,12 +12,12 @@ pub record TakingsValue : Type 0 where
   pub lists : List (List ℕ)
   pub counted : ℕ
 
--- each list rises, and they are together the planned extents, each once: so each extent stands in one list alone
+-- each list rises, and together they are the planned extents, each once, so each extent is in one list alone
 pub record IsPartition (planned : List ℕ) (lists : List (List ℕ)) : Type 0 where
   pub rising : All IsStrictlyIncreasing lists
   pub whole : IsPermutation (one_list lists) planned
 
--- from a state some schedule leads to a complete pool whose members took these lists, each the list of its number
+-- some schedule leads from this state to a complete pool whose members took these lists, each the list of its number
 pub record AreTakenFrom (image : Image) (plan : PlanValue) (old : PoolState) (lists : List (List ℕ)) : Type 0 where
   pub events : List Event
   pub last : PoolState
@@ -25,6 +25,6 @@ pub record AreTakenFrom (image : Image) (plan : PlanValue) (old : PoolState) (li
   pub complete : is_complete last ≡ true
   pub taken : map (λ m. m.taken) last.members ≡ lists
 
--- after some schedule they are what the members of a complete pool took, which has a member for each list
+-- some schedule leads from the start to a complete pool whose members, one for each list, took these lists
 abbrev pub AreTakenInSomeSchedule : Image → PlanValue → List (List ℕ) → Type 0
 AreTakenInSomeSchedule image plan lists = AreTakenFrom image plan (start plan (length lists)) lists

@@ -8,19 +8,19 @@ use Rattle.scrub_report.specs.Scrubbed.{IsCleanImage}
 use Rattle.scrub_report.specs.Report.{IsReport}
 use Rattle.scrub_report.specs.Index.{IsIndex}
 
--- the text of the report, the bytes of the index, and whether all is in good order
+-- an answer: the text of the report, the bytes of the index, and whether all is in good order
 pub record AnswerValue : Type 0 where
   pub report : List ℕ
   pub index : List ℕ
   pub is_clean : Bool
 
--- each is that of the image
+-- each part of the answer is that of the image
 pub record IsScrubAnswer (image : Image) (a : AnswerValue) : Type 0 where
   pub report : IsReport image a.report
   pub index : IsIndex image a.index
   pub clean : IsCleanImage image a.is_clean
 
--- the extents that a scrub goes through, rising: those that are planned by the superblock that counts on the disk
+-- the extents that a scrub goes through, rising: those of the plan by the superblock that counts on the disk
 pub record ArePlannedExtents (image : Image) (planned : List ℕ) : Type 0 where
   pub choice : Choice
   pub plan : PlanValue
@@ -28,10 +28,10 @@ pub record ArePlannedExtents (image : Image) (planned : List ℕ) : Type 0 where
   pub follows : IsPlanOf choice plan
   pub are : planned ≡ plan.planned
 
--- each extent that is planned on the image is in one of these lists, once
+-- each planned extent of the image is in one of these lists, once
 abbrev pub IsPartitionOfPlanned : Image → List (List ℕ) → Type 0
 IsPartitionOfPlanned image lists = (planned : List ℕ) × ArePlannedExtents image planned × IsPartition planned lists
 
--- so many extents are planned on the image
+-- the image has so many planned extents
 abbrev pub IsCountOfPlanned : Image → ℕ → Type 0
 IsCountOfPlanned image count = (planned : List ℕ) × ArePlannedExtents image planned × (count ≡ length planned)

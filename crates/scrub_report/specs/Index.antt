@@ -9,15 +9,15 @@ use Rattle.scrub_check.specs.declared.checked.Checked.{Checked}
 use Rattle.scrub_check.specs.Checked.{is_broken}
 use Rattle.scrub_report.specs.Scrubbed.{Scrubbed, IsScrubbed}
 
--- a binding as an entry, with its locators as they are
+-- a binding as an entry, with its identifier and locators
 abbrev pub indexed : BindingValue → EntryValue
 indexed b = record { id = b.id; locators = b.locators }
 
--- those of the shards that aren't broken, in their order
+-- the bindings of the shards that aren't broken, in their order, as entries
 abbrev pub index_entries : List Checked → List BindingValue → List EntryValue
 index_entries checked bindings = map indexed (filter (λ b. not (is_broken checked b.id)) bindings)
 
--- bytes are the index that is recovered from an image
+-- the bytes are the index of an image: the run of the index's entries, of what is found there
 pub record IsIndex (image : Image) (bytes : List ℕ) : Type 0 where
   pub found : Scrubbed
   pub scrubbed : IsScrubbed image found

@@ -1,4 +1,4 @@
--- The words that public clauses say, and those of the crates below that they cite.
+-- For public clauses.
 pub mod Writing
 pub mod Scrubbed
 pub mod Json
@@ -11,7 +11,7 @@ pub mod Sizes
 pub mod Answer
 pub mod Doubts
 pub mod Reclaimable
--- The steps of the code.
+-- Steps of the code.
 pub mod Parts
 pub mod Tokens
 pub mod Kept

@@ -1,4 +1,4 @@
--- The lines of the named locators: who names what, and what it is worth.
+-- The lines of the named locators: who names what, and its status.
 use Rattle.std.specs.Prelude.{◌≡◌, ◌++◌, ◌∷◌, [], ℕ, List}
 use Rattle.std.specs.Fmt.{decimal}
 use Rattle.std.specs.List.{flat_map}
@@ -13,15 +13,15 @@ use Rattle.scrub_report.specs.Texts.{owner_text, status_text, uuid_text}
 abbrev pub place_text : Locator → List ℕ
 place_text l = decimal l.extent ++ spaced (decimal l.offset) ++ spaced (decimal l.length) ++ spaced (uuid_text l.uuid)
 
--- `OWNER EXTENT OFFSET LENGTH UUID STATUS` and a line feed
+-- the line of a named locator: `OWNER EXTENT OFFSET LENGTH UUID STATUS` and a line feed
 abbrev pub locator_line : Checked → List ℕ
 locator_line c = owner_text c.owner ++ spaced (place_text c.locator) ++ spaced (status_text c.status) ++ 10 ∷ []
 
--- one line for each, in their order
+-- the lines of some named locators, in their order
 abbrev pub locator_lines : List Checked → List ℕ
 locator_lines = flat_map locator_line
 
--- a text is the lines of the named locators of an image
+-- the text is the lines of the named locators of what is found in an image
 pub record AreLocatorLines (image : Image) (text : List ℕ) : Type 0 where
   pub found : Scrubbed
   pub scrubbed : IsScrubbed image found

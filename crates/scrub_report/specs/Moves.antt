@@ -11,14 +11,14 @@ use Rattle.scrub_report.specs.Reclaimable.{pointing_to}
 abbrev pub place_named : Checked → ℕ × ℕ
 place_named c = (c.locator.extent, c.locator.offset)
 
--- by extent, and then by byte
+-- the order of places: by extent, and then by byte
 abbrev pub place_cmp : ℕ × ℕ → ℕ × ℕ → Ordering
 place_cmp a b = ordering_then (nat_cmp a.0 b.0) (nat_cmp a.1 b.1)
 
--- references by the places that what they show points to
+-- references to named locators, sorted by the places that these point to
 abbrev pub AreRisingPlaces : List (Bor Checked) → Type 0
 AreRisingPlaces sorted = IsSortedByKey (λ one. place_named one.now) place_cmp sorted
 
--- those of one place are the same as among other locators, and in the same order
+-- those that point to one place are the same as among other locators, and in the same order
 abbrev pub PointAlike : List Checked → List (Bor Checked) → Type 0
 PointAlike checked sorted = (e p : ℕ) → pointing_to (map (λ one. one.now) sorted) e p ≡ pointing_to checked e p

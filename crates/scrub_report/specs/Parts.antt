@@ -1,4 +1,4 @@
--- What the code keeps of a disk until the report stands.
+-- What the code keeps of a disk until the report is written.
 use Rattle.std.specs.Prelude.{◌≡◌, ◌&&◌, ℕ, Bool, List, Option, is_some, map}
 use Rattle.std.specs.List.{list_all}
 use Rattle.scrub_disk.specs.Image.{Image}
@@ -27,7 +27,7 @@ pub record IsScan (image : Image) (choice : Choice) (plan : PlanValue) (all : Li
   pub planned : IsPlanOf choice plan
   pub scanned : AreAllFindings image plan all
 
--- what is kept of runs that were read: how many entries each has, none where it is lost, and what became of it
+-- what is kept of the runs that were read: how many entries each has, None if it is lost, and what became of it
 pub record AreKeptOf (read : ReadRunsValue) (entries : List (Option ℕ)) (states : List RunState) : Type 0 where
   pub entries_are : entries ≡ entry_counts read.runs
   pub states_are : states ≡ read.states
@@ -54,7 +54,7 @@ module _ {D : Type 0} where
     pub candidates : AreCandidates j.plan j.all.extents j.checked.items j.in_doubt l.candidates.items
 
 module _ {D : Type 0} {s : _} where
-  -- the parts as what was found, where these runs were read
+  -- the parts that the code keeps, as what was found on the disk, if these runs were read
   abbrev pub found_in : Parts D s → ReadRunsValue → Scrubbed
   found_in p read = record {
     choice = p.chosen;
@@ -68,12 +68,12 @@ module _ {D : Type 0} {s : _} where
     candidates = p.liveness.candidates.items;
   }
 
-  -- whether all is in good order, by how many entries each run has
+  -- whether the parts are clean: the choice, all scanned extents and the lists, and each run has a number of entries
   abbrev pub is_clean_kept : Parts D s → Bool
   is_clean_kept p =
       is_clean_choice p.chosen && list_all is_clean_extent p.all.extents && list_all is_some p.entries.items && is_clean_list p.checked.items p.liveness.shared.items
 
-  -- the parts are those of an image, and tell of the runs that were read what is kept of them
+  -- with some runs, of which entries and states are kept, the parts are what is found in the image
   pub record ArePartsOf (image : Image) (p : Parts D s) : Type 0 where
     pub read : ReadRunsValue
     pub counted : AreCounted read

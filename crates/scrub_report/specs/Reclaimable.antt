@@ -1,4 +1,4 @@
--- The lines that say which extents may be reclaimed, and what has to be moved before.
+-- The lines that say which extents may be reclaimed, and what has to be moved first.
 use Rattle.std.specs.Prelude.{◌≡◌, ◌++◌, ◌∷◌, ◌==◌, ◌&&◌, [], ℕ, Bool, List, All, Contains, codes, if◌then◌else◌}
 use Rattle.std.specs.Fmt.{decimal}
 use Rattle.std.specs.List.{filter, flat_map}
@@ -31,41 +31,41 @@ doubt_text (RunLost k state) = codes "run-lost" ++ spaced (decimal k) ++ spaced 
 doubt_text (Tail extent first count) = codes "tail" ++ spaced (decimal extent) ++ spaced (decimal first) ++ spaced (decimal count)
 doubt_text (TailLost extent first last) = codes "tail-lost" ++ spaced (decimal extent) ++ spaced (decimal first) ++ spaced (decimal last)
 
--- the word that its line begins with
+-- the word that a doubt's line begins with: `accepted`, or `doubt`
 abbrev pub doubt_word : Accepted → Doubt → List ℕ
 doubt_word accepted doubt = if is_accepted accepted doubt then codes "accepted" else codes "doubt"
 
--- its line
+-- the line of a doubt: whether it is accepted, its kind and its numbers, and a line feed
 abbrev pub doubt_line : Accepted → Doubt → List ℕ
 doubt_line accepted doubt = doubt_word accepted doubt ++ spaced (doubt_text doubt) ++ 10 ∷ []
 
--- one line for each, in their order
+-- the lines of some doubts, in their order
 abbrev pub doubt_lines : Accepted → List Doubt → List ℕ
 doubt_lines accepted list = flat_map (doubt_line accepted) list
 
 -- ---- the lines of extents to reclaim
 
--- a named locator points to place p of extent e
+-- the named locator points to place p of extent e
 abbrev pub points_to : ℕ → ℕ → Checked → Bool
 points_to e p c = (c.locator.extent == e) && (c.locator.offset == p)
 
--- the named locators that point there, in the order of named locators
+-- the named locators that point to place p of extent e, in the order of named locators
 abbrev pub pointing_to : List Checked → ℕ → ℕ → List Checked
 pointing_to checked e p = filter (points_to e p) checked
 
--- those that point to the chunks that an extent's candidate keeps, by rising chunk
+-- the named locators that point to the chunks that a candidate keeps, by rising chunk
 abbrev pub moves : List Checked → CandidateValue → List Checked
 moves checked a = flat_map (pointing_to checked a.extent) a.keep
 
--- `move EXTENT OFFSET LENGTH UUID OWNER` and a line feed
+-- the line of a move: `move EXTENT OFFSET LENGTH UUID OWNER` and a line feed
 abbrev pub move_line : Checked → List ℕ
 move_line c = codes "move" ++ spaced (place_text c.locator) ++ spaced (owner_text c.owner) ++ 10 ∷ []
 
--- `reclaim EXTENT FREE`
+-- the text of an extent to reclaim: `reclaim EXTENT FREE`
 abbrev pub freed_text : ℕ → ℕ → List ℕ
 freed_text extent free = codes "reclaim" ++ spaced (decimal extent) ++ spaced (decimal free)
 
--- it and a line feed, of a candidate
+-- the line of a candidate: `reclaim EXTENT FREE` and a line feed
 abbrev pub reclaim_line : CandidateValue → List ℕ
 reclaim_line a = freed_text a.extent a.free ++ 10 ∷ []
 
@@ -73,17 +73,17 @@ reclaim_line a = freed_text a.extent a.free ++ 10 ∷ []
 abbrev pub candidate_lines : List Checked → CandidateValue → List ℕ
 candidate_lines checked a = reclaim_line a ++ flat_map move_line (moves checked a)
 
--- those of candidates, in their order
+-- the lines of some candidates and their moves, in their order
 abbrev pub all_candidate_lines : List Checked → List CandidateValue → List ℕ
 all_candidate_lines checked candidates = flat_map (candidate_lines checked) candidates
 
 -- ---- the whole text
 
--- each doubt is of a kind that was accepted
+-- each doubt is of an accepted kind
 abbrev pub is_clear : Accepted → List SuperblockPage → Scrubbed → Bool
 is_clear accepted pages found = are_accepted accepted (doubts pages found)
 
--- the extents to reclaim: all candidates where that is so, and else none
+-- the extents to reclaim: all candidates if each doubt is accepted, and else none
 abbrev pub reclaimed : Accepted → List SuperblockPage → Scrubbed → List CandidateValue
 reclaimed accepted pages found = if is_clear accepted pages found then found.candidates else []
 
@@ -92,7 +92,7 @@ abbrev pub reclaim_text : Accepted → List SuperblockPage → Scrubbed → List
 reclaim_text accepted pages found =
     doubt_lines accepted (doubts pages found) ++ all_candidate_lines found.checked (reclaimed accepted pages found)
 
--- a text is these lines for an image
+-- the text is the lines of the doubts and then of the extents to reclaim, of what is found in an image
 pub record AreReclaimLines (image : Image) (accepted : Accepted) (text : List ℕ) : Type 0 where
   pub found : Scrubbed
   pub scrubbed : IsScrubbed image found
@@ -100,7 +100,7 @@ pub record AreReclaimLines (image : Image) (accepted : Accepted) (text : List �
   pub held : AreSuperblockPages image pages
   pub text_is : text ≡ reclaim_text accepted pages found
 
--- whether no line begins with `doubt` is told as it is
+-- the truth value says whether each doubt of an image is accepted, so that no line begins with `doubt`
 pub record IsClear (image : Image) (accepted : Accepted) (clear : Bool) : Type 0 where
   pub found : Scrubbed
   pub scrubbed : IsScrubbed image found
@@ -110,8 +110,8 @@ pub record IsClear (image : Image) (accepted : Accepted) (clear : Bool) : Type 0
 
 -- ---- what follows
 
--- the lines are told of the same disk as a report: where no line begins with `doubt` the extents to reclaim are the report's
--- candidates, all of them in its order, and else there are none
+-- the extents to reclaim are the candidates of a report of the same image, all of them in its order if it is clear, and
+-- else none
 pub record AreOfCandidates (image : Image) (accepted : Accepted) (report text : List ℕ) (clear : Bool) : Type 0 where
   pub found : Scrubbed
   pub scrubbed : IsScrubbed image found
@@ -127,6 +127,6 @@ pub record IsMoved (checked : List Checked) (a : CandidateValue) (c : Checked) :
   pub kept : Contains a.keep c.locator.offset
   pub line : Contains (moves checked a) c
 
--- each named locator into one of these extents is such
+-- each named locator into one of these extents is sound, points to a chunk to keep, and has a line among the moves
 abbrev pub AreMoved : List Checked → List CandidateValue → Type 0
 AreMoved checked candidates = All (λ a. All (λ c. c.locator.extent ≡ a.extent → IsMoved checked a c) checked) candidates

@@ -1,4 +1,4 @@
--- The report, key by key: the JSON value of each part of what was found.
+-- The report, key by key: the JSON value (RFC 8259) of each part of what was found.
 use Rattle.std.specs.Prelude.{◌≡◌, ℕ, List, [], ◌∷◌, ◌++◌, Option, codes, filter, length, map, option_map}
 use Rattle.std.specs.List.{zip}
 use Rattle.serde_json.specs.Data.{Data, Members, boolean, object, put, string}
@@ -24,19 +24,20 @@ use Rattle.scrub_report.specs.Json.{natural, natural_or_null, list, members, wit
 use Rattle.scrub_report.specs.Scrubbed.{Scrubbed, IsScrubbed, is_clean}
 use Rattle.scrub_report.specs.Texts.{id_text, owner_text, state_text, status_text, uuid_text}
 
--- numbers of extents or pages, or places
+-- a list of numbers: of extents, of pages or of places
 abbrev pub numbers_data : List ℕ → Data
 numbers_data numbers = list (map natural numbers)
 
--- `broken`, `doubtful`: identifiers
+-- the value of `broken` and of `doubtful`: a list of the texts of identifiers
 abbrev pub ids_data : List ShardId → Data
 ids_data ids = list (map (λ id. string (id_text id)) ids)
 
--- `geometry`
+-- the value of `geometry`: how many extents a disk has, how many bytes a page, and how many pages an extent
 abbrev pub geometry_data : Geometry → Data
 geometry_data g = with_keys ((codes "extents", natural g.extents) ∷ (codes "page", natural g.page) ∷ (codes "pages", natural g.pages) ∷ [])
 
--- `super`: generation and page are null where there is no record
+-- the value of `super`: the unreadable pages of extent 0, the generation and page of the record that counts, or null,
+-- how many pages have a valid record, and whether there is a tie
 abbrev pub super_data : Choice → Data
 super_data choice = with_keys (
     (codes "bad", numbers_data choice.bad_pages) ∷
@@ -45,11 +46,12 @@ super_data choice = with_keys (
     (codes "records", natural choice.records) ∷
     (codes "tie", boolean choice.tie) ∷ [])
 
--- the lines of items
+-- a list of the lines of items
 abbrev pub items_data : List Item → Data
 items_data items = list (map (λ item. string (line_of item)) items)
 
--- one of `extents`, with its live bytes
+-- one of `extents`: unreadable pages, number, the lines of its items, live bytes, pointer, how many places the tail
+-- has, and the first of them, or null
 abbrev pub extent_data : ℕ → Scanned → Data
 extent_data live s = with_keys (
     (codes "bad", numbers_data s.findings.bad_pages) ∷
@@ -60,8 +62,8 @@ extent_data live s = with_keys (
     (codes "tail", natural s.findings.tail_count) ∷
     (codes "tail_at", natural_or_null s.findings.tail_first) ∷ [])
 
--- one of `runs`: where its locator says that it stands, what became of it, and the number of its entries, null where it
--- is lost
+-- one of `runs`: the number of its entries, or null if it is lost, extent and offset of its locator, and what became of
+-- it
 abbrev pub run_data : Locator → Option ℕ → RunState → Data
 run_data locator entries state = with_keys (
     (codes "entries", natural_or_null entries) ∷
@@ -69,19 +71,19 @@ run_data locator entries state = with_keys (
     (codes "offset", natural locator.offset) ∷
     (codes "state", string (state_text state)) ∷ [])
 
--- `runs`, newest first
+-- the value of `runs`: those of the plan, newest first
 abbrev pub runs_data : List Locator → List (Option ℕ) → List RunState → Data
 runs_data locators entries states = list (map (λ r. run_data r.0 r.1.0 r.1.1) (zip locators (zip entries states)))
 
--- how many entries each run has, none where it is lost
+-- how many entries each run has, None if it is lost
 abbrev pub entry_counts : Runs → List (Option ℕ)
 entry_counts runs = map (option_map length) runs
 
--- the shards whose binding is doubtful
+-- the identifiers of the doubtful bindings, in their order
 abbrev pub doubtful_ids : List BindingValue → List ShardId
 doubtful_ids bindings = map (λ b. b.id) (filter (λ b. b.doubtful) bindings)
 
--- a locator, and who names it
+-- a checked locator's extent, length, offset, UUID and owner
 abbrev pub locator_members : Checked → Members
 locator_members c = members (
     (codes "extent", natural c.locator.extent) ∷
@@ -90,15 +92,15 @@ locator_members c = members (
     (codes "owner", string (owner_text c.owner)) ∷
     (codes "uuid", string (uuid_text c.locator.uuid)) ∷ [])
 
--- one of `hidden`
+-- one of `hidden`: a locator, and who names it
 abbrev pub hidden_data : Checked → Data
 hidden_data c = object (locator_members c)
 
--- one of `dangling`: the same, with what is wrong with it as `reason`
+-- one of `dangling`: a locator, who names it, and its status as `reason`
 abbrev pub dangling_data : Checked → Data
 dangling_data c = object (put (codes "reason") (string (status_text c.status)) (locator_members c))
 
--- one of `orphans` and `twins`: a chunk, by its place; the length is that of its payload
+-- one of `orphans` and `twins`: a chunk by its extent, its payload's length, its start and its UUID
 abbrev pub place_data : Place → Data
 place_data p = with_keys (
     (codes "extent", natural p.extent) ∷
@@ -106,19 +108,19 @@ place_data p = with_keys (
     (codes "offset", natural p.offset) ∷
     (codes "uuid", string (uuid_text p.uuid)) ∷ [])
 
--- one of `shared`: a place, and how many point to it
+-- one of `shared`: a place, and how many sound locators point to it
 abbrev pub shared_data : SharedPlace → Data
 shared_data s = with_keys ((codes "count", natural s.count) ∷ (codes "extent", natural s.extent) ∷ (codes "offset", natural s.offset) ∷ [])
 
--- one of `candidates`
+-- one of `candidates`: an extent, how many bytes it frees, and the starts that it keeps
 abbrev pub candidate_data : CandidateValue → Data
 candidate_data c = with_keys ((codes "extent", natural c.extent) ∷ (codes "free", natural c.free) ∷ (codes "keep", numbers_data c.keep) ∷ [])
 
--- `extents`, each with its live bytes
+-- the value of `extents`: each scanned extent, with its live bytes
 abbrev pub extents_data : List Checked → List Scanned → Data
 extents_data checked all = list (map (λ f. extent_data (live_bytes checked f) f) all)
 
--- the report: one object, whose keys stand in rising order of their bytes
+-- the report of what was found: one object of fifteen keys, in rising order of their bytes
 abbrev pub report_data : Scrubbed → Data
 report_data s = with_keys (
     (codes "broken", ids_data s.broken) ∷
@@ -137,11 +139,11 @@ report_data s = with_keys (
     (codes "super", super_data s.choice) ∷
     (codes "twins", list (map place_data (twins s.all))) ∷ [])
 
--- its text: compact JSON and a line feed
+-- the text of the report: compact JSON, and a line feed
 abbrev pub report_text : Scrubbed → List ℕ
 report_text s = compact_text (report_data s) ++ 10 ∷ []
 
--- a text is the report of what an image holds
+-- the text is that of the report of what is found in an image
 pub record IsReport (image : Image) (text : List ℕ) : Type 0 where
   pub found : Scrubbed
   pub scrubbed : IsScrubbed image found

@@ -19,8 +19,8 @@ use Rattle.scrub_check.specs.Checked.{AreChecked, AreBrokenShards, dangling, hid
 use Rattle.scrub_check.specs.Shared.{AreShared}
 use Rattle.scrub_check.specs.Candidates.{CandidateValue, AreCandidates}
 
--- the choice of a superblock, the plan that follows from it, what one reader finds, the index runs, the shard map, the
--- named locators with what they are worth, and the lists that are drawn from them by a search
+-- what is found on a disk: the choice, the plan, the scanned extents, the runs, the bindings, the checked locators, and
+-- the shared places, broken shards and candidates
 pub record Scrubbed : Type 0 where
   pub choice : Choice
   pub plan : PlanValue
@@ -32,11 +32,12 @@ pub record Scrubbed : Type 0 where
   pub broken : List ShardId
   pub candidates : List CandidateValue
 
--- no extent may be reclaimed: a newer superblock, or a newer binding, may have been lost
+-- a newer superblock or a newer binding may have been lost: there is a tie, an unreadable page of extent 0, or a lost
+-- run
 abbrev pub is_in_doubt : Choice → ReadRunsValue → Bool
 is_in_doubt choice read = choice.tie || not (length choice.bad_pages == 0) || list_any is_none read.runs
 
--- each part is as it is in the image
+-- each part of what is found is as it is in the image
 pub record IsScrubbed (image : Image) (s : Scrubbed) : Type 0 where
   pub choice : IsChoice image s.choice
   pub plan : IsPlanOf s.choice s.plan
@@ -48,29 +49,30 @@ pub record IsScrubbed (image : Image) (s : Scrubbed) : Type 0 where
   pub broken : AreBrokenShards s.checked s.broken
   pub candidates : AreCandidates s.plan s.all s.checked (is_in_doubt s.choice s.read) s.candidates
 
--- neither torn nor noise nor lost
+-- the item is neither torn nor noise nor lost, so it is a chunk or zeros
 abbrev pub is_clean_item : Item → Bool
 is_clean_item (Chunk form start stop uuid n digest) = true
 is_clean_item (Pad start stop) = true
 is_clean_item _ = false
 
--- every page of the extent can be read, and each item is such
+-- each page of the extent can be read, and each of its items is clean
 abbrev pub is_clean_extent : Scanned → Bool
 is_clean_extent f = length f.findings.bad_pages == 0 && list_all is_clean_item f.findings.items
 
--- one superblock counts, and every page of its extent can be read
+-- a superblock counts, there is no tie, and each page of extent 0 can be read
 abbrev pub is_clean_choice : Choice → Bool
 is_clean_choice choice = is_some choice.superblock && not choice.tie && length choice.bad_pages == 0
 
--- each locator is sound, and each place is named once at most
+-- no locator dangles or is hidden, and no place is shared
 abbrev pub is_clean_list : List Checked → List SharedPlace → Bool
 is_clean_list checked shared = length (dangling checked) == 0 && length (hidden checked) == 0 && length shared == 0
 
--- all is in good order; orphans, twins, tails and candidates don't count against it
+-- the choice, all scanned extents and the lists are clean, and no run is lost; orphans, twins, tails and candidates
+-- don't count against it
 abbrev pub is_clean : Scrubbed → Bool
 is_clean s = is_clean_choice s.choice && list_all is_clean_extent s.all && list_all is_some s.read.runs && is_clean_list s.checked s.shared
 
--- whether all is in good order in an image is told as it is
+-- the truth value says whether what is found in the image is clean
 pub record IsCleanImage (image : Image) (clean : Bool) : Type 0 where
   pub found : Scrubbed
   pub scrubbed : IsScrubbed image found

@@ -11,25 +11,26 @@ use Rattle.scrub_super.specs.Anywhere.{IsFoundRecord, AreLostBytes}
 use Rattle.scrub_report.specs.declared.sizes_listing.lines.SizesLine.{SizesLine}
 use Rattle.scrub_report.specs.declared.sizes_listing.lines.SizesLine.TheVariants.{Record, Lost}
 
--- `OFFSET KIND GENERATION PAGE PAGES EXTENTS`
+-- the text of a record: `OFFSET KIND GENERATION PAGE PAGES EXTENTS`
 abbrev pub record_text : FoundRecord → List ℕ
 record_text r =
     decimal r.offset ++ spaced (magic_of r.kind) ++ spaced (decimal r.generation)
     ++ spaced (decimal r.geometry.page) ++ spaced (decimal r.geometry.pages) ++ spaced (decimal r.geometry.extents)
 
--- the same of a record, and `lost FROM TO` of lost bytes
+-- the text of a record, or of lost bytes: `lost FROM TO`
 abbrev pub size_text : SizesLine → List ℕ
 size_text (Record r) = record_text r
 size_text (Lost l) = codes "lost" ++ spaced (decimal l.from) ++ spaced (decimal l.to)
 
--- with a line feed, and one line for each in their order
+-- the line of a record or of lost bytes, with its line feed
 abbrev pub size_line : SizesLine → List ℕ
 size_line line = size_text line ++ 10 ∷ []
 
+-- the lines of some records and lost bytes, in their order
 abbrev pub size_lines : List SizesLine → List ℕ
 size_lines = flat_map size_line
 
--- where that begins which a line is of
+-- where the record or the lost bytes of a line begin
 abbrev pub line_start : SizesLine → ℕ
 line_start (Record r) = r.offset
 line_start (Lost l) = l.from
@@ -40,7 +41,7 @@ pub record AreSizesInOrder (bytes : List ℕ) (lost : List Bool) (lines : List S
   pub records : (r : FoundRecord) → Contains lines (Record r) ↔ IsFoundRecord (byte_left bytes lost) r
   pub ranges : (l : LostBytes) → Contains lines (Lost l) ↔ AreLostBytes lost l
 
--- a text is these lines, for raw bytes of which these blocks are lost
+-- the text is the lines of raw bytes of which these blocks are lost
 pub record AreSizesLines (bytes : List ℕ) (lost : List Bool) (text : List ℕ) : Type 0 where
   pub lines : List SizesLine
   pub in_order : AreSizesInOrder bytes lost lines
@@ -53,7 +54,8 @@ pub record IsCleanFront (bytes : List ℕ) (lost : List Bool) : Type 0 where
       IsFoundRecord (byte_left bytes lost) r → IsFoundRecord (byte_left bytes lost) s → r.geometry ≡ s.geometry
   pub nothing_lost : (n : ℕ) → ¬ IsMarked lost n
 
--- the text and whether it is clean, for some blocks that are lost by these marks and so many failures
+-- the text, and whether it is clean, are those of raw bytes, for some lost blocks that fit these marks and so many
+-- failures
 pub record IsSizesListing (bytes : List ℕ) (marks : List Bool) (failures : ℕ) (text : List ℕ) (clean : Bool) : Type 0 where
   pub lost : List Bool
   pub loses : LosesBlocks bytes marks failures lost

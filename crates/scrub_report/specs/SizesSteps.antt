@@ -18,14 +18,14 @@ pub record AreInOrder (records : List FoundRecord) (ranges : List LostBytes) (li
   pub records_are : (r : FoundRecord) → Contains lines (Record r) ↔ Contains records r
   pub ranges_are : (l : LostBytes) → Contains lines (Lost l) ↔ Contains ranges l
 
--- the line is of the first element behind so many records and so many ranges
+-- the line is of what begins first, of all but the first so many records and the first so many ranges
 abbrev pub IsNextLine : List FoundRecord → List LostBytes → ℕ → ℕ → SizesLine → Type 0
 IsNextLine records ranges r l (Record x) =
     (r < length records) × (x ≡ slice_index_or records r x) × ((d : LostBytes) → l < length ranges → x.offset < (slice_index_or ranges l d).from)
 IsNextLine records ranges r l (Lost x) =
     (l < length ranges) × (x ≡ slice_index_or ranges l x) × ((d : FoundRecord) → r < length records → x.from ≤ (slice_index_or records r d).offset)
 
--- how many records a line is of
+-- how many records a line is of: one, or none
 abbrev pub record_count : SizesLine → ℕ
 record_count (Record x) = 1
 record_count (Lost x) = 0

@@ -10,13 +10,14 @@ use Rattle.scrub_super.specs.declared.pages.SuperblockPage.{SuperblockPage}
 use Rattle.scrub_super.specs.declared.pages.SuperblockPage.TheVariants.{Lost, Record, Covered, Zero, Damaged, Stray}
 use Rattle.scrub_super.specs.Pages.{AreSuperblockPages, magic_of}
 
--- the word for how new a record is
+-- the word for how new a record is: `tie`, `counts` or `older`
 abbrev pub rank_text : Rank → List ℕ
 rank_text Tie = codes "tie"
 rank_text Counts = codes "counts"
 rank_text Older = codes "older"
 
--- the line of page q, with its line feed; a page that lies in a record and one of zeros have none
+-- the line of page q with its line feed, if it is lost, a record, damaged or stray; a covered page and one of zeros
+-- have none
 abbrev pub superblock_line : ℕ → SuperblockPage → List ℕ
 superblock_line q Lost = codes "lost" ++ spaced (decimal q) ++ 10 ∷ []
 superblock_line q (Record kind generation rank) =
@@ -30,12 +31,12 @@ superblock_line q Stray = codes "stray" ++ spaced (decimal q) ++ 10 ∷ []
 abbrev pub superblock_lines : List SuperblockPage → List ℕ
 superblock_lines pages = flat_map (λ x. superblock_line x.0 x.1) (enumerate_from 0 pages)
 
--- the record that counts, where no other has its generation
+-- the page has the record that counts, and no other has its generation
 abbrev pub is_counting_page : SuperblockPage → Bool
 is_counting_page (Record kind generation Counts) = true
 is_counting_page _ = false
 
--- a page with no line, or with the line of a record that ties with none
+-- the page has no line, or the line of a record that ties with none
 abbrev pub is_orderly_page : SuperblockPage → Bool
 is_orderly_page (Record kind generation Tie) = false
 is_orderly_page (Record kind generation Counts) = true
@@ -50,13 +51,13 @@ is_orderly_page Stray = false
 abbrev pub are_clean_pages : List SuperblockPage → Bool
 are_clean_pages pages = list_any is_counting_page pages && list_all is_orderly_page pages
 
--- a text is the lines of the pages of extent 0 of an image
+-- the text is the lines of the pages of extent 0 of an image
 pub record AreSuperblockLines (image : Image) (text : List ℕ) : Type 0 where
   pub pages : List SuperblockPage
   pub are : AreSuperblockPages image pages
   pub text_is : text ≡ superblock_lines pages
 
--- whether the superblocks of an image are in good order is told as it is
+-- the truth value says whether the pages of extent 0 of an image are clean
 pub record AreCleanSuperblocks (image : Image) (clean : Bool) : Type 0 where
   pub pages : List SuperblockPage
   pub are : AreSuperblockPages image pages

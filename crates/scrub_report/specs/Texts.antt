@@ -12,20 +12,20 @@ use Rattle.scrub_check.specs.declared.status.Status.TheVariants.{OutOfRange, Ret
 use Rattle.scrub_check.specs.declared.runs.RunState.{RunState}
 use Rattle.scrub_check.specs.declared.runs.RunState.TheVariants.{Read, BadChunk, NotARun}
 
--- a shard's identifier: 32 lower-case hexadecimal digits
+-- a shard's identifier as 32 hexadecimal digits in lower case
 abbrev pub id_text : ShardId → List ℕ
 id_text id = encode_lower id.0
 
--- a UUID, as RFC 9562 writes it, in lower case
+-- a UUID as RFC 9562 writes it, with hyphens, in lower case
 abbrev pub uuid_text : List ℕ → List ℕ
 uuid_text uuid = hyphenated_text lower uuid
 
--- who names a locator
+-- who names a locator: `run` with the run's number, or `shard` with the text of its identifier
 abbrev pub owner_text : Owner → List ℕ
 owner_text (Run number) = codes "run " ++ decimal number
 owner_text (Shard id) = codes "shard " ++ id_text id
 
--- what a locator is worth; only that of the first eight is ever a reason
+-- the word for a locator's status, as `no_frame`; only the first eight are ever a reason
 abbrev pub status_text : Status → List ℕ
 status_text OutOfRange = codes "out_of_range"
 status_text Retired = codes "retired"
@@ -38,7 +38,7 @@ status_text WrongDigest = codes "wrong_digest"
 status_text Hidden = codes "hidden"
 status_text Sound = codes "sound"
 
--- what became of an index run
+-- the word for what became of an index run: it was read, the status of its chunk, or it is no run
 abbrev pub state_text : RunState → List ℕ
 state_text Read = codes "read"
 state_text (BadChunk status) = status_text status

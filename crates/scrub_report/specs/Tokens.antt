@@ -12,28 +12,28 @@ use Rattle.scrub_report.specs.Json.{natural, list, with_keys}
 use Rattle.scrub_report.specs.declared.parts.Parts.{Parts}
 use Rattle.scrub_report.specs.Report.{ids_data, candidate_data, dangling_data, doubtful_ids, extents_data, geometry_data, hidden_data, numbers_data, place_data, runs_data, shared_data, super_data}
 
--- the tokens of a value
+-- the JSON tokens that a value is written in
 abbrev pub value_tokens : Data → List Token
 value_tokens d = json_tokens (outline d)
 
--- those of a member
+-- the tokens of a key and its value
 abbrev pub member_tokens : List ℕ → Data → List Token
 member_tokens name d = key name ∷ value_tokens d
 
--- those of some members, one after another
+-- the tokens of some keys and their values, one after another, without the braces
 abbrev pub members_tokens : List (List ℕ × Data) → List Token
 members_tokens ms = flat_map (λ m. member_tokens m.0 m.1) ms
 
--- a list of which some elements are written, each shown as a value
+-- the tokens of a list of which some elements are written, each shown as a value
 abbrev pub list_begun : {X : Type 0} → (X → Data) → List X → List Token
 list_begun show xs = begin_array ∷ flat_map (λ x. value_tokens (show x)) xs
 
--- one of `hidden`, or of `dangling`
+-- the value of a hidden or of a dangling locator, by its status
 abbrev pub locator_data : Checked → Data
 locator_data c = cond (is_hidden c.status) (hidden_data c) (dangling_data c)
 
 module _ {D : Type 0} {s : _} where
-  -- the report's keys from the first one up to `doubtful`, of the parts that are kept
+  -- the report's keys with their values, of the parts that are kept, from the first one up to `doubtful`
   abbrev pub first_keys : Parts D s → Bool → List (List ℕ × Data)
   first_keys p clean =
       (codes "broken", ids_data p.broken.items) ∷
@@ -42,14 +42,14 @@ module _ {D : Type 0} {s : _} where
       (codes "dangling", list (map dangling_data (dangling p.checked.items))) ∷
       (codes "doubtful", ids_data (doubtful_ids p.map)) ∷ []
 
-  -- from `extents` up to `hidden`
+  -- the report's keys with their values from `extents` up to `hidden`
   abbrev pub extent_keys : Parts D s → List (List ℕ × Data)
   extent_keys p =
       (codes "extents", extents_data p.checked.items p.all.extents) ∷
       (codes "geometry", geometry_data p.plan.geometry) ∷
       (codes "hidden", list (map hidden_data (hidden p.checked.items))) ∷ []
 
-  -- from `orphans` up to `shards`
+  -- the report's keys with their values from `orphans` up to `shards`
   abbrev pub run_keys : Parts D s → List (List ℕ × Data)
   run_keys p =
       (codes "orphans", list (map place_data (orphans p.all.extents p.checked.items))) ∷
@@ -57,17 +57,17 @@ module _ {D : Type 0} {s : _} where
       (codes "runs", runs_data p.plan.runs p.entries.items p.states.items) ∷
       (codes "shards", natural (length p.map)) ∷ []
 
-  -- and from `shared` up to the last one
+  -- the report's keys with their values from `shared` up to the last one
   abbrev pub last_keys : Parts D s → List (List ℕ × Data)
   last_keys p =
       (codes "shared", list (map shared_data p.liveness.shared.items)) ∷
       (codes "super", super_data p.chosen) ∷
       (codes "twins", list (map place_data (twins p.all.extents))) ∷ []
 
-  -- all of them
+  -- all keys of the report with their values, of the parts that are kept
   abbrev pub all_keys : Parts D s → Bool → List (List ℕ × Data)
   all_keys p clean = first_keys p clean ++ (extent_keys p ++ (run_keys p ++ last_keys p))
 
-  -- the text that they come to
+  -- the object of all keys as compact JSON, and a line feed
   abbrev pub kept_text : Parts D s → Bool → List ℕ
   kept_text p clean = compact_text (with_keys (all_keys p clean)) ++ 10 ∷ []

@@ -1,4 +1,4 @@
--- What an entry of an index run tells, its bytes, and the order of identifiers.
+-- What an entry of an index run says, its bytes, and the order of identifiers.
 use Rattle.std.specs.Prelude.{◌≡◌, ◌≤◌, ℕ, List, ◌∷◌, ◌++◌, length, All}
 use Rattle.std.specs.Cmp.Lexicographic.{slice_cmp}
 use Rattle.std.specs.Ordering.{nat_cmp}
@@ -8,7 +8,7 @@ use Rattle.scrub_frame.specs.declared.locator.Locator.{Locator}
 use Rattle.scrub_frame.specs.Locator.{locator_bytes, IsLocator}
 use Rattle.scrub_run.specs.declared.shard_id.ShardId.{ShardId}
 
--- a shard's identifier, and the locators of its chunks in order: none where the shard was deleted
+-- a shard's identifier, and the locators of its chunks in order: none if the shard was deleted
 pub record EntryValue : Type 0 where
   pub id : ShardId
   pub locators : List Locator
@@ -17,7 +17,7 @@ pub record EntryValue : Type 0 where
 abbrev pub entry_bytes : EntryValue → List ℕ
 entry_bytes e = e.id.0 ++ (length e.locators ∷ flat_map locator_bytes e.locators)
 
--- what an entry of a run can tell: an identifier of sixteen bytes, and at most 64 locators
+-- what an entry of a run can say: an identifier of sixteen bytes, and at most 64 locators
 pub record IsEntry (e : EntryValue) : Type 0 where
   pub sixteen : length e.id.0 ≡ 16
   pub few : length e.locators ≤ 64

@@ -1,5 +1,6 @@
--- The words that public clauses say, and those of the crate below that they cite.
+-- For public clauses.
 pub mod Entry
 pub mod Locators
 pub mod Run
+-- Files of other crates that public clauses cite.
 pub use Rattle.scrub_frame.specs.Locator

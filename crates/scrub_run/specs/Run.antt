@@ -1,19 +1,20 @@
--- Index runs as payloads: `RUN1`, the number of entries, the entries, and the SHA-256 of all before it.
+-- Index runs as payloads: `RUN1`, the number of entries, the entries, and the SHA-256 (FIPS 180-4) of all before it.
+-- Numbers are big-endian.
 use Rattle.std.specs.Prelude.{◌≡◌, ◌<◌, ◌^◌, ℕ, List, [], ◌∷◌, ◌++◌, length, All, AllPairs}
 use Rattle.std.specs.List.{flat_map}
 use Rattle.byteorder.specs.Endian.{big_bytes}
 use Rattle.sha2.specs.Sha256.{sha256}
 use Rattle.scrub_run.specs.Entry.{EntryValue, entry_bytes, IsEntry, IsBelow}
 
--- `RUN1`, what each run begins with
+-- the four bytes that each run begins with, `RUN1`
 abbrev pub run_magic : List ℕ
 run_magic = 0x52 ∷ 0x55 ∷ 0x4E ∷ 0x31 ∷ []
 
--- what the digest is taken of
+-- all of a run before its digest
 abbrev pub run_body : List EntryValue → List ℕ
 run_body entries = run_magic ++ (big_bytes 4 (length entries) ++ flat_map entry_bytes entries)
 
--- the bytes of the run of these entries
+-- the bytes of the run of these entries: magic, number of entries, entries, and the digest of all before it
 abbrev pub run_bytes : List EntryValue → List ℕ
 run_bytes entries = run_body entries ++ sha256 (run_body entries)
 
@@ -21,13 +22,13 @@ run_bytes entries = run_body entries ++ sha256 (run_body entries)
 abbrev pub RisesById : List EntryValue → Type 0
 RisesById entries = AllPairs (λ e f. IsBelow e.id f.id) entries
 
--- what a run can tell: fewer than 2 ^ 32 entries, each with at most 64 locators, in strictly rising order of identifier
+-- what a run can hold: fewer than 2^32 entries, each with at most 64 locators, in strictly rising order of identifier
 pub record AreEntries (entries : List EntryValue) : Type 0 where
   pub count : length entries < 2 ^ 32
   pub each : All IsEntry entries
   pub rising : RisesById entries
 
--- a payload is, whole, the run of these entries
+-- the payload is, from its first byte to its last, the run of these entries; that of no entries has forty bytes
 pub record IsRun (payload : List ℕ) (entries : List EntryValue) : Type 0 where
   pub entries_of_run : AreEntries entries
   pub spelled : payload ≡ run_bytes entries

@@ -1,10 +1,11 @@
--- One extent under its write pointer, and what stands at a place of it.
+-- One extent under its write pointer, and what is at a place of it.
 use Rattle.std.specs.Prelude.{◌≡◌, ◌<◌, ◌≤◌, ◌+◌, ◌*◌, ◌/◌, ℕ, min, List, length, Option, Some, None}
 use Rattle.scrub_disk.specs.Image.{Image, byte, AreBytesAt}
 use Rattle.scrub_frame.specs.declared.form.Form.{Form}
 use Rattle.scrub_frame.specs.Frame.{frame, magic, frame_overhead, HasFrame}
 
--- an extent: each byte of it, None where its page is unreadable; the bytes of a page; the write pointer, in bytes
+-- an extent under its write pointer: each byte, None if its page is unreadable; the bytes of a page; and the pointer,
+-- in bytes
 pub record Extent : Type 0 where
   pub byte : ℕ → Option ℕ
   pub page : ℕ
@@ -14,7 +15,7 @@ pub record Extent : Type 0 where
 abbrev pub extent_of : Image → ℕ → ℕ → Extent
 extent_of image e w = record { byte = byte image e; page = image.geometry.page; pointer = w }
 
--- the frame of form f, u and b stands at p, all of it readable, and ends at or before the pointer
+-- the frame of form f, UUID u and payload b is at p, all of it readable, and ends at or before the pointer
 pub record FrameAt (x : Extent) (p : ℕ) (f : Form) (u b : List ℕ) : Type 0 where
   pub has_frame : HasFrame u b
   pub fits : p + length b + frame_overhead f ≤ x.pointer
@@ -24,11 +25,11 @@ pub record FrameAt (x : Extent) (p : ℕ) (f : Form) (u b : List ℕ) : Type 0 w
 abbrev pub bound : Extent → ℕ → ℕ
 bound x p = min x.pointer ((p / x.page + 1) * x.page)
 
--- a frame of neither form stands at p
+-- no frame of either form is at p
 abbrev pub NoFrameAt : Extent → ℕ → Type 0
 NoFrameAt x p = (f : Form) (u b : List ℕ) → ¬ FrameAt x p f u b
 
--- the page of p, a place of the extent, is unreadable
+-- p is a place of the extent, and its page is unreadable
 abbrev pub IsUnreadableAt : Extent → ℕ → Type 0
 IsUnreadableAt x p = x.byte p ≡ None
 
@@ -36,7 +37,7 @@ IsUnreadableAt x p = x.byte p ≡ None
 abbrev pub IsZero : Extent → ℕ → Type 0
 IsZero x p = (i : ℕ) → p ≤ i → i < bound x p → x.byte i ≡ Some 0
 
--- the magic of one of the forms stands at p, before the bound
+-- the magic of one of the forms is at p, before the bound
 abbrev pub HasMagic : Extent → ℕ → Type 0
 HasMagic x p = (p + 2 ≤ bound x p) × ((f : Form) × AreBytesAt x.byte p (magic f))
 

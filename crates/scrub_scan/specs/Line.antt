@@ -1,4 +1,5 @@
--- The line of an item: the word for its kind, of a chunk by its form, and its numbers in decimal, with one space between.
+-- The line of an item: the word for its kind, of a chunk by its form, and its numbers in decimal, with one space
+-- between; a UUID is written as RFC 9562 does, in lower case.
 use Rattle.std.specs.Prelude.{ℕ, List, ◌++◌, codes}
 use Rattle.std.specs.Fmt.{decimal}
 use Rattle.uuid.specs.Text.{hyphenated_text, lower}
@@ -11,15 +12,17 @@ use Rattle.scrub_scan.specs.declared.item.Item.TheVariants.{Chunk, Pad, Torn, No
 abbrev pub spaced : List ℕ → List ℕ
 spaced text = codes " " ++ text
 
--- where an item begins and ends
+-- where an item begins and stops, in decimal
 abbrev pub places : ℕ → ℕ → List ℕ
 places start stop = spaced (decimal start) ++ spaced (decimal stop)
 
--- the word for a chunk
+-- the word for a chunk by its form: `chunk`, or `sealed`
 abbrev pub chunk_word : Form → List ℕ
 chunk_word Plain = codes "chunk"
 chunk_word Sealed = codes "sealed"
 
+-- the line of an item: the word for its kind, where it begins and stops, and of a chunk its UUID and its payload's
+-- length
 abbrev pub line_of : Item → List ℕ
 line_of (Chunk form start stop uuid length digest) =
     chunk_word form ++ places start stop ++ spaced (hyphenated_text lower uuid) ++ spaced (decimal length)

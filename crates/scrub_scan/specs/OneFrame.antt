@@ -1,4 +1,4 @@
--- One frame at most stands at a place, and one magic.
+-- At most one frame is at a place, and one magic.
 use Rattle.std.proofs.Common.{◌≡◌, ◌≤◌, ◌+◌, ℕ, List, [], length, get_or, drop, arith, refl, sym, ◌∙◌, inl, inr, Option}
 use Rattle.std.proofs.lemmas.Bool.{cases_lt}
 use Rattle.std.proofs.lemmas.Option.{same_Some}
@@ -11,7 +11,7 @@ use Rattle.scrub_frame.proofs.Frames.{one_frame_lem, length-frame}
 use Rattle.scrub_disk.specs.Image.{Image, AreBytesAt}
 use Rattle.scrub_scan.specs.Extent.{Extent, extent_of, FrameAt}
 
--- the frame at a place is one: where one is as long as another or shorter
+-- lemma: two frames at a place are one, if the second is at least as long as the first
 shorter_frame : (x : Extent) (p : ℕ) (f : Form) (u b : List ℕ) (g : Form) (v c : List ℕ) → frame_overhead f + length b ≤ frame_overhead g + length c → FrameAt x p f u b → FrameAt x p g v c → (f ≡ g) × (u ≡ v) × (b ≡ c)
 shorter_frame x p f u b g v c le h k =
     let lu : length (frame f u b) ≡ frame_overhead f + length b = length-frame f u b h.has_frame.sixteen in
@@ -25,24 +25,25 @@ shorter_frame x p f u b g v c le h k =
     })
     (record { has_frame = k.has_frame; rest = []; spelled = sym (append-nil (frame g v c)) })
 
+-- lemma: two frames at a place are one
 pub one_frame_at : (x : Extent) (p : ℕ) (f : Form) (u b : List ℕ) (g : Form) (v c : List ℕ) → FrameAt x p f u b → FrameAt x p g v c → (f ≡ g) × (u ≡ v) × (b ≡ c)
 one_frame_at x p f u b g v c h k = elim (cases_lt (frame_overhead g + length c) (frame_overhead f + length b)) [
   | inl less ↦ let r : (g ≡ f) × (v ≡ u) × (c ≡ b) = shorter_frame x p g v c f u b (omega (arith, less)) k h in (sym r.0, sym r.1, sym r.2)
   | inr le ↦ shorter_frame x p f u b g v c le h k
 ]
 
--- a frame that stands under a pointer stands under each greater one
+-- lemma: a frame under a pointer is there under each greater pointer
 pub under_greater : (image : Image) (e v w p : ℕ) (f : Form) (u b : List ℕ) → v ≤ w → FrameAt (extent_of image e v) p f u b → FrameAt (extent_of image e w) p f u b
 under_greater image e v w p f u b le h = record { has_frame = h.has_frame; fits = omega (arith, le, h.fits); stands = h.stands }
 
--- the frame at a place is one, under two pointers too
+-- lemma: two frames at a place are one, under two pointers too
 pub one_frame_under : (image : Image) (e v w p : ℕ) (f : Form) (t b : List ℕ) (g : Form) (u c : List ℕ) → FrameAt (extent_of image e v) p f t b → FrameAt (extent_of image e w) p g u c → (f ≡ g) × (t ≡ u) × (b ≡ c)
 one_frame_under image e v w p f t b g u c h k =
     one_frame_at (extent_of image e (v + w)) p f t b g u c
     (under_greater image e v (v + w) p f t b (omega arith) h)
     (under_greater image e w (v + w) p g u c (omega arith) k)
 
--- one magic at most stands at a place
+-- lemma: at most one magic is at a place
 pub one_magic_at : (at : ℕ → Option ℕ) (p : ℕ) (f g : Form) → AreBytesAt at p (magic f) → AreBytesAt at p (magic g) → f ≡ g
 one_magic_at at p f g h k =
     same f g (same_Some (form_byte f) (form_byte g) (sym (h 1 (omega arith)) ∙ k 1 (omega arith)))

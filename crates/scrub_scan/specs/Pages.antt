@@ -17,32 +17,32 @@ use Rattle.scrub_frame.specs.declared.matcher.Fed.TheVariants.{More, Whole, No}
 use Rattle.scrub_frame.specs.Matching.{StandsFor, NoFrameYet}
 use Rattle.scrub_scan.specs.Extent.{Extent, extent_of, FrameAt, NoFrameAt}
 
--- the buffer has page q of extent e, or the page can't be read
+-- the buffer has the bytes of page q of extent e, or knows that it can't be read
 pub record HasPage (image : Image) (e q : ℕ) (h : HeldPage) : Type 0 where
   pub in_pages : q < image.geometry.pages
   pub content : image.page e q ≡ (if h.readable then Some h.bytes.items else None)
 
--- the buffer is a page long, and has the page that it says
+-- the buffer is as long as a page, and has the page whose number it gives
 pub record Holds (image : Image) (e : ℕ) (h : HeldPage) : Type 0 where
   pub size : length h.bytes.items ≡ image.geometry.page
   pub page : IfSome h.number (λ q. HasPage image e q h)
 
--- so do both
+-- both buffers have the pages whose numbers they give
 pub record HoldBoth (image : Image) (e : ℕ) (p : TwoPages) : Type 0 where
   pub size : p.page ≡ image.geometry.page
   pub near : Holds image e p.near
   pub far : Holds image e p.far
 
--- one of them says page q
+-- one of the two buffers gives page q as its page
 abbrev pub Reaches : TwoPages → ℕ → Type 0
 Reaches p q = (p.near.number ≡ Some q) ⊎ (p.far.number ≡ Some q)
 
--- the source was asked n times at most, and once more where page q is the near one
+-- the source was asked at most n times, and once more if the near buffer has page q
 pub record AskedBy (p : TwoPages) (q n : ℕ) : Type 0 where
   pub most : p.asked ≤ n + 1
   pub unread : (p.near.number ≡ Some q → ⊥) → p.asked ≤ n
 
--- the source was asked for these pages, by a call for each: for those in the buffers, and for every page below n
+-- the source was asked, by a call for each, for the pages in the buffers and for every page below n
 pub record HasRead (p : TwoPages) (n : ℕ) : Type 0 where
   pub calls : List ℕ
   pub each : p.asked < 2 ^ 32 → length calls ≤ p.asked
@@ -55,7 +55,7 @@ pub record KeepsNear (old new : TwoPages) : Type 0 where
   pub near : new.near ≡ old.near
   pub read : (n : ℕ) → HasRead old n → HasRead new n
 
--- an extent of the image, and a pointer into it
+-- an extent of the image, and a pointer that isn't past its end
 pub record IsTarget (image : Image) (t : Target) : Type 0 where
   pub in_extents : t.extent < image.geometry.extents
   pub page : t.page ≡ image.geometry.page
@@ -65,27 +65,27 @@ pub record IsTarget (image : Image) (t : Target) : Type 0 where
 abbrev pub last_page : Target → ℕ → Form → ℕ → ℕ
 last_page t p f n = (p + n + frame_overhead f - 1) / t.page
 
--- what a frame costs beside its first page g, where its last is page b: nothing where these are one
+-- how many page reads a frame costs beside its first page g, with its last on page b: none if these are one
 abbrev pub frame_cost : ℕ → ℕ → ℕ
 frame_cost g b = if nat_lt g b then 4 + (b - g) else 0
 
--- the extent under that pointer
+-- the extent of a target under its pointer
 abbrev pub target_of : Image → Target → Extent
 target_of image t = extent_of image t.extent t.pointer
 
--- the scanner has pages of the extent, and what it takes for an unreadable page is one
+-- the scanner's buffers have pages of the extent, and the page that it remembers as unreadable is so
 pub record Scans (image : Image) (t : Target) (s : Scanner) : Type 0 where
   pub pages : HoldBoth image t.extent s.pages
   pub gap : IfSome s.gap (λ q. image.page t.extent q ≡ None)
 
--- a frame with these fields stands at p
+-- a frame with this form, UUID, length and digest is at p
 pub record IsFound (x : Extent) (p : ℕ) (f : Found) : Type 0 where
   pub payload : List ℕ
   pub frame : FrameAt x p f.form f.uuid payload
   pub size : f.length ≡ length payload
   pub digest : f.digest ≡ sha256 payload
 
--- the place behind the frame that was found at p, p itself where there is none
+-- the place behind the frame that was found at p, or p itself if there is none
 abbrev pub place_behind : ℕ → Option Found → ℕ
 place_behind p found = option_map_or (λ f. p + f.length + frame_overhead f.form) found p
 
@@ -97,13 +97,14 @@ pub record Passes (x : Extent) (start place : ℕ) (m : Matcher) : Type 0 where
   pub fed : StandsFor m (x.pointer - start) bytes
   pub none : NoFrameYet bytes
 
--- what an answer says, once the bytes up to stop were fed too, among which a frame that is whole has ended
+-- what a matcher's answer says once the bytes up to `stop` were fed: the frame may go on, has ended and is whole, or
+-- there is none
 abbrev pub IsPassed : Extent → ℕ → ℕ → Matcher → Fed → Type 0
 IsPassed x start stop m More = Passes x start stop m × (stop < x.pointer)
 IsPassed x start stop m (Whole used f u n d) = IsFound x start (record { form = f; uuid = u; length = n; digest = d }) × (start + n + frame_overhead f ≤ stop)
 IsPassed x start stop m No = NoFrameAt x start
 
--- a head stands at p whose frame would end at or before the pointer, and what closes the frame stands where that would end
+-- a head is at p, the frame that it claims would end at or before the pointer, and what closes it is where it would end
 pub record Claims (x : Extent) (p : ℕ) : Type 0 where
   pub form : Form
   pub uuid : List ℕ

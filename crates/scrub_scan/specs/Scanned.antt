@@ -1,4 +1,4 @@
--- What a result of a scan shows.
+-- What is known of a scanned extent: its number, its pointer and its findings.
 use Rattle.std.specs.Prelude.{ℕ}
 use Rattle.scrub_disk.specs.Image.{Image}
 use Rattle.scrub_scan.specs.declared.findings.Findings.{Findings}
@@ -15,10 +15,10 @@ module _ {D : Type 0} {s : _} where
   abbrev pub result_image : ExtentResult D s → Image
   result_image r = s.image r.source.now
 
-  -- what was found, and where
+  -- the findings of a result, with their extent and pointer
   abbrev pub scanned : ExtentResult D s → Scanned
   scanned r = record { extent = r.extent; pointer = r.pointer; findings = r.findings }
 
-  -- how often the scan asked for a page, as it was counted
+  -- how often the scan asked for a page, as counted
   abbrev pub calls : ExtentResult D s → ℕ
   calls r = r.asked

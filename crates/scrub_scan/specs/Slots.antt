@@ -7,7 +7,7 @@ use Rattle.scrub_super.specs.Plan.{PlanValue, pointer_of}
 use Rattle.scrub_scan.specs.declared.extent_result.ExtentResult.{ExtentResult}
 use Rattle.scrub_scan.specs.Scanned.{Scanned, result_image, scanned}
 
--- what stands in those places that have something
+-- what is in those places that have something
 abbrev pub held_in : {X : Type 0} → List (Option X) → List X
 held_in slots = filter_map (λ slot. slot) slots
 
@@ -16,7 +16,7 @@ abbrev pub AreFull : {X : Type 0} → List (Option X) → Type 0
 AreFull slots = list_all is_some slots ≡ true
 
 module _ {D : Type 0} {s : _} where
-  -- the result of extent e of an image, under the plan's write pointer
+  -- the result is of extent e of this image, under the plan's write pointer
   pub record IsPlannedResult (image : Image) (plan : PlanValue) (e : ℕ) (r : ExtentResult D s) : Type 0 where
     pub image_is : result_image r ≡ image
     pub extent_is : r.extent ≡ e
@@ -26,7 +26,7 @@ module _ {D : Type 0} {s : _} where
   abbrev pub AreSlots : Image → PlanValue → List (Option (ExtentResult D s)) → Type 0
   AreSlots image plan slots = AllZip (λ e slot. IfSome slot (λ r. IsPlannedResult image plan e r)) plan.planned slots
 
-  -- the source of some results, that of the first
+  -- the source of the first of some results, or None if there are none
   abbrev pub first_source : List (ExtentResult D s) → Option D
   first_source [] = None
   first_source (r ∷ rs) = Some r.source.now

@@ -10,8 +10,8 @@ use Rattle.scrub_super.specs.Record.{AreContents, record_bytes}
 use Rattle.scrub_super.specs.Pages.{kind_of}
 use Rattle.scrub_super.specs.Blocks.{byte_left, IsLostRun, LosesBlocks}
 
--- The record of these contents stands at an offset, for a disk of sizes of its own: the offset is a multiple of 64 and of
--- the page size, and the record ends in extent 0.
+-- the record of these contents is at an offset, for a disk of the record's own sizes: the offset is a multiple of 64
+-- and of the page size, and the record ends in extent 0
 pub record StandsAnywhere (at : ℕ → Option ℕ) (offset : ℕ) (g : Geometry) (c : Contents) : Type 0 where
   pub step : offset % 64 ≡ 0
   pub page_bound : offset % g.page ≡ 0
@@ -19,30 +19,31 @@ pub record StandsAnywhere (at : ℕ → Option ℕ) (offset : ℕ) (g : Geometry
   pub contents : AreContents g c
   pub stands : AreBytesAt at offset (record_bytes g c)
 
--- such a record, as it is told
+-- a record is at this offset, for a disk of its own sizes, with this kind and generation
 abbrev pub IsFoundRecord : (ℕ → Option ℕ) → FoundRecord → Type 0
 IsFoundRecord at r = (c : Contents) × StandsAnywhere at r.offset r.geometry c × (r.kind ≡ kind_of c) × (r.generation ≡ c.generation)
 
--- all such records, by rising offset
+-- these are all records at any offset, for disks of their own sizes, by rising offset
 pub record AreFoundRecords (at : ℕ → Option ℕ) (records : List FoundRecord) : Type 0 where
   pub rising : AllPairs (λ a b. a.offset < b.offset) records
   pub exact : (r : FoundRecord) → Contains records r ↔ IsFoundRecord at r
 
--- the bytes of a run of lost blocks
+-- the range has the bytes of neighbouring lost blocks, as many as there are
 abbrev pub AreLostBytes : List Bool → LostBytes → Type 0
 AreLostBytes lost l = (first stop : ℕ) × IsLostRun lost first stop × (l.from ≡ first * 512) × (l.to ≡ stop * 512)
 
--- all such runs, rising
+-- these are all ranges of lost bytes, rising
 pub record AreLostRanges (lost : List Bool) (ranges : List LostBytes) : Type 0 where
   pub rising : AllPairs (λ a b. a.from < b.from) ranges
   pub exact : (l : LostBytes) → Contains ranges l ↔ AreLostBytes lost l
 
--- all that raw bytes hold of superblock records, and the lost bytes, where these blocks are lost
+-- all superblock records of raw bytes, and all lost bytes, if these blocks are lost
 pub record AreFoundAnywhere (bytes : List ℕ) (lost : List Bool) (records : List FoundRecord) (ranges : List LostBytes) : Type 0 where
   pub records_are : AreFoundRecords (byte_left bytes lost) records
   pub ranges_are : AreLostRanges lost ranges
 
--- the same for some blocks that are lost by these marks and so many failures
+-- all superblock records of raw bytes, and all lost bytes, for some lost blocks that fit these marks and so many
+-- failures
 pub record AreFoundWith (bytes : List ℕ) (marks : List Bool) (failures : ℕ) (records : List FoundRecord) (ranges : List LostBytes) : Type 0 where
   pub lost : List Bool
   pub loses : LosesBlocks bytes marks failures lost

@@ -2,16 +2,16 @@
 use Rattle.std.specs.Prelude.{◌≡◌, ◌<◌, ◌≤◌, ◌+◌, ◌*◌, ◌/◌, ◌^◌, ℕ, List, Bool, true, false, Option, None, ◌⊎◌, Contains, if◌then◌else◌, slice_get, slice_index_or}
 use Rattle.std.specs.Prelude.{length as len}
 
--- block n is marked
+-- a list of marks is true at block n
 abbrev pub IsMarked : List Bool → ℕ → Type 0
 IsMarked marks n = slice_index_or marks n false ≡ true
 
--- byte i: none where its block is lost, and none behind the end
+-- byte i of raw bytes, or None if its block of 512 bytes is lost or the bytes end before it
 abbrev pub byte_left : List ℕ → List Bool → ℕ → Option ℕ
 byte_left bytes lost i = if slice_index_or lost (i / 512) false then None else slice_get bytes i
 
--- Which of the blocks that begin below byte 2^26 are lost: each marked one that begins before the end, and of the others
--- only those that failures cost, listed here by their numbers, at most as many as were counted.
+-- of the blocks of 512 bytes below byte 2^26 each marked one that begins before the end is lost, and of the others only
+-- those that failures cost, listed here by their numbers, at most as many as were counted
 pub record LosesBlocks (bytes : List ℕ) (marks : List Bool) (failures : ℕ) (lost : List Bool) : Type 0 where
   pub few_blocks : len lost ≤ 2 ^ 17
   pub marked : (n : ℕ) → n < 2 ^ 17 → n * 512 < len bytes → IsMarked marks n → IsMarked lost n
@@ -19,7 +19,7 @@ pub record LosesBlocks (bytes : List ℕ) (marks : List Bool) (failures : ℕ) (
   pub few : len failed ≤ failures
   pub only : (n : ℕ) → IsMarked lost n → ((n * 512 < len bytes) × IsMarked marks n) ⊎ Contains failed n
 
--- blocks from `first` on up to `stop` are lost, and the ones before and behind them aren't
+-- the blocks from `first` on up to `stop` are lost, and the ones before and behind them aren't
 pub record IsLostRun (lost : List Bool) (first stop : ℕ) : Type 0 where
   pub some : first < stop
   pub all : (n : ℕ) → first ≤ n → n < stop → IsMarked lost n

@@ -10,8 +10,8 @@ use Rattle.scrub_super.specs.Record.{BeginsWithRecord, record_bytes}
 use Rattle.scrub_super.specs.Pages.{kind_of}
 use Rattle.scrub_super.specs.Blocks.{IsMarked}
 
--- What a block came to that begins at an offset, whether it is marked or not: `n` bytes in the front of `out`, or lost. The
--- failures are those that were counted before and behind it.
+-- a block at an offset came to `n` bytes in the front of `out`, or is lost, by its mark or because a failure was
+-- counted
 pub record IsBlockRead (bytes : List ℕ) (offset : ℕ) (is_marked : Bool) (before after : ℕ) (out : List ℕ) (n : ℕ) (is_lost : Bool) : Type 0 where
   pub read : is_lost ≡ false → AreBytesAt (slice_get bytes) offset (take n out)
   pub ended : n < 512 → len bytes ≤ offset + n
@@ -24,7 +24,8 @@ pub record AreBlockMarks (bytes : List ℕ) (lost : List Bool) : Type 0 where
   pub few : len lost ≤ 2 ^ 17
   pub begins : (n : ℕ) → IsMarked lost n → n * 512 < len bytes
 
--- the bytes of blocks that aren't lost are those of the raw image, and those are lost that marks and failures say
+-- the bytes of blocks that aren't lost are those of the raw image, and the lost blocks are those that marks and
+-- failures say
 pub record AreBlocksRead (bytes : List ℕ) (marks : List Bool) (failures : ℕ) (read : List ℕ) (lost : List Bool) : Type 0 where
   pub held : (i : ℕ) → i < len read → ¬ IsMarked lost (i / 512) → slice_get bytes i ≡ Some (slice_index read i)
   pub marked : (n : ℕ) → n < len lost → n * 512 < len bytes → IsMarked marks n → IsMarked lost n
@@ -32,30 +33,30 @@ pub record AreBlocksRead (bytes : List ℕ) (marks : List Bool) (failures : ℕ)
   pub few : len failed ≤ failures
   pub only : (n : ℕ) → IsMarked lost n → ((n * 512 < len bytes) × IsMarked marks n) ⊎ Contains failed n
 
--- no byte behind those that were read is of concern: the raw image ends there, or they are 2^26
+-- all that matters was read: up to the end of the raw image, or 2^26 bytes
 pub record AreAllRead (bytes : List ℕ) (marks : List Bool) (failures : ℕ) (read : List ℕ) (lost : List Bool) : Type 0 where
   pub blocks : AreBlocksRead bytes marks failures read lost
   pub ended : (len bytes ≤ len read) ⊎ (len read ≡ 2 ^ 26)
 
--- no byte from the offset on up to `end` is lost, and at `end` the bytes end or one is
+-- no byte from the offset on up to `end` is lost, and at `end` the bytes end or one is lost
 pub record IsReadableTo (size : ℕ) (lost : List Bool) (offset end : ℕ) : Type 0 where
   pub from : offset ≤ end
   pub within : end ≤ size
   pub readable : (i : ℕ) → offset ≤ i → i < end → ¬ IsMarked lost (i / 512)
   pub stops : end < size → IsMarked lost (end / 512)
 
--- the bytes, which stand at an offset, begin with a record of a disk of these sizes, and it ends in extent 0
+-- the bytes from an offset on begin with a record of a disk of these sizes, which ends in extent 0
 pub record BeginsInPlace (bytes : List ℕ) (offset : ℕ) (g : Geometry) (c : Contents) : Type 0 where
   pub page_bound : offset % g.page ≡ 0
   pub within : offset + len (record_bytes g c) ≤ extent_bytes g
   pub begins : BeginsWithRecord g bytes c
 
--- such a record, as it is told
+-- a record begins in place at this offset, with these sizes, kind and generation
 abbrev pub TellsRecord : List ℕ → ℕ → FoundRecord → Type 0
 TellsRecord bytes offset r =
     (c : Contents) × (r.offset ≡ offset) × BeginsInPlace bytes offset r.geometry c × (r.kind ≡ kind_of c) × (r.generation ≡ c.generation)
 
--- the run of lost blocks from `first` on that ends with a block, if one does
+-- the range of lost bytes from block `first` on that ends with this block, if one does
 abbrev pub ended_run : List Bool → ℕ → ℕ → List LostBytes
 ended_run lost first block =
     if slice_index_or lost block false && not (slice_index_or lost (block + 1) false)

@@ -1,5 +1,5 @@
--- The superblock that counts: of the records of an image that are valid, the newest, and of equally new ones the one on
--- the lowest page.
+-- The superblock that counts: of the valid records of an image the newest, and of equally new ones that on the lowest
+-- page.
 use Rattle.std.specs.Prelude.{◌≡◌, ◌≢◌, ◌<◌, ◌≤◌, ◌*◌, ◌↔◌, ℕ, List, Bool, Option, Some, None, IsTrue, Contains}
 use Rattle.std.specs.Prelude.{length as len}
 use Rattle.std.specs.List.Sorted.{IsStrictlyIncreasing}
@@ -9,7 +9,7 @@ use Rattle.scrub_super.specs.Contents.{Contents}
 use Rattle.scrub_super.specs.Record.{AreContents, record_bytes}
 use Rattle.scrub_disk.specs.Image.{unreadable_pages}
 
--- a valid record: that of these contents stands at the bound of page q of extent 0, whole on readable pages
+-- a valid record: that of these contents begins at page q of extent 0, whole on readable pages
 pub record RecordStandsAt (image : Image) (q : ℕ) (c : Contents) : Type 0 where
   pub within : q < image.geometry.pages
   pub contents : AreContents image.geometry c
@@ -19,20 +19,20 @@ pub record RecordStandsAt (image : Image) (q : ℕ) (c : Contents) : Type 0 wher
 abbrev pub IsGreatest : Image → ℕ → Type 0
 IsGreatest image n = (q : ℕ) (c : Contents) → RecordStandsAt image q c → c.generation ≤ n
 
--- the record that counts
+-- the record that counts: the valid one of the greatest generation, and of those the one on the lowest page
 pub record IsNewestRecord (image : Image) (q : ℕ) (c : Contents) : Type 0 where
   pub stands : RecordStandsAt image q c
   pub greatest : IsGreatest image c.generation
   pub lowest : (r : ℕ) (d : Contents) → RecordStandsAt image r d → d.generation ≡ c.generation → q ≤ r
 
--- what counts, and on which page it stands; nothing only where no record is valid
+-- the record that counts and its page, or nothing if no record is valid
 abbrev pub IsChosen : Image → Option Contents → Option ℕ → Type 0
 IsChosen image (Some c) (Some q) = IsNewestRecord image q c
 IsChosen image None None = (q : ℕ) (c : Contents) → ¬ RecordStandsAt image q c
 IsChosen image (Some c) None = ⊥
 IsChosen image None (Some q) = ⊥
 
--- the greatest generation stands on two pages
+-- two pages have a valid record of the greatest generation
 pub record IsTie (image : Image) : Type 0 where
   pub one : ℕ
   pub other : ℕ
@@ -49,7 +49,8 @@ pub record AreRecordPages (image : Image) (pages : List ℕ) : Type 0 where
   pub rising : IsStrictlyIncreasing pages
   pub exact : (q : ℕ) → Contains pages q ↔ ((c : Contents) × RecordStandsAt image q c)
 
--- what is told of the records of an image
+-- what is known of the records of an image: the sizes, the record that counts and its page, how many pages have a valid
+-- record, whether there is a tie, and the unreadable pages of extent 0
 pub record Choice : Type 0 where
   pub geometry : Geometry
   pub superblock : Option Contents
@@ -58,7 +59,7 @@ pub record Choice : Type 0 where
   pub tie : Bool
   pub bad_pages : List ℕ
 
--- it is told as it is
+-- each part of the choice is as it is in the image
 pub record IsChoice (image : Image) (choice : Choice) : Type 0 where
   pub geometry : choice.geometry ≡ image.geometry
   pub chosen : IsChosen image choice.superblock choice.page

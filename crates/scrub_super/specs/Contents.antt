@@ -1,4 +1,4 @@
--- What a superblock tells.
+-- What a superblock says: generation, write pointers, retired extents if they are listed, and the index runs.
 use Rattle.std.specs.Prelude.{ℕ, List, [], Option}
 use Rattle.std.specs.Option.{option_map_or, unwrap_or}
 use Rattle.scrub_frame.specs.declared.locator.Locator.{Locator}
@@ -11,10 +11,10 @@ pub record Contents : Type 0 where
   pub retired : Option (List ℕ)
   pub runs : List Locator
 
--- which kind of record tells it: 1 has no list of retired extents, 2 has one
+-- the kind of record that has these contents: 1 without a list of retired extents, 2 with one
 abbrev pub version_of : Contents → ℕ
 version_of c = option_map_or (λ _. 2) c.retired 1
 
--- the retired extents: none where there is no list
+-- the retired extents, none if there is no list
 abbrev pub retired_in : Contents → List ℕ
 retired_in c = unwrap_or c.retired []

@@ -1,4 +1,4 @@
--- The words of this crate's public contracts.
+-- For public clauses.
 pub mod Contents
 pub mod Record
 pub mod Chosen
@@ -7,11 +7,11 @@ pub mod Planned
 pub mod Plan
 pub mod Blocks
 pub mod Anywhere
--- The steps of the code: of reading a record, of the choice, and of reading a raw image in blocks.
+-- Steps of the code: of reading a record, of the choice, and of reading a raw image in blocks.
 pub mod RecordRead
 pub mod RecordsSeen
 pub mod PagesFound
 pub mod BlocksRead
--- Words of the crates below that public clauses cite.
+-- Files of other crates that public clauses cite.
 pub use Rattle.scrub_disk.specs.Image
 pub use Rattle.scrub_frame.specs.Locator

@@ -18,11 +18,12 @@ abbrev pub magic_of : RecordKind → List ℕ
 magic_of Ssb1 = codes "SSB1"
 magic_of Ssb2 = codes "SSB2"
 
--- the kind of the record of these contents: the second where retired extents are listed
+-- the kind of the record of these contents: the second if retired extents are listed
 abbrev pub kind_of : Contents → RecordKind
 kind_of c = option_map_or (λ _. Ssb2) c.retired Ssb1
 
--- how new a record is beside the others of the image
+-- how new a record is: it has the greatest generation and there is a tie, or it has it and there is none, or it is
+-- older
 abbrev pub IsRank : Image → Contents → Rank → Type 0
 IsRank image c Tie = IsGreatest image c.generation × IsTie image
 IsRank image c Counts = IsGreatest image c.generation × ¬ IsTie image
@@ -46,7 +47,8 @@ pub record IsUnclaimed (image : Image) (q : ℕ) (bytes : List ℕ) : Type 0 whe
   pub no_record : ¬ HasRecord image q
   pub outside : ¬ LiesInRecord image q
 
--- what page q of extent 0 holds
+-- what page q of extent 0 is: lost; a record with kind, generation and rank; covered by an earlier record; zero;
+-- damaged, if it is unclaimed and begins with the letters of a kind; or else stray
 abbrev pub IsSuperblockPage : Image → ℕ → SuperblockPage → Type 0
 IsSuperblockPage image q Lost = image.page 0 q ≡ None
 IsSuperblockPage image q (Record kind generation rank) =
@@ -57,7 +59,7 @@ IsSuperblockPage image q (Damaged kind) = (bytes : List ℕ) × IsUnclaimed imag
 IsSuperblockPage image q Stray =
     (bytes : List ℕ) × IsUnclaimed image q bytes × (¬ All (λ b. b ≡ 0) bytes) × ((kind : RecordKind) → ¬ (take 4 bytes ≡ magic_of kind))
 
--- each page of extent 0 is told as what it holds, from page 0 on
+-- the list says of each page of extent 0 what it is, from page 0 on
 pub record AreSuperblockPages (image : Image) (pages : List SuperblockPage) : Type 0 where
   pub count : len pages ≡ image.geometry.pages
   pub each : (q : ℕ) (page : SuperblockPage) → slice_get pages q ≡ Some page → IsSuperblockPage image q page

@@ -1,4 +1,4 @@
--- What is found on the pages of extent 0, from which both the choice and what each page holds follow.
+-- What is found on the pages of extent 0, from which both the choice and what each page is follow.
 use Rattle.std.specs.Prelude.{◌≡◌, ◌<◌, ◌≤◌, ◌+◌, ◌*◌, ◌↔◌, ℕ, List, Bool, Option, Some, None, IsTrue, slice_index_or, if◌then◌else◌}
 use Rattle.std.specs.Prelude.{length as len}
 use Rattle.scrub_disk.specs.declared.geometry.Geometry.{Geometry}
@@ -13,19 +13,19 @@ use Rattle.scrub_super.specs.Pages.{HasRecord, LiesInRecord, kind_of}
 abbrev pub image_with : Geometry → (ℕ → ℕ → Option (List ℕ)) → Image
 image_with g page = record { geometry = g; page = page }
 
--- what is found of the record of these contents that begins at byte `start`
+-- what is kept of the record of these contents that begins at byte `start`: kind, generation and end
 pub record IsFoundOf (g : Geometry) (start : ℕ) (c : Contents) (found : Found) : Type 0 where
   pub kind : found.kind ≡ kind_of c
   pub generation : found.generation ≡ c.generation
   pub to : found.to ≡ start + len (record_bytes g c)
 
--- what is found at page q
+-- what is kept of the valid record that begins at page q, or nothing if none does
 abbrev pub IsFoundOnPage : Image → ℕ → Option Found → Type 0
 IsFoundOnPage image q (Some found) =
     (c : Contents) × RecordStandsAt image q c × IsFoundOf image.geometry (q * image.geometry.page) c found
 IsFoundOnPage image q None = ¬ HasRecord image q
 
--- what is found at each page
+-- for each page of extent 0 what is found there
 pub record AreFoundOnPages (image : Image) (found : List (Option Found)) : Type 0 where
   pub count : len found ≡ image.geometry.pages
   pub each : (q : ℕ) → q < image.geometry.pages → IsFoundOnPage image q (slice_index_or found q None)
@@ -37,7 +37,7 @@ pub record IsRecordReach (image : Image) (q reach : ℕ) : Type 0 where
   pub reached : (i : ℕ) → i < reach →
       (r : ℕ) × (r < q) × ((c : Contents) × RecordStandsAt image r c × (i < r * image.geometry.page + len (record_bytes image.geometry c)))
 
--- what is known of page q before it is judged: its bytes where it can be read, and whether a record from before reaches it
+-- what is known of page q before it is judged: its bytes if it can be read, and whether an earlier record reaches it
 pub record IsKnownOfPage (image : Image) (q : ℕ) (bytes : List ℕ) (readable covered : Bool) : Type 0 where
   pub held : image.page 0 q ≡ (if readable then Some bytes else None)
   pub covered_is : IsTrue covered ↔ LiesInRecord image q

@@ -3,20 +3,21 @@ use Rattle.std.specs.Prelude.{◌<◌, ◌≤◌, ◌-◌, ◌==◌, ℕ, Bool, 
 use Rattle.std.specs.List.{list_any, range_with_len}
 use Rattle.std.specs.List.Sorted.{IsStrictlyIncreasing}
 
--- rising, each among 1 up to E, where chunks are written
+-- extents where chunks are written: they rise, from 1 up to the number of extents less 1
 pub record AreChunkExtents (extents : ℕ) (numbers : List ℕ) : Type 0 where
   pub rising : IsStrictlyIncreasing numbers
   pub from_one : All (λ e. 1 ≤ e) numbers
   pub below : All (λ e. e < extents) numbers
 
--- those that are planned, and those that are retired
+-- extents that can be planned
 abbrev pub ArePlanned : ℕ → List ℕ → Type 0
 ArePlanned extents planned = AreChunkExtents extents planned
 
+-- extents that can be retired
 abbrev pub AreRetired : ℕ → List ℕ → Type 0
 AreRetired extents retired = AreChunkExtents extents retired
 
--- the extent is none of the retired ones
+-- the extent isn't one of the retired ones
 abbrev pub is_in_use : List ℕ → ℕ → Bool
 is_in_use retired e = not (list_any (λ r. r == e) retired)
 

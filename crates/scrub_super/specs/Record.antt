@@ -1,6 +1,7 @@
--- Superblock records, which are of two kinds. The first: `SSB1`, the generation, the disk's sizes, the number of index
--- runs, the write pointers, the locators of the runs, and the SHA-256 of all before it. The second begins with `SSB2` and
--- lists retired extents too: their number stands behind that of the runs, and they stand behind the write pointers.
+-- The bytes of a superblock record of either kind, and which contents have one. The first kind has `SSB1`, the
+-- generation, the disk's sizes, the number of index runs, the write pointers, the locators of the runs, and the SHA-256
+-- (FIPS 180-4) of all before it. The second kind begins with `SSB2` and lists retired extents too: their number follows
+-- that of the runs, and they follow the write pointers. Numbers are big-endian.
 use Rattle.std.specs.Prelude.{◌≡◌, ◌<◌, ◌≤◌, ◌+◌, ◌*◌, ◌^◌, ℕ, List, [], ◌∷◌, ◌++◌, All, Option, Some, None, IfSome, option_map}
 use Rattle.std.specs.Prelude.{length as len}
 use Rattle.std.specs.List.{flat_map}
@@ -12,7 +13,7 @@ use Rattle.scrub_frame.specs.Locator.{locator_bytes, IsLocator}
 use Rattle.scrub_super.specs.Contents.{Contents, retired_in}
 use Rattle.scrub_super.specs.Planned.{AreRetired}
 
--- the digit that ends the magic: that of `SSB1`, or of `SSB2` where retired extents are listed
+-- the digit that ends the magic: that of `SSB1`, or of `SSB2` if retired extents are listed
 abbrev pub digit_of : Option ℕ → ℕ
 digit_of None = 0x31
 digit_of (Some retired) = 0x32
@@ -22,22 +23,22 @@ abbrev pub front_bytes : ℕ → Geometry → ℕ → ℕ → List ℕ
 front_bytes digit g generation runs =
     (0x53 ∷ 0x53 ∷ 0x42 ∷ digit ∷ []) ++ (big_bytes 8 generation ++ (big_bytes 4 g.page ++ (big_bytes 4 g.pages ++ (big_bytes 4 g.extents ++ big_bytes 2 runs))))
 
--- how many retired extents are listed, if any are
+-- the number of retired extents in two bytes, or nothing if they aren't listed
 abbrev pub count_bytes : Option ℕ → List ℕ
 count_bytes None = []
 count_bytes (Some retired) = big_bytes 2 retired
 
--- what stands before the write pointers
+-- all of a record before the write pointers
 abbrev pub head_bytes : Geometry → ℕ → ℕ → Option ℕ → List ℕ
 head_bytes g generation runs retired = front_bytes (digit_of retired) g generation runs ++ count_bytes retired
 
--- what the digest is taken of
+-- all of a record before the digest
 abbrev pub record_body : Geometry → Contents → List ℕ
 record_body g c =
     head_bytes g c.generation (len c.runs) (option_map len c.retired)
     ++ (flat_map (big_bytes 4) c.pointers ++ (flat_map (big_bytes 4) (retired_in c) ++ flat_map locator_bytes c.runs))
 
--- the record of these contents
+-- the record of these contents: head, write pointers, retired extents, locators, and the digest of all before it
 abbrev pub record_bytes : Geometry → Contents → List ℕ
 record_bytes g c = record_body g c ++ sha256 (record_body g c)
 
@@ -46,19 +47,19 @@ pub record ArePointers (g : Geometry) (pointers : List ℕ) : Type 0 where
   pub count : len pointers + 1 ≡ g.extents
   pub within : All (λ pointer. pointer ≤ g.page * g.pages) pointers
 
--- at most 32 locators
+-- at most 32 locators of index runs
 pub record AreRunLocators (runs : List Locator) : Type 0 where
   pub count : len runs ≤ 32
   pub each : All IsLocator runs
 
--- what a record of this geometry can tell
+-- contents within the limits of a geometry, which a record can hold
 pub record AreContents (g : Geometry) (c : Contents) : Type 0 where
   pub generation : c.generation < 2 ^ 64
   pub pointers : ArePointers g c.pointers
   pub retired : IfSome c.retired (AreRetired g.extents)
   pub runs : AreRunLocators c.runs
 
--- a front of the bytes is the record of these contents
+-- the record of these contents, which keep the limits, is a prefix of the bytes
 pub record BeginsWithRecord (g : Geometry) (bytes : List ℕ) (c : Contents) : Type 0 where
   pub contents : AreContents g c
   pub rest : List ℕ

@@ -1,4 +1,4 @@
--- What is known of the records on the pages that were looked at, from the last page down.
+-- What is known of the records on the pages that were seen, from the last page down.
 use Rattle.std.specs.Prelude.{◌≡◌, ◌≢◌, ◌<◌, ◌≤◌, ◌+◌, ◌==◌, ◌↔◌, ℕ, List, false, Some, IsTrue, Contains, MatchOption}
 use Rattle.std.specs.Prelude.{length as len}
 use Rattle.std.specs.List.Sorted.{IsStrictlyIncreasing}
@@ -8,11 +8,11 @@ use Rattle.scrub_super.specs.declared.choosing.RecordsSeen.{RecordsSeen}
 use Rattle.scrub_super.specs.Contents.{Contents}
 use Rattle.scrub_super.specs.Chosen.{RecordStandsAt}
 
--- a valid record of this generation stands on page q
+-- a valid record of this generation begins at page q
 abbrev pub StandsFrom : Image → ℕ → ℕ → Type 0
 StandsFrom image q n = (c : Contents) × RecordStandsAt image q c × (c.generation ≡ n)
 
--- of the pages from `low` on with a record of a generation, this is the newest, and of equally new ones the lowest
+-- the newest record on the pages from `low` on, of equally new ones that on the lowest page, and whether there is a tie
 pub record IsNewestFrom (stands : ℕ → ℕ → Type 0) (low : ℕ) (newest : Newest) : Type 0 where
   pub from : low ≤ newest.page
   pub there : stands newest.page newest.generation
@@ -25,14 +25,14 @@ pub record ArePagesFrom (stands : ℕ → ℕ → Type 0) (low : ℕ) (pages : L
   pub rising : IsStrictlyIncreasing pages
   pub exact : (q : ℕ) → Contains pages q ↔ ((low ≤ q) × ((n : ℕ) × stands q n))
 
--- what is seen from `low` on
+-- how many pages from `low` on have a record, and the newest of these records
 pub record AreSeenFrom (stands : ℕ → ℕ → Type 0) (low : ℕ) (seen : RecordsSeen) : Type 0 where
   pub pages : List ℕ
   pub are : ArePagesFrom stands low pages
   pub records : seen.records ≡ len pages
   pub newest : MatchOption seen.newest ((q n : ℕ) → low ≤ q → ¬ stands q n) (IsNewestFrom stands low)
 
--- one more record, on a lower page than those before
+-- one more record was seen, on a lower page than those before
 pub record AddsRecord (old new : RecordsSeen) (q n : ℕ) : Type 0 where
   pub records : new.records ≡ old.records + 1
   pub newest : MatchOption old.newest
