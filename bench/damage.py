@@ -19,10 +19,8 @@ import tempfile
 from concurrent.futures import ThreadPoolExecutor
 from pathlib import Path
 
-TOP = Path(__file__).resolve().parent.parent
-sys.path[:0] = [str(TOP / "bench"), str(TOP / "examples")]
-from images import Disk, run, shard, uuid
 import program
+from disks import Disk, geometry, run, shard, uuid
 from reference import Image, reclaimable, records_of, scrub
 
 PROGRAM = str(Path(sys.argv[1] if len(sys.argv) > 1 else program.default()).resolve())
@@ -74,7 +72,7 @@ def answer(image, accepted):
     with tempfile.NamedTemporaryFile() as file:
         file.write(image.raw)
         file.flush()
-        words = ["--page", str(image.page), "--pages", str(image.pages), "--extents", str(image.extents), "--workers", "0"]
+        words = [*geometry(image.page, image.pages, image.extents), "--workers", "0"]
         words += [word for kind in accepted for word in ("--accept", kind)] + [file.name]
         words += [f"{extent}:{page}" for extent, page in sorted(image.bad)]
         try:

@@ -11,7 +11,7 @@ before. Of a refused growth has to come want of memory, or the right answer all 
 more and then had, or a thread isn't started and its work done without it; where all later ones are refused too, want of
 memory alone. Last, the calls with workers are run with each growth of a worker refused, and none of the caller's: by then the
 caller has scanned all extents, and want of memory has to be the answer all the same. The refusals come of the library of C
-of `refusals.py`.
+of `allocations.py`.
 
 Before that it reads the sources of the libraries that the program is made of: each public function that is passed an
 allocator, or can answer out of memory, has to be a call here, or one of the few below that take no memory.
@@ -27,7 +27,7 @@ from collections import Counter
 from concurrent.futures import ThreadPoolExecutor
 from pathlib import Path
 
-from refusals import TOP, answer, made
+from allocations import TOP, made, refusing
 
 RIGHT = (0, b"right\n", b"")
 OUT_OF_MEMORY = (4, b"out of memory\n", b"")
@@ -55,7 +55,7 @@ def sweep(program, library, call, before, all_later):
     ends, refused = Counter(), before
     while True:
         refused += 1
-        got, met = answer(program, f"{call} answered", library, refused, all_later)
+        got, met = refusing(program, f"{call} answered", library, refused, all_later)
         if met < refused:
             return ends, got == RIGHT
         ends["refused" if got == OUT_OF_MEMORY else "had" if got == RIGHT else "wrong"] += 1
@@ -86,7 +86,7 @@ def missing(calls):
 
 def tried(program, library, call):
     """Whether all runs of a call ended as they should, and a line that says how."""
-    got, before = answer(program, f"{call} made", library, NONE_REFUSED)
+    got, before = refusing(program, f"{call} made", library, NONE_REFUSED)
     one, one_right = sweep(program, library, call, before, False)
     all_later, all_right = sweep(program, library, call, before, True)
     growths, growths_then = sum(one.values()), sum(all_later.values())
@@ -100,7 +100,7 @@ def tried(program, library, call):
 
 def tried_by_workers(program, library, call):
     """Whether a call whose workers are refused each growth ended by want of memory, and a line that says so."""
-    got, refused = answer(program, f"{call} answered", library, NONE_REFUSED, all_others=True)
+    got, refused = refusing(program, f"{call} answered", library, NONE_REFUSED, all_others=True)
     is_right = got == OUT_OF_MEMORY and refused > 0
     line = f"{call}: with the workers alone refused, {refused} times, ended by want of memory"
     return is_right, line if is_right else f"{line}: FAILED, {got}"

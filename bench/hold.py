@@ -12,16 +12,12 @@ import subprocess
 import sys
 import tempfile
 from collections import Counter
-sys.path.insert(0, os.path.dirname(os.path.abspath(__file__)))
-from reference import (ACCEPTABLE, MAGIC, PLAIN, SEALED, Image, MapFault, lost_by_map, read_map, reclaimable, report_text, scrub,
-                       sha, sizes, superblocks, write_locator, write_run)
+
+from disks import (DIGEST, LOCATOR, MAGIC, fields, frame, geometry, locator, record, record_head, run, sealed_frame,
+                   with_digest)
+from reference import ACCEPTABLE, Image, MapFault, lost_by_map, read_map, reclaimable, report_text, scrub, sizes, superblocks
 
 DIFFERENCE = os.path.join(tempfile.gettempdir(), "hold-difference")
-
-
-def frame(u, b, form=PLAIN):
-    seal = sha(b) if form.seal else b""
-    return form.magic + u + len(b).to_bytes(4, "big") + seal + b + u + form.mark
 
 
 class Made:
@@ -45,9 +41,6 @@ class Made:
         u = c.choice(self.uuids) if c.random() < .15 else c.randbytes(16)
         return u[:14] + MAGIC if c.random() < .1 else u
 
-    def locator(self, e, o, b, u):
-        return {"extent": e, "offset": o, "length": len(b), "uuid": u, "digest": sha(b)}
-
     def chunk(self, e, b, u=None):
         """Appends where it fits; sometimes at a page bound, sometimes two bytes over one with a new chunk from there."""
         c, w = self.c, self.w[e - 1]
@@ -61,23 +54,23 @@ class Made:
                 v = c.randbytes(14) + MAGIC
                 self.put(e, w, frame(v, over))
                 if c.random() < .5:
-                    self.known.append(self.locator(e, w, over, v))
+                    self.known.append(locator(e, w, v, over))
                 w = bound
-        t = frame(u, b, c.choice([PLAIN, PLAIN, SEALED]))
+        t = c.choice([frame, frame, sealed_frame])(u, b)
         if w + len(t) > self.size:
             return None
         self.put(e, w, t)
         self.w[e - 1] = max(self.w[e - 1], w + len(t))
-        return self.locator(e, w, b, u)
+        return locator(e, w, u, b)
 
     def spoilt(self, l):
-        c, l = self.c, dict(l)
-        key = c.choice(["extent", "offset", "length", "uuid", "digest", "offset", "length"])
+        c, l = self.c, dict(zip(PARTS, LOCATOR.unpack(l)))
+        key = c.choice([*PARTS, "offset", "length"])
         if key in ("uuid", "digest"):
             l[key] = c.randbytes(len(l[key]))
         else:
             l[key] = c.choice([0, 1, l[key] + 1, max(0, l[key] - 1), self.e, self.size, 2 ** 32 - 1, c.randrange(self.size)])
-        return l
+        return LOCATOR.pack(*l.values())
 
     def named(self):
         l = self.c.choice(self.known)
@@ -97,11 +90,11 @@ class Made:
         for _ in range(c.choice([0, 1, 1, 2, 3, 4])):
             some = sorted(set(c.sample(ids, c.randrange(0, 5))))
             entries = [(i, [self.named() for _ in range(c.choice([0, 1, 1, 1, 2, 3]))] if self.known else []) for i in some]
-            b = write_run(entries)
+            b = run(*entries)
             if c.random() < .1:
                 b = bytearray(b); b[c.randrange(len(b))] ^= 1 << c.randrange(8); b = bytes(b)
                 if c.random() < .5:
-                    b = b[:-32]; b = b + sha(b)
+                    b = with_digest(b[:-DIGEST])
             l = self.chunk(c.randrange(1, self.e), b)
             if l:
                 runs.insert(c.choice([0, 0, len(runs)]), self.spoilt(l) if c.random() < .05 else l)
@@ -116,13 +109,7 @@ class Made:
                 retired = sorted(c.sample(range(1, self.e), c.choice([0, 0, 1, 1, c.randrange(self.e)])))
                 if c.random() < .05:
                     retired.append(c.choice([0, 1, self.e]))
-            t = (b"SSB1" if retired is None else b"SSB2") + c.choice([1, 2, 2, 2 ** 64 - 1]).to_bytes(8, "big")
-            t += b"".join(x.to_bytes(4, "big") for x in (self.p, self.n, self.e if c.random() < .97 else self.e + 1))
-            t += len(runs).to_bytes(2, "big")
-            if retired is not None:
-                t += (len(retired) if c.random() < .97 else c.randrange(2 ** 16)).to_bytes(2, "big")
-            t += b"".join(x.to_bytes(4, "big") for x in ws) + b"".join(x.to_bytes(4, "big") for x in retired or []) + b"".join(map(write_locator, runs))
-            t += sha(t)
+            t = self.record(ws, retired, runs)
             g = c.randrange(self.n)
             for g in [g] + ([c.randrange(self.n)] if c.random() < .1 else []):
                 if g * self.p + len(t) <= self.size:
@@ -142,6 +129,16 @@ class Made:
             del self.raw[c.randrange(len(self.raw)):]
         return bad
 
+    def record(self, ws, retired, runs):
+        """A record whose number of extents, and of retired ones, is sometimes another than it has."""
+        c = self.c
+        generation, e = c.choice([1, 2, 2, 2 ** 64 - 1]), self.e if c.random() < .97 else self.e + 1
+        count = None
+        if retired is not None:
+            count = len(retired) if c.random() < .97 else c.randrange(2 ** 16)
+        listed = fields(ws) + fields(retired or []) + b"".join(runs)
+        return with_digest(record_head(self.p, self.n, e, len(runs), generation, count) + listed)
+
     def harm_records(self):
         """A bit of a record, letters of a kind or stray bytes on a page of extent 0, and a record of other sizes."""
         c = self.c
@@ -152,9 +149,8 @@ class Made:
             self.put(0, c.randrange(self.n) * self.p, c.choice([b"SSB1", b"SSB2", b"SSB3", b"x"]))
         if c.random() < .15:
             p, n, e = c.choice([64, 64, 64, 128, 60, 512]), c.choice([0, 4, 4, 16, 16]), c.choice([1, 2, 3, 3, 9])
-            t = b"SSB1" + c.randbytes(8) + b"".join(x.to_bytes(4, "big") for x in (p, n, e)) + bytes(2)
-            t += c.choice([0, 0, 0, p * n, p * n + 1]).to_bytes(4, "big") * max(0, e - 1)
-            t += sha(t)
+            generation, w = int.from_bytes(c.randbytes(8), "big"), c.choice([0, 0, 0, p * n, p * n + 1])
+            t = record(p, n, e, [w] * (e - 1), [], generation)
             at = 64 * c.randrange(min(len(self.raw) // 64, c.choice([4, 2 ** 20])))
             if at + len(t) <= len(self.raw):
                 self.raw[at:at + len(t)] = t
@@ -180,16 +176,17 @@ class Made:
         return bytes(text)
 
 
+PARTS = ("extent", "offset", "length", "uuid", "digest")
 SCANS = ("scan", "index", "locators")
 
 
 def right_answers(made, bad, text, accepted):
     """For each line of words the right status, output and error stream; and what the disk is, where its map isn't refused."""
-    geometry = ["--page", str(made.p), "--pages", str(made.n), "--extents", str(made.e)]
+    options = geometry(made.p, made.n, made.e)
     pairs = [f"{e}:{g}" for e, g in bad]
     accept = [word for kind in accepted for word in ("--accept", kind)]
-    lines = {**{command: [command, *geometry] for command in (*SCANS, "superblocks")},
-             "reclaimable": ["reclaimable", *geometry, *accept], "sizes": ["sizes"]}
+    lines = {**{command: [command, *options] for command in (*SCANS, "superblocks")},
+             "reclaimable": ["reclaimable", *options, *accept], "sizes": ["sizes"]}
     raw, blocks, lost = bytes(made.raw), None, []
     if text is not None:
         try:

@@ -41,22 +41,20 @@ where nothing can be measured.
 """
 import argparse
 import os
-import struct
 import sys
 import tempfile
-from hashlib import sha256
 from pathlib import Path
 
-from items import ROUND_PAYLOAD, can_measure, head, measured
+from disks import (CLOSING_MARK, DIGEST, HEAD, KIB, MIB, ROUND_PAYLOAD, ROUND_SEALED, SEALED_MAGIC, DiskFile, fields, frame, head,
+                   locator, make_image, record, record_head)
+from measure import apart, can_measure, is_right, measured, print_heads, print_row, taken
 from program import default
-from scan import (CLOSING_MARK, KIB, LEAST_LARGE, MIB, MOST_LARGE, ROUND_SEALED, SEALED_MAGIC, Disk, apart, is_right,
-                  make_image, print_heads, print_row, taken)
+from scan import LEAST_LARGE, MOST_LARGE
 
-HEAD = 22
 MOST_LOCATORS = 64
 MOST_PAGES = 1 << 16
 FIRST = 64 * MIB  # the bytes that `sizes` looks at
-RECORD_HEAD, DIGEST, MOST_RUN_BYTES = 28, 32, 32 * 60
+RECORD_HEAD, MOST_RUN_BYTES = 28, 32 * 60
 ALL_HEADS = b"\x11" * 16
 NO_HEAD = b"\xff" * 16
 PAGES = 1 << 16
@@ -64,7 +62,7 @@ PAGES = 1 << 16
 
 def clean(file, page, pages):
     """Full of chunks of 64 KiB to 1 MiB, none of which is named: all of it may be reclaimed."""
-    disk = Disk(file, page, pages, 2)
+    disk = DiskFile(file, page, pages, 2)
     disk.fill(1, LEAST_LARGE, MOST_LARGE)
     disk.put_superblock([])
     return disk.made(live=0, orphans=disk.chunks, candidates=1)
@@ -75,7 +73,7 @@ def plain_heads(file, page, pages, end, lost):
 
     The filler isn't zero and has no magic. No lost page is the last.
     """
-    disk = Disk(file, page, pages, 2)
+    disk = DiskFile(file, page, pages, 2)
     disk.next_extent()
     for number in range(pages):
         begun = head(ALL_HEADS, disk.extent_bytes - number * page - ROUND_PAYLOAD)
@@ -94,11 +92,11 @@ def plain_heads(file, page, pages, end, lost):
 
 def sealed_heads(file, page, pages):
     """Each page begins with the head of a sealed chunk up to the write pointer, whose far end agrees, and no digest does."""
-    disk = Disk(file, page, pages, 2)
+    disk = DiskFile(file, page, pages, 2)
     disk.next_extent()
     for number in range(pages):
         size = disk.extent_bytes - number * page - ROUND_SEALED
-        begun = SEALED_MAGIC + head(ALL_HEADS, size)[2:] + bytes(32)
+        begun = head(ALL_HEADS, size, SEALED_MAGIC) + bytes(DIGEST)
         disk.file.write(begun + b"x" * (page - len(begun)))
         disk.hashed += size
     disk.file.seek(-18, 1)
@@ -110,15 +108,14 @@ def sealed_heads(file, page, pages):
 
 def hidden_places(file, page, pages, count, times):
     """A chunk, in whose payload a chunk begins, in whose payload one begins, and so on. All but the first are named."""
-    disk = Disk(file, page, pages, 3)
+    disk = DiskFile(file, page, pages, 3)
     disk.next_extent()
     payload, locators = disk.chance.randbytes(4_000_000), []
     for depth in range(count, 0, -1):
         uuid = disk.chance.randbytes(16)
-        place = struct.pack(">III", 1, depth * HEAD, len(payload))
-        locators.append(place + uuid + sha256(payload).digest())
+        locators.append(locator(1, depth * HEAD, uuid, payload))
         disk.hashed += len(payload)
-        payload = head(uuid, len(payload)) + payload + uuid
+        payload = frame(uuid, payload)
     disk.put(payload)
     named, shards = disk.put_runs(locators * times, 1, MOST_LOCATORS)
     disk.put_superblock(named)
@@ -135,10 +132,6 @@ def places():
             yield offset, page
 
 
-def record_head(page, pages, extents, runs, retired):
-    return b"SSB2" + struct.pack(">QIIIHH", 1, page, pages, extents, runs, retired)
-
-
 def forged_records(file):
     """Wherever a record may begin, the longest one whose fields are right. Returns how many bytes they make one hash."""
     found = list(places())
@@ -153,8 +146,7 @@ def forged_records(file):
         extents = min((words + 1) // 2, (1 << 32) // (page * pages) - 1) + 1
         retired = min(words - (extents - 1), extents - 1)
         file.seek(offset)
-        file.write(record_head(page, pages, extents, 32, retired) + bytes(4 * (extents - 1))
-                   + struct.pack(f">{retired}I", *range(1, retired + 1)))
+        file.write(record_head(page, pages, extents, 32, retired=retired) + bytes(4 * (extents - 1)) + fields(range(1, retired + 1)))
         hashed += RECORD_HEAD + 4 * (extents - 1 + retired) + MOST_RUN_BYTES
     return hashed
 
@@ -172,16 +164,16 @@ def forged_pointers(file):
                 break
             extents //= 2
         file.seek(offset)
-        file.write(record_head(page, pages, extents, 0, 0))
+        file.write(record_head(page, pages, extents, 0, retired=0))
         if least - DIGEST <= behind and least <= FIRST:
             hashed += least - DIGEST - offset
     return hashed
 
 
 def one_record(file):
-    record = record_head(KIB, MOST_PAGES, 2, 0, 0) + bytes(4)
-    file.write(record + sha256(record).digest())
-    return len(record)
+    text = record(KIB, MOST_PAGES, 2, [0], [], retired=[])
+    file.write(text)
+    return len(text) - DIGEST
 
 
 # The files for `sizes`, with what is right: status and output.

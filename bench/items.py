@@ -9,38 +9,30 @@ program's answer is wrong, 2 where nothing can be measured.
 """
 import os
 import random
-import shutil
 import statistics
-import subprocess
 import sys
 import tempfile
-import time
 from collections import Counter
 from pathlib import Path
-from typing import NamedTuple
 
+from disks import ROUND_PAYLOAD, frame, head
+from measure import can_measure, measured
 from program import default
 
 PAGE, PAGES, EXTENTS = 4096, 16384, 2
 EXTENT = PAGE * PAGES
 IMAGE = EXTENT * EXTENTS
 FRAME = 65536
-ROUND_PAYLOAD = 38
 WORDS = f"items --page {PAGE} --pages {PAGES} --extents {EXTENTS} --extent 1 --pointer {EXTENT}".split()
 TURNS = 5
 MOST_MEMORY = 1.7
-
-
-def head(uuid, length):
-    return b"\xc5\x5e" + uuid + length.to_bytes(4, "big")
 
 
 def frames_end_to_end():
     """Yields an extent full of frames of 65,536 bytes, of random payloads that are the same each time."""
     chance = random.Random(1)
     for _ in range(EXTENT // FRAME):
-        uuid, payload = chance.randbytes(16), chance.randbytes(FRAME - ROUND_PAYLOAD)
-        yield head(uuid, len(payload)) + payload + uuid
+        yield frame(chance.randbytes(16), chance.randbytes(FRAME - ROUND_PAYLOAD))
 
 
 def heads_without_frames():
@@ -73,38 +65,6 @@ def write_image(path, pieces):
         assert file.tell() == IMAGE
         file.flush()
         os.fsync(file.fileno())
-
-
-class Run(NamedTuple):
-    """What one run took: seconds by the clock, seconds of all processors, peak memory in bytes; and its exit status."""
-    seconds: float
-    processor: float
-    memory: int
-    status: int
-
-
-def measured(words, answer):
-    """Runs the words with their output in a file."""
-    with open(answer, "wb") as out:
-        begun = time.perf_counter()
-        child = subprocess.Popen(words, stdin=subprocess.DEVNULL, stdout=out)
-        _, ended, used = os.wait4(child.pid, 0)
-        seconds = time.perf_counter() - begun
-    child.returncode = os.waitstatus_to_exitcode(ended)
-    return Run(seconds, used.ru_utime + used.ru_stime, used.ru_maxrss * 1024, child.returncode)
-
-
-def can_measure(programs, beside=()):
-    """Whether these programs are there, and those that they are measured beside. What isn't there is told."""
-    for program in programs:
-        if not (program.is_file() and os.access(program, os.X_OK)):
-            print(f"no program to measure: {program} (./build builds one)", file=sys.stderr)
-            return False
-    for name in beside:
-        if not shutil.which(name):
-            print(f"{name}, which the program is measured beside, is not found", file=sys.stderr)
-            return False
-    return True
 
 
 def compare(program, room, name, pieces, most_time, right):

@@ -3,13 +3,9 @@ from the page. Also the disks whose pictures are looked at, one for each way in 
 disk. bench/view.py holds the page against both.
 """
 import functools
-import os
-import sys
 from collections import Counter
-from pathlib import Path
-sys.path.insert(0, str(Path(__file__).resolve().parent.parent / "examples"))
-sys.path.insert(0, os.path.dirname(os.path.abspath(__file__)))
-from images import Disk, run, shard, uuid
+
+from disks import Disk, run, shard, uuid
 from reference import Image, reclaimable, scrub, superblocks
 
 OUTPUTS = ("superblocks", "locators", "reclaimable")

@@ -7,7 +7,7 @@ For each line of words below the program is run with its first allocation refuse
 a run meets no refusal; then the same with all later allocations refused too. Each run has to end with status 4, nothing
 on the output and the text for want of memory on the error stream, or with the right answer whole; and so only where later
 allocations aren't refused, since some refused requests are made once more. The run that meets no refusal has to end with
-the right answer. The refusals come of the library of C of `refusals.py`. Prints a line for each line of words and each of
+the right answer. The refusals come of the library of C of `allocations.py`. Prints a line for each line of words and each of
 the two ways; the last line is 'N passed, M failed'. Exit status: 0 where each answer was such, 1 where one wasn't, 2 where
 `cc` can't make the library.
 """
@@ -16,8 +16,8 @@ import tempfile
 from collections import Counter
 from pathlib import Path
 
+from allocations import made, refusing
 from program import default
-from refusals import answer, made
 
 SMALL = "--page 64 --pages 4 --extents 3 examples/one-shard.img"
 SEVERAL = "--page 64 --pages 16 --extents 5 examples/several-findings.img 3:1"
@@ -56,12 +56,12 @@ def main():
     with tempfile.TemporaryDirectory() as folder:
         library = made(folder)
         for words in WORDS:
-            whole, _ = answer(program, words)
+            whole, _ = refusing(program, words, library, 0)
             for all_later in [False, True]:
                 counts, refused = Counter(), 0
                 while True:
                     refused += 1
-                    got, met = answer(program, words, library, refused, all_later)
+                    got, met = refusing(program, words, library, refused, all_later)
                     if met < refused:
                         break
                     counts["refused" if got == OUT_OF_MEMORY else "whole" if got == whole else "wrong"] += 1

@@ -30,123 +30,24 @@ workers and less by 3; zeros at the speed of loading; beside the image at most 4
 answers are right, 1 where one is wrong, 2 where nothing can be measured.
 """
 import argparse
-import json
-import multiprocessing
 import os
-import random
-import struct
 import sys
 import tempfile
-from collections import Counter
-from hashlib import sha256
 from pathlib import Path
 
-from items import ROUND_PAYLOAD, can_measure, head, measured
+from disks import KIB, MIB, ROUND_PAYLOAD, DiskFile, make_image
+from measure import apart, can_measure, is_right, measured, print_heads, print_row, taken
 from program import default
 
-KIB, MIB = 1 << 10, 1 << 20
 LEAST_LARGE, MOST_LARGE = 64 * KIB, MIB
 SMALL_PAYLOAD = 100
-SEALED_MAGIC, CLOSING_MARK = b"\xc5\x5f", b"\x3a\xa3"
-ROUND_SEALED = 72
 MOST_RUNS = 32
 ENTRY = 17 + 60  # bytes that a shard of one chunk takes in a run
 
 
-def sealed_frame(uuid, payload):
-    return SEALED_MAGIC + head(uuid, len(payload))[2:] + sha256(payload).digest() + payload + uuid + CLOSING_MARK
-
-
-class Disk:
-    """A disk that is written from extent 1 on, one frame behind another, and extent 0 last."""
-
-    def __init__(self, file, page, pages, extents):
-        self.file, self.page, self.pages, self.extents = file, page, pages, extents
-        self.extent_bytes = page * pages
-        self.chance = random.Random(1)
-        self.pointers = []
-        self.offset = self.extent_bytes
-        self.chunks = self.sealed_chunks = self.hashed = 0
-
-    def next_extent(self):
-        self.pointers.append(0)
-        self.offset = 0
-        self.file.seek(len(self.pointers) * self.extent_bytes)
-
-    def room(self):
-        """The longest payload that the extent still takes in a frame of either form; below 0 where it takes none."""
-        return self.extent_bytes - self.offset - ROUND_SEALED
-
-    def put(self, payload, sealed=False):
-        """Writes the payload's frame under a new UUID where the last one ended, and returns its locator."""
-        uuid = self.chance.randbytes(16)
-        frame = sealed_frame(uuid, payload) if sealed else head(uuid, len(payload)) + payload + uuid
-        self.file.write(frame)
-        place = struct.pack(">III", len(self.pointers), self.offset, len(payload))
-        self.offset += len(frame)
-        self.pointers[-1] = self.offset
-        self.chunks += 1
-        self.sealed_chunks += sealed
-        self.hashed += len(payload)
-        return place + uuid + sha256(payload).digest()
-
-    def fill(self, count, least, most, half_sealed=False):
-        """Fills the next extents with payloads of `least` to `most` bytes, and returns the locators of all chunks."""
-        locators = []
-        for _ in range(count):
-            self.next_extent()
-            while self.room() >= least:
-                size = min(self.room(), self.chance.randint(least, most))
-                locators.append(self.put(self.chance.randbytes(size), half_sealed and self.chunks % 2 == 1))
-        return locators
-
-    def with_digest(self, body):
-        self.hashed += len(body)
-        return body + sha256(body).digest()
-
-    def put_runs(self, locators, runs, most):
-        """Names the chunks, in shards of up to `most` of them from anywhere on the disk, under random identifiers.
-
-        Puts as many runs of like size, each into an extent of its own, and returns their locators and the number of shards.
-        """
-        self.chance.shuffle(locators)
-        shards = []
-        while locators:
-            size = min(len(locators), self.chance.randint(1, most))
-            shards.append((self.chance.randbytes(16), locators[-size:]))
-            del locators[-size:]
-        named = []
-        for first in range(runs):
-            entries = sorted(shards[first::runs])
-            body = b"".join(name + bytes([len(chunks)]) + b"".join(chunks) for name, chunks in entries)
-            self.next_extent()
-            named.append(self.put(self.with_digest(b"RUN1" + struct.pack(">I", len(entries)) + body)))
-        return named, len(shards)
-
-    def put_superblock(self, runs):
-        """Puts it on page 0. It is of generation 1, and the extents that weren't come to have the pointer 0."""
-        pointers = self.pointers + [0] * (self.extents - 1 - len(self.pointers))
-        sizes = struct.pack(">QIIIH", 1, self.page, self.pages, self.extents, len(runs))
-        self.file.seek(0)
-        self.file.write(self.with_digest(b"SSB1" + sizes + struct.pack(f">{len(pointers)}I", *pointers) + b"".join(runs)))
-
-    def made(self, bad=(), **right):
-        """What is known of the finished image: the words for it, what has to be hashed, and the right answer.
-
-        The answer is that of a clean disk of which each chunk is named, but for what is given.
-        """
-        self.file.truncate(self.extents * self.extent_bytes)
-        sizes = f"--page {self.page} --pages {self.pages} --extents {self.extents}".split()
-        lists = dict.fromkeys("broken candidates dangling doubtful hidden orphans shared twins".split(), 0)
-        chunks = {"chunk": self.chunks - self.sealed_chunks, "sealed": self.sealed_chunks, "torn": 0, "noise": 0, "lost": 0}
-        whole = {"status": 0, "clean": True, "shards": 0, "live": sum(self.pointers)}
-        return {"sizes": sizes, "bad": [f"{extent}:{page}" for extent, page in bad], "hashed": self.hashed,
-                "bytes": self.extents * self.extent_bytes, "right": lists | chunks | whole | right}
-
-
 def named(file, mib, extent_mib, runs, least, most, shard=8, half_sealed=False):
     """A clean disk full of chunks, each of which is named once."""
-    disk = Disk(file, 4 * KIB, extent_mib * MIB // (4 * KIB), mib // extent_mib)
+    disk = DiskFile(file, 4 * KIB, extent_mib * MIB // (4 * KIB), mib // extent_mib)
     locators = disk.fill(disk.extents - 1 - runs, least, most, half_sealed)
     listed, shards = disk.put_runs(locators, runs, shard)
     disk.put_superblock(listed)
@@ -178,13 +79,13 @@ def small_quarter(file, mib):
 
 
 def small_extents(file, _):
-    disk = Disk(file, 64, 4, 1 << 16)
+    disk = DiskFile(file, 64, 4, 1 << 16)
     disk.fill(disk.extents - 1, 3, 30)
     return disk.made(status=1, clean=False, orphans=disk.chunks, live=0)
 
 
 def damage(file, mib):
-    disk = Disk(file, 64 * KIB, 64, mib // 4)
+    disk = DiskFile(file, 64 * KIB, 64, mib // 4)
     bad = [divmod(page, disk.pages) for page in range(49, disk.pages * disk.extents, 50)]
     standing, hashed = 0, 0
     for extent in range(1, disk.extents):
@@ -212,12 +113,12 @@ def damage(file, mib):
 
 
 def zeros(file, mib):
-    disk = Disk(file, 4 * KIB, KIB, mib // 4)
+    disk = DiskFile(file, 4 * KIB, KIB, mib // 4)
     return disk.made(status=1, clean=False, pad=disk.pages * (disk.extents - 1))
 
 
 def unwritten(file, mib):
-    disk = Disk(file, 4 * KIB, KIB, mib // 4)
+    disk = DiskFile(file, 4 * KIB, KIB, mib // 4)
     disk.put_superblock([])
     return disk.made(pad=0)
 
@@ -227,57 +128,6 @@ DISKS = (large, half_sealed, middle, small_quarter, small, small_extents, damage
 
 def name_of(kind):
     return kind.__name__.replace("_", "-")
-
-
-def make_image(path, kind, *given):
-    """Makes such a disk there, and returns what is known of it."""
-    with open(path, "w+b") as file:
-        made = kind(file, *given)
-        file.flush()
-        os.fsync(file.fileno())
-    assert os.path.getsize(path) == made["bytes"]
-    return made
-
-
-def judge(path, status):
-    """What the report in this file says: the counts that are compared, and the number of all items."""
-    with open(path, encoding="utf-8") as file:
-        report = json.load(file)
-    kinds = Counter(item.split(" ", 1)[0] for extent in report["extents"] for item in extent["items"])
-    told = {key: len(value) for key, value in report.items() if isinstance(value, list)}
-    told |= {kind: kinds[kind] for kind in ("chunk", "sealed", "pad", "torn", "noise", "lost")}
-    told |= {"status": status, "clean": report["clean"], "shards": report["shards"]}
-    told |= {"live": sum(extent["live"] for extent in report["extents"])}
-    return told, kinds.total()
-
-
-def apart(call, *arguments):
-    """Calls it in a process of its own, since the peak memory of a child counts what its parent had."""
-    with multiprocessing.Pool(1) as pool:
-        return pool.apply(call, arguments)
-
-
-def is_right(name, made, answer, status):
-    """The number of items of the answer in this file, or None where it is wrong, which is printed."""
-    told, items = apart(judge, answer, status) if status in (0, 1) else ({"status": status}, 0)
-    wrong = {key: (told.get(key), right) for key, right in made["right"].items() if told.get(key) != right}
-    if wrong:
-        print(f"{name}: wrong answer (told, right): {wrong}")
-    return None if wrong else items
-
-
-def print_row(*cells):
-    print("| " + " | ".join(str(cell) for cell in cells) + " |", flush=True)
-
-
-def print_heads(*names):
-    print_row(*names)
-    print("|" + "---|" * len(names))
-
-
-def taken(runs):
-    """The least seconds that one of these runs took, of the clock and of processors, and the most memory."""
-    return min(run.seconds for run in runs), min(run.processor for run in runs), max(run.memory for run in runs)
 
 
 def compare(programs, room, kind, mib, turns, workers):

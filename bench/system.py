@@ -20,13 +20,13 @@ import tempfile
 import time
 from pathlib import Path
 
-TOP = Path(__file__).resolve().parent.parent
-sys.path.insert(0, str(TOP / "bench"))
-from hold import frame
+import disks
 import program
 import reference
-from reference import Image, item_line, reclaimable, report_text, scrub, sha, superblocks, tile, write_locator, write_run
+from disks import frame, geometry, locator, record, uuid
+from reference import Image, item_line, reclaimable, report_text, scrub, superblocks, tile
 
+TOP = Path(__file__).resolve().parent.parent
 PROGRAM = str(Path(sys.argv[1] if len(sys.argv) > 1 else program.default()).resolve())
 SECONDS = 60
 MAP_SECONDS = 10
@@ -51,10 +51,6 @@ def check(what, found, wanted):
         print(f"FAILED: {what}: {str(found)[:300]}, and not {str(wanted)[:300]}", flush=True)
 
 
-def geometry(p, n, e):
-    return ["--page", str(p), "--pages", str(n), "--extents", str(e)]
-
-
 def written(room, name, parts, size):
     """A sparse file of so many bytes, with parts at their places."""
     path = os.path.join(room, name)
@@ -64,16 +60,6 @@ def written(room, name, parts, size):
             file.seek(place)
             file.write(part)
     return path
-
-
-def superblock(p, n, e, pointers, runs):
-    record = b"SSB1" + (1).to_bytes(8, "big") + b"".join(x.to_bytes(4, "big") for x in (p, n, e))
-    record += len(runs).to_bytes(2, "big") + b"".join(x.to_bytes(4, "big") for x in pointers) + b"".join(map(write_locator, runs))
-    return record + sha(record)
-
-
-def locator(extent, offset, uuid, payload):
-    return {"extent": extent, "offset": offset, "length": len(payload), "uuid": uuid, "digest": sha(payload)}
 
 
 def items_of(raw, p, n, e, extent, pointer):
@@ -118,9 +104,9 @@ def large_pages(room):
     """Pages of 65,536 bytes, 4 MiB, and a chunk near the end: nothing is read from the front in its place."""
     p, n, e = 65536, 16, 4
     payload = random.Random(1).randbytes(70_000)
-    chunk = frame(bytes([0x33]) * 16, payload)
+    chunk = frame(uuid(0x33), payload)
     place = p * n - len(chunk)
-    parts = [(0, superblock(p, n, e, [0, 0, p * n], [])), (3 * p * n, b"\x01"), (3 * p * n + place, chunk)]
+    parts = [(0, record(p, n, e, [0, 0, p * n], [])), (3 * p * n, b"\x01"), (3 * p * n + place, chunk)]
     path = written(room, "large-pages", parts, p * n * e)
     raw = Path(path).read_bytes()
     check("items of large pages", answer("items", *geometry(p, n, e), "--extent", "3", path), items_of(raw, p, n, e, 3, p * n))
@@ -130,7 +116,7 @@ def large_pages(room):
 def four_gibibytes(room):
     """The largest disk: its last extent is read from its place, and a byte behind it is met at 2^32."""
     p, n, e = 65536, 1024, 64
-    chunk = frame(bytes([0x44]) * 16, b"abc")
+    chunk = frame(uuid(0x44), b"abc")
     path = written(room, "largest", [((e - 1) * p * n, chunk)], p * n * e)
     words = ["items", *geometry(p, n, e), "--extent", str(e - 1), "--pointer", "41", path]
     check("the last extent of 4 GiB", answer(*words), (0, b"chunk 0 41 44444444-4444-4444-4444-444444444444 3\n", b""))
@@ -171,13 +157,13 @@ def cut_short():
 
 def lengths_for_sizes(room):
     """Files of all lengths: a record that ends with the file, one that the file's end cuts, none, and the last place."""
-    record = superblock(64, 4, 3, [0, 0], [])
-    for size in (0, 1, 63, 64, len(record) - 1, len(record), len(record) + 1, 511, 512, 513):
-        path = written(room, "length", [(0, record[:size])], size)
+    small = record(64, 4, 3, [0, 0], [])
+    for size in (0, 1, 63, 64, len(small) - 1, len(small), len(small) + 1, 511, 512, 513):
+        path = written(room, "length", [(0, small[:size])], size)
         check(f"sizes of {size} bytes", answer("sizes", path), sizes_of(path))
-    path = written(room, "cut", [(1024, record), (1280, record)], 1280 + len(record) - 1)
+    path = written(room, "cut", [(1024, small), (1280, small)], 1280 + len(small) - 1)
     check("sizes of a file that ends in a record", answer("sizes", path), sizes_of(path))
-    largest = superblock(1024, 65536, 64, [0] * 63, [])
+    largest = record(1024, 65536, 64, [0] * 63, [])
     last = (1 << 26) - 1024
     path = written(room, "long", [(0, largest), (last, largest), (1 << 26, largest)], (1 << 32) + 1)
     check("sizes of a file above 4 GiB", answer("sizes", path), sizes_of(path))
@@ -274,13 +260,13 @@ def many_items(room):
 def many_extents(room):
     """The most extents that there are, of one page, most of them half garbage: so many candidates."""
     p, n, e = 64, 1, 65536
-    chunk = frame(bytes([0x55]) * 16, b"abc")
+    chunk = frame(uuid(0x55), b"abc")
     parts = [(x * p, chunk) for x in range(1, e)]
     path = written(room, "extents", parts, p * n * e)
     check_scan("65,535 extents", path, p, n, e, (0, 3, 64))
     p, n, e = 64, 256, 3001
-    record = superblock(p, n, e, [41] * (e - 1), [])
-    path = written(room, "candidates", [(0, record)] + [(x * p * n, chunk) for x in range(1, e)], p * n * e)
+    parts = [(0, record(p, n, e, [41] * (e - 1), []))] + [(x * p * n, chunk) for x in range(1, e)]
+    path = written(room, "candidates", parts, p * n * e)
     check_scan("3,000 candidates", path, p, n, e, (0, 3, 64))
 
 
@@ -290,16 +276,15 @@ def many_shards(room):
     c = random.Random(2)
     parts, entries, place = [], [], 0
     for number in range(50_000):
-        uuid, payload = c.randbytes(16), c.randbytes(c.randrange(100))
-        chunk = frame(uuid, payload)
-        entries.append((c.randbytes(16), [locator(1, place, uuid, payload)]))
+        name, payload = c.randbytes(16), c.randbytes(c.randrange(100))
+        chunk = frame(name, payload)
+        entries.append((c.randbytes(16), [locator(1, place, name, payload)]))
         parts.append((p * n + place, chunk if number % 1000 else chunk[:-1] + bytes([chunk[-1] ^ 1])))
         place += len(chunk)
-    run = write_run(sorted(entries))
-    uuid = c.randbytes(16)
-    parts.append((2 * p * n, frame(uuid, run)))
-    record = superblock(p, n, e, [place, len(run) + 38], [locator(2, 0, uuid, run)])
-    path = written(room, "shards", [(0, record), *parts], p * n * e)
+    run, name = disks.run(*sorted(entries)), c.randbytes(16)
+    chunk = frame(name, run)
+    parts += [(2 * p * n, chunk), (0, record(p, n, e, [place, len(chunk)], [locator(2, 0, name, run)]))]
+    path = written(room, "shards", parts, p * n * e)
     check_scan("50,000 shards", path, p, n, e, (0, 3, 64))
 
 

@@ -32,7 +32,7 @@ import threading
 import time
 from collections import Counter
 from pathlib import Path
-sys.path.insert(0, os.path.dirname(os.path.abspath(__file__)))
+
 import picture
 from hold import Made
 from picture import OUTPUTS, Pictured, is_chunk, items_of, joined, kind_of

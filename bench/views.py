@@ -23,12 +23,11 @@ from decimal import ROUND_HALF_UP, Decimal
 from fractions import Fraction
 from pathlib import Path
 from typing import NamedTuple
-TOP = Path(__file__).resolve().parent.parent
-sys.path[:0] = [str(TOP / "bench"), str(TOP / "examples")]
+from disks import MAGIC, Disk, run, sealed_frame, shard, uuid
 from hold import Made
-from images import MAGIC, Disk, run, sealed_frame, shard, uuid
 from reference import Image, doubts_of, scrub
 
+TOP = Path(__file__).resolve().parent.parent
 SUMMARY, CHANGES = TOP / "view/summary.jq", TOP / "view/changes.jq"
 SMALL_DISKS = 200
 SMALL_PAIRS = 40
@@ -143,8 +142,7 @@ class Grown:
 def report_of(folder, name, disk, bad=()):
     image = folder / "image"
     image.write_bytes(disk.bytes)
-    sizes = ["--page", disk.page, "--pages", disk.pages, "--extents", disk.extents]
-    arguments = [*sizes, image, *(f"{extent}:{page}" for extent, page in bad)]
+    arguments = [*disk.geometry(), image, *(f"{extent}:{page}" for extent, page in bad)]
     return scanned(name, arguments, shardscrub("scan", *arguments))
 
 

@@ -26,9 +26,10 @@ import sys
 import tempfile
 from pathlib import Path
 
-from items import can_measure, measured
+from disks import KIB, MIB, DiskFile, make_image
+from measure import apart, can_measure, measured, print_heads, print_row, taken
 from program import default
-from scan import KIB, MIB, SMALL_PAYLOAD, Disk, apart, large, make_image, print_heads, print_row, taken
+from scan import SMALL_PAYLOAD, large
 
 WORKERS = (0, 1, 3, 64)
 
@@ -38,14 +39,14 @@ def long_extents(file, mib):
 
 
 def one_page(file, mib):
-    disk = Disk(file, 64 * KIB, 1, mib * 16)
+    disk = DiskFile(file, 64 * KIB, 1, mib * 16)
     disk.fill(disk.extents - 1, 50_000, 64_000)
     disk.put_superblock([])
     return disk.made()
 
 
 def one_full(file, mib):
-    disk = Disk(file, 4 * KIB, KIB, mib // 4)
+    disk = DiskFile(file, 4 * KIB, KIB, mib // 4)
     disk.fill(1, SMALL_PAYLOAD, SMALL_PAYLOAD)
     disk.put_superblock([])
     return disk.made()

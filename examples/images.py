@@ -6,84 +6,11 @@ usage: examples/images.py [FOLDER]      (default: this folder)
 It knows how bytes are laid out and nothing of how they are judged: what the program says of each image is in README.md.
 """
 import sys
-from hashlib import sha256
 from pathlib import Path
+sys.path.insert(0, str(Path(__file__).resolve().parent.parent / "bench"))
+from disks import MAGIC, Disk, run, sealed_frame, shard, uuid
 
-MAGIC = b"\xc5\x5e"
-SEALED_MAGIC = b"\xc5\x5f"
-CLOSING_MARK = b"\x3a\xa3"
 PAGE = 64
-
-
-def be(size, number):
-    return number.to_bytes(size, "big")
-
-
-def uuid(byte):
-    """The UUID of sixteen times this byte."""
-    return bytes([byte]) * 16
-
-
-def shard(number):
-    """The identifier of fifteen zero bytes and this one."""
-    return be(16, number)
-
-
-def frame(name, payload):
-    return MAGIC + name + be(4, len(payload)) + payload + name
-
-
-def sealed_frame(name, payload):
-    return SEALED_MAGIC + name + be(4, len(payload)) + sha256(payload).digest() + payload + name + CLOSING_MARK
-
-
-def sealed(body):
-    """The body with its digest behind it, as records and runs have it."""
-    return body + sha256(body).digest()
-
-
-def run(*entries):
-    """The payload of an index run, of pairs of an identifier and a list of locators, by rising identifier."""
-    text = (identifier + be(1, len(locators)) + b"".join(locators) for identifier, locators in entries)
-    return sealed(b"RUN1" + be(4, len(entries)) + b"".join(text))
-
-
-class Disk:
-    """The bytes of a disk, all zero at first. Pages have 64 bytes where nothing else is said."""
-
-    def __init__(self, pages, extents, page=PAGE):
-        self.page, self.pages, self.extents = page, pages, extents
-        self.bytes = bytearray(page * pages * extents)
-        self.pointers = [0] * (extents - 1)
-
-    def put(self, extent, offset, text):
-        place = extent * self.page * self.pages + offset
-        assert offset + len(text) <= self.page * self.pages
-        self.bytes[place:place + len(text)] = text
-
-    def chunk(self, extent, offset, name, payload, form=frame):
-        """Puts a chunk there, moves the write pointer behind it, and returns its locator."""
-        self.put(extent, offset, form(name, payload))
-        self.pointers[extent - 1] = max(self.pointers[extent - 1], offset + len(form(name, payload)))
-        return be(4, extent) + be(4, offset) + be(4, len(payload)) + name + sha256(payload).digest()
-
-    def superblock(self, page, generation, *runs, retired=None):
-        """Puts a record with the write pointers as they are, and the locators of the runs, newest first.
-
-        Where retired extents are given, or an empty list of them, it is a record of the second kind.
-        """
-        kind, count = (b"SSB1", b"") if retired is None else (b"SSB2", be(2, len(retired)))
-        sizes = be(4, self.page) + be(4, self.pages) + be(4, self.extents) + be(2, len(runs)) + count
-        listed = b"".join(be(4, number) for number in [*self.pointers, *(retired or [])])
-        self.put(0, page * self.page, sealed(kind + be(8, generation) + sizes + listed + b"".join(runs)))
-
-    def spoil(self, extent, offset):
-        """Changes one bit of the byte there."""
-        self.bytes[extent * self.page * self.pages + offset] ^= 1
-
-    def reset(self, extent):
-        """Moves the write pointer of the extent to its start. What was written there stays."""
-        self.pointers[extent - 1] = 0
 
 
 def one_chunk():

@@ -1,0 +1,128 @@
+"""Runs a program under a library of C that counts or refuses its allocations, for `refuse.py`, `growths.py` and `costs.py`.
+
+The library is made by `cc` and put before the C library. It refuses one allocation, by its number from 1 on, or that one and
+all later ones; or those of all threads but the first one, each after a tenth of a second. It counts the allocations of one
+size and the threads that are started.
+"""
+import os
+import subprocess
+import sys
+from pathlib import Path
+from typing import NamedTuple
+
+TOP = Path(__file__).resolve().parent.parent
+SECONDS = 60
+LIBRARY = r"""
+#define _GNU_SOURCE
+#include <dlfcn.h>
+#include <errno.h>
+#include <pthread.h>
+#include <stdio.h>
+#include <stdlib.h>
+#include <sys/syscall.h>
+#include <unistd.h>
+
+static void *(*real_malloc)(size_t);
+static void *(*real_realloc)(void *, size_t);
+static int (*real_create)(pthread_t *, const pthread_attr_t *, void *(*)(void *), void *);
+static long met, refused, sized, threads;
+static size_t size_counted;
+static int all_later, all_others, is_reported;
+
+__attribute__((constructor)) static void begin(void) {
+    real_malloc = dlsym(RTLD_NEXT, "malloc");
+    real_realloc = dlsym(RTLD_NEXT, "realloc");
+    real_create = dlsym(RTLD_NEXT, "pthread_create");
+    all_later = getenv("ALL_LATER") != NULL;
+    all_others = getenv("ALL_OTHERS") != NULL;
+    size_counted = atol(getenv("COUNTED"));
+    refused = atol(getenv("REFUSED"));
+}
+
+static int is_refused(size_t size) {
+    if (size == size_counted) __atomic_add_fetch(&sized, 1, __ATOMIC_SEQ_CST);
+    if (refused == 0) return 0;
+    if (all_others) {
+        if (syscall(SYS_gettid) == getpid()) return 0;
+        usleep(100000);
+        __atomic_add_fetch(&met, 1, __ATOMIC_SEQ_CST);
+        return 1;
+    }
+    long now = __atomic_add_fetch(&met, 1, __ATOMIC_SEQ_CST);
+    return now == refused || (all_later && now > refused);
+}
+
+void *malloc(size_t size) {
+    if (real_malloc == NULL) real_malloc = dlsym(RTLD_NEXT, "malloc");
+    if (is_refused(size)) { errno = ENOMEM; return NULL; }
+    return real_malloc(size);
+}
+
+void *realloc(void *old, size_t size) {
+    if (is_refused(size)) { errno = ENOMEM; return NULL; }
+    return real_realloc(old, size);
+}
+
+int pthread_create(pthread_t *thread, const pthread_attr_t *how, void *(*run)(void *), void *with) {
+    if (real_create == NULL) real_create = dlsym(RTLD_NEXT, "pthread_create");
+    __atomic_add_fetch(&threads, 1, __ATOMIC_SEQ_CST);
+    return real_create(thread, how, run, with);
+}
+
+__attribute__((destructor)) static void report(void) {
+    if (is_reported) return;
+    is_reported = 1;
+    refused = 0;
+    dprintf(atoi(getenv("COUNTS")), "%ld %ld %ld", met, sized, threads);
+}
+
+/* A program with threads ends so, and then nothing is called at its end. */
+void _exit(int status) {
+    report();
+    syscall(SYS_exit_group, status);
+    __builtin_unreachable();
+}
+"""
+
+
+def made(folder):
+    """The library, made in this folder. Ends with status 2 where `cc` can't make it."""
+    source, library = Path(folder, "allocations.c"), Path(folder, "allocations.so")
+    source.write_text(LIBRARY)
+    if subprocess.run(["cc", "-shared", "-fPIC", "-O1", "-o", library, source, "-ldl", "-pthread"]).returncode != 0:
+        sys.exit(2)
+    return library
+
+
+class Counts(NamedTuple):
+    """How many allocations were met while one is to be refused, or were refused where those of all other threads are; how many
+    had the counted size; and how many threads were started."""
+    met: int
+    sized: int
+    threads: int
+
+
+def run(program, words, library, refused=0, counted=0, flags=(), processors=None):
+    """The status and both outputs of a run on these processors, and its counts. The counts are None where it took over a minute
+    or ended by a signal, and then so is the status of the former."""
+    reader, writer = os.pipe()
+    given = dict(LD_PRELOAD=str(library), REFUSED=str(refused), COUNTED=str(counted), COUNTS=str(writer), **dict.fromkeys(flags, "1"))
+    limit = (lambda: os.sched_setaffinity(0, processors)) if processors else None
+    try:
+        done = subprocess.run([program, *words], stdin=subprocess.DEVNULL, capture_output=True, env={**os.environ, **given},
+                              pass_fds=[writer], preexec_fn=limit, cwd=TOP, timeout=SECONDS)
+        got = (done.returncode, done.stdout, done.stderr)
+    except subprocess.TimeoutExpired:
+        got = (None, b"", b"")
+    os.close(writer)
+    with os.fdopen(reader) as counts:
+        numbers = counts.read().split()
+    return got, Counts(*map(int, numbers)) if numbers else None
+
+
+def refusing(program, words, library, refused, all_later=False, all_others=False):
+    """The status and both outputs, and how many allocations were met, or were refused where those of all other threads are: none
+    where there are no counts."""
+    flags = ["ALL_LATER"] * all_later + ["ALL_OTHERS"] * all_others
+    got, counts = run(program, words.split(), library, refused, flags=flags)
+    return got, counts.met if counts else 0
