@@ -1,15 +1,21 @@
 -- Two neighbouring options, exchanged: the words ask for the same.
-use Rattle.std.proofs.Common.{◌≡◌, ◌∙◌, inl, inr, ℕ, false, List, [], ◌∷◌, ◌++◌, Option, None, Some, refl, sym, ap, ap₂, subst, codes, MatchOption}
-use Rattle.std.specs.Prelude.{fold, option_and_then, option_map, slice_get, is_some, unwrap_or}
+use Rattle.std.proofs.Common.{◌≡◌, ◌∙◌, inl, inr, ℕ, false, List, [], ◌∷◌, Option, None, Some, refl, sym, ap, ap₂, subst, codes, MatchOption}
+use Rattle.std.specs.Prelude.{fold, is_some}
 use Rattle.std.specs.Option.{option_map_or}
-use Rattle.clap.specs.Words.{Row, Text, all_of, built, fault_of, first_of, one_of, subcommand_of}
+use Rattle.clap.specs.Words.{Row, Text, built, fault_of, one_of, subcommand_of}
 use Rattle.clap.specs.Kinds.{Kinds, or_else}
 use Rattle.clap.specs.Simple.{Shape, entered, names_of, rows_at}
-use Rattle.clap.specs.Walk.{Walk, finished, nothing_held, row_text, settled, walk_from, walked}
+use Rattle.clap.specs.Walk.{Walk, finished, nothing_held, settled, walk_from, walked}
 use Rattle.clap.specs.Faults.{check_fault, defaults_fault, entered_fault, level_fault, settle_fault, turn_fault, walk_fault}
 use Rattle.clap.proofs.OnLiterals.{clap_on_literals}
 use Rattle.clap.proofs.FaultLemmas.{stopped_fault}
 use Rattle.clap.proofs.WalkLemmas.{walk_stopped}
+use Rattle.clap_walk.specs.Exchanged.{IsPlainTable}
+use Rattle.clap_walk.specs.Rows.{AreSame}
+use Rattle.clap_walk.specs.Rules.{EachRule, IsByName}
+use Rattle.clap_walk.proofs.Walks.{parts}
+use Rattle.clap_walk.proofs.SameRows.{all_same, first_same, one_same}
+use Rattle.clap_walk.proofs.Exchanges.{end_alike, joined}
 use Rattle.scrub_cli.specs.declared.words.ImageWords.{ImageWords}
 use Rattle.scrub_cli.specs.declared.words.ItemsWords.{ItemsWords}
 use Rattle.scrub_cli.specs.declared.words.ScanWords.{ScanWords}
@@ -19,12 +25,9 @@ use Rattle.scrub_cli.specs.declared.words.Request.{Request}
 use Rattle.scrub_cli.specs.declared.words.Request.TheVariants.{Demo, Items, Scan, Index, Locators, Reclaimable, Superblocks, Sizes, Version}
 use Rattle.scrub_cli.specs.Accepting.{AreAccepted}
 use Rattle.scrub_cli.specs.CommandLine.{shardscrub_app}
-use Rattle.scrub_cli.specs.Order.{AreExchanged, HasOptions, option_word}
+use Rattle.scrub_cli.specs.Order.{AreExchanged, HasOptions}
 use Rattle.scrub_cli.specs.Words.{AreImageWords, AreItemsWords, AreReclaimWords, AreScanWords, AreSizesWords, IsAskedBy, IsNumberOf, IsWorkersOf, NameCommand}
-use Rattle.scrub_cli.proofs.Walks.{EachRule, parts}
 use Rattle.scrub_cli.proofs.Whole.{built_items, built_reclaimable, built_sizes, built_superblocks, disk}
-use Rattle.scrub_cli.proofs.SameRows.{AreSame, found_same}
-use Rattle.scrub_cli.proofs.Exchanges.{IsByName, end_exchanged, joined}
 
 -- a pair that was found
 pair_names : {A B : Type 0} (a c : A) (b d : B) → ◌≡◌ {A = Option (A × B)} (Some (a, b)) (Some (c, d)) → a ≡ c
@@ -36,28 +39,19 @@ pair_rows {A} {B} a c b d same = sym (ap (λ (o : Option (A × B)). option_map_o
 abbrev some_pair : Text → List Row → Option (Text × List Row)
 some_pair name rows = Some (name, rows)
 
--- what is looked up by name is the same
+-- what is read by name is the same
 module _ (xs ys : List Row) (same : AreSame xs ys) where
-  one_same : (id : Text) → one_of id xs ≡ one_of id ys
-  one_same id = ap (option_and_then row_text) (found_same id xs ys (same id))
-
-  first_same : (id : Text) → first_of id xs ≡ first_of id ys
-  first_same id = ap (option_and_then (λ (r : Row). slice_get r.values 0)) (found_same id xs ys (same id))
-
-  all_same : (id : Text) → unwrap_or (all_of id xs) [] ≡ unwrap_or (all_of id ys) []
-  all_same id = ap (λ (o : Option Row). unwrap_or (option_map (λ r. r.values) o) []) (found_same id xs ys (same id))
-
   number_same : (id : Text) (n : ℕ) → IsNumberOf xs id n → IsNumberOf ys id n
-  number_same id n read = (read.0, sym (one_same id) ∙ read.1, read.2, read.3)
+  number_same id n read = (read.0, sym (one_same xs ys same id) ∙ read.1, read.2, read.3)
 
   image_same : (words : ImageWords) → AreImageWords xs words → AreImageWords ys words
   image_same words read = record {
     page = number_same (codes "page") words.page read.page;
     pages = number_same (codes "pages") words.pages read.pages;
     extents = number_same (codes "extents") words.extents read.extents;
-    name = sym (first_same (codes "image")) ∙ read.name;
-    bad_pages = read.bad_pages ∙ all_same (codes "bad-pages");
-    map_name = read.map_name ∙ first_same (codes "map");
+    name = sym (first_same xs ys same (codes "image")) ∙ read.name;
+    bad_pages = read.bad_pages ∙ all_same xs ys same (codes "bad-pages");
+    map_name = read.map_name ∙ first_same xs ys same (codes "map");
   }
 
   scan_same : (words : ScanWords) → AreScanWords xs words → AreScanWords ys words
@@ -67,17 +61,17 @@ module _ (xs ys : List Row) (same : AreSame xs ys) where
   }
     where
       go : IsWorkersOf xs words.workers → IsWorkersOf ys words.workers
-      go (inl default) = inl (sym (one_same (codes "workers")) ∙ default.0, default.1)
+      go (inl default) = inl (sym (one_same xs ys same (codes "workers")) ∙ default.0, default.1)
       go (inr given) = inr (number_same (codes "workers") words.workers given.0, given.1)
 
   reclaim_same : (words : ReclaimWords) → AreReclaimWords xs words → AreReclaimWords ys words
   reclaim_same words read = record {
     scan = scan_same words.scan read.scan;
-    accepted = subst (λ (kinds : List Text). AreAccepted kinds words.accepted) (all_same (codes "accept")) read.accepted;
+    accepted = subst (λ (kinds : List Text). AreAccepted kinds words.accepted) (all_same xs ys same (codes "accept")) read.accepted;
   }
 
   sizes_same : (words : SizesWords) → AreSizesWords xs words → AreSizesWords ys words
-  sizes_same words read = record { name = sym (first_same (codes "image")) ∙ read.name; map_name = read.map_name ∙ first_same (codes "map") }
+  sizes_same words read = record { name = sym (first_same xs ys same (codes "image")) ∙ read.name; map_name = read.map_name ∙ first_same xs ys same (codes "map") }
 
   items_same : (words : ItemsWords) → AreItemsWords xs words → AreItemsWords ys words
   items_same words read = record {
@@ -87,7 +81,7 @@ module _ (xs ys : List Row) (same : AreSame xs ys) where
   }
     where
       go : (o : Option ℕ) → MatchOption o (one_of (codes "pointer") xs ≡ None) (IsNumberOf xs (codes "pointer")) → MatchOption o (one_of (codes "pointer") ys ≡ None) (IsNumberOf ys (codes "pointer"))
-      go None none = sym (one_same (codes "pointer")) ∙ none
+      go None none = sym (one_same xs ys same (codes "pointer")) ∙ none
       go (Some n) read = number_same (codes "pointer") n read
 
   renamed : (name other : Text) (found : List Row) → ◌≡◌ {A = Option (Text × List Row)} (Some (name, xs)) (Some (other, found))
@@ -133,6 +127,9 @@ sizes_by_name = ((refl, inr refl, refl, refl), ((refl, inl refl, refl, refl), ((
 items_by_name : EachRule IsByName built_items.rules
 unfolding clap_on_literals
 items_by_name = ((refl, inr refl, refl, refl), ((refl, inr refl, refl, refl), ((refl, inr refl, refl, refl), ((refl, inr refl, refl, refl), ((refl, inr refl, refl, refl), ((refl, inr refl, refl, refl), ((refl, inl refl, refl, refl), ((refl, inl refl, refl, refl), ((refl, inr refl, refl, refl), tt)))))))))
+
+plain : {below : Shape} → EachRule IsByName below.rules → below.arg_required_else_help ≡ false → IsPlainTable below
+plain each empty = record { by_name = each; may_be_empty = empty }
 
 -- the words of a command are left to it
 abbrev stopped : Text → List Text → Walk
@@ -197,31 +194,29 @@ module _ (command : Text) (below : Shape) (enters : Enters command below) where
   rows_are : (words : List Text) → subcommand_of shardscrub_app (command ∷ words) ≡ Some (rows_at below words)
   rows_are words = ap (λ (w : Walk). entered (built shardscrub_app) w.stopped) (ends words) ∙ enters.rows words
 
-  exchanged : EachRule IsByName below.rules → below.arg_required_else_help ≡ false → (words others : List Text) (x : AreExchanged words others) → x.command ≡ command
+  exchanged : IsPlainTable below → (words others : List Text) (x : AreExchanged words others) → x.command ≡ command
       → (request : Request) → NameCommand words request → NameCommand others request
-  exchanged by_name plain words others x named request asked =
-      let pair : List Text = option_word x.name x.value ∷ (option_word x.other_name x.other_value ∷ x.after) in
-      let turned : List Text = option_word x.other_name x.other_value ∷ (option_word x.name x.value ∷ x.after) in
-      let words_are : words ≡ command ∷ (x.before ++ pair) = x.one ∙ ap (λ (c : Text). c ∷ (x.before ++ pair)) named in
-      let others_are : others ≡ command ∷ (x.before ++ turned) = x.other ∙ ap (λ (c : Text). c ∷ (x.before ++ turned)) named in
-      let was : NameCommand (command ∷ (x.before ++ pair)) request = subst (λ (ws : List Text). NameCommand ws request) words_are asked in
-      let clean = (parts (level_fault below [] nothing_held (x.before ++ pair) false []) [] (sym (fault_is (x.before ++ pair)) ∙ was.0)).0 in
-      let both = end_exchanged below by_name x.name x.value x.other_name x.other_value x.named x.other_named x.apart x.after x.before x.no_end plain clean in
-      let faults : fault_of shardscrub_app (command ∷ (x.before ++ turned)) ≡ [] = fault_is (x.before ++ turned) ∙ joined (level_fault below [] nothing_held (x.before ++ turned) false []) [] both.0 refl in
-      let asks : IsAskedBy (Some (rows_at below (x.before ++ pair))) request = subst (λ (met : Option (Text × List Row)). IsAskedBy met request) (rows_are (x.before ++ pair)) was.1 in
-      let still = asked_same _ _ both.1 below.name request asks in
+  exchanged plain words others x named request asked =
+      let words_are : words ≡ command ∷ x.behind = x.one ∙ ap (λ (c : Text). c ∷ x.behind) named in
+      let others_are : others ≡ command ∷ x.others_behind = x.other ∙ ap (λ (c : Text). c ∷ x.others_behind) named in
+      let was : NameCommand (command ∷ x.behind) request = subst (λ (ws : List Text). NameCommand ws request) words_are asked in
+      let clean = (parts (level_fault below [] nothing_held x.behind false []) [] (sym (fault_is x.behind) ∙ was.0)).0 in
+      let end = end_alike below x.behind x.others_behind plain x.exchanged clean in
+      let faults : fault_of shardscrub_app (command ∷ x.others_behind) ≡ [] = fault_is x.others_behind ∙ joined (level_fault below [] nothing_held x.others_behind false []) [] end.clean refl in
+      let asks : IsAskedBy (Some (rows_at below x.behind)) request = subst (λ (met : Option (Text × List Row)). IsAskedBy met request) (rows_are x.behind) was.1 in
+      let still = asked_same _ _ end.same below.name request asks in
       subst (λ (ws : List Text). NameCommand ws request) (sym others_are)
-      (faults, subst (λ (met : Option (Text × List Row)). IsAskedBy met request) (sym (rows_are (x.before ++ turned))) still)
+      (faults, subst (λ (met : Option (Text × List Row)). IsAskedBy met request) (sym (rows_are x.others_behind)) still)
 
 -- the law
 pub order_is_free : (words others : List Text) (request : Request) → AreExchanged words others → NameCommand words request → NameCommand others request
 order_is_free words others request x asked = go x.options
   where
     go : HasOptions x.command → NameCommand others request
-    go (inl scan) = exchanged (codes "scan") (disk (codes "scan")) enters_scan (disk_by_name (codes "scan")) refl words others x scan request asked
-    go (inr (inl index)) = exchanged (codes "index") (disk (codes "index")) enters_index (disk_by_name (codes "index")) refl words others x index request asked
-    go (inr (inr (inl locators))) = exchanged (codes "locators") (disk (codes "locators")) enters_locators (disk_by_name (codes "locators")) refl words others x locators request asked
-    go (inr (inr (inr (inl reclaimable)))) = exchanged (codes "reclaimable") built_reclaimable enters_reclaimable reclaimable_by_name refl words others x reclaimable request asked
-    go (inr (inr (inr (inr (inl superblocks))))) = exchanged (codes "superblocks") built_superblocks enters_superblocks superblocks_by_name refl words others x superblocks request asked
-    go (inr (inr (inr (inr (inr (inl sizes)))))) = exchanged (codes "sizes") built_sizes enters_sizes sizes_by_name refl words others x sizes request asked
-    go (inr (inr (inr (inr (inr (inr items)))))) = exchanged (codes "items") built_items enters_items items_by_name refl words others x items request asked
+    go (inl scan) = exchanged (codes "scan") (disk (codes "scan")) enters_scan (plain (disk_by_name (codes "scan")) refl) words others x scan request asked
+    go (inr (inl index)) = exchanged (codes "index") (disk (codes "index")) enters_index (plain (disk_by_name (codes "index")) refl) words others x index request asked
+    go (inr (inr (inl locators))) = exchanged (codes "locators") (disk (codes "locators")) enters_locators (plain (disk_by_name (codes "locators")) refl) words others x locators request asked
+    go (inr (inr (inr (inl reclaimable)))) = exchanged (codes "reclaimable") built_reclaimable enters_reclaimable (plain reclaimable_by_name refl) words others x reclaimable request asked
+    go (inr (inr (inr (inr (inl superblocks))))) = exchanged (codes "superblocks") built_superblocks enters_superblocks (plain superblocks_by_name refl) words others x superblocks request asked
+    go (inr (inr (inr (inr (inr (inl sizes)))))) = exchanged (codes "sizes") built_sizes enters_sizes (plain sizes_by_name refl) words others x sizes request asked
+    go (inr (inr (inr (inr (inr (inr items)))))) = exchanged (codes "items") built_items enters_items (plain items_by_name refl) words others x items request asked

@@ -1,9 +1,10 @@
 -- What a parse of the arguments leaves to be read, and what an error of `clap` comes to.
-use Rattle.std.specs.Prelude.{◌≡◌, ◌≢◌, ◌⊎◌, ◌||◌, ℕ, Bool, true, false, List, Option, None, Some, codes, IfSome, pos}
+use Rattle.std.specs.Prelude.{◌≡◌, ◌≢◌, ◌⊎◌, ◌||◌, Bool, true, false, List, Option, None, Some, codes, IfSome}
 use Rattle.std.specs.Str.{bytes_eq}
-use Rattle.clap.specs.Words.{IsSignedIn, without_minus, Row, Text, first_of, one_of}
+use Rattle.clap.specs.Words.{Row, Text, first_of, one_of}
 use Rattle.clap.specs.declared.error.kind.ErrorKind.{ErrorKind}
 use Rattle.clap.specs.declared.error.kind.ErrorKind.TheVariants.{DisplayHelp, DisplayVersion, OutOfMemory as no_memory}
+use Rattle.clap_walk.specs.Rows.{HasNumberTo}
 use Rattle.scrub_cli.specs.declared.words.Request.{Request}
 use Rattle.scrub_cli.specs.declared.words.Request.TheVariants.{Version}
 use Rattle.scrub_cli.specs.declared.words.WordsFault.{WordsFault}
@@ -19,10 +20,6 @@ ComesOf OutOfMemory kind = Unit {0}
 -- an error of this kind asks for the version, and this is its request
 abbrev pub IsVersionAsked : ErrorKind → Request → Type 0
 IsVersionAsked kind request = (kind ≡ DisplayVersion) × (request ≡ Version)
-
--- a value was found for the option, and it is a whole number up to a greatest one
-abbrev pub HasNumberTo : ℕ → List Row → Text → Type 0
-HasNumberTo most found name = (text : Text) × (one_of name found ≡ Some (without_minus text)) × IsSignedIn (pos 0) (pos most) text
 
 -- a value was found for the option, and it is a whole number of 32 bits
 abbrev pub HasNumber : List Row → Text → Type 0

@@ -11,7 +11,6 @@ ghost use Rattle.scrub_cli.specs.Lines.{lines_of, status_of_clean};
 ghost use Rattle.scrub_cli.specs.Scan.{IsDiskAnswer};
 ghost use Rattle.scrub_cli.specs.SizesTold.{AreSizesTold};
 ghost use Rattle.scrub_cli.specs.Superblock.{AreSuperblocksTold};
-ghost use Rattle.scrub_cli.specs.declared.answer.Wanted.TheVariants.{Report, Index, Locators, Reclaimable};
 
 use crate::command::VERSION;
 use scrub_disk::{OutOfMemory, PageSource, RawImage};
@@ -34,6 +33,17 @@ pub struct Answer {
     pub status: u8,
 }
 
+impl Answer {
+    /// The answer with this text.
+    fn new(text: Vec<u8>, is_clean: bool) -> Answer
+        ensures text { result.text.items ≡ text.items }
+        ensures status { result.status ≡ status_of_clean is_clean }
+    {
+        let status = if is_clean { 0 } else { 1 };
+        Answer { text, status }
+    }
+}
+
 /// What is wanted of a whole disk.
 #[derive(Debug, Clone, Copy)]
 pub enum Wanted {
@@ -45,13 +55,6 @@ pub enum Wanted {
     Locators,
     /// What may be reclaimed of it, where these kinds of doubts are accepted.
     Reclaimable(Accepted),
-}
-
-/// The status of an answer.
-fn status_of(clean: bool) -> u8
-    ensures { result ≡ status_of_clean clean }
-{
-    if clean { 0 } else { 1 }
 }
 
 /// The program's name and version.
@@ -82,82 +85,8 @@ pub fn listing(alloc: Global, items: &[Item]) -> Result<Answer, OutOfMemory>
     ensures text { IfOk result (λ a. a.text.items ≡ lines_of items.now) }
     ensures status { IfOk result (λ a. a.status ≡ status_of_clean (list_all is_clean_item items.now)) }
 {
-    let status = status_of(are_clean_items(items));
     let text = lines(alloc, items)?;
-    Ok(Answer { text, status })
-}
-
-/// The report of a disk, with its status. So many workers scan the disk beside the caller.
-fn reported<R: Threads + Wait + Sync, D: PageSource>(
-    rt: &R,
-    alloc: Global,
-    disk: &D,
-    workers: u32,
-) -> Result<(Answer, Takings), ScrubFault>
-    requires { workers ≤ 64 }
-    ensures answer { IfOk result (λ r. IsDiskAnswer Report (D.image disk.now) r.0.text.items r.0.status) }
-    ensures workers { IfOk result (λ r. length r.1.lists ≡ workers + 1) }
-    ensures partition { IfOk result (λ r. IsPartitionOfPlanned (D.image disk.now) r.1.lists) }
-{
-    let (found, takings) = scrub(rt, alloc, disk, workers, &NoGate)?;
-    let status = status_of(found.is_clean());
-    let text = found.into_report();
-    Ok((Answer { text, status }, takings))
-}
-
-/// The index that is recovered from a disk, with the status of its report.
-fn recovered<R: Threads + Wait + Sync, D: PageSource>(
-    rt: &R,
-    alloc: Global,
-    disk: &D,
-    workers: u32,
-) -> Result<(Answer, Takings), ScrubFault>
-    requires { workers ≤ 64 }
-    ensures answer { IfOk result (λ r. IsDiskAnswer Index (D.image disk.now) r.0.text.items r.0.status) }
-    ensures workers { IfOk result (λ r. length r.1.lists ≡ workers + 1) }
-    ensures partition { IfOk result (λ r. IsPartitionOfPlanned (D.image disk.now) r.1.lists) }
-{
-    let (found, takings) = scrub(rt, alloc, disk, workers, &NoGate)?;
-    let status = status_of(found.is_clean());
-    let text = found.into_index();
-    Ok((Answer { text, status }, takings))
-}
-
-/// The lines of a disk's named locators, with the status of its report.
-fn listed<R: Threads + Wait + Sync, D: PageSource>(
-    rt: &R,
-    alloc: Global,
-    disk: &D,
-    workers: u32,
-) -> Result<(Answer, Takings), ScrubFault>
-    requires { workers ≤ 64 }
-    ensures answer { IfOk result (λ r. IsDiskAnswer Locators (D.image disk.now) r.0.text.items r.0.status) }
-    ensures workers { IfOk result (λ r. length r.1.lists ≡ workers + 1) }
-    ensures partition { IfOk result (λ r. IsPartitionOfPlanned (D.image disk.now) r.1.lists) }
-{
-    let (listing, takings) = list_locators(rt, alloc, disk, workers, &NoGate)?;
-    let status = status_of(listing.is_clean);
-    let text = listing.text;
-    Ok((Answer { text, status }, takings))
-}
-
-/// The lines of what may be reclaimed of a disk where some kinds of doubts are accepted.
-fn reclaimable<R: Threads + Wait + Sync, D: PageSource>(
-    rt: &R,
-    alloc: Global,
-    disk: &D,
-    workers: u32,
-    accepted: Accepted,
-) -> Result<(Answer, Takings), ScrubFault>
-    requires { workers ≤ 64 }
-    ensures answer { IfOk result (λ r. IsDiskAnswer (Reclaimable accepted) (D.image disk.now) r.0.text.items r.0.status) }
-    ensures workers { IfOk result (λ r. length r.1.lists ≡ workers + 1) }
-    ensures partition { IfOk result (λ r. IsPartitionOfPlanned (D.image disk.now) r.1.lists) }
-{
-    let (listing, takings) = list_reclaimable(rt, alloc, disk, workers, &NoGate, accepted)?;
-    let status = status_of(listing.is_clear);
-    let text = listing.text;
-    Ok((Answer { text, status }, takings))
+    Ok(Answer::new(text, are_clean_items(items)))
 }
 
 /// The lines of a disk's superblocks.
@@ -165,9 +94,7 @@ pub fn superblock_listing<D: PageSource>(alloc: Global, disk: &D) -> Result<Answ
     ensures { IfOk result (λ a. AreSuperblocksTold (D.image disk.now) a.text.items a.status) }
 {
     let listing = list_superblocks(alloc, disk)?;
-    let status = status_of(listing.is_clean);
-    let text = listing.text;
-    Ok(Answer { text, status })
+    Ok(Answer::new(listing.text, listing.is_clean))
 }
 
 /// The lines of the superblock records of a raw image, some blocks of which are marked as lost.
@@ -181,9 +108,7 @@ pub fn sizes_listing<R: RawImage>(
         marked.now a.text.items a.status) }
 {
     let listing = list_sizes(alloc, raw, marked)?;
-    let status = status_of(listing.is_clean);
-    let text = listing.text;
-    Ok(Answer { text, status })
+    Ok(Answer::new(listing.text, listing.is_clean))
 }
 
 /// What is wanted of a disk that this many workers scan beside the caller, with its status, and who took which extents.
@@ -200,9 +125,23 @@ pub fn disk_answer<R: Threads + Wait + Sync, D: PageSource>(
     ensures partition { IfOk result (λ r. IsPartitionOfPlanned (D.image disk.now) r.1.lists) }
 {
     match wanted {
-        Wanted::Report => reported(rt, alloc, disk, workers),
-        Wanted::Index => recovered(rt, alloc, disk, workers),
-        Wanted::Locators => listed(rt, alloc, disk, workers),
-        Wanted::Reclaimable(accepted) => reclaimable(rt, alloc, disk, workers, accepted),
+        Wanted::Report => {
+            let (found, takings) = scrub(rt, alloc, disk, workers, &NoGate)?;
+            let is_clean = found.is_clean();
+            Ok((Answer::new(found.into_report(), is_clean), takings))
+        }
+        Wanted::Index => {
+            let (found, takings) = scrub(rt, alloc, disk, workers, &NoGate)?;
+            let is_clean = found.is_clean();
+            Ok((Answer::new(found.into_index(), is_clean), takings))
+        }
+        Wanted::Locators => {
+            let (listing, takings) = list_locators(rt, alloc, disk, workers, &NoGate)?;
+            Ok((Answer::new(listing.text, listing.is_clean), takings))
+        }
+        Wanted::Reclaimable(accepted) => {
+            let (listing, takings) = list_reclaimable(rt, alloc, disk, workers, &NoGate, accepted)?;
+            Ok((Answer::new(listing.text, listing.is_clear), takings))
+        }
     }
 }

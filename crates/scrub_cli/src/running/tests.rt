@@ -476,9 +476,9 @@ fn the_version_goes_to_the_output(rt: HostRuntime) -> Result<(), Fail> {
 #[test]
 fn help_is_told_on_the_error_stream(rt: HostRuntime) -> Result<(), Fail> {
     for (words, beginning) in [
-        ("--help", "Says what lies on the disk of a storage node"),
-        ("-h", "Says what lies on the disk of a storage node"),
-        ("demo --help", "Prints the report of a small disk"),
+        ("--help", "Checks a raw image of a storage node's disk"),
+        ("-h", "Checks a raw image of a storage node's disk"),
+        ("demo --help", "Prints the report of a small built-in disk"),
         ("items --help", "Lists the items of one extent"),
         ("scan --help", "Prints a report of the whole disk"),
         ("index --help", "Prints the index that can be recovered"),

@@ -11,6 +11,6 @@ returns g c =
       failures = g.R.RawImage.failures c.list_sizes.new.raw - g.R.RawImage.failures c.args.raw.now;
       few = omega (arith, bound, same);
       is_clean = listing.is_clean;
-      listed = c.in_ok-listing.ensures.listing;
-      ended = c.status_of-status.ensures;
+      listed = rw c.new.ensures.text c.in_ok-listing.ensures.listing;
+      ended = c.new.ensures.status;
     }

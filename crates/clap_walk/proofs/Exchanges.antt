@@ -14,11 +14,13 @@ use Rattle.clap.specs.Walk.{Held, Outcome, Row, Rule, Step, Text, Waiting, Walk,
 use Rattle.clap.specs.Faults.{check_fault, default_fault, defaults_fault, flag_word_fault, given_default_fault, level_fault, long_fault, other_fault, react_fault, settle_fault, step_fault, turn_fault, use_fault, walk_fault, word_fault}
 use Rattle.clap.specs.declared.error.kind.ErrorKind.TheVariants.{TooManyValues}
 use Rattle.clap.proofs.LexerLemmas.{name_and_value-at}
-use Rattle.scrub_cli.specs.Order.{IsName, option_word}
-use Rattle.scrub_cli.proofs.Walks.{EachRule, parts, rule_found}
-use Rattle.scrub_cli.proofs.Values.{no_defaults}
-use Rattle.scrub_cli.proofs.SameRows.{AreSame, exchanged_same, fault_apart, given_same, named}
-use Rattle.scrub_cli.proofs.AlikeWalks.{LikeWalk, settle_like, settled_like, walk_like, with_rows}
+use Rattle.clap_walk.specs.Exchanged.{AreClean, AreNeighboursExchanged, EndAlike, IsName, IsPlainTable, option_word}
+use Rattle.clap_walk.specs.Rows.{AreSame, named}
+use Rattle.clap_walk.specs.Rules.{EachRule, IsByName}
+use Rattle.clap_walk.proofs.Walks.{parts, rule_found}
+use Rattle.clap_walk.proofs.Values.{no_defaults}
+use Rattle.clap_walk.proofs.SameRows.{exchanged_same, fault_apart, given_same}
+use Rattle.clap_walk.proofs.AlikeWalks.{LikeWalk, settle_like, settled_like, walk_like, with_rows}
 
 -- where there is no fault in two, there is none in both
 pub joined : (first second : Kinds) → first ≡ [] → second ≡ [] → or_else first second ≡ []
@@ -28,7 +30,8 @@ joined first second none nothing = rw none nothing
 long_word : (name value : Text) → IsName name → long_of (option_word name value) ≡ Some (name, Some value)
 long_word name value is = rest name is ∙ ap Some (name_and_value-at name value (λ i lt. is i 0 lt))
   where
-    rest : (name : Text) → IsName name → long_of_rest (name ++ (61 ∷ value)) ≡ Some (name_and_value (name ++ (61 ∷ value)))
+    rest : (name : Text) → IsName name →
+        long_of_rest (name ++ (61 ∷ value)) ≡ Some (name_and_value (name ++ (61 ∷ value)))
     rest [] is = refl
     rest (x ∷ xs) is = refl
 
@@ -37,15 +40,14 @@ no_end_word : (name value : Text) → bytes_eq (option_word name value) (45 ∷ 
 no_end_word [] value = refl
 no_end_word (x ∷ xs) value = refl
 
--- each rule is known by its own name alone
-abbrev pub IsByName : Rule → Type 0
-IsByName a = (a.aliases ≡ []) × ((a.long ≡ None) ⊎ (a.long ≡ Some a.id)) × (a.trailing_var_arg ≡ false) × (a.defaults ≡ [])
-
-pub id_of_long : (c : List Rule) (name : Text) (a : Rule) → EachRule IsByName c → arg_by_long c name ≡ Some a → a.id ≡ name
+pub id_of_long : (c : List Rule) (name : Text) (a : Rule) → EachRule IsByName c → arg_by_long c name ≡ Some a →
+    a.id ≡ name
 id_of_long [] name a each found = cc
-id_of_long (r ∷ rest) name a each found = go (not (is_some r.index) && has_long r name) refl found (λ found. id_of_long rest name a each.1 found)
+id_of_long (r ∷ rest) name a each found =
+    go (not (is_some r.index) && has_long r name) refl found (λ found. id_of_long rest name a each.1 found)
   where
-    by_long : (o : Option Text) → r.long ≡ o → (o ≡ None) ⊎ (o ≡ Some r.id) → option_map_or (λ s. bytes_eq s name) o false ≡ true → r.id ≡ name
+    by_long : (o : Option Text) → r.long ≡ o → (o ≡ None) ⊎ (o ≡ Some r.id) →
+        option_map_or (λ s. bytes_eq s name) o false ≡ true → r.id ≡ name
     by_long None is long has = cc
     by_long (Some s) is (inl none) has = cc
     by_long (Some s) is (inr own) has =
@@ -55,14 +57,17 @@ id_of_long (r ∷ rest) name a each found = go (not (is_some r.index) && has_lon
     of_has : (b : Bool) → (b && has_long r name) ≡ true → r.id ≡ name
     of_has false has = cc
     of_has true has =
-        let alone : has_long r name ≡ option_map_or (λ s. bytes_eq s name) r.long false = rw (each.0.0) (or_none (option_map_or (λ s. bytes_eq s name) r.long false)) in
+        let alone : has_long r name ≡ option_map_or (λ s. bytes_eq s name) r.long false =
+        rw (each.0.0) (or_none (option_map_or (λ s. bytes_eq s name) r.long false)) in
         by_long r.long refl each.0.1 (sym alone ∙ has)
       where
         or_none : (b : Bool) → (b || false) ≡ b
         or_none true = refl
         or_none false = refl
 
-    go : (b : Bool) → (not (is_some r.index) && has_long r name) ≡ b → (if b then Some r else arg_by_long rest name) ≡ Some a → (arg_by_long rest name ≡ Some a → a.id ≡ name) → a.id ≡ name
+    go : (b : Bool) → (not (is_some r.index) && has_long r name) ≡ b →
+        (if b then Some r else arg_by_long rest name) ≡ Some a → (arg_by_long rest name ≡ Some a → a.id ≡ name) →
+        a.id ≡ name
     go true has found later =
         let same : r ≡ a = cc in
         subst (λ (x : Rule). x.id ≡ name) same (of_has (not (is_some r.index)) has)
@@ -77,7 +82,13 @@ module _ (s : Shape) (each : EachRule IsByName s.rules) where
 
   -- a walk that has met no `--`
   abbrev pub standing : Held → Waiting → ℕ → Walk
-  standing h waiting position = record { held = h; waiting = waiting; position = position; is_trailing = false; stopped = None }
+  standing h waiting position = record {
+    held = h;
+    waiting = waiting;
+    position = position;
+    is_trailing = false;
+    stopped = None;
+  }
 
   no_subcommand : (waiting : Waiting) (word : Text) → subcommand_met [] waiting word ≡ None
   no_subcommand idle word = refl
@@ -91,7 +102,8 @@ module _ (s : Shape) (each : EachRule IsByName s.rules) where
 
     met_is : word_met c [] false waiting position given h ≡ long_or_other c waiting given (Some (name, Some value)) h
     met_is = ap (λ o. subcommand_or_other c o waiting position given h) (no_subcommand waiting given)
-        ∙ ap (λ (b : Bool). if b then (h, trailing position) else long_or_other c waiting given (long_of given) h) (no_end_word name value)
+        ∙ ap (λ (b : Bool). if b then (h, trailing position) else long_or_other c waiting given (long_of given) h)
+        (no_end_word name value)
         ∙ ap (λ o. long_or_other c waiting given o h) (long_word name value is)
 
     fault_is : word_fault s [] false waiting given h ≡ long_fault c again (arg_by_long c name) (Some value) h
@@ -101,16 +113,20 @@ module _ (s : Shape) (each : EachRule IsByName s.rules) where
 
     -- no fault says which option it is, and that it can be used
     pub option_there : turn_fault s [] (standing h waiting position) given ≡ []
-        → (a : Rule) × (arg_by_long c name ≡ Some a) × (takes_values a ≡ true) × (react_fault c again a (value ∷ []) h ≡ [])
-    option_there clean = go (arg_by_long c name) refl (sym fault_is ∙ (parts (word_fault s [] false waiting given h) _ clean).0)
+        → (a : Rule) × (arg_by_long c name ≡ Some a) × (takes_values a ≡ true) ×
+        (react_fault c again a (value ∷ []) h ≡ [])
+    option_there clean =
+        go (arg_by_long c name) refl (sym fault_is ∙ (parts (word_fault s [] false waiting given h) _ clean).0)
       where
-        by_takes : (a : Rule) (b : Bool) → takes_values a ≡ b → (if b then react_fault c again a (value ∷ []) h else TooManyValues ∷ []) ≡ []
+        by_takes : (a : Rule) (b : Bool) → takes_values a ≡ b →
+            (if b then react_fault c again a (value ∷ []) h else TooManyValues ∷ []) ≡ []
             → (takes_values a ≡ true) × (react_fault c again a (value ∷ []) h ≡ [])
         by_takes a true takes clean = (takes, clean)
         by_takes a false takes clean = cc
 
         go : (o : Option Rule) → arg_by_long c name ≡ o → long_fault c again o (Some value) h ≡ []
-            → (a : Rule) × (arg_by_long c name ≡ Some a) × (takes_values a ≡ true) × (react_fault c again a (value ∷ []) h ≡ [])
+            → (a : Rule) × (arg_by_long c name ≡ Some a) × (takes_values a ≡ true) ×
+            (react_fault c again a (value ∷ []) h ≡ [])
         go None found clean = cc
         go (Some a) found clean =
             let takes = by_takes a (takes_values a) refl clean in
@@ -127,7 +143,8 @@ module _ (s : Shape) (each : EachRule IsByName s.rules) where
       unfolding walked
       turn_is = ap (λ (x : Held × Step). after_step c given (standing h waiting position) x.0 x.1) step_is
 
-      pub turn_clean : react_fault c again a (value ∷ []) h ≡ [] → turn_fault s [] (standing h waiting position) given ≡ []
+      pub turn_clean : react_fault c again a (value ∷ []) h ≡ [] →
+          turn_fault s [] (standing h waiting position) given ≡ []
       turn_clean clean =
           let reads : long_fault c again (arg_by_long c name) (Some value) h ≡ [] = rw (found, takes) clean in
           let steps : step_fault s position (word_met c [] false waiting position given h).0 (word_met c [] false waiting position given h).1 ≡ [] =
@@ -159,7 +176,8 @@ module _ (s : Shape) (each : EachRule IsByName s.rules) where
   after_on waiting word h plain = plain_on waiting word h
   after_on waiting word h refused = plain_on waiting word h
 
-  flag_on : (o : Option (Text × Option Text)) (waiting : Waiting) (word : Text) (h : Held) → GoesOn (long_or_other c waiting word o h).1
+  flag_on : (o : Option (Text × Option Text)) (waiting : Waiting) (word : Text) (h : Held) →
+      GoesOn (long_or_other c waiting word o h).1
   flag_on (Some p) waiting word h =
       let met = long_met c (arg_by_long c p.0) p.1 h in
       after_on waiting word met.0 met.1
@@ -170,26 +188,34 @@ module _ (s : Shape) (each : EachRule IsByName s.rules) where
       go (Some flags) = after_on waiting word _ _
 
   stays_on : (h : Held) (waiting : Waiting) (position : ℕ) (word : Text) → word ≢ codes "--"
-      → (k : Held) × (after : Waiting) × (place : ℕ) × (walked c [] (standing h waiting position) word ≡ standing k after place)
+      → (k : Held) × (after : Waiting) × (place : ℕ) ×
+      (walked c [] (standing h waiting position) word ≡ standing k after place)
   unfolding walked
   stays_on h waiting position word no_end =
-      subst (λ (x : Held × Step). (k : Held) × (after : Waiting) × (place : ℕ) × (after_step c word (standing h waiting position) x.0 x.1 ≡ standing k after place))
-      (sym met) (go (long_or_other c waiting word (long_of word) h).0 (long_or_other c waiting word (long_of word) h).1 (flag_on (long_of word) waiting word h))
+      subst
+      (λ (x : Held × Step). (k : Held) × (after : Waiting) × (place : ℕ) × (after_step c word (standing h waiting position) x.0 x.1 ≡ standing k after place))
+      (sym met)
+      (go (long_or_other c waiting word (long_of word) h).0 (long_or_other c waiting word (long_of word) h).1 (flag_on (long_of word) waiting word h))
     where
       met : word_met c [] false waiting position word h ≡ long_or_other c waiting word (long_of word) h
       met = ap (λ o. subcommand_or_other c o waiting position word h) (no_subcommand waiting word)
-          ∙ ap (λ (b : Bool). if b then (h, trailing position) else long_or_other c waiting word (long_of word) h) (differ word (codes "--") no_end)
+          ∙ ap (λ (b : Bool). if b then (h, trailing position) else long_or_other c waiting word (long_of word) h)
+          (differ word (codes "--") no_end)
 
-      by_rule : (m : Held) (o : Option Rule) → IfSome o IsByName → (k : Held) × (after : Waiting) × (place : ℕ) × (to_positional c o word (standing h waiting position) m ≡ standing k after place)
+      by_rule : (m : Held) (o : Option Rule) → IfSome o IsByName →
+          (k : Held) × (after : Waiting) × (place : ℕ) × (to_positional c o word (standing h waiting position) m ≡ standing k after place)
       by_rule m None own = (m, waiting, position, refl)
       by_rule m (Some a) own = (
         positional_held c a word m,
         (if is_multiple a then positional else idle),
         next_position a position,
-        ap (λ (b : Bool). record (standing (positional_held c a word m) (if is_multiple a then positional else idle) (next_position a position)) { is_trailing = b }) own.2,
+        ap
+            (λ (b : Bool). record (standing (positional_held c a word m) (if is_multiple a then positional else idle) (next_position a position)) { is_trailing = b })
+            own.2,
       )
 
-      go : (m : Held) (step : Step) → GoesOn step → (k : Held) × (after : Waiting) × (place : ℕ) × (after_step c word (standing h waiting position) m step ≡ standing k after place)
+      go : (m : Held) (step : Step) → GoesOn step →
+          (k : Held) × (after : Waiting) × (place : ℕ) × (after_step c word (standing h waiting position) m step ≡ standing k after place)
       go m (next after) on = (m, after, position, refl)
       go m (trailing p) on = absurd on
       go m (subcommand name) on = absurd on
@@ -203,23 +229,32 @@ module _ (s : Shape) (each : EachRule IsByName s.rules) where
   default_clean : (rules : List Rule) (rows : List Row) → EachRule IsByName rules → defaults_fault rows rules ≡ []
   unfolding defaults_fault
   default_clean [] rows each = refl
-  default_clean (a ∷ rest) rows each = joined (default_fault rows a) _ (first (has_row a.id rows)) (default_clean rest (with_default rows a) each.1)
+  default_clean (a ∷ rest) rows each =
+      joined (default_fault rows a) _ (first (has_row a.id rows)) (default_clean rest (with_default rows a) each.1)
     where
-      of_list : (b : Bool) (defaults : List Text) → defaults ≡ [] → (if b || is_empty defaults then [] else given_default_fault a defaults) ≡ []
+      of_list : (b : Bool) (defaults : List Text) → defaults ≡ [] →
+          (if b || is_empty defaults then [] else given_default_fault a defaults) ≡ []
       of_list true defaults none = refl
       of_list false defaults none = rw none refl
 
       first : (b : Bool) → (if b || is_empty a.defaults then [] else given_default_fault a a.defaults) ≡ []
       first b = of_list b a.defaults each.0.3
 
-  lacking_same : (rules : List Rule) (xs ys : List Row) → AreSame xs ys → list_any (λ a. a.required && not (is_given a.id xs)) rules ≡ list_any (λ a. a.required && not (is_given a.id ys)) rules
+  lacking_same : (rules : List Rule) (xs ys : List Row) → AreSame xs ys →
+      list_any (λ a. a.required && not (is_given a.id xs)) rules ≡ list_any (λ a. a.required && not (is_given a.id ys)) rules
   lacking_same [] xs ys same = refl
-  lacking_same (a ∷ rest) xs ys same = ap₂ (λ (given later : Bool). (a.required && not given) || later) (given_same a.id xs ys (same a.id)) (lacking_same rest xs ys same)
+  lacking_same (a ∷ rest) xs ys same =
+      ap₂ (λ (given later : Bool). (a.required && not given) || later) (given_same a.id xs ys (same a.id))
+      (lacking_same rest xs ys same)
 
-  check_same : (xs ys : List Row) → s.arg_required_else_help ≡ false → AreSame xs ys → check_fault s xs false ≡ check_fault s ys false
-  check_same xs ys helps same = rw helps (ap (λ (lacks : Bool). check_kinds false s.subcommand_required (not (s.subcommand_negates_reqs && false) && lacks)) (lacking_same c xs ys same))
+  check_same : (xs ys : List Row) → s.arg_required_else_help ≡ false → AreSame xs ys →
+      check_fault s xs false ≡ check_fault s ys false
+  check_same xs ys helps same =
+      rw helps
+      (ap (λ (lacks : Bool). check_kinds false s.subcommand_required (not (s.subcommand_negates_reqs && false) && lacks)) (lacking_same c xs ys same))
 
-  module _ (name value other_name other_value : Text) (is : IsName name) (other_is : IsName other_name) (apart : name ≢ other_name) (after : List Text) where
+  module _ (name value other_name other_value : Text) (is : IsName name) (other_is : IsName other_name)
+      (apart : name ≢ other_name) (after : List Text) where
     abbrev one : List Text
     one = option_word name value ∷ (option_word other_name other_value ∷ after)
 
@@ -228,7 +263,8 @@ module _ (s : Shape) (each : EachRule IsByName s.rules) where
 
     -- what is said of two walks
     abbrev pub Exchanged : Walk → List Text → List Text → Type 0
-    Exchanged w words others = (walk_fault s [] w others ≡ []) × LikeWalk (fold (walked c []) w words) (fold (walked c []) w others)
+    Exchanged w words others =
+        (walk_fault s [] w others ≡ []) × LikeWalk (fold (walked c []) w words) (fold (walked c []) w others)
 
     pair_exchanged : (h : Held) (waiting : Waiting) (position : ℕ) → walk_fault s [] (standing h waiting position) one ≡ [] → Exchanged (standing h waiting position) one other
     unfolding walk_fault
@@ -282,7 +318,7 @@ module _ (s : Shape) (each : EachRule IsByName s.rules) where
         let back = subst (λ (w : Walk). Exchanged w (before ++ one) (before ++ other)) (sym on.3) later in
         (joined (turn_fault s [] (standing h waiting position) word) _ turns.0 back.0, back.1)
 
-    pub end_exchanged : (before : List Text) → All (λ word. word ≢ codes "--") before → s.arg_required_else_help ≡ false
+    end_exchanged : (before : List Text) → All (λ word. word ≢ codes "--") before → s.arg_required_else_help ≡ false
         → level_fault s [] nothing_held (before ++ one) false [] ≡ []
         → (level_fault s [] nothing_held (before ++ other) false [] ≡ []) × AreSame (finished c (walk c [] nothing_held (before ++ one)).held) (finished c (walk c [] nothing_held (before ++ other)).held)
     end_exchanged before no_end helps clean =
@@ -300,3 +336,11 @@ module _ (s : Shape) (each : EachRule IsByName s.rules) where
         ∙ ap (λ (x : Held). named id (settled c x).rows) (sym held) ∙ ap (named id) (sym (no_defaults c (settled c k).rows (each_default c each))) in
         let checked : check_fault s (finished c k) false ≡ [] = sym (check_same (finished c h) (finished c k) helps same) ∙ checks.1 in
         (joined (walk_fault s [] (walk_from nothing_held) (before ++ other)) _ both.0 (joined (settle_fault c again k) _ settled_k (joined (defaults_fault (settled c k).rows c) _ (default_clean c (settled c k).rows each) checked)), same)
+
+-- the law
+pub end_alike : (s : Shape) (words others : List Text) → IsPlainTable s → AreNeighboursExchanged words others →
+    AreClean s words → EndAlike s words others
+end_alike s words others table x clean =
+    let both = end_exchanged s table.by_name x.name x.value x.other_name x.other_value x.named x.other_named x.apart x.after x.before x.no_end table.may_be_empty
+    (subst (AreClean s) x.one clean) in
+    rw (x.one, x.other) (record { clean = both.0; same = both.1 })

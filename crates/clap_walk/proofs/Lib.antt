@@ -1,0 +1,7 @@
+-- Lemmas on walks of `clap`, lowest first.
+pub mod Walks
+pub mod Values
+pub mod Given
+pub mod SameRows
+pub mod AlikeWalks
+pub mod Exchanges

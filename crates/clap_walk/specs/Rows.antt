@@ -1,0 +1,28 @@
+-- The rows in which `clap` keeps what it found for each argument.
+use Rattle.std.specs.Prelude.{◌≡◌, ◌≢◌, ℕ, List, [], ◌∷◌, Some, pos}
+use Rattle.std.specs.List.{filter}
+use Rattle.std.specs.Str.{bytes_eq}
+use Rattle.clap.specs.Words.{IsSignedIn, without_minus, one_of}
+use Rattle.clap.specs.Walk.{Row, Rule, Text, arg_by_id, reading_by}
+use Rattle.clap.specs.Faults.{values_fault}
+
+-- each row of a list has this
+abbrev pub EachRow : (Row → Type 0) → List Row → Type 0
+EachRow P [] = Unit {0}
+EachRow P (r ∷ rows) = P r × EachRow P rows
+
+-- the row has values, and they passed the parser of the rule of its name, by which they are read
+abbrev pub IsSound : List Rule → Row → Type 0
+IsSound c r = (a : Rule) → arg_by_id c r.id ≡ Some a → (r.values ≢ []) × (values_fault a r.values ≡ []) × (r.reading ≡ reading_by a)
+
+-- the rows of a name
+abbrev pub named : Text → List Row → List Row
+named id rows = filter (λ r. bytes_eq r.id id) rows
+
+-- each name has the same rows
+abbrev pub AreSame : List Row → List Row → Type 0
+AreSame xs ys = (id : Text) → named id xs ≡ named id ys
+
+-- a value was found for the option, and its parser took it as a whole number up to a greatest one
+abbrev pub HasNumberTo : ℕ → List Row → Text → Type 0
+HasNumberTo most found name = (text : Text) × (one_of name found ≡ Some (without_minus text)) × IsSignedIn (pos 0) (pos most) text
