@@ -1,5 +1,5 @@
 -- What a complete pool has.
-use Rattle.std.proofs.Common.{Some, ◌≡◌, ◌==◌, ◌&&◌, ◌++◌, ◌∷◌, ◌∙◌, ℕ, suc, List, [], Bool, true, false, Option, All, length, get_or, sum_by, arith, refl, sym, ap, subst, slice_get, is_none}
+use Rattle.std.proofs.Common.{Some, ◌≡◌, ◌==◌, ◌&&◌, ◌++◌, ◌∷◌, ◌∙◌, ℕ, suc, List, [], Bool, true, false, Option, All, length, get_or, sum_by, arith, refl, sym, ap, slice_get, is_none}
 use Rattle.std.specs.List.{Contains, list_all}
 use Rattle.std.specs.List.Sorted.{IsStrictlyIncreasing}
 use Rattle.std.specs.Option.{option_to_list}
@@ -26,42 +26,59 @@ is_empty xs is = let none : length xs ≡ 0 = grind (arith, nat_tests, is) in ni
 
 module _ (image : Image) (plan : PlanValue) where
   -- members that are through have nothing
-  through_have : (f : ℕ → ℕ) (ms : List MemberValue) → All (IsMember image plan) ms → list_all (λ m. is_none m.held && m.has_retired) ms ≡ true → sum_by (λ m. sum_by f (having m)) ms ≡ 0
+  through_have : (f : ℕ → ℕ) (ms : List MemberValue) → All (IsMember image plan) ms →
+      list_all (λ m. is_none m.held && m.has_retired) ms ≡ true → sum_by (λ m. sum_by f (having m)) ms ≡ 0
   through_have f [] are through = refl
   through_have f (m ∷ ms) are through =
       let parts = both (is_none m.held && m.has_retired) (list_all (λ x. is_none x.held && x.has_retired) ms) through in
       let facts = both (is_none m.held) m.has_retired parts.0 in
       let left = (are 0 m (omega arith)).left facts.1 in
-      let none : sum_by f (having m) ≡ 0 = ap (λ (o : Option ℕ). sum_by f (option_to_list o ++ extent_numbers m.results)) left.0 ∙ ap (λ (rs : List Scanned). sum_by f (extent_numbers rs)) left.1 in
-      omega (arith, sum_by-cons (λ x. sum_by f (having x)) m ms, none, through_have f ms (λ k d below. are (suc k) d (omega (arith, below))) parts.1)
+      let none : sum_by f (having m) ≡ 0 =
+      ap (λ (o : Option ℕ). sum_by f (option_to_list o ++ extent_numbers m.results)) left.0
+      ∙ ap (λ (rs : List Scanned). sum_by f (extent_numbers rs)) left.1 in
+      omega (
+        arith,
+        sum_by-cons (λ x. sum_by f (having x)) m ms,
+        none,
+        through_have f ms (λ k d below. are (suc k) d (omega (arith, below))) parts.1,
+      )
 
   -- the arrivals of a complete pool are the planned extents, each as often
-  pub complete_sums : (p : PoolState) → IsPool image plan p → is_complete p ≡ true → (f : ℕ → ℕ) → sum_by f (extent_numbers p.arrivals) ≡ sum_by f plan.planned
+  pub complete_sums : (p : PoolState) → IsPool image plan p → is_complete p ≡ true → (f : ℕ → ℕ) →
+      sum_by f (extent_numbers p.arrivals) ≡ sum_by f plan.planned
   complete_sums p pool complete f =
       let parts = both (length p.queue == 0) (list_all (λ m. is_none m.held && m.has_retired) p.members) complete in
       let queue : sum_by f p.queue ≡ 0 = ap (sum_by f) (is_empty p.queue parts.0) in
       omega (arith, pool.account f, queue, through_have f p.members pool.members parts.1)
 
   -- what a member holds is planned
-  pub held_planned : (p : PoolState) (v : ℕ) (m : MemberValue) (e : ℕ) → IsAccount plan p → slice_get p.members v ≡ Some m → m.held ≡ Some e → Contains plan.planned e
+  pub held_planned : (p : PoolState) (v : ℕ) (m : MemberValue) (e : ℕ) → IsAccount plan p →
+      slice_get p.members v ≡ Some m → m.held ≡ Some e → Contains plan.planned e
   held_planned p v m e account at held =
-      let there = contained_counts (having m) e (subst (λ (o : Option ℕ). Contains (option_to_list o ++ extent_numbers m.results) e) (sym held) (0, omega arith, refl)) in
-      counted_contained plan.planned e (omega (arith, account (one_for e), one_among (one_for e) p.members v m at, there))
+      let there = contained_counts (having m) e (rw held (0, omega arith, refl)) in
+      counted_contained plan.planned e
+      (omega (arith, account (one_for e), one_among (one_for e) p.members v m at, there))
 
-  pub once_each : (p : PoolState) → IsStrictlyIncreasing plan.planned → ((f : ℕ → ℕ) → sum_by f (extent_numbers p.arrivals) ≡ sum_by f plan.planned) → IsOnceEach plan p
+  pub once_each : (p : PoolState) → IsStrictlyIncreasing plan.planned →
+      ((f : ℕ → ℕ) → sum_by f (extent_numbers p.arrivals) ≡ sum_by f plan.planned) → IsOnceEach plan p
   once_each p rising same = record {
-    once = λ e there. omega (arith, same (one_for e), contained_counts plan.planned e there, rising_once plan.planned e rising);
+    once = λ e there.
+        omega (arith, same (one_for e), contained_counts plan.planned e there, rising_once plan.planned e rising);
     no_other = λ k d below.
         let e = get_or (extent_numbers p.arrivals) k d in
-        counted_contained plan.planned e (omega (arith, same (one_for e), contained_counts (extent_numbers p.arrivals) e (k, below, get_or_default (extent_numbers p.arrivals) k e d below)));
+        counted_contained plan.planned e
+        (omega (arith, same (one_for e), contained_counts (extent_numbers p.arrivals) e (k, below, get_or_default (extent_numbers p.arrivals) k e d below)));
   }
 
   -- what is assembled of arrivals that are what the image holds is what one reader finds
-  pub assembled : (p : PoolState) (all : List Scanned) → All (IsScanned image plan) p.arrivals → IsAssembly plan p all → AreAllFindings image plan all
+  pub assembled : (p : PoolState) (all : List Scanned) → All (IsScanned image plan) p.arrivals → IsAssembly plan p all →
+      AreAllFindings image plan all
   assembled p all are is = record {
     extents = is.extents;
-    pointers = λ k d below. (All-contains (IsScanned image plan) p.arrivals (get_or all k d) are (is.arrived k d below)).pointer_is;
-    findings = λ k d below. (All-contains (IsScanned image plan) p.arrivals (get_or all k d) are (is.arrived k d below)).found;
+    pointers = λ k d below.
+        (All-contains (IsScanned image plan) p.arrivals (get_or all k d) are (is.arrived k d below)).pointer_is;
+    findings = λ k d below.
+        (All-contains (IsScanned image plan) p.arrivals (get_or all k d) are (is.arrived k d below)).found;
   }
 
   pub every_schedule : ArePlanned plan.geometry.extents plan.planned → EveryScheduleFinds image plan

@@ -1,5 +1,5 @@
 -- How often a number stands in a list.
-use Rattle.std.proofs.Common.{◌≡◌, ◌<◌, ◌≤◌, ◌==◌, ◌∷◌, ◌∙◌, ℕ, suc, List, [], Bool, true, false, length, get_or, cond, arith, refl, ap, sym, subst, sum_by, remove}
+use Rattle.std.proofs.Common.{◌≡◌, ◌<◌, ◌≤◌, ◌==◌, ◌∷◌, ◌∙◌, ℕ, suc, List, [], Bool, true, false, length, get_or, cond, arith, refl, ap, sym, sum_by, remove}
 use Rattle.std.specs.List.{Contains, count_by}
 use Rattle.std.specs.List.Sorted.{IsPermutation, IsStrictlyIncreasing}
 use Rattle.std.proofs.lemmas.Bool.Decides.{nat_tests}
@@ -41,16 +41,25 @@ above [] e more = refl
 above (x ∷ xs) e more =
     let less : e < x = more 0 (omega arith) in
     let other : (x == e) ≡ false = grind (arith, nat_tests) in
-    omega (arith, sum_by-cons (one_for e) x xs, is_zero e x other, above xs e (λ k below. more (suc k) (omega (arith, below))))
+    omega (
+      arith,
+      sum_by-cons (one_for e) x xs,
+      is_zero e x other,
+      above xs e (λ k below. more (suc k) (omega (arith, below))),
+    )
 
-once : (xs : List ℕ) (e : ℕ) → ((i j : ℕ) → i < j → j < length xs → get_or xs i 0 < get_or xs j 0) → count_by (λ x. x == e) xs ≤ 1
+once : (xs : List ℕ) (e : ℕ) → ((i j : ℕ) → i < j → j < length xs → get_or xs i 0 < get_or xs j 0) →
+    count_by (λ x. x == e) xs ≤ 1
 once [] e rise = omega arith
-once (x ∷ xs) e rise = by (x == e) refl (once xs e (λ i j less below. rise (suc i) (suc j) (omega (arith, less)) (omega (arith, below))))
+once (x ∷ xs) e rise =
+    by (x == e) refl (once xs e (λ i j less below. rise (suc i) (suc j) (omega (arith, less)) (omega (arith, below))))
   where
     by : (b : Bool) → (x == e) ≡ b → count_by (λ y. y == e) xs ≤ 1 → count_by (λ y. y == e) (x ∷ xs) ≤ 1
     by true is rest =
         let same : x ≡ e = grind (arith, nat_tests) in
-        let none = above xs e (λ k below. let less = rise 0 (suc k) (omega arith) (omega (arith, below)) in omega (arith, less, same)) in
+        let none =
+        above xs e
+        (λ k below. let less = rise 0 (suc k) (omega arith) (omega (arith, below)) in omega (arith, less, same)) in
         omega (arith, sum_by-cons (one_for e) x xs, is_one e x is, none)
     by false is rest = omega (arith, sum_by-cons (one_for e) x xs, is_zero e x is, rest)
 
@@ -65,9 +74,10 @@ ones (x ∷ xs) = omega (arith, sum_by-cons (λ (x : ℕ). 1) x xs, ones xs)
 
 -- numbers that add up as others do, whatever is added up, are these in some order
 pub permutation_of_sums : (xs ys : List ℕ) → ((f : ℕ → ℕ) → sum_by f xs ≡ sum_by f ys) → IsPermutation xs ys
-permutation_of_sums xs [] same = subst (λ (l : List ℕ). IsPermutation l []) (sym (nil_from_length xs (sym (ones xs) ∙ same (λ x. 1)))) (IsPermutation-refl [])
+permutation_of_sums xs [] same = rw (nil_from_length xs (sym (ones xs) ∙ same (λ x. 1))) (IsPermutation-refl [])
 permutation_of_sums xs (y ∷ ys) same =
-    let there = counted_contained xs y (omega (arith, same (one_for y), contained_counts (y ∷ ys) y (0, omega arith, refl))) in
+    let there =
+    counted_contained xs y (omega (arith, same (one_for y), contained_counts (y ∷ ys) y (0, omega arith, refl))) in
     let rest = remove xs there.0 in
     let front : IsPermutation xs (y ∷ rest) = IsPermutation-remove xs there.0 y there.1 (sym there.2) in
     IsPermutation-trans xs (y ∷ rest) (y ∷ ys) front

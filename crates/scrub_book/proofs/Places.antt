@@ -1,5 +1,5 @@
 -- Places for the results of planned extents, as they are filled.
-use Rattle.std.proofs.Common.{refl, ◌≡◌, ◌<◌, ◌≤◌, ℕ, List, [], ◌∷◌, Bool, true, false, not, length, get_or, set, map, replicate, position, arith, sym, ◌∙◌, ap, subst, Some, None, Option, IfSome, IfNone, All, zero, suc, inl, inr, Result, Ok, Err}
+use Rattle.std.proofs.Common.{refl, ◌≡◌, ◌<◌, ◌≤◌, ℕ, List, [], ◌∷◌, Bool, true, false, not, length, get_or, set, map, replicate, position, arith, sym, ◌∙◌, ap, Some, None, Option, IfSome, IfNone, All, zero, suc, inl, inr, Result, Ok, Err}
 use Rattle.std.specs.List.{AllZip, Contains, position_or_len}
 use Rattle.std.specs.List.Sorted.{IsPermutation, IsStrictlyIncreasing, IsBinarySearchResult}
 use Rattle.std.specs.Option.{is_some}
@@ -24,24 +24,28 @@ use Rattle.scrub_book.specs.Book.{BookValue, IsAdded, IsLeastMissing, HasAll}
 use Rattle.scrub_book.proofs.Options.{is_nothing}
 
 -- a number among rising ones stands at one place
-pub one_place : (es : List ℕ) → IsStrictlyIncreasing es → (i j : ℕ) → i < length es → j < length es → get_or es i 0 ≡ get_or es j 0 → i ≡ j
+pub one_place : (es : List ℕ) → IsStrictlyIncreasing es → (i j : ℕ) → i < length es → j < length es →
+    get_or es i 0 ≡ get_or es j 0 → i ≡ j
 one_place es rising i j below within same = elim (cases_eq i j) [
   | inl e ↦ e
   | inr differ ↦ elim (cases_lt i j) [
     | inl less ↦ absurd (omega (arith, same, AllPairs-from_increasing es rising i j 0 less within))
-    | inr more ↦ absurd (omega (arith, same, AllPairs-from_increasing es rising j i 0 (omega (arith, more, differ)) below))
+    | inr more ↦
+        absurd (omega (arith, same, AllPairs-from_increasing es rising j i 0 (omega (arith, more, differ)) below))
   ]
 ]
 
 -- rising numbers don't fall
-numbers_rise : (es : List ℕ) → IsStrictlyIncreasing es → (i j : ℕ) → i ≤ j → j < length es → get_or es i 0 ≤ get_or es j 0
+numbers_rise : (es : List ℕ) → IsStrictlyIncreasing es → (i j : ℕ) → i ≤ j → j < length es →
+    get_or es i 0 ≤ get_or es j 0
 numbers_rise es rising i j le below = elim (cases_eq i j) [
   | inl same ↦ omega (arith, ap (λ n. get_or es n 0) same)
   | inr differ ↦ omega (arith, AllPairs-from_increasing es rising i j 0 (omega (arith, le, differ)) below)
 ]
 
 -- a search among rising numbers that ends without a place: the number isn't there
-pub not_found : (es : List ℕ) (e : ℕ) (r : Result ℕ ℕ) → IsStrictlyIncreasing es → IsBinarySearchResult (λ y. nat_cmp y e) es r → IfNone (result_ok r) (¬ Contains es e)
+pub not_found : (es : List ℕ) (e : ℕ) (r : Result ℕ ℕ) → IsStrictlyIncreasing es →
+    IsBinarySearchResult (λ y. nat_cmp y e) es r → IfNone (result_ok r) (¬ Contains es e)
 not_found es e (Ok i) rising is = tt
 not_found es e (Err i) rising is = λ there.
     let parted = searched es e (Err i) is (numbers_rise es rising) in
@@ -70,37 +74,47 @@ module _ {X : Type 0} where
   held_none (suc n) = held_none n
 
   -- where an empty place is filled, that stands there besides what stood there
-  pub held_set : (slots : List (Option X)) (i : ℕ) (d : Option X) (x : X) → i < length slots → is_some (get_or slots i d) ≡ false → IsPermutation (x ∷ held_in slots) (held_in (set slots i (Some x)))
+  pub held_set : (slots : List (Option X)) (i : ℕ) (d : Option X) (x : X) → i < length slots →
+      is_some (get_or slots i d) ≡ false → IsPermutation (x ∷ held_in slots) (held_in (set slots i (Some x)))
   held_set [] i d x below empty = absurd (omega (arith, below))
   held_set (None ∷ slots) zero d x below empty = IsPermutation-refl (x ∷ held_in slots)
   held_set (Some y ∷ slots) zero d x below empty = absurd (true≢false empty)
   held_set (None ∷ slots) (suc i) d x below empty = held_set slots i d x (omega (arith, below)) empty
   held_set (Some y ∷ slots) (suc i) d x below empty =
-      IsPermutation-trans (x ∷ y ∷ held_in slots) (y ∷ x ∷ held_in slots) (y ∷ held_in (set slots i (Some x))) (IsPermutation-middle (x ∷ []) y (held_in slots))
+      IsPermutation-trans (x ∷ y ∷ held_in slots) (y ∷ x ∷ held_in slots) (y ∷ held_in (set slots i (Some x)))
+      (IsPermutation-middle (x ∷ []) y (held_in slots))
       (IsPermutation-cons y (x ∷ held_in slots) (held_in (set slots i (Some x))) (held_set slots i d x (omega (arith, below)) empty))
 
   -- no place before the end is empty
-  full_before : (slots : List (Option X)) → length slots ≤ position_or_len (λ slot. not (is_some slot)) slots → AreFull slots
+  full_before : (slots : List (Option X)) → length slots ≤ position_or_len (λ slot. not (is_some slot)) slots →
+      AreFull slots
   full_before [] past = refl
   full_before (None ∷ slots) past = absurd (omega (arith, past))
   full_before (Some x ∷ slots) past = full_before slots (omega (arith, past))
 
   -- the first empty place, as the code looks for it
-  pub first_empty_is : {xs slots : List (Option X)} {o : Option ℕ} → o ≡ position (λ slot. not (is_some slot)) xs → xs ≡ slots → position (λ slot. not (is_some slot)) slots ≡ o
+  pub first_empty_is : {xs slots : List (Option X)} {o : Option ℕ} → o ≡ position (λ slot. not (is_some slot)) xs →
+      xs ≡ slots → position (λ slot. not (is_some slot)) slots ≡ o
   first_empty_is is same = ap (position (λ slot. not (is_some slot))) (sym same) ∙ sym is
 
   -- where no empty place is found, each has something
-  pub none_empty : (slots : List (Option X)) → is_some (position (λ slot. not (is_some slot)) slots) ≡ false → AreFull slots
+  pub none_empty : (slots : List (Option X)) → is_some (position (λ slot. not (is_some slot)) slots) ≡ false →
+      AreFull slots
   none_empty slots none =
-      let is : position (λ slot. not (is_some slot)) slots ≡ None = is_nothing (position (λ slot. not (is_some slot)) slots) none in
+      let is : position (λ slot. not (is_some slot)) slots ≡ None =
+      is_nothing (position (λ slot. not (is_some slot)) slots) none in
       full_before slots (grind (arith, common_steps, is))
 
   -- the first empty place, and those before it
-  pub first_empty_at : (slots : List (Option X)) (i : ℕ) (d : Option X) → position (λ slot. not (is_some slot)) slots ≡ Some i →
+  pub first_empty_at : (slots : List (Option X)) (i : ℕ) (d : Option X) →
+      position (λ slot. not (is_some slot)) slots ≡ Some i →
       (i < length slots) × (is_some (get_or slots i d) ≡ false) × ((k : ℕ) → k < i → is_some (get_or slots k d) ≡ true)
   first_empty_at slots i d is =
-      let facts = position-Some (λ slot. not (is_some slot)) slots i d is in
-      (facts.0, not_true (is_some (get_or slots i d)) facts.1, λ k less. not_false (is_some (get_or slots k d)) (facts.2 k less))
+      let facts = position-Some (λ slot. not (is_some slot)) slots i d is in (
+        facts.0,
+        not_true (is_some (get_or slots i d)) facts.1,
+        λ k less. not_false (is_some (get_or slots k d)) (facts.2 k less),
+      )
 
   module _ {A : Type 0} (R : A → X → Type 0) where
     -- each place is empty, so that all that stands there is as it should be
@@ -109,7 +123,9 @@ module _ {X : Type 0} where
     zip_none (e ∷ es) = (tt, zip_none es)
 
     -- and with what belongs there put into a place
-    pub zip_set : (es : List A) (slots : List (Option X)) (i : ℕ) (d : A) (x : X) → i < length es → R (get_or es i d) x → AllZip (λ e slot. IfSome slot (R e)) es slots → AllZip (λ e slot. IfSome slot (R e)) es (set slots i (Some x))
+    pub zip_set : (es : List A) (slots : List (Option X)) (i : ℕ) (d : A) (x : X) → i < length es →
+        R (get_or es i d) x → AllZip (λ e slot. IfSome slot (R e)) es slots →
+        AllZip (λ e slot. IfSome slot (R e)) es (set slots i (Some x))
     zip_set [] slots i d x below is h = absurd (omega (arith, below))
     zip_set (e ∷ es) [] i d x below is h = absurd h
     zip_set (e ∷ es) (slot ∷ slots) zero d x below is h = (is, h.1)
@@ -117,16 +133,23 @@ module _ {X : Type 0} where
 
     module _ (number : X → A) (gives : (a : A) (x : X) → R a x → number x ≡ a) where
       -- what stands in a place has its number
-      pub number_came : (es : List A) (slots : List (Option X)) (i : ℕ) (d : A) (c : Option X) → AllZip (λ e slot. IfSome slot (R e)) es slots → i < length es → is_some (get_or slots i c) ≡ true → Contains (map number (held_in slots)) (get_or es i d)
+      pub number_came : (es : List A) (slots : List (Option X)) (i : ℕ) (d : A) (c : Option X) →
+          AllZip (λ e slot. IfSome slot (R e)) es slots → i < length es → is_some (get_or slots i c) ≡ true →
+          Contains (map number (held_in slots)) (get_or es i d)
       number_came [] slots i d c h below filled = absurd (omega (arith, below))
       number_came (e ∷ es) [] i d c h below filled = absurd h
       number_came (e ∷ es) (None ∷ slots) zero d c h below filled = absurd (true≢false (sym filled))
       number_came (e ∷ es) (Some x ∷ slots) zero d c h below filled = (0, omega arith, gives e x h.0)
-      number_came (e ∷ es) (None ∷ slots) (suc i) d c h below filled = number_came es slots i d c h.1 (omega (arith, below)) filled
-      number_came (e ∷ es) (Some x ∷ slots) (suc i) d c h below filled = contains_more (number x) (map number (held_in slots)) (get_or es i d) (number_came es slots i d c h.1 (omega (arith, below)) filled)
+      number_came (e ∷ es) (None ∷ slots) (suc i) d c h below filled =
+          number_came es slots i d c h.1 (omega (arith, below)) filled
+      number_came (e ∷ es) (Some x ∷ slots) (suc i) d c h below filled =
+          contains_more (number x) (map number (held_in slots)) (get_or es i d)
+          (number_came es slots i d c h.1 (omega (arith, below)) filled)
 
       -- each number there is that of a place that has something
-      pub came_from : (es : List A) (slots : List (Option X)) (e d : A) (c : Option X) → AllZip (λ e slot. IfSome slot (R e)) es slots → Contains (map number (held_in slots)) e → (j : ℕ) × (j < length es) × (is_some (get_or slots j c) ≡ true) × (get_or es j d ≡ e)
+      pub came_from : (es : List A) (slots : List (Option X)) (e d : A) (c : Option X) →
+          AllZip (λ e slot. IfSome slot (R e)) es slots → Contains (map number (held_in slots)) e →
+          (j : ℕ) × (j < length es) × (is_some (get_or slots j c) ≡ true) × (get_or es j d ≡ e)
       came_from [] [] e d c h there = absurd (omega (arith, there.1))
       came_from [] (slot ∷ slots) e d c h there = absurd h
       came_from (f ∷ es) [] e d c h there = absurd h
@@ -153,7 +176,8 @@ same_plan old new h = λ i. record {
 abbrev pub book_of : {D : Type 0} {s : _} → D → PlanValue → List (Option (ExtentResult D s)) → BookValue D
 book_of source plan slots = record { source = source; plan = plan; came = scanned_in slots }
 
-module _ {D : Type 0} {s : _} (image : Image) (plan : PlanValue) (slots : List (Option (ExtentResult D s))) (are : AreSlots image plan slots) where
+module _ {D : Type 0} {s : _} (image : Image) (plan : PlanValue) (slots : List (Option (ExtentResult D s)))
+    (are : AreSlots image plan slots) where
   numbers : extent_numbers (scanned_in slots) ≡ map (λ (r : ExtentResult D s). r.extent) (held_in slots)
   numbers = map-map (λ f. f.extent) (λ (r : ExtentResult D s). scanned r) (held_in slots)
 
@@ -162,26 +186,34 @@ module _ {D : Type 0} {s : _} (image : Image) (plan : PlanValue) (slots : List (
   place_count = AllZip-long _ plan.planned slots are
 
   -- the extent of a filled place came
-  pub came_at : (i : ℕ) (d : Option (ExtentResult D s)) → i < length plan.planned → is_some (get_or slots i d) ≡ true → Contains (extent_numbers (scanned_in slots)) (get_or plan.planned i 0)
-  came_at i d below filled = subst (λ (ns : List ℕ). Contains ns (get_or plan.planned i 0)) (sym numbers) (number_came (IsPlannedResult image plan) (λ (r : ExtentResult D s). r.extent) (λ e r h. h.extent_is) plan.planned slots i 0 d are below filled)
+  pub came_at : (i : ℕ) (d : Option (ExtentResult D s)) → i < length plan.planned → is_some (get_or slots i d) ≡ true →
+      Contains (extent_numbers (scanned_in slots)) (get_or plan.planned i 0)
+  came_at i d below filled =
+      rw numbers
+      (number_came (IsPlannedResult image plan) (λ (r : ExtentResult D s). r.extent) (λ e r h. h.extent_is) plan.planned slots i 0 d are below filled)
 
   -- that of an empty place didn't
-  pub absent_at : IsStrictlyIncreasing plan.planned → (i : ℕ) (d : Option (ExtentResult D s)) → i < length plan.planned → is_some (get_or slots i d) ≡ false → ¬ Contains (extent_numbers (scanned_in slots)) (get_or plan.planned i 0)
+  pub absent_at : IsStrictlyIncreasing plan.planned → (i : ℕ) (d : Option (ExtentResult D s)) →
+      i < length plan.planned → is_some (get_or slots i d) ≡ false →
+      ¬ Contains (extent_numbers (scanned_in slots)) (get_or plan.planned i 0)
   absent_at rising i d below empty = λ there.
-      let from = came_from (IsPlannedResult image plan) (λ (r : ExtentResult D s). r.extent) (λ e r h. h.extent_is) plan.planned slots (get_or plan.planned i 0) 0 d are (subst (λ (ns : List ℕ). Contains ns (get_or plan.planned i 0)) numbers there) in
+      let from =
+      came_from (IsPlannedResult image plan) (λ (r : ExtentResult D s). r.extent) (λ e r h. h.extent_is) plan.planned
+      slots (get_or plan.planned i 0) 0 d are (rw numbers at there) in
       let same : from.0 ≡ i = one_place plan.planned rising from.0 i from.1 below from.3 in
       true≢false (sym from.2 ∙ ap (λ n. is_some (get_or slots n d)) same ∙ empty)
 
   -- where each place has something, each planned extent came
   pub has_all : (source : D) → AreFull slots → HasAll (book_of source plan slots)
-  has_all source full = subst (λ (ns : List ℕ). All (Contains ns) plan.planned) (sym (all_found image plan slots are full).extents) (All-contains_itself plan.planned)
+  has_all source full = rw (all_found image plan slots are full).extents (All-contains_itself plan.planned)
 
   module _ (rising : IsStrictlyIncreasing plan.planned) (source : D) where
     -- with an empty place, not each did
     pub not_all : is_some (position (λ slot. not (is_some slot)) slots) ≡ true → ¬ HasAll (book_of source plan slots)
     not_all some = λ all. by all (position (λ slot. not (is_some slot)) slots) refl some
       where
-        by : HasAll (book_of source plan slots) → (o : Option ℕ) → position (λ slot. not (is_some slot)) slots ≡ o → is_some o ≡ true → ⊥
+        by : HasAll (book_of source plan slots) → (o : Option ℕ) → position (λ slot. not (is_some slot)) slots ≡ o →
+            is_some o ≡ true → ⊥
         by all None is there = true≢false (sym there)
         by all (Some i) is there =
             let first = first_empty_at slots i None is in
@@ -189,7 +221,8 @@ module _ {D : Type 0} {s : _} (image : Image) (plan : PlanValue) (slots : List (
             absent_at rising i None below first.1 (all i 0 below)
 
     -- the extent of the first empty place is the least that didn't come
-    pub least_at : (i : ℕ) → position (λ slot. not (is_some slot)) slots ≡ Some i → IsLeastMissing (book_of source plan slots) (get_or plan.planned i 0)
+    pub least_at : (i : ℕ) → position (λ slot. not (is_some slot)) slots ≡ Some i →
+        IsLeastMissing (book_of source plan slots) (get_or plan.planned i 0)
     least_at i is =
         let first = first_empty_at slots i None is in
         let below : i < length plan.planned = omega (arith, first.0, place_count) in record {
@@ -198,39 +231,50 @@ module _ {D : Type 0} {s : _} (image : Image) (plan : PlanValue) (slots : List (
           least = λ f there less. before first below f there less;
         }
       where
-        before : (i < length slots) × (is_some (get_or slots i None) ≡ false) × ((k : ℕ) → k < i → is_some (get_or slots k None) ≡ true) → i < length plan.planned →
-            (f : ℕ) → Contains plan.planned f → f < get_or plan.planned i 0 → Contains (extent_numbers (scanned_in slots)) f
+        before : (i < length slots) × (is_some (get_or slots i None) ≡ false) × ((k : ℕ) → k < i → is_some (get_or slots k None) ≡ true) →
+            i < length plan.planned →
+            (f : ℕ) → Contains plan.planned f → f < get_or plan.planned i 0 →
+            Contains (extent_numbers (scanned_in slots)) f
         before first below f there less =
             let at : get_or plan.planned there.0 0 ≡ f = grind (arith, common_steps, there.1, there.2) in
             let sooner : there.0 < i = elim (cases_lt there.0 i) [
               | inl before-i ↦ before-i
-              | inr more ↦ absurd (omega (arith, at, less, numbers_rise plan.planned rising i there.0 (omega (arith, more)) there.1))
+              | inr more ↦
+                  absurd
+                  (omega (arith, at, less, numbers_rise plan.planned rising i there.0 (omega (arith, more)) there.1))
             ] in
-            subst (λ (e : ℕ). Contains (extent_numbers (scanned_in slots)) e) at (came_at there.0 None there.1 (first.2 there.0 sooner))
+            rw at at (came_at there.0 None there.1 (first.2 there.0 sooner))
 
-    module _ (i : ℕ) (r : ExtentResult D s) (below : i < length plan.planned) (number : get_or plan.planned i 0 ≡ r.extent) where
+    module _ (i : ℕ) (r : ExtentResult D s) (below : i < length plan.planned)
+        (number : get_or plan.planned i 0 ≡ r.extent) where
       is_planned : Contains plan.planned r.extent
-      is_planned = subst (λ (e : ℕ). Contains plan.planned e) number (Contains-get_or plan.planned i 0 below)
+      is_planned = rw number at (Contains-get_or plan.planned i 0 below)
 
       -- a result of a planned extent, of this image, belongs in that extent's place
-      pub kept_set : result_image r ≡ image → (Contains plan.planned r.extent → pointer_of plan r.extent ≡ Some r.pointer) → AreSlots image plan (set slots i (Some r))
+      pub kept_set : result_image r ≡ image →
+          (Contains plan.planned r.extent → pointer_of plan r.extent ≡ Some r.pointer) →
+          AreSlots image plan (set slots i (Some r))
       kept_set of pointer = zip_set (IsPlannedResult image plan) plan.planned slots i 0 r below (record {
         image_is = of;
         extent_is = sym number;
-        pointer_is = subst (λ (e : ℕ). pointer_of plan e ≡ Some r.pointer) (sym number) (pointer is_planned);
+        pointer_is = rw number (pointer is_planned);
       }) are
 
       module _ (d : Option (ExtentResult D s)) where
         -- in an empty place it is one more
-        pub added_at : is_some (get_or slots i d) ≡ false → IsAdded (book_of source plan slots) (scanned r) (book_of source plan (set slots i (Some r)))
+        pub added_at : is_some (get_or slots i d) ≡ false →
+            IsAdded (book_of source plan slots) (scanned r) (book_of source plan (set slots i (Some r)))
         added_at empty = record {
           planned = is_planned;
-          first = subst (λ (e : ℕ). ¬ Contains (extent_numbers (scanned_in slots)) e) number (absent_at rising i d below empty);
+          first = rw number at (absent_at rising i d below empty);
           source = refl;
           plan = refl;
-          came = IsPermutation-map (λ (x : ExtentResult D s). scanned x) (r ∷ held_in slots) (held_in (set slots i (Some r))) (held_set slots i d r (omega (arith, below, place_count)) empty);
+          came =
+              IsPermutation-map (λ (x : ExtentResult D s). scanned x) (r ∷ held_in slots)
+              (held_in (set slots i (Some r))) (held_set slots i d r (omega (arith, below, place_count)) empty);
         }
 
         -- in a filled one it is a second one
-        pub double_at : is_some (get_or slots i d) ≡ true → Contains plan.planned r.extent × Contains (extent_numbers (scanned_in slots)) r.extent
-        double_at filled = (is_planned, subst (λ (e : ℕ). Contains (extent_numbers (scanned_in slots)) e) number (came_at i d below filled))
+        pub double_at : is_some (get_or slots i d) ≡ true →
+            Contains plan.planned r.extent × Contains (extent_numbers (scanned_in slots)) r.extent
+        double_at filled = (is_planned, rw number at (came_at i d below filled))

@@ -1,5 +1,5 @@
 -- What each pool keeps, event by event.
-use Rattle.std.proofs.Common.{◌≡◌, ◌≤◌, ◌+◌, ◌++◌, ◌∷◌, ◌∙◌, ℕ, zero, suc, List, [], Bool, true, false, Option, Some, None, All, get_or, set, slice_get, sum_by, arith, refl, sym, ap, subst, inl, inr, if◌then◌else◌, replicate}
+use Rattle.std.proofs.Common.{◌≡◌, ◌≤◌, ◌+◌, ◌++◌, ◌∷◌, ◌∙◌, ℕ, zero, suc, List, [], Bool, true, false, Option, Some, None, All, get_or, set, slice_get, sum_by, arith, refl, sym, ap, inl, inr, if◌then◌else◌, replicate}
 use Rattle.std.specs.Option.{is_some, option_map_or, option_to_list}
 use Rattle.std.proofs.lemmas.Bool.{true≢false}
 use Rattle.std.proofs.lemmas.Option.{none-some, slice_get_within, get_or_from_slice_get}
@@ -18,16 +18,21 @@ use Rattle.scrub_book.specs.Pool.{MemberValue, PoolState, idle, start, worker_of
 use Rattle.scrub_book.proofs.Options.{is_nothing}
 
 -- a test that gives nothing is false, and neither does the rest give anything
-gives_nothing : {X : Type 0} (b : Bool) (x : X) (rest : Option X) → (if b then Some x else rest) ≡ None → (b ≡ false) × (rest ≡ None)
+gives_nothing : {X : Type 0} (b : Bool) (x : X) (rest : Option X) → (if b then Some x else rest) ≡ None →
+    (b ≡ false) × (rest ≡ None)
 gives_nothing true x rest none = absurd (none-some x (sym none))
 gives_nothing false x rest none = (refl, none)
 
 -- what is asked of the member itself
-asked : (p : PoolState) (event : Event) (m : MemberValue) → slice_get p.members (worker_of event) ≡ Some m → refusal p event ≡ None → member_refusal p.queue event m ≡ None
-asked p event m at may = sym (ap (λ (o : Option MemberValue). option_map_or (member_refusal p.queue event) o (Some NoWorker)) at) ∙ may
+asked : (p : PoolState) (event : Event) (m : MemberValue) → slice_get p.members (worker_of event) ≡ Some m →
+    refusal p event ≡ None → member_refusal p.queue event m ≡ None
+asked p event m at may =
+    sym (ap (λ (o : Option MemberValue). option_map_or (member_refusal p.queue event) o (Some NoWorker)) at) ∙ may
 
 -- a member that may take or retire has not retired, and holds nothing
-free : (m : MemberValue) (x y : StepRefused) (rest : Option StepRefused) → (if m.has_retired then Some x else if is_some m.held then Some y else rest) ≡ None → (m.has_retired ≡ false) × (m.held ≡ None)
+free : (m : MemberValue) (x y : StepRefused) (rest : Option StepRefused) →
+    (if m.has_retired then Some x else if is_some m.held then Some y else rest) ≡ None →
+    (m.has_retired ≡ false) × (m.held ≡ None)
 free m x y rest may =
     let first = gives_nothing m.has_retired x _ may in
     (first.0, is_nothing m.held (gives_nothing (is_some m.held) y rest first.1).0)
@@ -37,36 +42,53 @@ placed : (f : ℕ → ℕ) (ms : List MemberValue) (v : ℕ) (m n : MemberValue)
     sum_by (λ x. sum_by f (having x)) (set ms v n) + sum_by f (having m) ≡ sum_by (λ x. sum_by f (having x)) ms + sum_by f (having n)
 placed f ms v m n at =
     let wrote = sum_by-set (λ x. sum_by f (having x)) ms v n m (slice_get_within ms v m at) in
-    let is : sum_by f (having (get_or ms v m)) ≡ sum_by f (having m) = ap (λ x. sum_by f (having x)) (get_or_from_slice_get ms v m m at) in
+    let is : sum_by f (having (get_or ms v m)) ≡ sum_by f (having m) =
+    ap (λ x. sum_by f (having x)) (get_or_from_slice_get ms v m m at) in
     omega (arith, wrote, is)
 
 -- what one of them has is no more than what all have
-pub one_among : (f : ℕ → ℕ) (ms : List MemberValue) (v : ℕ) (m : MemberValue) → slice_get ms v ≡ Some m → sum_by f (having m) ≤ sum_by (λ x. sum_by f (having x)) ms
-one_among f ms v m at = subst (λ (x : MemberValue). sum_by f (having x) ≤ sum_by (λ y. sum_by f (having y)) ms) (get_or_from_slice_get ms v m m at) (get_or-le-sum_by (λ x. sum_by f (having x)) ms v m (slice_get_within ms v m at))
+pub one_among : (f : ℕ → ℕ) (ms : List MemberValue) (v : ℕ) (m : MemberValue) → slice_get ms v ≡ Some m →
+    sum_by f (having m) ≤ sum_by (λ x. sum_by f (having x)) ms
+one_among f ms v m at =
+    rw (get_or_from_slice_get ms v m m at) at
+    (get_or-le-sum_by (λ x. sum_by f (having x)) ms v m (slice_get_within ms v m at))
 
 -- a member that holds nothing has its results
 free_has : (f : ℕ → ℕ) (m : MemberValue) → m.held ≡ None → sum_by f (having m) ≡ sum_by f (extent_numbers m.results)
 free_has f m free = ap (λ (o : Option ℕ). sum_by f (option_to_list o ++ extent_numbers m.results)) free
 
 -- one that holds an extent has it beside them
-busy_has : (f : ℕ → ℕ) (m : MemberValue) (e : ℕ) → m.held ≡ Some e → sum_by f (having m) ≡ f e + sum_by f (extent_numbers m.results)
-busy_has f m e held = ap (λ (o : Option ℕ). sum_by f (option_to_list o ++ extent_numbers m.results)) held ∙ sum_by-cons f e (extent_numbers m.results)
+busy_has : (f : ℕ → ℕ) (m : MemberValue) (e : ℕ) → m.held ≡ Some e →
+    sum_by f (having m) ≡ f e + sum_by f (extent_numbers m.results)
+busy_has f m e held =
+    ap (λ (o : Option ℕ). sum_by f (option_to_list o ++ extent_numbers m.results)) held
+    ∙ sum_by-cons f e (extent_numbers m.results)
 
 module _ (image : Image) (plan : PlanValue) where
   -- a member keeps what each keeps
-  member_of : (ms : List MemberValue) (v : ℕ) (m : MemberValue) → slice_get ms v ≡ Some m → All (IsMember image plan) ms → IsMember image plan m
-  member_of ms v m at are = subst (λ (x : MemberValue). IsMember image plan x) (get_or_from_slice_get ms v m m at) (are v m (slice_get_within ms v m at))
+  member_of : (ms : List MemberValue) (v : ℕ) (m : MemberValue) → slice_get ms v ≡ Some m →
+      All (IsMember image plan) ms → IsMember image plan m
+  member_of ms v m at are = rw (get_or_from_slice_get ms v m m at) at (are v m (slice_get_within ms v m at))
 
-  take_keeps : (old : PoolState) (v : ℕ) (new : PoolState) → refusal old (Take v) ≡ None → IsTake old v new → IsPool image plan old → IsPool image plan new
+  take_keeps : (old : PoolState) (v : ℕ) (new : PoolState) → refusal old (Take v) ≡ None → IsTake old v new →
+      IsPool image plan old → IsPool image plan new
   take_keeps old v new may step pool =
       let m = step.member in
       let e = step.extent in
       let is_free = free m _ _ _ (asked old (Take v) m step.at may) in
       let n : MemberValue = record m { held = Some e; taken = m.taken ++ e ∷ [] } in
-      subst (λ (p : PoolState). IsPool image plan p) (sym step.is) (record {
+      rw step.is (record {
         account = λ f.
-            let queue : sum_by f old.queue ≡ f e + sum_by f step.rest = ap (sum_by f) step.front ∙ sum_by-cons f e step.rest in
-            omega (arith, pool.account f, queue, placed f old.members v m n step.at, free_has f m is_free.1, busy_has f n e refl);
+            let queue : sum_by f old.queue ≡ f e + sum_by f step.rest =
+            ap (sum_by f) step.front ∙ sum_by-cons f e step.rest in
+            omega (
+              arith,
+              pool.account f,
+              queue,
+              placed f old.members v m n step.at,
+              free_has f m is_free.1,
+              busy_has f n e refl,
+            );
         members = All-set (IsMember image plan) old.members v n (record {
           results = (member_of old.members v m step.at pool.members).results;
           left = λ gone. absurd (true≢false (sym gone ∙ is_free.0));
@@ -74,45 +96,67 @@ module _ (image : Image) (plan : PlanValue) where
         arrivals = pool.arrivals;
       })
 
-  done_keeps : (old : PoolState) (v : ℕ) (new : PoolState) → refusal old (Done v) ≡ None → IsDone image plan old v new → IsPool image plan old → IsPool image plan new
+  done_keeps : (old : PoolState) (v : ℕ) (new : PoolState) → refusal old (Done v) ≡ None → IsDone image plan old v new →
+      IsPool image plan old → IsPool image plan new
   done_keeps old v new may step pool =
       let m = step.member in
       let one = step.one in
       let working : m.has_retired ≡ false = (gives_nothing m.has_retired _ _ (asked old (Done v) m step.at may)).0 in
       let n : MemberValue = record m { held = None; results = m.results ++ one ∷ [] } in
-      subst (λ (p : PoolState). IsPool image plan p) (sym step.is) (record {
+      rw step.is (record {
         account = λ f.
             let more : sum_by f (having n) ≡ sum_by f (extent_numbers m.results) + f one.extent =
-            ap (sum_by f) (map-append (λ x. x.extent) m.results (one ∷ [])) ∙ sum_by-append f (extent_numbers m.results) (one.extent ∷ []) ∙ (omega arith) in
+            ap (sum_by f) (map-append (λ x. x.extent) m.results (one ∷ []))
+            ∙ sum_by-append f (extent_numbers m.results) (one.extent ∷ []) ∙ (omega arith) in
             omega (arith, pool.account f, placed f old.members v m n step.at, busy_has f m one.extent step.held, more);
         members = All-set (IsMember image plan) old.members v n (record {
-          results = All-push (IsScanned image plan) m.results one (member_of old.members v m step.at pool.members).results step.scanned;
+          results =
+              All-push (IsScanned image plan) m.results one (member_of old.members v m step.at pool.members).results
+              step.scanned;
           left = λ gone. absurd (true≢false (sym gone ∙ working));
         }) pool.members;
         arrivals = pool.arrivals;
       })
 
-  retire_keeps : (old : PoolState) (v : ℕ) (new : PoolState) → refusal old (Retire v) ≡ None → IsRetire old v new → IsPool image plan old → IsPool image plan new
+  retire_keeps : (old : PoolState) (v : ℕ) (new : PoolState) → refusal old (Retire v) ≡ None → IsRetire old v new →
+      IsPool image plan old → IsPool image plan new
   retire_keeps old v new may step pool =
       let m = step.member in
       let is_free = free m _ _ _ (asked old (Retire v) m step.at may) in
       let n : MemberValue = record m { results = []; has_retired = true } in
-      subst (λ (p : PoolState). IsPool image plan p) (sym step.is) (record {
+      rw step.is (record {
         account = λ f.
             let more : sum_by f (extent_numbers (old.arrivals ++ m.results)) ≡ sum_by f (extent_numbers old.arrivals) + sum_by f (extent_numbers m.results) =
-            ap (sum_by f) (map-append (λ x. x.extent) old.arrivals m.results) ∙ sum_by-append f (extent_numbers old.arrivals) (extent_numbers m.results) in
-            omega (arith, pool.account f, placed f old.members v m n step.at, free_has f m is_free.1, free_has f n is_free.1, more);
-        members = All-set (IsMember image plan) old.members v n (record { results = λ k d below. absurd (omega (arith, below)); left = λ gone. (is_free.1, refl) }) pool.members;
-        arrivals = All-append (IsScanned image plan) old.arrivals m.results pool.arrivals (member_of old.members v m step.at pool.members).results;
+            ap (sum_by f) (map-append (λ x. x.extent) old.arrivals m.results)
+            ∙ sum_by-append f (extent_numbers old.arrivals) (extent_numbers m.results) in
+            omega (
+              arith,
+              pool.account f,
+              placed f old.members v m n step.at,
+              free_has f m is_free.1,
+              free_has f n is_free.1,
+              more,
+            );
+        members =
+            All-set (IsMember image plan) old.members v n
+            (record { results = λ k d below. absurd (omega (arith, below)); left = λ gone. (is_free.1, refl) })
+            pool.members;
+        arrivals =
+            All-append (IsScanned image plan) old.arrivals m.results pool.arrivals
+            (member_of old.members v m step.at pool.members).results;
       })
 
-  pub step_keeps : (old : PoolState) (event : Event) (new : PoolState) → refusal old event ≡ None → IsStep image plan old event new → IsPool image plan old → IsPool image plan new
+  pub step_keeps : (old : PoolState) (event : Event) (new : PoolState) → refusal old event ≡ None →
+      IsStep image plan old event new → IsPool image plan old → IsPool image plan new
   step_keeps old (Take v) new may step pool = take_keeps old v new may step pool
   step_keeps old (Done v) new may step pool = done_keeps old v new may step pool
   step_keeps old (Retire v) new may step pool = retire_keeps old v new may step pool
 
   idle_member : IsMember image plan idle
-  idle_member = record { results = λ k d below. absurd (omega (arith, below)); left = λ gone. absurd (true≢false (sym gone)) }
+  idle_member = record {
+    results = λ k d below. absurd (omega (arith, below));
+    left = λ gone. absurd (true≢false (sym gone));
+  }
 
   replicated : (n : ℕ) → All (IsMember image plan) (replicate n idle)
   replicated zero k d below = absurd (omega (arith, below))
@@ -126,9 +170,10 @@ module _ (image : Image) (plan : PlanValue) where
     arrivals = λ k d below. absurd (omega (arith, below));
   }
 
-  pub leads_keeps : (old : PoolState) (events : List Event) (new : PoolState) → Leads image plan old events new → IsPool image plan old → IsPool image plan new
-  leads_keeps old [] new is pool = subst (λ (p : PoolState). IsPool image plan p) (sym is) pool
+  pub leads_keeps : (old : PoolState) (events : List Event) (new : PoolState) → Leads image plan old events new →
+      IsPool image plan old → IsPool image plan new
+  leads_keeps old [] new is pool = rw is pool
   leads_keeps old (event ∷ events) new h pool = leads_keeps h.0 events new h.2 (elim h.1 [
     | inl taken ↦ step_keeps old event h.0 taken.0 taken.1 pool
-    | inr same ↦ subst (λ (p : PoolState). IsPool image plan p) (sym same) pool
+    | inr same ↦ rw same pool
   ])

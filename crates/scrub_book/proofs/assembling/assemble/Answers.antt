@@ -1,4 +1,4 @@
-use Rattle.std.proofs.Common.{◌≡◌, ◌++◌, ◌∷◌, ◌∙◌, [], ℕ, List, All, Some, map, sum_by, ap, arith, append-nil, subst, sym}
+use Rattle.std.proofs.Common.{◌≡◌, ◌++◌, ◌∷◌, ◌∙◌, [], ℕ, List, All, Some, map, sum_by, ap, arith, append-nil, sym}
 use Rattle.std.specs.List.{Contains}
 use Rattle.std.specs.List.Sorted.{IsPermutation, IsStrictlyIncreasing}
 use Rattle.std.specs.Vec.Iter.{into_iter_items}
@@ -14,18 +14,24 @@ use Rattle.scrub_book.proofs.Arrivals.{numbers_shown, one_more_came, next_planne
 use Rattle.scrub_book.proofs.assembling.assemble.Goals as goal
 
 -- what arrived are the planned extents
-each_of : {D : Type 0} {s : _} (planned : List ℕ) (rs : List (ExtentResult D s)) → IsPermutation (extents_of rs) planned → (f : ℕ → ℕ) → sum_by f (extent_numbers (map (λ (r : ExtentResult D s). scanned r) rs)) ≡ sum_by f planned
-each_of {D} {s} planned rs each f = ap (sum_by f) (numbers_shown rs) ∙ sym (sum_by-IsPermutation f (extents_of rs) planned each)
+each_of : {D : Type 0} {s : _} (planned : List ℕ) (rs : List (ExtentResult D s)) →
+    IsPermutation (extents_of rs) planned → (f : ℕ → ℕ) →
+    sum_by f (extent_numbers (map (λ (r : ExtentResult D s). scanned r) rs)) ≡ sum_by f planned
+each_of {D} {s} planned rs each f =
+    ap (sum_by f) (numbers_shown rs) ∙ sym (sum_by-IsPermutation f (extents_of rs) planned each)
 
 -- the next that comes
-next_of : {D : Type 0} {s : _} (all : List Scanned) (came : List Scanned) (rs rest : List (ExtentResult D s)) (r : ExtentResult D s) → rs ≡ r ∷ rest →
-    IsPermutation all (came ++ map (λ (x : ExtentResult D s). scanned x) rs) → IsPermutation all (came ++ scanned r ∷ map (λ (x : ExtentResult D s). scanned x) rest)
-next_of {D} {s} all came rs rest r is so_far = subst (λ (ys : List (ExtentResult D s)). IsPermutation all (came ++ map (λ (x : ExtentResult D s). scanned x) ys)) is so_far
+next_of : {D : Type 0} {s : _} (all : List Scanned) (came : List Scanned) (rs rest : List (ExtentResult D s)) (r : ExtentResult D s) →
+    rs ≡ r ∷ rest →
+    IsPermutation all (came ++ map (λ (x : ExtentResult D s). scanned x) rs) →
+    IsPermutation all (came ++ scanned r ∷ map (λ (x : ExtentResult D s). scanned x) rest)
+next_of {D} {s} all came rs rest r is so_far = rw is at so_far
 
 -- nothing more comes
-none_of : {D : Type 0} {s : _} (all : List Scanned) (came : List Scanned) (rs : List (ExtentResult D s)) → rs ≡ [] → IsPermutation all (came ++ map (λ (x : ExtentResult D s). scanned x) rs) → IsPermutation all came
+none_of : {D : Type 0} {s : _} (all : List Scanned) (came : List Scanned) (rs : List (ExtentResult D s)) → rs ≡ [] →
+    IsPermutation all (came ++ map (λ (x : ExtentResult D s). scanned x) rs) → IsPermutation all came
 none_of {D} {s} all came rs is so_far =
-    subst (λ (xs : List Scanned). IsPermutation all xs) (append-nil came) (subst (λ (ys : List (ExtentResult D s)). IsPermutation all (came ++ map (λ (x : ExtentResult D s). scanned x) ys)) is so_far)
+    rw (← (append-nil came)) (rw is at so_far)
 
 pub loop-found-preserved : goal.loop-found-preserved
 loop-found-preserved g c =
@@ -34,9 +40,17 @@ loop-found-preserved g c =
     let added = c.in-Ok.ensures.added in record {
       source = added.source ∙ inv.source;
       plan = added.plan ∙ inv.plan;
-      came = one_more_came all c.loop-found.book.came _ c.add.new.self.came (scanned c.in-Some.found) (next_of all c.loop-found.book.came _ _ c.in-Some.found c.in-Some.ensures.steps.0 inv.came) added.came;
-      images = All-rest (λ (r : ExtentResult g.row.D.Denot g.D.PageSource). result_image r ≡ g.D.PageSource.image c.args.book.source) c.in-Some.found _ _ c.in-Some.ensures.steps.0 inv.images;
-      pointers = All-rest (λ (r : ExtentResult g.row.D.Denot g.D.PageSource). pointer_of c.args.book.plan r.extent ≡ Some r.pointer) c.in-Some.found _ _ c.in-Some.ensures.steps.0 inv.pointers;
+      came =
+          one_more_came all c.loop-found.book.came _ c.add.new.self.came (scanned c.in-Some.found)
+          (next_of all c.loop-found.book.came _ _ c.in-Some.found c.in-Some.ensures.steps.0 inv.came) added.came;
+      images =
+          All-rest
+          (λ (r : ExtentResult g.row.D.Denot g.D.PageSource). result_image r ≡ g.D.PageSource.image c.args.book.source)
+          c.in-Some.found _ _ c.in-Some.ensures.steps.0 inv.images;
+      pointers =
+          All-rest
+          (λ (r : ExtentResult g.row.D.Denot g.D.PageSource). pointer_of c.args.book.plan r.extent ≡ Some r.pointer)
+          c.in-Some.found _ _ c.in-Some.ensures.steps.0 inv.pointers;
     }
 
 -- each that arrived is planned, and comes once
@@ -47,10 +61,11 @@ unreachable-requires g c =
     let all = map (λ (r : ExtentResult g.row.D.Denot g.D.PageSource). scanned r) c.args.arrived.items in
     let each = each_of c.args.book.plan.planned c.args.arrived.items c.requires.each in
     let next = next_of all book.came _ _ c.in-Some.found c.in-Some.ensures.steps.0 inv.came in
-    let rising = subst (λ (p : PlanValue). IsStrictlyIncreasing p.planned) c.plan.ensures c.planned.ensures.extents.rising in
+    let rising = rw c.plan.ensures at c.planned.ensures.extents.rising in
     not_refused book c.in-Some.found c.in-Err.field-0
-    (subst (λ (p : PlanValue). Contains p.planned c.in-Some.found.extent) (sym inv.plan) (next_planned c.args.book.plan.planned all each book.came _ (scanned c.in-Some.found) next))
-    (next_first c.args.book.plan.planned all each book.came _ (scanned c.in-Some.found) rising next) c.in-Err.ensures.refused
+    (rw inv.plan (next_planned c.args.book.plan.planned all each book.came _ (scanned c.in-Some.found) next))
+    (next_first c.args.book.plan.planned all each book.came _ (scanned c.in-Some.found) rising next)
+    c.in-Err.ensures.refused
 
 -- at the end each came
 pub unreachable-requires-in-Err-finish : goal.unreachable-requires-in-Err-finish
@@ -60,9 +75,10 @@ unreachable-requires-in-Err-finish g c =
     let all = map (λ (r : ExtentResult g.row.D.Denot g.D.PageSource). scanned r) c.args.arrived.items in
     let each = each_of c.args.book.plan.planned c.args.arrived.items c.requires.each in
     c.in-Err-finish.ensures.back.1
-    (subst (λ (p : PlanValue). All (Contains (extent_numbers book.came)) p.planned) (sym inv.plan) (all_came c.args.book.plan.planned all each book.came (none_of all book.came _ (nil_from_length (into_iter_items c.loop-found.found-iterator) (omega (arith, c.in-None.ensures.steps.0))) inv.came)))
+    (rw inv.plan (all_came c.args.book.plan.planned all each book.came (none_of all book.came _ (nil_from_length (into_iter_items c.loop-found.found-iterator) (omega (arith, c.in-None.ensures.steps.0))) inv.came)))
 
 pub returns-clause-arrived : goal.returns-clause-arrived
 returns-clause-arrived g c =
     let all = map (λ (r : ExtentResult g.row.D.Denot g.D.PageSource). scanned r) c.args.arrived.items in
-    subst (λ (xs : List Scanned). IsPermutation all xs) (sym c.in-Ok-finish.ensures.all.1) (none_of all c.loop-found.book.came _ (nil_from_length (into_iter_items c.loop-found.found-iterator) (omega (arith, c.in-None.ensures.steps.0))) c.loop-found.invariant.came)
+    rw c.in-Ok-finish.ensures.all.1
+    (none_of all c.loop-found.book.came _ (nil_from_length (into_iter_items c.loop-found.found-iterator) (omega (arith, c.in-None.ensures.steps.0))) c.loop-found.invariant.came)

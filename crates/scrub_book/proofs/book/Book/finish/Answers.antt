@@ -24,8 +24,12 @@ returns-clause-all g c =
     let slots = c.self.inside.slots.items in
     let plan = c.self.inside.plan in
     let image = g.D.PageSource.image c.self.inside.source.now in
-    let none = ap is_some (first_empty_is c.first_empty.ensures c.deref.ensures.value) ∙ sym c.is_some.ensures ∙ c.if-is_some.false in
-    subst (λ (b : BookValue g.row.D.Denot). HasAll b × (c.from_slots.result.extents ≡ b.came) × AreAllFindings (g.D.PageSource.image b.source) b.plan c.from_slots.result.extents) c.self.view_is (
+    let none =
+    ap is_some (first_empty_is c.first_empty.ensures c.deref.ensures.value) ∙ sym c.is_some.ensures
+    ∙ c.if-is_some.false in
+    subst
+    (λ (b : BookValue g.row.D.Denot). HasAll b × (c.from_slots.result.extents ≡ b.came) × AreAllFindings (g.D.PageSource.image b.source) b.plan c.from_slots.result.extents)
+    c.self.view_is (
       has_all image plan slots c.self.invariant c.self.inside.source.now (none_empty slots none),
       c.from_slots.ensures.extents,
       c.from_slots.ensures.findings image c.self.invariant,
@@ -33,5 +37,7 @@ returns-clause-all g c =
 
 pub returns-clause-image : goal.returns-clause-image
 returns-clause-image g c =
-    subst (λ (b : BookValue g.row.D.Denot). IsOfImage (λ s. g.D.PageSource.image s) c.from_slots.result (g.D.PageSource.image b.source)) c.self.view_is
+    subst
+    (λ (b : BookValue g.row.D.Denot). IsOfImage (λ s. g.D.PageSource.image s) c.from_slots.result (g.D.PageSource.image b.source))
+    c.self.view_is
     (c.from_slots.ensures.image (g.D.PageSource.image c.self.inside.source.now) c.self.invariant)

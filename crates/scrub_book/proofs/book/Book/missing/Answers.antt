@@ -14,7 +14,12 @@ pub bounds-planned-i : goal.bounds-planned-i
 bounds-planned-i g c =
     let slots = c.self.inside.slots.items in
     let first = first_empty_is c.in_ok-i.ensures c.deref.ensures.value in
-    omega (arith, (first_empty_at slots c.in_ok-i.i None first).0, place_count (g.D.PageSource.image c.self.inside.source.now) c.self.inside.plan slots c.self.invariant, ap length c.planned.ensures.planned)
+    omega (
+      arith,
+      (first_empty_at slots c.in_ok-i.i None first).0,
+      place_count (g.D.PageSource.image c.self.inside.source.now) c.self.inside.plan slots c.self.invariant,
+      ap length c.planned.ensures.planned,
+    )
 
 pub returns-clause-least : goal.returns-clause-least
 returns-clause-least g c =

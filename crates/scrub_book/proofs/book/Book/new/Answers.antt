@@ -1,4 +1,4 @@
-use Rattle.std.proofs.Common.{refl, ◌≡◌, ◌∙◌, ℕ, List, Option, None, All, length, replicate, map, sym, ap, subst}
+use Rattle.std.proofs.Common.{refl, ◌≡◌, ◌∙◌, ℕ, List, Option, None, All, length, replicate, map, sym, ap}
 use Rattle.std.specs.List.{Contains}
 use Rattle.std.proofs.lemmas.List.Elements.{All-contains_itself}
 use Rattle.scrub_super.specs.Plan.{IsRestricted}
@@ -9,20 +9,22 @@ use Rattle.scrub_book.proofs.Places.{held_none, zip_none, same_plan}
 use Rattle.scrub_book.proofs.book.Book.new.Goals as goal
 
 pub restrict-requires-clause-each_planned : goal.restrict-requires-clause-each_planned
-restrict-requires-clause-each_planned g c = subst (λ (ns : List ℕ). All (Contains c.args.plan.now.planned) ns) (sym c.planned.ensures.planned) (All-contains_itself c.args.plan.now.planned)
+restrict-requires-clause-each_planned g c = rw c.planned.ensures.planned (All-contains_itself c.args.plan.now.planned)
 
 pub invariant_of-result : goal.invariant_of-result
 invariant_of-result g c =
     let image = g.D.PageSource.image c.args.disk.now in
     let plan = c.in_ok-plan.plan in
     let slots : List (Option (ExtentResult g.row.D.Denot g.D.PageSource)) = c.in_ok-slots.slots.items in
-    let are : slots ≡ replicate (length plan.planned) None = c.in_ok-slots.ensures ∙ ap (λ (ns : List ℕ). replicate (length ns) None) c.planned-2.ensures.planned in
-    subst (λ (xs : List (Option (ExtentResult g.row.D.Denot g.D.PageSource))). AreSlots image plan xs) (sym are) (zip_none (IsPlannedResult image plan) plan.planned)
+    let are : slots ≡ replicate (length plan.planned) None =
+    c.in_ok-slots.ensures ∙ ap (λ (ns : List ℕ). replicate (length ns) None) c.planned-2.ensures.planned in
+    rw are (zip_none (IsPlannedResult image plan) plan.planned)
 
 pub returns : goal.returns
 returns g c = record {
   source_is = refl;
-  plan_is = same_plan c.args.plan.now c.in_ok-plan.plan (subst (λ (ns : List ℕ). IsRestricted c.args.plan.now ns c.in_ok-plan.plan) c.planned.ensures.planned c.in_ok-plan.ensures);
+  plan_is = same_plan c.args.plan.now c.in_ok-plan.plan (rw c.planned.ensures.planned at c.in_ok-plan.ensures);
   nothing = ap (λ (xs : List (Option (ExtentResult g.row.D.Denot g.D.PageSource))). scanned_in xs) c.in_ok-slots.ensures
-      ∙ ap (map (λ (r : ExtentResult g.row.D.Denot g.D.PageSource). scanned r)) (held_none (length c.planned-2.result.now));
+      ∙ ap (map (λ (r : ExtentResult g.row.D.Denot g.D.PageSource). scanned r))
+      (held_none (length c.planned-2.result.now));
 }

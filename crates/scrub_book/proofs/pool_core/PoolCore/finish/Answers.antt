@@ -1,4 +1,4 @@
-use Rattle.std.proofs.Common.{◌≡◌, ◌∙◌, Some, true, map, sum_by, get_or, ap, arith, sym, subst}
+use Rattle.std.proofs.Common.{◌≡◌, ◌∙◌, Some, true, map, sum_by, get_or, ap, arith, sym}
 use Rattle.std.proofs.lemmas.List.{get_or-map, get_or_default, length-map}
 use Rattle.std.proofs.lemmas.List.Sorted.{Contains-permutation, IsPermutation-sym}
 use Rattle.scrub_super.specs.Plan.{pointer_of}
@@ -16,14 +16,15 @@ pub assemble-requires-clause-pointers : goal.assemble-requires-clause-pointers
 assemble-requires-clause-pointers g c = λ κs h k d below.
     let rs = c.self.inside.arrived.items in
     let value = λ (r : ExtentResult g.row.D.Denot g.D.PageSource). scanned r in
-    subst (λ (x : Scanned). pointer_of c.self.inside.book.plan x.extent ≡ Some x.pointer) (get_or-map value rs k d (value d) below)
+    rw (get_or-map value rs k d (value d) below) at
     (c.self.invariant.0.pool.arrivals k (value d) (omega (arith, below, length-map rs value))).pointer_is
 
 -- they are the planned extents, since they add up as these do
 pub assemble-requires-clause-each : goal.assemble-requires-clause-each
 assemble-requires-clause-each g c = λ κs h.
     let x = c.self.inside in
-    let complete : is_complete (state_of x.queue.items x.members.items x.arrived.items) ≡ true = ap (λ v. is_complete v.state) c.self.view_is ∙ sym c.is_complete.ensures ∙ c.if-not-is_complete.false in
+    let complete : is_complete (state_of x.queue.items x.members.items x.arrived.items) ≡ true =
+    ap (λ v. is_complete v.state) c.self.view_is ∙ sym c.is_complete.ensures ∙ c.if-not-is_complete.false in
     permutation_of_sums (extents_of x.arrived.items) x.book.plan.planned
     (λ f. sym (ap (sum_by f) (numbers_shown x.arrived.items)) ∙ complete_sums (g.D.PageSource.image x.book.source) x.book.plan (state_of x.queue.items x.members.items x.arrived.items) c.self.invariant.0.pool complete f)
 
@@ -34,5 +35,7 @@ returns-clause-assembly g c =
     let came = map value c.self.inside.arrived.items in
     rw (← c.self.view_is) (record {
       extents = c.assemble.ensures.found.extents;
-      arrived = λ k d below. Contains-permutation all came (get_or all k d) (IsPermutation-sym came all c.assemble.ensures.arrived) (k, below, get_or_default all k (get_or all k d) d below);
+      arrived = λ k d below.
+          Contains-permutation all came (get_or all k d) (IsPermutation-sym came all c.assemble.ensures.arrived)
+          (k, below, get_or_default all k (get_or all k d) d below);
     })

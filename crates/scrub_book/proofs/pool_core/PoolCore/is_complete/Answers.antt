@@ -13,6 +13,8 @@ returns-then-is_empty g c =
     let through : MemberValue → Bool = λ m. is_none m.held && m.has_retired in
     let value : Member g.row.D.Denot g.D.PageSource → MemberValue = λ m. member_value m in
     let members : c.are_through.result ≡ list_all through (map value f.members.items) =
-    c.are_through.ensures ∙ ap (λ (ms : List (Member g.row.D.Denot g.D.PageSource)). list_all (λ m. through (value m)) ms) c.deref.ensures.value ∙ sym (list_all-map through value f.members.items) in
+    c.are_through.ensures
+    ∙ ap (λ (ms : List (Member g.row.D.Denot g.D.PageSource)). list_all (λ m. through (value m)) ms) c.deref.ensures.value
+    ∙ sym (list_all-map through value f.members.items) in
     let empty : (length f.queue.items == 0) ≡ true = grind (arith, nat_tests, c.is_empty.ensures, c.if-is_empty.true) in
     rw (← c.self.view_is) (members ∙ sym (ap (λ (b : Bool). b && list_all through (map value f.members.items)) empty))

@@ -9,28 +9,41 @@ use Rattle.scrub_book.proofs.pool_core.PoolCore.retire.Goals as goal
 pub arrive-requires-clause-arrived : goal.arrive-requires-clause-arrived
 arrive-requires-clause-arrived g c = λ κs h.
     let kept = c.self.invariant.0 in
-    let named = named_by kept (Retire c.args.worker) c.index_mut.result.now _ (ap (λ v. v.state) c.self.view_is) c.requires c.index_mut.ensures.value in
+    let named =
+    named_by kept (Retire c.args.worker) c.index_mut.result.now _ (ap (λ v. v.state) c.self.view_is) c.requires
+    c.index_mut.ensures.value in
     omega (arith, room_for kept named, kept.enough, ap length c.retire-results.ensures.results.0)
 
 pub arrive-requires-clause-numbers : goal.arrive-requires-clause-numbers
 arrive-requires-clause-numbers g c = λ κs h.
     let kept = c.self.invariant.0 in
-    let named = named_by kept (Retire c.args.worker) c.index_mut.result.now _ (ap (λ v. v.state) c.self.view_is) c.requires c.index_mut.ensures.value in
+    let named =
+    named_by kept (Retire c.args.worker) c.index_mut.result.now _ (ap (λ v. v.state) c.self.view_is) c.requires
+    c.index_mut.ensures.value in
     let arrived = c.self.inside.arrived.items in
-    let told : length c.self.inside.numbers.items ≡ length arrived = ap length kept.numbers_are ∙ length-map arrived (λ (r : ExtentResult g.row.D.Denot g.D.PageSource). r.extent) in
+    let told : length c.self.inside.numbers.items ≡ length arrived =
+    ap length kept.numbers_are ∙ length-map arrived (λ (r : ExtentResult g.row.D.Denot g.D.PageSource). r.extent) in
     omega (arith, room_for kept named, told, c.self.invariant.1, ap length c.retire-results.ensures.results.0)
 
 pub returns-clause-retired : goal.returns-clause-retired
 returns-clause-retired g c =
-    let named = named_by c.self.invariant.0 (Retire c.args.worker) c.index_mut.result.now _ (ap (λ v. v.state) c.self.view_is) c.requires c.index_mut.ensures.value in
-    rw (← c.self.view_is) (retire_is named c.arrive.new.arrived.items c.retire-results.new.self c.retire-results.ensures.value (rw c.retire-results.ensures.results.0 at c.arrive.ensures.arrived))
+    let named =
+    named_by c.self.invariant.0 (Retire c.args.worker) c.index_mut.result.now _ (ap (λ v. v.state) c.self.view_is)
+    c.requires c.index_mut.ensures.value in
+    rw (← c.self.view_is)
+    (retire_is named c.arrive.new.arrived.items c.retire-results.new.self c.retire-results.ensures.value (rw c.retire-results.ensures.results.0 at c.arrive.ensures.arrived))
 
 pub invariant_of-self : goal.invariant_of-self
 invariant_of-self g c =
     let kept = c.self.invariant.0 in
-    let named = named_by kept (Retire c.args.worker) c.index_mut.result.now _ (ap (λ v. v.state) c.self.view_is) c.requires c.index_mut.ensures.value in
+    let named =
+    named_by kept (Retire c.args.worker) c.index_mut.result.now _ (ap (λ v. v.state) c.self.view_is) c.requires
+    c.index_mut.ensures.value in
     let results = c.retire-results.ensures.results in
-    let ready : IsReady (g.D.PageSource.image c.self.inside.book.source) c.retire-results.new.self = record { room = c.retire-results.ensures.room; images = rw results.1 (λ k d low. absurd (omega (arith, low))) } in
+    let ready : IsReady (g.D.PageSource.image c.self.inside.book.source) c.retire-results.new.self = record {
+      room = c.retire-results.ensures.room;
+      images = rw results.1 (λ k d low. absurd (omega (arith, low)));
+    } in
     let after = rw results.0 at c.arrive.ensures.arrived in
     let told = rw results.0 at c.arrive.ensures.numbers in
     let step = retire_is named c.arrive.new.arrived.items c.retire-results.new.self c.retire-results.ensures.value after in (

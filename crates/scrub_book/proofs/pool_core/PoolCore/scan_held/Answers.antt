@@ -1,4 +1,4 @@
-use Rattle.std.proofs.Common.{◌≡◌, ◌∙◌, ap, sym, subst, slice_get, Some}
+use Rattle.std.proofs.Common.{◌≡◌, ◌∙◌, ap, sym, slice_get, Some}
 use Rattle.std.specs.List.{Contains}
 use Rattle.std.proofs.lemmas.Option.{same_Some}
 use Rattle.std.proofs.lemmas.Result.{IfOk-weaker}
@@ -15,14 +15,21 @@ pub scan_extent-requires-clause-planned : goal.scan_extent-requires-clause-plann
 scan_extent-requires-clause-planned g c = λ κs h.
     let f = c.self.inside in
     let kept = c.self.invariant.0 in
-    let named = named_by kept (Done c.args.worker) c.index.result.now _ (ap (λ v. v.state) c.self.view_is) c.requires c.index.ensures in
+    let named =
+    named_by kept (Done c.args.worker) c.index.result.now _ (ap (λ v. v.state) c.self.view_is) c.requires
+    c.index.ensures in
     let held : (member_value c.index.result.now).held ≡ Some c.in-Some.extent = sym c.held.ensures ∙ c.in-Some.is in
-    subst (λ (x : PlanValue). Contains x.planned c.in-Some.extent) (sym c.plan.ensures)
+    rw c.plan.ensures
     (held_planned (g.D.PageSource.image f.book.source) f.book.plan (state_of f.queue.items f.members.items f.arrived.items) c.args.worker (member_value c.index.result.now) c.in-Some.extent kept.pool.account (place named) held)
 
 pub returns-clause-held : goal.returns-clause-held
 returns-clause-held g c m is =
-    let named = named_by c.self.invariant.0 (Done c.args.worker) c.index.result.now _ (ap (λ v. v.state) c.self.view_is) c.requires c.index.ensures in
-    let same : m ≡ member_value c.index.result.now = same_Some m (member_value c.index.result.now) (sym is ∙ sym (ap (λ v. slice_get v.state.members c.args.worker) c.self.view_is) ∙ place named) in
-    let held : m.held ≡ Some c.in-Some.extent = ap (λ (x : MemberValue). x.held) same ∙ sym c.held.ensures ∙ c.in-Some.is in
+    let named =
+    named_by c.self.invariant.0 (Done c.args.worker) c.index.result.now _ (ap (λ v. v.state) c.self.view_is) c.requires
+    c.index.ensures in
+    let same : m ≡ member_value c.index.result.now =
+    same_Some m (member_value c.index.result.now)
+    (sym is ∙ sym (ap (λ v. slice_get v.state.members c.args.worker) c.self.view_is) ∙ place named) in
+    let held : m.held ≡ Some c.in-Some.extent =
+    ap (λ (x : MemberValue). x.held) same ∙ sym c.held.ensures ∙ c.in-Some.is in
     IfOk-weaker c.scan_extent.result _ _ (λ r number. held ∙ ap Some (sym number)) c.scan_extent.ensures.extent
