@@ -1,5 +1,5 @@
 -- One more result of a worker; one more member of a crew.
-use Rattle.std.proofs.Common.{◌≡◌, Some, ◌+◌, ◌++◌, ◌∷◌, ℕ, List, [], All, None, length, sum_by, arith, length-append, ap, sym, subst}
+use Rattle.std.proofs.Common.{◌≡◌, Some, ◌+◌, ◌++◌, ◌∷◌, ℕ, List, [], All, None, length, sum_by, arith, length-append, ap, sym}
 use Rattle.std.proofs.lemmas.List.Elements.{All-head, All-push, All-same, All-tail}
 use Rattle.std.proofs.lemmas.List.Sums.{sum_by-append, sum_by-cons}
 use Rattle.scrub_disk.specs.Image.{Image}
@@ -12,7 +12,9 @@ use Rattle.scrub_pool.specs.Work.{AreResults, AreDone}
 
 -- one element more
 pub one_longer : {X : Type 0} (xs ys : List X) (x : X) → ys ≡ xs ++ x ∷ [] → length ys ≡ length xs + 1
-one_longer xs ys x is = let long : length ys ≡ length (xs ++ x ∷ []) = ap (λ (l : List _). length l) is in omega (arith, long, length-append xs (x ∷ []))
+one_longer xs ys x is =
+    let long : length ys ≡ length (xs ++ x ∷ []) = ap (λ (l : List _). length l) is in
+    omega (arith, long, length-append xs (x ∷ []))
 
 -- a fact of a list and of one element more is one of both
 pub all_more : {X : Type 0} (P : X → Type 0) (xs ys : List X) (x : X) → ys ≡ xs ++ x ∷ [] → All P xs → P x → All P ys
@@ -27,19 +29,29 @@ all_last P xs ys x is all = go xs (All-same P (xs ++ x ∷ []) ys (sym is) all)
     go (z ∷ zs) h = go zs (All-tail P z (zs ++ x ∷ []) h)
 
 -- a crew with one member more counts for what both count
-pub counted_more : {D : Type 0} {s : _} (p q r a b t : ℕ) (xs ys : List (Member D s)) (m : Member D s) → ys ≡ xs ++ m ∷ [] → AreDone p a xs →
+pub counted_more : {D : Type 0} {s : _} (p q r a b t : ℕ) (xs ys : List (Member D s)) (m : Member D s) →
+    ys ≡ xs ++ m ∷ [] → AreDone p a xs →
     (held_by m.core ≡ None) × (q ≡ 1) × (b ≡ length (results_of m.core)) → r ≡ p + q → t ≡ a + b → AreDone r t ys
 counted_more p q r a b t xs ys m is done one parts amounts =
     let total : sum_by (λ n. length (results_of n.core)) ys ≡ sum_by (λ n. length (results_of n.core)) (xs ++ m ∷ []) = ap (λ (l : List _). sum_by (λ n. length (results_of n.core)) l) is in (
       omega (arith, one_longer xs ys m is, done.0, one.1, parts),
-      omega (arith, total, sum_by-append (λ n. length (results_of n.core)) xs (m ∷ []), sum_by-cons (λ n. length (results_of n.core)) m [], done.1, one.2, amounts),
+      omega (
+        arith,
+        total,
+        sum_by-append (λ n. length (results_of n.core)) xs (m ∷ []),
+        sum_by-cons (λ n. length (results_of n.core)) m [],
+        done.1,
+        one.2,
+        amounts,
+      ),
       all_more (λ n. held_by n.core ≡ None) xs ys m is done.2 one.0,
     )
 
 -- one more result of this image
-pub results_push : {D : Type 0} {s : _} (image : Image) (plan : PlanValue) (xs ys : List (ExtentResult D s)) (r : ExtentResult D s) (e : ℕ) → ys ≡ xs ++ r ∷ [] → AreResults image plan xs →
+pub results_push : {D : Type 0} {s : _} (image : Image) (plan : PlanValue) (xs ys : List (ExtentResult D s)) (r : ExtentResult D s) (e : ℕ) →
+    ys ≡ xs ++ r ∷ [] → AreResults image plan xs →
     result_image r ≡ image → r.extent ≡ e → pointer_of plan e ≡ Some r.pointer → AreResults image plan ys
 results_push image plan xs ys r e is are of number pointer = (
   all_more (λ x. result_image x ≡ image) xs ys r is are.0 of,
-  all_more (λ x. pointer_of plan x.extent ≡ Some x.pointer) xs ys r is are.1 (subst (λ (n : ℕ). pointer_of plan n ≡ Some r.pointer) (sym number) pointer),
+  all_more (λ x. pointer_of plan x.extent ≡ Some x.pointer) xs ys r is are.1 (rw number pointer),
 )

@@ -1,5 +1,5 @@
 -- Members that ended, joined one by one.
-use Rattle.std.proofs.Common.{◌≡◌, Some, ◌+◌, ◌-◌, ◌++◌, ◌∷◌, ◌∙◌, ℕ, List, [], All, map, length, sum_by, arith, sym, subst, ap, append_assoc, append-nil, length-append, Vec, Global}
+use Rattle.std.proofs.Common.{◌≡◌, Some, ◌+◌, ◌-◌, ◌++◌, ◌∷◌, ◌∙◌, ℕ, List, [], All, map, length, sum_by, arith, sym, ap, append_assoc, append-nil, length-append, Vec, Global}
 use Rattle.std.specs.List.Sorted.{IsPermutation, IsStrictlyIncreasing}
 use Rattle.std.proofs.lemmas.List.{map-append}
 use Rattle.std.proofs.lemmas.List.Concat.{flat_map-append}
@@ -17,19 +17,27 @@ use Rattle.scrub_pool.specs.Work.{AreResults}
 
 -- one list more
 pub one_list_push : (lists : List (List ℕ)) (xs : List ℕ) → one_list (lists ++ xs ∷ []) ≡ one_list lists ++ xs
-one_list_push lists xs = flat_map-append (λ (l : List ℕ). l) lists (xs ∷ []) ∙ ap (λ l. one_list lists ++ l) (append-nil xs)
+one_list_push lists xs =
+    flat_map-append (λ (l : List ℕ). l) lists (xs ∷ []) ∙ ap (λ l. one_list lists ++ l) (append-nil xs)
 
 -- the items of one list more
-pub items_push : (lists more : List (Vec ℕ Global)) (v : Vec ℕ Global) (own : List ℕ) → more ≡ lists ++ v ∷ [] → v.items ≡ own → map (λ l. l.items) more ≡ map (λ l. l.items) lists ++ own ∷ []
-items_push lists more v own is has = ap (λ (ls : List (Vec ℕ Global)). map (λ l. l.items) ls) is ∙ map-append (λ l. l.items) lists (v ∷ []) ∙ ap (λ l. map (λ x. x.items) lists ++ l ∷ []) has
+pub items_push : (lists more : List (Vec ℕ Global)) (v : Vec ℕ Global) (own : List ℕ) → more ≡ lists ++ v ∷ [] →
+    v.items ≡ own → map (λ l. l.items) more ≡ map (λ l. l.items) lists ++ own ∷ []
+items_push lists more v own is has =
+    ap (λ (ls : List (Vec ℕ Global)). map (λ l. l.items) ls) is ∙ map-append (λ l. l.items) lists (v ∷ [])
+    ∙ ap (λ l. map (λ x. x.items) lists ++ l ∷ []) has
 
 -- a pass into which n others were joined, with one more
-pub one_more_joined : (was f g : PassValue) (ls ms : List (List ℕ)) (n m : ℕ) (own : List ℕ) → f ≡ record was { joined = was.joined ++ ls; out = was.out - n } →
-    g ≡ record f { joined = f.joined ++ own ∷ []; out = f.out - 1 } → ms ≡ ls ++ own ∷ [] → m ≡ n + 1 → g ≡ record was { joined = was.joined ++ ms; out = was.out - m }
+pub one_more_joined : (was f g : PassValue) (ls ms : List (List ℕ)) (n m : ℕ) (own : List ℕ) →
+    f ≡ record was { joined = was.joined ++ ls; out = was.out - n } →
+    g ≡ record f { joined = f.joined ++ own ∷ []; out = f.out - 1 } → ms ≡ ls ++ own ∷ [] → m ≡ n + 1 →
+    g ≡ record was { joined = was.joined ++ ms; out = was.out - m }
 one_more_joined was f g ls ms n m own before after lists count =
-    let joined : (was.joined ++ ls) ++ own ∷ [] ≡ was.joined ++ ms = append_assoc was.joined ls (own ∷ []) ∙ ap (λ l. was.joined ++ l) (sym lists) in
+    let joined : (was.joined ++ ls) ++ own ∷ [] ≡ was.joined ++ ms =
+    append_assoc was.joined ls (own ∷ []) ∙ ap (λ l. was.joined ++ l) (sym lists) in
     let out : was.out - n - 1 ≡ was.out - m = omega (arith, count) in
-    after ∙ ap (λ (p : PassValue). record p { joined = p.joined ++ own ∷ []; out = p.out - 1 }) before ∙ ap (λ (p : List (List ℕ) × ℕ). record was { joined = p.0; out = p.1 }) (λ i. (joined i, out i))
+    after ∙ ap (λ (p : PassValue). record p { joined = p.joined ++ own ∷ []; out = p.out - 1 }) before
+    ∙ ap (λ (p : List (List ℕ) × ℕ). record was { joined = p.0; out = p.1 }) (λ i. (joined i, out i))
 
 -- a sum over those still to come
 pub sum_rest : {X : Type 0} (f : X → ℕ) (xs rest : List X) (x : X) → xs ≡ x ∷ rest → sum_by f xs ≡ f x + sum_by f rest
@@ -37,40 +45,51 @@ sum_rest f xs rest x is = ap (λ (l : List _). sum_by f l) is ∙ sum_by-cons f 
 
 -- a fact of all is one of the first
 pub all_first : {X : Type 0} (P : X → Type 0) (xs rest : List X) (x : X) → xs ≡ x ∷ rest → All P xs → P x
-all_first P xs rest x is all = All-head P x rest (subst (λ (l : List _). All P l) is all)
+all_first P xs rest x is all = All-head P x rest (rw is at all)
 
 module _ {D : Type 0} {s : _} where
   -- the extents of more results
-  pub extents_append : (all found more : List (ExtentResult D s)) (xs ys : List ℕ) → all ≡ found ++ more → extents_of found ≡ xs → extents_of more ≡ ys → extents_of all ≡ xs ++ ys
+  pub extents_append : (all found more : List (ExtentResult D s)) (xs ys : List ℕ) → all ≡ found ++ more →
+      extents_of found ≡ xs → extents_of more ≡ ys → extents_of all ≡ xs ++ ys
   extents_append all found more xs ys is first then =
       ap (λ (rs : List (ExtentResult D s)). extents_of rs) is ∙ map-append _ found more ∙ (λ i. first i ++ then i)
 
   -- the results of those joined into the first pass and its own are of all planned extents
-  pub all_scanned : (pass : PassValue) (all theirs mine : List (ExtentResult D s)) (planned : List ℕ) → all ≡ theirs ++ mine → extents_of theirs ≡ one_list pass.joined → extents_of mine ≡ pass.own →
+  pub all_scanned : (pass : PassValue) (all theirs mine : List (ExtentResult D s)) (planned : List ℕ) →
+      all ≡ theirs ++ mine → extents_of theirs ≡ one_list pass.joined → extents_of mine ≡ pass.own →
       pass.planned ≡ planned → HasTakenAll pass → IsPermutation (extents_of all) planned
   all_scanned pass all theirs mine planned is joined own same whole =
-      subst (λ (l : List ℕ). IsPermutation l planned) (sym (extents_append all theirs mine (one_list pass.joined) pass.own is joined own))
-      (IsPermutation-trans (one_list pass.joined ++ pass.own) (taken_in pass) planned (IsPermutation-append_comm (one_list pass.joined) pass.own) (subst (λ (l : List ℕ). IsPermutation (taken_in pass) l) same whole))
+      rw (extents_append all theirs mine (one_list pass.joined) pass.own is joined own)
+      (IsPermutation-trans (one_list pass.joined ++ pass.own) (taken_in pass) planned (IsPermutation-append_comm (one_list pass.joined) pass.own) (rw same at whole))
 
-  pub long_append : (all found more : List (ExtentResult D s)) → all ≡ found ++ more → length all ≡ length found + length more
+  pub long_append : (all found more : List (ExtentResult D s)) → all ≡ found ++ more →
+      length all ≡ length found + length more
   long_append all found more is = ap (λ (rs : List (ExtentResult D s)). length rs) is ∙ length-append found more
 
-  pub no_results : (image : Image) (plan : PlanValue) (rs : List (ExtentResult D s)) → rs ≡ [] → AreResults image plan rs
+  pub no_results : (image : Image) (plan : PlanValue) (rs : List (ExtentResult D s)) → rs ≡ [] →
+      AreResults image plan rs
   no_results image plan rs none =
       let long : length rs ≡ 0 = ap (λ (l : List (ExtentResult D s)). length l) none in
       ((λ k d below. absurd (omega (arith, below, long))), λ k d below. absurd (omega (arith, below, long)))
 
   -- results of an image are these together
-  pub results_append : (image : Image) (plan : PlanValue) (all found more : List (ExtentResult D s)) → all ≡ found ++ more → AreResults image plan found → AreResults image plan more → AreResults image plan all
+  pub results_append : (image : Image) (plan : PlanValue) (all found more : List (ExtentResult D s)) →
+      all ≡ found ++ more → AreResults image plan found → AreResults image plan more → AreResults image plan all
   results_append image plan all found more is first then = (
-    All-same (λ r. result_image r ≡ image) all (found ++ more) is (All-append (λ r. result_image r ≡ image) found more first.0 then.0),
-    All-same (λ r. pointer_of plan r.extent ≡ Some r.pointer) all (found ++ more) is (All-append (λ r. pointer_of plan r.extent ≡ Some r.pointer) found more first.1 then.1),
+    All-same (λ r. result_image r ≡ image) all (found ++ more) is
+        (All-append (λ r. result_image r ≡ image) found more first.0 then.0),
+    All-same (λ r. pointer_of plan r.extent ≡ Some r.pointer) all (found ++ more) is
+        (All-append (λ r. pointer_of plan r.extent ≡ Some r.pointer) found more first.1 then.1),
   )
 
 -- the lists of all, the caller's last, are a partition of what all took
-pub partition_of : (planned own : List ℕ) (joined lists : List (List ℕ)) → lists ≡ joined ++ own ∷ [] → IsStrictlyIncreasing own → All IsStrictlyIncreasing joined → IsPermutation (own ++ one_list joined) planned → IsPartition planned lists
+pub partition_of : (planned own : List ℕ) (joined lists : List (List ℕ)) → lists ≡ joined ++ own ∷ [] →
+    IsStrictlyIncreasing own → All IsStrictlyIncreasing joined → IsPermutation (own ++ one_list joined) planned →
+    IsPartition planned lists
 partition_of planned own joined lists is own_rises joined_rise whole = record {
-  rising = All-same IsStrictlyIncreasing lists (joined ++ own ∷ []) is (All-push IsStrictlyIncreasing joined own joined_rise own_rises);
-  whole = subst (λ (l : List ℕ). IsPermutation l planned) (sym (ap one_list is ∙ one_list_push joined own))
+  rising =
+      All-same IsStrictlyIncreasing lists (joined ++ own ∷ []) is
+      (All-push IsStrictlyIncreasing joined own joined_rise own_rises);
+  whole = rw (ap one_list is ∙ one_list_push joined own)
       (IsPermutation-trans (one_list joined ++ own) (own ++ one_list joined) planned (IsPermutation-append_comm (one_list joined) own) whole);
 }

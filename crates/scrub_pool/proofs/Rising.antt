@@ -18,16 +18,29 @@ below_next xs ys x rising k d within =
     omega (arith, pair, get_or_append_left xs (x ∷ ys) d k within, at_end xs ys x d)
 
 -- those before place i are below the one there
-pub below_at : (xs : List ℕ) (i : ℕ) → IsStrictlyIncreasing xs → i < length xs → All (λ y. y < get_or xs i 0) (take i xs)
+pub below_at : (xs : List ℕ) (i : ℕ) → IsStrictlyIncreasing xs → i < length xs →
+    All (λ y. y < get_or xs i 0) (take i xs)
 below_at xs i rising within k d before =
     let long = length-take i xs in
     let less : k < i = omega (arith, before, long) in
-    omega (arith, AllPairs-from_increasing xs rising k i d less within, get_or-take i xs k d less, get_or_default xs i 0 d within)
+    omega (
+      arith,
+      AllPairs-from_increasing xs rising k i d less within,
+      get_or-take i xs k d less,
+      get_or_default xs i 0 d within,
+    )
 
 -- a number above all others goes behind them
-pub rising_push : (xs : List ℕ) (x : ℕ) → IsStrictlyIncreasing xs → All (λ y. y < x) xs → IsStrictlyIncreasing (xs ++ x ∷ [])
+pub rising_push : (xs : List ℕ) (x : ℕ) → IsStrictlyIncreasing xs → All (λ y. y < x) xs →
+    IsStrictlyIncreasing (xs ++ x ∷ [])
 rising_push xs x rising above k within = elim (cases_lt (k + 1) (length xs)) [
-  | inl inside ↦ omega (arith, rising k inside, get_or_append_left xs (x ∷ []) 0 k (omega (arith, inside)), get_or_append_left xs (x ∷ []) 0 (k + 1) inside)
+  | inl inside ↦
+      omega (
+        arith,
+        rising k inside,
+        get_or_append_left xs (x ∷ []) 0 k (omega (arith, inside)),
+        get_or_append_left xs (x ∷ []) 0 (k + 1) inside,
+      )
   | inr past ↦
       let last : k + 1 ≡ length xs = omega (arith, past, within, length-append xs (x ∷ [])) in
       let here : get_or (xs ++ x ∷ []) (k + 1) 0 ≡ x = ap (λ n. get_or (xs ++ x ∷ []) n 0) last ∙ at_end xs [] x 0 in

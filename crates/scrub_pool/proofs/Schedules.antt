@@ -37,14 +37,16 @@ first_is_least x xs y rise (zero, within, is) = omega (arith, is)
 first_is_least x xs y rise (suc k, within, is) = omega (arith, is, rise 0 (suc k) y (omega arith) within)
 
 -- rising numbers begin with the one among them that none of them is below
-least_is_first : (e : ℕ) (xs : List ℕ) → Rise xs → Contains xs e → ((x : ℕ) → Contains xs x → e ≤ x) → (rest : List ℕ) × (xs ≡ e ∷ rest)
+least_is_first : (e : ℕ) (xs : List ℕ) → Rise xs → Contains xs e → ((x : ℕ) → Contains xs x → e ≤ x) →
+    (rest : List ℕ) × (xs ≡ e ∷ rest)
 least_is_first e [] rise there least = absurd (omega (arith, there.1))
 least_is_first e (x ∷ xs) rise there least =
     let same : x ≡ e = omega (arith, first_is_least x xs e rise there, least x (0, omega arith, refl)) in
     (xs, ap (λ n. n ∷ xs) same)
 
 -- a sum that isn't 0 has a term that isn't
-some_term : {X : Type 0} (f : X → ℕ) (xs : List X) (d : X) → 1 ≤ sum_by f xs → (k : ℕ) × (k < length xs) × (1 ≤ f (get_or xs k d))
+some_term : {X : Type 0} (f : X → ℕ) (xs : List X) (d : X) → 1 ≤ sum_by f xs →
+    (k : ℕ) × (k < length xs) × (1 ≤ f (get_or xs k d))
 some_term f [] d some = absurd (omega (arith, some))
 some_term f (x ∷ xs) d some = elim (cases_lt 0 (f x)) [
   | inl here ↦ (0, omega arith, omega (arith, here))
@@ -66,7 +68,8 @@ get_behind (y ∷ xs) ys x = get_behind xs ys x
 get_written : {X : Type 0} (xs : List X) (i : ℕ) (x y : X) → slice_get xs i ≡ Some x → slice_get (set xs i y) i ≡ Some y
 get_written xs i x y at =
     let below = slice_get_within xs i x at in
-    slice_get-get_or (set xs i y) i y (omega (arith, below, length-set xs i y)) ∙ ap Some (get_or-set_same xs i y y below)
+    slice_get-get_or (set xs i y) i y (omega (arith, below, length-set xs i y))
+    ∙ ap Some (get_or-set_same xs i y y below)
 
 -- a member between two extents: those that it took, what it found, and those that it is to take
 record Turn : Type 0 where
@@ -112,28 +115,44 @@ record AreTurns (queue : List ℕ) (turns : List Turn) : Type 0 where
 
 module _ (e : ℕ) (queue : List ℕ) (turns : List Turn) (are : AreTurns (e ∷ queue) turns) where
   -- what a member is to take stands in the queue
-  from_queue : (v : ℕ) → v < length turns → (x : ℕ) → Contains (get_or turns v (fresh [])).coming x → Contains (e ∷ queue) x
+  from_queue : (v : ℕ) → v < length turns → (x : ℕ) → Contains (get_or turns v (fresh [])).coming x →
+      Contains (e ∷ queue) x
   from_queue v below x there =
       let coming = (get_or turns v (fresh [])).coming in
-      counted_contained (e ∷ queue) x (omega (arith, are.whole (one_for x), get_or-le-sum_by (λ t. sum_by (one_for x) t.coming) turns v (fresh []) below, contained_counts coming x there))
+      counted_contained (e ∷ queue) x
+      (omega (arith, are.whole (one_for x), get_or-le-sum_by (λ t. sum_by (one_for x) t.coming) turns v (fresh []) below, contained_counts coming x there))
 
   -- the queue's front is the next of some member
   next_of_one : (v : ℕ) × (v < length turns) × (rest : List ℕ) × ((get_or turns v (fresh [])).coming ≡ e ∷ rest)
   next_of_one =
-      let some = some_term (λ t. sum_by (one_for e) t.coming) turns (fresh []) (omega (arith, are.whole (one_for e), contained_counts (e ∷ queue) e (0, omega arith, refl))) in
+      let some =
+      some_term (λ t. sum_by (one_for e) t.coming) turns (fresh [])
+      (omega (arith, are.whole (one_for e), contained_counts (e ∷ queue) e (0, omega arith, refl))) in
       let coming = (get_or turns some.0 (fresh [])).coming in
-      let least : (x : ℕ) → Contains coming x → e ≤ x = λ x there. first_is_least e queue x are.queue_rises (from_queue some.0 some.1 x there) in
-      let front = least_is_first e coming (are.each_rises some.0 (fresh []) some.1) (counted_contained coming e some.2) least in
+      let least : (x : ℕ) → Contains coming x → e ≤ x =
+      λ x there. first_is_least e queue x are.queue_rises (from_queue some.0 some.1 x there) in
+      let front =
+      least_is_first e coming (are.each_rises some.0 (fresh []) some.1) (counted_contained coming e some.2) least in
       (some.0, some.1, front.0, front.1)
 
   -- once that member took it, the rest of the queue is what the members are to take
-  turns_go_on : (v : ℕ) (n : Turn) → v < length turns → (get_or turns v (fresh [])).coming ≡ e ∷ n.coming → AreTurns queue (set turns v n)
+  turns_go_on : (v : ℕ) (n : Turn) → v < length turns → (get_or turns v (fresh [])).coming ≡ e ∷ n.coming →
+      AreTurns queue (set turns v n)
   turns_go_on v n below front = record {
     queue_rises = rest_rises e queue are.queue_rises;
-    each_rises = All-set (λ t. Rise t.coming) turns v n (rest_rises e n.coming (subst Rise front (are.each_rises v (fresh []) below))) are.each_rises;
+    each_rises =
+        All-set (λ t. Rise t.coming) turns v n
+        (rest_rises e n.coming (subst Rise front (are.each_rises v (fresh []) below))) are.each_rises;
     whole = λ f.
-        let cut : sum_by f (get_or turns v (fresh [])).coming ≡ f e + sum_by f n.coming = ap (sum_by f) front ∙ sum_by-cons f e n.coming in
-        omega (arith, are.whole f, cut, sum_by-cons f e queue, sum_by-set (λ t. sum_by f t.coming) turns v n (fresh []) below);
+        let cut : sum_by f (get_or turns v (fresh [])).coming ≡ f e + sum_by f n.coming =
+        ap (sum_by f) front ∙ sum_by-cons f e n.coming in
+        omega (
+          arith,
+          are.whole f,
+          cut,
+          sum_by-cons f e queue,
+          sum_by-set (λ t. sum_by f t.coming) turns v n (fresh []) below,
+        );
   }
 
 -- where nothing is left to take, all took what they were to take
@@ -160,7 +179,12 @@ all_due (list ∷ lists) = λ i. list ∷ all_due lists i
 all_together : (f : ℕ → ℕ) (lists : List (List ℕ)) → total f (map fresh lists) ≡ sum_by f (one_list lists)
 all_together f [] = refl
 all_together f (list ∷ lists) =
-    omega (arith, all_together f lists, sum_by-cons (λ t. sum_by f t.coming) (fresh list) (map fresh lists), sum_by-append f list (one_list lists))
+    omega (
+      arith,
+      all_together f lists,
+      sum_by-cons (λ t. sum_by f t.coming) (fresh list) (map fresh lists),
+      sum_by-append f list (one_list lists),
+    )
 
 module _ (image : Image) (plan : PlanValue) where
   -- a member takes the queue's front and is done with it
@@ -172,16 +196,40 @@ module _ (image : Image) (plan : PlanValue) where
       let busy = taking (member_of t) one.extent in
       let n = member_of (after t one rest) in
       let there = get_written members v (member_of t) busy at in
-      let may_take = ap (λ (o : Option MemberValue). option_map_or (member_refusal (one.extent ∷ queue) (Take v)) o (Some NoWorker)) at ∙ ap (λ (b : Bool). if b then Some QueueEmpty else None) (not_empty one.extent queue) in
-      let may_end = ap (λ (o : Option MemberValue). option_map_or (member_refusal queue (Done v)) o (Some NoWorker)) there in
+      let may_take =
+      ap (λ (o : Option MemberValue). option_map_or (member_refusal (one.extent ∷ queue) (Take v)) o (Some NoWorker)) at
+      ∙ ap (λ (b : Bool). if b then Some QueueEmpty else None) (not_empty one.extent queue) in
+      let may_end =
+      ap (λ (o : Option MemberValue). option_map_or (member_refusal queue (Done v)) o (Some NoWorker)) there in
       let takes : Follows image plan (pool (one.extent ∷ queue) members arrived) (Take v) (pool queue (set members v busy) arrived) =
-      inl (may_take, record { member = member_of t; extent = one.extent; rest = queue; at = at; front = refl; is = refl }) in
+      inl (
+        may_take,
+        record {
+          member = member_of t;
+          extent = one.extent;
+          rest = queue;
+          at = at;
+          front = refl;
+          is = refl;
+        },
+      ) in
       let ends : Follows image plan (pool queue (set members v busy) arrived) (Done v) (pool queue (set members v n) arrived) =
-      inl (may_end, record { member = busy; one = one; at = there; held = refl; scanned = scanned; is = ap (λ (ms : List MemberValue). pool queue ms arrived) (sym (set-set members v busy n)) }) in
+      inl (
+        may_end,
+        record {
+          member = busy;
+          one = one;
+          at = there;
+          held = refl;
+          scanned = scanned;
+          is = ap (λ (ms : List MemberValue). pool queue ms arrived) (sym (set-set members v busy n));
+        },
+      ) in
       record {
         events = Take v ∷ Done v ∷ later.events;
         last = later.last;
-        leads = (pool queue (set members v busy) arrived, takes, (pool queue (set members v n) arrived, ends, later.leads));
+        leads =
+            (pool queue (set members v busy) arrived, takes, (pool queue (set members v n) arrived, ends, later.leads));
         complete = later.complete;
         taken = later.taken;
       }
@@ -193,7 +241,9 @@ module _ (image : Image) (plan : PlanValue) where
     events = [];
     last = pool [] (gone ++ []) arrived;
     leads = refl;
-    complete = list_all-from_AllPass has_left (gone ++ []) (All-append (λ m. has_left m ≡ true) gone [] are (All-nil (λ m. has_left m ≡ true)));
+    complete =
+        list_all-from_AllPass has_left (gone ++ [])
+        (All-append (λ m. has_left m ≡ true) gone [] are (All-nil (λ m. has_left m ≡ true)));
     taken = refl;
   }
   all_retire gone (t ∷ turns) arrived are =
@@ -202,23 +252,29 @@ module _ (image : Image) (plan : PlanValue) where
       let there = get_behind gone rest m in
       let joined = append_assoc gone (through m ∷ []) rest in
       let next = pool [] ((gone ++ through m ∷ []) ++ rest) (arrived ++ t.results) in
-      let later = all_retire (gone ++ through m ∷ []) turns (arrived ++ t.results) (All-push (λ x. has_left x ≡ true) gone (through m) are refl) in
+      let later =
+      all_retire (gone ++ through m ∷ []) turns (arrived ++ t.results)
+      (All-push (λ x. has_left x ≡ true) gone (through m) are refl) in
       let retires : Follows image plan (pool [] (gone ++ m ∷ rest) arrived) (Retire (length gone)) next = inl (
-        ap (λ (o : Option MemberValue). option_map_or (member_refusal [] (Retire (length gone))) o (Some NoWorker)) there,
+        ap (λ (o : Option MemberValue). option_map_or (member_refusal [] (Retire (length gone))) o (Some NoWorker))
+            there,
         record { member = m; at = there; is = ap (λ (ms : List MemberValue). pool [] ms (arrived ++ t.results)) (joined ∙ sym (set_at gone m rest (through m) (length gone) refl)) },
       ) in record {
         events = Retire (length gone) ∷ later.events;
         last = later.last;
         leads = (next, retires, later.leads);
         complete = later.complete;
-        taken = later.taken ∙ ap (λ (ms : List MemberValue). map (λ x. x.taken) ms) joined ∙ map-append (λ x. x.taken) gone (through m ∷ rest) ∙ sym (map-append (λ x. x.taken) gone (m ∷ rest));
+        taken =
+            later.taken ∙ ap (λ (ms : List MemberValue). map (λ x. x.taken) ms) joined
+            ∙ map-append (λ x. x.taken) gone (through m ∷ rest) ∙ sym (map-append (λ x. x.taken) gone (m ∷ rest));
       }
 
   -- the members take all that they are to take
-  all_taken : (found : List Scanned) (turns : List Turn) (arrived : List Scanned) → All (IsScanned image plan) found → AreTurns (extent_numbers found) turns →
+  all_taken : (found : List Scanned) (turns : List Turn) (arrived : List Scanned) → All (IsScanned image plan) found →
+      AreTurns (extent_numbers found) turns →
       AreTakenFrom image plan (pool (extent_numbers found) (members_of turns) arrived) (map due turns)
   all_taken [] turns arrived scanned are =
-      subst (λ (lists : List (List ℕ)). AreTakenFrom image plan (pool [] (members_of turns) arrived) lists) (all_took turns (are.whole (λ x. 1)))
+      rw (all_took turns (are.whole (λ x. 1))) at
       (all_retire [] turns arrived (All-nil (λ m. has_left m ≡ true)))
   all_taken (one ∷ found) turns arrived scanned are =
       let queue = extent_numbers found in
@@ -226,21 +282,38 @@ module _ (image : Image) (plan : PlanValue) where
       let v = next.0 in
       let t = get_or turns v (fresh []) in
       let n = after t one next.2 in
-      let later = all_taken found (set turns v n) arrived (All-tail (IsScanned image plan) one found scanned) (turns_go_on one.extent queue turns are v n next.1 next.3) in
-      let at : slice_get (members_of turns) v ≡ Some (member_of t) = slice_get-map member_of turns v ∙ ap (option_map member_of) (slice_get-get_or turns v (fresh []) next.1) in
-      let same_due : due n ≡ due t = append_assoc t.taken (one.extent ∷ []) next.2 ∙ ap (λ (xs : List ℕ). t.taken ++ xs) (sym next.3) in
+      let later =
+      all_taken found (set turns v n) arrived (All-tail (IsScanned image plan) one found scanned)
+      (turns_go_on one.extent queue turns are v n next.1 next.3) in
+      let at : slice_get (members_of turns) v ≡ Some (member_of t) =
+      slice_get-map member_of turns v ∙ ap (option_map member_of) (slice_get-get_or turns v (fresh []) next.1) in
+      let same_due : due n ≡ due t =
+      append_assoc t.taken (one.extent ∷ []) next.2 ∙ ap (λ (xs : List ℕ). t.taken ++ xs) (sym next.3) in
       let members = map-set member_of turns v n in
       let lists = map-set_same due turns v n (fresh []) same_due in
-      takes_one one queue next.2 (members_of turns) arrived v t (map due turns) (All-head (IsScanned image plan) one found scanned) at
-      (subst (λ (x : List MemberValue × List (List ℕ)). AreTakenFrom image plan (pool queue x.0 arrived) x.1) (λ i. (members i, lists i)) later)
+      takes_one one queue next.2 (members_of turns) arrived v t (map due turns)
+      (All-head (IsScanned image plan) one found scanned) at
+      (subst
+      (λ (x : List MemberValue × List (List ℕ)). AreTakenFrom image plan (pool queue x.0 arrived) x.1)
+      (λ i. (members i, lists i)) later)
 
   -- lists that are a partition of the planned extents are so taken
-  pub scheduled : (all : List Scanned) (lists : List (List ℕ)) → IsStrictlyIncreasing plan.planned → AreAllFindings image plan all → IsPartition plan.planned lists → AreTakenInSomeSchedule image plan lists
+  pub scheduled : (all : List Scanned) (lists : List (List ℕ)) → IsStrictlyIncreasing plan.planned →
+      AreAllFindings image plan all → IsPartition plan.planned lists → AreTakenInSomeSchedule image plan lists
   scheduled all lists rising are partition =
       let turns = map fresh lists in
-      let scanned : All (IsScanned image plan) all = λ k d below. record { pointer_is = are.pointers k d below; found = are.findings k d below } in
-      subst (λ (x : List ℕ × List MemberValue × List (List ℕ)). AreTakenFrom image plan (pool x.0 x.1 []) x.2) (λ i. (are.extents i, all_idle lists i, all_due lists i)) (all_taken all turns [] scanned (record {
+      let scanned : All (IsScanned image plan) all = λ k d below. record {
+        pointer_is = are.pointers k d below;
+        found = are.findings k d below;
+      } in
+      subst
+      (λ (x : List ℕ × List MemberValue × List (List ℕ)). AreTakenFrom image plan (pool x.0 x.1 []) x.2)
+      (λ i. (are.extents i, all_idle lists i, all_due lists i)) (all_taken all turns [] scanned (record {
         queue_rises = subst Rise (sym are.extents) (AllPairs-from_increasing plan.planned rising);
-        each_rises = All-map (λ t. Rise t.coming) fresh lists (λ k d below. AllPairs-from_increasing (get_or lists k d) (partition.rising k d below));
-        whole = λ f. all_together f lists ∙ sym (sum_by-IsPermutation f (one_list lists) plan.planned partition.whole) ∙ ap (sum_by f) (sym are.extents);
+        each_rises =
+            All-map (λ t. Rise t.coming) fresh lists
+            (λ k d below. AllPairs-from_increasing (get_or lists k d) (partition.rising k d below));
+        whole = λ f.
+            all_together f lists ∙ sym (sum_by-IsPermutation f (one_list lists) plan.planned partition.whole)
+            ∙ ap (sum_by f) (sym are.extents);
       }))

@@ -1,4 +1,4 @@
-use Rattle.std.proofs.Common.{arith, ap, sym, subst, get_or, All, ◌<◌}
+use Rattle.std.proofs.Common.{arith, ap, sym, get_or, All, ◌<◌}
 use Rattle.scrub_pool.proofs.Rising.{below_at}
 use Rattle.scrub_pool.proofs.Steps.{pushes, few}
 use Rattle.scrub_pool.proofs.extent_queue.push_next.Goals as goal
@@ -8,6 +8,7 @@ push_as-requires-clause-rule g c =
     let is = c.requires.front in
     let alive = ap (λ v. v.firsts) is in
     let next = get_or c.args.planned.now c.args.number 0 in (
-      pushes _ _ _ _ alive (ap (λ v. v.out) is) (subst (λ l. All (λ y. y < next) l) (sym (ap (λ v. v.pushed) is)) (below_at c.args.planned.now c.args.number c.requires.rising c.requires.next)),
+      pushes _ _ _ _ alive (ap (λ v. v.out) is)
+          (rw (ap (λ v. v.pushed) is) (below_at c.args.planned.now c.args.number c.requires.rising c.requires.next)),
       few _ _ (omega (arith, alive)),
     )

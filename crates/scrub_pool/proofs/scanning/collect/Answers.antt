@@ -1,4 +1,4 @@
-use Rattle.std.proofs.Common.{rules, ◌≡◌, ◌∷◌, ◌∙◌, map, length, arith, sym, ap, subst, All}
+use Rattle.std.proofs.Common.{rules, ◌≡◌, ◌∷◌, ◌∙◌, map, length, arith, sym, ap, All}
 use Rattle.std.specs.Vec.Iter.{into_iter_items}
 use Rattle.std.proofs.lemmas.List.Elements.{All-rest}
 use Rattle.scrub_book.specs.Worker.{results_of}
@@ -16,7 +16,7 @@ loop-member-init g c = let same : c.args.members.items ≡ into_iter_items c.int
   through = search rules;
   found = search rules;
   sum = search rules;
-  results = λ image plan are. (no_results image plan _ c.requires.nothing, subst (λ ms. All (λ m. AreResults image plan (results_of m.core)) ms) same are);
+  results = λ image plan are. (no_results image plan _ c.requires.nothing, rw same at are);
 }
 
 pub returns-clause-results : goal.returns-clause-results
@@ -33,15 +33,25 @@ loop-member-preserved g c =
     let lists = map (λ v. v.items) c.loop-member.lists.items in
     let took = c.in_ok-take_in.ensures in
     let through = all_first (λ m. IsThrough c.args.queue.now m) now rest member next inv.through in
-    let pushed = items_push c.loop-member.lists.items c.push.new.self.items c.in_ok-take_in.field-0 own c.in_ok-push.ensures.items (took.list ∙ sym through.2) in record {
+    let pushed = items_push c.loop-member.lists.items c.push.new.self.items c.in_ok-take_in.field-0 own c.in_ok-push.ensures.items (took.list ∙ sym through.2) in
+    record {
       first = one_more_joined _ _ _ lists _ _ _ own inv.first (search rules) pushed (search rules);
       queue = search rules;
       is_first = search rules;
       count = search rules;
       through = All-rest (λ m. IsThrough c.args.queue.now m) member rest now next inv.through;
-      found = extents_append _ _ (results_of member.core) (one_list lists) own took.found inv.found (took.matched ∙ sym through.2) ∙ sym (one_list_push lists own) ∙ ap one_list (sym pushed);
-      sum = omega (arith, inv.sum, sum_rest (λ m. length (results_of m.core)) now rest member next, long_append _ _ (results_of member.core) took.found);
+      found =
+          extents_append _ _ (results_of member.core) (one_list lists) own took.found inv.found (took.matched ∙ sym through.2)
+          ∙ sym (one_list_push lists own) ∙ ap one_list (sym pushed);
+      sum = omega (
+        arith,
+        inv.sum,
+        sum_rest (λ m. length (results_of m.core)) now rest member next,
+        long_append _ _ (results_of member.core) took.found,
+      );
       results = λ image plan are.
-          let so_far = inv.results image plan are in
-          (results_append image plan _ _ (results_of member.core) took.found so_far.0 (all_first (λ m. AreResults image plan (results_of m.core)) now rest member next so_far.1), All-rest (λ m. AreResults image plan (results_of m.core)) member rest now next so_far.1);
+          let so_far = inv.results image plan are in (
+            results_append image plan _ _ (results_of member.core) took.found so_far.0 (all_first (λ m. AreResults image plan (results_of m.core)) now rest member next so_far.1),
+            All-rest (λ m. AreResults image plan (results_of m.core)) member rest now next so_far.1,
+          );
     }

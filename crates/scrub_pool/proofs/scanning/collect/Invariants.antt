@@ -20,6 +20,7 @@ invariant-loop-member g l =
       through : All (λ m. IsThrough l.queue m) (into_iter_items l.member-iterator);
       found : extents_of l.found.items ≡ one_list lists;
       sum : length l.found.items + sum_by (λ m. length (results_of m.core)) (into_iter_items l.member-iterator) ≡ sum_by (λ m. length (results_of m.core)) l.fn.members.items;
-      results : (image : Image) (plan : PlanValue) → All (λ m. AreResults image plan (results_of m.core)) l.fn.members.items →
+      results : (image : Image) (plan : PlanValue) →
+          All (λ m. AreResults image plan (results_of m.core)) l.fn.members.items →
           AreResults image plan l.found.items × All (λ m. AreResults image plan (results_of m.core)) (into_iter_items l.member-iterator);
     }

@@ -13,7 +13,8 @@ pub returns-clause-lists : goal.returns-clause-lists
 returns-clause-lists g c =
     let pass = c.work.new.pass in
     let joined : pass.joined ≡ lists_in c.in_ok-lists.lists.items = search rules in
-    items_push c.in_ok-lists.lists.items c.push.new.self.items c.in_ok-own.own pass.own c.in_ok-push.ensures.items (c.in_ok-own.ensures.list ∙ sym c.in_ok-work.ensures.work.1)
+    items_push c.in_ok-lists.lists.items c.push.new.self.items c.in_ok-own.own pass.own c.in_ok-push.ensures.items
+    (c.in_ok-own.ensures.list ∙ sym c.in_ok-work.ensures.work.1)
     ∙ ap (λ l. l ++ pass.own ∷ []) (sym joined)
 
 pub returns-clause-partition : goal.returns-clause-partition
@@ -21,27 +22,42 @@ returns-clause-partition g c =
     let pass = c.work.new.pass in
     let ended = c.in_ok-work.ensures in
     let joined : pass.joined ≡ lists_in c.in_ok-lists.lists.items = search rules in
-    let pushed = items_push c.in_ok-lists.lists.items c.push.new.self.items c.in_ok-own.own pass.own c.in_ok-push.ensures.items (c.in_ok-own.ensures.list ∙ sym ended.work.1) in
-    partition_of c.args.job.now.plan.now.planned pass.own pass.joined (lists_in c.push.new.self.items) (pushed ∙ ap (λ l. l ++ pass.own ∷ []) (sym joined)) ended.rising.0 ended.rising.1
-    (subst (λ (l : List ℕ). IsPermutation (taken_in pass) l) (search rules) (ended.all (search rules) (search rules)))
+    let pushed =
+    items_push c.in_ok-lists.lists.items c.push.new.self.items c.in_ok-own.own pass.own c.in_ok-push.ensures.items
+    (c.in_ok-own.ensures.list ∙ sym ended.work.1) in
+    partition_of c.args.job.now.plan.now.planned pass.own pass.joined (lists_in c.push.new.self.items)
+    (pushed ∙ ap (λ l. l ++ pass.own ∷ []) (sym joined)) ended.rising.0 ended.rising.1
+    (subst (λ (l : List ℕ). IsPermutation (taken_in pass) l) (search rules)
+    (ended.all (search rules) (search rules)))
 
 pub returns-clause-found : goal.returns-clause-found
 returns-clause-found g c =
     let image = g.D.PageSource.image c.args.disk.now in
     let plan = c.args.job.now.plan.now in
-    let theirs = c.in_ok-lists.ensures.results image plan (λ k d below. (c.all_work-members.ensures.members k d below).1.2) in
-    results_append image plan c.take_over.new.found.items c.collect.new.found.items (results_of c.work.new.core) c.in_ok-own.ensures.found theirs c.in_ok-work.ensures.work.2
+    let theirs =
+    c.in_ok-lists.ensures.results image plan (λ k d below. (c.all_work-members.ensures.members k d below).1.2) in
+    results_append image plan c.take_over.new.found.items c.collect.new.found.items (results_of c.work.new.core)
+    c.in_ok-own.ensures.found theirs c.in_ok-work.ensures.work.2
 
 pub returns-clause-extents : goal.returns-clause-extents
 returns-clause-extents g c =
     let pass = c.work.new.pass in
     let joined : pass.joined ≡ lists_in c.in_ok-lists.lists.items = search rules in
-    all_scanned pass c.take_over.new.found.items c.collect.new.found.items (results_of c.work.new.core) c.args.job.now.plan.now.planned c.in_ok-own.ensures.found
-    (c.in_ok-lists.ensures.found ∙ ap one_list (sym joined)) (c.in_ok-own.ensures.matched ∙ sym c.in_ok-work.ensures.work.1) (search rules) (c.in_ok-work.ensures.all (search rules) (search rules))
+    all_scanned pass c.take_over.new.found.items c.collect.new.found.items (results_of c.work.new.core)
+    c.args.job.now.plan.now.planned c.in_ok-own.ensures.found
+    (c.in_ok-lists.ensures.found ∙ ap one_list (sym joined))
+    (c.in_ok-own.ensures.matched ∙ sym c.in_ok-work.ensures.work.1) (search rules)
+    (c.in_ok-work.ensures.all (search rules) (search rules))
 
 pub returns-clause-counted : goal.returns-clause-counted
 returns-clause-counted g c =
     let core = c.work.new.core in
     let own : c.work.new.share.amount ≡ length (results_of core) = c.in_ok-work.ensures.counted in
     let others : c.in-Some-Some.theirs.amount ≡ length c.collect.new.found.items = search rules in
-    omega (arith, c.audit-counted.ensures, own, others, long_append c.take_over.new.found.items c.collect.new.found.items (results_of core) c.in_ok-own.ensures.found)
+    omega (
+      arith,
+      c.audit-counted.ensures,
+      own,
+      others,
+      long_append c.take_over.new.found.items c.collect.new.found.items (results_of core) c.in_ok-own.ensures.found,
+    )

@@ -1,4 +1,4 @@
-use Rattle.std.proofs.Common.{◌≡◌, arith, sym, subst, All, Some}
+use Rattle.std.proofs.Common.{◌≡◌, arith, sym, All, Some}
 use Rattle.std.proofs.lemmas.List.{length-map}
 use Rattle.std.proofs.lemmas.List.Sorted.{length_permutation}
 use Rattle.scrub_super.specs.Plan.{pointer_of}
@@ -8,13 +8,18 @@ use Rattle.scrub_pool.proofs.scanning.scan_all.Goals as goal
 
 pub assemble-requires-clause-images : goal.assemble-requires-clause-images
 assemble-requires-clause-images g c κs within =
-    subst (λ s. All (λ r. result_image r ≡ g.D.PageSource.image s) c.in_ok-lists.results.items) (sym c.in_ok-book.ensures.source_is) c.in_ok-lists.ensures.found.0
+    rw c.in_ok-book.ensures.source_is c.in_ok-lists.ensures.found.0
 
 pub assemble-requires-clause-pointers : goal.assemble-requires-clause-pointers
 assemble-requires-clause-pointers g c κs within =
-    subst (λ p. All (λ r. pointer_of p r.extent ≡ Some r.pointer) c.in_ok-lists.results.items) (sym c.in_ok-book.ensures.plan_is) c.in_ok-lists.ensures.found.1
+    rw c.in_ok-book.ensures.plan_is c.in_ok-lists.ensures.found.1
 
 pub returns-clause-counted : goal.returns-clause-counted
 returns-clause-counted g c =
     let results = c.in_ok-lists.results.items in
-    omega (arith, c.in_ok-lists.ensures.counted, length_permutation (extents_of results) c.args.plan.now.planned c.in_ok-lists.ensures.extents, length-map results (λ r. (scanned r).extent))
+    omega (
+      arith,
+      c.in_ok-lists.ensures.counted,
+      length_permutation (extents_of results) c.args.plan.now.planned c.in_ok-lists.ensures.extents,
+      length-map results (λ r. (scanned r).extent),
+    )

@@ -8,7 +8,9 @@ returns-in_default-count-clause-work g c =
     let found = c.in_ok-found in (
       search rules,
       search rules,
-      results_push (g.D.PageSource.image c.args.disk.now) c.args.job.now.plan.now (results_of c.loop.core) (results_of c.done.new.self) found.found c.in-Some-take.extent (search rules) (search rules) found.ensures.image found.ensures.extent found.ensures.pointer,
+      results_push (g.D.PageSource.image c.args.disk.now) c.args.job.now.plan.now (results_of c.loop.core)
+          (results_of c.done.new.self) found.found c.in-Some-take.extent (search rules) (search rules) found.ensures.image
+          found.ensures.extent found.ensures.pointer,
     )
 
 pub loop-preserved : goal.loop-preserved
@@ -19,11 +21,18 @@ loop-preserved g c =
       search rules,
       search rules,
       search rules,
-      omega (arith, one_longer (results_of c.loop.core) (results_of c.done.new.self) found.found more, c.in-Some-count.ensures.moved, c.loop.invariant.4),
+      omega (
+        arith,
+        one_longer (results_of c.loop.core) (results_of c.done.new.self) found.found more,
+        c.in-Some-count.ensures.moved,
+        c.loop.invariant.4,
+      ),
       search rules,
       (
         search rules,
         search rules,
-        results_push (g.D.PageSource.image c.args.disk.now) c.args.job.now.plan.now (results_of c.loop.core) (results_of c.done.new.self) found.found c.in-Some-take.extent more (search rules) found.ensures.image found.ensures.extent found.ensures.pointer,
+        results_push (g.D.PageSource.image c.args.disk.now) c.args.job.now.plan.now (results_of c.loop.core)
+            (results_of c.done.new.self) found.found c.in-Some-take.extent more (search rules) found.ensures.image
+            found.ensures.extent found.ensures.pointer,
       ),
     )

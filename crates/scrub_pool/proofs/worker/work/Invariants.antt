@@ -7,4 +7,5 @@ abbrev pub invariant-loop : goal.invariant-loop
 invariant-loop g l =
     (goal.iterator-loop g).can_next l.iterator' × (goal.iterator-loop g).is_finite l.iterator'
     × IsSamePart l.initial.pass l.pass
-    × (l.share.parts ≡ 1) × (l.share.amount ≡ length (results_of l.core)) × (held_by l.core ≡ None) × IsAtWork l.job.queue.now l.job.plan.now (g.D.PageSource.image l.disk) l.pass l.core
+    × (l.share.parts ≡ 1) × (l.share.amount ≡ length (results_of l.core)) × (held_by l.core ≡ None) × IsAtWork
+    l.job.queue.now l.job.plan.now (g.D.PageSource.image l.disk) l.pass l.core
