@@ -8,8 +8,10 @@ use Rattle.scrub_scan.specs.Props.{IsFindings-prop}
 use Rattle.scrub_scan.specs.AllFindings.{AreAllFindings}
 use Rattle.scrub_check.specs.WholeScan.{IsWholeScan}
 
+-- the findings of a plan can be those of an image in one way alone
 AreAllFindings-prop : (image : Image) (plan : PlanValue) (all : List Scanned) → IsProp (AreAllFindings image plan all)
 AreAllFindings-prop image plan all = hlevel (IsFindings-prop, props)
 
+-- a scan can be whole in one way alone
 pub IsWholeScan-prop : (image : Image) (plan : PlanValue) (all : List Scanned) → IsProp (IsWholeScan image plan all)
 IsWholeScan-prop image plan all = hlevel (AreAllFindings-prop, props)

@@ -32,8 +32,8 @@ pub struct Liveness {
     pub candidates: Vec<Candidate>,
 }
 
-/// The live bytes of each extent, and what `orphans`, `shared` and `candidates` give, together. The places that sound locators point to are
-/// sorted once, and walked once beside the items of the extents, so that each chunk is looked at once.
+/// The live bytes of each extent, and what `orphans`, `shared` and `candidates` give, together. The places that sound locators
+/// point to are sorted once, and walked once beside the items of the extents, so that each chunk is looked at once.
 pub fn liveness_of<D: PageSource>(
     alloc: Global,
     plan: &Plan,
