@@ -3,6 +3,7 @@ pub mod Appending
 pub mod SideBySide
 pub mod ScannedLive
 pub mod Tokens
+pub mod ExtentTexts
 pub mod LocatorValues
 pub mod KeptEntries
 pub mod OneReader

@@ -27,6 +27,10 @@ items_are : (ds : List Data) → items_tokens (items_outline (items_of ds)) ≡ 
 items_are [] = refl
 items_are (d ∷ ds) = ap (λ ts. value_tokens d ++ ts) (items_are ds) ∙ sym (append_assoc (value_tokens d) (flat_map value_tokens ds) (end_array ∷ []))
 
+-- a list is written element by element, between its brackets
+pub list_tokens : {X : Type 0} (show : X → Data) (xs : List X) → value_tokens (list (map show xs)) ≡ begin_array ∷ (flat_map (λ x. value_tokens (show x)) xs ++ end_array ∷ [])
+list_tokens show xs = ap (λ ts. begin_array ∷ ts) (items_are (map show xs) ∙ ap (λ ts. ts ++ end_array ∷ []) (flat_map-map value_tokens show xs))
+
 module _ {X : Type 0} (show : X → Data) (xs : List X) (old mid new : List Token) (i : ℕ) where
   -- one more element is written
   pub list_more : (d x : X) → i < length xs → get_or xs i d ≡ x → mid ≡ old ++ list_begun show (take i xs) → new ≡ mid ++ value_tokens (show x) →
@@ -44,7 +48,7 @@ module _ {X : Type 0} (show : X → Data) (xs : List X) (old mid new : List Toke
   closed_list end so_far closed =
       closed ∙ ap (λ ts. ts ++ end_array ∷ []) (so_far ∙ ap (λ ys. old ++ list_begun show ys) (take_all i xs end))
       ∙ append_assoc old (list_begun show xs) (end_array ∷ [])
-      ∙ ap (λ ts. old ++ begin_array ∷ ts) (ap (λ ts. ts ++ end_array ∷ []) (sym (flat_map-map value_tokens show xs)) ∙ sym (items_are (map show xs)))
+      ∙ ap (λ ts. old ++ ts) (sym (list_tokens show xs))
 
   pub list_closed : {E : Type 0} (r : Result (Unit {0}) E) → length xs ≤ i → mid ≡ old ++ list_begun show (take i xs) → OnOk r (new ≡ mid ++ end_array ∷ []) →
       OnOk r (new ≡ old ++ value_tokens (list (map show xs)))
@@ -57,7 +61,7 @@ members_are : (ms : List (List ℕ × Data)) → closed_members (members_outline
 members_are [] = refl
 members_are (m ∷ ms) = ap (λ ts. member_tokens m.0 m.1 ++ ts) (members_are ms) ∙ sym (append_assoc (member_tokens m.0 m.1) (members_tokens ms) (end_object ∷ []))
 
-object_tokens : (ms : List (List ℕ × Data)) → value_tokens (with_keys ms) ≡ begin_object ∷ (members_tokens ms ++ end_object ∷ [])
+pub object_tokens : (ms : List (List ℕ × Data)) → value_tokens (with_keys ms) ≡ begin_object ∷ (members_tokens ms ++ end_object ∷ [])
 object_tokens ms = ap (λ ts. begin_object ∷ ts) (members_are ms)
 
 members_joined : (ms ns : List (List ℕ × Data)) (ts : List Token) → members_tokens (ms ++ ns) ++ ts ≡ members_tokens ms ++ (members_tokens ns ++ ts)
@@ -66,7 +70,7 @@ members_joined ms ns ts = ap (λ us. us ++ ts) (flat_map-append (λ (m : List �
 -- ---- the report, whose keys are written in four steps
 
 module _ {D : Type 0} {s : _} (p : Parts D s) (clean : Bool) where
-  keys_joined : begin_object ∷ (members_tokens (first_keys p clean) ++ (members_tokens (extent_keys p) ++ (members_tokens (run_keys p) ++ (members_tokens (last_keys p) ++ end_object ∷ []))))
+  pub keys_joined : begin_object ∷ (members_tokens (first_keys p clean) ++ (members_tokens (extent_keys p) ++ (members_tokens (run_keys p) ++ (members_tokens (last_keys p) ++ end_object ∷ []))))
       ≡ value_tokens (with_keys (all_keys p clean))
   keys_joined =
       let closed = end_object ∷ [] in
@@ -74,19 +78,3 @@ module _ {D : Type 0} {s : _} (p : Parts D s) (clean : Bool) where
       let scanned = members_joined (extent_keys p) (run_keys p ++ last_keys p) closed ∙ ap (λ ts. members_tokens (extent_keys p) ++ ts) last in
       let all = members_joined (first_keys p clean) (extent_keys p ++ (run_keys p ++ last_keys p)) closed ∙ ap (λ ts. members_tokens (first_keys p clean) ++ ts) scanned in
       ap (λ ts. begin_object ∷ ts) (sym all) ∙ sym (object_tokens (first_keys p clean ++ (extent_keys p ++ (run_keys p ++ last_keys p))))
-
-  pub report_tokens : (t0 t1 t2 t3 t4 t5 t6 : List Token) → t0 ≡ [] → t1 ≡ t0 ++ begin_object ∷ [] → t2 ≡ t1 ++ members_tokens (first_keys p clean) →
-      t3 ≡ t2 ++ members_tokens (extent_keys p) → t4 ≡ t3 ++ members_tokens (run_keys p) → t5 ≡ t4 ++ members_tokens (last_keys p) → t6 ≡ t5 ++ end_object ∷ [] →
-      t6 ≡ value_tokens (with_keys (all_keys p clean))
-  report_tokens t0 t1 t2 t3 t4 t5 t6 h0 h1 h2 h3 h4 h5 h6 =
-      let closed = end_object ∷ [] in
-      let last = members_tokens (last_keys p) ++ closed in
-      let runs = members_tokens (run_keys p) ++ last in
-      let scanned = members_tokens (extent_keys p) ++ runs in
-      let first = members_tokens (first_keys p clean) ++ scanned in
-      chain t0 t1 t6 (begin_object ∷ []) first h1
-      (chain t1 t2 t6 (members_tokens (first_keys p clean)) scanned h2
-      (chain t2 t3 t6 (members_tokens (extent_keys p)) runs h3
-      (chain t3 t4 t6 (members_tokens (run_keys p)) last h4
-      (chain t4 t5 t6 (members_tokens (last_keys p)) closed h5 h6))))
-      ∙ ap (λ ts. ts ++ begin_object ∷ first) h0 ∙ keys_joined

@@ -1,16 +1,18 @@
 -- The steps of the code: the tokens of values, and those of the report's keys, a few at a time.
-use Rattle.std.specs.Prelude.{ℕ, Bool, List, [], ◌∷◌, ◌++◌, codes, cond, length, map}
+use Rattle.std.specs.Prelude.{ℕ, Bool, List, [], ◌∷◌, ◌++◌, codes, cond, drop, length, map, nat_lt, take}
 use Rattle.std.specs.List.{flat_map}
-use Rattle.json.specs.Token.{Token, begin_array, key}
+use Rattle.json.specs.Token.{Token, begin_array, begin_object, end_array, end_object, key}
 use Rattle.json.specs.Tree.{json_tokens}
 use Rattle.serde_json.specs.Data.{Data, boolean}
-use Rattle.serde_json.specs.Written.{compact_text, outline}
+use Rattle.serde_json.specs.Written.{comma_if, compact_text, outline}
+use Rattle.json.specs.Print.{print}
 use Rattle.scrub_check.specs.declared.checked.Checked.{Checked}
 use Rattle.scrub_check.specs.Checked.{dangling, hidden, is_hidden}
 use Rattle.scrub_check.specs.Chunks.{orphans, twins}
 use Rattle.scrub_report.specs.Json.{natural, list, with_keys}
 use Rattle.scrub_report.specs.declared.parts.Parts.{Parts}
-use Rattle.scrub_report.specs.Report.{ids_data, candidate_data, dangling_data, doubtful_ids, extents_data, geometry_data, hidden_data, numbers_data, place_data, runs_data, shared_data, super_data}
+use Rattle.scrub_scan.specs.Scanned.{Scanned}
+use Rattle.scrub_report.specs.Report.{ids_data, candidate_data, dangling_data, doubtful_ids, extent_data, extents_data, geometry_data, hidden_data, numbers_data, place_data, runs_data, shared_data, super_data}
 
 -- the JSON tokens that a value is written in
 abbrev pub value_tokens : Data → List Token
@@ -32,6 +34,14 @@ list_begun show xs = begin_array ∷ flat_map (λ x. value_tokens (show x)) xs
 abbrev pub locator_data : Checked → Data
 locator_data c = cond (is_hidden c.status) (hidden_data c) (dangling_data c)
 
+-- the JSON tokens of some extents with their live bytes, one after another
+abbrev pub extents_tokens : List (Scanned × ℕ) → List Token
+extents_tokens ps = flat_map (λ p. value_tokens (extent_data p.1 p.0)) ps
+
+-- the text of this many extents from a place on, behind a comma if there are others before
+abbrev pub piece_text : List (Scanned × ℕ) → ℕ → ℕ → List ℕ
+piece_text ps from size = comma_if (nat_lt 0 from) ++ print (extents_tokens (take size (drop from ps)))
+
 module _ {D : Type 0} {s : _} where
   -- the report's keys with their values, of the parts that are kept, from the first one up to `doubtful`
   abbrev pub first_keys : Parts D s → Bool → List (List ℕ × Data)
@@ -42,14 +52,17 @@ module _ {D : Type 0} {s : _} where
       (codes "dangling", list (map dangling_data (dangling p.checked.items))) ∷
       (codes "doubtful", ids_data (doubtful_ids p.map)) ∷ []
 
-  -- the report's keys with their values from `extents` up to `hidden`
-  abbrev pub extent_keys : Parts D s → List (List ℕ × Data)
-  extent_keys p =
-      (codes "extents", extents_data p.checked.items p.all.extents) ∷
+  -- the report's keys `geometry` and `hidden` with their values
+  abbrev pub hidden_keys : Parts D s → List (List ℕ × Data)
+  hidden_keys p =
       (codes "geometry", geometry_data p.plan.geometry) ∷
       (codes "hidden", list (map hidden_data (hidden p.checked.items))) ∷ []
 
-  -- the report's keys with their values from `orphans` up to `shards`
+  -- the report's keys from `extents` up to `hidden` with their values
+  abbrev pub extent_keys : Parts D s → List (List ℕ × Data)
+  extent_keys p = (codes "extents", extents_data p.checked.items p.all.extents) ∷ hidden_keys p
+
+  -- the report's keys from `orphans` up to `shards` with their values
   abbrev pub run_keys : Parts D s → List (List ℕ × Data)
   run_keys p =
       (codes "orphans", list (map place_data (orphans p.all.extents p.checked.items))) ∷
@@ -67,6 +80,15 @@ module _ {D : Type 0} {s : _} where
   -- all keys of the report with their values, of the parts that are kept
   abbrev pub all_keys : Parts D s → Bool → List (List ℕ × Data)
   all_keys p clean = first_keys p clean ++ (extent_keys p ++ (run_keys p ++ last_keys p))
+
+  -- the report's tokens up to the first extent
+  abbrev pub begun_tokens : Parts D s → Bool → List Token
+  begun_tokens p clean = begin_object ∷ (members_tokens (first_keys p clean) ++ (key (codes "extents") ∷ begin_array ∷ []))
+
+  -- the report's tokens behind the last extent
+  abbrev pub ended_tokens : Parts D s → List Token
+  ended_tokens p =
+      end_array ∷ (members_tokens (hidden_keys p) ++ (members_tokens (run_keys p) ++ (members_tokens (last_keys p) ++ (end_object ∷ []))))
 
   -- the object of all keys as compact JSON, and a line feed
   abbrev pub kept_text : Parts D s → Bool → List ℕ

@@ -127,7 +127,7 @@ fn index_and_report<R: Threads + Sync, D: PageSource>(
             requires entries { length parts.now.entries.items ≡ length parts.now.plan.runs }
             requires states { length parts.now.states.items ≡ length parts.now.entries.items }
             ensures report { IfOk result (λ text. text.items ≡ kept_text parts.entry.now is_clean) }
-        { report_text(alloc, parts, twin_chunks, is_clean) },
+        { report_text(rt, alloc, parts, twin_chunks, is_clean) },
     );
     Ok((index?, report?))
 }

@@ -1,17 +1,23 @@
 //! The extents that were scanned, as the report has them.
 
-ghost use Rattle.std.specs.Prelude.{◌≡◌, ◌++◌, List, OnOk, length, map};
+ghost use Rattle.std.specs.Prelude.{◌≡◌, ◌*◌, ◌<◌, ◌≤◌, ◌++◌, ℕ, IfOk, IfSome, OnOk, length, slice_get};
+ghost use Rattle.std.specs.Int.{div_ceil};
+ghost use Rattle.std.specs.List.{zip};
+ghost use Rattle.json.specs.Print.{print};
+ghost use Rattle.serde_json.specs.Written.{comma_if};
 ghost use Rattle.scrub_scan.specs.Scanned.{scanned};
-ghost use Rattle.scrub_check.specs.declared.checked.Checked.{Checked};
-ghost use Rattle.scrub_check.specs.Live.{live_bytes};
-ghost use Rattle.scrub_report.specs.Report.{extent_data, extents_data};
-ghost use Rattle.scrub_report.specs.Tokens.{value_tokens};
+ghost use Rattle.scrub_report.specs.Report.{extent_data};
+ghost use Rattle.scrub_report.specs.Tokens.{extents_tokens, piece_text, value_tokens};
 
 use crate::written::{WriteJson, write_list_member, write_member};
 use json::Writer;
 use scrub_disk::{OutOfMemory, PageSource};
 use scrub_scan::{AllFindings, ExtentResult, Item, item_line};
 use std::alloc::Global;
+use std::thread::{Threads, available_parallelism, map_indices};
+
+/// So many items are worth threads that write them.
+const WORTH_THREADS: usize = 4_096;
 
 /// Its line.
 impl WriteJson for Item {
@@ -49,21 +55,119 @@ fn write_extent<D: PageSource>(
     Ok(())
 }
 
-/// Writes `extents`: each scanned extent, with its live bytes.
-pub(crate) fn write_extents<D: PageSource>(
+/// A comma where something is before, as the beginning of a text.
+fn comma_if(alloc: Global, later: bool) -> Result<Vec<u8>, OutOfMemory>
+    ensures { IfOk result (λ text. text.items ≡ comma_if later) }
+{
+    if later {
+        Vec::from_slice(alloc, b",")
+    } else {
+        Ok(Vec::new(alloc))
+    }
+}
+
+/// The text of this many extents from a place on, or of as many as there are.
+fn extents_text<D: PageSource>(
     alloc: Global,
-    out: &mut Writer,
+    all: &AllFindings<'_, D>,
+    live: &[u32],
+    from: usize,
+    size: usize,
+) -> Result<Vec<u8>, OutOfMemory>
+    requires count { length live.now ≡ length all.now.extents }
+    requires within { from ≤ length all.now.extents }
+    ensures { IfOk result (λ text. text.items ≡ piece_text (zip all.now.extents live.now) from size) }
+{
+    let to = from.saturating_add(size).min(all.len());
+    let mut out = Writer::new(comma_if(alloc, from > 0)?);
+    for i in from..to {
+        write_extent(alloc, &mut out, all.result_at(i), live[i])?;
+    }
+    Ok(out.into_inner())
+}
+
+/// The text of a piece of this size, by its number.
+fn nth_text<D: PageSource>(
+    alloc: Global,
+    all: &AllFindings<'_, D>,
+    live: &[u32],
+    size: usize,
+    n: usize,
+) -> Result<Vec<u8>, OutOfMemory>
+    requires count { length live.now ≡ length all.now.extents }
+    requires size { 0 < size }
+    requires number { n < div_ceil (length all.now.extents) size }
+    ensures { IfOk result (λ text. text.items ≡ piece_text (zip all.now.extents live.now) (n * size) size) }
+{
+    extents_text(alloc, all, live, n * size, size)
+}
+
+/// The texts of all pieces of this size, in their order, each made on a thread of its own.
+fn extents_texts<R: Threads + Sync, D: PageSource>(
+    rt: &R,
+    alloc: Global,
+    all: &AllFindings<'_, D>,
+    live: &[u32],
+    size: usize,
+) -> Result<Vec<Result<Vec<u8>, OutOfMemory>>, OutOfMemory>
+    requires count { length live.now ≡ length all.now.extents }
+    requires size { 0 < size }
+    ensures count { IfOk result (λ v. length v.items ≡ div_ceil (length all.now.extents) size) }
+    ensures each { IfOk result (λ v. (n : ℕ) → IfSome (slice_get v.items n) (λ text.
+        IfOk text (λ bytes. bytes.items ≡ piece_text (zip all.now.extents live.now) (n * size) size))) }
+{
+    map_indices(
+        rt,
+        alloc,
+        all.len().div_ceil(size),
+        &|n: usize| -> Result<Vec<u8>, OutOfMemory>
+            requires count { length live.now ≡ length all.now.extents }
+            requires size { 0 < size }
+            requires number { n < div_ceil (length all.now.extents) size }
+            ensures { IfOk result (λ text. text.items ≡ piece_text (zip all.entry.now.extents live.entry.now) (n * size) size) }
+        { nth_text(alloc, all, live, size, n) },
+    )
+}
+
+/// How many items lie in all extents.
+fn item_count<D: PageSource>(all: &AllFindings<'_, D>) -> usize {
+    let mut count = 0usize;
+    for i in 0..all.len() {
+        count = count.saturating_add(all.result_at(i).findings().items().len());
+    }
+    count
+}
+
+/// How many extents are in a piece: so many that there are two pieces for each processor at most, and all of them where there
+/// are few items.
+fn piece_size<R: Threads, D: PageSource>(rt: &R, all: &AllFindings<'_, D>) -> usize
+    ensures { 0 < result }
+{
+    let count = all.len().max(1);
+    if item_count(all) < WORTH_THREADS {
+        return count;
+    }
+    let processors = match available_parallelism(rt) {
+        Ok(processors) => processors.get(),
+        Err(_) => 1,
+    };
+    count.div_ceil(processors.saturating_mul(2)).max(1)
+}
+
+/// Appends the text of the scanned extents, with their live bytes. Threads write it piece by piece.
+pub(crate) fn append_extents<R: Threads + Sync, D: PageSource>(
+    rt: &R,
+    alloc: Global,
+    text: &mut Vec<u8>,
     all: &AllFindings<'_, D>,
     live: &[u32],
 ) -> Result<(), OutOfMemory>
     requires { length live.now ≡ length all.now.extents }
-    ensures tokens { (checked : List Checked) → live.now ≡ map (live_bytes checked) all.now.extents →
-        OnOk result (out.new.tokens ≡ out.old.tokens ++ value_tokens (extents_data checked all.now.extents)) }
-    ensures before { out.new.before ≡ out.old.before }
+    ensures { OnOk result (text.new.items ≡ text.old.items ++ print (extents_tokens (zip all.now.extents live.now))) }
 {
-    out.begin_array()?;
-    for i in 0..all.len() {
-        write_extent(alloc, out, all.result_at(i), live[i])?;
+    let size = piece_size(rt, all);
+    for piece in extents_texts(rt, alloc, all, live, size)? {
+        text.extend_from_slice(&piece?)?;
     }
-    out.end_array()
+    Ok(())
 }

@@ -5,10 +5,9 @@ ghost use Rattle.std.specs.Prelude.{◌≡◌, ◌++◌, OnOk, codes, length, ma
 ghost use Rattle.scrub_check.specs.Checked.{dangling, hidden};
 ghost use Rattle.scrub_check.specs.Chunks.{orphans, twins};
 ghost use Rattle.scrub_report.specs.Json.{list};
-ghost use Rattle.scrub_report.specs.Report.{dangling_data, doubtful_ids, extents_data, hidden_data, ids_data, place_data};
-ghost use Rattle.scrub_report.specs.Tokens.{extent_keys, first_keys, last_keys, member_tokens, members_tokens, run_keys};
+ghost use Rattle.scrub_report.specs.Report.{dangling_data, doubtful_ids, hidden_data, ids_data, place_data};
+ghost use Rattle.scrub_report.specs.Tokens.{first_keys, hidden_keys, last_keys, member_tokens, members_tokens, run_keys};
 
-use crate::extents::write_extents;
 use crate::parts::Parts;
 use crate::runs::write_runs;
 use crate::shards::doubtful_ids;
@@ -36,20 +35,6 @@ fn write_doubtful(alloc: Global, out: &mut Writer, bindings: &[Binding]) -> Resu
     ensures before { out.new.before ≡ out.old.before }
 {
     write_list_member(alloc, out, "doubtful", &doubtful_ids(alloc, bindings)?)
-}
-
-/// Writes the key `extents`.
-fn write_all_extents<D: PageSource>(
-    alloc: Global,
-    out: &mut Writer,
-    parts: &Parts<'_, D>,
-) -> Result<(), OutOfMemory>
-    ensures tokens { OnOk result (out.new.tokens ≡ out.old.tokens ++
-        member_tokens (codes "extents") (extents_data parts.now.checked.items parts.now.all.extents)) }
-    ensures before { out.new.before ≡ out.old.before }
-{
-    out.key("extents")?;
-    write_extents(alloc, out, &parts.all, &parts.liveness.live)
 }
 
 /// Writes the key `hidden`.
@@ -92,16 +77,15 @@ pub(crate) fn write_first<D: PageSource>(
     Ok(())
 }
 
-/// Writes the keys from `extents` up to `hidden`.
-pub(crate) fn write_scanned<D: PageSource>(
+/// Writes the keys `geometry` and `hidden`.
+pub(crate) fn write_sizes<D: PageSource>(
     alloc: Global,
     out: &mut Writer,
     parts: &Parts<'_, D>,
 ) -> Result<(), OutOfMemory>
-    ensures tokens { OnOk result (out.new.tokens ≡ out.old.tokens ++ members_tokens (extent_keys parts.now)) }
+    ensures tokens { OnOk result (out.new.tokens ≡ out.old.tokens ++ members_tokens (hidden_keys parts.now)) }
     ensures before { out.new.before ≡ out.old.before }
 {
-    write_all_extents(alloc, out, parts)?;
     out.key("geometry")?;
     write_geometry(alloc, out, parts.plan.geometry())?;
     write_hidden(alloc, out, &parts.checked)?;
