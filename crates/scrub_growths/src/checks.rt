@@ -1,5 +1,6 @@
 //! What the locators of disks are worth, and which runs can be read.
 
+use crate::calls::Trial;
 use crate::disks::{
     broken_newest_run, deleted_in_the_newest_run, judged_locators, judged_names, names_in,
     nine_locators,
@@ -14,6 +15,7 @@ use scrub_merge::merge;
 use scrub_run::Run;
 use scrub_scan::scan_in_order;
 use std::alloc::Global;
+use std::io::Write;
 use std::thread::Threads;
 
 /// Whether a run says that the shard was deleted.
@@ -54,6 +56,16 @@ pub fn read_runs(alloc: Global, wanted: Wanted) -> Result<(), Stop> {
     let three = scrub_check::read_runs(alloc, &deleted, &first, &found)?;
     let two = scrub_check::read_runs(alloc, &broken, &second, &others)?;
     right(are_three(&three) && is_one_of_two(&two))
+}
+
+/// The runs of the first of these disks, read by threads.
+pub fn read_all_runs<R: Threads + Sync>(rt: &R, alloc: Global, wanted: Wanted) -> Result<(), Stop> {
+    let disk = deleted_in_the_newest_run(alloc)?;
+    let plan = plan_of(alloc, &disk)?;
+    let all = scan_in_order(alloc, &disk, &plan)?;
+    wanted.made()?;
+    let three = scrub_check::read_all_runs(rt, alloc, &disk, &plan, &all)?;
+    right(are_three(&three))
 }
 
 /// What nine locators are worth, one after another.
@@ -116,4 +128,14 @@ fn check_named_on<R: Threads + Sync>(
     wanted.made()?;
     let checked = scrub_check::check_named(rt, alloc, disk, &plan, &all, read.states(), &named)?;
     right(checked.as_slice() == judged.as_slice())
+}
+
+/// The calls of this module.
+pub fn calls<R: Threads + Sync, O: Write>(rt: &R, alloc: Global, trial: &mut Trial<'_, O>) {
+    made!(trial, "read_runs", "", wanted => read_runs(alloc, wanted));
+    made!(trial, "read_all_runs", "", wanted => read_all_runs(rt, alloc, wanted));
+    made!(trial, "status_of", "", wanted => status_of(alloc, wanted));
+    made!(trial, "named_locators", "", wanted => named_locators(alloc, wanted));
+    made!(trial, "check_all", "", wanted => check_all(rt, alloc, wanted));
+    made!(trial, "check_named", "", wanted => check_named(rt, alloc, wanted));
 }

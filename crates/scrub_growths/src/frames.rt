@@ -1,10 +1,12 @@
 //! Frames of both forms that are appended, beside their bytes field by field; and locators that are read.
 
+use crate::calls::Trial;
 use crate::disks::one_shard_payload;
 use crate::ending::{Stop, Wanted, refused, right};
 use scrub_fakes::{ABC_DIGEST, ONES, TWOS, abc_at};
 use scrub_frame::{FrameFault, write_locator};
 use std::alloc::Global;
+use std::io::Write;
 use uuid::Uuid;
 
 /// What stands in a list before a frame is appended.
@@ -80,4 +82,11 @@ pub fn read_locators(alloc: Global, wanted: Wanted) -> Result<(), Stop> {
     wanted.made()?;
     let read = scrub_frame::read_locators(alloc, &bytes, 3)?;
     right(read.as_slice() == locators.as_slice())
+}
+
+/// The calls of this module.
+pub fn calls<O: Write>(alloc: Global, trial: &mut Trial<'_, O>) {
+    made!(trial, "write_frame", "", wanted => write_frame(alloc, wanted));
+    made!(trial, "write_sealed", "", wanted => write_sealed(alloc, wanted));
+    made!(trial, "read_locators", "", wanted => read_locators(alloc, wanted));
 }

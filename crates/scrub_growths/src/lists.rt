@@ -1,12 +1,14 @@
 //! The lists that are drawn from what locators are worth: those of the disk of nine locators, and those of the disk of
 //! twins and a shared place.
 
+use crate::calls::Trial;
 use crate::disks::{judged_names, nine_locators, twins_and_shared};
 use crate::ending::{Stop, Wanted, right};
 use scrub_check::{Candidate, Place, SharedPlace};
 use scrub_fakes::{ONES, SHARD, plan_of};
 use scrub_scan::scan_in_order;
 use std::alloc::Global;
+use std::io::Write;
 use uuid::Uuid;
 
 /// Seven locators of nine that dangle.
@@ -115,4 +117,16 @@ pub fn liveness_of(alloc: Global, wanted: Wanted) -> Result<(), Stop> {
             && told.shared.as_slice() == [SHARED].as_slice()
             && is_half_live(&told.candidates),
     )
+}
+
+/// The calls of this module.
+pub fn calls<O: Write>(alloc: Global, trial: &mut Trial<'_, O>) {
+    made!(trial, "dangling", "", wanted => dangling(alloc, wanted));
+    made!(trial, "hidden", "", wanted => hidden(alloc, wanted));
+    made!(trial, "broken_shards", "", wanted => broken_shards(alloc, wanted));
+    made!(trial, "orphans", "", wanted => orphans(alloc, wanted));
+    made!(trial, "twins", "", wanted => twins(alloc, wanted));
+    made!(trial, "shared", "", wanted => shared(alloc, wanted));
+    made!(trial, "candidates", "", wanted => candidates(alloc, wanted));
+    made!(trial, "liveness_of", "", wanted => liveness_of(alloc, wanted));
 }

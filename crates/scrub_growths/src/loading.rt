@@ -1,11 +1,13 @@
 //! Disks in memory, blank or loaded, page by page; extents that are read whole; and the superblocks of raw bytes.
 
+use crate::calls::Trial;
 use crate::disks::one_shard;
 use crate::ending::{Stop, Wanted, right};
 use scrub_disk::{MemDisk, PageSource};
 use scrub_fakes::{RawBytes, mark_bad, small_geometry};
 use scrub_super::{FoundRecord, LostBytes, RecordKind};
 use std::alloc::Global;
+use std::io::Write;
 
 /// The bytes of a page of a small disk, or None where it is unreadable.
 fn page_of(disk: &MemDisk, number: u32) -> Option<[u8; 64]> {
@@ -126,4 +128,14 @@ pub fn list_sizes(alloc: Global, wanted: Wanted) -> Result<(), Stop> {
         listing.text.as_slice() == b"0 SSB1 1 64 4 3\nlost 512 1024\n".as_slice()
             && !listing.is_clean,
     )
+}
+
+/// The calls of this module.
+pub fn calls<O: Write>(alloc: Global, trial: &mut Trial<'_, O>) {
+    made!(trial, "MemDisk::blank", "", wanted => blank(alloc, wanted));
+    made!(trial, "load", "", wanted => load(alloc, wanted));
+    made!(trial, "read_extent", "", wanted => read_extent(alloc, wanted));
+    made!(trial, "unreadable_pages", "", wanted => unreadable_pages(alloc, wanted));
+    made!(trial, "find_superblocks", "", wanted => find_superblocks(alloc, wanted));
+    made!(trial, "list_sizes", "", wanted => list_sizes(alloc, wanted));
 }

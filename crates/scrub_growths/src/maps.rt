@@ -1,8 +1,10 @@
 //! The map of a rescue, and the blocks that it lacks.
 
+use crate::calls::Trial;
 use crate::ending::{Stop, Wanted, right};
 use scrub_map::RescueMap;
 use std::alloc::Global;
+use std::io::Write;
 
 /// A map of four blocks of 64 bytes, of which the first and the third were rescued.
 const MAP: &[u8] = b"# by hand\n0 ?\n0 64 +\n64 64 *\n0x80 64 +\n192 64 -\n";
@@ -25,4 +27,10 @@ pub fn lost_blocks(alloc: Global, wanted: Wanted) -> Result<(), Stop> {
     let map = scrub_map::read_map(alloc, MAP)?;
     wanted.made()?;
     right(has_two_gaps(alloc, &map)?)
+}
+
+/// The calls of this module.
+pub fn calls<O: Write>(alloc: Global, trial: &mut Trial<'_, O>) {
+    made!(trial, "read_map", "", wanted => read_map(alloc, wanted));
+    made!(trial, "RescueMap::lost_blocks", "", wanted => lost_blocks(alloc, wanted));
 }

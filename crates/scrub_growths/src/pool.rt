@@ -2,15 +2,17 @@
 
 ghost use Rattle.std.specs.Prelude.{◌≡◌, ◌≤◌};
 
+use crate::calls::Trial;
 use crate::disks::{four_extents, many_shards, one_shard, one_shard_payload, restricted};
 use crate::ending::{Stop, Wanted, refused, right};
 use crate::scans::{are_of_one_shard, run_chunk, scan_planned};
-use crate::takings::is_partition;
+use crate::takings::{WORKERS, is_partition};
 use scrub_book::{Book, Event, PoolCore, StepRefused, WorkerCore};
 use scrub_disk::MemDisk;
 use scrub_fakes::plan_of;
 use scrub_pool::{ExtentQueue, NoGate, TakePass};
 use std::alloc::Global;
+use std::io::Write;
 use std::sync::Wait;
 use std::thread::Threads;
 
@@ -189,4 +191,17 @@ pub fn scan_all<R: Threads + Wait + Sync>(
         rt, alloc, &disk, &plan, &queue, &mut first, workers, &NoGate,
     )?;
     right(are_of_one_shard(&found, &run) && is_partition(&takings, workers))
+}
+
+/// The calls of this module.
+pub fn calls<R: Threads + Wait + Sync, O: Write>(rt: &R, alloc: Global, trial: &mut Trial<'_, O>) {
+    made!(trial, "Book::new", "", wanted => new_book(alloc, wanted));
+    made!(trial, "WorkerCore::reserve", "", wanted => reserve(alloc, wanted));
+    made!(trial, "PoolCore::new", "", wanted => new_pool(alloc, wanted));
+    made!(trial, "PoolCore::step", "", wanted => step(alloc, wanted));
+    made!(trial, "ExtentQueue::new", "", wanted => new_queue(rt, alloc, wanted));
+    made!(trial, "ExtentQueue::split", "", wanted => split(rt, alloc, wanted));
+    for workers in WORKERS {
+        made!(trial, "scan_all", workers.word(), wanted => scan_all(rt, alloc, wanted, workers.count()));
+    }
 }

@@ -4,12 +4,14 @@
 ghost use Rattle.std.specs.Prelude.{IfOk, IfSome};
 ghost use Rattle.scrub_super.specs.Planned.{AreRetired};
 
+use crate::calls::Trial;
 use crate::disks::{four_extents, one_retired, one_shard, restricted};
 use crate::ending::{Stop, Wanted, refused, right};
 use scrub_disk::{MemDisk, PageSource};
 use scrub_frame::{Locator, digest_of, write_locator};
 use scrub_super::{MAX_RUNS, Plan, Rank, RecordKind, Superblock, SuperblockPage};
 use std::alloc::Global;
+use std::io::Write;
 use std::slice;
 
 /// The disk whose superblock is of a kind, with the locator of its run.
@@ -229,4 +231,16 @@ fn restrict_retiring(alloc: Global, wanted: Wanted) -> Result<(), Stop> {
             && plan.runs() == slice::from_ref(&run)
             && plan.has_superblock(),
     )
+}
+
+/// The calls of this module, for both kinds of records.
+pub fn calls<O: Write>(alloc: Global, trial: &mut Trial<'_, O>) {
+    for (kind, second) in [(RecordKind::Ssb1, ""), (RecordKind::Ssb2, "SSB2")] {
+        made!(trial, "write_record", second, wanted => write_record(alloc, wanted, kind));
+        made!(trial, "read_record", second, wanted => read_record(alloc, wanted, kind));
+        made!(trial, "choose", second, wanted => choose(alloc, wanted, kind));
+        made!(trial, "choose_with_pages", second, wanted => choose_with_pages(alloc, wanted, kind));
+        made!(trial, "Plan::make", second, wanted => make_plan(alloc, wanted, kind));
+        made!(trial, "Plan::restrict", second, wanted => restrict(alloc, wanted, kind));
+    }
 }

@@ -2,13 +2,15 @@
 
 ghost use Rattle.std.specs.Prelude.{◌≤◌};
 
+use crate::calls::Trial;
 use crate::disks::{one_shard, one_shard_payload, twins_and_shared, two_shards_payload};
 use crate::ending::{Stop, Wanted, right};
-use crate::takings::is_partition;
+use crate::takings::{WORKERS, is_partition};
 use scrub_fakes::published::{ONE_SHARD, TWINS};
 use scrub_pool::NoGate;
 use scrub_report::{Accepted, ScrubAnswer};
 use std::alloc::Global;
+use std::io::Write;
 use std::sync::Wait;
 use std::thread::Threads;
 
@@ -109,4 +111,16 @@ pub fn list_reclaimable<R: Threads + Wait + Sync>(
             && listing.is_clear
             && is_partition(&takings, workers),
     )
+}
+
+/// The calls of this module.
+pub fn calls<R: Threads + Wait + Sync, O: Write>(rt: &R, alloc: Global, trial: &mut Trial<'_, O>) {
+    made!(trial, "list_superblocks", "", wanted => list_superblocks(alloc, wanted));
+    made!(trial, "scrub_in_order", "", wanted => scrub_in_order(rt, alloc, wanted));
+    for workers in WORKERS {
+        let (second, count) = (workers.word(), workers.count());
+        made!(trial, "scrub", second, wanted => scrub(rt, alloc, wanted, count));
+        made!(trial, "list_locators", second, wanted => list_locators(rt, alloc, wanted, count));
+        made!(trial, "list_reclaimable", second, wanted => list_reclaimable(rt, alloc, wanted, count));
+    }
 }

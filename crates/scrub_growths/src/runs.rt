@@ -1,12 +1,14 @@
 //! Index runs that are written, beside their bytes field by field, read or copied, and what their merging binds.
 
+use crate::calls::Trial;
 use crate::disks::{one_shard_payload, payload_of, two_shards_payload};
 use crate::ending::{Stop, Wanted, right};
 use scrub_fakes::published::NO_SHARDS;
 use scrub_fakes::{SHARD, abc_at};
 use scrub_merge::ShardMap;
-use scrub_run::{Entry, Run, RunFault};
+use scrub_run::{Entry, Run, RunFault, RunWriter};
 use std::alloc::Global;
+use std::io::Write;
 use std::slice;
 
 /// The run of one shard.
@@ -15,6 +17,39 @@ pub fn write_run(alloc: Global, wanted: Wanted) -> Result<(), Stop> {
     let entry = Entry::new(SHARD, Vec::from_slice(alloc, &[abc_at(1, 0)])?);
     wanted.made()?;
     let written = scrub_run::write_run(alloc, slice::from_ref(&entry))?;
+    right(written.as_slice() == payload.as_slice())
+}
+
+/// The same by a writer that has room for it.
+pub fn new_writer(alloc: Global, wanted: Wanted) -> Result<(), Stop> {
+    let payload = one_shard_payload(alloc)?;
+    let entry = Entry::new(SHARD, Vec::from_slice(alloc, &[abc_at(1, 0)])?);
+    wanted.made()?;
+    let mut run = RunWriter::new(alloc, 1, 1)?;
+    run.append(&entry)?;
+    let written = run.finish()?;
+    right(written.as_slice() == payload.as_slice())
+}
+
+/// The same by one that has no room for the locator.
+pub fn append_entry(alloc: Global, wanted: Wanted) -> Result<(), Stop> {
+    let payload = one_shard_payload(alloc)?;
+    let entry = Entry::new(SHARD, Vec::from_slice(alloc, &[abc_at(1, 0)])?);
+    let mut run = RunWriter::new(alloc, 1, 0)?;
+    wanted.made()?;
+    run.append(&entry)?;
+    let written = run.finish()?;
+    right(written.as_slice() == payload.as_slice())
+}
+
+/// The digest of the same run, by the same writer.
+pub fn finish_run(alloc: Global, wanted: Wanted) -> Result<(), Stop> {
+    let payload = one_shard_payload(alloc)?;
+    let entry = Entry::new(SHARD, Vec::from_slice(alloc, &[abc_at(1, 0)])?);
+    let mut run = RunWriter::new(alloc, 1, 0)?;
+    run.append(&entry)?;
+    wanted.made()?;
+    let written = run.finish()?;
     right(written.as_slice() == payload.as_slice())
 }
 
@@ -127,4 +162,16 @@ pub fn merge_owned(alloc: Global, wanted: Wanted) -> Result<(), Stop> {
     let deleted = scrub_merge::merge_owned(alloc, three)?;
     let doubtful = scrub_merge::merge_owned(alloc, two)?;
     right(deleted.bindings().is_empty() && binds_in_doubt(&doubtful))
+}
+
+/// The calls of this module.
+pub fn calls<O: Write>(alloc: Global, trial: &mut Trial<'_, O>) {
+    made!(trial, "write_run", "", wanted => write_run(alloc, wanted));
+    made!(trial, "RunWriter::new", "", wanted => new_writer(alloc, wanted));
+    made!(trial, "RunWriter::append", "", wanted => append_entry(alloc, wanted));
+    made!(trial, "RunWriter::finish", "", wanted => finish_run(alloc, wanted));
+    made!(trial, "read_run", "", wanted => read_run(alloc, wanted));
+    made!(trial, "Run::copy", "", wanted => copy_run(alloc, wanted));
+    made!(trial, "merge", "", wanted => merge(alloc, wanted));
+    made!(trial, "merge_owned", "", wanted => merge_owned(alloc, wanted));
 }

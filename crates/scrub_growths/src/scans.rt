@@ -5,6 +5,7 @@ ghost use Rattle.scrub_disk.specs.Memory.{image_of};
 ghost use Rattle.scrub_super.specs.Plan.{pointer_of};
 ghost use Rattle.scrub_scan.specs.Scanned.{scanned, result_image};
 
+use crate::calls::Trial;
 use crate::disks::{abc_alone, four_extents, nine_locators, one_shard, one_shard_payload};
 use crate::ending::{Stop, Wanted, right};
 use scrub_disk::{MemDisk, PageSource};
@@ -13,6 +14,7 @@ use scrub_frame::{Form, Head, digest_of};
 use scrub_scan::{AllFindings, ExtentResult, Item, Standing};
 use scrub_super::Plan;
 use std::alloc::Global;
+use std::io::Write;
 use uuid::Uuid;
 
 /// The item of the plain frame at the start of an extent.
@@ -197,4 +199,15 @@ pub fn read_payload(alloc: Global, wanted: Wanted) -> Result<(), Stop> {
     let long = scrub_scan::read_payload(alloc, &disk, &first)?;
     let abc = scrub_scan::read_payload(alloc, &disk, &second)?;
     right(long.as_slice() == [0x78; 220].as_slice() && abc.as_slice() == b"abc".as_slice())
+}
+
+/// The calls of this module.
+pub fn calls<O: Write>(alloc: Global, trial: &mut Trial<'_, O>) {
+    made!(trial, "tile", "", wanted => tile(alloc, wanted));
+    made!(trial, "item_line", "", wanted => item_line(alloc, wanted));
+    made!(trial, "scan_extent", "", wanted => scan_extent(alloc, wanted));
+    made!(trial, "scan_in_order", "", wanted => scan_in_order(alloc, wanted));
+    made!(trial, "frame_stands", "", wanted => frame_stands(alloc, wanted));
+    made!(trial, "claimed_frame", "", wanted => claimed_frame(alloc, wanted));
+    made!(trial, "read_payload", "", wanted => read_payload(alloc, wanted));
 }

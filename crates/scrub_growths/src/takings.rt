@@ -1,6 +1,41 @@
-//! Who took what of the disk with one shard.
+//! How many workers scan, and who took what of the disk with one shard.
+
+ghost use Rattle.std.specs.Prelude.{◌≤◌};
 
 use scrub_pool::Takings;
+
+/// How many workers scan beside the caller.
+#[derive(Clone, Copy)]
+pub enum Workers {
+    None,
+    One,
+    Two,
+}
+
+/// The numbers that calls are tried with.
+pub const WORKERS: [Workers; 3] = [Workers::None, Workers::One, Workers::Two];
+
+impl Workers {
+    /// Their number.
+    pub fn count(self) -> u32
+        ensures { result ≤ 64 }
+    {
+        match self {
+            Workers::None => 0,
+            Workers::One => 1,
+            Workers::Two => 2,
+        }
+    }
+
+    /// Their number as a word.
+    pub fn word(self) -> &'static str {
+        match self {
+            Workers::None => "0",
+            Workers::One => "1",
+            Workers::Two => "2",
+        }
+    }
+}
 
 /// Whether so many workers and the caller took extents 1 and 2 together, each once, and both were counted.
 pub fn is_partition(takings: &Takings, workers: u32) -> bool {

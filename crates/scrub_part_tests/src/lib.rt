@@ -7,6 +7,8 @@ mod books;
 #[cfg(test)]
 mod compare;
 #[cfg(test)]
+mod entries_of_runs;
+#[cfg(test)]
 mod fakes;
 #[cfg(test)]
 mod faults;

@@ -4,11 +4,9 @@ ghost use Rattle.std.specs.Prelude.{◌≡◌};
 
 use crate::compare::same;
 use crate::disks::one_shard;
-use crate::extents::disk_with;
+use crate::extents::{disk_with, mark_all};
 use scrub_disk::{Geometry, MemDisk, PageSource};
-use scrub_fakes::{
-    CountingSource, ONES, TWOS, mark_bad, put, put_chunk, put_superblock, small_disk,
-};
+use scrub_fakes::{CountingSource, ONES, TWOS, put, put_chunk, put_superblock, small_disk};
 use scrub_frame::Form;
 use scrub_scan::{scan_extent, scan_in_order, tile};
 use scrub_super::{Plan, choose};
@@ -88,45 +86,34 @@ fn asked_by_scan<D: PageSource>(
     Ok(scanned.pages_asked())
 }
 
-#[test]
-fn heads_that_claim_the_whole_extent_are_refused_by_their_far_end(
-    rt: HostRuntime,
-) -> Result<(), Fail> {
-    let disk = heads(rt.alloc())?;
+/// That disk, with its far end in agreement with the heads or not, and with these pages unreadable.
+fn heads_with(alloc: Global, far_end_agrees: bool, bad_pages: &[u32]) -> Result<MemDisk, Fail> {
+    let mut disk = heads(alloc)?;
+    if far_end_agrees {
+        put(&mut disk, 1, 496, &ONES)?;
+    }
+    mark_all(&mut disk, 1, bad_pages)?;
+    Ok(disk)
+}
+
+/// Whether the far end agrees with the heads, the unreadable pages, and how often a page is asked for.
+const HEADS: [(bool, &[u32], u64); 4] = [
     // Each page once, and the last one twice: as the far end, and for its own item.
-    assert!(rt; asked_by_tile(&rt, rt.alloc(), &disk, 512)? == 9);
-    Ok(())
-}
-
-#[test]
-fn heads_whose_far_end_agrees_are_broken_off_once(rt: HostRuntime) -> Result<(), Fail> {
-    let mut disk = heads(rt.alloc())?;
-    put(&mut disk, 1, 496, &ONES)?;
-    mark_bad(&mut disk, 1, 6)?;
+    (false, &[], 9),
     // The far end and six pages for the first head, then each page for its own item.
-    assert!(rt; asked_by_tile(&rt, rt.alloc(), &disk, 512)? == 15);
-    Ok(())
-}
-
-#[test]
-fn heads_that_share_a_far_end_are_one_frame(rt: HostRuntime) -> Result<(), Fail> {
-    let mut disk = heads(rt.alloc())?;
-    put(&mut disk, 1, 496, &ONES)?;
-    // The first page, the far end, and each other page as it passes.
-    assert!(rt; asked_by_tile(&rt, rt.alloc(), &disk, 512)? == 9);
-    Ok(())
-}
-
-#[test]
-fn two_unreadable_pages_before_a_far_end_cost_no_more_than_one(
-    rt: HostRuntime,
-) -> Result<(), Fail> {
-    let mut disk = heads(rt.alloc())?;
-    put(&mut disk, 1, 496, &ONES)?;
-    mark_bad(&mut disk, 1, 5)?;
-    mark_bad(&mut disk, 1, 6)?;
+    (true, &[6], 15),
+    // One frame: the first page, the far end, and each other page as it passes.
+    (true, &[], 9),
     // The far end and five pages for the first head, then each page for its own item.
-    assert!(rt; asked_by_tile(&rt, rt.alloc(), &disk, 512)? == 14);
+    (true, &[5, 6], 14),
+];
+
+#[test]
+fn heads_that_claim_the_extent_are_broken_off_once(rt: HostRuntime) -> Result<(), Fail> {
+    for (far_end_agrees, bad_pages, asked) in &HEADS {
+        let disk = heads_with(rt.alloc(), *far_end_agrees, bad_pages)?;
+        same(&rt, asked_by_tile(&rt, rt.alloc(), &disk, 512)?, *asked);
+    }
     Ok(())
 }
 
@@ -174,13 +161,9 @@ fn check_scan(rt: &impl Abort, alloc: Global, disk: &MemDisk, asked: u64) -> Res
 }
 
 #[test]
-fn a_result_tells_how_often_its_scan_asked(rt: HostRuntime) -> Result<(), Fail> {
-    // All of the extent lies below its pointer, so that its tiling asks for all of it.
-    check_scan(&rt, rt.alloc(), &heads(rt.alloc())?, 9)
-}
-
-#[test]
-fn a_scan_asks_for_each_page_of_zeros_once(rt: HostRuntime) -> Result<(), Fail> {
+fn a_scan_asks_for_each_page_of_heads_or_zeros(rt: HostRuntime) -> Result<(), Fail> {
+    // All of the extent is below its pointer, so its tiling asks for all of it.
+    check_scan(&rt, rt.alloc(), &heads(rt.alloc())?, 9)?;
     check_scan(&rt, rt.alloc(), &small_disk(rt.alloc())?, 4)
 }
 

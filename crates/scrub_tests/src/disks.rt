@@ -226,7 +226,7 @@ pub(crate) fn twins_and_shared(rt: &impl Abort, alloc: Global) -> Result<(MemDis
 }
 
 /// A disk of three extents with `abc` in extent 1, which is behind its write pointer.
-pub(crate) fn behind_the_pointer(alloc: Global) -> Result<MemDisk, Fail> {
+fn behind_the_pointer(alloc: Global) -> Result<MemDisk, Fail> {
     let mut disk = small_disk(alloc)?;
     put_chunk(alloc, &mut disk, 1, 0, ONES, b"abc")?;
     put_superblock(alloc, &mut disk, &[0, 0], &[])?;
@@ -234,7 +234,7 @@ pub(crate) fn behind_the_pointer(alloc: Global) -> Result<MemDisk, Fail> {
 }
 
 /// A disk of three extents with a frame of 98 bytes at the start of extent 1, of which page 1 is unreadable.
-pub(crate) fn torn_frame(alloc: Global) -> Result<MemDisk, Fail> {
+fn torn_frame(alloc: Global) -> Result<MemDisk, Fail> {
     let mut disk = small_disk(alloc)?;
     put_chunk(alloc, &mut disk, 1, 0, ONES, &[0x78; 60])?;
     put_superblock(alloc, &mut disk, &[98, 0], &[])?;
@@ -244,7 +244,7 @@ pub(crate) fn torn_frame(alloc: Global) -> Result<MemDisk, Fail> {
 
 /// A disk of one shard with two superblocks: on page 0 of generation 7, and on page 2 of this one, with the pointers 0
 /// and 155.
-pub(crate) fn two_superblocks(alloc: Global, generation: u64) -> Result<MemDisk, Fail> {
+fn two_superblocks(alloc: Global, generation: u64) -> Result<MemDisk, Fail> {
     let mut disk = small_disk(alloc)?;
     let run = put_abc_and_its_run(alloc, &mut disk)?;
     put_record(alloc, &mut disk, 0, 7, &[41, 155], slice::from_ref(&run))?;
@@ -273,7 +273,7 @@ fn last_byte(disk: &MemDisk) -> Result<u8, Fail> {
 }
 
 /// The disk of two superblocks of which the one on page 2 is newer, but its last byte is another.
-pub(crate) fn broken_superblock(alloc: Global) -> Result<MemDisk, Fail> {
+fn broken_superblock(alloc: Global) -> Result<MemDisk, Fail> {
     let mut disk = two_superblocks(alloc, 8)?;
     let last = last_byte(&disk)?;
     put(&mut disk, 0, 192 + 61, &[last ^ 1])?;
@@ -297,4 +297,46 @@ pub(crate) fn many_shards(rt: &impl Abort, alloc: Global) -> Result<(MemDisk, Ve
     pointers.push(3_004)?;
     put_superblock(alloc, &mut disk, &pointers, slice::from_ref(&run))?;
     Ok((disk, payload))
+}
+
+/// The worked disks that tables name. What each has on it is said at the function that makes it.
+#[derive(Debug, Clone, Copy, PartialEq, Eq)]
+pub(crate) enum Worked {
+    Zeros,
+    OneShard,
+    /// That disk, with these pages of an extent unreadable.
+    Without(u32, &'static [u32]),
+    BehindThePointer,
+    TornFrame,
+    HalfGarbage,
+    /// The frame whose end is overwritten has a UUID that ends in the magic.
+    OverwrittenEnd,
+    TwinsAndShared,
+    RunNamedTwice,
+    DeletedInTheNewestRun,
+    BrokenNewestRun,
+    /// The second one of this generation.
+    TwoSuperblocks(u64),
+    BrokenSuperblock,
+}
+
+impl Worked {
+    /// Makes the disk.
+    pub(crate) fn disk(self, rt: &impl Abort, alloc: Global) -> Result<MemDisk, Fail> {
+        match self {
+            Worked::Zeros => Ok(small_disk(alloc)?),
+            Worked::OneShard => one_shard(alloc),
+            Worked::Without(extent, pages) => one_shard_without(alloc, extent, pages),
+            Worked::BehindThePointer => behind_the_pointer(alloc),
+            Worked::TornFrame => torn_frame(alloc),
+            Worked::HalfGarbage => half_garbage(alloc),
+            Worked::OverwrittenEnd => overwritten_end(alloc, ENDS_IN_MAGIC),
+            Worked::TwinsAndShared => Ok(twins_and_shared(rt, alloc)?.0),
+            Worked::RunNamedTwice => run_named_twice(rt, alloc),
+            Worked::DeletedInTheNewestRun => deleted_in_the_newest_run(rt, alloc),
+            Worked::BrokenNewestRun => broken_newest_run(rt, alloc),
+            Worked::TwoSuperblocks(generation) => two_superblocks(alloc, generation),
+            Worked::BrokenSuperblock => broken_superblock(alloc),
+        }
+    }
 }

@@ -36,7 +36,7 @@ pub(crate) fn put_all(disk: &mut MemDisk, parts: &[(u32, &[u8])]) -> Result<(), 
 }
 
 /// Makes pages of an extent unreadable.
-fn mark_all(disk: &mut MemDisk, extent: u32, pages: &[u32]) -> Result<(), Fail> {
+pub(crate) fn mark_all(disk: &mut MemDisk, extent: u32, pages: &[u32]) -> Result<(), Fail> {
     for page in pages {
         mark_bad(disk, extent, *page)?;
     }

@@ -1,15 +1,12 @@
 //! Which index runs of a disk are read, and what becomes of the others.
 
 use crate::compare::same;
-use crate::disks::{
-    broken_newest_run, deleted_in_the_newest_run, put_abc_and_its_run, put_run, run_named_twice,
-};
+use crate::disks::{Worked, put_abc_and_its_run, put_run};
 use crate::told::judge;
 use scrub_check::{ReadRuns, RunState, Status, read_runs};
 use scrub_disk::MemDisk;
 use scrub_fakes::{
-    ENDS_IN_MAGIC, ONES, SHARD, TWOS, abc_at, mark_bad, plan_of, put_chunk, put_superblock,
-    small_disk,
+    ENDS_IN_MAGIC, ONES, SHARD, TWOS, abc_at, plan_of, put_chunk, put_superblock, small_disk,
 };
 use scrub_frame::Locator;
 use scrub_run::Run;
@@ -27,18 +24,32 @@ fn read(alloc: Global, disk: &MemDisk) -> Result<ReadRuns, Fail> {
     Ok(read_runs(alloc, disk, &plan, &all)?)
 }
 
-/// Requires that a run was read and has one shard, with these locators; or that it was lost, where none are given.
-fn check_run(rt: &impl Abort, run: &Option<Run>, locators: Option<&[Locator]>) {
-    match (run, locators) {
-        (Some(run), Some(locators)) => {
-            assert!(rt; run.entries().len() == 1);
-            same(rt, run.entries()[0].id(), SHARD);
-            same(rt, run.entries()[0].locators(), locators);
-        }
-        (None, None) => {}
-        (Some(_), None) => panic!(rt; "the run is lost"),
-        (None, Some(_)) => panic!(rt; "the run is read"),
+/// What becomes of a run of one shard: it is lost, or it is read and deletes the shard, or binds it to `abc` at the start of
+/// extent 1.
+#[derive(Debug, Clone, Copy, PartialEq, Eq)]
+enum Found {
+    Lost,
+    Deletes,
+    Binds,
+}
+
+/// Compares what became of a run.
+fn check_run(rt: &impl Abort, run: &Option<Run>, found: Found) {
+    let abc = [abc_at(1, 0)];
+    match (run, found) {
+        (Some(run), Found::Deletes) => check_shard(rt, run, &[]),
+        (Some(run), Found::Binds) => check_shard(rt, run, &abc),
+        (None, Found::Lost) => {}
+        (Some(_), Found::Lost) => panic!(rt; "the run is lost"),
+        (None, _) => panic!(rt; "the run is read"),
     }
+}
+
+/// Requires that a run has one shard, with these locators.
+fn check_shard(rt: &impl Abort, run: &Run, locators: &[Locator]) {
+    assert!(rt; run.entries().len() == 1);
+    same(rt, run.entries()[0].id(), SHARD);
+    same(rt, run.entries()[0].locators(), locators);
 }
 
 /// Compares what became of the runs of a disk, and the locators of those that were read.
@@ -47,76 +58,65 @@ fn check_runs(
     alloc: Global,
     disk: &MemDisk,
     states: &[RunState],
-    runs: &[Option<&[Locator]>],
+    runs: &[Found],
 ) -> Result<(), Fail> {
     let read = read(alloc, disk)?;
     same(rt, read.states(), states);
     assert!(rt; read.runs().len() == runs.len());
-    for (run, locators) in read.runs().iter().zip(runs) {
-        check_run(rt, run, *locators);
+    for (run, found) in read.runs().iter().zip(runs) {
+        check_run(rt, run, *found);
     }
     Ok(())
 }
 
 /// Requires that of the runs of a disk just one is told, and that it is lost in this way.
 fn check_lost(rt: &impl Abort, alloc: Global, disk: &MemDisk, state: RunState) -> Result<(), Fail> {
-    check_runs(rt, alloc, disk, slice::from_ref(&state), &[None])
+    check_runs(rt, alloc, disk, slice::from_ref(&state), &[Found::Lost])
 }
 
-#[test]
-fn a_run_of_one_shard_is_read(rt: HostRuntime) -> Result<(), Fail> {
-    let mut disk = small_disk(rt.alloc())?;
-    put_abc_and_its_run(rt.alloc(), &mut disk)?;
-    let abc = [abc_at(1, 0)];
-    check_runs(&rt, rt.alloc(), &disk, &[RunState::Read], &[Some(&abc)])
-}
+/// A disk, the states of its runs, newest first, and what each run says.
+type Runs = (Worked, &'static [RunState], &'static [Found]);
 
-#[test]
-fn no_runs_are_read_without_a_superblock(rt: HostRuntime) -> Result<(), Fail> {
-    check_runs(&rt, rt.alloc(), &small_disk(rt.alloc())?, &[], &[])
-}
-
-#[test]
-fn three_runs_are_read_newest_first(rt: HostRuntime) -> Result<(), Fail> {
-    let disk = deleted_in_the_newest_run(&rt, rt.alloc())?;
-    let deleted: &[Locator] = &[];
-    let abc = [abc_at(1, 0)];
-    let bound = abc.as_slice();
-    check_runs(
-        &rt,
-        rt.alloc(),
-        &disk,
+const RUNS: [Runs; 6] = [
+    (Worked::OneShard, &[RunState::Read], &[Found::Binds]),
+    // There is no superblock.
+    (Worked::Zeros, &[], &[]),
+    (
+        Worked::DeletedInTheNewestRun,
         &[RunState::Read; 3],
-        &[Some(deleted), Some(bound), Some(bound)],
-    )
-}
+        &[Found::Deletes, Found::Binds, Found::Binds],
+    ),
+    // A run with another digest is lost, and the older one is read.
+    (
+        Worked::BrokenNewestRun,
+        &[RunState::NotARun, RunState::Read],
+        &[Found::Lost, Found::Binds],
+    ),
+    (
+        Worked::RunNamedTwice,
+        &[RunState::Read; 2],
+        &[Found::Binds; 2],
+    ),
+    // The last pages of the run are unreadable.
+    (
+        Worked::Without(2, &[2, 3]),
+        &[RunState::BadChunk(Status::Unreadable)],
+        &[Found::Lost],
+    ),
+];
 
 #[test]
-fn a_run_with_another_digest_is_lost_and_the_older_one_is_read(
-    rt: HostRuntime,
-) -> Result<(), Fail> {
-    let disk = broken_newest_run(&rt, rt.alloc())?;
-    let abc = [abc_at(1, 0)];
-    let states = [RunState::NotARun, RunState::Read];
-    check_runs(&rt, rt.alloc(), &disk, &states, &[None, Some(&abc)])
-}
-
-#[test]
-fn a_run_that_is_named_twice_is_read_twice(rt: HostRuntime) -> Result<(), Fail> {
-    let disk = run_named_twice(&rt, rt.alloc())?;
-    let abc = [abc_at(1, 0)];
-    let runs = [Some(abc.as_slice()); 2];
-    check_runs(&rt, rt.alloc(), &disk, &[RunState::Read; 2], &runs)
-}
-
-#[test]
-fn a_run_whose_last_pages_are_unreadable_is_lost(rt: HostRuntime) -> Result<(), Fail> {
-    let mut disk = small_disk(rt.alloc())?;
-    put_abc_and_its_run(rt.alloc(), &mut disk)?;
-    mark_bad(&mut disk, 2, 2)?;
-    mark_bad(&mut disk, 2, 3)?;
-    let lost = RunState::BadChunk(Status::Unreadable);
-    check_lost(&rt, rt.alloc(), &disk, lost)
+fn runs_of_worked_disks_are_read_or_lost(rt: HostRuntime) -> Result<(), Fail> {
+    for (worked, states, runs) in &RUNS {
+        check_runs(
+            &rt,
+            rt.alloc(),
+            &worked.disk(&rt, rt.alloc())?,
+            states,
+            runs,
+        )?;
+    }
+    Ok(())
 }
 
 /// Requires that the run with this locator, under this pointer, is lost for this reason.
@@ -160,8 +160,7 @@ fn a_hidden_run_is_read(rt: HostRuntime) -> Result<(), Fail> {
     let run = put_run(rt.alloc(), &mut disk, 1, 64, TWOS, &[abc_at(1, 0)])?;
     put_superblock(rt.alloc(), &mut disk, &[219, 0], slice::from_ref(&run))?;
     same(&rt, judge(rt.alloc(), &disk, &run)?, Status::Hidden);
-    let abc = [abc_at(1, 0)];
-    check_runs(&rt, rt.alloc(), &disk, &[RunState::Read], &[Some(&abc)])
+    check_runs(&rt, rt.alloc(), &disk, &[RunState::Read], &[Found::Binds])
 }
 
 #[test]

@@ -4,7 +4,7 @@
 
 use crate::compare::same;
 use crate::disks::{entry_of, payload_of, put_run, shard};
-use crate::listings::{Which, listed};
+use crate::listings::{NONE, Which, listed};
 use crate::sizes::{filled, run_of_shards};
 use crate::told::{checked_of, scrubbed};
 use scrub_check::{Owner, SharedPlace, Status, broken_shards, dangling, hidden, shared};
@@ -149,7 +149,14 @@ fn of_100032_locators_each_has_its_lines(rt: HostRuntime) -> Result<(), Fail> {
     check_lines(&rt, rt.alloc(), &disk, Which::Locators, 100_033, last)?;
     let last =
         "move 1 4101271 3 11111111-1111-1111-1111-111111111111 shard 0000000000000000000000000000061a\n";
-    check_lines(&rt, rt.alloc(), &disk, Which::Reclaimable, 100_033, last)
+    check_lines(
+        &rt,
+        rt.alloc(),
+        &disk,
+        Which::Reclaimable(NONE),
+        100_033,
+        last,
+    )
 }
 
 #[test]
@@ -224,7 +231,7 @@ fn check_scrubbed<R: Threads + Wait + Abort + Sync>(
         .ok_or("the retired extents")?;
     let (list, _) = behind.split_once("]").ok_or("their end")?;
     same(rt, list.split(",").count(), retired.len());
-    for which in [Which::Locators, Which::Reclaimable] {
+    for which in [Which::Locators, Which::Reclaimable(NONE)] {
         let found = listed(rt, alloc, disk, 2, &NoGate, which)?;
         assert!(rt; found.is_good);
         let left = found.takings.counted();

@@ -43,6 +43,8 @@ mod plain_scan;
 #[cfg(test)]
 mod published;
 #[cfg(test)]
+mod read_runs_by_threads;
+#[cfg(test)]
 mod reclaimable;
 #[cfg(test)]
 mod retired;

@@ -15,8 +15,8 @@ use std::thread::Threads;
 pub(crate) enum Which {
     /// The named locators.
     Locators,
-    /// What may be reclaimed, with no doubt accepted.
-    Reclaimable,
+    /// What may be reclaimed, where these kinds of doubts are accepted.
+    Reclaimable(Accepted),
 }
 
 /// A listing, and who took which extents for it.
@@ -30,7 +30,7 @@ pub(crate) struct Listing {
 }
 
 /// No kind of doubt.
-const NONE: Accepted = Accepted {
+pub(crate) const NONE: Accepted = Accepted {
     superblock_damaged: false,
     superblock_stray: false,
     tail: false,
@@ -57,8 +57,8 @@ fn answer<D: PageSource, G: Gate, R: Threads + Wait + Sync>(
                 takings,
             })
         }
-        Which::Reclaimable => {
-            let (listing, takings) = list_reclaimable(rt, alloc, disk, workers, gate, NONE)?;
+        Which::Reclaimable(accepted) => {
+            let (listing, takings) = list_reclaimable(rt, alloc, disk, workers, gate, accepted)?;
             Ok(Listing {
                 text: listing.text,
                 is_good: listing.is_clear,

@@ -6,9 +6,9 @@ ghost use Rattle.scrub_disk.specs.WholePages.{memory_pages};
 
 use crate::compare::same;
 use crate::disks::many_shards;
+use crate::told::{scrubbed, scrubbed_by};
 use scrub_disk::{Geometry, MemDisk, PageSource, Unreadable};
 use scrub_pool::NoGate;
-use scrub_report::{ScrubFault, scrub, scrub_in_order};
 use std::alloc::Global;
 use std::process::Abort;
 use std::sync::Wait;
@@ -113,10 +113,7 @@ fn check_pages(rt: &impl Abort, source: &PageCounts<'_>) {
 fn one_reader_asks_for_each_page_once_but_for_the_run(rt: HostRuntime) -> Result<(), Fail> {
     let (disk, _) = many_shards(&rt, rt.alloc())?;
     let source = PageCounts::new(rt.alloc(), &disk)?;
-    match scrub_in_order(&rt, rt.alloc(), &source) {
-        Ok(answer) => assert!(&rt; answer.is_clean()),
-        Err(ScrubFault::OutOfMemory) => return Err(Fail::from("out of memory")),
-    }
+    assert!(&rt; scrubbed(&rt, rt.alloc(), &source)?.is_clean());
     check_pages(&rt, &source);
     Ok(())
 }
@@ -131,10 +128,8 @@ fn check_workers<R: Threads + Wait + Abort + Sync>(
     requires { workers ≤ 64 }
 {
     let source = PageCounts::new(alloc, disk)?;
-    match scrub(rt, alloc, &source, workers, &NoGate) {
-        Ok((answer, _)) => assert!(rt; answer.is_clean()),
-        Err(ScrubFault::OutOfMemory) => return Err(Fail::from("out of memory")),
-    }
+    let (answer, _) = scrubbed_by(rt, alloc, &source, workers, &NoGate)?;
+    assert!(rt; answer.is_clean());
     check_pages(rt, &source);
     Ok(())
 }

@@ -5,7 +5,7 @@ ghost use Rattle.std.specs.Prelude.{◌≤◌};
 
 use crate::compare::{check_answer, same};
 use crate::disks::{put_abc_and_its_run, put_run};
-use crate::told::scrubbed;
+use crate::told::{scrubbed, scrubbed_by};
 use scrub_book::{Book, Event, PoolCore, StepRefused};
 use scrub_check::{Status, status_of};
 use scrub_disk::{Geometry, MemDisk, PageSource};
@@ -16,7 +16,7 @@ use scrub_fakes::{
 };
 use scrub_frame::Locator;
 use scrub_pool::{NoGate, Takings};
-use scrub_report::{ScrubAnswer, ScrubFault, scrub, scrub_in_order};
+use scrub_report::ScrubAnswer;
 use scrub_scan::scan_in_order;
 use scrub_super::{Plan, Superblock, choose};
 use std::alloc::Global;
@@ -93,10 +93,7 @@ fn check_workers<R: Threads + Wait + Abort + Sync>(
 ) -> Result<Takings, Fail>
     requires { workers ≤ 64 }
 {
-    let (answer, takings) = match scrub(rt, alloc, disk, workers, &NoGate) {
-        Ok(found) => found,
-        Err(ScrubFault::OutOfMemory) => return Err(Fail::from("out of memory")),
-    };
+    let (answer, takings) = scrubbed_by(rt, alloc, disk, workers, &NoGate)?;
     check_answer(rt, &answer, &scrubbed(rt, alloc, disk)?);
     Ok(takings)
 }
@@ -123,10 +120,7 @@ fn what_lies_in_a_retired_extent_counts_for_nothing(rt: HostRuntime) -> Result<(
 fn no_page_of_a_retired_extent_is_asked_for(rt: HostRuntime) -> Result<(), Fail> {
     let disk = broken_and_retired(&rt, rt.alloc())?;
     let source = CountingSource::new(rt.alloc(), &disk)?;
-    match scrub_in_order(&rt, rt.alloc(), &source) {
-        Ok(answer) => assert!(&rt; answer.is_clean()),
-        Err(ScrubFault::OutOfMemory) => return Err(Fail::from("out of memory")),
-    }
+    assert!(&rt; scrubbed(&rt, rt.alloc(), &source)?.is_clean());
     assert!(&rt; source.geometry().extents() == 4);
     assert!(&rt; source.asked(2) >= 4);
     same(&rt, source.asked(3), 0);
@@ -144,10 +138,8 @@ fn check_unasked<R: Threads + Wait + Abort + Sync>(
 {
     let source = CountingSource::new(alloc, disk)?;
     assert!(rt; source.geometry().extents() == 4);
-    match scrub(rt, alloc, &source, workers, &NoGate) {
-        Ok((answer, _)) => assert!(rt; answer.is_clean()),
-        Err(ScrubFault::OutOfMemory) => return Err(Fail::from("out of memory")),
-    }
+    let (answer, _) = scrubbed_by(rt, alloc, &source, workers, &NoGate)?;
+    assert!(rt; answer.is_clean());
     assert!(rt; source.asked(2) >= 4);
     same(rt, source.asked(3), 0);
     Ok(())

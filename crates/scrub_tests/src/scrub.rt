@@ -1,10 +1,7 @@
 //! Single keys of what whole scrubs report, of disks whose whole report is published nowhere.
 
 use crate::compare::same;
-use crate::disks::{
-    behind_the_pointer, broken_newest_run, broken_superblock, deleted_in_the_newest_run,
-    nine_locators, one_shard_without, run_named_twice, torn_frame, two_superblocks,
-};
+use crate::disks::{Worked, nine_locators};
 use crate::told::scrubbed;
 use scrub_disk::MemDisk;
 use scrub_fakes::published::NO_SHARDS;
@@ -31,32 +28,116 @@ fn check(
     Ok(answer)
 }
 
-#[test]
-fn what_lies_behind_a_pointer_is_a_tail(rt: HostRuntime) -> Result<(), Fail> {
-    let disk = behind_the_pointer(rt.alloc())?;
-    let pieces = [
-        r#"{"bad":[],"extent":1,"items":[],"live":0,"pointer":0,"tail":38,"tail_at":0}"#,
-        r#"{"bad":[],"extent":2,"items":[],"live":0,"pointer":0,"tail":0,"tail_at":null}"#,
-        r#""candidates":[]"#,
-    ];
-    check(&rt, rt.alloc(), &disk, true, &pieces)?;
-    Ok(())
-}
+/// A disk, whether it is clean, and pieces of its report.
+type Reported = (Worked, bool, &'static [&'static str]);
+
+const REPORTS: [Reported; 9] = [
+    // What lies behind a pointer is a tail.
+    (
+        Worked::BehindThePointer,
+        true,
+        &[
+            r#"{"bad":[],"extent":1,"items":[],"live":0,"pointer":0,"tail":38,"tail_at":0}"#,
+            r#"{"bad":[],"extent":2,"items":[],"live":0,"pointer":0,"tail":0,"tail_at":null}"#,
+            r#""candidates":[]"#,
+        ],
+    ),
+    // A frame with an unreadable page is torn and lost.
+    (
+        Worked::TornFrame,
+        false,
+        &[
+            r#"{"bad":[1],"extent":1,"items":["torn 0 64","lost 64 98"],"live":0,"pointer":98,"#,
+            r#""candidates":[]"#,
+        ],
+    ),
+    // What a run with another digest may have had leaves doubt.
+    (
+        Worked::BrokenNewestRun,
+        false,
+        &[
+            r#""candidates":[]"#,
+            r#""doubtful":["00000000000000000000000000000001"]"#,
+            r#""runs":[{"entries":null,"extent":2,"offset":0,"state":"not_a_run"},"#,
+            r#"{"entries":1,"extent":3,"offset":0,"state":"read"}]"#,
+            r#""shards":1"#,
+        ],
+    ),
+    // Without extent 0 every chunk is an orphan.
+    (
+        Worked::Without(0, &[0, 1, 2, 3]),
+        false,
+        &[
+            r#""candidates":[]"#,
+            r#"3","pad 41 64","pad 64 128","pad 128 192","pad 192 256"],"live":0,"pointer":256,"#,
+            r#"117","pad 155 192","pad 192 256"],"live":0,"pointer":256,"#,
+            r#""orphans":[{"extent":1,"length":3,"offset":0,"uuid":"11111111-1111-1111-1111-111111111111"},"#,
+            r#"{"extent":2,"length":117,"offset":0,"uuid":"22222222-2222-2222-2222-222222222222"}]"#,
+            r#""super":{"bad":[0,1,2,3],"generation":null,"page":null,"records":0,"tie":false}"#,
+        ],
+    ),
+    // A run that is named twice is at a shared place.
+    (
+        Worked::RunNamedTwice,
+        false,
+        &[
+            r#""runs":[{"entries":1,"extent":2,"offset":0,"state":"read"},"#,
+            r#"{"entries":1,"extent":2,"offset":0,"state":"read"}]"#,
+            r#""shards":1,"shared":[{"count":2,"extent":2,"offset":0}]"#,
+        ],
+    ),
+    // A run with unreadable pages is lost.
+    (
+        Worked::Without(2, &[2, 3]),
+        false,
+        &[
+            r#"{"bad":[2,3],"extent":2,"items":["torn 0 64","noise 64 128","lost 128 155"],"live":0,"pointer":155,"#,
+            r#""orphans":[{"extent":1,"length":3,"offset":0,"uuid":"11111111-1111-1111-1111-111111111111"}]"#,
+            r#""runs":[{"entries":null,"extent":2,"offset":0,"state":"unreadable"}],"shards":0"#,
+            r#""candidates":[]"#,
+        ],
+    ),
+    // Of two superblocks of one generation the first counts, else the newer one, unless it is broken.
+    (
+        Worked::TwoSuperblocks(7),
+        false,
+        &[
+            r#""candidates":[]"#,
+            r#""super":{"bad":[],"generation":7,"page":0,"records":2,"tie":true}"#,
+        ],
+    ),
+    (
+        Worked::TwoSuperblocks(8),
+        false,
+        &[
+            r#""items":[],"live":0,"pointer":0,"tail":38,"tail_at":0}"#,
+            r#""super":{"bad":[],"generation":8,"page":2,"records":2,"tie":false}"#,
+        ],
+    ),
+    (
+        Worked::BrokenSuperblock,
+        true,
+        &[r#""super":{"bad":[],"generation":7,"page":0,"records":1,"tie":false}"#],
+    ),
+];
 
 #[test]
-fn a_frame_with_an_unreadable_page_is_torn_and_lost(rt: HostRuntime) -> Result<(), Fail> {
-    let disk = torn_frame(rt.alloc())?;
-    let pieces = [
-        r#"{"bad":[1],"extent":1,"items":["torn 0 64","lost 64 98"],"live":0,"pointer":98,"#,
-        r#""candidates":[]"#,
-    ];
-    check(&rt, rt.alloc(), &disk, false, &pieces)?;
+fn reports_of_worked_disks_have_these_pieces(rt: HostRuntime) -> Result<(), Fail> {
+    for (worked, is_clean, pieces) in &REPORTS {
+        check(
+            &rt,
+            rt.alloc(),
+            &worked.disk(&rt, rt.alloc())?,
+            *is_clean,
+            pieces,
+        )?;
+    }
     Ok(())
 }
 
 #[test]
 fn what_the_newest_run_deletes_is_an_orphan(rt: HostRuntime) -> Result<(), Fail> {
-    let disk = deleted_in_the_newest_run(&rt, rt.alloc())?;
+    let disk = Worked::DeletedInTheNewestRun.disk(&rt, rt.alloc())?;
     let pieces = [
         r#""candidates":[{"extent":1,"free":41,"keep":[]}]"#,
         r#""orphans":[{"extent":1,"length":3,"offset":0,"uuid":"11111111-1111-1111-1111-111111111111"}]"#,
@@ -67,20 +148,6 @@ fn what_the_newest_run_deletes_is_an_orphan(rt: HostRuntime) -> Result<(), Fail>
     ];
     let answer = check(&rt, rt.alloc(), &disk, true, &pieces)?;
     same(&rt, answer.index(), NO_SHARDS.as_slice());
-    Ok(())
-}
-
-#[test]
-fn a_run_with_another_digest_leaves_doubt(rt: HostRuntime) -> Result<(), Fail> {
-    let disk = broken_newest_run(&rt, rt.alloc())?;
-    let pieces = [
-        r#""candidates":[]"#,
-        r#""doubtful":["00000000000000000000000000000001"]"#,
-        r#""runs":[{"entries":null,"extent":2,"offset":0,"state":"not_a_run"},"#,
-        r#"{"entries":1,"extent":3,"offset":0,"state":"read"}]"#,
-        r#""shards":1"#,
-    ];
-    check(&rt, rt.alloc(), &disk, false, &pieces)?;
     Ok(())
 }
 
@@ -135,65 +202,5 @@ fn a_shard_whose_locators_dangle_is_broken(rt: HostRuntime) -> Result<(), Fail> 
         let told = format!(in rt.alloc(); "{{{place},{owner},\"reason\":{reason}")?;
         assert!(rt; report.contains(told.as_str()), "{told} in {report}");
     }
-    Ok(())
-}
-
-#[test]
-fn without_extent_0_every_chunk_is_an_orphan(rt: HostRuntime) -> Result<(), Fail> {
-    let disk = one_shard_without(rt.alloc(), 0, &[0, 1, 2, 3])?;
-    let pieces = [
-        r#""candidates":[]"#,
-        r#"3","pad 41 64","pad 64 128","pad 128 192","pad 192 256"],"live":0,"pointer":256,"#,
-        r#"117","pad 155 192","pad 192 256"],"live":0,"pointer":256,"#,
-        r#""orphans":[{"extent":1,"length":3,"offset":0,"uuid":"11111111-1111-1111-1111-111111111111"},"#,
-        r#"{"extent":2,"length":117,"offset":0,"uuid":"22222222-2222-2222-2222-222222222222"}]"#,
-        r#""super":{"bad":[0,1,2,3],"generation":null,"page":null,"records":0,"tie":false}"#,
-    ];
-    check(&rt, rt.alloc(), &disk, false, &pieces)?;
-    Ok(())
-}
-
-#[test]
-fn a_run_that_is_named_twice_stands_at_a_shared_place(rt: HostRuntime) -> Result<(), Fail> {
-    let disk = run_named_twice(&rt, rt.alloc())?;
-    let pieces = [
-        r#""runs":[{"entries":1,"extent":2,"offset":0,"state":"read"},"#,
-        r#"{"entries":1,"extent":2,"offset":0,"state":"read"}]"#,
-        r#""shards":1,"shared":[{"count":2,"extent":2,"offset":0}]"#,
-    ];
-    check(&rt, rt.alloc(), &disk, false, &pieces)?;
-    Ok(())
-}
-
-#[test]
-fn a_run_with_unreadable_pages_is_lost(rt: HostRuntime) -> Result<(), Fail> {
-    let disk = one_shard_without(rt.alloc(), 2, &[2, 3])?;
-    let pieces = [
-        r#"{"bad":[2,3],"extent":2,"items":["torn 0 64","noise 64 128","lost 128 155"],"live":0,"pointer":155,"#,
-        r#""orphans":[{"extent":1,"length":3,"offset":0,"uuid":"11111111-1111-1111-1111-111111111111"}]"#,
-        r#""runs":[{"entries":null,"extent":2,"offset":0,"state":"unreadable"}],"shards":0"#,
-        r#""candidates":[]"#,
-    ];
-    check(&rt, rt.alloc(), &disk, false, &pieces)?;
-    Ok(())
-}
-
-#[test]
-fn of_two_superblocks_the_newer_or_the_first_counts(rt: HostRuntime) -> Result<(), Fail> {
-    let tied = two_superblocks(rt.alloc(), 7)?;
-    let pieces = [
-        r#""candidates":[]"#,
-        r#""super":{"bad":[],"generation":7,"page":0,"records":2,"tie":true}"#,
-    ];
-    check(&rt, rt.alloc(), &tied, false, &pieces)?;
-    let newer = two_superblocks(rt.alloc(), 8)?;
-    let pieces = [
-        r#""items":[],"live":0,"pointer":0,"tail":38,"tail_at":0}"#,
-        r#""super":{"bad":[],"generation":8,"page":2,"records":2,"tie":false}"#,
-    ];
-    check(&rt, rt.alloc(), &newer, false, &pieces)?;
-    let broken = broken_superblock(rt.alloc())?;
-    let pieces = [r#""super":{"bad":[],"generation":7,"page":0,"records":1,"tie":false}"#];
-    check(&rt, rt.alloc(), &broken, true, &pieces)?;
     Ok(())
 }

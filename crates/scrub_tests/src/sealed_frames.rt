@@ -1,11 +1,10 @@
 //! Sealed frames beside plain ones: where they stand, what is left of those that don't, and the collision that they close.
 
+use crate::extents::{Written, mark_all, put_all, put_frames};
 use crate::standing_frames::{Place, check_stands};
 use crate::tiling::check_tiling;
 use scrub_disk::{MemDisk, PageSource};
-use scrub_fakes::{
-    ABC_DIGEST, ENDS_IN_MAGIC, ONES, TWOS, mark_bad, put, put_chunk, put_sealed, small_disk,
-};
+use scrub_fakes::{ABC_DIGEST, ENDS_IN_MAGIC, ONES, TWOS, mark_bad, put_sealed, small_disk};
 use scrub_frame::Form;
 use scrub_scan::{Standing, frame_stands, read_payload};
 use std::alloc::Global;
@@ -20,54 +19,97 @@ fn sealed_abc(alloc: Global) -> Result<MemDisk, Fail> {
     Ok(disk)
 }
 
-/// The line of that frame.
-const SEALED_LINE: &str = "sealed 0 75 11111111-1111-1111-1111-111111111111 3";
+/// What is put into extent 1: sealed frames, plain frames, and bytes over them; the unreadable pages, the pointer, and the lines.
+#[derive(Clone, Copy)]
+struct Tiled {
+    sealed: &'static [Written<'static>],
+    plain: &'static [Written<'static>],
+    bytes: &'static [(u32, &'static [u8])],
+    bad_pages: &'static [u32],
+    pointer: u32,
+    lines: &'static [&'static str],
+}
 
-#[test]
-fn a_sealed_frame_ends_at_the_pointer_or_is_torn(rt: HostRuntime) -> Result<(), Fail> {
-    let disk = sealed_abc(rt.alloc())?;
-    check_tiling(&rt, rt.alloc(), &disk, 75, &[SEALED_LINE])?;
-    check_tiling(&rt, rt.alloc(), &disk, 74, &["torn 0 64", "noise 64 74"])
+/// The sealed frame of `abc` at 0, which ends at 75.
+const SEALED_ABC: Tiled = Tiled {
+    sealed: &[(0, ONES, b"abc")],
+    plain: &[],
+    bytes: &[],
+    bad_pages: &[],
+    pointer: 75,
+    lines: &["sealed 0 75 11111111-1111-1111-1111-111111111111 3"],
+};
+
+const TILINGS: [Tiled; 6] = [
+    SEALED_ABC,
+    Tiled {
+        pointer: 74,
+        lines: &["torn 0 64", "noise 64 74"],
+        ..SEALED_ABC
+    },
+    // Its payload was changed.
+    Tiled {
+        bytes: &[(56, b"d")],
+        lines: &["torn 0 64", "noise 64 75"],
+        ..SEALED_ABC
+    },
+    Tiled {
+        bad_pages: &[1],
+        lines: &["torn 0 64", "lost 64 75"],
+        ..SEALED_ABC
+    },
+    // Frames of both forms end to end.
+    Tiled {
+        sealed: &[(41, TWOS, b"abc")],
+        plain: &[(0, ONES, b"abc")],
+        pointer: 116,
+        lines: &[
+            "chunk 0 41 11111111-1111-1111-1111-111111111111 3",
+            "sealed 41 116 22222222-2222-2222-2222-222222222222 3",
+        ],
+        ..SEALED_ABC
+    },
+    // The closing mark closes the collision.
+    Tiled {
+        sealed: &[(0, ENDS_IN_MAGIC, &[0x78; 58])],
+        plain: &[(128, ONES, b"abc")],
+        pointer: 169,
+        lines: &[
+            "torn 0 64",
+            "noise 64 128",
+            "chunk 128 169 11111111-1111-1111-1111-111111111111 3",
+        ],
+        ..SEALED_ABC
+    },
+];
+
+/// Compares the lines of a tiling.
+fn check_tiled(rt: &impl Abort, alloc: Global, tiled: &Tiled) -> Result<(), Fail> {
+    let mut disk = small_disk(alloc)?;
+    for (offset, uuid, payload) in tiled.sealed {
+        put_sealed(alloc, &mut disk, 1, *offset, *uuid, payload)?;
+    }
+    put_frames(alloc, &mut disk, tiled.plain)?;
+    put_all(&mut disk, tiled.bytes)?;
+    mark_all(&mut disk, 1, tiled.bad_pages)?;
+    check_tiling(rt, alloc, &disk, tiled.pointer, tiled.lines)
 }
 
 #[test]
-fn a_sealed_frame_whose_payload_was_changed_is_none(rt: HostRuntime) -> Result<(), Fail> {
-    let mut disk = sealed_abc(rt.alloc())?;
-    put(&mut disk, 1, 56, b"d")?;
-    check_tiling(&rt, rt.alloc(), &disk, 75, &["torn 0 64", "noise 64 75"])
+fn sealed_frames_are_whole_or_torn(rt: HostRuntime) -> Result<(), Fail> {
+    for tiled in &TILINGS {
+        check_tiled(&rt, rt.alloc(), tiled)?;
+    }
+    Ok(())
 }
 
 #[test]
-fn a_sealed_frame_with_a_byte_on_an_unreadable_page_is_none(rt: HostRuntime) -> Result<(), Fail> {
+fn a_sealed_frame_with_a_byte_on_an_unreadable_page_does_not_stand(
+    rt: HostRuntime,
+) -> Result<(), Fail> {
     let mut disk = sealed_abc(rt.alloc())?;
     mark_bad(&mut disk, 1, 1)?;
-    check_tiling(&rt, rt.alloc(), &disk, 75, &["torn 0 64", "lost 64 75"])?;
     check_stands(&rt, rt.alloc(), &disk, (75, 1, 0), None)
-}
-
-#[test]
-fn frames_of_both_forms_stand_end_to_end(rt: HostRuntime) -> Result<(), Fail> {
-    let mut disk = small_disk(rt.alloc())?;
-    put_chunk(rt.alloc(), &mut disk, 1, 0, ONES, b"abc")?;
-    put_sealed(rt.alloc(), &mut disk, 1, 41, TWOS, b"abc")?;
-    let lines = [
-        "chunk 0 41 11111111-1111-1111-1111-111111111111 3",
-        "sealed 41 116 22222222-2222-2222-2222-222222222222 3",
-    ];
-    check_tiling(&rt, rt.alloc(), &disk, 116, &lines)
-}
-
-#[test]
-fn the_closing_mark_closes_the_collision(rt: HostRuntime) -> Result<(), Fail> {
-    let mut disk = small_disk(rt.alloc())?;
-    put_sealed(rt.alloc(), &mut disk, 1, 0, ENDS_IN_MAGIC, &[0x78; 58])?;
-    put_chunk(rt.alloc(), &mut disk, 1, 128, ONES, b"abc")?;
-    let lines = [
-        "torn 0 64",
-        "noise 64 128",
-        "chunk 128 169 11111111-1111-1111-1111-111111111111 3",
-    ];
-    check_tiling(&rt, rt.alloc(), &disk, 169, &lines)
 }
 
 /// The sealed frame of `abc` at 0 of extent 1.

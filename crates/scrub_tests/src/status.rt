@@ -35,13 +35,6 @@ fn abc_under(alloc: Global, pointer: u32) -> Result<MemDisk, Fail> {
     Ok(disk)
 }
 
-/// A disk of three extents with the frame of a payload at a place of extent 1, without a superblock.
-fn long_at(alloc: Global, offset: u32, payload: &[u8]) -> Result<MemDisk, Fail> {
-    let mut disk = small_disk(alloc)?;
-    put_chunk(alloc, &mut disk, 1, offset, ONES, payload)?;
-    Ok(disk)
-}
-
 #[test]
 fn nine_locators_of_nine_statuses(rt: HostRuntime) -> Result<(), Fail> {
     let (disk, run) = nine_locators(&rt, rt.alloc())?;
@@ -49,134 +42,196 @@ fn nine_locators_of_nine_statuses(rt: HostRuntime) -> Result<(), Fail> {
     check(&rt, rt.alloc(), &disk, &[(run, Status::Sound)])
 }
 
-#[test]
-fn a_chunk_in_extent_0_or_past_the_last_extent_is_out_of_range(
-    rt: HostRuntime,
-) -> Result<(), Fail> {
-    let mut disk = small_disk(rt.alloc())?;
-    for extent in [0, 1, 2] {
-        put_chunk(rt.alloc(), &mut disk, extent, 0, ONES, b"abc")?;
-    }
-    let cases = [
-        (abc_at(0, 0), Status::OutOfRange),
-        (abc_at(1, 0), Status::Sound),
-        (abc_at(2, 0), Status::Sound),
-        (abc_at(3, 0), Status::OutOfRange),
-    ];
-    check(&rt, rt.alloc(), &disk, &cases)
+/// A chunk: its extent, its offset, its UUID and its payload.
+type Chunk = (u32, u32, [u8; 16], &'static [u8]);
+
+/// A small disk: the pointer of extent 1, where there is a superblock, the chunks, and the unreadable pages; and locators: the
+/// chunk that each is of, the length that it has, and what it is worth.
+#[derive(Clone, Copy)]
+struct Judged {
+    what: &'static str,
+    pointer: Option<u32>,
+    chunks: &'static [Chunk],
+    bad_pages: &'static [(u32, u32)],
+    judged: &'static [(Chunk, u32, Status)],
 }
 
-/// The locator of the frame of 26 bytes 78 and `ONES` at a place, but for its length.
-fn long_of(extent: u32, offset: u32, length: u32) -> Locator {
+/// Without a superblock each pointer is the extent's end.
+const WHOLE: Judged = Judged {
+    what: "",
+    pointer: None,
+    chunks: &[],
+    bad_pages: &[],
+    judged: &[],
+};
+
+const ABC: Chunk = (1, 0, ONES, b"abc");
+
+/// Frames of 64 and of 129 bytes; the last byte of the second is the first of page 2.
+const SHORT: &[u8] = &[0x78; 26];
+
+const LONG: Chunk = (1, 0, ONES, &[0x78; 91]);
+
+/// The UUID of `abc` with another first byte, and with another last one.
+const OTHER_FIRST: [u8; 16] = [
+    0x10, 0x11, 0x11, 0x11, 0x11, 0x11, 0x11, 0x11, 0x11, 0x11, 0x11, 0x11, 0x11, 0x11, 0x11, 0x11,
+];
+
+const OTHER_LAST: [u8; 16] = [
+    0x11, 0x11, 0x11, 0x11, 0x11, 0x11, 0x11, 0x11, 0x11, 0x11, 0x11, 0x11, 0x11, 0x11, 0x11, 0x10,
+];
+
+const JUDGED: [Judged; 13] = [
+    Judged {
+        what: "a chunk in extent 0 or past the last extent",
+        chunks: &[(0, 0, ONES, b"abc"), ABC, (2, 0, ONES, b"abc")],
+        judged: &[
+            ((0, 0, ONES, b"abc"), 3, Status::OutOfRange),
+            (ABC, 3, Status::Sound),
+            ((2, 0, ONES, b"abc"), 3, Status::Sound),
+            ((3, 0, ONES, b"abc"), 3, Status::OutOfRange),
+        ],
+        ..WHOLE
+    },
+    Judged {
+        what: "a frame that would end one byte past the extent",
+        chunks: &[(1, 192, ONES, SHORT)],
+        judged: &[
+            ((1, 192, ONES, SHORT), 26, Status::Sound),
+            ((1, 192, ONES, SHORT), 27, Status::OutOfRange),
+            ((1, 192, ONES, SHORT), u32::MAX, Status::OutOfRange),
+        ],
+        ..WHOLE
+    },
+    Judged {
+        what: "a frame that ends at the pointer",
+        pointer: Some(41),
+        chunks: &[ABC],
+        judged: &[
+            (ABC, 3, Status::Sound),
+            ((1, 0, OTHER_FIRST, b"abc"), 3, Status::WrongUuid),
+            ((1, 0, OTHER_LAST, b"abc"), 3, Status::WrongUuid),
+        ],
+        ..WHOLE
+    },
+    Judged {
+        what: "a frame that ends one byte past the pointer",
+        pointer: Some(40),
+        chunks: &[ABC],
+        judged: &[(ABC, 3, Status::PastPointer)],
+        ..WHOLE
+    },
+    Judged {
+        what: "a frame whose first page is unreadable",
+        chunks: &[LONG],
+        bad_pages: &[(1, 0)],
+        judged: &[(LONG, 91, Status::Unreadable)],
+        ..WHOLE
+    },
+    Judged {
+        what: "a frame whose second page is unreadable",
+        chunks: &[LONG],
+        bad_pages: &[(1, 1)],
+        judged: &[(LONG, 91, Status::Unreadable)],
+        ..WHOLE
+    },
+    Judged {
+        what: "a frame of whose last page one byte is its own",
+        chunks: &[LONG],
+        bad_pages: &[(1, 2)],
+        judged: &[(LONG, 91, Status::Unreadable)],
+        ..WHOLE
+    },
+    Judged {
+        what: "a frame before an unreadable page",
+        chunks: &[LONG],
+        bad_pages: &[(1, 3)],
+        judged: &[(LONG, 91, Status::Sound)],
+        ..WHOLE
+    },
+    Judged {
+        what: "a frame that ends with its page is read without the next",
+        chunks: &[(1, 0, ONES, SHORT)],
+        bad_pages: &[(1, 1)],
+        judged: &[
+            ((1, 0, ONES, SHORT), 26, Status::Sound),
+            ((1, 0, ONES, SHORT), 27, Status::Unreadable),
+        ],
+        ..WHOLE
+    },
+    Judged {
+        what: "a frame that ends with the last byte of the last extent",
+        chunks: &[(2, 192, ONES, SHORT)],
+        judged: &[
+            ((2, 192, ONES, SHORT), 26, Status::Sound),
+            ((2, 192, ONES, SHORT), 27, Status::OutOfRange),
+        ],
+        ..WHOLE
+    },
+    Judged {
+        what: "that frame, with the last page unreadable",
+        chunks: &[(2, 192, ONES, SHORT)],
+        bad_pages: &[(2, 3)],
+        judged: &[((2, 192, ONES, SHORT), 26, Status::Unreadable)],
+        ..WHOLE
+    },
+    Judged {
+        what: "one byte behind the start of a frame",
+        pointer: Some(256),
+        chunks: &[ABC],
+        judged: &[
+            (ABC, 3, Status::Sound),
+            ((1, 1, ONES, b"abc"), 3, Status::NoFrame),
+        ],
+        ..WHOLE
+    },
+    Judged {
+        what: "a length of one byte less or more",
+        pointer: Some(256),
+        chunks: &[ABC],
+        judged: &[(ABC, 2, Status::WrongLength), (ABC, 4, Status::WrongLength)],
+        ..WHOLE
+    },
+];
+
+/// Makes the disk.
+fn disk_of(alloc: Global, judged: &Judged) -> Result<MemDisk, Fail> {
+    let mut disk = small_disk(alloc)?;
+    if let Some(pointer) = judged.pointer {
+        put_superblock(alloc, &mut disk, &[pointer, 0], &[])?;
+    }
+    for (extent, offset, uuid, payload) in judged.chunks {
+        put_chunk(alloc, &mut disk, *extent, *offset, *uuid, payload)?;
+    }
+    for (extent, page) in judged.bad_pages {
+        mark_bad(&mut disk, *extent, *page)?;
+    }
+    Ok(disk)
+}
+
+/// The locator of a chunk, with another length.
+fn locator_of(chunk: &Chunk, length: u32) -> Locator {
+    let (extent, offset, uuid, payload) = *chunk;
     Locator {
         length,
-        ..locate(extent, offset, Uuid::from_bytes(ONES), &[0x78; 26])
+        ..locate(extent, offset, Uuid::from_bytes(uuid), payload)
     }
 }
 
-#[test]
-fn a_frame_that_would_end_one_byte_past_the_extent_is_out_of_range(
-    rt: HostRuntime,
-) -> Result<(), Fail> {
-    let disk = long_at(rt.alloc(), 192, &[0x78; 26])?;
-    let cases = [
-        (long_of(1, 192, 26), Status::Sound),
-        (long_of(1, 192, 27), Status::OutOfRange),
-        (long_of(1, 192, u32::MAX), Status::OutOfRange),
-    ];
-    check(&rt, rt.alloc(), &disk, &cases)
-}
-
-#[test]
-fn a_frame_that_ends_one_byte_past_the_pointer_is_past_it(rt: HostRuntime) -> Result<(), Fail> {
-    for (pointer, status) in [(41, Status::Sound), (40, Status::PastPointer)] {
-        let disk = abc_under(rt.alloc(), pointer)?;
-        check(&rt, rt.alloc(), &disk, &[(abc_at(1, 0), status)])?;
+/// Compares what the locators of a row are worth.
+fn check_judged(rt: &impl Abort, alloc: Global, row: &Judged) -> Result<(), Fail> {
+    let disk = disk_of(alloc, row)?;
+    for (chunk, length, status) in row.judged {
+        let found = judge(alloc, &disk, &locator_of(chunk, *length))?;
+        assert!(rt; found == *status, "{}", row.what);
     }
     Ok(())
 }
 
 #[test]
-fn a_frame_is_unreadable_by_each_page_that_has_a_byte_of_it(rt: HostRuntime) -> Result<(), Fail> {
-    // 129 bytes from 0 on: the last one is the first of page 2.
-    let locator = locate(1, 0, Uuid::from_bytes(ONES), &[0x78; 91]);
-    let cases = [
-        (0, Status::Unreadable),
-        (1, Status::Unreadable),
-        (2, Status::Unreadable),
-        (3, Status::Sound),
-    ];
-    for (page, status) in cases {
-        let mut disk = long_at(rt.alloc(), 0, &[0x78; 91])?;
-        mark_bad(&mut disk, 1, page)?;
-        let found = judge(rt.alloc(), &disk, &locator)?;
-        assert!(rt; found == status, "page {page}");
-    }
-    Ok(())
-}
-
-#[test]
-fn a_frame_that_ends_with_its_page_is_read_without_the_next(rt: HostRuntime) -> Result<(), Fail> {
-    let mut disk = long_at(rt.alloc(), 0, &[0x78; 26])?;
-    mark_bad(&mut disk, 1, 1)?;
-    let cases = [
-        (long_of(1, 0, 26), Status::Sound),
-        (long_of(1, 0, 27), Status::Unreadable),
-    ];
-    check(&rt, rt.alloc(), &disk, &cases)
-}
-
-#[test]
-fn a_frame_that_ends_with_the_last_byte_of_the_last_extent_is_sound(
-    rt: HostRuntime,
-) -> Result<(), Fail> {
-    let mut disk = small_disk(rt.alloc())?;
-    put_chunk(rt.alloc(), &mut disk, 2, 192, ONES, &[0x78; 26])?;
-    let cases = [
-        (long_of(2, 192, 26), Status::Sound),
-        (long_of(2, 192, 27), Status::OutOfRange),
-    ];
-    check(&rt, rt.alloc(), &disk, &cases)?;
-    mark_bad(&mut disk, 2, 3)?;
-    let lost = [(long_of(2, 192, 26), Status::Unreadable)];
-    check(&rt, rt.alloc(), &disk, &lost)
-}
-
-#[test]
-fn no_frame_begins_one_byte_behind_the_start_of_one(rt: HostRuntime) -> Result<(), Fail> {
-    let disk = abc_under(rt.alloc(), 256)?;
-    let cases = [
-        (abc_at(1, 0), Status::Sound),
-        (abc_at(1, 1), Status::NoFrame),
-    ];
-    check(&rt, rt.alloc(), &disk, &cases)
-}
-
-#[test]
-fn one_other_byte_makes_another_uuid(rt: HostRuntime) -> Result<(), Fail> {
-    let disk = abc_under(rt.alloc(), 41)?;
-    for place in [0, 15] {
-        let mut bytes = ONES;
-        bytes[place] = 0x10;
-        let locator = Locator {
-            uuid: Uuid::from_bytes(bytes),
-            ..abc_at(1, 0)
-        };
-        let found = judge(rt.alloc(), &disk, &locator)?;
-        assert!(rt; found == Status::WrongUuid, "byte {place}");
-    }
-    Ok(())
-}
-
-#[test]
-fn a_length_of_one_byte_less_or_more_is_another(rt: HostRuntime) -> Result<(), Fail> {
-    let disk = abc_under(rt.alloc(), 256)?;
-    for length in [2, 4] {
-        let locator = Locator {
-            length,
-            ..abc_at(1, 0)
-        };
-        check(&rt, rt.alloc(), &disk, &[(locator, Status::WrongLength)])?;
+fn locators_are_worth_what_parts_them_from_sound_ones(rt: HostRuntime) -> Result<(), Fail> {
+    for row in &JUDGED {
+        check_judged(&rt, rt.alloc(), row)?;
     }
     Ok(())
 }
@@ -204,24 +259,18 @@ fn overwritten(uuid: [u8; 16]) -> Locator {
 
 #[test]
 fn a_chunk_is_hidden_by_a_frame_whose_uuid_ends_in_its_magic(rt: HostRuntime) -> Result<(), Fail> {
-    let disk = overwritten_end(rt.alloc(), ENDS_IN_MAGIC)?;
-    let cases = [
-        (abc_at(1, 64), Status::Hidden),
-        (overwritten(ENDS_IN_MAGIC), Status::Sound),
+    let mut otherwise = ENDS_IN_MAGIC;
+    otherwise[15] = 0x5F;
+    let uuids = [
+        (ENDS_IN_MAGIC, Status::Hidden, Status::Sound),
+        (otherwise, Status::Sound, Status::NoFrame),
     ];
-    check(&rt, rt.alloc(), &disk, &cases)
-}
-
-#[test]
-fn a_chunk_is_sound_over_a_frame_whose_uuid_ends_otherwise(rt: HostRuntime) -> Result<(), Fail> {
-    let mut uuid = ENDS_IN_MAGIC;
-    uuid[15] = 0x5F;
-    let disk = overwritten_end(rt.alloc(), uuid)?;
-    let cases = [
-        (abc_at(1, 64), Status::Sound),
-        (overwritten(uuid), Status::NoFrame),
-    ];
-    check(&rt, rt.alloc(), &disk, &cases)
+    for (uuid, chunk, frame) in uuids {
+        let disk = overwritten_end(rt.alloc(), uuid)?;
+        let cases = [(abc_at(1, 64), chunk), (overwritten(uuid), frame)];
+        check(&rt, rt.alloc(), &disk, &cases)?;
+    }
+    Ok(())
 }
 
 #[test]

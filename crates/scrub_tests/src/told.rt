@@ -1,16 +1,20 @@
-//! What the calls of the checks tell of a disk.
+//! What the calls of the checks report of a disk, and what a scrub answers, by one reader and by workers.
+
+ghost use Rattle.std.specs.Prelude.{◌≤◌};
 
 use scrub_check::{
     Candidate, Checked, Place, Status, candidates, check_all, liveness_of, named_locators, orphans,
     read_runs, status_of,
 };
-use scrub_disk::MemDisk;
+use scrub_disk::{MemDisk, PageSource};
 use scrub_fakes::plan_of;
 use scrub_frame::Locator;
 use scrub_merge::merge;
-use scrub_report::{ScrubAnswer, ScrubFault, scrub_in_order};
+use scrub_pool::{Gate, Takings};
+use scrub_report::{ScrubAnswer, ScrubFault, scrub, scrub_in_order};
 use scrub_scan::scan_in_order;
 use std::alloc::Global;
+use std::sync::Wait;
 use std::test::Fail;
 use std::thread::Threads;
 
@@ -22,13 +26,29 @@ pub(crate) fn judge(alloc: Global, disk: &MemDisk, locator: &Locator) -> Result<
 }
 
 /// What the scrub of a disk by one reader answers.
-pub(crate) fn scrubbed<R: Threads + Sync>(
+pub(crate) fn scrubbed<D: PageSource, R: Threads + Sync>(
     rt: &R,
     alloc: Global,
-    disk: &MemDisk,
+    disk: &D,
 ) -> Result<ScrubAnswer, Fail> {
     match scrub_in_order(rt, alloc, disk) {
         Ok(answer) => Ok(answer),
+        Err(ScrubFault::OutOfMemory) => Err(Fail::from("out of memory")),
+    }
+}
+
+/// What the scrub of a disk by so many workers and the caller answers, and who took which extents.
+pub(crate) fn scrubbed_by<D: PageSource, G: Gate, R: Threads + Wait + Sync>(
+    rt: &R,
+    alloc: Global,
+    disk: &D,
+    workers: u32,
+    gate: &G,
+) -> Result<(ScrubAnswer, Takings), Fail>
+    requires { workers ≤ 64 }
+{
+    match scrub(rt, alloc, disk, workers, gate) {
+        Ok(found) => Ok(found),
         Err(ScrubFault::OutOfMemory) => Err(Fail::from("out of memory")),
     }
 }

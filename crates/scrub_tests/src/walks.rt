@@ -6,11 +6,7 @@ ghost use Rattle.std.specs.List.Sorted.{IsStrictlyIncreasing};
 ghost use Rattle.scrub_scan.specs.Item.{start_of};
 
 use crate::compare::same;
-use crate::disks::{
-    behind_the_pointer, broken_newest_run, broken_superblock, deleted_in_the_newest_run,
-    half_garbage, nine_locators, one_shard, overwritten_end, run_named_twice, torn_frame,
-    twins_and_shared, two_superblocks,
-};
+use crate::disks::{Worked, nine_locators};
 use crate::ordered_map::check_map;
 use crate::plain_scan::check_scan;
 use crate::told::checked_of;
@@ -18,7 +14,7 @@ use scrub_check::{
     Candidate, Checked, Place, SharedPlace, Status, candidates, find_start, orphans, shared, twins,
 };
 use scrub_disk::{MemDisk, PageSource};
-use scrub_fakes::{ENDS_IN_MAGIC, mark_bad, plan_of, put, small_disk};
+use scrub_fakes::{mark_bad, plan_of, put};
 use scrub_scan::{AllFindings, ExtentResult, Item, scan_in_order, tile};
 use std::alloc::Global;
 use std::cmp::Reverse;
@@ -306,27 +302,28 @@ fn check_each(
     Ok(())
 }
 
-#[test]
-fn walks_agree_on_disks_with_chunks(rt: HostRuntime) -> Result<(), Fail> {
-    let alloc = rt.alloc();
-    check_each(&rt, alloc, &small_disk(alloc)?)?;
-    check_each(&rt, alloc, &one_shard(alloc)?)?;
-    check_each(&rt, alloc, &behind_the_pointer(alloc)?)?;
-    check_each(&rt, alloc, &torn_frame(alloc)?)?;
-    check_each(&rt, alloc, &half_garbage(alloc)?)?;
-    check_each(&rt, alloc, &overwritten_end(alloc, ENDS_IN_MAGIC)?)?;
-    check_each(&rt, alloc, &twins_and_shared(&rt, alloc)?.0)
-}
+const WALKED: [Worked; 13] = [
+    Worked::Zeros,
+    Worked::OneShard,
+    Worked::BehindThePointer,
+    Worked::TornFrame,
+    Worked::HalfGarbage,
+    Worked::OverwrittenEnd,
+    Worked::TwinsAndShared,
+    Worked::RunNamedTwice,
+    Worked::DeletedInTheNewestRun,
+    Worked::BrokenNewestRun,
+    Worked::TwoSuperblocks(7),
+    Worked::TwoSuperblocks(8),
+    Worked::BrokenSuperblock,
+];
 
 #[test]
-fn walks_agree_on_disks_with_several_runs(rt: HostRuntime) -> Result<(), Fail> {
-    let alloc = rt.alloc();
-    check_each(&rt, alloc, &run_named_twice(&rt, alloc)?)?;
-    check_each(&rt, alloc, &deleted_in_the_newest_run(&rt, alloc)?)?;
-    check_each(&rt, alloc, &broken_newest_run(&rt, alloc)?)?;
-    check_each(&rt, alloc, &two_superblocks(alloc, 7)?)?;
-    check_each(&rt, alloc, &two_superblocks(alloc, 8)?)?;
-    check_each(&rt, alloc, &broken_superblock(alloc)?)
+fn walks_agree_on_worked_disks(rt: HostRuntime) -> Result<(), Fail> {
+    for worked in &WALKED {
+        check_each(&rt, rt.alloc(), &worked.disk(&rt, rt.alloc())?)?;
+    }
+    Ok(())
 }
 
 #[test]

@@ -11,7 +11,7 @@ mod watch;
 
 use crate::compare::{check_answer, check_found, same};
 use crate::disks::{many_shards, one_shard};
-use crate::told::scrubbed;
+use crate::told::{scrubbed, scrubbed_by};
 use crate::workers::left_alone::LeftAlone;
 use crate::workers::meeting::MeetingSource;
 use crate::workers::reading_watch::ReadingWatch;
@@ -19,7 +19,6 @@ use crate::workers::watch::Watch;
 use scrub_disk::{Geometry, MemDisk, PageSource};
 use scrub_fakes::{CountingSource, plan_of};
 use scrub_pool::{ExtentQueue, NoGate, scan_all};
-use scrub_report::{ScrubFault, scrub};
 use scrub_scan::{Item, scan_in_order};
 use std::alloc::Global;
 use std::process::Abort;
@@ -48,10 +47,7 @@ fn check_workers<R: Threads + Wait + Abort + Clock + Sync>(
     check_found(rt, &found, &scan_in_order(alloc, disk, &plan)?);
     watch.check(rt, &takings, plan.planned());
     let watch = Watch::new(rt, alloc, workers + 1, extents, held)?;
-    let (answer, takings) = match scrub(rt, alloc, disk, workers, &watch) {
-        Ok(found) => found,
-        Err(ScrubFault::OutOfMemory) => return Err(Fail::from("out of memory")),
-    };
+    let (answer, takings) = scrubbed_by(rt, alloc, disk, workers, &watch)?;
     check_answer(rt, &answer, &scrubbed(rt, alloc, disk)?);
     watch.check(rt, &takings, plan.planned());
     Ok(())
@@ -157,10 +153,7 @@ fn check_told<R: Threads + Wait + Abort + Clock + Sync>(
     let plan = plan_of(alloc, disk)?;
     let source = CountingSource::new(alloc, disk)?;
     let watch = ReadingWatch::new(rt, alloc, &source, workers + 1)?;
-    let takings = match scrub(rt, alloc, &source, workers, &watch) {
-        Ok((_, takings)) => takings,
-        Err(ScrubFault::OutOfMemory) => return Err(Fail::from("out of memory")),
-    };
+    let (_, takings) = scrubbed_by(rt, alloc, &source, workers, &watch)?;
     watch.check(rt, &takings, plan.planned());
     Ok(())
 }

@@ -5,7 +5,7 @@ ghost use Rattle.std.specs.Prelude.{◌≤◌};
 
 use crate::compare::same;
 use crate::disks::many_shards;
-use crate::listings::{Which, listed};
+use crate::listings::{NONE, Which, listed};
 use crate::workers::reading_watch::ReadingWatch;
 use crate::workers::watch::Watch;
 use scrub_disk::{MemDisk, PageSource};
@@ -42,13 +42,13 @@ fn lines(alloc: Global, which: Which) -> Result<String, Fail> {
                 "run 0 39 0 2966 f0f0f0f0-f0f0-f0f0-f0f0-f0f0f0f0f0f0 sound\n",
             )?
         }
-        Which::Reclaimable => String::new(alloc),
+        Which::Reclaimable(_) => String::new(alloc),
     };
     for byte in 1..39u8 {
         let uuid = Uuid::from_bytes([byte; 16]);
         let line = match which {
             Which::Locators => format!(in alloc; "shard {byte:032x} {byte} 0 3 {uuid} sound\n")?,
-            Which::Reclaimable => {
+            Which::Reclaimable(_) => {
                 format!(in alloc; "reclaim {byte} 41\nmove {byte} 0 3 {uuid} shard {byte:032x}\n")?
             }
         };
@@ -85,7 +85,7 @@ fn check_listing<R: Threads + Wait + Abort + Clock + Sync>(
 #[test]
 fn any_number_of_workers_lists_the_same_lines(rt: HostRuntime) -> Result<(), Fail> {
     let disk = halved(&rt, rt.alloc())?;
-    for which in [Which::Locators, Which::Reclaimable] {
+    for which in [Which::Locators, Which::Reclaimable(NONE)] {
         for workers in [0, 1, 3, 7] {
             let all = workers as usize + 1;
             check_listing(&rt, rt.alloc(), &disk, which, workers, all)?;
@@ -129,7 +129,7 @@ fn check_reading<R: Threads + Wait + Abort + Clock + Sync>(
 #[test]
 fn a_listing_asks_for_each_page_once_but_for_the_run(rt: HostRuntime) -> Result<(), Fail> {
     let disk = halved(&rt, rt.alloc())?;
-    for which in [Which::Locators, Which::Reclaimable] {
+    for which in [Which::Locators, Which::Reclaimable(NONE)] {
         for workers in [0, 3] {
             check_reading(&rt, rt.alloc(), &disk, which, workers)?;
         }
