@@ -11,7 +11,7 @@ use Rattle.serde_json.specs.View.{items_of}
 use Rattle.serde_json.specs.Written.{items_outline, members_outline}
 use Rattle.scrub_report.specs.Json.{list, members, with_keys}
 use Rattle.scrub_report.specs.declared.parts.Parts.{Parts}
-use Rattle.scrub_report.specs.Tokens.{all_keys, extent_keys, first_keys, last_keys, list_begun, member_tokens, members_tokens, run_keys, value_tokens}
+use Rattle.scrub_report.specs.Tokens.{all_keys, extent_keys, first_keys, last_keys, list_begun, member_tokens, members_tokens, object_begun, run_keys, value_tokens}
 
 -- what was written in one step and then in others was written in all of them
 pub chain : (a b c xs ys : List Token) → b ≡ a ++ xs → c ≡ b ++ ys → c ≡ a ++ (xs ++ ys)
@@ -66,6 +66,30 @@ object_tokens ms = ap (λ ts. begin_object ∷ ts) (members_are ms)
 
 members_joined : (ms ns : List (List ℕ × Data)) (ts : List Token) → members_tokens (ms ++ ns) ++ ts ≡ members_tokens ms ++ (members_tokens ns ++ ts)
 members_joined ms ns ts = ap (λ us. us ++ ts) (flat_map-append (λ (m : List ℕ × Data). member_tokens m.0 m.1) ms ns) ∙ append_assoc (members_tokens ms) (members_tokens ns) ts
+
+module _ {X : Type 0} (show : X → List ℕ × Data) (xs : List X) (old mid new : List Token) (i : ℕ) where
+  -- one more member is written
+  pub member_more : (d x : X) → i < length xs → get_or xs i d ≡ x → mid ≡ old ++ object_begun show (take i xs) → new ≡ mid ++ member_tokens (show x).0 (show x).1 →
+      new ≡ old ++ object_begun show (take (i + 1) xs)
+  member_more d x below is so_far grown =
+      grown ∙ ap (λ ts. ts ++ member_tokens (show x).0 (show x).1) so_far
+      ∙ append_assoc old (object_begun show (take i xs)) (member_tokens (show x).0 (show x).1)
+      ∙ ap (λ ts. old ++ ts)
+      (ap (λ y. object_begun show (take i xs) ++ member_tokens (show y).0 (show y).1) (sym is)
+      ∙ flat_map_more (λ z. member_tokens (show z).0 (show z).1) (begin_object ∷ []) (take i xs) (get_or xs i d)
+      ∙ ap (object_begun show) (sym (take_more xs i d below)))
+
+  -- all are written, and the object is closed
+  closed_object : length xs ≤ i → mid ≡ old ++ object_begun show (take i xs) → new ≡ mid ++ end_object ∷ [] → new ≡ old ++ value_tokens (with_keys (map show xs))
+  closed_object end so_far closed =
+      closed ∙ ap (λ ts. ts ++ end_object ∷ []) (so_far ∙ ap (λ ys. old ++ object_begun show ys) (take_all i xs end))
+      ∙ append_assoc old (object_begun show xs) (end_object ∷ [])
+      ∙ ap (λ ts. old ++ begin_object ∷ ts) (ap (λ ts. ts ++ end_object ∷ []) (sym (flat_map-map (λ (m : List ℕ × Data). member_tokens m.0 m.1) show xs)) ∙ sym (members_are (map show xs)))
+
+  pub object_closed : {E : Type 0} (r : Result (Unit {0}) E) → length xs ≤ i → mid ≡ old ++ object_begun show (take i xs) → OnOk r (new ≡ mid ++ end_object ∷ []) →
+      OnOk r (new ≡ old ++ value_tokens (with_keys (map show xs)))
+  object_closed (Ok u) end so_far closed = closed_object end so_far closed
+  object_closed (Err e) end so_far closed = tt
 
 -- ---- the report, whose keys are written in four steps
 
