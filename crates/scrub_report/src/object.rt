@@ -2,7 +2,7 @@
 
 ghost use Rattle.std.specs.Prelude.{◌≡◌, ◌++◌, OnOk, map};
 ghost use Rattle.scrub_report.specs.Json.{with_keys};
-ghost use Rattle.scrub_report.specs.Tokens.{value_tokens};
+ghost use Rattle.scrub_report.specs.Tokens.{members_tokens, value_tokens};
 
 use crate::texts::{owner_text, state_text, status_text};
 use crate::written::{WriteJson, write_list};
@@ -68,6 +68,23 @@ impl WriteJson for Value<'_> {
     }
 }
 
+/// Writes members of an object, in their order.
+pub(crate) fn write_members<V: WriteJson>(
+    alloc: Global,
+    out: &mut Writer,
+    members: &[(&str, V)],
+) -> Result<(), OutOfMemory>
+    ensures tokens { OnOk result (out.new.tokens ≡ out.old.tokens ++
+        members_tokens (map (λ m. (m.0.now, V.shown m.1)) members.now)) }
+    ensures before { out.new.before ≡ out.old.before }
+{
+    for (key, value) in members {
+        out.key(key)?;
+        value.write_json(alloc, out)?;
+    }
+    Ok(())
+}
+
 /// Writes an object with these members, in their order.
 pub(crate) fn write_object<V: WriteJson>(
     alloc: Global,
@@ -79,9 +96,6 @@ pub(crate) fn write_object<V: WriteJson>(
     ensures before { out.new.before ≡ out.old.before }
 {
     out.begin_object()?;
-    for (key, value) in members {
-        out.key(key)?;
-        value.write_json(alloc, out)?;
-    }
+    write_members(alloc, out, members)?;
     out.end_object()
 }

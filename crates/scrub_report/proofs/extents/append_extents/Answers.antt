@@ -1,5 +1,5 @@
 -- One more piece, and in the end all.
-use Rattle.std.proofs.Common.{rules, ◌≡◌, ◌*◌, ◌<◌, ◌++◌, ℕ, IfOk, IfSome, length, take, [], ◌∷◌, arith, refl, ap, subst, ◌∙◌}
+use Rattle.std.proofs.Common.{rules, ◌≡◌, ◌*◌, ◌++◌, IfOk, IfSome, length, [], ◌∷◌, arith, refl, ap, subst, ◌∙◌}
 use Rattle.std.specs.List.{zip}
 use Rattle.std.proofs.lemmas.Iterator.Adapters.{YieldsList-from_vec}
 use Rattle.std.proofs.lemmas.Iterator.Consumers.{YieldsList-end, YieldsList-turn}

@@ -1,11 +1,11 @@
 -- One more extent, and in the end all.
-use Rattle.std.proofs.Common.{◌≡◌, ◌<◌, ◌-◌, ◌++◌, ℕ, length, get_or, min, arith, ap, ap₂, ◌∙◌}
+use Rattle.std.proofs.Common.{◌≡◌, ◌<◌, ◌-◌, ◌++◌, length, get_or, min, arith, ap, ap₂, ◌∙◌}
 use Rattle.std.specs.List.{zip}
 use Rattle.std.proofs.lemmas.Option.{slice_get_within, get_or_from_slice_get}
 use Rattle.std.proofs.lemmas.List.{get_or_default}
 use Rattle.std.proofs.lemmas.Slice.Zip.{length-zip}
 use Rattle.json.specs.Print.{print}
-use Rattle.scrub_scan.specs.Scanned.{Scanned, scanned}
+use Rattle.scrub_scan.specs.Scanned.{scanned}
 use Rattle.scrub_report.specs.Tokens.{extents_tokens}
 use Rattle.scrub_report.proofs.ExtentTexts.{more_extents, whole_piece}
 use Rattle.scrub_report.proofs.SideBySide.{two_at}

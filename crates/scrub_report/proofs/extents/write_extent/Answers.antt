@@ -1,5 +1,4 @@
 -- Its members are what was found in the extent.
-use Rattle.std.proofs.Common.{◌≡◌, ◌++◌}
 use Rattle.scrub_report.proofs.extents.write_extent.Goals as goal
 
 pub returns-clause-tokens : goal.returns-clause-tokens

@@ -1,5 +1,5 @@
 -- The three parts are the text.
-use Rattle.std.proofs.Common.{rules, ◌≡◌, ◌++◌, ◌∷◌, [], length, ap, sym, ◌∙◌, append_assoc}
+use Rattle.std.proofs.Common.{rules, ◌≡◌, ◌++◌, ◌∷◌, [], length, ap, ◌∙◌, append_assoc}
 use Rattle.std.specs.List.{zip}
 use Rattle.std.proofs.lemmas.List.{length-map}
 use Rattle.json.specs.Print.{print}

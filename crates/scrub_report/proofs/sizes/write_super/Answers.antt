@@ -1,5 +1,4 @@
 -- Its members are what was chosen.
-use Rattle.std.proofs.Common.{◌≡◌, ◌++◌}
 use Rattle.scrub_report.proofs.sizes.write_super.Goals as goal
 
 pub returns-clause-tokens : goal.returns-clause-tokens

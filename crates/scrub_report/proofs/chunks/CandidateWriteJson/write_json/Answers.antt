@@ -1,5 +1,4 @@
 -- Its members are its fields.
-use Rattle.std.proofs.Common.{◌≡◌, ◌++◌}
 use Rattle.scrub_report.proofs.chunks.CandidateWriteJson.write_json.Goals as goal
 
 pub returns-clause-tokens : goal.returns-clause-tokens
