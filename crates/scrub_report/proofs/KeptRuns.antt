@@ -34,5 +34,4 @@ module _ {D : Type 0} {s : _} (p : Parts D s) (read : ReadRunsValue) (kept : Are
       first_keys p (is_clean (found_in p read)) ++ (extent_keys p ++ ((
       (codes "orphans", list (map place_data (orphans p.all.extents p.checked.items))) ∷
       (codes "retired", numbers_data p.plan.retired) ∷
-      (codes "runs", runs_data p.plan.runs entries states) ∷
-      (codes "shards", natural (length p.map)) ∷ []) ++ last_keys p)))) ++ 10 ∷ []) kept.entries_are kept.states_are
+      (codes "runs", runs_data p.plan.runs entries states) ∷ []) ++ last_keys p)))) ++ 10 ∷ []) kept.entries_are kept.states_are

@@ -1,10 +1,10 @@
 -- The tokens of lists and of objects, as they are written.
-use Rattle.std.proofs.Common.{◌≡◌, ◌<◌, ◌≤◌, ◌+◌, ℕ, List, [], ◌∷◌, ◌++◌, Bool, OnOk, Result, Ok, Err, length, map, take, get_or, refl, sym, ap, ◌∙◌, append_assoc}
+use Rattle.std.proofs.Common.{◌≡◌, ◌<◌, ◌≤◌, ◌+◌, ℕ, List, [], ◌∷◌, ◌++◌, Bool, OnOk, Result, Ok, Err, length, map, take, get_or, refl, sym, ap, ◌∙◌, append-nil, append_assoc}
 use Rattle.std.specs.List.{flat_map}
 use Rattle.std.proofs.lemmas.List.{flat_map_more, take_all, take_more}
 use Rattle.std.proofs.lemmas.List.Concat.{flat_map-append}
 use Rattle.std.proofs.lemmas.List.Folds.{flat_map-map}
-use Rattle.json.specs.Token.{Token, begin_array, end_array, begin_object, end_object}
+use Rattle.json.specs.Token.{Token, begin_array, end_array, begin_object, end_object, key}
 use Rattle.json.specs.Tree.{items_tokens, members_tokens as closed_members}
 use Rattle.serde_json.specs.Data.{Data}
 use Rattle.serde_json.specs.View.{items_of}
@@ -66,6 +66,50 @@ object_tokens ms = ap (λ ts. begin_object ∷ ts) (members_are ms)
 
 members_joined : (ms ns : List (List ℕ × Data)) (ts : List Token) → members_tokens (ms ++ ns) ++ ts ≡ members_tokens ms ++ (members_tokens ns ++ ts)
 members_joined ms ns ts = ap (λ us. us ++ ts) (flat_map-append (λ (m : List ℕ × Data). member_tokens m.0 m.1) ms ns) ∙ append_assoc (members_tokens ms) (members_tokens ns) ts
+
+-- what one member is written as
+abbrev shown_member : {X : Type 0} → (X → List ℕ × Data) → X → List Token
+shown_member show x = member_tokens (show x).0 (show x).1
+
+module _ {X : Type 0} (show : X → List ℕ × Data) (xs : List X) (old mid : List Token) (i : ℕ) where
+  -- one more member is written
+  pub member_more : (new : List Token) (d x : X) → i < length xs → get_or xs i d ≡ x → mid ≡ old ++ flat_map (shown_member show) (take i xs) → new ≡ mid ++ shown_member show x →
+      new ≡ old ++ flat_map (shown_member show) (take (i + 1) xs)
+  member_more new d x below is so_far grown =
+      grown ∙ ap (λ ts. ts ++ shown_member show x) so_far
+      ∙ append_assoc old (flat_map (shown_member show) (take i xs)) (shown_member show x)
+      ∙ ap (λ ts. old ++ ts)
+      (ap (λ y. flat_map (shown_member show) (take i xs) ++ shown_member show y) (sym is)
+      ∙ flat_map_more (shown_member show) [] (take i xs) (get_or xs i d)
+      ∙ ap (flat_map (shown_member show)) (sym (take_more xs i d below)))
+
+  -- all are written
+  pub all_members : length xs ≤ i → mid ≡ old ++ flat_map (shown_member show) (take i xs) → mid ≡ old ++ members_tokens (map show xs)
+  all_members end so_far =
+      so_far ∙ ap (λ ys. old ++ flat_map (shown_member show) ys) (take_all i xs end)
+      ∙ ap (λ ts. old ++ ts) (sym (flat_map-map (λ (m : List ℕ × Data). member_tokens m.0 m.1) show xs))
+
+-- an object is begun, its members are written, and it is closed
+pub object_written : (ms : List (List ℕ × Data)) (a b c d : List Token) → b ≡ a ++ begin_object ∷ [] → c ≡ b ++ members_tokens ms → d ≡ c ++ end_object ∷ [] →
+    d ≡ a ++ value_tokens (with_keys ms)
+object_written ms a b c d begun all closed =
+    chain a b d (begin_object ∷ []) (members_tokens ms ++ end_object ∷ []) begun (chain b c d (members_tokens ms) (end_object ∷ []) all closed)
+    ∙ ap (λ ts. a ++ ts) (sym (object_tokens ms))
+
+pub object_closed : {E : Type 0} (ms : List (List ℕ × Data)) (a b c d : List Token) (r : Result (Unit {0}) E) →
+    b ≡ a ++ begin_object ∷ [] → c ≡ b ++ members_tokens ms → OnOk r (d ≡ c ++ end_object ∷ []) → OnOk r (d ≡ a ++ value_tokens (with_keys ms))
+object_closed ms a b c d (Ok u) begun all closed = object_written ms a b c d begun all closed
+object_closed ms a b c d (Err e) begun all closed = tt
+
+-- one more member is written behind others
+pub one_behind : {E : Type 0} (first : List (List ℕ × Data)) (one : List ℕ × Data) (t0 t1 t2 t3 : List Token) (r : Result (Unit {0}) E) →
+    t1 ≡ t0 ++ members_tokens first → t2 ≡ t1 ++ key one.0 ∷ [] → OnOk r (t3 ≡ t2 ++ value_tokens one.1) →
+    OnOk r (t3 ≡ t0 ++ members_tokens (first ++ (one ∷ [])))
+one_behind first one t0 t1 t2 t3 (Err e) h1 h2 h3 = tt
+one_behind first one t0 t1 t2 t3 (Ok u) h1 h2 h3 =
+    chain t0 t1 t3 (members_tokens first) (key one.0 ∷ value_tokens one.1) h1 (chain t1 t2 t3 (key one.0 ∷ []) (value_tokens one.1) h2 h3)
+    ∙ ap (λ ts. t0 ++ (members_tokens first ++ (key one.0 ∷ ts))) (sym (append-nil (value_tokens one.1)))
+    ∙ ap (λ ts. t0 ++ ts) (sym (flat_map-append (λ (m : List ℕ × Data). member_tokens m.0 m.1) first (one ∷ [])))
 
 -- ---- the report, whose keys are written in four steps
 

@@ -14,6 +14,7 @@ pub mod Reclaimable
 -- Steps of the code.
 pub mod Parts
 pub mod Tokens
+pub mod Values
 pub mod Kept
 pub mod Moves
 pub mod PageRanges

@@ -62,17 +62,17 @@ module _ {D : Type 0} {s : _} where
   abbrev pub extent_keys : Parts D s → List (List ℕ × Data)
   extent_keys p = (codes "extents", extents_data p.checked.items p.all.extents) ∷ hidden_keys p
 
-  -- the report's keys from `orphans` up to `shards` with their values
+  -- the report's keys from `orphans` up to `runs` with their values
   abbrev pub run_keys : Parts D s → List (List ℕ × Data)
   run_keys p =
       (codes "orphans", list (map place_data (orphans p.all.extents p.checked.items))) ∷
       (codes "retired", numbers_data p.plan.retired) ∷
-      (codes "runs", runs_data p.plan.runs p.entries.items p.states.items) ∷
-      (codes "shards", natural (length p.map)) ∷ []
+      (codes "runs", runs_data p.plan.runs p.entries.items p.states.items) ∷ []
 
-  -- the report's keys with their values from `shared` up to the last one
+  -- the report's keys with their values from `shards` up to the last one
   abbrev pub last_keys : Parts D s → List (List ℕ × Data)
   last_keys p =
+      (codes "shards", natural (length p.map)) ∷
       (codes "shared", list (map shared_data p.liveness.shared.items)) ∷
       (codes "super", super_data p.chosen) ∷
       (codes "twins", list (map place_data (twins p.all.extents))) ∷ []

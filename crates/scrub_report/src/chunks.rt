@@ -2,7 +2,8 @@
 
 ghost use Rattle.scrub_report.specs.Report.{candidate_data, place_data, shared_data};
 
-use crate::written::{WriteJson, write_list_member, write_member, write_uuid};
+use crate::object::{Value, write_object};
+use crate::written::WriteJson;
 use json::Writer;
 use scrub_check::{Candidate, Place, SharedPlace};
 use scrub_disk::OutOfMemory;
@@ -13,13 +14,16 @@ impl WriteJson for Place {
     ghost shown = { place_data };
 
     fn write_json(&self, alloc: Global, out: &mut Writer) -> Result<(), OutOfMemory> {
-        out.begin_object()?;
-        write_member(alloc, out, "extent", &self.extent)?;
-        write_member(alloc, out, "length", &self.length)?;
-        write_member(alloc, out, "offset", &self.offset)?;
-        write_uuid(out, "uuid", self.uuid)?;
-        out.end_object()?;
-        Ok(())
+        write_object(
+            alloc,
+            out,
+            &[
+                ("extent", Value::Number(u64::from(self.extent))),
+                ("length", Value::Number(u64::from(self.length))),
+                ("offset", Value::Number(u64::from(self.offset))),
+                ("uuid", Value::Uuid(self.uuid)),
+            ],
+        )
     }
 }
 
@@ -28,12 +32,15 @@ impl WriteJson for SharedPlace {
     ghost shown = { shared_data };
 
     fn write_json(&self, alloc: Global, out: &mut Writer) -> Result<(), OutOfMemory> {
-        out.begin_object()?;
-        write_member(alloc, out, "count", &self.count)?;
-        write_member(alloc, out, "extent", &self.extent)?;
-        write_member(alloc, out, "offset", &self.offset)?;
-        out.end_object()?;
-        Ok(())
+        write_object(
+            alloc,
+            out,
+            &[
+                ("count", Value::Number(self.count as u64)),
+                ("extent", Value::Number(u64::from(self.extent))),
+                ("offset", Value::Number(u64::from(self.offset))),
+            ],
+        )
     }
 }
 
@@ -42,11 +49,14 @@ impl WriteJson for Candidate {
     ghost shown = { candidate_data };
 
     fn write_json(&self, alloc: Global, out: &mut Writer) -> Result<(), OutOfMemory> {
-        out.begin_object()?;
-        write_member(alloc, out, "extent", &self.extent())?;
-        write_member(alloc, out, "free", &self.free())?;
-        write_list_member(alloc, out, "keep", self.keep())?;
-        out.end_object()?;
-        Ok(())
+        write_object(
+            alloc,
+            out,
+            &[
+                ("extent", Value::Number(u64::from(self.extent()))),
+                ("free", Value::Number(u64::from(self.free()))),
+                ("keep", Value::Numbers(self.keep())),
+            ],
+        )
     }
 }

@@ -9,7 +9,8 @@ ghost use Rattle.scrub_scan.specs.Scanned.{scanned};
 ghost use Rattle.scrub_report.specs.Report.{extent_data};
 ghost use Rattle.scrub_report.specs.Tokens.{extents_tokens, piece_text, value_tokens};
 
-use crate::written::{WriteJson, write_list_member, write_member};
+use crate::object::{Value, write_object};
+use crate::written::WriteJson;
 use json::Writer;
 use scrub_disk::{OutOfMemory, PageSource};
 use scrub_scan::{AllFindings, ExtentResult, Item, item_line};
@@ -43,16 +44,19 @@ fn write_extent<D: PageSource>(
     ensures before { out.new.before ≡ out.old.before }
 {
     let findings = found.findings();
-    out.begin_object()?;
-    write_list_member(alloc, out, "bad", findings.bad_pages())?;
-    write_member(alloc, out, "extent", &found.extent())?;
-    write_list_member(alloc, out, "items", findings.items())?;
-    write_member(alloc, out, "live", &live)?;
-    write_member(alloc, out, "pointer", &found.pointer())?;
-    write_member(alloc, out, "tail", &findings.tail_count())?;
-    write_member(alloc, out, "tail_at", &findings.tail_first())?;
-    out.end_object()?;
-    Ok(())
+    write_object(
+        alloc,
+        out,
+        &[
+            ("bad", Value::Numbers(findings.bad_pages())),
+            ("extent", Value::Number(u64::from(found.extent()))),
+            ("items", Value::Items(findings.items())),
+            ("live", Value::Number(u64::from(live))),
+            ("pointer", Value::Number(u64::from(found.pointer()))),
+            ("tail", Value::Number(u64::from(findings.tail_count()))),
+            ("tail_at", Value::Optional32(findings.tail_first())),
+        ],
+    )
 }
 
 /// A comma where something is before, as the beginning of a text.

@@ -1,62 +1,74 @@
 //! The report's keys with their values, from what was found on a disk, in the order of the keys. Each list that only the
 //! report needs is given up once it is written.
 
-ghost use Rattle.std.specs.Prelude.{◌≡◌, ◌++◌, OnOk, codes, length, map};
-ghost use Rattle.scrub_check.specs.Checked.{dangling, hidden};
-ghost use Rattle.scrub_check.specs.Chunks.{orphans, twins};
-ghost use Rattle.scrub_report.specs.Json.{list};
-ghost use Rattle.scrub_report.specs.Report.{dangling_data, doubtful_ids, hidden_data, ids_data, place_data};
-ghost use Rattle.scrub_report.specs.Tokens.{first_keys, hidden_keys, last_keys, member_tokens, members_tokens, run_keys};
+ghost use Rattle.std.specs.Prelude.{◌≡◌, ◌++◌, OnOk, length};
+ghost use Rattle.scrub_check.specs.Chunks.{twins};
+ghost use Rattle.scrub_report.specs.Tokens.{first_keys, hidden_keys, last_keys, members_tokens, run_keys};
 
+use crate::object::write_members;
 use crate::parts::Parts;
 use crate::runs::write_runs;
 use crate::shards::doubtful_ids;
 use crate::sizes::{write_geometry, write_super};
-use crate::written::{write_list_member, write_member};
+use crate::written::{WriteJson, write_list};
 use json::Writer;
-use scrub_check::{Checked, Place, dangling, hidden};
-use scrub_disk::{OutOfMemory, PageSource};
+use scrub_check::{Candidate, Checked, Place, SharedPlace, dangling, hidden};
+use scrub_disk::{Geometry, OutOfMemory, PageSource};
 use scrub_merge::Binding;
+use scrub_run::ShardId;
+use scrub_super::Chosen;
 use std::alloc::Global;
 
-/// Writes the key `dangling`.
-fn write_dangling(alloc: Global, out: &mut Writer, checked: &[Checked]) -> Result<(), OutOfMemory>
-    ensures tokens { OnOk result (out.new.tokens ≡ out.old.tokens ++
-        member_tokens (codes "dangling") (list (map dangling_data (dangling checked.now)))) }
-    ensures before { out.new.before ≡ out.old.before }
-{
-    write_list_member(alloc, out, "dangling", &dangling(alloc, checked)?)
+/// The value of a key.
+#[derive(Clone, Copy)]
+pub(crate) enum KeyValue<'a> {
+    /// The extents that may be reclaimed.
+    Candidates(&'a [Candidate]),
+    /// How many there are.
+    Count(usize),
+    /// Of the checked locators those that dangle.
+    Dangling(&'a [Checked]),
+    /// The shards of the doubtful ones among the bindings.
+    Doubtful(&'a [Binding]),
+    /// `true` or `false`.
+    Flag(bool),
+    /// The sizes of the disk.
+    Geometry(Geometry),
+    /// Of the checked locators those that are hidden.
+    Hidden(&'a [Checked]),
+    /// Shards.
+    Ids(&'a [ShardId]),
+    /// Numbers of extents.
+    Numbers(&'a [u32]),
+    /// Chunks.
+    Places(&'a [Place]),
+    /// Places with more than one locator.
+    Shared(&'a [SharedPlace]),
+    /// The superblock that counts, and what the choice says beside it.
+    Super(&'a Chosen),
 }
 
-/// Writes the key `doubtful`.
-fn write_doubtful(alloc: Global, out: &mut Writer, bindings: &[Binding]) -> Result<(), OutOfMemory>
-    ensures tokens { OnOk result (out.new.tokens ≡ out.old.tokens ++
-        member_tokens (codes "doubtful") (ids_data (doubtful_ids bindings.now))) }
-    ensures before { out.new.before ≡ out.old.before }
-{
-    write_list_member(alloc, out, "doubtful", &doubtful_ids(alloc, bindings)?)
-}
+impl WriteJson for KeyValue<'_> {
+    ghost use Rattle.scrub_report.specs.Values.{key_data};
 
-/// Writes the key `hidden`.
-fn write_hidden(alloc: Global, out: &mut Writer, checked: &[Checked]) -> Result<(), OutOfMemory>
-    ensures tokens { OnOk result (out.new.tokens ≡ out.old.tokens ++
-        member_tokens (codes "hidden") (list (map hidden_data (hidden checked.now)))) }
-    ensures before { out.new.before ≡ out.old.before }
-{
-    write_list_member(alloc, out, "hidden", &hidden(alloc, checked)?)
-}
+    ghost shown = { key_data };
 
-/// Writes the key `orphans`.
-fn write_orphans<D: PageSource>(
-    alloc: Global,
-    out: &mut Writer,
-    parts: &Parts<'_, D>,
-) -> Result<(), OutOfMemory>
-    ensures tokens { OnOk result (out.new.tokens ≡ out.old.tokens ++
-        member_tokens (codes "orphans") (list (map place_data (orphans parts.now.all.extents parts.now.checked.items)))) }
-    ensures before { out.new.before ≡ out.old.before }
-{
-    write_list_member(alloc, out, "orphans", &parts.liveness.orphans)
+    fn write_json(&self, alloc: Global, out: &mut Writer) -> Result<(), OutOfMemory> {
+        match self {
+            KeyValue::Candidates(candidates) => write_list(alloc, out, candidates),
+            KeyValue::Count(count) => out.u64(*count as u64),
+            KeyValue::Dangling(checked) => write_list(alloc, out, &dangling(alloc, checked)?),
+            KeyValue::Doubtful(bindings) => write_list(alloc, out, &doubtful_ids(alloc, bindings)?),
+            KeyValue::Flag(flag) => out.boolean(*flag),
+            KeyValue::Geometry(geometry) => write_geometry(alloc, out, *geometry),
+            KeyValue::Hidden(checked) => write_list(alloc, out, &hidden(alloc, checked)?),
+            KeyValue::Ids(ids) => write_list(alloc, out, ids),
+            KeyValue::Numbers(numbers) => write_list(alloc, out, numbers),
+            KeyValue::Places(places) => write_list(alloc, out, places),
+            KeyValue::Shared(places) => write_list(alloc, out, places),
+            KeyValue::Super(chosen) => write_super(alloc, out, chosen),
+        }
+    }
 }
 
 /// Writes the keys from `broken` up to `doubtful`.
@@ -69,12 +81,20 @@ pub(crate) fn write_first<D: PageSource>(
     ensures tokens { OnOk result (out.new.tokens ≡ out.old.tokens ++ members_tokens (first_keys parts.now clean)) }
     ensures before { out.new.before ≡ out.old.before }
 {
-    write_list_member(alloc, out, "broken", &parts.broken)?;
-    write_list_member(alloc, out, "candidates", &parts.liveness.candidates)?;
-    write_member(alloc, out, "clean", &clean)?;
-    write_dangling(alloc, out, &parts.checked)?;
-    write_doubtful(alloc, out, parts.map.bindings())?;
-    Ok(())
+    write_members(
+        alloc,
+        out,
+        &[
+            ("broken", KeyValue::Ids(&parts.broken)),
+            (
+                "candidates",
+                KeyValue::Candidates(&parts.liveness.candidates),
+            ),
+            ("clean", KeyValue::Flag(clean)),
+            ("dangling", KeyValue::Dangling(&parts.checked)),
+            ("doubtful", KeyValue::Doubtful(parts.map.bindings())),
+        ],
+    )
 }
 
 /// Writes the keys `geometry` and `hidden`.
@@ -86,13 +106,17 @@ pub(crate) fn write_sizes<D: PageSource>(
     ensures tokens { OnOk result (out.new.tokens ≡ out.old.tokens ++ members_tokens (hidden_keys parts.now)) }
     ensures before { out.new.before ≡ out.old.before }
 {
-    out.key("geometry")?;
-    write_geometry(alloc, out, parts.plan.geometry())?;
-    write_hidden(alloc, out, &parts.checked)?;
-    Ok(())
+    write_members(
+        alloc,
+        out,
+        &[
+            ("geometry", KeyValue::Geometry(parts.plan.geometry())),
+            ("hidden", KeyValue::Hidden(&parts.checked)),
+        ],
+    )
 }
 
-/// Writes the keys from `orphans` up to `shards`.
+/// Writes the keys from `orphans` up to `runs`.
 pub(crate) fn write_index<D: PageSource>(
     alloc: Global,
     out: &mut Writer,
@@ -103,28 +127,37 @@ pub(crate) fn write_index<D: PageSource>(
     ensures tokens { OnOk result (out.new.tokens ≡ out.old.tokens ++ members_tokens (run_keys parts.now)) }
     ensures before { out.new.before ≡ out.old.before }
 {
-    write_orphans(alloc, out, parts)?;
-    write_list_member(alloc, out, "retired", parts.plan.retired())?;
+    write_members(
+        alloc,
+        out,
+        &[
+            ("orphans", KeyValue::Places(&parts.liveness.orphans)),
+            ("retired", KeyValue::Numbers(parts.plan.retired())),
+        ],
+    )?;
     out.key("runs")?;
-    write_runs(alloc, out, parts.plan.runs(), &parts.entries, &parts.states)?;
-    write_member(alloc, out, "shards", &parts.map.bindings().len())?;
-    Ok(())
+    write_runs(alloc, out, parts.plan.runs(), &parts.entries, &parts.states)
 }
 
-/// Writes the keys from `shared` up to `twins`, the last one.
-pub(crate) fn write_last<D: PageSource>(
+/// Writes the keys from `shards` up to `twins`, the last one.
+pub(crate) fn write_last<'a, D: PageSource>(
     alloc: Global,
     out: &mut Writer,
-    parts: &Parts<'_, D>,
-    twin_chunks: &[Place],
+    parts: &'a Parts<'_, D>,
+    twin_chunks: &'a [Place],
 ) -> Result<(), OutOfMemory>
     requires { twin_chunks.now ≡ twins parts.now.all.extents }
     ensures tokens { OnOk result (out.new.tokens ≡ out.old.tokens ++ members_tokens (last_keys parts.now)) }
     ensures before { out.new.before ≡ out.old.before }
 {
-    write_list_member(alloc, out, "shared", &parts.liveness.shared)?;
-    out.key("super")?;
-    write_super(alloc, out, &parts.chosen)?;
-    write_list_member(alloc, out, "twins", twin_chunks)?;
-    Ok(())
+    write_members(
+        alloc,
+        out,
+        &[
+            ("shards", KeyValue::Count(parts.map.bindings().len())),
+            ("shared", KeyValue::Shared(&parts.liveness.shared)),
+            ("super", KeyValue::Super(&parts.chosen)),
+            ("twins", KeyValue::Places(twin_chunks)),
+        ],
+    )
 }

@@ -13,6 +13,7 @@ mod keys;
 pub mod listing;
 mod locators;
 mod moves;
+mod object;
 pub mod order;
 mod page_ranges;
 mod parts;

@@ -4,8 +4,7 @@ ghost use Rattle.std.specs.Prelude.{◌≡◌, ◌++◌, OnOk, length};
 ghost use Rattle.scrub_report.specs.Report.{run_data, runs_data};
 ghost use Rattle.scrub_report.specs.Tokens.{value_tokens};
 
-use crate::texts::state_text;
-use crate::written::{write_member, write_text};
+use crate::object::{Value, write_object};
 use json::Writer;
 use scrub_check::RunState;
 use scrub_disk::OutOfMemory;
@@ -23,13 +22,16 @@ fn write_run(
     ensures tokens { OnOk result (out.new.tokens ≡ out.old.tokens ++ value_tokens (run_data locator.now entries state)) }
     ensures before { out.new.before ≡ out.old.before }
 {
-    out.begin_object()?;
-    write_member(alloc, out, "entries", &entries)?;
-    write_member(alloc, out, "extent", &locator.extent)?;
-    write_member(alloc, out, "offset", &locator.offset)?;
-    write_text(out, "state", state_text(state))?;
-    out.end_object()?;
-    Ok(())
+    write_object(
+        alloc,
+        out,
+        &[
+            ("entries", Value::Optional(entries)),
+            ("extent", Value::Number(u64::from(locator.extent))),
+            ("offset", Value::Number(u64::from(locator.offset))),
+            ("state", Value::State(state)),
+        ],
+    )
 }
 
 /// Writes `runs`: of each locator how many entries its run has, none where it is lost, and what became of it.

@@ -1,10 +1,10 @@
 //! A disk's sizes and its superblock, as the report has them.
 
-ghost use Rattle.std.specs.Prelude.{◌≡◌, ◌++◌, OnOk};
+ghost use Rattle.std.specs.Prelude.{◌≡◌, ◌++◌, OnOk, option_map};
 ghost use Rattle.scrub_report.specs.Report.{geometry_data, super_data};
 ghost use Rattle.scrub_report.specs.Tokens.{value_tokens};
 
-use crate::written::{write_list_member, write_member};
+use crate::object::{Value, write_object};
 use json::Writer;
 use scrub_disk::{Geometry, OutOfMemory};
 use scrub_super::Chosen;
@@ -19,12 +19,24 @@ pub(crate) fn write_geometry(
     ensures tokens { OnOk result (out.new.tokens ≡ out.old.tokens ++ value_tokens (geometry_data geometry)) }
     ensures before { out.new.before ≡ out.old.before }
 {
-    out.begin_object()?;
-    write_member(alloc, out, "extents", &geometry.extents())?;
-    write_member(alloc, out, "page", &geometry.page())?;
-    write_member(alloc, out, "pages", &geometry.pages())?;
-    out.end_object()?;
-    Ok(())
+    write_object(
+        alloc,
+        out,
+        &[
+            ("extents", Value::Number(u64::from(geometry.extents()))),
+            ("page", Value::Number(u64::from(geometry.page()))),
+            ("pages", Value::Number(u64::from(geometry.pages()))),
+        ],
+    )
+}
+
+/// The generation of the superblock, if there is one.
+fn generation_of(chosen: &Chosen) -> Option<u64>
+    ensures { result ≡ option_map (λ s. s.generation) chosen.now.superblock }
+{
+    chosen
+        .superblock()
+        .map(|superblock| superblock.generation())
 }
 
 /// Writes `super`.
@@ -36,15 +48,15 @@ pub(crate) fn write_super(
     ensures tokens { OnOk result (out.new.tokens ≡ out.old.tokens ++ value_tokens (super_data chosen.now)) }
     ensures before { out.new.before ≡ out.old.before }
 {
-    let generation = chosen
-        .superblock()
-        .map(|superblock| superblock.generation());
-    out.begin_object()?;
-    write_list_member(alloc, out, "bad", chosen.bad_pages())?;
-    write_member(alloc, out, "generation", &generation)?;
-    write_member(alloc, out, "page", &chosen.page())?;
-    write_member(alloc, out, "records", &chosen.records())?;
-    write_member(alloc, out, "tie", &chosen.tie())?;
-    out.end_object()?;
-    Ok(())
+    write_object(
+        alloc,
+        out,
+        &[
+            ("bad", Value::Numbers(chosen.bad_pages())),
+            ("generation", Value::Optional(generation_of(chosen))),
+            ("page", Value::Optional32(chosen.page())),
+            ("records", Value::Number(u64::from(chosen.records()))),
+            ("tie", Value::Flag(chosen.tie())),
+        ],
+    )
 }

@@ -1,9 +1,9 @@
 -- One more extent, and in the end all.
-use Rattle.std.proofs.Common.{◌++◌, sym, ap, ◌∙◌}
+use Rattle.std.proofs.Common.{sym, ap}
 use Rattle.std.proofs.lemmas.Option.{slice_get_within, get_or_from_slice_get}
 use Rattle.scrub_scan.specs.Scanned.{scanned}
 use Rattle.scrub_report.specs.Doubts.{tail_doubts}
-use Rattle.scrub_report.proofs.FlatLists.{flat_more, flat_all}
+use Rattle.scrub_report.proofs.FlatLists.{flat_more}
 use Rattle.scrub_report.proofs.doubting.add_tails.Goals as goal
 
 pub loop-i-preserved : goal.loop-i-preserved

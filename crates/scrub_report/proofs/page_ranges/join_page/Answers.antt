@@ -1,5 +1,5 @@
 -- The last range was taken off, and stands again in front of the page, or is joined with it.
-use Rattle.std.proofs.Common.{◌≡◌, ◌+◌, ◌==◌, ◌++◌, ◌∷◌, [], Bool, true, false, List, sym, ap, ◌∙◌, rules}
+use Rattle.std.proofs.Common.{◌≡◌, ◌++◌, ◌∷◌, [], List, sym, ap, ◌∙◌, rules}
 use Rattle.scrub_report.specs.declared.page_ranges.PageRange.{PageRange}
 use Rattle.scrub_report.proofs.PageRanges.{alone, joined_alone, joined_neighbour, up_to_page}
 use Rattle.scrub_report.proofs.page_ranges.join_page.Goals as goal

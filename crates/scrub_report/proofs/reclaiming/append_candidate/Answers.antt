@@ -1,5 +1,5 @@
 -- The candidate's line, and then those of its moves.
-use Rattle.std.proofs.Common.{◌≡◌, ◌++◌, List, ℕ, ap, ◌∙◌, rules}
+use Rattle.std.proofs.Common.{◌≡◌, ◌++◌, rules}
 use Rattle.std.specs.List.{flat_map}
 use Rattle.scrub_report.specs.Reclaimable.{move_line, moves, reclaim_line}
 use Rattle.scrub_report.proofs.FlatLists.{appended_ok}

@@ -1,5 +1,5 @@
 -- The lines of the first ones.
-use Rattle.std.proofs.Common.{◌≡◌, ◌++◌, map, take}
+use Rattle.std.proofs.Common.{◌≡◌, ◌++◌, take}
 use Rattle.std.specs.List.{flat_map}
 use Rattle.scrub_report.specs.Reclaimable.{move_line}
 use Rattle.scrub_report.proofs.reclaiming.append_moves.Given as goal

@@ -1,5 +1,5 @@
 -- Both are told of what was found.
-use Rattle.std.proofs.Common.{◌≡◌, ◌++◌, [], ap, ◌∙◌, rules, if◌then◌else◌}
+use Rattle.std.proofs.Common.{◌≡◌, ◌++◌, [], rules, if◌then◌else◌}
 use Rattle.std.specs.List.{flat_map}
 use Rattle.scrub_report.specs.Doubts.{are_accepted}
 use Rattle.scrub_report.specs.Parts.{found_in}

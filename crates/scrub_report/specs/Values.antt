@@ -1,0 +1,39 @@
+-- The values of an object's members, as the code keeps them, and what they are as JSON.
+use Rattle.std.specs.Prelude.{map}
+use Rattle.serde_json.specs.Data.{Data, boolean, string}
+use Rattle.scrub_check.specs.Checked.{dangling, hidden}
+use Rattle.scrub_report.specs.Json.{list, natural, natural_or_null}
+use Rattle.scrub_report.specs.Report.{candidate_data, dangling_data, doubtful_ids, geometry_data, hidden_data, ids_data, items_data, numbers_data, place_data, shared_data, super_data}
+use Rattle.scrub_report.specs.Texts.{owner_text, state_text, status_text, uuid_text}
+use Rattle.scrub_report.specs.declared.keys.KeyValue.{KeyValue}
+use Rattle.scrub_report.specs.declared.keys.KeyValue.TheVariants as key
+use Rattle.scrub_report.specs.declared.object.Value.{Value}
+use Rattle.scrub_report.specs.declared.object.Value.TheVariants.{Number, Optional, Optional32, Flag, Owner, Status, State, Uuid, Numbers, Items}
+
+-- the value of a member, as JSON
+abbrev pub value_data : Value → Data
+value_data (Number n) = natural n
+value_data (Optional n) = natural_or_null n
+value_data (Optional32 n) = natural_or_null n
+value_data (Flag b) = boolean b
+value_data (Owner o) = string (owner_text o)
+value_data (Status s) = string (status_text s)
+value_data (State s) = string (state_text s)
+value_data (Uuid u) = string (uuid_text u)
+value_data (Numbers ns) = numbers_data ns.now
+value_data (Items items) = items_data items.now
+
+-- the value of a key of the report, as JSON
+abbrev pub key_data : KeyValue → Data
+key_data (key.Candidates cs) = list (map candidate_data cs.now)
+key_data (key.Count n) = natural n
+key_data (key.Dangling cs) = list (map dangling_data (dangling cs.now))
+key_data (key.Doubtful bs) = ids_data (doubtful_ids bs.now)
+key_data (key.Flag b) = boolean b
+key_data (key.Geometry g) = geometry_data g
+key_data (key.Hidden cs) = list (map hidden_data (hidden cs.now))
+key_data (key.Ids ids) = ids_data ids.now
+key_data (key.Numbers ns) = numbers_data ns.now
+key_data (key.Places ps) = list (map place_data ps.now)
+key_data (key.Shared ps) = list (map shared_data ps.now)
+key_data (key.Super c) = super_data c.now
