@@ -1,5 +1,7 @@
-//! Entries of no locator, of one and of two, in one run: read, written, copied and taken. Which payloads are no runs is left
-//! to `run_payloads`.
+//! Entries of no locator, of one and of two, in one run: read, written, copied and taken. For payloads that are no runs see
+//! `run_payloads`.
+
+ghost use Rattle.std.specs.Prelude.{◌≤◌, length};
 
 use scrub_fakes::{abc_at, shard_of};
 use scrub_frame::{LOCATOR_BYTES, Locator, append_locators, digest_of};
@@ -20,7 +22,9 @@ fn two() -> [Locator; 2] {
 }
 
 /// Appends the bytes of an entry.
-fn put_entry(bytes: &mut Vec<u8>, id: ShardId, locators: &[Locator]) -> Result<(), Fail> {
+fn put_entry(bytes: &mut Vec<u8>, id: ShardId, locators: &[Locator]) -> Result<(), Fail>
+    requires { length locators.now ≤ 64 }
+{
     bytes.extend_from_slice(&id.0)?;
     bytes.push(locators.len() as u8)?;
     for locator in locators {
