@@ -8,7 +8,7 @@ use scrub_disk::MemDisk;
 use scrub_fakes::{
     ABC_DIGEST, ENDS_IN_MAGIC, ONES, TWOS, abc_at, mark_bad, put_chunk, put_superblock, small_disk,
 };
-use scrub_frame::{Locator, locate};
+use scrub_frame::{Locator, digest_of, locate};
 use std::alloc::Global;
 use std::process::Abort;
 use std::test::Fail;
@@ -213,8 +213,11 @@ fn disk_of(alloc: Global, judged: &Judged) -> Result<MemDisk, Fail> {
 fn locator_of(chunk: &Chunk, length: u32) -> Locator {
     let (extent, offset, uuid, payload) = *chunk;
     Locator {
+        extent,
+        offset,
         length,
-        ..locate(extent, offset, Uuid::from_bytes(uuid), payload)
+        uuid: Uuid::from_bytes(uuid),
+        digest: digest_of(payload),
     }
 }
 
