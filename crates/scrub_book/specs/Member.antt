@@ -50,7 +50,7 @@ module _ {D : Type 0} {s : _} where
 
   -- what the code keeps, with room for the numbers too
   abbrev pub HasPool : Image → BookValue D → List ℕ → List (Member D s) → List (ExtentResult D s) → List ℕ → ℕ → ℕ → Type 0
-  HasPool image book queue members arrived numbers room told = HoldsPool image book queue members arrived numbers room × (length book.plan.planned ≤ told)
+  HasPool image book queue members arrived numbers room capacity = HoldsPool image book queue members arrived numbers room × (length book.plan.planned ≤ capacity)
 
   -- the pool of the machine, from what the code keeps
   abbrev pub pool_value : BookValue D → List ℕ → List (Member D s) → List (ExtentResult D s) → PoolValue D

@@ -6,12 +6,12 @@ use Rattle.std.proofs.lemmas.List.Elements.{All-nil, All-cons, All-push}
 use Rattle.scrub_disk.specs.Image.{Image}
 use Rattle.scrub_super.specs.Plan.{PlanValue}
 use Rattle.scrub_frame.specs.declared.locator.Locator.{Locator}
-use Rattle.scrub_check.specs.declared.named.Named.{Named}
-use Rattle.scrub_check.specs.declared.checked.Checked.{Checked}
+use Rattle.scrub_check.specs.declared.sources.named.Named.{Named}
+use Rattle.scrub_check.specs.declared.statuses.checked.Checked.{Checked}
 use Rattle.scrub_check.specs.Status.{HasStatusIn}
-use Rattle.scrub_check.specs.declared.status.Status.{Status}
+use Rattle.scrub_check.specs.declared.statuses.status.Status.{Status}
 use Rattle.scrub_check.specs.Looks.{IsOpen}
-use Rattle.scrub_check.specs.Checked.{IsChecked, AreChecked, IsToldBefore}
+use Rattle.scrub_check.specs.Checked.{IsChecked, AreChecked, IsKnownBefore}
 use Rattle.scrub_check.specs.Runs.{ReadRunsValue, HasRunStateIn, AreReadRuns, AreRunStates}
 
 -- each by itself is all of them
@@ -35,21 +35,21 @@ pub states_read : (image : Image) (plan : PlanValue) (r : ReadRunsValue) → Are
 states_read image plan r read k l s below under = zipped_at (HasRunStateIn image plan) plan.runs r.states k l s below read.states
 
 -- what is told of one
-pub told_at : (image : Image) (plan : PlanValue) (names : List Named) (tells : List (Option Status)) (i : ℕ) (n : Named) (t : Option Status) → i < length names → n ≡ get_or names i n → t ≡ get_or tells i t →
-    AllZip (IsToldBefore image plan) names tells → IsToldBefore image plan n t
-told_at image plan names tells i n t below name_is tell_is told =
-    subst (λ (m : Named). IsToldBefore image plan m t) (sym name_is)
-    (subst (λ (u : Option Status). IsToldBefore image plan (get_or names i n) u) (sym tell_is) (zipped_at (IsToldBefore image plan) names tells i n t below told))
+pub known_at : (image : Image) (plan : PlanValue) (names : List Named) (tells : List (Option Status)) (i : ℕ) (n : Named) (t : Option Status) → i < length names → n ≡ get_or names i n → t ≡ get_or tells i t →
+    AllZip (IsKnownBefore image plan) names tells → IsKnownBefore image plan n t
+known_at image plan names tells i n t below name_is tell_is known =
+    subst (λ (m : Named). IsKnownBefore image plan m t) (sym name_is)
+    (subst (λ (u : Option Status). IsKnownBefore image plan (get_or names i n) u) (sym tell_is) (zipped_at (IsKnownBefore image plan) names tells i n t below known))
 
 -- nothing is told of it
-left_open : (image : Image) (plan : PlanValue) (n : Named) (t : Option Status) → is_some t ≡ false → IsToldBefore image plan n t → IsOpen image plan n.locator
-left_open image plan n None none told = told
-left_open image plan n (Some s) none told = absurd (let z : ⊥ = cc in z)
+left_open : (image : Image) (plan : PlanValue) (n : Named) (t : Option Status) → is_some t ≡ false → IsKnownBefore image plan n t → IsOpen image plan n.locator
+left_open image plan n None none known = known
+left_open image plan n (Some s) none known = absurd (let z : ⊥ = cc in z)
 
 -- one more of which nothing is told
 pub left_more : (names : List Named) (tells : List (Option Status)) (i : ℕ) (n : Named) (t : Option Status) (ls more : List Locator) → i < length names → n ≡ get_or names i n → t ≡ get_or tells i t → is_some t ≡ false →
-    more ≡ ls ++ n.locator ∷ [] → ((image : Image) (plan : PlanValue) → AllZip (IsToldBefore image plan) names tells → All (IsOpen image plan) ls) →
-    (image : Image) (plan : PlanValue) → AllZip (IsToldBefore image plan) names tells → All (IsOpen image plan) more
-left_more names tells i n t ls more below name_is tell_is none grown before image plan told =
+    more ≡ ls ++ n.locator ∷ [] → ((image : Image) (plan : PlanValue) → AllZip (IsKnownBefore image plan) names tells → All (IsOpen image plan) ls) →
+    (image : Image) (plan : PlanValue) → AllZip (IsKnownBefore image plan) names tells → All (IsOpen image plan) more
+left_more names tells i n t ls more below name_is tell_is none grown before image plan known =
     subst (λ (xs : List Locator). All (IsOpen image plan) xs) (sym grown)
-    (All-push (IsOpen image plan) ls n.locator (before image plan told) (left_open image plan n t none (told_at image plan names tells i n t below name_is tell_is told)))
+    (All-push (IsOpen image plan) ls n.locator (before image plan known) (left_open image plan n t none (known_at image plan names tells i n t below name_is tell_is known)))

@@ -11,13 +11,13 @@ use Rattle.scrub_scan.specs.Extent.{extent_of, NoFrameAt}
 use Rattle.scrub_scan.specs.Standing.{IsClaimedAt, HasPlainFrame}
 use Rattle.scrub_scan.proofs.Claims.{only_frame, plain_frame}
 use Rattle.scrub_scan.proofs.FrameBytes.{no_gap}
-use Rattle.scrub_check.specs.declared.sound_starts.Start.{Start}
-use Rattle.scrub_check.specs.declared.status.Status.{Status}
-use Rattle.scrub_check.specs.declared.status.Status.TheVariants.{OutOfRange, Retired, PastPointer, Unreadable, NoFrame, WrongUuid, WrongLength, WrongDigest, Hidden, Sound}
-use Rattle.scrub_check.specs.Judged.{IsOther, IsToldByClaim}
+use Rattle.scrub_check.specs.declared.lists.sound_starts.Start.{Start}
+use Rattle.scrub_check.specs.declared.statuses.status.Status.{Status}
+use Rattle.scrub_check.specs.declared.statuses.status.Status.TheVariants.{OutOfRange, Retired, PastPointer, Unreadable, NoFrame, WrongUuid, WrongLength, WrongDigest, Hidden, Sound}
+use Rattle.scrub_check.specs.Judged.{IsOther, IsStatusByClaim}
 use Rattle.scrub_check.specs.Looks.{start_named_by, IsOpen, IsReadableClaim, IsClaimSeen, AreReadableClaims}
 use Rattle.scrub_check.specs.Status.{CanStand, FindsFrame, HasStatus, HasStatusIn}
-use Rattle.scrub_check.proofs.Judged.{told_under}
+use Rattle.scrub_check.proofs.Judged.{status_under}
 
 -- another plain frame stands there
 other_frame : (image : Image) (w : ℕ) (l : Locator) (h : Head) (s : Status) → CanStand image w l → HasPlainFrame (extent_of image l.extent w) l.offset h → IsOther l h.uuid h.length s → HasStatus image w l s
@@ -33,18 +33,18 @@ other_frame image w l h NoFrame can f other = absurd other
 other_frame image w l h Hidden can f other = absurd other
 other_frame image w l h Sound can f other = absurd other
 
-by_claim : (image : Image) (w : ℕ) (l : Locator) (found : Option Head) (told : Option Status) (s : Status) → CanStand image w l →
-    MatchOption found (NoFrameAt (extent_of image l.extent w) l.offset) (IsReadableClaim (extent_of image l.extent w) l.offset) → IsToldByClaim l found told → told ≡ Some s → HasStatus image w l s
-by_claim image w l None told s can none by is = subst (λ (t : Status). HasStatus image w l t) (same_Some NoFrame s (sym by ∙ is)) (can, none)
-by_claim image w l (Some h) told s can claim by is =
+by_claim : (image : Image) (w : ℕ) (l : Locator) (found : Option Head) (known : Option Status) (s : Status) → CanStand image w l →
+    MatchOption found (NoFrameAt (extent_of image l.extent w) l.offset) (IsReadableClaim (extent_of image l.extent w) l.offset) → IsStatusByClaim l found known → known ≡ Some s → HasStatus image w l s
+by_claim image w l None known s can none by is = subst (λ (t : Status). HasStatus image w l t) (same_Some NoFrame s (sym by ∙ is)) (can, none)
+by_claim image w l (Some h) known s can claim by is =
     let other = subst (λ (t : Option Status). MatchOption t (h.form ≡ Plain → (h.uuid ≡ l.uuid) × (h.length ≡ l.length)) (λ status. (h.form ≡ Plain) × IsOther l h.uuid h.length status)) is by in
     other_frame image w l h s can (plain_frame (extent_of image l.extent w) l.offset h claim.claimed other.0 claim.readable) other.1
 
 -- so what is told by what is claimed is the status
-pub judged_by_claim : (image : Image) (plan : PlanValue) (l : Locator) (found : Option Head) (told : Option Status) (s : Status) → IsOpen image plan l → IsClaimSeen image plan (start_named_by l) found →
-    IsToldByClaim l found told → told ≡ Some s → HasStatusIn image plan l s
-judged_by_claim image plan l found told s left seen by is =
-    told_under image plan left.pointer l s left.in_use left.is (by_claim image left.pointer l found told s left.can (seen left.pointer left.is) by is)
+pub judged_by_claim : (image : Image) (plan : PlanValue) (l : Locator) (found : Option Head) (known : Option Status) (s : Status) → IsOpen image plan l → IsClaimSeen image plan (start_named_by l) found →
+    IsStatusByClaim l found known → known ≡ Some s → HasStatusIn image plan l s
+judged_by_claim image plan l found known s left seen by is =
+    status_under image plan left.pointer l s left.in_use left.is (by_claim image left.pointer l found known s left.can (seen left.pointer left.is) by is)
 
 -- what is claimed, and can be read, under the pointer of the extent
 pub claim_seen : (image : Image) (s : Start) (v w : ℕ) (claimed left : Option Head) → v ≡ w → IfSome claimed (IsClaimedAt (extent_of image s.extent v) s.offset) → IfNone claimed (NoFrameAt (extent_of image s.extent v) s.offset) →

@@ -6,7 +6,7 @@ use Rattle.std.proofs.lemmas.Grind.{flat_map-append}
 use Rattle.scrub_scan.specs.declared.item.Item.{Item}
 use Rattle.scrub_scan.specs.Scanned.{Scanned}
 use Rattle.scrub_scan.proofs.Taken.{take_next}
-use Rattle.scrub_check.specs.declared.place.Place.{Place}
+use Rattle.scrub_check.specs.declared.lists.place.Place.{Place}
 use Rattle.scrub_check.specs.Chunks.{place_of, chunks_in, chunks}
 
 module _ (all : List Scanned) (i : ℕ) (f : Scanned) (at : slice_get all i ≡ Some f) where

@@ -13,12 +13,12 @@ use Rattle.scrub_scan.specs.declared.item.Item.TheVariants.{Chunk, Pad, Torn, No
 use Rattle.scrub_scan.specs.Item.{start_of, IsChunk, IsItem}
 use Rattle.scrub_scan.specs.Standing.{IsStandingAt}
 use Rattle.scrub_scan.specs.Tiling.{IsTiling}
-use Rattle.scrub_check.specs.declared.status.Status.{Status}
-use Rattle.scrub_check.specs.declared.status.Status.TheVariants.{OutOfRange, Retired, PastPointer, Unreadable, NoFrame, WrongUuid, WrongLength, WrongDigest, Hidden, Sound}
+use Rattle.scrub_check.specs.declared.statuses.status.Status.{Status}
+use Rattle.scrub_check.specs.declared.statuses.status.Status.TheVariants.{OutOfRange, Retired, PastPointer, Unreadable, NoFrame, WrongUuid, WrongLength, WrongDigest, Hidden, Sound}
 use Rattle.scrub_check.specs.Status.{CanStand, FindsFrame, NamesChunk, HasStatus, HasStatusInRetired, HasStatusInUse, HasStatusIn, is_retired}
 use Rattle.scrub_check.specs.Chunks.{frame_of_item}
 use Rattle.scrub_check.specs.Judged.{IsOther, IsMismatch, Agrees, IsJudged}
-use Rattle.scrub_check.specs.Looks.{IsFoundAt, IsOpen, IsSeenAt, IsToldByItems}
+use Rattle.scrub_check.specs.Looks.{IsFoundAt, IsOpen, IsSeenAt, IsStatusByItems}
 use Rattle.scrub_check.proofs.Starts.{begins, begins_among}
 
 -- what a clause says of the value that there is
@@ -108,24 +108,24 @@ judged_by_item image w l items i item status can tiled at is judged =
     judged_status image w l (frame_of_item l.extent item) Sound status can (item_there image w l item fits start) (λ chunk. (chunk, begins x items i l.offset tiled at.0 at.1)) judged
 
 -- and there being none that begins there, that the place is left to be looked at
-pub none_begins : (image : Image) (w : ℕ) (l : Locator) (items : List Item) → IsTiling (extent_of image l.extent w) items → ¬ Contains (map start_of items) l.offset → IsToldByItems image w l None
+pub none_begins : (image : Image) (w : ℕ) (l : Locator) (items : List Item) → IsTiling (extent_of image l.extent w) items → ¬ Contains (map start_of items) l.offset → IsStatusByItems image w l None
 none_begins image w l items tiled apart b = apart (begins_among (extent_of image l.extent w) items l.offset (omega (arith, image.geometry.page_size.least)) tiled b)
 
 -- by a plan, a status under the pointer of an extent in use
-pub told_under : (image : Image) (plan : PlanValue) (w : ℕ) (l : Locator) (s : Status) → is_retired plan l.extent ≡ false → pointer_of plan l.extent ≡ Some w → HasStatus image w l s → HasStatusIn image plan l s
-told_under image plan w l s in_use at h =
+pub status_under : (image : Image) (plan : PlanValue) (w : ℕ) (l : Locator) (s : Status) → is_retired plan l.extent ≡ false → pointer_of plan l.extent ≡ Some w → HasStatus image w l s → HasStatusIn image plan l s
+status_under image plan w l s in_use at h =
     subst (λ (b : Bool). MatchBool b (HasStatusInRetired image l s) (HasStatusInUse image plan l s)) (sym in_use)
     (subst (λ (o : Option ℕ). MatchOption o (s ≡ OutOfRange) (λ v. HasStatus image v l s)) (sym at) h)
 
 -- what items tell under the pointer of an extent, by a plan
-pub told_in_plan : (image : Image) (plan : PlanValue) (w : ℕ) (l : Locator) (told : Option Status) → is_retired plan l.extent ≡ false → pointer_of plan l.extent ≡ Some w → CanStand image w l → IsToldByItems image w l told →
-    IfSome told (HasStatusIn image plan l) × IfNone told (IsOpen image plan l)
-told_in_plan image plan w l None in_use at can h = (tt, record { in_use = in_use; pointer = w; is = at; can = can; apart = h })
-told_in_plan image plan w l (Some s) in_use at can h = (told_under image plan w l s in_use at h, tt)
+pub status_in_plan : (image : Image) (plan : PlanValue) (w : ℕ) (l : Locator) (known : Option Status) → is_retired plan l.extent ≡ false → pointer_of plan l.extent ≡ Some w → CanStand image w l → IsStatusByItems image w l known →
+    IfSome known (HasStatusIn image plan l) × IfNone known (IsOpen image plan l)
+status_in_plan image plan w l None in_use at can h = (tt, record { in_use = in_use; pointer = w; is = at; can = can; apart = h })
+status_in_plan image plan w l (Some s) in_use at can h = (status_under image plan w l s in_use at h, tt)
 
 -- and what a look tells of a locator that was left
 pub judged_by_look : (image : Image) (plan : PlanValue) (l : Locator) (found : Option Standing) (status : Status) → IsOpen image plan l → IsSeenAt image plan (record { extent = l.extent; offset = l.offset }) found →
     IsJudged l found Hidden status → HasStatusIn image plan l status
 judged_by_look image plan l found status left seen judged =
-    told_under image plan left.pointer l status left.in_use left.is
+    status_under image plan left.pointer l status left.in_use left.is
     (judged_status image left.pointer l found Hidden status left.can (seen left.pointer left.is) (λ chunk. (chunk, left.apart)) judged)

@@ -18,9 +18,9 @@ use Rattle.scrub_scan.specs.Extent.{Extent, extent_of, FrameAt}
 use Rattle.scrub_scan.specs.Item.{start_of, IsItem, Fits}
 use Rattle.scrub_scan.specs.Findings.{IsFindings}
 use Rattle.scrub_scan.specs.Scanned.{Scanned}
-use Rattle.scrub_check.specs.declared.checked.Checked.{Checked}
-use Rattle.scrub_check.specs.declared.status.Status.{Status}
-use Rattle.scrub_check.specs.declared.status.Status.TheVariants.{OutOfRange, Retired, PastPointer, Unreadable, NoFrame, WrongUuid, WrongLength, WrongDigest, Hidden, Sound}
+use Rattle.scrub_check.specs.declared.statuses.checked.Checked.{Checked}
+use Rattle.scrub_check.specs.declared.statuses.status.Status.{Status}
+use Rattle.scrub_check.specs.declared.statuses.status.Status.TheVariants.{OutOfRange, Retired, PastPointer, Unreadable, NoFrame, WrongUuid, WrongLength, WrongDigest, Hidden, Sound}
 use Rattle.scrub_check.specs.Checked.{is_sound, HaveStatuses}
 use Rattle.scrub_check.specs.Status.{HasStatus, HasStatusIn}
 use Rattle.scrub_check.specs.Live.{is_sound_at, has_sound_at, is_chunk, is_live}

@@ -9,36 +9,36 @@ use Rattle.scrub_frame.specs.declared.locator.Locator.{Locator}
 use Rattle.scrub_super.specs.Plan.{PlanValue}
 use Rattle.scrub_run.specs.Entry.{EntryValue}
 use Rattle.scrub_merge.specs.Binding.{Runs}
-use Rattle.scrub_check.specs.declared.runs.RunState.{RunState}
+use Rattle.scrub_check.specs.declared.sources.runs.RunState.{RunState}
 use Rattle.scrub_check.specs.Runs.{IsRunIn, HasRunStateIn, AreCounted}
 
 -- what is told of the locators so far
-pub record AreToldOf (image : Image) (plan : PlanValue) (locators : List Locator) (read : Runs) (told : List RunState) : Type 0 where
+pub record AreWalkedOf (image : Image) (plan : PlanValue) (locators : List Locator) (read : Runs) (known : List RunState) : Type 0 where
   pub runs : AllZip (IsRunIn image plan) locators read
-  pub states : AllZip (HasRunStateIn image plan) locators told
+  pub states : AllZip (HasRunStateIn image plan) locators known
 
-pub told_more : (image : Image) (plan : PlanValue) (locators : List Locator) (runs more_runs : Runs) (states more_states : List RunState)
-    (i : ℕ) (d : Locator) (run : Option (List EntryValue)) (state : RunState) → i < length locators → AreToldOf image plan (take i locators) runs states →
+pub walked_more : (image : Image) (plan : PlanValue) (locators : List Locator) (runs more_runs : Runs) (states more_states : List RunState)
+    (i : ℕ) (d : Locator) (run : Option (List EntryValue)) (state : RunState) → i < length locators → AreWalkedOf image plan (take i locators) runs states →
     IsRunIn image plan (get_or locators i d) run → HasRunStateIn image plan (get_or locators i d) state →
-    more_runs ≡ runs ++ run ∷ [] → more_states ≡ states ++ state ∷ [] → AreToldOf image plan (take (i + 1) locators) more_runs more_states
-told_more image plan locators runs more_runs states more_states i d run state below told is has run_grown state_grown = record {
-  runs = AllZip-take_more (IsRunIn image plan) locators runs more_runs i d run below told.runs is run_grown;
-  states = AllZip-take_more (HasRunStateIn image plan) locators states more_states i d state below told.states has state_grown;
+    more_runs ≡ runs ++ run ∷ [] → more_states ≡ states ++ state ∷ [] → AreWalkedOf image plan (take (i + 1) locators) more_runs more_states
+walked_more image plan locators runs more_runs states more_states i d run state below known is has run_grown state_grown = record {
+  runs = AllZip-take_more (IsRunIn image plan) locators runs more_runs i d run below known.runs is run_grown;
+  states = AllZip-take_more (HasRunStateIn image plan) locators states more_states i d state below known.states has state_grown;
 }
 
 -- in the end all are told of
-pub all_told : (image : Image) (plan : PlanValue) (locators : List Locator) (i : ℕ) (runs : Runs) (states : List RunState) → length locators ≤ i → locators ≡ plan.runs →
-    AreToldOf image plan (take i locators) runs states → AreToldOf image plan plan.runs runs states
-all_told image plan locators i runs states end is told = subst (λ (ls : List Locator). AreToldOf image plan ls runs states) (take_all i locators end ∙ is) told
+pub all_states : (image : Image) (plan : PlanValue) (locators : List Locator) (i : ℕ) (runs : Runs) (states : List RunState) → length locators ≤ i → locators ≡ plan.runs →
+    AreWalkedOf image plan (take i locators) runs states → AreWalkedOf image plan plan.runs runs states
+all_states image plan locators i runs states end is known = subst (λ (ls : List Locator). AreWalkedOf image plan ls runs states) (take_all i locators end ∙ is) known
 
-pub counted : (image : Image) (plan : PlanValue) (runs : Runs) (states : List RunState) → length plan.runs ≤ 32 → AreToldOf image plan plan.runs runs states → AreCounted (record { runs = runs; states = states })
-counted image plan runs states few told =
-    let r : length runs ≡ length plan.runs = AllZip-long (IsRunIn image plan) plan.runs runs told.runs in
-    record { same = AllZip-long (HasRunStateIn image plan) plan.runs states told.states ∙ sym r; few = omega (arith, r, few) }
+pub counted : (image : Image) (plan : PlanValue) (runs : Runs) (states : List RunState) → length plan.runs ≤ 32 → AreWalkedOf image plan plan.runs runs states → AreCounted (record { runs = runs; states = states })
+counted image plan runs states few known =
+    let r : length runs ≡ length plan.runs = AllZip-long (IsRunIn image plan) plan.runs runs known.runs in
+    record { same = AllZip-long (HasRunStateIn image plan) plan.runs states known.states ∙ sym r; few = omega (arith, r, few) }
 
 -- pairs that are right for each locator are so as two lists
 pub split : (image : Image) (plan : PlanValue) (locators : List Locator) (read : List (Option (List EntryValue) × RunState)) →
-    AllZip (λ l one. IsRunIn image plan l one.0 × HasRunStateIn image plan l one.1) locators read → AreToldOf image plan locators (map (λ one. one.0) read) (map (λ one. one.1) read)
+    AllZip (λ l one. IsRunIn image plan l one.0 × HasRunStateIn image plan l one.1) locators read → AreWalkedOf image plan locators (map (λ one. one.0) read) (map (λ one. one.1) read)
 split image plan [] [] each = record { runs = tt; states = tt }
 split image plan [] (one ∷ read) each = absurd each
 split image plan (l ∷ locators) [] each = absurd each

@@ -13,8 +13,8 @@ use Rattle.scrub_run.specs.declared.shard_id.ShardId.{ShardId}
 use Rattle.scrub_merge.proofs.Elements.{Contains-cases}
 use Rattle.scrub_merge.proofs.Identifiers.{id_cmp_total}
 use Rattle.scrub_scan.specs.Scanned.{Scanned}
-use Rattle.scrub_check.specs.declared.place.SharedPlace.{SharedPlace}
-use Rattle.scrub_check.specs.declared.checked.Checked.{Checked}
+use Rattle.scrub_check.specs.declared.lists.place.SharedPlace.{SharedPlace}
+use Rattle.scrub_check.specs.declared.statuses.checked.Checked.{Checked}
 use Rattle.scrub_check.specs.Checked.{AreBrokenShards}
 use Rattle.scrub_check.specs.Shared.{AreShared}
 use Rattle.scrub_check.specs.Candidates.{CandidateValue, AreCandidates}

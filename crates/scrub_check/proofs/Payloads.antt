@@ -12,11 +12,11 @@ use Rattle.scrub_scan.specs.Extent.{extent_of, FrameAt}
 use Rattle.scrub_scan.specs.OneFrame.{one_frame_at}
 use Rattle.scrub_run.specs.Entry.{EntryValue}
 use Rattle.scrub_run.specs.Run.{IsRun}
-use Rattle.scrub_check.specs.declared.status.Status.{Status}
-use Rattle.scrub_check.specs.declared.status.Status.TheVariants.{OutOfRange, Hidden, Sound}
-use Rattle.scrub_check.specs.declared.runs.RunState.{RunState}
-use Rattle.scrub_check.specs.declared.runs.RunState.TheVariants.{Read, BadChunk, NotARun}
-use Rattle.scrub_check.specs.ChunkRun.{StandsThere, HasPayloadThere, HoldsRun, IsToldOf}
+use Rattle.scrub_check.specs.declared.statuses.status.Status.{Status}
+use Rattle.scrub_check.specs.declared.statuses.status.Status.TheVariants.{OutOfRange, Hidden, Sound}
+use Rattle.scrub_check.specs.declared.sources.runs.RunState.{RunState}
+use Rattle.scrub_check.specs.declared.sources.runs.RunState.TheVariants.{Read, BadChunk, NotARun}
+use Rattle.scrub_check.specs.ChunkRun.{StandsThere, HasPayloadThere, HoldsRun, IsStateOf}
 use Rattle.scrub_check.specs.Status.{NamesChunk, HasStatus, HasStatusInRetired, HasStatusInUse, HasStatusIn, is_retired}
 use Rattle.scrub_check.specs.Runs.{NamesRun, IsRunOf, HasRunState, IsRunInUse, HasRunStateInUse, IsLostInRetired, IsRunIn, HasRunStateIn}
 use Rattle.scrub_check.proofs.RunStates.{named, unnamed, named_in_use}
@@ -63,19 +63,19 @@ pub holds_none : (image : Image) (l : Locator) (b c : List ℕ) → HasPayloadTh
 holds_none image l b c has is none entries h = none entries (subst (λ (p : List ℕ). IsRun p entries) (one_payload image l h.payload b h.has has ∙ sym is) h.run)
 
 -- what is told of a chunk that stands is the run of its locator, and what became of it
-told : (image : Image) (w : ℕ) (l : Locator) (run : Option (List EntryValue)) (state : RunState) → NamesChunk image w l → IsToldOf image l run state → IsRunOf image w l run × HasRunState image w l state
-told image w l (Some entries) Read n h = (is, (entries, is))
+known : (image : Image) (w : ℕ) (l : Locator) (run : Option (List EntryValue)) (state : RunState) → NamesChunk image w l → IsStateOf image l run state → IsRunOf image w l run × HasRunState image w l state
+known image w l (Some entries) Read n h = (is, (entries, is))
   where
     is : NamesRun image w l entries
     is = record { names = n; run = subst (λ (p : List ℕ). IsRun p entries) (one_payload image l h.payload n.payload h.has (has_payload image w l n)) h.run }
-told image w l None NotARun n h = (none, (n, none))
+known image w l None NotARun n h = (none, (n, none))
   where
     none : (entries : List EntryValue) → ¬ NamesRun image w l entries
     none entries r = h entries (record { payload = r.names.payload; has = has_payload image w l r.names; run = r.run })
-told image w l (Some entries) (BadChunk s) n h = absurd h
-told image w l (Some entries) NotARun n h = absurd h
-told image w l None Read n h = absurd h
-told image w l None (BadChunk s) n h = absurd h
+known image w l (Some entries) (BadChunk s) n h = absurd h
+known image w l (Some entries) NotARun n h = absurd h
+known image w l None Read n h = absurd h
+known image w l None (BadChunk s) n h = absurd h
 
 -- ---- by a plan
 
@@ -97,12 +97,12 @@ stands_there image plan l s is h =
     let has = has_payload image n.pointer l n.names in
     record { form = has.form; stands = record { payload = n.names.payload; has = has.has } }
 
-pub told_in : (image : Image) (plan : PlanValue) (l : Locator) (s : Status) (run : Option (List EntryValue)) (state : RunState) → (s ≡ Sound) ⊎ (s ≡ Hidden) → HasStatusIn image plan l s →
-    IsToldOf image l run state → IsRunIn image plan l run × HasRunStateIn image plan l state
-told_in image plan l s run state is h t =
+pub states_in : (image : Image) (plan : PlanValue) (l : Locator) (s : Status) (run : Option (List EntryValue)) (state : RunState) → (s ≡ Sound) ⊎ (s ≡ Hidden) → HasStatusIn image plan l s →
+    IsStateOf image l run state → IsRunIn image plan l run × HasRunStateIn image plan l state
+states_in image plan l s run state is h t =
     let in_use = named_in_use image plan l s is h in
     let n : NamedUnder image (pointer_of plan l.extent) l = named_under image (pointer_of plan l.extent) l s is in_use.1 in
-    let both = told image n.pointer l run state n.names t in (
+    let both = known image n.pointer l run state n.names t in (
       subst (λ (b : Bool). MatchBool b (run ≡ None) (IsRunInUse image plan l run)) (sym in_use.0)
           (subst (λ (o : Option ℕ). MatchOption o (run ≡ None) (λ w. IsRunOf image w l run)) (sym n.is) both.0),
       subst (λ (b : Bool). MatchBool b (IsLostInRetired image l state) (HasRunStateInUse image plan l state)) (sym in_use.0)

@@ -18,8 +18,8 @@ use Rattle.scrub_super.specs.Plan.{PlanValue}
 use Rattle.scrub_scan.specs.declared.item.Item.{Item}
 use Rattle.scrub_scan.specs.Scanned.{Scanned}
 use Rattle.scrub_scan.specs.AllFindings.{extent_numbers}
-use Rattle.scrub_check.specs.declared.checked.Checked.{Checked}
-use Rattle.scrub_check.specs.declared.sound_starts.Start.{Start}
+use Rattle.scrub_check.specs.declared.statuses.checked.Checked.{Checked}
+use Rattle.scrub_check.specs.declared.lists.sound_starts.Start.{Start}
 use Rattle.scrub_check.specs.Checked.{is_sound}
 use Rattle.scrub_check.specs.Live.{is_live}
 use Rattle.scrub_check.specs.SoundStarts.{AreSoundStarts, is_live_by}
@@ -67,13 +67,13 @@ named_by_sound_alone checked extents e are =
 -- ---- the parts of a candidate
 
 -- what is told of the chunks that are found by their starts is told of the live ones
-pub told_of_live : {Y : Type 0} (told : List Item → Y) (y : Y) (checked : List Checked) (starts : List Start) (e f : ℕ) (is js : List Item) → AreSoundStarts checked starts → e ≡ f → is ≡ js →
-    y ≡ told (filter (is_live_by starts e) is) → y ≡ told (filter (is_live checked f) js)
-told_of_live told y checked starts e f is js are same items h =
+pub walked_of_live : {Y : Type 0} (known : List Item → Y) (y : Y) (checked : List Checked) (starts : List Start) (e f : ℕ) (is js : List Item) → AreSoundStarts checked starts → e ≡ f → is ≡ js →
+    y ≡ known (filter (is_live_by starts e) is) → y ≡ known (filter (is_live checked f) js)
+walked_of_live known y checked starts e f is js are same items h =
     h
-    ∙ ap (λ n. told (filter (is_live_by starts n) is)) same
-    ∙ ap (λ xs. told (filter (is_live_by starts f) xs)) items
-    ∙ ap told (live_sizes checked starts f js are)
+    ∙ ap (λ n. known (filter (is_live_by starts n) is)) same
+    ∙ ap (λ xs. known (filter (is_live_by starts f) xs)) items
+    ∙ ap known (live_sizes checked starts f js are)
 
 -- ---- each extent is a candidate once
 

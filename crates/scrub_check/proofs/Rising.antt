@@ -16,12 +16,12 @@ less_from_true Equal e = absurd (true≢false (sym e))
 less_from_true Greater e = absurd (true≢false (sym e))
 
 -- elements rise exactly where each is below the next
-pub rises_as_told : {X : Type 0} {R : X → X → Ordering} (o : IsTotalOrder R) (xs : List X) (told : Bool) → IsAllAdjacentAnswer (λ x y b. b ≡ is_lt (R x y)) xs told → IsTrue told ↔ IsStrictlySortedBy R xs
+pub rises_as_answered : {X : Type 0} {R : X → X → Ordering} (o : IsTotalOrder R) (xs : List X) (known : Bool) → IsAllAdjacentAnswer (λ x y b. b ≡ is_lt (R x y)) xs known → IsTrue known ↔ IsStrictlySortedBy R xs
 unfolding IsStrictlySortedBy
-rises_as_told o [] true below = (λ yes. tt, λ rising. refl)
-rises_as_told o [] false (k, lt, falls) = absurd (omega (arith, lt))
-rises_as_told o (x ∷ xs) true below = (λ yes. sorted_from_all_adjacent o (x ∷ xs) x (λ k lt. less_from_true _ (sym (below k x lt))), λ rising. refl)
-rises_as_told {R = R} o (x ∷ xs) false (k, lt, falls) = (
+rises_as_answered o [] true below = (λ yes. tt, λ rising. refl)
+rises_as_answered o [] false (k, lt, falls) = absurd (omega (arith, lt))
+rises_as_answered o (x ∷ xs) true below = (λ yes. sorted_from_all_adjacent o (x ∷ xs) x (λ k lt. less_from_true _ (sym (below k x lt))), λ rising. refl)
+rises_as_answered {R = R} o (x ∷ xs) false (k, lt, falls) = (
   λ yes. absurd (true≢false (sym yes)),
   λ rising. falls x ∙ ap is_lt (Less-from_sorted R (x ∷ xs) k (k + 1) x rising (omega arith) lt),
 )

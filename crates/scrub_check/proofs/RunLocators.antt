@@ -3,14 +3,14 @@ use Rattle.std.proofs.Common.{◌≡◌, ◌<◌, ◌⊎◌, inl, inr, ℕ, Bool
 use Rattle.scrub_disk.specs.Image.{Image}
 use Rattle.scrub_frame.specs.declared.locator.Locator.{Locator}
 use Rattle.scrub_super.specs.Plan.{PlanValue}
-use Rattle.scrub_check.specs.declared.status.Status.{Status}
-use Rattle.scrub_check.specs.declared.status.Status.TheVariants.{OutOfRange, Hidden}
-use Rattle.scrub_check.specs.declared.runs.RunState.{RunState}
-use Rattle.scrub_check.specs.declared.runs.RunState.TheVariants.{Read, BadChunk, NotARun}
+use Rattle.scrub_check.specs.declared.statuses.status.Status.{Status}
+use Rattle.scrub_check.specs.declared.statuses.status.Status.TheVariants.{OutOfRange, Hidden}
+use Rattle.scrub_check.specs.declared.sources.runs.RunState.{RunState}
+use Rattle.scrub_check.specs.declared.sources.runs.RunState.TheVariants.{Read, BadChunk, NotARun}
 use Rattle.scrub_check.specs.Looks.{IsOpen}
 use Rattle.scrub_check.specs.Runs.{HasRunState, HasRunStateInUse, HasRunStateIn, IsLostInRetired, AreRunStates}
 use Rattle.scrub_check.specs.Status.{NamesChunk, HasStatusIn}
-use Rattle.scrub_check.proofs.Judged.{told_under}
+use Rattle.scrub_check.proofs.Judged.{status_under}
 
 under : (image : Image) (plan : PlanValue) (l : Locator) (s : RunState) (left : IsOpen image plan l) → HasRunStateIn image plan l s → HasRunState image left.pointer l s
 under image plan l s left h =
@@ -21,7 +21,7 @@ under image plan l s left h =
 pub lost_status : (image : Image) (plan : PlanValue) (l : Locator) (s : RunState) (status : Status) → s ≡ BadChunk status → IsOpen image plan l → HasRunStateIn image plan l s → HasStatusIn image plan l status
 lost_status image plan l s status is left h =
     let lost = under image plan l (BadChunk status) left (subst (λ (t : RunState). HasRunStateIn image plan l t) is h) in
-    told_under image plan left.pointer l status left.in_use left.is lost.0
+    status_under image plan left.pointer l status left.in_use left.is lost.0
 
 names_there : (image : Image) (w : ℕ) (l : Locator) (s : RunState) → (s ≡ Read) ⊎ (s ≡ NotARun) → HasRunState image w l s → NamesChunk image w l
 names_there image w l s (inl is) h = (subst (λ (t : RunState). HasRunState image w l t) is h).1.names
@@ -30,7 +30,7 @@ names_there image w l s (inr is) h = (subst (λ (t : RunState). HasRunState imag
 -- and where the chunk stands, it is hidden
 pub hidden_status : (image : Image) (plan : PlanValue) (l : Locator) (s : RunState) → (s ≡ Read) ⊎ (s ≡ NotARun) → IsOpen image plan l → HasRunStateIn image plan l s → HasStatusIn image plan l Hidden
 hidden_status image plan l s is left h =
-    told_under image plan left.pointer l Hidden left.in_use left.is (names_there image left.pointer l s is (under image plan l s left h), left.apart)
+    status_under image plan left.pointer l Hidden left.in_use left.is (names_there image left.pointer l s is (under image plan l s left h), left.apart)
 
 -- locators of the same fields are one
 pub same_locator : (a b : Locator) → a.extent ≡ b.extent → a.offset ≡ b.offset → a.length ≡ b.length → a.uuid ≡ b.uuid → a.digest ≡ b.digest → a ≡ b

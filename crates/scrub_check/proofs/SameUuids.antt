@@ -7,7 +7,7 @@ use Rattle.std.proofs.lemmas.Cmp.{nat_list_cmp_total}
 use Rattle.std.proofs.lemmas.List.Sorted.{sum_by-IsPermutation}
 use Rattle.std.proofs.lemmas.Map.Text.{is_eq-slice_cmp}
 use Rattle.scrub_scan.specs.Scanned.{Scanned}
-use Rattle.scrub_check.specs.declared.place.Place.{Place}
+use Rattle.scrub_check.specs.declared.lists.place.Place.{Place}
 use Rattle.scrub_check.specs.Chunks.{chunks, chunks_with, twins}
 use Rattle.scrub_check.specs.ChunkUuids.{uuid_cmp, AreUuidsOf, is_twin_by}
 use Rattle.scrub_check.proofs.Counts.{count_map}

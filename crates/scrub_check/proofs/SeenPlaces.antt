@@ -4,9 +4,9 @@ use Rattle.std.specs.declared.cmp.Ordering.{Ordering}
 use Rattle.std.specs.List.Sorted.{IsBinarySearchResult}
 use Rattle.std.specs.Result.{result_ok}
 use Rattle.std.proofs.lemmas.List.Elements.{All-contains, Contains-get_or}
-use Rattle.scrub_check.specs.declared.sound_starts.Start.{Start}
-use Rattle.scrub_check.specs.declared.claims.Claim.{Claim}
-use Rattle.scrub_check.specs.declared.looks.Look.{Look}
+use Rattle.scrub_check.specs.declared.lists.sound_starts.Start.{Start}
+use Rattle.scrub_check.specs.declared.statuses.claims.Claim.{Claim}
+use Rattle.scrub_check.specs.declared.statuses.looks.Look.{Look}
 use Rattle.scrub_disk.specs.Image.{Image}
 use Rattle.scrub_scan.specs.declared.standing.Standing.{Standing}
 use Rattle.scrub_scan.specs.Extent.{extent_of, NoFrameAt}

@@ -11,9 +11,9 @@ use Rattle.std.proofs.lemmas.List.Folds.{Any-from_list_any}
 use Rattle.std.proofs.lemmas.List.Kept.{IsStrictlySortedBy-filter}
 use Rattle.std.proofs.lemmas.Map.Views.{tells_apart}
 use Rattle.scrub_merge.proofs.Elements.{Contains-filter}
-use Rattle.scrub_check.specs.declared.place.SharedPlace.{SharedPlace}
-use Rattle.scrub_check.specs.declared.checked.Checked.{Checked}
-use Rattle.scrub_check.specs.declared.sound_starts.Start.{Start}
+use Rattle.scrub_check.specs.declared.lists.place.SharedPlace.{SharedPlace}
+use Rattle.scrub_check.specs.declared.statuses.checked.Checked.{Checked}
+use Rattle.scrub_check.specs.declared.lists.sound_starts.Start.{Start}
 use Rattle.scrub_check.specs.Distinct.{AreDistinct}
 use Rattle.scrub_check.specs.Live.{sound_at}
 use Rattle.scrub_check.specs.Shared.{by_place, IsShared, AreShared}

@@ -16,19 +16,19 @@ use Rattle.scrub_scan.specs.Item.{start_of}
 use Rattle.scrub_scan.specs.Scanned.{Scanned}
 use Rattle.scrub_scan.specs.AllFindings.{extent_numbers}
 use Rattle.scrub_scan.proofs.Taken.{take_next}
-use Rattle.scrub_check.specs.declared.checked.Checked.{Checked}
-use Rattle.scrub_check.specs.declared.cursor.Cursor.{Cursor}
-use Rattle.scrub_check.specs.declared.place.Place.{Place}
-use Rattle.scrub_check.specs.declared.sound_starts.Start.{Start}
-use Rattle.scrub_check.specs.declared.walked.LiveChunks.{LiveChunks}
-use Rattle.scrub_check.specs.declared.walked.Told.{Told}
+use Rattle.scrub_check.specs.declared.statuses.checked.Checked.{Checked}
+use Rattle.scrub_check.specs.declared.lists.cursor.Cursor.{Cursor}
+use Rattle.scrub_check.specs.declared.lists.place.Place.{Place}
+use Rattle.scrub_check.specs.declared.lists.sound_starts.Start.{Start}
+use Rattle.scrub_check.specs.declared.lists.walked.LiveChunks.{LiveChunks}
+use Rattle.scrub_check.specs.declared.lists.walked.Walked.{Walked}
 use Rattle.scrub_check.specs.Live.{size_of, live_bytes, has_sound_at}
 use Rattle.scrub_check.specs.Chunks.{place_of, chunks_in, chunks, orphans}
 use Rattle.scrub_check.specs.Candidates.{is_reclaimable, candidate_of}
 use Rattle.scrub_check.specs.Verdicts.{reclaimable_by}
 use Rattle.scrub_check.specs.SoundStarts.{AreSoundStarts}
-use Rattle.scrub_check.specs.Walked.{HasPassed, orphans_by, AreLiveBy, AreLiveChunks, AreToldOf}
-use Rattle.scrub_check.proofs.Reclaimable.{told_of_live}
+use Rattle.scrub_check.specs.Walked.{HasPassed, orphans_by, AreLiveBy, AreLiveChunks, AreWalkedOf}
+use Rattle.scrub_check.proofs.Reclaimable.{walked_of_live}
 use Rattle.scrub_check.proofs.SortedStarts.{orphans_found}
 use Rattle.scrub_check.proofs.Starts.{starts_rise}
 use Rattle.scrub_check.proofs.WalkedPlaces.{passed_further}
@@ -42,8 +42,8 @@ starts_found image e w found items h shown =
 pub live_of_extent : (checked : List Checked) (starts : List Start) (f : Scanned) (e : ℕ) (items : List Item) (live : LiveChunks) → AreSoundStarts checked starts → e ≡ f.extent → items ≡ f.findings.items →
     AreLiveBy starts e items live → AreLiveChunks checked f live
 live_of_extent checked starts f e items live are number its h = record {
-  sizes = told_of_live (sum_by size_of) live.bytes checked starts e f.extent items f.findings.items are number its h.sizes;
-  begins = told_of_live (map start_of) live.starts.items checked starts e f.extent items f.findings.items are number its h.begins;
+  sizes = walked_of_live (sum_by size_of) live.bytes checked starts e f.extent items f.findings.items are number its h.sizes;
+  begins = walked_of_live (map start_of) live.starts.items checked starts e f.extent items f.findings.items are number its h.begins;
 }
 
 -- the orphans of one more extent
@@ -70,26 +70,26 @@ reclaimable_more (Some g) checked fs f =
     ∙ ap (map (candidate_of checked)) (sym (filter-append (is_reclaimable g checked) fs (f ∷ [])))
 
 -- what is told of one more extent
-pub told_more : (g : Option Geometry) (checked : List Checked) (starts : List Start) (fs : List Scanned) (f : Scanned) (e : ℕ) (items : List Item) (live : LiveChunks) (old new : Told) →
-    AreSoundStarts checked starts → AreToldOf g checked fs old → e ≡ f.extent → items ≡ f.findings.items → AreLiveChunks checked f live →
+pub walked_more : (g : Option Geometry) (checked : List Checked) (starts : List Start) (fs : List Scanned) (f : Scanned) (e : ℕ) (items : List Item) (live : LiveChunks) (old new : Walked) →
+    AreSoundStarts checked starts → AreWalkedOf g checked fs old → e ≡ f.extent → items ≡ f.findings.items → AreLiveChunks checked f live →
     new.live.items ≡ old.live.items ++ live.bytes ∷ [] → new.orphans.items ≡ old.orphans.items ++ orphans_by starts e items → new.reclaimable.items ≡ old.reclaimable.items ++ reclaimable_by g (f ∷ []) checked →
-    AreToldOf g checked (fs ++ f ∷ []) new
-told_more g checked starts fs f e items live old new are told number its chunk sizes garbage candidates = record {
+    AreWalkedOf g checked (fs ++ f ∷ []) new
+walked_more g checked starts fs f e items live old new are known number its chunk sizes garbage candidates = record {
   sizes =
       sizes
-      ∙ ap (λ ns. ns ++ live.bytes ∷ []) told.sizes
+      ∙ ap (λ ns. ns ++ live.bytes ∷ []) known.sizes
       ∙ ap (λ n. map (live_bytes checked) fs ++ n ∷ []) chunk.sizes
       ∙ sym (map-append (live_bytes checked) fs (f ∷ []));
-  garbage = garbage ∙ ap (λ ps. ps ++ orphans_by starts e items) told.garbage ∙ orphans_grown checked starts fs f e items are number its;
+  garbage = garbage ∙ ap (λ ps. ps ++ orphans_by starts e items) known.garbage ∙ orphans_grown checked starts fs f e items are number its;
   candidates =
       candidates
-      ∙ ap (λ cs. cs ++ reclaimable_by g (f ∷ []) checked) told.candidates
+      ∙ ap (λ cs. cs ++ reclaimable_by g (f ∷ []) checked) known.candidates
       ∙ reclaimable_more g checked fs f;
 }
 
 -- of the extents so far, and the next one
-pub told_next : (g : Option Geometry) (checked : List Checked) (all : List Scanned) (i : ℕ) (f : Scanned) (t : Told) → slice_get all i ≡ Some f → AreToldOf g checked (take i all ++ f ∷ []) t → AreToldOf g checked (take (i + 1) all) t
-told_next g checked all i f t at told = subst (λ (fs : List Scanned). AreToldOf g checked fs t) (sym (take_next all i f at)) told
+pub walked_next : (g : Option Geometry) (checked : List Checked) (all : List Scanned) (i : ℕ) (f : Scanned) (t : Walked) → slice_get all i ≡ Some f → AreWalkedOf g checked (take i all ++ f ∷ []) t → AreWalkedOf g checked (take (i + 1) all) t
+walked_next g checked all i f t at known = subst (λ (fs : List Scanned). AreWalkedOf g checked fs t) (sym (take_next all i f at)) known
 
 -- a cursor that has passed none from the next extent on, where there is one
 abbrev pub HasPassedAll : Cursor → List Scanned → ℕ → Type 0

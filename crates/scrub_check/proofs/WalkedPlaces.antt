@@ -6,8 +6,8 @@ use Rattle.std.specs.List.{count_by}
 use Rattle.std.specs.List.Sorted.{IsSorted}
 use Rattle.std.proofs.lemmas.Bool.{true≢false, cases_eq, false_from_ne_true, ltb-true}
 use Rattle.std.proofs.lemmas.List.{get_or_default}
-use Rattle.scrub_check.specs.declared.cursor.Cursor.{Cursor}
-use Rattle.scrub_check.specs.declared.sound_starts.Start.{Start}
+use Rattle.scrub_check.specs.declared.lists.cursor.Cursor.{Cursor}
+use Rattle.scrub_check.specs.declared.lists.sound_starts.Start.{Start}
 use Rattle.scrub_check.specs.SoundStarts.{start_cmp, is_start}
 use Rattle.scrub_check.specs.Walked.{LiesBefore, AreBefore, IsFirstFrom, HasPassed}
 use Rattle.scrub_check.proofs.Counts.{rises_against}

@@ -6,12 +6,12 @@ use Rattle.scrub_disk.specs.Image.{Image}
 use Rattle.scrub_super.specs.Plan.{PlanValue}
 use Rattle.scrub_run.specs.declared.shard_id.ShardId.{ShardId}
 use Rattle.scrub_run.specs.Entry.{IsBelow}
-use Rattle.scrub_check.specs.declared.named.Owner.{Owner}
-use Rattle.scrub_check.specs.declared.named.Owner.TheVariants.{Run, Shard}
-use Rattle.scrub_check.specs.declared.named.Named.{Named}
-use Rattle.scrub_check.specs.declared.checked.Checked.{Checked}
-use Rattle.scrub_check.specs.declared.status.Status.{Status}
-use Rattle.scrub_check.specs.declared.status.Status.TheVariants.{Hidden, Sound}
+use Rattle.scrub_check.specs.declared.sources.named.Owner.{Owner}
+use Rattle.scrub_check.specs.declared.sources.named.Owner.TheVariants.{Run, Shard}
+use Rattle.scrub_check.specs.declared.sources.named.Named.{Named}
+use Rattle.scrub_check.specs.declared.statuses.checked.Checked.{Checked}
+use Rattle.scrub_check.specs.declared.statuses.status.Status.{Status}
+use Rattle.scrub_check.specs.declared.statuses.status.Status.TheVariants.{Hidden, Sound}
 use Rattle.scrub_check.specs.Looks.{IsOpen}
 use Rattle.scrub_check.specs.Status.{HasStatusIn}
 
@@ -29,8 +29,8 @@ abbrev pub HaveStatuses : Image → PlanValue → List Checked → Type 0
 HaveStatuses image plan checked = All (λ c. HasStatusIn image plan c.locator c.status) checked
 
 -- what is known of a named locator before its place is read: its status, or that its place has to be read
-abbrev pub IsToldBefore : Image → PlanValue → Named → Option Status → Type 0
-IsToldBefore image plan name told = MatchOption told (IsOpen image plan name.locator) (HasStatusIn image plan name.locator)
+abbrev pub IsKnownBefore : Image → PlanValue → Named → Option Status → Type 0
+IsKnownBefore image plan name known = MatchOption known (IsOpen image plan name.locator) (HasStatusIn image plan name.locator)
 
 -- these named locators in their order, each with its status
 pub record AreChecked (image : Image) (plan : PlanValue) (names : List Named) (checked : List Checked) : Type 0 where

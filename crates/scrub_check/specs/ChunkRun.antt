@@ -7,8 +7,8 @@ use Rattle.scrub_scan.specs.declared.standing.Standing.{Standing}
 use Rattle.scrub_scan.specs.Standing.{Stands, HasPayload}
 use Rattle.scrub_run.specs.Entry.{EntryValue}
 use Rattle.scrub_run.specs.Run.{IsRun}
-use Rattle.scrub_check.specs.declared.runs.RunState.{RunState}
-use Rattle.scrub_check.specs.declared.runs.RunState.TheVariants.{Read, NotARun}
+use Rattle.scrub_check.specs.declared.sources.runs.RunState.{RunState}
+use Rattle.scrub_check.specs.declared.sources.runs.RunState.TheVariants.{Read, NotARun}
 
 -- the chunk that a locator names, as a frame of this form at its place
 abbrev pub standing_of : Locator → Form → Standing
@@ -31,7 +31,7 @@ pub record HoldsRun (image : Image) (l : Locator) (entries : List EntryValue) : 
   pub run : IsRun payload entries
 
 -- what is read of the chunk at a locator's place: its run, or that its payload is no run
-abbrev pub IsToldOf : Image → Locator → Option (List EntryValue) → RunState → Type 0
-IsToldOf image l (Some entries) Read = HoldsRun image l entries
-IsToldOf image l None NotARun = (entries : List EntryValue) → ¬ HoldsRun image l entries
-IsToldOf image l _ _ = ⊥
+abbrev pub IsStateOf : Image → Locator → Option (List EntryValue) → RunState → Type 0
+IsStateOf image l (Some entries) Read = HoldsRun image l entries
+IsStateOf image l None NotARun = (entries : List EntryValue) → ¬ HoldsRun image l entries
+IsStateOf image l _ _ = ⊥

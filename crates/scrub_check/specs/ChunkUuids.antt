@@ -6,7 +6,7 @@ use Rattle.std.specs.Ordering.{nat_cmp}
 use Rattle.std.specs.Cmp.Lexicographic.{slice_cmp}
 use Rattle.std.specs.List.{count_by}
 use Rattle.std.specs.List.Sorted.{IsPermutation}
-use Rattle.scrub_check.specs.declared.place.Place.{Place}
+use Rattle.scrub_check.specs.declared.lists.place.Place.{Place}
 
 -- the order of UUIDs, by their bytes
 abbrev pub uuid_cmp : List ℕ → List ℕ → Ordering

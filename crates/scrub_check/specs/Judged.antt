@@ -4,8 +4,8 @@ use Rattle.scrub_frame.specs.declared.form.Form.TheVariants.{Plain}
 use Rattle.scrub_frame.specs.declared.frame.Head.{Head}
 use Rattle.scrub_frame.specs.declared.locator.Locator.{Locator}
 use Rattle.scrub_scan.specs.declared.standing.Standing.{Standing}
-use Rattle.scrub_check.specs.declared.status.Status.{Status}
-use Rattle.scrub_check.specs.declared.status.Status.TheVariants.{NoFrame, WrongUuid, WrongLength, WrongDigest}
+use Rattle.scrub_check.specs.declared.statuses.status.Status.{Status}
+use Rattle.scrub_check.specs.declared.statuses.status.Status.TheVariants.{NoFrame, WrongUuid, WrongLength, WrongDigest}
 
 -- a frame of this UUID and this length isn't the one that the locator names, for the first reason that applies
 abbrev pub IsOther : Locator → List ℕ → ℕ → Status → Type 0
@@ -33,6 +33,6 @@ IsJudged l (Some s) agreeing status = IsMismatch l s status ⊎ (Agrees l s × (
 
 -- what a claim at the locator's place says without a hash: no frame if nothing is claimed, another frame if a plain one
 -- of another UUID or length is, and else the payload has to be read
-abbrev pub IsToldByClaim : Locator → Option Head → Option Status → Type 0
-IsToldByClaim l None told = told ≡ Some NoFrame
-IsToldByClaim l (Some h) told = MatchOption told (h.form ≡ Plain → (h.uuid ≡ l.uuid) × (h.length ≡ l.length)) (λ status. (h.form ≡ Plain) × IsOther l h.uuid h.length status)
+abbrev pub IsStatusByClaim : Locator → Option Head → Option Status → Type 0
+IsStatusByClaim l None known = known ≡ Some NoFrame
+IsStatusByClaim l (Some h) known = MatchOption known (h.form ≡ Plain → (h.uuid ≡ l.uuid) × (h.length ≡ l.length)) (λ status. (h.form ≡ Plain) × IsOther l h.uuid h.length status)

@@ -6,7 +6,7 @@ use Rattle.scrub_scan.specs.declared.item.Item.TheVariants.{Chunk}
 use Rattle.scrub_scan.specs.Item.{start_of, stop_of}
 use Rattle.scrub_scan.specs.Scanned.{Scanned}
 use Rattle.scrub_scan.specs.AllFindings.{entry_of}
-use Rattle.scrub_check.specs.declared.checked.Checked.{Checked}
+use Rattle.scrub_check.specs.declared.statuses.checked.Checked.{Checked}
 use Rattle.scrub_check.specs.Checked.{is_sound}
 
 -- the checked locator is sound and points to place p of extent e

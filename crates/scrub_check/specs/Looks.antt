@@ -8,11 +8,11 @@ use Rattle.scrub_frame.specs.Frame.{frame_overhead}
 use Rattle.scrub_scan.specs.declared.standing.Standing.{Standing}
 use Rattle.scrub_scan.specs.Extent.{Extent, extent_of, NoFrameAt, HasGap}
 use Rattle.scrub_scan.specs.Standing.{IsStandingAt, IsClaimedAt}
-use Rattle.scrub_check.specs.declared.sound_starts.Start.{Start}
-use Rattle.scrub_check.specs.declared.claims.Claim.{Claim}
-use Rattle.scrub_check.specs.declared.looks.Look.{Look}
-use Rattle.scrub_check.specs.declared.status.Status.{Status}
-use Rattle.scrub_check.specs.Judged.{IsToldByClaim}
+use Rattle.scrub_check.specs.declared.lists.sound_starts.Start.{Start}
+use Rattle.scrub_check.specs.declared.statuses.claims.Claim.{Claim}
+use Rattle.scrub_check.specs.declared.statuses.looks.Look.{Look}
+use Rattle.scrub_check.specs.declared.statuses.status.Status.{Status}
+use Rattle.scrub_check.specs.Judged.{IsStatusByClaim}
 use Rattle.scrub_check.specs.Status.{CanStand, BeginsAt, HasStatus, is_retired}
 
 -- where a locator points: an extent and a byte of it
@@ -49,8 +49,8 @@ pub record IsOpen (image : Image) (plan : PlanValue) (l : Locator) : Type 0 wher
 
 -- what items say of a locator whose frame would be where it can be read: its status, or that no item begins at its
 -- place
-abbrev pub IsToldByItems : Image → ℕ → Locator → Option Status → Type 0
-IsToldByItems image w l told = MatchOption told (¬ BeginsAt (extent_of image l.extent w) l.offset) (HasStatus image w l)
+abbrev pub IsStatusByItems : Image → ℕ → Locator → Option Status → Type 0
+IsStatusByItems image w l known = MatchOption known (¬ BeginsAt (extent_of image l.extent w) l.offset) (HasStatus image w l)
 
 -- the frame that is claimed at a place would end in its extent
 abbrev pub IsClaimedIn : Image → Start → Head → Type 0
@@ -76,9 +76,9 @@ AreReadableClaims image s None left = left ≡ None
 AreReadableClaims image s (Some h) left = MatchOption left (HasGap (byte image s.extent) s.offset (h.length + frame_overhead h.form)) (λ k. (k ≡ h) × ¬ HasGap (byte image s.extent) s.offset (h.length + frame_overhead h.form))
 
 -- one of these claims, which is at the locator's place, says its status
-pub record IsToldAmong (claims : List Claim) (l : Locator) : Type 0 where
+pub record IsKnownAmong (claims : List Claim) (l : Locator) : Type 0 where
   pub claim : Claim
   pub among : Contains claims claim
   pub there : claim.start ≡ start_named_by l
   pub status : Status
-  pub told : IsToldByClaim l claim.head (Some status)
+  pub known : IsStatusByClaim l claim.head (Some status)

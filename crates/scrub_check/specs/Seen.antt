@@ -1,7 +1,7 @@
 -- What was read at places.
 use Rattle.scrub_disk.specs.Image.{Image}
 use Rattle.scrub_super.specs.Plan.{PlanValue}
-use Rattle.scrub_check.specs.declared.seen.Seen.{Seen}
+use Rattle.scrub_check.specs.declared.statuses.seen.Seen.{Seen}
 use Rattle.scrub_check.specs.Looks.{AreLooks, AreClaims}
 
 -- claims and looks, each of which says what is claimed or what is at its place

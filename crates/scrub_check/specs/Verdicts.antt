@@ -4,8 +4,8 @@ use Rattle.std.specs.List.{filter}
 use Rattle.std.specs.List.Sorted.{IsPermutation}
 use Rattle.scrub_disk.specs.declared.geometry.Geometry.{Geometry}
 use Rattle.scrub_scan.specs.Scanned.{Scanned}
-use Rattle.scrub_check.specs.declared.checked.Checked.{Checked}
-use Rattle.scrub_check.specs.declared.verdicts.Verdicts.{Verdicts}
+use Rattle.scrub_check.specs.declared.statuses.checked.Checked.{Checked}
+use Rattle.scrub_check.specs.declared.lists.verdicts.Verdicts.{Verdicts}
 use Rattle.scrub_check.specs.Checked.{is_sound}
 use Rattle.scrub_check.specs.SoundStarts.{AreSoundStarts}
 use Rattle.scrub_check.specs.Candidates.{CandidateValue, reclaimable}

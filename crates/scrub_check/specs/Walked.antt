@@ -7,12 +7,12 @@ use Rattle.scrub_disk.specs.declared.geometry.Geometry.{Geometry}
 use Rattle.scrub_scan.specs.declared.item.Item.{Item}
 use Rattle.scrub_scan.specs.Item.{start_of}
 use Rattle.scrub_scan.specs.Scanned.{Scanned}
-use Rattle.scrub_check.specs.declared.checked.Checked.{Checked}
-use Rattle.scrub_check.specs.declared.cursor.Cursor.{Cursor}
-use Rattle.scrub_check.specs.declared.place.Place.{Place}
-use Rattle.scrub_check.specs.declared.sound_starts.Start.{Start}
-use Rattle.scrub_check.specs.declared.walked.LiveChunks.{LiveChunks}
-use Rattle.scrub_check.specs.declared.walked.Told.{Told}
+use Rattle.scrub_check.specs.declared.statuses.checked.Checked.{Checked}
+use Rattle.scrub_check.specs.declared.lists.cursor.Cursor.{Cursor}
+use Rattle.scrub_check.specs.declared.lists.place.Place.{Place}
+use Rattle.scrub_check.specs.declared.lists.sound_starts.Start.{Start}
+use Rattle.scrub_check.specs.declared.lists.walked.LiveChunks.{LiveChunks}
+use Rattle.scrub_check.specs.declared.lists.walked.Walked.{Walked}
 use Rattle.scrub_check.specs.Live.{size_of, live_chunks, live_bytes}
 use Rattle.scrub_check.specs.Chunks.{place_of, orphans}
 use Rattle.scrub_check.specs.SoundStarts.{start_cmp, is_live_by, is_named_by}
@@ -57,7 +57,7 @@ pub record AreLiveChunks (checked : List Checked) (f : Scanned) (l : LiveChunks)
   pub begins : l.starts.items ≡ map start_of (live_chunks checked f)
 
 -- the live bytes of some extents, their orphans, and, if the sizes are given, which of them may be reclaimed
-pub record AreToldOf (g : Option Geometry) (checked : List Checked) (extents : List Scanned) (t : Told) : Type 0 where
+pub record AreWalkedOf (g : Option Geometry) (checked : List Checked) (extents : List Scanned) (t : Walked) : Type 0 where
   pub sizes : t.live.items ≡ map (live_bytes checked) extents
   pub garbage : t.orphans.items ≡ orphans extents checked
   pub candidates : t.reclaimable.items ≡ reclaimable_by g extents checked

@@ -4,7 +4,7 @@ use Rattle.std.proofs.lemmas.List.{take-append-drop}
 use Rattle.std.proofs.Math.Seq.{take-append_seam, take-append-add}
 use Rattle.std.specs.Io.KnownBytes.{Appends}
 use Rattle.scrub_report.proofs.Appending.{appends_twice}
-use Rattle.scrub_report.specs.Writing.{AppendsFront}
+use Rattle.scrub_report.specs.Output.{AppendsFront}
 
 -- a front of the first part is one of both
 pub front_stays : (old new : Option (List ℕ)) (first second : List ℕ) → AppendsFront old new first → AppendsFront old new (first ++ second)

@@ -32,17 +32,17 @@ run_size e payload one is =
 -- a record of two pointers and one run, which lists no retired extents
 pub record_size : (g : Geometry) (n : ℕ) (ps : List ℕ) (rs : List Locator) (c : Contents) (bytes before : List ℕ) → c ≡ record { generation = n; pointers = ps; retired = None; runs = rs } →
     bytes ≡ before ++ record_bytes g c → before ≡ [] → length ps ≡ 2 → length rs ≡ 1 → AreContents g c → length bytes ≡ 126
-record_size g n ps rs c bytes before told written none two one is =
+record_size g n ps rs c bytes before same written none two one is =
     omega (arith, ap length written, length-append before (record_bytes g c), ap length none, length-append (record_body g c) (sha256 (record_body g c)), length-sha256 (record_body g c), body)
   where
     pointers : length (flat_map (big_bytes 4) ps) ≡ 8
     pointers = omega (arith, length-flat_map_of (big_bytes 4) 4 ps (λ k d hk. refl), two)
 
     runs : length (flat_map locator_bytes rs) ≡ 60
-    runs = omega (arith, length-locators rs (subst (λ (x : Contents). All IsLocator x.runs) told is.runs.each), one)
+    runs = omega (arith, length-locators rs (subst (λ (x : Contents). All IsLocator x.runs) same is.runs.each), one)
 
     parts : length (record_body g (record { generation = n; pointers = ps; retired = None; runs = rs })) ≡ 94
     parts = omega (arith, length-append (flat_map (big_bytes 4) ps) (flat_map locator_bytes rs), pointers, runs)
 
     body : length (record_body g c) ≡ 94
-    body = ap (λ (x : Contents). length (record_body g x)) told ∙ parts
+    body = ap (λ (x : Contents). length (record_body g x)) same ∙ parts

@@ -7,8 +7,8 @@ use Rattle.scrub_disk.specs.declared.loading.LoadFault.TheVariants.{TooLong as t
 use Rattle.scrub_disk.specs.Image.{Image, disk_bytes}
 use Rattle.scrub_disk.specs.Raw.{IsLoadedWith}
 use Rattle.scrub_disk.proofs.LostPages.{loaded_with_more}
-use Rattle.scrub_cli.specs.declared.fault.Fault.{Fault}
-use Rattle.scrub_cli.specs.declared.fault.Fault.TheVariants.{NotUtf8, Help, Words, Geometry, Extent, Pointer, BadPage, NoMap, MapLine, NoImage, TooLong, Output, OutOfMemory}
+use Rattle.scrub_cli.specs.declared.process.fault.Fault.{Fault}
+use Rattle.scrub_cli.specs.declared.process.fault.Fault.TheVariants.{NotUtf8, Help, Words, Geometry, Extent, Pointer, BadPage, NoMap, MapLine, NoImage, TooLong, Output, OutOfMemory}
 use Rattle.scrub_cli.specs.declared.words.ImageWords.{ImageWords}
 use Rattle.scrub_cli.specs.DiskImage.{AreReadBefore, IsBadPageFault, IsDiskFault, NamePages}
 use Rattle.scrub_cli.specs.Fault.{fault_of_load}
@@ -73,10 +73,10 @@ of_disk_fault Holds known maps words g bad unopened line none long memory OutOfM
 
 pub load_fault : (known : KnownRaw) (maps : KnownMaps) (was : Option (List ℕ)) (words : ImageWords) (g : Sizes) (fault : LoadFault) →
     AreReadBefore maps words g → was ≡ known.bytes →
-    (fault ≡ too_long → IfSome was (λ told. disk_bytes g < length told)) → IsDiskFault known maps words g (fault_of_load fault)
+    (fault ≡ too_long → IfSome was (λ bytes. disk_bytes g < length bytes)) → IsDiskFault known maps words g (fault_of_load fault)
 load_fault known maps was words g no_memory_to_load before same longer = tt
 load_fault known maps was words g too_long before same longer =
-    (before, subst (λ r. IfSome r (λ told. disk_bytes g < length told)) same (longer (λ i. too_long)))
+    (before, subst (λ r. IfSome r (λ bytes. disk_bytes g < length bytes)) same (longer (λ i. too_long)))
 
 -- what was loaded while no more reads failed than the image's bound lets fail
 pub loaded_as_known : (known : KnownRaw) (was : Option (List ℕ)) (g : Sizes) (pages : List (ℕ × ℕ)) (image : Image) (before after most most_before : ℕ) →

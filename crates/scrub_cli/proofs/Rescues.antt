@@ -8,7 +8,7 @@ use Rattle.scrub_map.specs.declared.map.RescueMap.{RescueMap}
 use Rattle.scrub_map.specs.Kept.{KeepsBlocks}
 use Rattle.scrub_map.specs.Rescued.{AreLostBlocks}
 use Rattle.scrub_cli.specs.Rescue.{KeepsMap, LosesByMap, LosesMarked, LosesPages}
-use Rattle.scrub_cli.specs.SizesTold.{AreMarksOf}
+use Rattle.scrub_cli.specs.SizesListed.{AreMarksOf}
 
 -- marks that say which blocks of a page's size are lost
 pub loses_pages : (marks lost : List Bool) (blocks : List MapBlock) (before image : Image) (size count : ℕ) → marks ≡ lost → size ≡ before.geometry.page →

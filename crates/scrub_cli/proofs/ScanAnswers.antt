@@ -1,7 +1,7 @@
 -- Why `scan`, `index` and `locators` tell nothing, from what their parts give.
 use Rattle.scrub_disk.specs.declared.geometry.Geometry.{Geometry as Sizes}
 use Rattle.scrub_disk.specs.Faults.{HasSizes}
-use Rattle.scrub_cli.specs.declared.fault.Fault.{Fault}
+use Rattle.scrub_cli.specs.declared.process.fault.Fault.{Fault}
 use Rattle.scrub_cli.specs.declared.words.ImageWords.{ImageWords}
 use Rattle.scrub_cli.specs.DiskImage.{IsDiskFault}
 use Rattle.scrub_cli.specs.Known.{KnownMaps, KnownRaw}

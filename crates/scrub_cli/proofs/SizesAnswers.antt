@@ -1,11 +1,11 @@
 -- What `sizes` tells, and why it doesn't, from what its parts give.
 use Rattle.std.proofs.Common.{◌≡◌, ℕ, List, Bool, Option}
-use Rattle.scrub_cli.specs.declared.fault.Fault.{Fault}
-use Rattle.scrub_cli.specs.declared.fault.Fault.TheVariants.{NotUtf8, Help, Words, Geometry, Extent, Pointer, BadPage, NoMap, MapLine, NoImage, TooLong, Output, OutOfMemory}
+use Rattle.scrub_cli.specs.declared.process.fault.Fault.{Fault}
+use Rattle.scrub_cli.specs.declared.process.fault.Fault.TheVariants.{NotUtf8, Help, Words, Geometry, Extent, Pointer, BadPage, NoMap, MapLine, NoImage, TooLong, Output, OutOfMemory}
 use Rattle.scrub_cli.specs.declared.words.SizesWords.{SizesWords}
 use Rattle.scrub_cli.specs.Known.{KnownMaps, KnownRaw}
 use Rattle.scrub_cli.specs.Rescue.{IsMapFault}
-use Rattle.scrub_cli.specs.SizesTold.{AreSizesTold, IsSizesFault}
+use Rattle.scrub_cli.specs.SizesListed.{AreSizesListed, IsSizesFault}
 
 -- a fault of the map is one of `sizes`
 pub map_fault_of_sizes : (maps : KnownMaps) (words : SizesWords) (fault : Fault) → IsMapFault maps words.map fault → IsSizesFault maps words fault
@@ -24,13 +24,13 @@ map_fault_of_sizes maps words (Output written) is = absurd is
 map_fault_of_sizes maps words OutOfMemory is = tt
 
 -- what is told of the image that was opened is told of what is known of it
-pub told_as_known : (known : KnownRaw) (bytes : Option (List ℕ)) (most : ℕ) (marks : List Bool) (text : List ℕ) (status : ℕ) →
+pub listed_as_known : (known : KnownRaw) (bytes : Option (List ℕ)) (most : ℕ) (marks : List Bool) (text : List ℕ) (status : ℕ) →
     bytes ≡ known.bytes → most ≡ known.most_failures →
-    AreSizesTold (record { bytes = bytes; most_failures = most }) marks text status → AreSizesTold known marks text status
-told_as_known known bytes most marks text status same bound told = record {
-  failures = told.failures;
-  few = rw (← bound) told.few;
-  is_clean = told.is_clean;
-  listed = rw (← same) told.listed;
-  ended = told.ended;
+    AreSizesListed (record { bytes = bytes; most_failures = most }) marks text status → AreSizesListed known marks text status
+listed_as_known known bytes most marks text status same bound listed = record {
+  failures = listed.failures;
+  few = rw (← bound) listed.few;
+  is_clean = listed.is_clean;
+  listed = rw (← same) listed.listed;
+  ended = listed.ended;
 }

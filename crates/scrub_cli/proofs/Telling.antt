@@ -2,7 +2,7 @@
 use Rattle.std.proofs.Common.{◌≡◌, ℕ, List, [], ◌∷◌, ◌++◌, OnOk, Option, Result, codes, ap, subst, sym, ◌∙◌, append_assoc}
 use Rattle.std.specs.Io.KnownBytes.{Appends}
 use Rattle.scrub_cli.specs.Fault.{line}
-use Rattle.scrub_report.specs.Writing.{AppendsFront}
+use Rattle.scrub_report.specs.Output.{AppendsFront}
 use Rattle.scrub_cli.proofs.Appending.{front_stays, front_then, ok_then}
 
 abbrev before : List ℕ

@@ -11,7 +11,7 @@ use Rattle.scrub_run.specs.declared.shard_id.ShardId.{ShardId}
 use Rattle.scrub_run.specs.Run.{run_bytes}
 use Rattle.scrub_super.specs.Contents.{Contents}
 use Rattle.scrub_super.specs.Record.{record_bytes}
-use Rattle.scrub_cli.specs.declared.answer.Wanted.TheVariants.{Report}
+use Rattle.scrub_cli.specs.declared.commands.answer.Wanted.TheVariants.{Report}
 use Rattle.scrub_cli.specs.Scan.{IsDiskAnswer}
 
 -- the UUID of the demo's chunk: sixteen bytes 11 hexadecimal
@@ -58,4 +58,4 @@ pub record IsDemoDisk (image : Image) : Type 0 where
 pub record IsDemoAnswer (text : List ℕ) (status : ℕ) : Type 0 where
   pub image : Image
   pub disk : IsDemoDisk image
-  pub told : IsDiskAnswer Report image text status
+  pub answer : IsDiskAnswer Report image text status

@@ -7,8 +7,8 @@ use Rattle.scrub_disk.specs.declared.geometry.Geometry.{Geometry as Sizes}
 use Rattle.scrub_disk.specs.Image.{Image, disk_bytes}
 use Rattle.scrub_disk.specs.Raw.{IsLoadedWith}
 use Rattle.scrub_map.specs.declared.block.MapBlock.{MapBlock}
-use Rattle.scrub_cli.specs.declared.fault.Fault.{Fault}
-use Rattle.scrub_cli.specs.declared.fault.Fault.TheVariants.{BadPage, NoMap, MapLine, NoImage, TooLong, OutOfMemory}
+use Rattle.scrub_cli.specs.declared.process.fault.Fault.{Fault}
+use Rattle.scrub_cli.specs.declared.process.fault.Fault.TheVariants.{BadPage, NoMap, MapLine, NoImage, TooLong, OutOfMemory}
 use Rattle.scrub_cli.specs.declared.words.ImageWords.{ImageWords}
 use Rattle.scrub_cli.specs.Known.{KnownMaps, KnownRaw}
 use Rattle.scrub_cli.specs.Pair.{IsPair}
@@ -67,5 +67,5 @@ abbrev pub IsDiskFault : KnownRaw → KnownMaps → ImageWords → Sizes → Fau
 IsDiskFault known maps words g (NoMap name) = IsMapFaultBehind maps words g (NoMap name)
 IsDiskFault known maps words g (MapLine k) = IsMapFaultBehind maps words g (MapLine k)
 IsDiskFault known maps words g (NoImage name) = AreReadBefore maps words g × (name ≡ words.name)
-IsDiskFault known maps words g TooLong = AreReadBefore maps words g × IfSome known.bytes (λ told. disk_bytes g < length told)
+IsDiskFault known maps words g TooLong = AreReadBefore maps words g × IfSome known.bytes (λ bytes. disk_bytes g < length bytes)
 IsDiskFault known maps words g fault = IsBadPageFault g words.bad_pages.items fault

@@ -8,10 +8,10 @@ use Rattle.scrub_map.specs.declared.reading.MapFault.{MapFault}
 use Rattle.scrub_map.specs.declared.reading.MapFault.TheVariants.{Line, OutOfMemory as no_memory_for_map}
 use Rattle.scrub_cli.specs.declared.words.WordsFault.{WordsFault}
 use Rattle.scrub_cli.specs.declared.words.WordsFault.TheVariants.{Refused, Help as help, OutOfMemory as no_memory_to_read}
-use Rattle.scrub_cli.specs.declared.fault.Fault.{Fault}
-use Rattle.scrub_cli.specs.declared.fault.Fault.TheVariants.{NotUtf8, Help, Words, Geometry, Extent, Pointer, BadPage, NoMap, MapLine, NoImage, TooLong, Output, OutOfMemory}
-use Rattle.scrub_report.specs.Writing.{AppendsFront}
-use Rattle.scrub_cli.specs.Writing.{Held}
+use Rattle.scrub_cli.specs.declared.process.fault.Fault.{Fault}
+use Rattle.scrub_cli.specs.declared.process.fault.Fault.TheVariants.{NotUtf8, Help, Words, Geometry, Extent, Pointer, BadPage, NoMap, MapLine, NoImage, TooLong, Output, OutOfMemory}
+use Rattle.scrub_report.specs.Output.{AppendsFront}
+use Rattle.scrub_cli.specs.Streams.{Held}
 
 -- the fault of the program for a fault of loading
 abbrev pub fault_of_load : LoadFault → Fault
@@ -48,7 +48,7 @@ status_of OutOfMemory = 4
 
 -- a line of the program's own, with its line feed
 abbrev pub line : List ℕ → List ℕ
-line told = codes "shardscrub: " ++ told ++ 10 ∷ []
+line text = codes "shardscrub: " ++ text ++ 10 ∷ []
 
 -- the text of a fault on the error stream, with its line feed; a text of `clap` has its own
 abbrev pub text_of : Fault → List ℕ
@@ -72,6 +72,6 @@ text_of OutOfMemory = line (codes "out of memory")
 
 -- the run ended with the fault's status, and its error stream got the fault's text, or the beginning of it if that
 -- stream failed
-pub record IsTold (fault : Fault) (ended : ℕ) (err : Held) : Type 0 where
+pub record IsReported (fault : Fault) (ended : ℕ) (err : Held) : Type 0 where
   pub status : ended ≡ status_of fault
   pub text : AppendsFront err.0 err.1 (text_of fault)

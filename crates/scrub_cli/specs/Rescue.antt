@@ -8,18 +8,18 @@ use Rattle.scrub_map.specs.Map.{IsFirstBadLine, IsMap}
 use Rattle.scrub_map.specs.declared.map.RescueMap.{RescueMap}
 use Rattle.scrub_map.specs.Kept.{KeepsBlocks}
 use Rattle.scrub_map.specs.Rescued.{IsLostBlock}
-use Rattle.scrub_cli.specs.declared.fault.Fault.{Fault}
-use Rattle.scrub_cli.specs.declared.fault.Fault.TheVariants.{NoMap, MapLine, OutOfMemory}
+use Rattle.scrub_cli.specs.declared.process.fault.Fault.{Fault}
+use Rattle.scrub_cli.specs.declared.process.fault.Fault.TheVariants.{NoMap, MapLine, OutOfMemory}
 use Rattle.scrub_cli.specs.Known.{KnownMaps}
 
 -- the text is that of a map of which this is known: this one, or any if nothing is
 abbrev pub IsTextOf : Option (List ℕ) → List ℕ → Type 0
-IsTextOf told text = IfSome told (λ bytes. text ≡ bytes)
+IsTextOf known text = IfSome known (λ bytes. text ≡ bytes)
 
 -- the blocks of a map of which this is known
-pub record HasBlocks (told : Option (List ℕ)) (blocks : List MapBlock) : Type 0 where
+pub record HasBlocks (known_text : Option (List ℕ)) (blocks : List MapBlock) : Type 0 where
   pub text : List ℕ
-  pub known : IsTextOf told text
+  pub known : IsTextOf known_text text
   pub read : IsMap text blocks
 
 -- the blocks of the map that is named, and None if none is

@@ -9,10 +9,10 @@ use Rattle.scrub_report.specs.Locators.{AreLocatorLines}
 use Rattle.scrub_report.specs.declared.doubts.Accepted.{Accepted}
 use Rattle.scrub_report.specs.Reclaimable.{AreReclaimLines, IsClear}
 use Rattle.scrub_report.specs.Report.{IsReport}
-use Rattle.scrub_cli.specs.declared.answer.Wanted.{Wanted}
-use Rattle.scrub_cli.specs.declared.answer.Wanted.TheVariants.{Report, Index, Locators, Reclaimable}
-use Rattle.scrub_cli.specs.declared.fault.Fault.{Fault}
-use Rattle.scrub_cli.specs.declared.fault.Fault.TheVariants.{Geometry, OutOfMemory}
+use Rattle.scrub_cli.specs.declared.commands.answer.Wanted.{Wanted}
+use Rattle.scrub_cli.specs.declared.commands.answer.Wanted.TheVariants.{Report, Index, Locators, Reclaimable}
+use Rattle.scrub_cli.specs.declared.process.fault.Fault.{Fault}
+use Rattle.scrub_cli.specs.declared.process.fault.Fault.TheVariants.{Geometry, OutOfMemory}
 use Rattle.scrub_cli.specs.declared.words.ImageWords.{ImageWords}
 use Rattle.scrub_cli.specs.DiskImage.{IsLoadedDisk, IsDiskFault}
 use Rattle.scrub_cli.specs.Known.{KnownMaps, KnownRaw}
@@ -22,13 +22,13 @@ use Rattle.scrub_report.specs.Scrubbed.{IsCleanImage}
 -- the status of an image: 0 if it is clean, and 1 if it isn't
 pub record IsStatusOfImage (image : Image) (status : ℕ) : Type 0 where
   pub is_clean : Bool
-  pub told : IsCleanImage image is_clean
+  pub verdict : IsCleanImage image is_clean
   pub ended : status ≡ status_of_clean is_clean
 
 -- the status of the doubts of an image: 0 if each is accepted, and 1 if one isn't
 pub record IsStatusOfDoubts (image : Image) (accepted : Accepted) (status : ℕ) : Type 0 where
   pub is_clear : Bool
-  pub told : IsClear image accepted is_clear
+  pub verdict : IsClear image accepted is_clear
   pub ended : status ≡ status_of_clean is_clear
 
 -- the text is what is wanted of the image: its report, its index, the lines of its named locators, or those of what may

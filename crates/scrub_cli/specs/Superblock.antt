@@ -8,7 +8,7 @@ use Rattle.scrub_cli.specs.Lines.{status_of_clean}
 use Rattle.scrub_cli.specs.Scan.{IsDiskOf}
 
 -- the lines of the superblocks of an image, and status 0 if they are in good order, and else 1
-pub record AreSuperblocksTold (image : Image) (text : List ℕ) (status : ℕ) : Type 0 where
+pub record AreSuperblocksListed (image : Image) (text : List ℕ) (status : ℕ) : Type 0 where
   pub lines : AreSuperblockLines image text
   pub is_clean : Bool
   pub clean : AreCleanSuperblocks image is_clean
@@ -18,4 +18,4 @@ pub record AreSuperblocksTold (image : Image) (text : List ℕ) (status : ℕ) :
 pub record IsSuperblocksAnswer (known : KnownRaw) (maps : KnownMaps) (words : ImageWords) (text : List ℕ) (status : ℕ) : Type 0 where
   pub image : Image
   pub disk : IsDiskOf known maps words image
-  pub answered : AreSuperblocksTold image text status
+  pub answered : AreSuperblocksListed image text status

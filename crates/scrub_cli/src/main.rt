@@ -7,27 +7,13 @@ ghost use Rattle.std.specs.Process.{exit_status};
 ghost use Rattle.scrub_cli.specs.Answer.{RunWrites, WritesNone};
 ghost use Rattle.scrub_cli.specs.Known.{file, map_file};
 
-mod accepting;
-mod answer;
-mod command;
-mod demo;
-mod disk_image;
-#[cfg(test)]
-mod fakes;
-mod fault;
-mod files;
-mod images;
-mod items;
-mod pair;
-mod rescue;
+mod commands;
+mod process;
 mod running;
-mod scan;
-mod sizes;
 mod words;
-mod writing;
 
-use crate::fault::Fault;
-use crate::files::NamedFiles;
+use crate::process::fault::Fault;
+use crate::process::files::NamedFiles;
 use crate::running::run;
 use scrub_disk::OutOfMemory;
 use std::env::Env;

@@ -8,17 +8,17 @@ use Rattle.std.specs.Bool.{OnFalse}
 use Rattle.std.proofs.lemmas.Bool.{false≢true}
 use Rattle.scrub_disk.specs.Image.{Image, HasWholePages, disk_bytes}
 use Rattle.scrub_disk.specs.Held.{held}
-use Rattle.scrub_disk.specs.Raw.{IsPageAt, HoldsRaw, LosesOnly, HoldsTold, IsLoadedWith}
+use Rattle.scrub_disk.specs.Raw.{IsPageAt, HoldsRaw, LosesOnly, HoldsKnown, IsLoadedWith}
 use Rattle.scrub_disk.specs.Marked.{MarksAll, MarksOnly}
 
 -- a page that is whole at its place isn't cut
-uncut : (told : List ℕ) (place size : ℕ) (page : Option (List ℕ)) → 0 < size → length told < place + size →
-    IfSome page (IsPageAt told place size) → page ≡ None
-uncut told place size None some cut at = refl
-uncut told place size (Some bytes) some cut at =
+uncut : (known : List ℕ) (place size : ℕ) (page : Option (List ℕ)) → 0 < size → length known < place + size →
+    IfSome page (IsPageAt known place size) → page ≡ None
+uncut known place size None some cut at = refl
+uncut known place size (Some bytes) some cut at =
     let last : size - 1 < length bytes = omega (arith, at.whole, some) in
-    let within : place + (size - 1) < length told =
-    slice_get_within told (place + (size - 1)) (get_or bytes (size - 1) 0) (at.stands (size - 1) last) in
+    let within : place + (size - 1) < length known =
+    slice_get_within known (place + (size - 1)) (get_or bytes (size - 1) 0) (at.stands (size - 1) last) in
     absurd (omega (arith, within, cut, some))
 
 -- a page is unreadable only where its number is marked
@@ -27,12 +27,12 @@ marked_at true page e = refl
 marked_at false page e = absurd (none-some page (sym e))
 
 -- a disk whose unmarked pages are the raw ones, and whose marks are few, has lost few pages
-loses_only : (g : Geometry) (told bytes : List ℕ) (marks : List Bool) (failures : ℕ) →
-    MarksOnly told g.page (g.pages * g.extents) failures marks → HoldsRaw told (held g bytes marks) →
-    LosesOnly told g [] failures (held g bytes marks)
-loses_only g told bytes marks failures m holds = record {
+loses_only : (g : Geometry) (known bytes : List ℕ) (marks : List Bool) (failures : ℕ) →
+    MarksOnly known g.page (g.pages * g.extents) failures marks → HoldsRaw known (held g bytes marks) →
+    LosesOnly known g [] failures (held g bytes marks)
+loses_only g known bytes marks failures m holds = record {
   cut = λ e p he hp cut.
-      uncut told ((e * g.pages + p) * g.page) g.page ((held g bytes marks).page e p) (omega (arith, g.page_size.least))
+      uncut known ((e * g.pages + p) * g.page) g.page ((held g bytes marks).page e p) (omega (arith, g.page_size.least))
       cut (holds e p he hp);
   failed = m.failed;
   few = m.few;
@@ -48,18 +48,18 @@ loses_only g told bytes marks failures m holds = record {
 -- the same of a disk that was loaded, where the raw image may not tell its bytes
 pub loses_loaded : (g : Geometry) (raw : Option (List ℕ)) (bytes : List ℕ) (marks : List Bool) (page count failures : ℕ) (image : Image) →
     image ≡ held g bytes marks → page ≡ g.page → count ≡ g.pages * g.extents →
-    IfSome raw (λ told. HoldsRaw told image) → IfSome raw (λ told. MarksOnly told page count failures marks) →
-    IfSome raw (λ told. LosesOnly told g [] failures image)
+    IfSome raw (λ known. HoldsRaw known image) → IfSome raw (λ known. MarksOnly known page count failures marks) →
+    IfSome raw (λ known. LosesOnly known g [] failures image)
 loses_loaded g None bytes marks page count failures image is same all holds m = tt
-loses_loaded g (Some told) bytes marks page count failures image is same all holds m =
+loses_loaded g (Some known) bytes marks page count failures image is same all holds m =
     rw is
-    (loses_only g told bytes marks failures (rw (← all) (rw same at m)) (rw is at holds))
+    (loses_only g known bytes marks failures (rw (← all) (rw same at m)) (rw is at holds))
 
 -- pages that are named are lost too, and no more
-loses_marked : (told : List ℕ) (g : Geometry) (named : List (ℕ × ℕ)) (before after : ℕ) (old new : Image) →
+loses_marked : (known : List ℕ) (g : Geometry) (named : List (ℕ × ℕ)) (before after : ℕ) (old new : Image) →
     old.geometry ≡ g → before ≤ after →
-    LosesOnly told g [] before old → MarksAll old new named → LosesOnly told g named after new
-loses_marked told g named before after old new is le l m = record {
+    LosesOnly known g [] before old → MarksAll old new named → LosesOnly known g named after new
+loses_marked known g named before after old new is le l m = record {
   cut = λ e p he hp cut. elim (changed e p he hp) [ inl same ↦ same ∙ l.cut e p he hp cut | inr gone ↦ gone.0 ];
   failed = l.failed;
   few = omega (arith, l.few, le);
@@ -77,9 +77,9 @@ loses_marked told g named before after old new is le l m = record {
     changed e p he hp = m.others e p (rw is he) (rw is hp)
 
 -- marks take no bytes away from pages that stay readable
-holds_marked : (told : List ℕ) (named : List (ℕ × ℕ)) (old new : Image) → HoldsRaw told old → MarksAll old new named →
-    HoldsRaw told new
-holds_marked told named old new h m e q he hq =
+holds_marked : (known : List ℕ) (named : List (ℕ × ℕ)) (old new : Image) → HoldsRaw known old → MarksAll old new named →
+    HoldsRaw known new
+holds_marked known named old new h m e q he hq =
     let he' : e < old.geometry.extents = rw m.geometry at he in
     let hq' : q < old.geometry.pages = rw m.geometry at hq in
     elim (m.others e q he' hq') [
@@ -94,28 +94,28 @@ holds_marked told named old new h m e q he hq =
 pub loaded_with : (raw was : Option (List ℕ)) (g : Geometry) (named : List (ℕ × ℕ)) (first before after end : ℕ) (there : Bool) (old new : Image) →
     was ≡ raw → end ≡ disk_bytes g → there ≡ false → old.geometry ≡ g → first ≤ before → before ≤ after →
     HasWholePages new →
-    IfSome raw (λ told. HoldsRaw told old) → IfSome raw (λ told. LosesOnly told g [] (before - first) old) →
-    IfSome was (λ told. OnFalse there ((length told ≤ end) ⊎ (before < after))) → MarksAll old new named →
+    IfSome raw (λ known. HoldsRaw known old) → IfSome raw (λ known. LosesOnly known g [] (before - first) old) →
+    IfSome was (λ known. OnFalse there ((length known ≤ end) ⊎ (before < after))) → MarksAll old new named →
     IsLoadedWith raw (after - first) g named new
 loaded_with raw was g named first before after end there old new same at absent is least le whole holds lost short m = record {
   geometry = m.geometry ∙ is;
   whole = whole;
   unreadable = m.marked;
-  told = of_told raw holds lost (rw same at short);
+  known = of_known raw holds lost (rw same at short);
 }
   where
     not_found : (b : Bool) {P : Type 0} → b ≡ false → OnFalse b P → P
     not_found false e p = p
     not_found true e p = absurd (false≢true (sym e))
 
-    of_told : (r : Option (List ℕ)) → IfSome r (λ told. HoldsRaw told old) →
-        IfSome r (λ told. LosesOnly told g [] (before - first) old) →
-        IfSome r (λ told. OnFalse there ((length told ≤ end) ⊎ (before < after))) →
-        IfSome r (λ told. HoldsTold told (after - first) g named new)
-    of_told None holds lost short = tt
-    of_told (Some told) holds lost short = record {
-      pages = holds_marked told named old new holds m;
-      lost = loses_marked told g named (before - first) (after - first) old new is (omega (arith, le)) lost m;
+    of_known : (r : Option (List ℕ)) → IfSome r (λ known. HoldsRaw known old) →
+        IfSome r (λ known. LosesOnly known g [] (before - first) old) →
+        IfSome r (λ known. OnFalse there ((length known ≤ end) ⊎ (before < after))) →
+        IfSome r (λ known. HoldsKnown known (after - first) g named new)
+    of_known None holds lost short = tt
+    of_known (Some known) holds lost short = record {
+      pages = holds_marked known named old new holds m;
+      lost = loses_marked known g named (before - first) (after - first) old new is (omega (arith, le)) lost m;
       not_too_long = λ none. elim (not_found there absent short) [
         | inl fits ↦ omega (arith, fits, at)
         | inr more ↦ absurd (omega (arith, none, more, least))
@@ -130,13 +130,13 @@ loaded_with_more raw few many g named image le l = record {
   geometry = l.geometry;
   whole = l.whole;
   unreadable = l.unreadable;
-  told = of_told raw l.told;
+  known = of_known raw l.known;
 }
   where
-    of_told : (r : Option (List ℕ)) → IfSome r (λ told. HoldsTold told few g named image) →
-        IfSome r (λ told. HoldsTold told many g named image)
-    of_told None t = tt
-    of_told (Some told) t = record {
+    of_known : (r : Option (List ℕ)) → IfSome r (λ known. HoldsKnown known few g named image) →
+        IfSome r (λ known. HoldsKnown known many g named image)
+    of_known None t = tt
+    of_known (Some known) t = record {
       pages = t.pages;
       lost = record {
         cut = t.lost.cut;

@@ -46,20 +46,20 @@ pub read_more : (raw was : Option (List ℕ)) (offset done n : ℕ) (out piece :
     ReadSoFar raw offset (done + n) (put_mid done (length out - done) out piece)
 read_more None was offset done n out piece e within l before read = tt
 read_more (Some bytes) was offset done n out piece e within l before read =
-    let told : IsRead (Some bytes) (offset + done) piece n = rw e at read in
-    stands_more bytes offset done n out piece within l told.within before told.told
+    let known : IsRead (Some bytes) (offset + done) piece n = rw e at read in
+    stands_more bytes offset done n out piece within l known.within before known.known
 
 -- the bytes below page n stand at their places, where their pages aren't marked
 abbrev pub HeldBelow : List ℕ → ℕ → ℕ → List Bool → List ℕ → Type 0
-HeldBelow told page n marks bytes =
-    (i : ℕ) → i < n * page → get_or marks (i / page) true ≡ false → slice_get told i ≡ Some (get_or bytes i 0)
+HeldBelow known page n marks bytes =
+    (i : ℕ) → i < n * page → get_or marks (i / page) true ≡ false → slice_get known i ≡ Some (get_or bytes i 0)
 
 -- one more page was read at its place, and marked where it isn't whole
-held_more : (told : List ℕ) (page n : ℕ) (marks : List Bool) (bytes piece : List ℕ) (whole : Bool) → 0 < page →
+held_more : (known : List ℕ) (page n : ℕ) (marks : List Bool) (bytes piece : List ℕ) (whole : Bool) → 0 < page →
     n < length marks → n * page + page ≤ length bytes → length piece ≡ page →
-    HeldBelow told page n marks bytes → OnTrue whole (AreBytesAt (slice_get told) (n * page) piece) →
-    HeldBelow told page (n + 1) (set marks n (not whole)) (put_mid (n * page) page bytes piece)
-held_more told page n marks bytes piece whole pos below fits l before read i hi unmarked = elim (cases_lt i (n * page)) [
+    HeldBelow known page n marks bytes → OnTrue whole (AreBytesAt (slice_get known) (n * page) piece) →
+    HeldBelow known page (n + 1) (set marks n (not whole)) (put_mid (n * page) page bytes piece)
+held_more known page n marks bytes piece whole pos below fits l before read i hi unmarked = elim (cases_lt i (n * page)) [
   | inl less ↦
       let q : i / page < n = div_below i page n pos (omega (arith, less)) in
       let ne : i / page ≢ n = omega (arith, q) in
@@ -72,8 +72,8 @@ held_more told page n marks bytes piece whole pos below fits l before read i hi 
       let is_whole : whole ≡ true =
       not_false whole
       (sym (get_or-set_same marks n (not whole) true below) ∙ ap (λ m. get_or (set marks n (not whole)) m true) (sym q) ∙ unmarked) in
-      let text : AreBytesAt (slice_get told) (n * page) piece = given whole is_whole read in
-      ap (slice_get told) (sym k) ∙ text (i - n * page) (omega (arith, small, l))
+      let text : AreBytesAt (slice_get known) (n * page) piece = given whole is_whole read in
+      ap (slice_get known) (sym k) ∙ text (i - n * page) (omega (arith, small, l))
       ∙ ap Some
       (sym (put_within bytes piece (n * page) page (i - n * page) (sym l) fits small) ∙ ap (λ m. get_or (put_mid (n * page) page bytes piece) m 0) k)
 ]
@@ -89,20 +89,20 @@ held_more told page n marks bytes piece whole pos below fits l before read i hi 
 -- the same where the raw image may not tell its bytes
 pub pages_more : (raw was : Option (List ℕ)) (page n size : ℕ) (marks : List Bool) (bytes piece : List ℕ) (whole : Bool) →
     was ≡ raw → size ≡ page → 0 < page → n < length marks → n * page + page ≤ length bytes → length piece ≡ page →
-    IfSome raw (λ told. HeldBelow told page n marks bytes) →
-    IfSome was (λ told. OnTrue whole (AreBytesAt (slice_get told) (n * page) piece)) →
-    IfSome raw (λ told. HeldBelow told page (n + 1) (set marks n (not whole)) (put_mid (n * page) size bytes piece))
+    IfSome raw (λ known. HeldBelow known page n marks bytes) →
+    IfSome was (λ known. OnTrue whole (AreBytesAt (slice_get known) (n * page) piece)) →
+    IfSome raw (λ known. HeldBelow known page (n + 1) (set marks n (not whole)) (put_mid (n * page) size bytes piece))
 pages_more None was page n size marks bytes piece whole e same pos below fits l before read = tt
-pages_more (Some told) was page n size marks bytes piece whole e same pos below fits l before read =
-    let here : IfSome (Some told) (λ t. OnTrue whole (AreBytesAt (slice_get t) (n * page) piece)) = rw e at read in
-    rw same (held_more told page n marks bytes piece whole pos below fits l before here)
+pages_more (Some known) was page n size marks bytes piece whole e same pos below fits l before read =
+    let here : IfSome (Some known) (λ t. OnTrue whole (AreBytesAt (slice_get t) (n * page) piece)) = rw e at read in
+    rw same (held_more known page n marks bytes piece whole pos below fits l before here)
 
 -- a page more, which is marked where it wasn't read whole: then it was cut, or one more failure was counted
-marks_only_more : (told : List ℕ) (page n before after : ℕ) (marks : List Bool) (whole : Bool) → n < length marks →
+marks_only_more : (known : List ℕ) (page n before after : ℕ) (marks : List Bool) (whole : Bool) → n < length marks →
     before ≤ after →
-    MarksOnly told page n before marks → OnFalse whole ((length told < n * page + page) ⊎ (before < after)) →
-    MarksOnly told page (n + 1) after (set marks n (not whole))
-marks_only_more told page n before after marks true below le m lost = record {
+    MarksOnly known page n before marks → OnFalse whole ((length known < n * page + page) ⊎ (before < after)) →
+    MarksOnly known page (n + 1) after (set marks n (not whole))
+marks_only_more known page n before after marks true below le m lost = record {
   failed = m.failed;
   few = omega (arith, m.few, le);
   only = λ k hk marked. elim (cases_eq k n) [
@@ -112,7 +112,7 @@ marks_only_more told page n before after marks true below le m lost = record {
         (false≢true (sym (get_or-set_same marks n false false below) ∙ ap (λ i. get_or (set marks n false) i false) (sym e) ∙ marked))
   ];
 }
-marks_only_more told page n before after marks false below le m (inl cut) = record {
+marks_only_more known page n before after marks false below le m (inl cut) = record {
   failed = m.failed;
   few = omega (arith, m.few, le);
   only = λ k hk marked. elim (cases_eq k n) [
@@ -120,7 +120,7 @@ marks_only_more told page n before after marks false below le m (inl cut) = reco
     | inl e ↦ inl (rw e cut)
   ];
 }
-marks_only_more told page n before after marks false below le m (inr more) = record {
+marks_only_more known page n before after marks false below le m (inr more) = record {
   failed = m.failed ++ n ∷ [];
   few = omega (arith, m.few, more, length-append m.failed (n ∷ []));
   only = λ k hk marked. elim (cases_eq k n) [
@@ -136,16 +136,16 @@ marks_only_more told page n before after marks false below le m (inr more) = rec
 pub lost_more : (raw was : Option (List ℕ)) (page n first before after : ℕ) (marks : List Bool) (whole : Bool) (start size : ℕ) →
     was ≡ raw → start ≡ n * page → size ≡ page →
     first ≤ before → before ≤ after → n < length marks →
-    IfSome raw (λ told. MarksOnly told page n (before - first) marks) →
-    IfSome was (λ told. OnFalse whole ((length told < start + size) ⊎ (before < after))) →
-    IfSome raw (λ told. MarksOnly told page (n + 1) (after - first) (set marks n (not whole)))
+    IfSome raw (λ known. MarksOnly known page n (before - first) marks) →
+    IfSome was (λ known. OnFalse whole ((length known < start + size) ⊎ (before < after))) →
+    IfSome raw (λ known. MarksOnly known page (n + 1) (after - first) (set marks n (not whole)))
 lost_more None was page n first before after marks whole start size e at same le more below m lost = tt
-lost_more (Some told) was page n first before after marks whole start size e at same le more below m lost =
-    marks_only_more told page n (before - first) (after - first) marks whole below (omega (arith, le, more)) m
+lost_more (Some known) was page n first before after marks whole start size e at same le more below m lost =
+    marks_only_more known page n (before - first) (after - first) marks whole below (omega (arith, le, more)) m
     (counted whole (rw e at lost))
   where
-    counted : (b : Bool) → OnFalse b ((length told < start + size) ⊎ (before < after)) →
-        OnFalse b ((length told < n * page + page) ⊎ (before - first < after - first))
+    counted : (b : Bool) → OnFalse b ((length known < start + size) ⊎ (before < after)) →
+        OnFalse b ((length known < n * page + page) ⊎ (before - first < after - first))
     counted true l = l
     counted false (inl cut) = inl (omega (arith, cut, at, same))
     counted false (inr one) = inr (omega (arith, one, le))

@@ -27,13 +27,13 @@ read_on_more h k = record {
 }
 
 -- a disk whose unmarked bytes are the raw ones has the raw pages
-pub holds_raw : (g : Geometry) (told bytes : List ℕ) (marks : List Bool) → length bytes ≡ g.page * g.pages * g.extents →
+pub holds_raw : (g : Geometry) (known bytes : List ℕ) (marks : List Bool) → length bytes ≡ g.page * g.pages * g.extents →
     length marks ≡ g.pages * g.extents →
-    HoldsUnmarked told g.page marks bytes → HoldsRaw told (held g bytes marks)
-holds_raw g told bytes marks lb lm h e q he hq = by_mark (get_or marks (e * g.pages + q) false) (λ f. f)
+    HoldsUnmarked known g.page marks bytes → HoldsRaw known (held g bytes marks)
+holds_raw g known bytes marks lb lm h e q he hq = by_mark (get_or marks (e * g.pages + q) false) (λ f. f)
   where
     by_mark : (b : Bool) → (b ≡ false → get_or marks (e * g.pages + q) false ≡ false) →
-        IfSome (cond b None (Some (between ((e * g.pages + q) * g.page) ((e * g.pages + q) * g.page + g.page) bytes))) (IsPageAt told ((e * g.pages + q) * g.page) g.page)
+        IfSome (cond b None (Some (between ((e * g.pages + q) * g.page) ((e * g.pages + q) * g.page + g.page) bytes))) (IsPageAt known ((e * g.pages + q) * g.page) g.page)
     by_mark true f = tt
     by_mark false f =
         let room = page_room g.page g.pages g.extents e q he hq in
@@ -65,11 +65,11 @@ loaded_image g v m bytes marks image is lb lm =
 pub holds_loaded : (g : Geometry) (raw : Option (List ℕ)) (bytes : List ℕ) (marks : List Bool) (page : ℕ) (image : Image) →
     image ≡ held g bytes marks → page ≡ g.page → length bytes ≡ g.page * (g.pages * g.extents) →
     length marks ≡ g.pages * g.extents →
-    IfSome raw (λ told. HoldsUnmarked told page marks bytes) → IfSome raw (λ told. HoldsRaw told image)
+    IfSome raw (λ known. HoldsUnmarked known page marks bytes) → IfSome raw (λ known. HoldsRaw known image)
 holds_loaded g None bytes marks page image is same lb lm h = tt
-holds_loaded g (Some told) bytes marks page image is same lb lm h =
+holds_loaded g (Some known) bytes marks page image is same lb lm h =
     rw is
-    (holds_raw g told bytes marks (omega (arith, lb)) lm (rw same at h))
+    (holds_raw g known bytes marks (omega (arith, lb)) lm (rw same at h))
 
 -- an element of a front of a list
 front_at : {X : Type 0} (xs : List X) (i k : ℕ) (d : X) → i ≤ length xs → k < length (take i xs) →

@@ -18,5 +18,5 @@ pub record MarksOnly (bytes : List ℕ) (page : ℕ) (count : ℕ) (failures : �
 
 -- byte i of a list is byte i of the raw bytes, unless its page is marked
 abbrev pub HoldsUnmarked : List ℕ → ℕ → List Bool → List ℕ → Type 0
-HoldsUnmarked told page unreadable bytes =
-    (i : ℕ) → i < length bytes → slice_index_or unreadable (i / page) true ≡ false → slice_get told i ≡ Some (slice_index bytes i)
+HoldsUnmarked known page unreadable bytes =
+    (i : ℕ) → i < length bytes → slice_index_or unreadable (i / page) true ≡ false → slice_get known i ≡ Some (slice_index bytes i)

@@ -12,7 +12,7 @@ pub record ReadFrom (bytes : List ℕ) (offset : ℕ) (out : List ℕ) (n : ℕ)
 -- a read gave the first n bytes of `out`, which are those of the raw image if its bytes are known
 pub record IsRead (raw : Option (List ℕ)) (offset : ℕ) (out : List ℕ) (n : ℕ) : Type 0 where
   pub within : n ≤ length out
-  pub told : IfSome raw (λ bytes. ReadFrom bytes offset out n)
+  pub known : IfSome raw (λ bytes. ReadFrom bytes offset out n)
 
 -- A raw image before and after some reads: its bytes and the bound on its failures are the same, and the failures are still
 -- counted.
@@ -51,7 +51,7 @@ pub record LosesOnly (bytes : List ℕ) (g : Geometry) (named : List (ℕ × ℕ
 
 -- if the raw bytes are known, each readable page has the bytes of its place, pages are lost only as `LosesOnly` says,
 -- and no byte is behind the last page unless a read failed
-pub record HoldsTold (bytes : List ℕ) (failures : ℕ) (g : Geometry) (named : List (ℕ × ℕ)) (image : Image) : Type 0 where
+pub record HoldsKnown (bytes : List ℕ) (failures : ℕ) (g : Geometry) (named : List (ℕ × ℕ)) (image : Image) : Type 0 where
   pub pages : HoldsRaw bytes image
   pub lost : LosesOnly bytes g named failures image
   pub not_too_long : failures ≡ 0 → length bytes ≤ disk_bytes g
@@ -62,4 +62,4 @@ pub record IsLoadedWith (raw : Option (List ℕ)) (failures : ℕ) (g : Geometry
   pub geometry : image.geometry ≡ g
   pub whole : HasWholePages image
   pub unreadable : All (λ at. image.page at.0 at.1 ≡ None) named
-  pub told : IfSome raw (λ bytes. HoldsTold bytes failures g named image)
+  pub known : IfSome raw (λ bytes. HoldsKnown bytes failures g named image)

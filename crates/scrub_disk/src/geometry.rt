@@ -1,9 +1,15 @@
 //! The sizes of a disk, and the limits that they keep. The bytes are told by a `PageSource`.
 
 ghost use Rattle.std.specs.Prelude.{◌≡◌, ◌*◌, ◌^◌, ◌<◌, ◌≤◌, MatchResult};
-ghost use Rattle.scrub_disk.specs.Limits.{IsPageSize, AreExtents, ArePages};
+ghost use Rattle.scrub_disk.specs.Limits.{IsPageSize, AreExtents, ArePages, max_extent_bytes, max_disk_bytes};
 
 use thiserror::Error;
+
+/// The most bytes that an extent has.
+const MAX_EXTENT_BYTES: u64 = 1 << 26;
+
+/// The most bytes that a disk has.
+const MAX_DISK_BYTES: u64 = 1 << 32;
 
 /// The first limit that a geometry breaks, in the order in which the limits are tried.
 #[derive(Debug, Clone, Copy, PartialEq, Eq, Error)]
@@ -37,8 +43,8 @@ pub struct Geometry {
     pub ghost page_size: { IsPageSize page },
     pub ghost page_count: { ArePages pages },
     pub ghost extent_count: { AreExtents extents },
-    pub ghost extent_fits: { page * pages ≤ 2 ^ 26 },
-    pub ghost total_fits: { page * pages * extents ≤ 2 ^ 32 },
+    pub ghost extent_fits: { page * pages ≤ max_extent_bytes },
+    pub ghost total_fits: { page * pages * extents ≤ max_disk_bytes },
 }
 
 impl Geometry {
@@ -58,10 +64,10 @@ impl Geometry {
             return Err(GeometryFault::Extents);
         }
         let extent_bytes = page as u64 * pages as u64;
-        if extent_bytes > 1 << 26 {
+        if extent_bytes > MAX_EXTENT_BYTES {
             return Err(GeometryFault::ExtentBytes);
         }
-        if extent_bytes * extents as u64 > 1 << 32 {
+        if extent_bytes * extents as u64 > MAX_DISK_BYTES {
             return Err(GeometryFault::TotalBytes);
         }
         Ok(Geometry {

@@ -50,9 +50,9 @@ fn read_pages<R: RawImage>(raw: &mut R, page: usize, bytes: &mut [u8], unreadabl
     requires few_reads { R.reads raw.old + length bytes.old < 2 ^ 63 }
     requires page { 0 < page }
     requires whole { length bytes.old ≡ page * length unreadable.old }
-    ensures read { IfSome (R.bytes raw.old) (λ told. HoldsUnmarked told page unreadable.new bytes.new) }
-    ensures lost { IfSome (R.bytes raw.old) (λ told.
-        MarksOnly told page (length unreadable.new) (R.failures raw.new - R.failures raw.old) unreadable.new) }
+    ensures read { IfSome (R.bytes raw.old) (λ known. HoldsUnmarked known page unreadable.new bytes.new) }
+    ensures lost { IfSome (R.bytes raw.old) (λ known.
+        MarksOnly known page (length unreadable.new) (R.failures raw.new - R.failures raw.old) unreadable.new) }
     ensures image { IsReadOn (λ r. R.bytes r) (λ r. R.most_failures r) (λ r. R.failures r) raw.old raw.new }
     ensures reads { R.reads raw.new ≤ R.reads raw.old + length bytes.old }
 {
@@ -65,9 +65,9 @@ fn read_pages<R: RawImage>(raw: &mut R, page: usize, bytes: &mut [u8], unreadabl
 /// Whether a byte stands at an offset and can be read.
 fn has_byte_at<R: RawImage>(raw: &mut R, offset: u64) -> bool
     requires { R.reads raw.old < 2 ^ 63 }
-    ensures there { IfSome (R.bytes raw.old) (λ told. OnTrue result (offset < length told)) }
-    ensures not_there { IfSome (R.bytes raw.old) (λ told. OnFalse result
-        ((length told ≤ offset) ⊎ (R.failures raw.old < R.failures raw.new))) }
+    ensures there { IfSome (R.bytes raw.old) (λ known. OnTrue result (offset < length known)) }
+    ensures not_there { IfSome (R.bytes raw.old) (λ known. OnFalse result
+        ((length known ≤ offset) ⊎ (R.failures raw.old < R.failures raw.new))) }
     ensures image { IsReadOn (λ r. R.bytes r) (λ r. R.most_failures r) (λ r. R.failures r) raw.old raw.new }
     ensures reads { R.reads raw.new ≡ R.reads raw.old + 1 }
 {
@@ -85,9 +85,9 @@ fn read_disk<R: RawImage>(
 ) -> Result<MemDisk, LoadFault>
     requires few_reads { R.reads raw.old < 2 ^ 62 }
     ensures geometry { IfOk result (λ disk. (image_of disk).geometry ≡ geometry) }
-    ensures pages { IfOk result (λ disk. IfSome (R.bytes raw.old) (λ told. HoldsRaw told (image_of disk))) }
-    ensures lost { IfOk result (λ disk. IfSome (R.bytes raw.old) (λ told.
-        LosesOnly told geometry [] (R.failures raw.new - R.failures raw.old) (image_of disk))) }
+    ensures pages { IfOk result (λ disk. IfSome (R.bytes raw.old) (λ known. HoldsRaw known (image_of disk))) }
+    ensures lost { IfOk result (λ disk. IfSome (R.bytes raw.old) (λ known.
+        LosesOnly known geometry [] (R.failures raw.new - R.failures raw.old) (image_of disk))) }
     ensures fault { result ≢ Err LoadFault.TooLong }
     ensures image { IsReadOn (λ r. R.bytes r) (λ r. R.most_failures r) (λ r. R.failures r) raw.old raw.new }
     ensures reads { R.reads raw.new ≤ R.reads raw.old + geometry.page * (geometry.pages * geometry.extents) }
@@ -128,7 +128,7 @@ pub fn load<R: RawImage>(
     requires in_range { All (λ at. (at.0 < geometry.extents) × (at.1 < geometry.pages)) bad.now }
     ensures loaded { IfOk result (λ disk.
         IsLoadedWith (R.bytes raw.old) (R.failures raw.new - R.failures raw.old) geometry bad.now (image_of disk)) }
-    ensures too_long { result ≡ Err LoadFault.TooLong → IfSome (R.bytes raw.old) (λ told. disk_bytes geometry < length told) }
+    ensures too_long { result ≡ Err LoadFault.TooLong → IfSome (R.bytes raw.old) (λ known. disk_bytes geometry < length known) }
     ensures failures { R.failures raw.old ≤ R.failures raw.new }
     ensures same_bytes { R.bytes raw.new ≡ R.bytes raw.old }
     ensures same_bound { R.most_failures raw.new ≡ R.most_failures raw.old }

@@ -31,10 +31,14 @@ abbrev pub seal : Form → List ℕ → List ℕ
 seal Plain payload = []
 seal Sealed payload = sha256 payload
 
+-- how many bytes a digest has: 32
+abbrev pub digest_size : ℕ
+digest_size = 32
+
 -- how many bytes a seal has: none, or 32 in a sealed frame
 abbrev pub seal_size : Form → ℕ
 seal_size Plain = 0
-seal_size Sealed = 32
+seal_size Sealed = digest_size
 
 -- what follows the second UUID: nothing, or in a sealed frame the closing mark 3A A3
 abbrev pub mark : Form → List ℕ
@@ -76,6 +80,10 @@ pub record BeginsWithFrame (bytes : List ℕ) (form : Form) (uuid payload : List
 abbrev pub BeginsWithNoFrame : List ℕ → Type 0
 BeginsWithNoFrame bytes = (form : Form) (uuid payload : List ℕ) → ¬ BeginsWithFrame bytes form uuid payload
 
--- the longest payload that is written in a form: its frame fills an extent of 2^26 bytes
+-- how many bytes the longest frame has that is written: 2^26, as the largest extent
+abbrev pub longest_frame : ℕ
+longest_frame = 67108864
+
+-- the longest payload that is written in a form: its frame is the longest one
 abbrev pub longest_payload : Form → ℕ
-longest_payload form = 67108864 - frame_overhead form
+longest_payload form = longest_frame - frame_overhead form

@@ -5,8 +5,11 @@ ghost use Rattle.sha2.specs.Sha256.{sha256};
 
 use sha2::{Digest, Sha256};
 
+/// The bytes of a SHA-256, and so of a sealed frame between its head and its payload.
+pub const DIGEST_BYTES: usize = 32;
+
 /// The SHA-256 of a payload, as in FIPS 180-4. Takes no memory.
-pub fn digest_of(payload: &[u8]) -> [u8; 32]
+pub fn digest_of(payload: &[u8]) -> [u8; DIGEST_BYTES]
     ensures { result ≡ sha256 payload.now }
 {
     Sha256::digest(payload)

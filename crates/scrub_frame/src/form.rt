@@ -5,13 +5,11 @@ ghost use Rattle.std.specs.Prelude.{◌≡◌, ◌≤◌, ◌++◌, ◌∷◌, [
 ghost use Rattle.scrub_frame.specs.declared.form.Form.{Form};
 ghost use Rattle.scrub_frame.specs.Frame.{magic, mark, seal_size, payload_start, close_size, frame_overhead, longest_payload};
 
+use crate::digest::DIGEST_BYTES;
 use uuid::Uuid;
 
 /// The bytes of a head, in either form: a magic (2), a UUID (16), and the payload's length as a big-endian number (4).
 pub const HEAD_BYTES: usize = 22;
-
-/// The bytes of a payload's digest, and so of a sealed frame between its head and its payload.
-pub const SEAL_BYTES: usize = 32;
 
 /// The most bytes that stand behind a payload: the second UUID, and the closing mark of a sealed frame.
 pub const CLOSE_BYTES: usize = 18;
@@ -61,7 +59,7 @@ impl Form {
     {
         match self {
             Form::Plain => 0,
-            Form::Sealed => SEAL_BYTES,
+            Form::Sealed => DIGEST_BYTES,
         }
     }
 

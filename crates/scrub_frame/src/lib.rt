@@ -11,8 +11,8 @@ pub mod locator;
 pub mod matcher;
 pub mod writing;
 
-pub use digest::digest_of;
-pub use form::{CLOSE_BYTES, Form, HEAD_BYTES, LEAST_OVERHEAD, SEAL_BYTES};
+pub use digest::{DIGEST_BYTES, digest_of};
+pub use form::{CLOSE_BYTES, Form, HEAD_BYTES, LEAST_OVERHEAD};
 pub use frame::{Frame, Head, no_frame_begins_another, one_frame, read_frame, read_head};
 pub use locator::{
     LOCATOR_BYTES, Locator, append_locators, locate, one_locator, put_part, read_locator,

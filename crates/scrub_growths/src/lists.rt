@@ -110,12 +110,12 @@ pub fn liveness_of(alloc: Global, wanted: Wanted) -> Result<(), Stop> {
     let plan = plan_of(alloc, &disk)?;
     let all = scan_in_order(alloc, &disk, &plan)?;
     wanted.made()?;
-    let told = scrub_check::liveness_of(alloc, &plan, &all, &checked, false)?;
+    let given = scrub_check::liveness_of(alloc, &plan, &all, &checked, false)?;
     right(
-        told.live.as_slice() == LIVE.as_slice()
-            && told.orphans.as_slice() == [abc_place(0)].as_slice()
-            && told.shared.as_slice() == [SHARED].as_slice()
-            && is_half_live(&told.candidates),
+        given.live.as_slice() == LIVE.as_slice()
+            && given.orphans.as_slice() == [abc_place(0)].as_slice()
+            && given.shared.as_slice() == [SHARED].as_slice()
+            && is_half_live(&given.candidates),
     )
 }
 

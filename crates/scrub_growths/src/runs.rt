@@ -108,11 +108,11 @@ pub fn copy_run(alloc: Global, wanted: Wanted) -> Result<(), Stop> {
 }
 
 /// Runs of the shard alone, newest first: one that is told here as its deletion, its chunk, or lost.
-fn runs_of(alloc: Global, told: &[Option<bool>]) -> Result<Vec<Option<Run>>, Stop> {
+fn runs_of(alloc: Global, given: &[Option<bool>]) -> Result<Vec<Option<Run>>, Stop> {
     let named = one_shard_payload(alloc)?;
     let deleted = payload_of(alloc, &[SHARD], &[])?;
     let mut runs = Vec::new(alloc);
-    for one in told {
+    for one in given {
         runs.push(match one {
             None => None,
             Some(true) => Some(scrub_run::read_run(alloc, &named)?),

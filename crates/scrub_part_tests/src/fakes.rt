@@ -11,7 +11,7 @@ use std::slice;
 use std::test::Fail;
 
 #[test]
-fn a_raw_image_gives_short_reads_and_fails_where_it_is_told(rt: HostRuntime) {
+fn a_raw_image_gives_short_reads_and_fails_where_it_is_reported(rt: HostRuntime) {
     let bytes = [1, 2, 3, 4, 5];
     let mut out = [0; 4];
     let mut raw = RawBytes::failing(&bytes, 2, 1, 1);

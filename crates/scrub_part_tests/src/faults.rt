@@ -22,7 +22,7 @@ fn check_text<F: Display + Drop>(
 }
 
 #[test]
-fn each_fault_is_told_by_its_own_text(rt: HostRuntime) -> Result<(), Fail> {
+fn each_fault_is_reported_by_its_own_text(rt: HostRuntime) -> Result<(), Fail> {
     let alloc = rt.alloc();
     for (fault, text) in [
         (RunFault::OutOfMemory, "out of memory"),

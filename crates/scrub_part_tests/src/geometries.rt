@@ -19,7 +19,7 @@ fn sizes_within_the_limits(rt: HostRuntime) -> Result<(), Fail> {
 }
 
 #[test]
-fn the_first_broken_limit_is_told(rt: HostRuntime) {
+fn the_first_broken_limit_is_reported(rt: HostRuntime) {
     let refused = [
         (96, 4, 3, GeometryFault::PageSize),
         (64, 0, 3, GeometryFault::Pages),
@@ -33,7 +33,7 @@ fn the_first_broken_limit_is_told(rt: HostRuntime) {
 }
 
 #[test]
-fn a_fault_is_told_by_the_name_of_its_limit(rt: HostRuntime) -> Result<(), Fail> {
+fn a_fault_is_reported_by_the_name_of_its_limit(rt: HostRuntime) -> Result<(), Fail> {
     let texts = [
         (GeometryFault::PageSize, "PageSize"),
         (GeometryFault::Pages, "Pages"),

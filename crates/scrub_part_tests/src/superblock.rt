@@ -111,14 +111,14 @@ fn a_record_tells_pointers_and_runs_also_none(rt: HostRuntime) -> Result<(), Fai
         let mut disk = small_disk(rt.alloc())?;
         let put = put_record(rt.alloc(), &mut disk, 0, 1, &pointers, runs)?;
         same(&rt, put, length);
-        let told = Expected {
+        let expected = Expected {
             newest: Some((0, 1)),
             records: 1,
             pointers,
             runs,
             ..nothing()
         };
-        check(&rt, rt.alloc(), &disk, &told)?;
+        check(&rt, rt.alloc(), &disk, &expected)?;
     }
     Ok(())
 }

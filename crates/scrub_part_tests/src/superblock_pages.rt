@@ -129,7 +129,7 @@ fn check_steps(
 }
 
 #[test]
-fn records_are_told_by_kind_generation_and_rank(rt: HostRuntime) -> Result<(), Fail> {
+fn records_are_reported_by_kind_generation_and_rank(rt: HostRuntime) -> Result<(), Fail> {
     let older = record(SSB1, 7, Rank::Older);
     let ties = record(SSB1, 7, Rank::Tie);
     let second = Step::Listing {
@@ -199,7 +199,7 @@ fn a_damaged_record_leaves_a_damaged_page_and_a_stray_one(rt: HostRuntime) -> Re
 }
 
 #[test]
-fn a_page_behind_a_record_is_told_by_itself(rt: HostRuntime) -> Result<(), Fail> {
+fn a_page_behind_a_record_is_reported_by_itself(rt: HostRuntime) -> Result<(), Fail> {
     let whole = Step::Listing {
         page: 0,
         generation: 4,

@@ -13,7 +13,7 @@ use Rattle.scrub_scan.specs.Scanned.{result_image}
 use Rattle.scrub_book.specs.Extents.{extents_of}
 use Rattle.scrub_pool.specs.Passes.{PassValue, one_list, taken_in, HasTakenAll}
 use Rattle.scrub_pool.specs.Takings.{IsPartition}
-use Rattle.scrub_pool.specs.Work.{AreResults}
+use Rattle.scrub_pool.specs.Working.{AreResults}
 
 -- one list more
 pub one_list_push : (lists : List (List ℕ)) (xs : List ℕ) → one_list (lists ++ xs ∷ []) ≡ one_list lists ++ xs

@@ -10,4 +10,4 @@ pub use Rattle.scrub_book.specs.Pool
 -- Steps of the code.
 pub mod Account
 pub mod Known
-pub mod Work
+pub mod Working

@@ -3,13 +3,13 @@
 ghost use Rattle.std.specs.Thread.{IsSync};
 ghost use Rattle.std.specs.Prelude.{◌≡◌, ◌+◌, ◌<◌, None, [], All, length, IfSome, vec_len};
 ghost use Rattle.scrub_book.specs.Worker.{held_by, results_of};
-ghost use Rattle.scrub_pool.specs.Work.{IsPassFor, IsSamePart, IsAtWork, AreNewMembers, HasEnded, AreDone};
+ghost use Rattle.scrub_pool.specs.Working.{IsPassFor, IsSamePart, IsAtWork, AreNewMembers, HasEnded, AreDone};
 
 use crate::extent_queue::TakePass;
 use crate::gate::Gate;
 use crate::job::Job;
 use crate::tally::{Tally, nothing};
-use crate::worker::works;
+use crate::worker::run_worker;
 use scrub_book::WorkerCore;
 use scrub_disk::PageSource;
 use std::mem;
@@ -34,7 +34,7 @@ pub(crate) struct Member<'d, D: PageSource> {
 /// A crew, which begins on a new thread, and one more worker, on this one, work at the same time; where there is no crew, no
 /// thread is started. No share means that one of them lacked memory.
 #[cycle(crew)]
-pub(crate) fn all_work<
+pub(crate) fn run_crew_and_worker<
     'd,
     D: PageSource,
     L: Ledger + Send + Sync,
@@ -63,8 +63,8 @@ pub(crate) fn all_work<
     ensures mine { IfSome result.1.1 (λ s. (held_by result.1.0 ≡ None) × (s.parts ≡ 1) × (s.amount ≡ length (results_of result.1.0))) }
 {
     if crew.is_empty() {
-        let none = crew_works(rt, disk, job, tally, crew);
-        return (none, works(rt, disk, job, tally, number, first));
+        let none = run_crew(rt, disk, job, tally, crew);
+        return (none, run_worker(rt, disk, job, tally, number, first));
     }
     let mut crew = crew;
     join_mut(
@@ -77,7 +77,7 @@ pub(crate) fn all_work<
             ensures theirs { IfSome result.1 (λ s. AreDone s.parts s.amount result.0.items × (vec_len result.0 ≡ vec_len crew.entry)) }
         {
             let all = mem::replace(&mut crew, Vec::new(job.alloc));
-            crew_works(rt, disk, job, tally, all)
+            run_crew(rt, disk, job, tally, all)
         },
         &mut || -> (WorkerCore<D>, Option<Share<L>>)
             requires geometry { job.now.plan.now.geometry ≡ (D.image disk.now).geometry }
@@ -86,14 +86,14 @@ pub(crate) fn all_work<
             ensures pass { IsSamePart first.entry.now first.exit.now }
             ensures core { IsAtWork job.entry.now.queue.now job.entry.now.plan.now (D.image disk.entry.now) first.exit.now result.0 }
             ensures mine { IfSome result.1 (λ s. (held_by result.0 ≡ None) × (s.parts ≡ 1) × (s.amount ≡ length (results_of result.0))) }
-        { works(rt, disk, job, tally, number, first) },
+        { run_worker(rt, disk, job, tally, number, first) },
     )
 }
 
 /// All members of a crew work at once: the last one on this thread, and those before it as a crew beside it, so that each has
 /// a thread of its own. No share means that one of them lacked memory.
 #[cycle(crew)]
-fn crew_works<'d, D: PageSource, L: Ledger + Send + Sync, G: Gate, R: Threads + Wait + Sync>(
+fn run_crew<'d, D: PageSource, L: Ledger + Send + Sync, G: Gate, R: Threads + Wait + Sync>(
     rt: &R,
     disk: &'d D,
     job: &Job<'_, G>,
@@ -108,7 +108,7 @@ fn crew_works<'d, D: PageSource, L: Ledger + Send + Sync, G: Gate, R: Threads + 
     let Some(NewMember { number, mut pass }) = new_members.pop() else {
         return (Vec::new(job.alloc), Some(nothing(rt, tally)));
     };
-    let ((mut members, theirs), (core, mine)) = all_work(
+    let ((mut members, theirs), (core, mine)) = run_crew_and_worker(
         rt,
         disk,
         job,

@@ -7,17 +7,17 @@ ghost use Rattle.scrub_book.specs.Extents.{extents_of};
 ghost use Rattle.scrub_book.specs.Worker.{held_by, taken_by, results_of};
 ghost use Rattle.scrub_pool.specs.Passes.{one_list, new_pass, IsFirst, IsFirstAlone};
 ghost use Rattle.scrub_pool.specs.Takings.{IsPartition};
-ghost use Rattle.scrub_pool.specs.Work.{AreResults, AreNewMembers, IsThrough, AreFoundBy, after_joins, lists_in};
+ghost use Rattle.scrub_pool.specs.Working.{AreResults, AreNewMembers, IsThrough, AreFoundBy, after_joins, lists_in};
 
 use crate::OutOfMemory;
-use crate::crew::{Member, NewMember, all_work};
+use crate::crew::{Member, NewMember, run_crew_and_worker};
 use crate::extent_queue::{ExtentQueue, TakePass};
 use crate::fault::PoolFault;
 use crate::gate::Gate;
 use crate::job::Job;
 use crate::takings::Takings;
 use crate::tally::{Tally, audit};
-use crate::worker::work;
+use crate::worker::take_until_empty;
 use scrub_book::{Book, WorkerCore, assemble};
 use scrub_disk::PageSource;
 use scrub_scan::{AllFindings, ExtentResult};
@@ -147,14 +147,14 @@ fn gather<'d, D: PageSource, L: Ledger + Send + Sync, G: Gate, R: Threads + Wait
     let (ledger, unclaimed) = blank.open::<L>();
     let tally = Mutex::new(Tally::new(ledger, unclaimed, parts));
     let crew = new_crew(rt, job.alloc, job.queue, first, workers)?;
-    let ((members, theirs), (core, mine)) = all_work(rt, disk, job, &tally, crew, workers, first);
+    let ((members, theirs), (core, mine)) = run_crew_and_worker(rt, disk, job, &tally, crew, workers, first);
     let (Some(theirs), Some(mine)) = (theirs, mine) else {
         return Err(OutOfMemory);
     };
     let (mut core, mut share) = (core, mine);
     let mut found = Vec::new(job.alloc);
     let mut lists = collect(rt, job.alloc, job.queue, first, members, &mut found)?;
-    work(rt, disk, job, &tally, &mut core, &mut share, workers, first)?;
+    take_until_empty(rt, disk, job, &tally, &mut core, &mut share, workers, first)?;
     let own = take_over(core, &mut found)?;
     lists.push(own)?;
     let counted = audit(tally, theirs, share);

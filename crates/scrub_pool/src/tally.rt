@@ -62,7 +62,7 @@ impl<L: Ledger> Tally<L> {
         requires { 0 < share.old.parts }
         ensures parts { share.new.parts ≡ share.old.parts }
         ensures moved { OnSome result (share.new.amount ≡ share.old.amount + 1) }
-        ensures told { IfSome result (λ n. n ≡ self.new.total) }
+        ensures total { IfSome result (λ n. n ≡ self.new.total) }
         ensures more { IfSome result (λ n. n ≡ self.old.total + 1) }
     {
         let Tally { total, book, .. } = self;

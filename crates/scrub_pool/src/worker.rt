@@ -4,7 +4,7 @@ ghost use Rattle.std.specs.Prelude.{◌≡◌, ◌+◌, ◌<◌, true, None, [],
 ghost use Rattle.std.specs.List.Sorted.{IsStrictlyIncreasing};
 ghost use Rattle.scrub_book.specs.Worker.{held_by, results_of};
 ghost use Rattle.scrub_pool.specs.Passes.{HasTakenAll};
-ghost use Rattle.scrub_pool.specs.Work.{IsPassFor, IsSamePart, IsAtWork};
+ghost use Rattle.scrub_pool.specs.Working.{IsPassFor, IsSamePart, IsAtWork};
 
 use crate::OutOfMemory;
 use crate::extent_queue::TakePass;
@@ -18,7 +18,7 @@ use std::sync::ledger::{Ledger, Share};
 use std::sync::{Mutex, Wait};
 
 /// Takes extents until none is left, and scans and counts each. An Err is want of memory.
-pub(crate) fn work<'d, D: PageSource, L: Ledger + Send + Sync, G: Gate, R: Wait>(
+pub(crate) fn take_until_empty<'d, D: PageSource, L: Ledger + Send + Sync, G: Gate, R: Wait>(
     rt: &R,
     disk: &'d D,
     job: &Job<'_, G>,
@@ -32,9 +32,9 @@ pub(crate) fn work<'d, D: PageSource, L: Ledger + Send + Sync, G: Gate, R: Wait>
     requires free { held_by core.old ≡ None }
     requires part { share.old.parts ≡ 1 }
     requires counted { share.old.amount ≡ length (results_of core.old) }
-    requires work { IsAtWork job.now.queue.now job.now.plan.now (D.image disk.now) pass.old core.old }
+    requires working { IsAtWork job.now.queue.now job.now.plan.now (D.image disk.now) pass.old core.old }
     ensures pass { IsSamePart pass.old pass.new }
-    ensures work { IsAtWork job.now.queue.now job.now.plan.now (D.image disk.now) pass.new core.new }
+    ensures working { IsAtWork job.now.queue.now job.now.plan.now (D.image disk.now) pass.new core.new }
     ensures part { share.new.parts ≡ 1 }
     ensures free { OnOk result (held_by core.new ≡ None) }
     ensures counted { OnOk result (share.new.amount ≡ length (results_of core.new)) }
@@ -59,7 +59,7 @@ pub(crate) fn work<'d, D: PageSource, L: Ledger + Send + Sync, G: Gate, R: Wait>
 }
 
 /// Works with a core and a part of the ledger of its own. No share means that it lacked memory.
-pub(crate) fn works<'d, D: PageSource, L: Ledger + Send + Sync, G: Gate, R: Wait>(
+pub(crate) fn run_worker<'d, D: PageSource, L: Ledger + Send + Sync, G: Gate, R: Wait>(
     rt: &R,
     disk: &'d D,
     job: &Job<'_, G>,
@@ -71,14 +71,14 @@ pub(crate) fn works<'d, D: PageSource, L: Ledger + Send + Sync, G: Gate, R: Wait
     requires pass { IsPassFor job.now.queue.now job.now.plan.now.planned pass.old }
     requires nothing { pass.old.own ≡ [] }
     ensures pass { IsSamePart pass.old pass.new }
-    ensures work { IsAtWork job.now.queue.now job.now.plan.now (D.image disk.now) pass.new result.0 }
+    ensures working { IsAtWork job.now.queue.now job.now.plan.now (D.image disk.now) pass.new result.0 }
     ensures whole { IfSome result.1 (λ s. (held_by result.0 ≡ None) × (s.parts ≡ 1) × (s.amount ≡ length (results_of result.0))) }
 {
     let mut core = WorkerCore::new(job.alloc);
     let Some(mut share) = claim(rt, tally) else {
         return (core, None);
     };
-    match work(rt, disk, job, tally, &mut core, &mut share, number, pass) {
+    match take_until_empty(rt, disk, job, tally, &mut core, &mut share, number, pass) {
         Ok(()) => (core, Some(share)),
         Err(_) => (core, None),
     }

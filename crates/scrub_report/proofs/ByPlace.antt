@@ -9,9 +9,9 @@ use Rattle.std.specs.Borrow.{Bor}
 use Rattle.std.proofs.lemmas.Slice.{between_is}
 use Rattle.std.proofs.lemmas.Cmp.{then_total, on_total}
 use Rattle.std.proofs.lemmas.List.Elements.{filter_agree}
-use Rattle.scrub_check.specs.declared.checked.Checked.{Checked}
-use Rattle.scrub_check.specs.declared.named.Owner.TheVariants.{Run}
-use Rattle.scrub_check.specs.declared.status.Status.TheVariants.{Sound}
+use Rattle.scrub_check.specs.declared.statuses.checked.Checked.{Checked}
+use Rattle.scrub_check.specs.declared.sources.named.Owner.TheVariants.{Run}
+use Rattle.scrub_check.specs.declared.statuses.status.Status.TheVariants.{Sound}
 use Rattle.scrub_check.proofs.Counts.{parted_below, parted_through, below_through}
 use Rattle.scrub_check.proofs.SortedStarts.{same_number}
 use Rattle.scrub_report.specs.Moves.{AreRisingPlaces, PointAlike, place_cmp, place_named}

@@ -10,8 +10,8 @@ use Rattle.scrub_super.specs.Planned.{extents_in_use}
 use Rattle.scrub_super.proofs.PageLaws.{one_list_of_pages}
 use Rattle.scrub_merge.proofs.Elements.{Contains-cases, Contains-filter}
 use Rattle.scrub_scan.specs.Scanned.{Scanned}
-use Rattle.scrub_check.specs.declared.checked.Checked.{Checked}
-use Rattle.scrub_check.specs.declared.runs.RunState.{RunState}
+use Rattle.scrub_check.specs.declared.statuses.checked.Checked.{Checked}
+use Rattle.scrub_check.specs.declared.sources.runs.RunState.{RunState}
 use Rattle.scrub_check.specs.Candidates.{CandidateValue}
 use Rattle.scrub_check.specs.Kept.{IsKept, AreSafe}
 use Rattle.scrub_check.specs.Runs.{ReadRunsValue}
@@ -63,7 +63,7 @@ module _ (image : Image) (accepted : Accepted) where
 
   pub one_verdict : (a b : Bool) → IsClear image accepted a → IsClear image accepted b → a ≡ b
   one_verdict a b x y =
-      x.told ∙ same_verdict x.found y.found x.pages y.pages (one_scrub image x.found y.found x.scrubbed y.scrubbed) (one_list_of_pages image x.pages y.pages x.held y.held) ∙ sym y.told
+      x.verdict ∙ same_verdict x.found y.found x.pages y.pages (one_scrub image x.found y.found x.scrubbed y.scrubbed) (one_list_of_pages image x.pages y.pages x.held y.held) ∙ sym y.verdict
 
   -- it is told of what the report tells
   pub of_candidates : (report text : List ℕ) (clear : Bool) → IsReport image report → AreReclaimLines image accepted text → IsClear image accepted clear →
@@ -77,7 +77,7 @@ module _ (image : Image) (accepted : Accepted) where
     text_is =
         t.text_is
         ∙ ap (λ (b : Bool). flat_map (doubt_line accepted) (doubts t.pages t.found) ++ flat_map (candidate_lines t.found.checked) (if b then t.found.candidates else []))
-        (sym (v.told ∙ same_verdict v.found t.found v.pages t.pages (one_scrub image v.found t.found v.scrubbed t.scrubbed) (one_list_of_pages image v.pages t.pages v.held t.held)));
+        (sym (v.verdict ∙ same_verdict v.found t.found v.pages t.pages (one_scrub image v.found t.found v.scrubbed t.scrubbed) (one_list_of_pages image v.pages t.pages v.held t.held)));
   }
 
 -- ---- what is reclaimed is safe

@@ -148,7 +148,7 @@ module _ {D : Type 0} {s : _} (p : Parts D s) (clean : Bool) where
 
   extents_are : value_tokens (extents_data p.checked.items p.all.extents) ≡ begin_array ∷ (extents_tokens pairs ++ end_array ∷ [])
   extents_are =
-      ap (λ ds. value_tokens (list ds)) (sym (beside_scanned p.checked.items p.all.extents p.liveness.live.items p.live_told))
+      ap (λ ds. value_tokens (list ds)) (sym (beside_scanned p.checked.items p.all.extents p.liveness.live.items p.live_found))
       ∙ list_tokens (λ (q : Scanned × ℕ). extent_data q.1 q.0) pairs
 
   extents_written : members_tokens (extent_keys p) ++ behind_hidden ≡ opens ++ (extents_tokens pairs ++ ended_tokens p)

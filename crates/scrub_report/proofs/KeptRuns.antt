@@ -3,7 +3,7 @@ use Rattle.std.proofs.Common.{◌≡◌, ◌&&◌, ◌++◌, ◌∷◌, [], ℕ,
 use Rattle.std.specs.List.{list_all}
 use Rattle.serde_json.specs.Written.{compact_text}
 use Rattle.scrub_merge.specs.Binding.{Runs}
-use Rattle.scrub_check.specs.declared.runs.RunState.{RunState}
+use Rattle.scrub_check.specs.declared.sources.runs.RunState.{RunState}
 use Rattle.scrub_check.specs.Chunks.{orphans}
 use Rattle.scrub_check.specs.Runs.{ReadRunsValue}
 use Rattle.scrub_report.specs.declared.parts.Parts.{Parts}
@@ -28,8 +28,8 @@ module _ {D : Type 0} {s : _} (p : Parts D s) (read : ReadRunsValue) (kept : Are
 
   -- and the keys are those of the report
   pub text_found : (clean : Bool) → clean ≡ is_clean_kept p → kept_text p clean ≡ report_text (found_in p read)
-  text_found clean told =
-      ap (kept_text p) (told ∙ clean_found)
+  text_found clean known =
+      ap (kept_text p) (known ∙ clean_found)
       ∙ ap₂ (λ (entries : List (Option ℕ)) (states : List RunState). compact_text (with_keys (
       first_keys p (is_clean (found_in p read)) ++ (extent_keys p ++ ((
       (codes "orphans", list (map place_data (orphans p.all.extents p.checked.items))) ∷

@@ -31,15 +31,15 @@ same_plan p q hg hp ht hw hr hs = λ i. record {
 }
 
 -- what a superblock tells, or the want of one
-same_told : (g : Geometry) (s : Option Contents) (p q : PlanValue) → MatchOption s (IsPlanWithout p g) (IsPlanBy p) → MatchOption s (IsPlanWithout q g) (IsPlanBy q) →
+same_choice : (g : Geometry) (s : Option Contents) (p q : PlanValue) → MatchOption s (IsPlanWithout p g) (IsPlanBy p) → MatchOption s (IsPlanWithout q g) (IsPlanBy q) →
     (p.retired ≡ q.retired) × (p.pointers ≡ q.pointers) × (p.runs ≡ q.runs) × (p.has_superblock ≡ q.has_superblock)
-same_told g None p q x y = (x.retired ∙ sym y.retired, x.pointers ∙ sym y.pointers, x.runs ∙ sym y.runs, x.has ∙ sym y.has)
-same_told g (Some c) p q x y = (x.retired ∙ sym y.retired, x.pointers ∙ sym y.pointers, x.runs ∙ sym y.runs, x.has ∙ sym y.has)
+same_choice g None p q x y = (x.retired ∙ sym y.retired, x.pointers ∙ sym y.pointers, x.runs ∙ sym y.runs, x.has ∙ sym y.has)
+same_choice g (Some c) p q x y = (x.retired ∙ sym y.retired, x.pointers ∙ sym y.pointers, x.runs ∙ sym y.runs, x.has ∙ sym y.has)
 
 pub one_plan : (choice : Choice) (p q : PlanValue) → IsPlanOf choice p → IsPlanOf choice q → p ≡ q
 one_plan choice p q x y =
-    let told = same_told choice.geometry choice.superblock p q x.by y.by in
-    same_plan p q (x.geometry ∙ sym y.geometry) (x.all ∙ ap (extents_in_use choice.geometry.extents) told.0 ∙ sym y.all) told.0 told.1 told.2 told.3
+    let verdict = same_choice choice.geometry choice.superblock p q x.by y.by in
+    same_plan p q (x.geometry ∙ sym y.geometry) (x.all ∙ ap (extents_in_use choice.geometry.extents) known.0 ∙ sym y.all) known.0 known.1 known.2 known.3
 
 -- ---- one reader
 

@@ -11,8 +11,8 @@ use Rattle.scrub_run.specs.Run.{run_bytes}
 use Rattle.scrub_merge.specs.Binding.{BindingValue}
 use Rattle.scrub_merge.specs.ShardMap.{IsShardMap}
 use Rattle.scrub_merge.proofs.Maps.{one_shard_map_lem}
-use Rattle.scrub_check.specs.declared.checked.Checked.{Checked}
-use Rattle.scrub_check.specs.declared.place.SharedPlace.{SharedPlace}
+use Rattle.scrub_check.specs.declared.statuses.checked.Checked.{Checked}
+use Rattle.scrub_check.specs.declared.lists.place.SharedPlace.{SharedPlace}
 use Rattle.scrub_check.specs.Candidates.{CandidateValue, AreCandidates}
 use Rattle.scrub_check.specs.Checked.{AreChecked, AreBrokenShards}
 use Rattle.scrub_check.specs.Named.{named}
@@ -104,7 +104,7 @@ one_answer image a b x y =
     same_answer a b
     (x.report.text_is ∙ ap report_text (one_scrub image x.report.found y.report.found x.report.scrubbed y.report.scrubbed) ∙ sym y.report.text_is)
     (x.index.bytes_are ∙ ap (λ (s : Scrubbed). run_bytes (index_entries s.checked s.bindings)) (one_scrub image x.index.found y.index.found x.index.scrubbed y.index.scrubbed) ∙ sym y.index.bytes_are)
-    (x.clean.told ∙ ap is_clean (one_scrub image x.clean.found y.clean.found x.clean.scrubbed y.clean.scrubbed) ∙ sym y.clean.told)
+    (x.clean.verdict ∙ ap is_clean (one_scrub image x.clean.found y.clean.found x.clean.scrubbed y.clean.scrubbed) ∙ sym y.clean.verdict)
 
 -- and one listing of its named locators
 pub one_listing : (image : Image) (a b : List ℕ) → AreLocatorLines image a → AreLocatorLines image b → a ≡ b

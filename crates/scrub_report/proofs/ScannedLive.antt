@@ -2,7 +2,7 @@
 use Rattle.std.proofs.Common.{◌≡◌, ℕ, List, [], ◌∷◌, map, refl, ap, ◌∙◌}
 use Rattle.std.specs.List.{zip}
 use Rattle.scrub_scan.specs.Scanned.{Scanned}
-use Rattle.scrub_check.specs.declared.checked.Checked.{Checked}
+use Rattle.scrub_check.specs.declared.statuses.checked.Checked.{Checked}
 use Rattle.scrub_check.specs.Live.{live_bytes}
 use Rattle.serde_json.specs.Data.{Data}
 use Rattle.scrub_report.specs.Report.{extent_data}

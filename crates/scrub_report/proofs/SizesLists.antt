@@ -284,18 +284,18 @@ clean_front bytes lost records ranges h = (
   }),
 )
 
-pub listing_told : (raw : Option (List ℕ)) (marks : List Bool) (failures : ℕ) (records : List FoundRecord) (ranges : List LostBytes) (lines : List SizesLine) (text : List ℕ) (clean : Bool) →
-    IfSome raw (λ told. AreFoundWith told marks failures records ranges) → (CanMerge records ranges → AreInOrder records ranges lines) → text ≡ size_lines lines →
-    IsTrue clean ↔ AreCleanLists records ranges → IfSome raw (λ told. IsSizesListing told marks failures text clean)
-listing_told None marks failures records ranges lines text clean found merged is answer = tt
-listing_told (Some told) marks failures records ranges lines text clean found merged is answer =
-    let front = clean_front told found.lost records ranges found.found in
+pub listing_known : (raw : Option (List ℕ)) (marks : List Bool) (failures : ℕ) (records : List FoundRecord) (ranges : List LostBytes) (lines : List SizesLine) (text : List ℕ) (clean : Bool) →
+    IfSome raw (λ known. AreFoundWith known marks failures records ranges) → (CanMerge records ranges → AreInOrder records ranges lines) → text ≡ size_lines lines →
+    IsTrue clean ↔ AreCleanLists records ranges → IfSome raw (λ known. IsSizesListing known marks failures text clean)
+listing_known None marks failures records ranges lines text clean found merged is answer = tt
+listing_known (Some known) marks failures records ranges lines text clean found merged is answer =
+    let front = clean_front known found.lost records ranges found.found in
     record {
       lost = found.lost;
       loses = found.loses;
       lines = record {
         lines = lines;
-        in_order = in_order told found.lost records ranges lines found.found (merged (can_merge told found.lost records ranges found.found));
+        in_order = in_order known found.lost records ranges lines found.found (merged (can_merge known found.lost records ranges found.found));
         text_is = is;
       };
       is_clean = ((λ yes'. front.0 (answer.0 yes')), (λ c. answer.1 (front.1 c)));

@@ -5,7 +5,7 @@ use Rattle.scrub_disk.specs.Image.{Image}
 use Rattle.scrub_run.specs.Entry.{EntryValue}
 use Rattle.scrub_run.specs.Run.{run_bytes}
 use Rattle.scrub_merge.specs.Binding.{BindingValue}
-use Rattle.scrub_check.specs.declared.checked.Checked.{Checked}
+use Rattle.scrub_check.specs.declared.statuses.checked.Checked.{Checked}
 use Rattle.scrub_check.specs.Checked.{is_broken}
 use Rattle.scrub_report.specs.Scrubbed.{Scrubbed, IsScrubbed}
 

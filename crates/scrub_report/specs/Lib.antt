@@ -1,5 +1,5 @@
 -- For public clauses.
-pub mod Writing
+pub mod Output
 pub mod Scrubbed
 pub mod Json
 pub mod Texts

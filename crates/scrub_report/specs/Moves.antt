@@ -4,7 +4,7 @@ use Rattle.std.specs.declared.cmp.Ordering.{Ordering}
 use Rattle.std.specs.Ordering.{nat_cmp, ordering_then}
 use Rattle.std.specs.Borrow.{Bor}
 use Rattle.std.specs.List.Sorted.{IsSortedByKey}
-use Rattle.scrub_check.specs.declared.checked.Checked.{Checked}
+use Rattle.scrub_check.specs.declared.statuses.checked.Checked.{Checked}
 use Rattle.scrub_report.specs.Reclaimable.{pointing_to}
 
 -- where a named locator points: an extent and a byte of it

@@ -6,8 +6,8 @@ use Rattle.scrub_disk.specs.Image.{Image}
 use Rattle.scrub_super.specs.declared.pages.SuperblockPage.{SuperblockPage}
 use Rattle.scrub_super.specs.Pages.{AreSuperblockPages}
 use Rattle.scrub_scan.specs.Line.{spaced}
-use Rattle.scrub_check.specs.declared.checked.Checked.{Checked}
-use Rattle.scrub_check.specs.declared.status.Status.TheVariants.{Sound}
+use Rattle.scrub_check.specs.declared.statuses.checked.Checked.{Checked}
+use Rattle.scrub_check.specs.declared.statuses.status.Status.TheVariants.{Sound}
 use Rattle.scrub_check.specs.Candidates.{CandidateValue}
 use Rattle.scrub_report.specs.declared.doubts.Accepted.{Accepted}
 use Rattle.scrub_report.specs.declared.doubts.Doubt.{Doubt}
@@ -106,7 +106,7 @@ pub record IsClear (image : Image) (accepted : Accepted) (clear : Bool) : Type 0
   pub scrubbed : IsScrubbed image found
   pub pages : List SuperblockPage
   pub held : AreSuperblockPages image pages
-  pub told : clear ≡ is_clear accepted pages found
+  pub verdict : clear ≡ is_clear accepted pages found
 
 -- ---- what follows
 

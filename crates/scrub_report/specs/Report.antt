@@ -12,10 +12,10 @@ use Rattle.scrub_scan.specs.Line.{line_of}
 use Rattle.scrub_scan.specs.Scanned.{Scanned}
 use Rattle.scrub_run.specs.declared.shard_id.ShardId.{ShardId}
 use Rattle.scrub_merge.specs.Binding.{BindingValue, Runs}
-use Rattle.scrub_check.specs.declared.checked.Checked.{Checked}
-use Rattle.scrub_check.specs.declared.place.Place.{Place}
-use Rattle.scrub_check.specs.declared.place.SharedPlace.{SharedPlace}
-use Rattle.scrub_check.specs.declared.runs.RunState.{RunState}
+use Rattle.scrub_check.specs.declared.statuses.checked.Checked.{Checked}
+use Rattle.scrub_check.specs.declared.lists.place.Place.{Place}
+use Rattle.scrub_check.specs.declared.lists.place.SharedPlace.{SharedPlace}
+use Rattle.scrub_check.specs.declared.sources.runs.RunState.{RunState}
 use Rattle.scrub_check.specs.Candidates.{CandidateValue}
 use Rattle.scrub_check.specs.Checked.{dangling, hidden}
 use Rattle.scrub_check.specs.Chunks.{orphans, twins}

@@ -11,8 +11,8 @@ use Rattle.scrub_scan.specs.AllFindings.{AreAllFindings}
 use Rattle.scrub_run.specs.declared.shard_id.ShardId.{ShardId}
 use Rattle.scrub_merge.specs.Binding.{BindingValue}
 use Rattle.scrub_merge.specs.ShardMap.{IsShardMap}
-use Rattle.scrub_check.specs.declared.checked.Checked.{Checked}
-use Rattle.scrub_check.specs.declared.place.SharedPlace.{SharedPlace}
+use Rattle.scrub_check.specs.declared.statuses.checked.Checked.{Checked}
+use Rattle.scrub_check.specs.declared.lists.place.SharedPlace.{SharedPlace}
 use Rattle.scrub_check.specs.Runs.{ReadRunsValue, AreReadRuns}
 use Rattle.scrub_check.specs.Named.{named}
 use Rattle.scrub_check.specs.Checked.{AreChecked, AreBrokenShards, dangling, hidden}
@@ -76,4 +76,4 @@ is_clean s = is_clean_choice s.choice && list_all is_clean_extent s.all && list_
 pub record IsCleanImage (image : Image) (clean : Bool) : Type 0 where
   pub found : Scrubbed
   pub scrubbed : IsScrubbed image found
-  pub told : clean ≡ is_clean found
+  pub verdict : clean ≡ is_clean found

@@ -61,4 +61,4 @@ pub record AreSuperblockLines (image : Image) (text : List ℕ) : Type 0 where
 pub record AreCleanSuperblocks (image : Image) (clean : Bool) : Type 0 where
   pub pages : List SuperblockPage
   pub are : AreSuperblockPages image pages
-  pub told : clean ≡ are_clean_pages pages
+  pub verdict : clean ≡ are_clean_pages pages

@@ -3,7 +3,7 @@
 ghost use Rattle.scrub_report.specs.Report.{candidate_data, place_data, shared_data};
 
 use crate::object::{Value, write_object};
-use crate::written::WriteJson;
+use crate::json_values::WriteJson;
 use json::Writer;
 use scrub_check::{Candidate, Place, SharedPlace};
 use scrub_disk::OutOfMemory;

@@ -10,7 +10,7 @@ ghost use Rattle.scrub_report.specs.Report.{extent_data};
 ghost use Rattle.scrub_report.specs.Tokens.{extents_tokens, piece_text, value_tokens};
 
 use crate::object::{Value, write_object};
-use crate::written::WriteJson;
+use crate::json_values::WriteJson;
 use json::Writer;
 use scrub_disk::{OutOfMemory, PageSource};
 use scrub_scan::{AllFindings, ExtentResult, Item, item_line};

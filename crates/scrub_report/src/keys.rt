@@ -10,7 +10,7 @@ use crate::parts::Parts;
 use crate::runs::write_runs;
 use crate::shards::doubtful_ids;
 use crate::sizes::{write_geometry, write_super};
-use crate::written::{WriteJson, write_list};
+use crate::json_values::{WriteJson, write_list};
 use json::Writer;
 use scrub_check::{Candidate, Checked, Place, SharedPlace, dangling, hidden};
 use scrub_disk::{Geometry, OutOfMemory, PageSource};

@@ -14,7 +14,7 @@ pub mod listing;
 mod locators;
 mod moves;
 mod object;
-pub mod order;
+pub mod clean;
 mod page_ranges;
 mod parts;
 mod reclaiming;
@@ -27,8 +27,8 @@ mod sizes;
 pub mod sizes_listing;
 pub mod superblocks;
 mod texts;
-pub mod writing;
-mod written;
+pub mod output;
+mod json_values;
 
 pub use answer::{
     ScrubAnswer, ScrubFault, one_list_of_planned_extents, one_report, scrub, scrub_in_order,
@@ -36,7 +36,7 @@ pub use answer::{
 };
 pub use doubts::Accepted;
 pub use listing::{LocatorListing, list_locators, one_locator_listing};
-pub use order::are_clean_items;
+pub use clean::are_clean_items;
 pub use page_ranges::neighbouring_pages_are_joined;
 pub use reclaiming::{
     ReclaimListing, list_reclaimable, one_reclaim_listing, reclaimed_are_candidates,
@@ -44,4 +44,4 @@ pub use reclaiming::{
 };
 pub use sizes_listing::{SizesListing, list_sizes, one_sizes_listing};
 pub use superblocks::{SuperblockListing, list_superblocks, one_superblock_listing};
-pub use writing::{WriteFault, write_out};
+pub use output::{WriteFault, write_out};

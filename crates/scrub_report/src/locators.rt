@@ -5,7 +5,7 @@ ghost use Rattle.scrub_check.specs.Checked.{is_hidden};
 ghost use Rattle.scrub_report.specs.Tokens.{locator_data};
 
 use crate::object::{Value, write_object};
-use crate::written::WriteJson;
+use crate::json_values::WriteJson;
 use json::Writer;
 use scrub_check::{Checked, Status};
 use scrub_disk::OutOfMemory;

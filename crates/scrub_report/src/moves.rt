@@ -1,7 +1,7 @@
 //! Which named locators point to a chunk, found among all of them by search.
 
 ghost use Rattle.std.specs.Prelude.{◌≡◌, IfOk, List, map};
-ghost use Rattle.scrub_check.specs.declared.checked.Checked.{Checked};
+ghost use Rattle.scrub_check.specs.declared.statuses.checked.Checked.{Checked};
 ghost use Rattle.scrub_report.specs.Moves.{AreRisingPlaces, PointAlike, place_named};
 ghost use Rattle.scrub_report.specs.Reclaimable.{pointing_to};
 

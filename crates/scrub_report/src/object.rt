@@ -5,7 +5,7 @@ ghost use Rattle.scrub_report.specs.Json.{with_keys};
 ghost use Rattle.scrub_report.specs.Tokens.{members_tokens, value_tokens};
 
 use crate::texts::{owner_text, state_text, status_text};
-use crate::written::{WriteJson, write_list};
+use crate::json_values::{WriteJson, write_list};
 use json::Writer;
 use scrub_check::{Owner, RunState, Status};
 use scrub_disk::OutOfMemory;

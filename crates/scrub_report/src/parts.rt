@@ -53,6 +53,6 @@ pub(crate) struct Parts<'d, D: PageSource> {
     pub broken: Vec<ShardId>,
     /// What follows from which chunks are live.
     pub liveness: Liveness,
-    pub ghost live_told: { liveness.live.items ≡ list_map (live_bytes checked.items) all.extents },
-    pub ghost orphans_told: { liveness.orphans.items ≡ orphans all.extents checked.items },
+    pub ghost live_found: { liveness.live.items ≡ list_map (live_bytes checked.items) all.extents },
+    pub ghost orphans_found: { liveness.orphans.items ≡ orphans all.extents checked.items },
 }

@@ -6,7 +6,7 @@ ghost use Rattle.std.specs.List.{flat_map};
 ghost use Rattle.scrub_disk.specs.Image.{Image};
 ghost use Rattle.scrub_super.specs.declared.pages.SuperblockPage.{SuperblockPage};
 ghost use Rattle.scrub_super.specs.Pages.{AreSuperblockPages};
-ghost use Rattle.scrub_check.specs.declared.checked.Checked.{Checked};
+ghost use Rattle.scrub_check.specs.declared.statuses.checked.Checked.{Checked};
 ghost use Rattle.scrub_report.specs.declared.doubts.Accepted.{Accepted};
 ghost use Rattle.scrub_report.specs.Answer.{IsPartitionOfPlanned, IsCountOfPlanned};
 ghost use Rattle.scrub_report.specs.Moves.{AreRisingPlaces, PointAlike};

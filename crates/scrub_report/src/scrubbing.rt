@@ -12,7 +12,7 @@ ghost use Rattle.scrub_report.specs.Parts.{AreJudgedOf, ArePartsOf, IsLivenessOf
 ghost use Rattle.scrub_report.specs.Report.{entry_counts};
 ghost use Rattle.scrub_report.specs.Scrubbed.{is_clean_list, is_in_doubt};
 
-use crate::order::{are_clean_extents, is_clean_choice};
+use crate::clean::{are_clean_extents, is_clean_choice};
 use crate::parts::{Judged, Parts};
 use crate::scanning::Scan;
 use scrub_check::{

@@ -1,6 +1,7 @@
 //! The superblock records of a raw image as lines, whatever its sizes, with what is lost of it.
 
 ghost use Rattle.std.specs.Prelude.{◌≡◌, ◌+◌, ◌-◌, ◌<◌, ◌≤◌, ◌↔◌, ◌^◌, ℕ, All, List, Bool, IfOk, IfSome, IsTrue};
+ghost use Rattle.scrub_disk.specs.Limits.{max_extent_bytes};
 ghost use Rattle.scrub_report.specs.Sizes.{AreSizesLines, IsCleanFront, IsSizesListing};
 ghost use Rattle.scrub_report.specs.SizesSteps.{AreCleanLists};
 
@@ -53,12 +54,12 @@ pub fn list_sizes<R: RawImage>(
     marked: &[bool],
 ) -> Result<SizesListing, OutOfMemory>
     requires few_reads { R.reads raw.old < 2 ^ 62 }
-    ensures listing { IfOk result (λ l. IfSome (R.bytes raw.old) (λ told.
-        IsSizesListing told marked.now (R.failures raw.new - R.failures raw.old) l.text.items l.is_clean)) }
+    ensures listing { IfOk result (λ l. IfSome (R.bytes raw.old) (λ known.
+        IsSizesListing known marked.now (R.failures raw.new - R.failures raw.old) l.text.items l.is_clean)) }
     ensures failures { R.failures raw.old ≤ R.failures raw.new }
     ensures same_bytes { R.bytes raw.new ≡ R.bytes raw.old }
     ensures same_bound { R.most_failures raw.new ≡ R.most_failures raw.old }
-    ensures reads { R.reads raw.new ≤ R.reads raw.old + 2 ^ 26 }
+    ensures reads { R.reads raw.new ≤ R.reads raw.old + max_extent_bytes }
 {
     let found = find_superblocks(alloc, raw, marked)?;
     let lines = lines_in_order(alloc, &found.records, &found.lost)?;

@@ -11,11 +11,11 @@ use Rattle.scrub_run.specs.Entry.{EntryValue, IsBelow}
 use Rattle.scrub_run.specs.Run.{RisesById}
 
 -- what `<` on two identifiers says
-pub below_told : (a b : ShardId) (answer : Bool) → answer ≡ is_some_and is_lt (slice_partial_cmp (λ x y. Some (nat_cmp x y)) a.0 b.0) → IsTrue answer ↔ IsBelow a b
-below_told a b answer e = (λ h. less (slice_cmp nat_cmp a.0 b.0) (sym told ∙ h), λ h. told ∙ ap is_lt h)
+pub below_decided : (a b : ShardId) (answer : Bool) → answer ≡ is_some_and is_lt (slice_partial_cmp (λ x y. Some (nat_cmp x y)) a.0 b.0) → IsTrue answer ↔ IsBelow a b
+below_decided a b answer e = (λ h. less (slice_cmp nat_cmp a.0 b.0) (sym decided ∙ h), λ h. decided ∙ ap is_lt h)
   where
-    told : answer ≡ is_lt (slice_cmp nat_cmp a.0 b.0)
-    told = e ∙ ap (is_some_and is_lt) (lists_agrees (λ x y. refl) a.0 b.0)
+    decided : answer ≡ is_lt (slice_cmp nat_cmp a.0 b.0)
+    decided = e ∙ ap (is_some_and is_lt) (lists_agrees (λ x y. refl) a.0 b.0)
 
     less : (o : Ordering) → is_lt o ≡ true → o ≡ Less
     less Less h = refl

@@ -13,7 +13,7 @@ use crate::locators::Locators;
 use crate::run::Run;
 use crate::shard_id::{ShardId, is_below};
 use byteorder::{BigEndian, ByteOrder};
-use scrub_frame::{LOCATOR_BYTES, digest_of};
+use scrub_frame::{DIGEST_BYTES, LOCATOR_BYTES, digest_of};
 use std::alloc::Global;
 use thiserror::Error;
 
@@ -42,7 +42,7 @@ fn checked_body(payload: &[u8]) -> Option<&[u8]>
     ensures found { IfSome result (λ body. payload.now ≡ body.now ++ sha256 body.now) }
     ensures none { IfNone result ((body : List ℕ) → ¬ (payload.now ≡ body ++ sha256 body)) }
 {
-    let (body, digest) = payload.split_last_chunk::<32>()?;
+    let (body, digest) = payload.split_last_chunk::<DIGEST_BYTES>()?;
     if digest_of(body) != *digest {
         return None;
     }

@@ -25,12 +25,12 @@ same_on xs all = ext_get_or 0 (drop 1 xs) (take (length xs - 1) xs) (length-drop
     get_or-drop 1 xs i 0 ∙ all (1 + i) (omega (arith, within)) ∙ sym (get_or-take (length xs - 1) xs i 0 within ∙ all i (omega (arith, within))))
 
 -- bytes whose first is zero are zero exactly where they are the same as those one place on
-pub zeros_told : (xs : List ℕ) (r : Bool) → get_or xs 0 0 ≡ 0 → r ≡ bytes_eq (take (length xs - 1) (drop 1 xs)) (take (length xs - 1) xs) → IsTrue r ↔ AreZero xs
-zeros_told xs r first says =
-    let told : r ≡ bytes_eq (drop 1 xs) (take (length xs - 1) xs) =
+pub zeros_decided : (xs : List ℕ) (r : Bool) → get_or xs 0 0 ≡ 0 → r ≡ bytes_eq (take (length xs - 1) (drop 1 xs)) (take (length xs - 1) xs) → IsTrue r ↔ AreZero xs
+zeros_decided xs r first says =
+    let decided : r ≡ bytes_eq (drop 1 xs) (take (length xs - 1) xs) =
     says ∙ ap (λ ys. bytes_eq ys (take (length xs - 1) xs)) (take_all (length xs - 1) (drop 1 xs) (omega (arith, length-drop 1 xs))) in
     let decides = bytes_eq-Decides (drop 1 xs) (take (length xs - 1) xs) in
-    (λ yes. from_first xs first (decides.0 (sym told ∙ yes)), λ all. told ∙ decides.1 (same_on xs all))
+    (λ yes. from_first xs first (decides.0 (sym decided ∙ yes)), λ all. decided ∙ decides.1 (same_on xs all))
 
 filtered : (xs : List ℕ) → AreZero xs → filter (λ b. not (eqb b 0)) xs ≡ []
 filtered [] all = refl

@@ -72,9 +72,9 @@ module _ (image : Image) (t : Target) (whole : HasWholePages image) (is : IsTarg
       omega (arith, h, same)
 
   -- the unreadable pages up to the end of an item, and those up to its start
-  item_told : (item : Item) → IsItem (target_of image t) item →
+  lost_in_item : (item : Item) → IsItem (target_of image t) item →
       unreadable_below image t.extent (stop_of item / t.page) ≡ unreadable_below image t.extent (start_of item / t.page) ++ cons_option (lost_page t.page item) []
-  item_told (Chunk f start stop u n digest) h =
+  lost_in_item (Chunk f start stop u n digest) h =
       let k : IsChunk (target_of image t) start f stop n u digest h.fits.1.0 = h.fits.1.1 in
       let size : length (frame f u h.fits.1.0) ≡ frame_overhead f + length h.fits.1.0 = length-frame f u h.fits.1.0 k.frame.has_frame.sixteen in
       pages_readable start stop (omega (arith, k.stop)) (λ q low high.
@@ -85,16 +85,16 @@ module _ (image : Image) (t : Target) (whole : HasWholePages image) (is : IsTarg
       ap (λ r. is_none (image.page t.extent r)) (sym here.3)
       ∙ readable_page image t.extent here.0 t.page is.page (λ none.
       none-some _ (sym none ∙ ap (byte image t.extent) (sym j) ∙ k.frame.stands (here.0 - start) (omega (arith, here.1, here.2, k.stop, size)))))
-  item_told (Pad start stop) h =
+  lost_in_item (Pad start stop) h =
       let up = advances (target_of image t) (Pad start stop) (omega (arith, t.positive, is.page)) h in
       one_readable start stop (omega (arith, up.0)) (bound_at start stop h.fits.0.1) (λ none. none-some _ (sym none ∙ h.fits.2 start (omega arith) (omega (arith, up.0, h.fits.0.1))))
-  item_told (Torn start stop) h =
+  lost_in_item (Torn start stop) h =
       let up = advances (target_of image t) (Torn start stop) (omega (arith, t.positive, is.page)) h in
       one_readable start stop (omega (arith, up.0)) (bound_at start stop h.fits.0.1) h.fits.2
-  item_told (Noise start stop) h =
+  lost_in_item (Noise start stop) h =
       let up = advances (target_of image t) (Noise start stop) (omega (arith, t.positive, is.page)) h in
       one_readable start stop (omega (arith, up.0)) (bound_at start stop h.fits.0.1) h.fits.2
-  item_told (Lost start stop) h =
+  lost_in_item (Lost start stop) h =
       let up = advances (target_of image t) (Lost start stop) (omega (arith, t.positive, is.page)) h in
       let next = next_at_most start stop t.page t.positive (bound_at start stop h.fits.0.1) in
       let rises = page_rises start stop t.page t.positive (omega (arith, up.0)) in
@@ -112,13 +112,13 @@ module _ (image : Image) (t : Target) (whole : HasWholePages image) (is : IsTarg
       ]
 
   -- and up to the end of all items that join from a place
-  items_told : (a w : ℕ) (items : List Item) → Joins a w items → All (IsItem (target_of image t)) items →
+  lost_in_items : (a w : ℕ) (items : List Item) → Joins a w items → All (IsItem (target_of image t)) items →
       unreadable_below image t.extent (w / t.page) ≡ unreadable_below image t.extent (a / t.page) ++ filter_map (lost_page t.page) items
-  items_told a w [] joined each = ap (λ k. unreadable_below image t.extent (k / t.page)) (sym joined) ∙ sym (append-nil (unreadable_below image t.extent (a / t.page)))
-  items_told a w (item ∷ items) joined each =
-      items_told (stop_of item) w items joined.1 (All-tail (IsItem (target_of image t)) item items each)
+  lost_in_items a w [] joined each = ap (λ k. unreadable_below image t.extent (k / t.page)) (sym joined) ∙ sym (append-nil (unreadable_below image t.extent (a / t.page)))
+  lost_in_items a w (item ∷ items) joined each =
+      lost_in_items (stop_of item) w items joined.1 (All-tail (IsItem (target_of image t)) item items each)
       ∙ ap (λ known. known ++ filter_map (lost_page t.page) items)
-      (item_told item (All-head (IsItem (target_of image t)) item items each) ∙ ap (λ k. unreadable_below image t.extent (k / t.page) ++ cons_option (lost_page t.page item) []) joined.0)
+      (lost_in_item item (All-head (IsItem (target_of image t)) item items each) ∙ ap (λ k. unreadable_below image t.extent (k / t.page) ++ cons_option (lost_page t.page item) []) joined.0)
       ∙ append_assoc (unreadable_below image t.extent (a / t.page)) (cons_option (lost_page t.page item) []) (filter_map (lost_page t.page) items)
       ∙ ap (λ more. unreadable_below image t.extent (a / t.page) ++ more) (joined_option (lost_page t.page item) (filter_map (lost_page t.page) items))
     where
@@ -127,9 +127,9 @@ module _ (image : Image) (t : Target) (whole : HasWholePages image) (is : IsTarg
       joined_option (Some x) xs = refl
 
   -- the lost items of a tiling tell the unreadable pages before that of the pointer
-  pub lost_pages_told : (items : List Item) → IsTiling (target_of image t) items → filter_map (lost_page t.page) items ≡ unreadable_below image t.extent (t.pointer / t.page)
-  lost_pages_told items h =
-      sym (items_told 0 t.pointer items h.joined h.each ∙ ap (λ k. unreadable_below image t.extent k ++ filter_map (lost_page t.page) items) (none_before t.page t.positive))
+  pub lost_pages_listed : (items : List Item) → IsTiling (target_of image t) items → filter_map (lost_page t.page) items ≡ unreadable_below image t.extent (t.pointer / t.page)
+  lost_pages_listed items h =
+      sym (lost_in_items 0 t.pointer items h.joined h.each ∙ ap (λ k. unreadable_below image t.extent k ++ filter_map (lost_page t.page) items) (none_before t.page t.positive))
     where
       none_before : (p : ℕ) → 0 < p → 0 / p ≡ 0
       none_before p positive = let below : 0 / p < 1 = div_below 0 p 1 positive (omega (arith, positive)) in omega (arith, below)

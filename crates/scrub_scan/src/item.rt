@@ -3,7 +3,7 @@
 ghost use Rattle.std.specs.Prelude.{◌≡◌, IfOk, length, string_bytes};
 
 use scrub_disk::OutOfMemory;
-use scrub_frame::Form;
+use scrub_frame::{DIGEST_BYTES, Form};
 use std::alloc::Global;
 use std::fmt;
 use std::marker::Model;
@@ -22,7 +22,7 @@ pub enum Item {
         stop: u32,
         uuid: Uuid,
         length: u32,
-        digest: [u8; 32],
+        digest: [u8; DIGEST_BYTES],
     },
     /// Readable, and all zero.
     Pad {

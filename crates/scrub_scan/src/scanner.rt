@@ -16,7 +16,7 @@ use crate::pages::{Target, TwoPages};
 use crate::zeros::is_zero;
 use scrub_disk::{OutOfMemory, PageSource};
 use scrub_frame::{
-    CLOSE_BYTES, Fed, Form, HEAD_BYTES, LEAST_OVERHEAD, Matcher, put_part, read_head,
+    DIGEST_BYTES, CLOSE_BYTES, Fed, Form, HEAD_BYTES, LEAST_OVERHEAD, Matcher, put_part, read_head,
 };
 use std::alloc::Global;
 use uuid::Uuid;
@@ -29,7 +29,7 @@ pub(crate) struct Found {
     /// The length of its payload, in bytes.
     pub length: u32,
     /// The SHA-256 of its payload.
-    pub digest: [u8; 32],
+    pub digest: [u8; DIGEST_BYTES],
 }
 
 /// Reads an extent by pages. It keeps two pages, the running digest of the frame that passes, and one page that it found

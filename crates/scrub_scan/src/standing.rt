@@ -13,7 +13,7 @@ use crate::pages::Target;
 use crate::reading::read_bytes;
 use crate::scanner::{Found, Scanner};
 use scrub_disk::{OutOfMemory, PageSource};
-use scrub_frame::{Form, HEAD_BYTES, Head, LEAST_OVERHEAD, read_head};
+use scrub_frame::{DIGEST_BYTES, Form, HEAD_BYTES, Head, LEAST_OVERHEAD, read_head};
 use std::alloc::Global;
 use uuid::Uuid;
 
@@ -31,7 +31,7 @@ pub struct Standing {
     /// The length of its payload, in bytes.
     pub length: u32,
     /// The SHA-256 of its payload.
-    pub digest: [u8; 32],
+    pub digest: [u8; DIGEST_BYTES],
 }
 
 /// The frame that stands at a place of an extent: it ends at or before the pointer, and every byte of it can be read.

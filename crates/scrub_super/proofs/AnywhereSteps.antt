@@ -21,7 +21,7 @@ use Rattle.scrub_super.specs.Pages.{kind_of}
 use Rattle.scrub_super.specs.Blocks.{IsMarked, byte_left}
 use Rattle.scrub_super.specs.BlocksRead.{AreBlockMarks, IsReadableTo, BeginsInPlace, TellsRecord}
 use Rattle.scrub_super.specs.Anywhere.{StandsAnywhere, IsFoundRecord, AreFoundRecords}
-use Rattle.scrub_super.proofs.Found.{told_kind}
+use Rattle.scrub_super.proofs.Found.{known_kind}
 use Rattle.scrub_super.proofs.OneRecord.{one_record_lem}
 use Rattle.scrub_super.proofs.BlocksFront.{left_at, left_there}
 use Rattle.scrub_super.proofs.RisingLists.{rises_more}
@@ -98,7 +98,7 @@ module _ {bytes part : List ℕ} {offset room : ℕ} {g : Geometry} (fits : IsRo
               within = omega (arith, fits.inside positive, whole.1);
               begins = whole.0;
             },
-            kind_is ∙ told_kind some,
+            kind_is ∙ known_kind some,
             sym some.generation,
           )
 
@@ -106,7 +106,7 @@ module _ {bytes part : List ℕ} {offset room : ℕ} {g : Geometry} (fits : IsRo
           Some (record { offset = offset; kind = kind; generation = generation; geometry = g }) ≡ Some r
       only_in_room {r} e t =
           let same : some.contents ≡ t.0 = one_record_lem g part _ _ some.begins (in_room e t) in
-          let kinds : kind ≡ r.kind = kind_is ∙ told_kind some ∙ ap kind_of same ∙ sym t.3 in
+          let kinds : kind ≡ r.kind = kind_is ∙ known_kind some ∙ ap kind_of same ∙ sym t.3 in
           let generations : generation ≡ r.generation =
           sym some.generation ∙ ap (λ c. c.generation) same ∙ sym t.4 in
           let geometries : g ≡ r.geometry = same_Some _ _ e in
@@ -201,22 +201,22 @@ multiple : (slot : ℕ) → (slot * 64) % 64 ≡ 0
 multiple slot = omega arith
 
 -- what stands at the offset is told, if something does
-pub slot_more : (bytes : List ℕ) {part : List ℕ} (lost : List Bool) (slot : ℕ) {end offset : ℕ} {told : Option FoundRecord} {records : List FoundRecord} →
+pub slot_more : (bytes : List ℕ) {part : List ℕ} (lost : List Bool) (slot : ℕ) {end offset : ℕ} {known : Option FoundRecord} {records : List FoundRecord} →
     offset ≡ slot * 64 → part ≡ between (slot * 64) end bytes → IsReadableTo (length bytes) lost (slot * 64) end →
-    IfSome told (TellsRecord part offset) → ((r : FoundRecord) → TellsRecord part offset r → told ≡ Some r) →
+    IfSome known (TellsRecord part offset) → ((r : FoundRecord) → TellsRecord part offset r → known ≡ Some r) →
     AreRecordsBelow (byte_left bytes lost) (slot * 64) records →
-    AreRecordsBelow (byte_left bytes lost) ((slot + 1) * 64) (records ++ option_to_list told)
-slot_more bytes {part} lost slot {end} {offset} {told} {records} here is up tells only old = by told refl
+    AreRecordsBelow (byte_left bytes lost) ((slot + 1) * 64) (records ++ option_to_list known)
+slot_more bytes {part} lost slot {end} {offset} {known} {records} here is up tells only old = by known refl
   where
     next : (r : FoundRecord) → r.offset < (slot + 1) * 64 → IsFoundRecord (byte_left bytes lost) r →
-        (told ≡ Some r) ⊎ Contains records r
+        (known ≡ Some r) ⊎ Contains records r
     next r low f = elim (this_or_lower slot r.offset f.1.step low) [
       | inl same ↦ inl (only r (rw (is, here) (tells_of_stands bytes up same f)))
       | inr lower ↦ inr (old.in_list r lower f)
     ]
 
-    by : (o : Option FoundRecord) → told ≡ o →
-        AreRecordsBelow (byte_left bytes lost) ((slot + 1) * 64) (records ++ option_to_list told)
+    by : (o : Option FoundRecord) → known ≡ o →
+        AreRecordsBelow (byte_left bytes lost) ((slot + 1) * 64) (records ++ option_to_list known)
     by None none = rw (none, append-nil) (record {
       rising = old.rising;
       in_list = λ r low f. elim (next r low f) [ inl e ↦ absurd (none-some r (sym none ∙ e)) | inr c ↦ c ];

@@ -84,14 +84,14 @@ module _ {read out new : List ℕ} {lost more : List Bool} {len : ℕ} {is_lost 
   ]
 
   -- the failures that were counted, and one more where they rose
-  one_block : {told : List ℕ} {marks : List Bool} {start : ℕ} (before after : ℕ) {former latter : ℕ} →
+  one_block : {known : List ℕ} {marks : List Bool} {start : ℕ} (before after : ℕ) {former latter : ℕ} →
       length read ≡ 512 * length lost → start ≡ length lost * 512 → before ≤ after →
-      (former < latter → before < after) → AreBlocksRead told marks before read lost →
-      IsBlockRead told start (get_or marks (length lost) false) former latter out len is_lost →
-      AreBlocksRead told marks after new more
-  one_block {told} {marks} {start} before after size place le counted old block = by is_lost refl
+      (former < latter → before < after) → AreBlocksRead known marks before read lost →
+      IsBlockRead known start (get_or marks (length lost) false) former latter out len is_lost →
+      AreBlocksRead known marks after new more
+  one_block {known} {marks} {start} before after size place le counted old block = by is_lost refl
     where
-      held' : (i : ℕ) → i < length new → (IsMarked more (i / 512) → ⊥) → slice_get told i ≡ Some (get_or new i 0)
+      held' : (i : ℕ) → i < length new → (IsMarked more (i / 512) → ⊥) → slice_get known i ≡ Some (get_or new i 0)
       held' i hi unmarked = rw adds.bytes (elim (cases_lt i (length read)) [
         | inl low ↦
             let before : i / 512 < length lost = omega (arith, low, size) in
@@ -103,12 +103,12 @@ module _ {read out new : List ℕ} {lost more : List Bool} {len : ℕ} {is_lost 
             let kept : is_lost ≡ false =
             false_from_ne_true is_lost (λ marked. unmarked (rw last (last_mark ∙ marked))) in
             let here : start + (i - length read) ≡ i = omega (arith, place, size, high) in
-            ap (slice_get told) (sym here)
+            ap (slice_get known) (sym here)
             ∙ block.read kept (i - length read) (omega (arith, small, length_piece))
             ∙ ap Some (sym (get_or-append_right read (take len out) (length read) i 0 refl high))
       ])
 
-      marked' : (n : ℕ) → n < length more → n * 512 < length told → IsMarked marks n → IsMarked more n
+      marked' : (n : ℕ) → n < length more → n * 512 < length known → IsMarked marks n → IsMarked more n
       marked' n hn before_end m = elim (cases_lt n (length lost)) [
         | inl low ↦ mark_before n low ∙ old.marked n low before_end m
         | inr high ↦
@@ -116,7 +116,7 @@ module _ {read out new : List ℕ} {lost more : List Bool} {len : ℕ} {is_lost 
             rw last (last_mark ∙ block.marked (rw last at m) (omega (arith, before_end, last, place)))
       ]
 
-      by : (b : Bool) → is_lost ≡ b → AreBlocksRead told marks after new more
+      by : (b : Bool) → is_lost ≡ b → AreBlocksRead known marks after new more
       by false kept = record {
         held = held';
         marked = marked';
@@ -156,28 +156,28 @@ module _ {read out new : List ℕ} {lost more : List Bool} {len : ℕ} {is_lost 
   module _ {raw was : Option (List ℕ)} (marks : List Bool) {n start : ℕ} (first before after : ℕ) {m : Bool}
       (same : was ≡ raw) (number : length lost ≡ n) (mark : m ≡ get_or marks n false) (size : length read ≡ 512 * n)
       (place : start ≡ n * 512) (low : first ≤ before) (le : before ≤ after)
-      (old : IfSome raw (λ told. AreBlocksRead told marks (before - first) read lost))
-      (block : IfSome was (λ told. IsBlockRead told start m before after out len is_lost)) where
-    pub blocks_next : IfSome raw (λ told. AreBlocksRead told marks (after - first) new more)
+      (old : IfSome raw (λ known. AreBlocksRead known marks (before - first) read lost))
+      (block : IfSome was (λ known. IsBlockRead known start m before after out len is_lost)) where
+    pub blocks_next : IfSome raw (λ known. AreBlocksRead known marks (after - first) new more)
     blocks_next = by raw old (rw (same, mark, ← number) at block)
       where
-        by : (o : Option (List ℕ)) → IfSome o (λ told. AreBlocksRead told marks (before - first) read lost) →
-            IfSome o (λ told. IsBlockRead told start (get_or marks (length lost) false) before after out len is_lost) →
-            IfSome o (λ told. AreBlocksRead told marks (after - first) new more)
+        by : (o : Option (List ℕ)) → IfSome o (λ known. AreBlocksRead known marks (before - first) read lost) →
+            IfSome o (λ known. IsBlockRead known start (get_or marks (length lost) false) before after out len is_lost) →
+            IfSome o (λ known. AreBlocksRead known marks (after - first) new more)
         by None old block = tt
-        by (Some told) old block =
+        by (Some known) old block =
             one_block (before - first) (after - first) (omega (arith, size, number)) (omega (arith, place, number))
             (omega (arith, le, low)) (λ rose. omega (arith, rose, low)) old block
 
     -- the image ended in the block
-    pub blocks_end : len < 512 → IfSome raw (λ told. AreAllRead told marks (after - first) new more)
+    pub blocks_end : len < 512 → IfSome raw (λ known. AreAllRead known marks (after - first) new more)
     blocks_end short = by raw blocks_next (rw same at block)
       where
-        by : (o : Option (List ℕ)) → IfSome o (λ told. AreBlocksRead told marks (after - first) new more) →
-            IfSome o (λ told. IsBlockRead told start m before after out len is_lost) →
-            IfSome o (λ told. AreAllRead told marks (after - first) new more)
+        by : (o : Option (List ℕ)) → IfSome o (λ known. AreBlocksRead known marks (after - first) new more) →
+            IfSome o (λ known. IsBlockRead known start m before after out len is_lost) →
+            IfSome o (λ known. AreAllRead known marks (after - first) new more)
         by None blocks block = tt
-        by (Some told) blocks block = record {
+        by (Some known) blocks block = record {
           blocks = blocks;
           ended = inl (omega (arith, block.ended short, place, size, length-next));
         }
@@ -186,10 +186,10 @@ module _ {read out new : List ℕ} {lost more : List Bool} {len : ℕ} {is_lost 
 
 -- there are as many as are read at most
 pub all_read_full : (raw : Option (List ℕ)) (marks lost : List Bool) (read : List ℕ) (failures : ℕ) →
-    length read ≡ 2 ^ 26 → IfSome raw (λ told. AreBlocksRead told marks failures read lost) →
-    IfSome raw (λ told. AreAllRead told marks failures read lost)
+    length read ≡ 2 ^ 26 → IfSome raw (λ known. AreBlocksRead known marks failures read lost) →
+    IfSome raw (λ known. AreAllRead known marks failures read lost)
 all_read_full None marks lost read failures full blocks = tt
-all_read_full (Some told) marks lost read failures full blocks = record { blocks = blocks; ended = inr full }
+all_read_full (Some known) marks lost read failures full blocks = record { blocks = blocks; ended = inr full }
 
 -- ---- the bytes that are left
 
@@ -207,28 +207,28 @@ left_there bytes lost i x is = by (get_or lost (i / 512) false) refl is
     by true e h = absurd (none-some x h)
     by false e h = ((λ marked. false≢true (sym e ∙ marked)), h)
 
-module _ {told : List ℕ} {marks lost : List Bool} {failures : ℕ} {read : List ℕ}
-    (all : AreAllRead told marks failures read lost) where
+module _ {known : List ℕ} {marks lost : List Bool} {failures : ℕ} {read : List ℕ}
+    (all : AreAllRead known marks failures read lost) where
   -- below byte 2^26 those of what was read are those of the raw image
-  pub same_left : (i : ℕ) → i < 2 ^ 26 → byte_left told lost i ≡ byte_left read lost i
+  pub same_left : (i : ℕ) → i < 2 ^ 26 → byte_left known lost i ≡ byte_left read lost i
   same_left i small = by (get_or lost (i / 512) false) refl
     where
-      unlost : (IsMarked lost (i / 512) → ⊥) → slice_get told i ≡ slice_get read i
+      unlost : (IsMarked lost (i / 512) → ⊥) → slice_get known i ≡ slice_get read i
       unlost unmarked = elim (cases_lt i (length read)) [
         | inl low ↦ all.blocks.held i low unmarked ∙ sym (slice_get-get_or read i 0 low)
         | inr high ↦ elim all.ended [
-          | inl ended ↦ slice_get_past told i (omega (arith, ended, high)) ∙ sym (slice_get_past read i high)
+          | inl ended ↦ slice_get_past known i (omega (arith, ended, high)) ∙ sym (slice_get_past read i high)
           | inr full ↦ absurd (omega (arith, full, high, small))
         ]
       ]
 
       by : (b : Bool) → get_or lost (i / 512) false ≡ b →
-          (cond b None (slice_get told i)) ≡ (cond b None (slice_get read i))
+          (cond b None (slice_get known i)) ≡ (cond b None (slice_get read i))
       by true e = refl
       by false e = unlost (λ marked. false≢true (sym e ∙ marked))
 
   -- and the blocks are lost that may be
-  pub loses_blocks : AreBlockMarks read lost → LosesBlocks told marks failures lost
+  pub loses_blocks : AreBlockMarks read lost → LosesBlocks known marks failures lost
   loses_blocks blocks = record {
     few_blocks = blocks.few;
     marked = λ n hn before_end m. all.blocks.marked n (listed n hn before_end) before_end m;
@@ -237,7 +237,7 @@ module _ {told : List ℕ} {marks lost : List Bool} {failures : ℕ} {read : Lis
     only = all.blocks.only;
   }
     where
-      listed : (n : ℕ) → n < 2 ^ 17 → n * 512 < length told → n < length lost
+      listed : (n : ℕ) → n < 2 ^ 17 → n * 512 < length known → n < length lost
       listed n hn before_end = elim all.ended [
         | inl ended ↦ omega (arith, ended, before_end, blocks.all)
         | inr full ↦ omega (arith, full, hn, blocks.all)

@@ -22,7 +22,7 @@ use Rattle.scrub_super.specs.RecordRead.{record_head_size, retired_count, IsHead
 use Rattle.scrub_super.proofs.Cuts.{four_parts}
 use Rattle.scrub_super.proofs.Listed.{AreSmall, count_in, small_count, small_pointers, small_listed, same_numbers, same_listed}
 use Rattle.scrub_super.proofs.Parts.{AreBytes, AreBytes-drop, AreBytes-take, values, length-values, get_or-values, flat_map-values}
-use Rattle.scrub_super.proofs.RecordParts.{runs_place, digest_place, pointer_bytes, retired_bytes, run_bytes, pointers_cut, retired_cut, runs_cut, body_behind, AreRecordParts, record_of_parts, is_head, told_parts}
+use Rattle.scrub_super.proofs.RecordParts.{runs_place, digest_place, pointer_bytes, retired_bytes, run_bytes, pointers_cut, retired_cut, runs_cut, body_behind, AreRecordParts, record_of_parts, is_head, known_parts}
 
 -- ---- numbers and locators, by the bytes that spell them
 
@@ -229,9 +229,9 @@ pub small_some : {g : Geometry} {x : List ℕ} {n r : ℕ} {k : Option ℕ} → 
 small_some {g} some = rw some.listed at (small_count g some.contents.retired some.begins.contents.retired)
 
 -- a record is of the second kind where its head tells how many extents are retired
-pub told_kind : {g : Geometry} {x : List ℕ} {n r : ℕ} {k : Option ℕ} (some : BeginsWithSome g x n r k) →
+pub known_kind : {g : Geometry} {x : List ℕ} {n r : ℕ} {k : Option ℕ} (some : BeginsWithSome g x n r k) →
     option_map_or (λ _. Ssb2) k Ssb1 ≡ kind_of some.contents
-told_kind some = rw (← some.listed) (by some.contents.retired)
+known_kind some = rw (← some.listed) (by some.contents.retired)
   where
     by : (o : Option (List ℕ)) → option_map_or (λ _. Ssb2) (option_map length o) Ssb1 ≡ option_map_or (λ _. Ssb2) o Ssb1
     by None = refl
@@ -247,7 +247,7 @@ pub contents_read : {g : Geometry} {x ws : List ℕ} {o : Option (List ℕ)} {rs
     BeginsWithRecord g x (record { generation = n; pointers = ws; retired = o; runs = rs })
 contents_read {g} {x} {ws} {o} {rs} some at lw fits hw lo small ho lr are hr =
     let b = some.begins in
-    let parts = told_parts (rw (some.generation, some.count, some.listed) at (is_head b)) b in
+    let parts = known_parts (rw (some.generation, some.count, some.listed) at (is_head b)) b in
     let pointers : some.contents.pointers ≡ ws =
     same_numbers _ _ (small_pointers b.contents.pointers) fits (omega (arith, b.contents.pointers.count, lw))
     (sym parts.pointers_are ∙ sym (hw ∙ pointers_cut at x)) in

@@ -35,12 +35,12 @@ same_records {at} {also} same h = record {
   );
 }
 
-pub found_told : (raw : Option (List ℕ)) (marks : List Bool) (failures : ℕ) {lost : List Bool} {read : List ℕ} {records : List FoundRecord} {ranges : List LostBytes} →
-    IfSome raw (λ told. AreAllRead told marks failures read lost) → AreBlockMarks read lost →
+pub found_known : (raw : Option (List ℕ)) (marks : List Bool) (failures : ℕ) {lost : List Bool} {read : List ℕ} {records : List FoundRecord} {ranges : List LostBytes} →
+    IfSome raw (λ known. AreAllRead known marks failures read lost) → AreBlockMarks read lost →
     AreFoundRecords (byte_left read lost) records → AreLostRanges lost ranges →
-    IfSome raw (λ told. AreFoundWith told marks failures records ranges)
-found_told None marks failures all blocks hr hl = tt
-found_told (Some told) marks failures {lost} all blocks hr hl = record {
+    IfSome raw (λ known. AreFoundWith known marks failures records ranges)
+found_known None marks failures all blocks hr hl = tt
+found_known (Some known) marks failures {lost} all blocks hr hl = record {
   lost = lost;
   loses = loses_blocks all blocks;
   found = record { records_are = same_records (λ i small. sym (same_left all i small)) hr; ranges_are = hl };

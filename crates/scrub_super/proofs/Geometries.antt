@@ -51,9 +51,9 @@ not_broken g Extents b = b.2 g.extent_count
 not_broken g ExtentBytes b = omega (arith, b.3, g.extent_fits)
 not_broken g TotalBytes b = omega (arith, b.4, g.total_fits)
 
-sizes_accepted : {g : Geometry} (made : Result Geometry GeometryFault) {told : Option Geometry} {p n e : ℕ} →
+sizes_accepted : {g : Geometry} (made : Result Geometry GeometryFault) {known : Option Geometry} {p n e : ℕ} →
     p ≡ g.page → n ≡ g.pages → e ≡ g.extents →
-    MatchResult made (λ h. HasSizes h p n e) (IsFirstBroken p n e) → told ≡ result_ok made → told ≡ Some g
+    MatchResult made (λ h. HasSizes h p n e) (IsFirstBroken p n e) → known ≡ result_ok made → known ≡ Some g
 sizes_accepted {g} (Ok h) hp hn he sizes is =
     is ∙ ap Some (same_geometry h g (sizes.page ∙ hp) (sizes.pages ∙ hn) (sizes.extents ∙ he))
 sizes_accepted {g} (Err fault) hp hn he broken is = absurd (not_broken g fault (rw (hp, hn, he) at broken))
@@ -70,12 +70,12 @@ front_sizes {g} h hp hn he = (
 )
 
 -- where a record begins, its sizes are read
-pub sizes_read : (x : List ℕ) {y : List ℕ} (made : Result Geometry GeometryFault) {told : Option Geometry} {p n e : ℕ} →
+pub sizes_read : (x : List ℕ) {y : List ℕ} (made : Result Geometry GeometryFault) {known : Option Geometry} {p n e : ℕ} →
     IsFirstChunk x y 26 →
     p ≡ big_number 4 (take 4 (drop 12 y)) → n ≡ big_number 4 (take 4 (drop 16 y)) →
     e ≡ big_number 4 (take 4 (drop 20 y)) →
-    MatchResult made (λ h. HasSizes h p n e) (IsFirstBroken p n e) → told ≡ result_ok made →
-    (g : Geometry) (c : Contents) → BeginsWithRecord g x c → told ≡ Some g
+    MatchResult made (λ h. HasSizes h p n e) (IsFirstBroken p n e) → known ≡ result_ok made →
+    (g : Geometry) (c : Contents) → BeginsWithRecord g x c → known ≡ Some g
 sizes_read x made first hp hn he sizes is g c b =
     let read = front_sizes (rw (← first.same) at (front_of_head x (is_head b))) hp hn he in
     sizes_accepted made read.0 read.1 read.2 sizes is

@@ -5,13 +5,13 @@ use Rattle.scrub_frame.proofs.Locators.{same_locators}
 use Rattle.scrub_super.specs.Contents.{Contents}
 use Rattle.scrub_super.specs.Record.{BeginsWithRecord}
 use Rattle.scrub_super.proofs.Listed.{small_pointers, small_listed, same_numbers, same_listed}
-use Rattle.scrub_super.proofs.RecordParts.{record_parts, told_parts, is_head, record_head}
+use Rattle.scrub_super.proofs.RecordParts.{record_parts, known_parts, is_head, record_head}
 
 pub one_record_lem : (g : Geometry) (x : List ℕ) (c d : Contents) → BeginsWithRecord g x c → BeginsWithRecord g x d →
     c ≡ d
 one_record_lem g x c d h k =
     let heads = record_head (is_head k) h in
-    let p = told_parts (is_head k) h in
+    let p = known_parts (is_head k) h in
     let q = record_parts k in
     let pointers : c.pointers ≡ d.pointers =
     same_numbers _ _ (small_pointers h.contents.pointers) (small_pointers k.contents.pointers)

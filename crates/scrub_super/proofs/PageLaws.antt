@@ -71,11 +71,11 @@ one_rank image c Counts Older x y = absurd (y x.0)
 one_rank image c Older Tie x y = absurd (x y.0)
 one_rank image c Older Counts x y = absurd (x y.0)
 
-one_record_told : (image : Image) (q : ℕ) (j k : RecordKind) (n m : ℕ) (a b : Rank) (c d : Contents) →
+one_record_known : (image : Image) (q : ℕ) (j k : RecordKind) (n m : ℕ) (a b : Rank) (c d : Contents) →
     RecordStandsAt image q c → RecordStandsAt image q d →
     j ≡ kind_of c → k ≡ kind_of d → n ≡ c.generation → m ≡ d.generation → IsRank image c a → IsRank image d b →
     Record j n a ≡ Record k m b
-one_record_told image q j k n m a b c d s t hj hk hn hm x y =
+one_record_known image q j k n m a b c d s t hj hk hn hm x y =
     let same : c ≡ d = one_record_on_page image q c d s t in
     let kinds : j ≡ k = hj ∙ ap kind_of same ∙ sym hk in
     let generations : n ≡ m = hn ∙ ap (λ e. e.generation) same ∙ sym hm in
@@ -97,7 +97,7 @@ record_alone : (image : Image) (q : ℕ) (b : SuperblockPage) (j : RecordKind) (
     IsSuperblockPage image q (Record j n a) → IsSuperblockPage image q b → Record j n a ≡ b
 record_alone image q Lost j n a x y = absurd (lost_record image q y x.1)
 record_alone image q (Record k m r) j n a x y =
-    one_record_told image q j k n m a r x.0 y.0 x.1 y.1 x.2 y.2 x.3 y.3 x.4 y.4
+    one_record_known image q j k n m a r x.0 y.0 x.1 y.1 x.2 y.2 x.3 y.3 x.4 y.4
 record_alone image q Covered j n a x y = absurd (y.0 (x.0, x.1))
 record_alone image q Zero j n a x y = absurd (y.1.no_record (x.0, x.1))
 record_alone image q (Damaged k) j n a x y = absurd (y.1.no_record (x.0, x.1))

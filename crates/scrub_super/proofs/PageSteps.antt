@@ -23,7 +23,7 @@ use Rattle.scrub_super.specs.RecordsSeen.{AddsRecord, AreSeenFrom, StandsFrom}
 use Rattle.scrub_super.specs.Pages.{AreSuperblockPages, IsSuperblockPage}
 use Rattle.scrub_super.specs.PagesFound.{AreFoundOnPages, IsFoundOf, IsFoundOnPage, IsKnownOfPage, IsRecordReach, image_with}
 use Rattle.scrub_super.proofs.Laws.{one_record_on_page}
-use Rattle.scrub_super.proofs.Found.{told_kind}
+use Rattle.scrub_super.proofs.Found.{known_kind}
 use Rattle.scrub_super.proofs.RecordParts.{length_record}
 use Rattle.scrub_super.proofs.RecordsSeenSteps.{found_none, found_more}
 use Rattle.scrub_super.proofs.Standing.{stands_of_front, front_of_stands}
@@ -39,7 +39,7 @@ found_by_head hx some at hk ht = (
   some.contents,
   rw hx at some.begins,
   record {
-    kind = hk ∙ told_kind some;
+    kind = hk ∙ known_kind some;
     generation = sym some.generation;
     to =
         omega (
@@ -181,8 +181,8 @@ each_more image old {new} {q} page hq hn each here r p is = elim (cases_lt r q) 
   | inr past ↦
       let last : r ≡ length old =
       omega (arith, past, hq, slice_get_within new r p is, ap length hn, length-append old (page ∷ [])) in
-      let told : page ≡ p = sym (get_or_push old page p r (sym last)) ∙ there in
-      rw (last ∙ hq, sym told) here
+      let known : page ≡ p = sym (get_or_push old page p r (sym last)) ∙ there in
+      rw (last ∙ hq, sym known) here
 ]
   where
     there : get_or (old ++ page ∷ []) r p ≡ p

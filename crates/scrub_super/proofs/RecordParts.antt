@@ -101,9 +101,9 @@ module _ {g : Geometry} {x : List ℕ} {n r : ℕ} {k : Option ℕ} {c : Content
   pub record_head : (c.generation ≡ n) × (length c.runs ≡ r) × (count_in c ≡ k)
   record_head = one_head x (is_head b) h
 
-  pub told_parts : AreRecordParts g x n r k c
-  told_parts = rw (record_head.0, record_head.1, record_head.2) at (record_parts b)
+  pub known_parts : AreRecordParts g x n r k c
+  known_parts = rw (record_head.0, record_head.1, record_head.2) at (record_parts b)
 
   -- the digest stands behind what it is taken of
-  pub told_digest : take 32 (drop (digest_place g r k) x) ≡ sha256 (take (digest_place g r k) x)
-  told_digest = told_parts.digest_is ∙ ap sha256 (sym (body_of told_parts))
+  pub known_digest : take 32 (drop (digest_place g r k) x) ≡ sha256 (take (digest_place g r k) x)
+  known_digest = known_parts.digest_is ∙ ap sha256 (sym (body_of known_parts))

@@ -15,7 +15,7 @@ use Rattle.scrub_super.specs.RecordRead.{IsFront, IsHead, AreCuts, record_head_s
 use Rattle.scrub_super.proofs.Fronts.{front_of_head}
 use Rattle.scrub_super.proofs.Listed.{AreSmall, length_numbers, small_pointers, listed_extents}
 use Rattle.scrub_super.proofs.Parts.{part-flat_map}
-use Rattle.scrub_super.proofs.RecordParts.{digest_place, is_head, told_parts, told_digest, pointers_cut, retired_cut}
+use Rattle.scrub_super.proofs.RecordParts.{digest_place, is_head, known_parts, known_digest, pointers_cut, retired_cut}
 
 -- no record stands where no front does
 pub no_front : {g : Geometry} {x y : List ℕ} {c : Contents} → IsFirstChunk x y 26 →
@@ -50,12 +50,12 @@ module _ {g : Geometry} {x : List ℕ} {n r : ℕ} {k : Option ℕ} {c : Content
     (h : IsHead g (take (record_head_size k) x) n r k) (b : BeginsWithRecord g x c) where
   -- the bytes end before the digest does
   pub too_short : {e : ℕ} → e ≡ digest_place g r k → length x < e + 32 → ⊥
-  too_short he short = omega (arith, (told_parts h b).enough)
+  too_short he short = omega (arith, (known_parts h b).enough)
 
   -- another digest stands there
   pub other_digest : {e : ℕ} {answer : Bool} → e ≡ digest_place g r k →
       (take 32 (drop e x) ≡ sha256 (take e x) → IsTrue answer) → answer ≡ false → ⊥
-  other_digest he body wrong = false≢true (sym wrong ∙ body (rw he (told_digest h b)))
+  other_digest he body wrong = false≢true (sym wrong ∙ body (rw he (known_digest h b)))
 
   -- a pointer is over the limit
   pub over_limit : {cuts : Cuts} {most : ℕ} {answer : Bool} → AreCuts g r k cuts → most ≡ g.page * g.pages →
@@ -63,7 +63,7 @@ module _ {g : Geometry} {x : List ℕ} {n r : ℕ} {k : Option ℕ} {c : Content
       number_in (between cuts.pointers cuts.retired x) j ≤ most) → IsTrue answer) →
       answer ≡ false → ⊥
   over_limit at limit all over =
-      false≢true (sym over ∙ all (rw (pointers_cut at x, (told_parts h b).pointers_are, limit) within))
+      false≢true (sym over ∙ all (rw (pointers_cut at x, (known_parts h b).pointers_are, limit) within))
     where
       within : (j : ℕ) → 4 * j + 4 ≤ length (flat_map (big_bytes 4) c.pointers) →
           number_in (flat_map (big_bytes 4) c.pointers) j ≤ g.page * g.pages
@@ -78,5 +78,5 @@ module _ {g : Geometry} {x : List ℕ} {n r : ℕ} {k : Option ℕ} {c : Content
   not_extents at count all over =
       false≢true
       (sym over
-      ∙ all (rw (retired_cut at x, (told_parts h b).retired_are, count)
+      ∙ all (rw (retired_cut at x, (known_parts h b).retired_are, count)
       (spells_extents g.extent_count.most (listed_extents g.extents c.retired b.contents.retired))))

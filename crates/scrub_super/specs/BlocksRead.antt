@@ -1,6 +1,7 @@
 -- Steps of reading a raw image in blocks, and of the search for records in them.
 use Rattle.std.specs.Prelude.{◌≡◌, ◌<◌, ◌≤◌, ◌+◌, ◌*◌, ◌/◌, ◌^◌, ◌%◌, ℕ, List, Bool, true, false, Some, ◌⊎◌, Contains, slice_get, slice_index, slice_index_or, take, [], ◌∷◌, ◌&&◌, not, if◌then◌else◌}
 use Rattle.std.specs.Prelude.{length as len}
+use Rattle.scrub_disk.specs.Limits.{max_extent_bytes}
 use Rattle.scrub_disk.specs.declared.geometry.Geometry.{Geometry}
 use Rattle.scrub_disk.specs.Image.{AreBytesAt, extent_bytes}
 use Rattle.scrub_super.specs.declared.anywhere.FoundRecord.{FoundRecord}
@@ -36,7 +37,7 @@ pub record AreBlocksRead (bytes : List ℕ) (marks : List Bool) (failures : ℕ)
 -- all that matters was read: up to the end of the raw image, or 2^26 bytes
 pub record AreAllRead (bytes : List ℕ) (marks : List Bool) (failures : ℕ) (read : List ℕ) (lost : List Bool) : Type 0 where
   pub blocks : AreBlocksRead bytes marks failures read lost
-  pub ended : (len bytes ≤ len read) ⊎ (len read ≡ 2 ^ 26)
+  pub ended : (len bytes ≤ len read) ⊎ (len read ≡ max_extent_bytes)
 
 -- no byte from the offset on up to `end` is lost, and at `end` the bytes end or one is lost
 pub record IsReadableTo (size : ℕ) (lost : List Bool) (offset end : ℕ) : Type 0 where

@@ -2,6 +2,7 @@
 //! they mean together is left to the caller.
 
 ghost use Rattle.std.specs.Prelude.{◌≡◌, ◌+◌, ◌-◌, ◌<◌, ◌≤◌, ◌^◌, ℕ, List, Bool, IfOk, IfSome};
+ghost use Rattle.scrub_disk.specs.Limits.{max_extent_bytes};
 ghost use Rattle.scrub_super.specs.declared.anywhere.FoundRecord.{FoundRecord};
 ghost use Rattle.scrub_super.specs.declared.anywhere.LostBytes.{LostBytes};
 ghost use Rattle.scrub_super.specs.Anywhere.{AreFoundAnywhere, AreFoundWith};
@@ -56,12 +57,12 @@ pub fn find_superblocks<R: RawImage>(
     marked: &[bool],
 ) -> Result<FoundSuperblocks, OutOfMemory>
     requires few_reads { R.reads raw.old < 2 ^ 62 }
-    ensures found { IfOk result (λ f. IfSome (R.bytes raw.old) (λ told.
-        AreFoundWith told marked.now (R.failures raw.new - R.failures raw.old) f.records.items f.lost.items)) }
+    ensures found { IfOk result (λ f. IfSome (R.bytes raw.old) (λ known.
+        AreFoundWith known marked.now (R.failures raw.new - R.failures raw.old) f.records.items f.lost.items)) }
     ensures failures { R.failures raw.old ≤ R.failures raw.new }
     ensures same_bytes { R.bytes raw.new ≡ R.bytes raw.old }
     ensures same_bound { R.most_failures raw.new ≡ R.most_failures raw.old }
-    ensures reads { R.reads raw.new ≤ R.reads raw.old + 2 ^ 26 }
+    ensures reads { R.reads raw.new ≤ R.reads raw.old + max_extent_bytes }
 {
     let blocks = blocks::read_blocks(alloc, raw, marked)?;
     let records = search::find_records(alloc, &blocks.bytes, &blocks.lost)?;

@@ -3,6 +3,7 @@
 ghost use Rattle.std.specs.Prelude.{◌≡◌, ◌+◌, ◌*◌, ◌-◌, ◌≤◌, ◌<◌, ◌^◌, ◌++◌, ◌↔◌, ℕ, List, [], Option, IsTrue, IfSome, IfNone, IfOk, All, take, drop, length, vec_len, vec_capacity, option_map, OnOk, OnErr};
 ghost use Rattle.std.specs.List.{flat_map};
 ghost use Rattle.std.specs.Option.{unwrap_or};
+ghost use Rattle.scrub_frame.specs.Frame.{digest_size};
 ghost use Rattle.byteorder.specs.Endian.{big_bytes, big_number};
 ghost use Rattle.sha2.specs.Sha256.{sha256};
 ghost use Rattle.scrub_frame.specs.Locator.{IsLocator};
@@ -17,7 +18,9 @@ use crate::head::{Head, append_head, cuts_of, head_of, read_head};
 use crate::superblock::Superblock;
 use byteorder::{BigEndian, ByteOrder};
 use scrub_disk::{Geometry, OutOfMemory};
-use scrub_frame::{LOCATOR_BYTES, append, append_locators, digest_of, read_locators};
+use scrub_frame::{
+    DIGEST_BYTES, LOCATOR_BYTES, append, append_locators, digest_of, read_locators,
+};
 use std::alloc::Global;
 
 /// Whether no number of four bytes is over the most.
@@ -49,10 +52,10 @@ fn are_extents(bytes: &[u8], extents: u32) -> bool
 
 /// Whether the digest of the bytes before the end stands there.
 fn has_digest_at(bytes: &[u8], end: usize) -> bool
-    requires { end + 32 ≤ length bytes.now }
-    ensures { IsTrue result ↔ (take 32 (drop end bytes.now) ≡ sha256 (take end bytes.now)) }
+    requires { end + digest_size ≤ length bytes.now }
+    ensures { IsTrue result ↔ (take digest_size (drop end bytes.now) ≡ sha256 (take end bytes.now)) }
 {
-    digest_of(&bytes[..end]).as_slice() == &bytes[end..end + 32]
+    digest_of(&bytes[..end]).as_slice() == &bytes[end..end + DIGEST_BYTES]
 }
 
 /// The head of the record that the bytes begin with, if they begin with one. The digest is taken only where all before
@@ -65,7 +68,7 @@ pub(crate) fn record_at(bytes: &[u8], geometry: Geometry) -> Option<Head>
 {
     let head = read_head(bytes, geometry)?;
     let cuts = cuts_of(geometry, head);
-    if bytes.len() < cuts.digest + 32 {
+    if bytes.len() < cuts.digest + DIGEST_BYTES {
         return None;
     }
     if !are_within(&bytes[cuts.pointers..cuts.retired], geometry.extent_bytes()) {
@@ -176,7 +179,7 @@ pub fn write_record(
         BeginsWithRecord geometry (drop (vec_len out.old) out.new.items ++ rest) superblock.now) }
 {
     let start = out.len();
-    out.reserve(cuts_of(geometry, head_of(superblock)).digest + 32)?;
+    out.reserve(cuts_of(geometry, head_of(superblock)).digest + DIGEST_BYTES)?;
     append_body(out, geometry, superblock);
     let digest = digest_of(&out[start..]);
     append(out, &digest);

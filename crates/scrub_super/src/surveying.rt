@@ -2,6 +2,7 @@
 //! counts is for `choosing`.
 
 ghost use Rattle.std.specs.Prelude.{◌≡◌, ◌+◌, ◌*◌, ◌<◌, ◌≤◌, ◌^◌, ℕ, List, Option, IfOk, IfSome, IfNone, length, slice_range};
+ghost use Rattle.scrub_disk.specs.Limits.{max_extent_bytes};
 ghost use Rattle.scrub_disk.specs.Buffered.{IsBuffered};
 ghost use Rattle.scrub_disk.specs.Image.{Image};
 ghost use Rattle.scrub_super.specs.Contents.{Contents};
@@ -18,6 +19,7 @@ use crate::head::cuts_of;
 use crate::pages::{Rank, RecordKind, SuperblockPage, kind_by, page_without_record};
 use crate::record::record_at;
 use scrub_disk::{Geometry, OutOfMemory, PageSource, read_extent};
+use scrub_frame::DIGEST_BYTES;
 use std::alloc::Global;
 
 /// What is found of a record.
@@ -32,7 +34,7 @@ pub(crate) struct Found {
 /// What is found of the record that begins at a byte and ends before another, if there is one.
 fn found_at(bytes: &[u8], start: usize, end: usize, geometry: Geometry) -> Option<Found>
     requires within { (start ≤ end) × (end ≤ length bytes.now) }
-    requires fits { length bytes.now ≤ 2 ^ 26 }
+    requires fits { length bytes.now ≤ max_extent_bytes }
     ensures found { IfSome result (λ f. (c : Contents) ×
         BeginsWithRecord geometry (slice_range bytes.now start end) c × IsFoundOf geometry start c f) }
     ensures none { IfNone result ((c : Contents) → ¬ BeginsWithRecord geometry (slice_range bytes.now start end) c) }
@@ -41,7 +43,7 @@ fn found_at(bytes: &[u8], start: usize, end: usize, geometry: Geometry) -> Optio
     Some(Found {
         kind: kind_by(head.retired),
         generation: head.generation,
-        to: start + cuts_of(geometry, head).digest + 32,
+        to: start + cuts_of(geometry, head).digest + DIGEST_BYTES,
     })
 }
 

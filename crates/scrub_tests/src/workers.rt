@@ -2,16 +2,18 @@
 
 ghost use Rattle.std.specs.Prelude.{◌≤◌};
 
+mod events;
 mod left_alone;
 mod listings;
 mod meeting;
 mod pausing;
 mod reading_watch;
+mod taking;
 mod watch;
 
-use crate::compare::{check_answer, check_found, same};
-use crate::disks::{many_shards, one_shard};
-use crate::told::{scrubbed, scrubbed_by};
+use crate::support::compare::{check_answer, check_found, same};
+use crate::support::disks::{many_shards, one_shard};
+use crate::support::reported::{scrubbed, scrubbed_by};
 use crate::workers::left_alone::LeftAlone;
 use crate::workers::meeting::MeetingSource;
 use crate::workers::reading_watch::ReadingWatch;
@@ -142,7 +144,7 @@ fn all_workers_read_pages_at_the_same_time(rt: HostRuntime) -> Result<(), Fail> 
 /// Scrubs a disk by so many workers and the caller, each of whose first extents is held until all of them have passed with
 /// one. Requires that the gate was told of each extent once, by who took it and before it was read, and of each total once
 /// the extent was read.
-fn check_told<R: Threads + Wait + Abort + Clock + Sync>(
+fn check_reports<R: Threads + Wait + Abort + Clock + Sync>(
     rt: &R,
     alloc: Global,
     disk: &MemDisk,
@@ -159,10 +161,10 @@ fn check_told<R: Threads + Wait + Abort + Clock + Sync>(
 }
 
 #[test]
-fn a_gate_is_told_of_each_of_70_extents_before_it_is_read(rt: HostRuntime) -> Result<(), Fail> {
+fn a_gate_is_reported_of_each_of_70_extents_before_it_is_read(rt: HostRuntime) -> Result<(), Fail> {
     let disk = MemDisk::blank(rt.alloc(), Geometry::new(64, 2, 71)?)?;
     for workers in [0, 3] {
-        check_told(&rt, rt.alloc(), &disk, workers)?;
+        check_reports(&rt, rt.alloc(), &disk, workers)?;
     }
     Ok(())
 }

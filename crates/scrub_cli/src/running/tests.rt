@@ -1,8 +1,8 @@
 //! Whole runs: words and raw bytes in, and out come lines or the text of a refusal, and a status. What is expected
 //! stands in the descriptions of the format and of the program.
 
-use crate::fakes::OneImage;
-use crate::fault::Fault;
+use crate::process::fakes::OneImage;
+use crate::process::fault::Fault;
 use crate::run_process;
 use crate::running::run;
 use scrub_fakes::{ENDS_IN_MAGIC, NarrowWriter, ONES};
@@ -281,8 +281,8 @@ fn a_page_that_the_map_lacks_a_byte_of_is_lost(rt: HostRuntime) -> Result<(), Fa
 }
 
 #[test]
-fn the_first_line_of_a_map_that_breaks_a_rule_is_told(rt: HostRuntime) -> Result<(), Fail> {
-    for (map, told) in [
+fn the_first_line_of_a_map_that_breaks_a_rule_is_reported(rt: HostRuntime) -> Result<(), Fail> {
+    for (map, expected) in [
         ("", "map refused: line 1"),
         ("# a comment\n", "map refused: line 2"),
         ("0 +\n0 08 +\n0 x", "map refused: line 2"),
@@ -294,13 +294,13 @@ fn the_first_line_of_a_map_that_breaks_a_rule_is_told(rt: HostRuntime) -> Result
             "sizes",
         ] {
             let words = format!(in rt.alloc(); "{command} --map disk.map other.img")?;
-            let told = format!(in rt.alloc(); "shardscrub: {told}\n")?;
+            let expected = format!(in rt.alloc(); "shardscrub: {expected}\n")?;
             check(
                 &rt,
                 rt.alloc(),
                 &words,
                 with_map(&[0; 769], map.as_bytes()),
-                (2, "", &told),
+                (2, "", &expected),
             )?;
         }
     }
@@ -321,15 +321,15 @@ fn sizes_that_are_no_geometry_are_refused(rt: HostRuntime) -> Result<(), Fail> {
         let words = format!(in rt.alloc();
             "items --page {page} --pages {pages} --extents {extents} --extent 1 disk.img"
         )?;
-        let told = format!(in rt.alloc(); "shardscrub: geometry refused: {fault}\n")?;
-        check(&rt, rt.alloc(), &words, image(&[]), (2, "", &told))?;
+        let expected = format!(in rt.alloc(); "shardscrub: geometry refused: {fault}\n")?;
+        check(&rt, rt.alloc(), &words, image(&[]), (2, "", &expected))?;
     }
     Ok(())
 }
 
 #[test]
 fn places_outside_the_disk_are_refused(rt: HostRuntime) -> Result<(), Fail> {
-    for (words, told) in [
+    for (words, expected) in [
         ("--extent 3 disk.img", "extent out of range"),
         ("--extent 1 --pointer 257 disk.img", "pointer out of range"),
         ("--extent 1 disk.img 1:4", "bad page refused: 1:4"),
@@ -338,16 +338,16 @@ fn places_outside_the_disk_are_refused(rt: HostRuntime) -> Result<(), Fail> {
         ("--extent 1 disk.img 2:3 1:x 1:4", "bad page refused: 1:x"),
     ] {
         let words = format!(in rt.alloc(); "items --page 64 --pages 4 --extents 3 {words}")?;
-        let told = format!(in rt.alloc(); "shardscrub: {told}\n")?;
-        check(&rt, rt.alloc(), &words, image(&[0; 768]), (2, "", &told))?;
+        let expected = format!(in rt.alloc(); "shardscrub: {expected}\n")?;
+        check(&rt, rt.alloc(), &words, image(&[0; 768]), (2, "", &expected))?;
     }
     Ok(())
 }
 
 /// Each line of words has all the faults that the lines below it have.
 #[test]
-fn of_several_faults_the_first_is_told(rt: HostRuntime) -> Result<(), Fail> {
-    for (words, status, told) in [
+fn of_several_faults_the_first_is_reported(rt: HostRuntime) -> Result<(), Fail> {
+    for (words, status, expected) in [
         (
             "--page 60 --extent 3 --pointer 257 other.img 1:4",
             2,
@@ -390,13 +390,13 @@ fn of_several_faults_the_first_is_told(rt: HostRuntime) -> Result<(), Fail> {
         ),
     ] {
         let words = format!(in rt.alloc(); "items --pages 4 --extents 3 {words}")?;
-        let told = format!(in rt.alloc(); "shardscrub: {told}\n")?;
+        let expected = format!(in rt.alloc(); "shardscrub: {expected}\n")?;
         check(
             &rt,
             rt.alloc(),
             &words,
             image(&[0; 769]),
-            (status, "", &told),
+            (status, "", &expected),
         )?;
     }
     Ok(())
@@ -474,7 +474,7 @@ fn the_version_goes_to_the_output(rt: HostRuntime) -> Result<(), Fail> {
 }
 
 #[test]
-fn help_is_told_on_the_error_stream(rt: HostRuntime) -> Result<(), Fail> {
+fn help_is_reported_on_the_error_stream(rt: HostRuntime) -> Result<(), Fail> {
     for (words, beginning) in [
         ("--help", "Checks a raw image of a storage node's disk"),
         ("-h", "Checks a raw image of a storage node's disk"),
@@ -518,8 +518,8 @@ fn want_of_memory_has_a_status_and_a_text(rt: HostRuntime) -> Result<(), Fail> {
     let mut err = Vec::new(rt.alloc());
     assert_eq!(rt; Fault::OutOfMemory.end(&mut err), 4);
     assert_eq!(rt; Fault::NotUtf8.end(&mut err), 2);
-    let told = "shardscrub: out of memory\nshardscrub: a word is not UTF-8\n";
-    assert_eq!(rt; str::from_utf8(&err)?, told);
+    let expected = "shardscrub: out of memory\nshardscrub: a word is not UTF-8\n";
+    assert_eq!(rt; str::from_utf8(&err)?, expected);
     Ok(())
 }
 
@@ -533,11 +533,11 @@ fn a_file_is_read_as_a_map(rt: HostRuntime) -> Result<(), Fail> {
     let words = format!(in rt.alloc(); "shardscrub sizes --map {MAP_FILE} missing.img")?;
     check_process(&rt, &words, (2, "", "shardscrub: map refused: line 2\n"))?;
     fs::write(&rt, MAP_FILE, b"0 +\n0 1 +\n")?;
-    let told = "shardscrub: image cannot be opened: missing.img\n";
-    check_process(&rt, &words, (3, "", told))?;
+    let expected = "shardscrub: image cannot be opened: missing.img\n";
+    check_process(&rt, &words, (3, "", expected))?;
     fs::remove_file(&rt, MAP_FILE)?;
-    let told = format!(in rt.alloc(); "shardscrub: map cannot be opened: {MAP_FILE}\n")?;
-    check_process(&rt, &words, (3, "", &told))
+    let expected = format!(in rt.alloc(); "shardscrub: map cannot be opened: {MAP_FILE}\n")?;
+    check_process(&rt, &words, (3, "", &expected))
 }
 
 /// The name of a file. It has more than 64 bytes, as no clause says that a long name is opened whole.
@@ -593,6 +593,6 @@ fn a_file_is_read_as_an_image(rt: HostRuntime) -> Result<(), Fail> {
         check_file(&rt, &disk[..length], extent, wanted)?;
     }
     let words = "shardscrub items --page 64 --pages 4 --extents 3 --extent 1 missing.img";
-    let told = "shardscrub: image cannot be opened: missing.img\n";
-    check_process(&rt, words, (3, "", told))
+    let expected = "shardscrub: image cannot be opened: missing.img\n";
+    check_process(&rt, words, (3, "", expected))
 }

@@ -2,6 +2,7 @@
 //! `search`.
 
 ghost use Rattle.std.specs.Prelude.{◌≡◌, ◌+◌, ◌-◌, ◌*◌, ◌<◌, ◌≤◌, ◌^◌, ◌++◌, ◌∷◌, [], true, false, IfOk, IfSome, OnErr, OnOk, length, slice_get, slice_index_or, take};
+ghost use Rattle.scrub_disk.specs.Limits.{max_extent_bytes};
 ghost use Rattle.scrub_disk.specs.Image.{AreBytesAt};
 ghost use Rattle.scrub_super.specs.BlocksRead.{AreAllRead, AreBlockMarks, IsBlockRead};
 
@@ -107,12 +108,12 @@ pub(crate) fn read_blocks<R: RawImage>(
 ) -> Result<Blocks, OutOfMemory>
     requires few_reads { R.reads raw.old < 2 ^ 62 }
     ensures marks { IfOk result (λ b. AreBlockMarks b.bytes.items b.lost.items) }
-    ensures read { IfOk result (λ b. IfSome (R.bytes raw.old) (λ told.
-        AreAllRead told marked.now (R.failures raw.new - R.failures raw.old) b.bytes.items b.lost.items)) }
+    ensures read { IfOk result (λ b. IfSome (R.bytes raw.old) (λ known.
+        AreAllRead known marked.now (R.failures raw.new - R.failures raw.old) b.bytes.items b.lost.items)) }
     ensures failures { R.failures raw.old ≤ R.failures raw.new }
     ensures same_bytes { R.bytes raw.new ≡ R.bytes raw.old }
     ensures same_bound { R.most_failures raw.new ≡ R.most_failures raw.old }
-    ensures reads { R.reads raw.new ≤ R.reads raw.old + 2 ^ 26 }
+    ensures reads { R.reads raw.new ≤ R.reads raw.old + max_extent_bytes }
 {
     let mut blocks = Blocks {
         bytes: Vec::new(alloc),

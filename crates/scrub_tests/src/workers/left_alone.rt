@@ -1,6 +1,6 @@
 //! A gate that holds all workers but one, until every extent was taken.
 
-use crate::compare::same;
+use crate::support::compare::same;
 use crate::workers::pausing::{PAUSES, pause};
 use scrub_pool::Gate;
 use std::process::Abort;

@@ -3,9 +3,9 @@
 
 ghost use Rattle.std.specs.Prelude.{◌≤◌};
 
-use crate::compare::same;
-use crate::disks::many_shards;
-use crate::listings::{NONE, Which, listed};
+use crate::support::compare::same;
+use crate::support::disks::many_shards;
+use crate::scrubs::listings::{NONE, Which, listed};
 use crate::workers::reading_watch::ReadingWatch;
 use crate::workers::watch::Watch;
 use scrub_disk::{MemDisk, PageSource};

@@ -1,6 +1,6 @@
 //! A gate that keeps what it is told, and holds workers up.
 
-use crate::compare::same;
+use crate::support::compare::same;
 use crate::workers::pausing::{PAUSES, pause};
 use scrub_pool::{Gate, Takings};
 use std::alloc::Global;
@@ -63,7 +63,7 @@ impl Record {
     }
 
     /// Whether it was this worker who told a number.
-    fn is_told_by(&self, worker: u32, number: u32) -> bool {
+    fn has_event(&self, worker: u32, number: u32) -> bool {
         match self.tellers.get(number as usize) {
             Some(teller) => teller.load(Ordering::SeqCst) == u64::from(worker) + 1,
             None => false,
@@ -141,7 +141,7 @@ impl<'c, C: Clock> Watch<'c, C> {
         same(rt, self.passed.count(worker), taken.len());
         same(rt, self.counted.count(worker), taken.len());
         for extent in taken {
-            assert!(rt; self.passed.is_told_by(worker, *extent));
+            assert!(rt; self.passed.has_event(worker, *extent));
         }
     }
 

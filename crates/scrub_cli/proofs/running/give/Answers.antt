@@ -16,5 +16,5 @@ returns-in-Err g c = inr (record {
   count = c.in-Err.fault.written;
   short = subst (λ l. c.in-Err.fault.written < length l) c.deref.ensures.value c.in-Err.ensures.short;
   part = subst (λ l. Appends (g.O.Write.contents c.args.out.now) (g.O.Write.contents c.write_out.new.writer) (take c.in-Err.fault.written l)) c.deref.ensures.value c.in-Err.ensures.part;
-  told = c.end.ensures;
+  reported = c.end.ensures;
 })

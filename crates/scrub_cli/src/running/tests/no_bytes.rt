@@ -2,7 +2,7 @@
 
 ghost use Rattle.std.specs.Prelude.{[], Some, None};
 
-use crate::images::{Images, MapReadFault};
+use crate::process::images::{Images, MapReadFault};
 use crate::running::run;
 use scrub_disk::{RawFault, RawImage};
 use scrub_fakes::RawBytes;

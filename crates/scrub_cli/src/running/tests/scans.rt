@@ -234,7 +234,7 @@ fn a_chunk_that_was_stepped_past_is_hidden(rt: HostRuntime) -> Result<(), Fail> 
 }
 
 #[test]
-fn twins_and_a_shared_place_are_told(rt: HostRuntime) -> Result<(), Fail> {
+fn twins_and_a_shared_place_are_reported(rt: HostRuntime) -> Result<(), Fail> {
     let payload = run_of_two(rt.alloc())?;
     let frames = [(0, ONES, b"abc".as_slice()), (41, ONES, b"abc")];
     let disk = disk_with_run(rt.alloc(), &frames, &payload, [82, 232])?;
@@ -255,14 +255,14 @@ fn check_narrow(
     let mut out = NarrowWriter::new(alloc, room, fails);
     let mut err = Vec::new(alloc);
     let status = run(rt, alloc, &["demo"], &mut image(&[]), &mut out, &mut err);
-    let told = format!(in alloc; "shardscrub: output failed after {room} bytes\n")?;
-    assert!(rt; status == 3 && err.as_slice() == told.as_bytes());
+    let expected = format!(in alloc; "shardscrub: output failed after {room} bytes\n")?;
+    assert!(rt; status == 3 && err.as_slice() == expected.as_bytes());
     assert!(rt; room <= ONE_SHARD.len() && out.taken.as_slice() == &ONE_SHARD.as_bytes()[..room]);
     Ok(())
 }
 
 #[test]
-fn an_output_that_fails_is_told_with_the_bytes_that_it_took(rt: HostRuntime) -> Result<(), Fail> {
+fn an_output_that_fails_is_reported_with_the_bytes_that_it_took(rt: HostRuntime) -> Result<(), Fail> {
     for room in 0..ONE_SHARD.len() {
         check_narrow(&rt, rt.alloc(), room, true)?;
         check_narrow(&rt, rt.alloc(), room, false)?;
@@ -282,8 +282,8 @@ fn an_output_with_room_for_the_last_byte_is_whole(rt: HostRuntime) -> Result<(),
 
 /// Each line of words has all the faults that the lines below it have.
 #[test]
-fn of_several_faults_the_first_is_told(rt: HostRuntime) -> Result<(), Fail> {
-    for (words, status, told) in [
+fn of_several_faults_the_first_is_reported(rt: HostRuntime) -> Result<(), Fail> {
+    for (words, status, expected) in [
         (
             "scan --page 60 --pages 4 --extents 3 other.img 1:x 3:0",
             2,
@@ -310,7 +310,7 @@ fn of_several_faults_the_first_is_told(rt: HostRuntime) -> Result<(), Fail> {
             "shardscrub: image too long\n",
         ),
     ] {
-        check(&rt, rt.alloc(), words, image(&[0; 769]), (status, "", told))?;
+        check(&rt, rt.alloc(), words, image(&[0; 769]), (status, "", expected))?;
     }
     Ok(())
 }

@@ -1,7 +1,7 @@
 -- The states are those of the runs that were read.
 use Rattle.std.proofs.Common.{List, sym, subst}
 use Rattle.scrub_disk.specs.Memory.{image_of}
-use Rattle.scrub_check.specs.declared.runs.RunState.{RunState}
+use Rattle.scrub_check.specs.declared.sources.runs.RunState.{RunState}
 use Rattle.scrub_check.specs.Runs.{AreRunStates}
 use Rattle.scrub_check.proofs.CheckedLists.{states_read}
 use Rattle.scrub_growths.proofs.checks.check_named_on.Goals as goal

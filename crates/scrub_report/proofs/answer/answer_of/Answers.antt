@@ -32,5 +32,5 @@ returns g c =
         scrubbed = are.scrubbed;
         bytes_are = c.in_ok-index.ensures.index;
       };
-      clean = record { found = found; scrubbed = are.scrubbed; told = c.is_clean-is_clean.ensures ∙ clean_found parts are.read are.kept };
+      clean = record { found = found; scrubbed = are.scrubbed; verdict = c.is_clean-is_clean.ensures ∙ clean_found parts are.read are.kept };
     }

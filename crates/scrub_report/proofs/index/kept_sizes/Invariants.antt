@@ -1,6 +1,6 @@
 -- What the first bindings come to.
 use Rattle.std.proofs.Common.{◌≡◌, ◌*◌, ◌≤◌, List, length, take}
-use Rattle.scrub_check.specs.declared.checked.Checked.{Checked}
+use Rattle.scrub_check.specs.declared.statuses.checked.Checked.{Checked}
 use Rattle.scrub_check.specs.Checked.{AreBrokenShards}
 use Rattle.scrub_report.specs.Index.{index_entries}
 use Rattle.scrub_report.specs.Kept.{all_locators}

@@ -16,5 +16,5 @@ returns-clause-clean g c =
     record {
       found = found_in c.in_ok-parts.parts are.read;
       scrubbed = are.scrubbed;
-      told = c.is_clean-is_clean.ensures ∙ clean_found c.in_ok-parts.parts are.read are.kept;
+      verdict = c.is_clean-is_clean.ensures ∙ clean_found c.in_ok-parts.parts are.read are.kept;
     }

@@ -1,7 +1,7 @@
 -- One more chunk, and in the end all.
 use Rattle.std.proofs.Common.{◌++◌, List, ℕ, get_or, refl, sym, ap, ◌∙◌}
 use Rattle.std.specs.List.{flat_map}
-use Rattle.scrub_check.specs.declared.checked.Checked.{Checked}
+use Rattle.scrub_check.specs.declared.statuses.checked.Checked.{Checked}
 use Rattle.scrub_report.specs.Reclaimable.{move_line, pointing_to}
 use Rattle.scrub_report.proofs.FlatLists.{flat_part, flat_all, flat_more, flat_twice}
 use Rattle.scrub_report.proofs.reclaiming.append_kept.Goals as goal

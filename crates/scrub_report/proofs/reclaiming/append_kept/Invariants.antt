@@ -1,7 +1,7 @@
 -- The lines of those that point to the first chunks.
 use Rattle.std.proofs.Common.{◌≡◌, ◌++◌, List, take}
 use Rattle.std.specs.List.{flat_map}
-use Rattle.scrub_check.specs.declared.checked.Checked.{Checked}
+use Rattle.scrub_check.specs.declared.statuses.checked.Checked.{Checked}
 use Rattle.scrub_report.specs.Moves.{PointAlike}
 use Rattle.scrub_report.specs.Reclaimable.{move_line, pointing_to}
 use Rattle.scrub_report.proofs.FlatLists.{flat_part}

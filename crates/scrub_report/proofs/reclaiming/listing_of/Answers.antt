@@ -40,5 +40,5 @@ returns-clause-clear g c =
       scrubbed = are.scrubbed;
       pages = c.args.pages.now;
       held = c.requires.pages;
-      told = clear_found parts are.read are.kept c.args.pages.now accepted list clear c.in_ok-doubts.ensures is;
+      verdict = clear_found parts are.read are.kept c.args.pages.now accepted list clear c.in_ok-doubts.ensures is;
     }

@@ -12,7 +12,7 @@ pub append_extents-requires-after_bounds : goal.append_extents-requires-after_bo
 append_extents-requires-after_bounds g c =
     let parts = c.args.parts.now in
     let long : length c.deref.result.now ≡ length parts.all.extents =
-    ap length (c.deref.ensures.value ∙ parts.live_told) ∙ length-map parts.all.extents (live_bytes parts.checked.items) in
+    ap length (c.deref.ensures.value ∙ parts.live_found) ∙ length-map parts.all.extents (live_bytes parts.checked.items) in
     search rules
 
 pub returns : goal.returns

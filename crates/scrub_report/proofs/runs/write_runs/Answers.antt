@@ -3,8 +3,8 @@ use Rattle.std.proofs.Common.{◌≡◌, ℕ, None, Option, length, get_or, arit
 use Rattle.std.specs.List.{zip}
 use Rattle.std.proofs.lemmas.List.{get_or_default}
 use Rattle.scrub_frame.specs.declared.locator.Locator.{Locator}
-use Rattle.scrub_check.specs.declared.runs.RunState.{RunState}
-use Rattle.scrub_check.specs.declared.runs.RunState.TheVariants.{Read}
+use Rattle.scrub_check.specs.declared.sources.runs.RunState.{RunState}
+use Rattle.scrub_check.specs.declared.sources.runs.RunState.TheVariants.{Read}
 use Rattle.scrub_report.specs.Report.{run_data}
 use Rattle.scrub_report.proofs.SideBySide.{length_of_three, three_at}
 use Rattle.scrub_report.proofs.Tokens.{list_more, list_closed}

@@ -1,6 +1,6 @@
 -- What is kept of the runs is that of the runs that were read.
 use Rattle.std.proofs.Common.{rules, List, subst, sym, ◌∙◌}
-use Rattle.scrub_check.specs.declared.runs.RunState.{RunState}
+use Rattle.scrub_check.specs.declared.sources.runs.RunState.{RunState}
 use Rattle.scrub_check.specs.Runs.{AreRunStates}
 use Rattle.scrub_check.proofs.CheckedLists.{states_read}
 use Rattle.scrub_report.proofs.scrubbing.judged_of.Goals as goal

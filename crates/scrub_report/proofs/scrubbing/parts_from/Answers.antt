@@ -3,7 +3,7 @@ use Rattle.std.proofs.Common.{rules}
 use Rattle.scrub_report.proofs.scrubbing.parts_from.Goals as goal
 
 pub invariant_of-result : goal.invariant_of-result
-invariant_of-result g c = record { live_told = c.requires.live; orphans_told = c.requires.orphans_are }
+invariant_of-result g c = record { live_found = c.requires.live; orphans_found = c.requires.orphans_are }
 
 pub returns-clause-parts : goal.returns-clause-parts
 returns-clause-parts g c = λ image are.

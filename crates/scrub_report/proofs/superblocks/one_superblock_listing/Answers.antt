@@ -8,4 +8,4 @@ pub returns-clause-text : goal.returns-clause-text
 returns-clause-text c = λ image a b x y. x.text_is ∙ ap superblock_lines (one_list_of_pages image x.pages y.pages x.are y.are) ∙ sym y.text_is
 
 pub returns-clause-clean : goal.returns-clause-clean
-returns-clause-clean c = λ image a b x y. x.told ∙ ap are_clean_pages (one_list_of_pages image x.pages y.pages x.are y.are) ∙ sym y.told
+returns-clause-clean c = λ image a b x y. x.verdict ∙ ap are_clean_pages (one_list_of_pages image x.pages y.pages x.are y.are) ∙ sym y.verdict

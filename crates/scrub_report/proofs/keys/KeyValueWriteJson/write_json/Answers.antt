@@ -1,7 +1,7 @@
 -- The dangling locators, and the hidden ones, are shown as their lists show them.
 use Rattle.std.proofs.Common.{◌≡◌, ◌++◌, List, OnOk, map, ap, sym, subst, ◌∙◌}
 use Rattle.serde_json.specs.Data.{Data}
-use Rattle.scrub_check.specs.declared.checked.Checked.{Checked}
+use Rattle.scrub_check.specs.declared.statuses.checked.Checked.{Checked}
 use Rattle.scrub_report.specs.Json.{list}
 use Rattle.scrub_report.specs.Tokens.{locator_data, value_tokens}
 use Rattle.scrub_report.specs.Values.{key_data}

@@ -30,7 +30,7 @@ returns-clause-found g c =
     let i = c.in_ok-i.i in
     let number : get_or (extent_numbers all) i 0 ≡ c.args.extent =
     ap (λ (fs : List Scanned). get_or (extent_numbers fs) i 0) (sym (ap (λ (slots : List (Option (ExtentResult g.row.D.Denot g.D.PageSource))). scanned_in slots) c.deref.ensures.value ∙ ap (λ v. v.extents) c.self.view_is)) ∙ c.in_ok-i.ensures.found.1 in
-    let told : get_or (extent_numbers all) i 0 ≡ (scanned c.result_at.result.now).extent =
+    let decided : get_or (extent_numbers all) i 0 ≡ (scanned c.result_at.result.now).extent =
     get_or_from_slice_get (extent_numbers all) i (scanned c.result_at.result.now).extent 0
     (slice_get-map (λ (f : Scanned). f.extent) all i ∙ ap (option_map (λ (f : Scanned). f.extent)) c.result_at.ensures.result) in
-    entry_at all c.result_at.ensures.scanned.rising i (scanned c.result_at.result.now) c.args.extent c.result_at.ensures.result (sym told ∙ number)
+    entry_at all c.result_at.ensures.scanned.rising i (scanned c.result_at.result.now) c.args.extent c.result_at.ensures.result (sym decided ∙ number)

@@ -13,7 +13,7 @@ invariant-loop-number g l = record {
   size : length l.blocks.bytes.items ≡ 512 * l.number;
   marks : length l.blocks.lost.items ≡ l.number;
   begins : (n : ℕ) → IsMarked l.blocks.lost.items n → n * 512 < length l.blocks.bytes.items;
-  read : IfSome (g.R.RawImage.bytes l.initial.raw) (λ told.
-      AreBlocksRead told l.marked (g.R.RawImage.failures l.raw - g.R.RawImage.failures l.initial.raw)
+  read : IfSome (g.R.RawImage.bytes l.initial.raw) (λ known.
+      AreBlocksRead known l.marked (g.R.RawImage.failures l.raw - g.R.RawImage.failures l.initial.raw)
       l.blocks.bytes.items l.blocks.lost.items);
 }

@@ -1,0 +1,9 @@
+use Rattle.std.proofs.Common.{◌==◌, ℕ, not, ap, sym, ◌∙◌}
+use Rattle.std.specs.List.{list_any}
+use Rattle.scrub_check.proofs.Reclaimable.{named_by_sound_alone}
+use Rattle.scrub_check.proofs.lists.reclaiming.has_sound_alone.Goals as goal
+
+pub returns : goal.returns
+returns g c checked verdicts =
+    ap not (c.has.ensures ∙ ap (λ (e : ℕ). list_any (λ x. x == e) c.args.verdicts.now.unsound) c.extent.ensures)
+    ∙ sym (named_by_sound_alone checked c.args.verdicts.now.unsound c.args.found.now.extent verdicts.unsound)

@@ -1,5 +1,0 @@
-use Rattle.scrub_check.proofs.OneList.{one_shared}
-use Rattle.scrub_check.proofs.shared_places.one_list_of_shared_places.Goals as goal
-
-pub returns : goal.returns
-returns c = one_shared

@@ -1,0 +1,122 @@
+//! The chunks of a disk at their places, which of them no sound locator names, and which have one UUID.
+
+ghost use Rattle.std.specs.Prelude.{◌≡◌, IfOk};
+ghost use Rattle.std.specs.List.{filter, filter_map};
+ghost use Rattle.scrub_check.specs.ChunkUuids.{is_twin_by};
+ghost use Rattle.scrub_check.specs.Chunks.{frame_of_item, place_of, chunks, orphans, twins};
+
+use crate::statuses::checked::Checked;
+use crate::lists::chunk_uuids::ChunkUuids;
+use crate::lists::place::Place;
+use crate::lists::sound_starts::SoundStarts;
+use crate::lists::verdicts::Verdicts;
+use crate::lists::walked::walk;
+use scrub_disk::{OutOfMemory, PageSource};
+use scrub_scan::{AllFindings, Item, Standing};
+use std::alloc::Global;
+
+/// An item of an extent as the frame that stands at its start, or `None` where it is no chunk.
+pub(crate) fn frame_of_item(extent: u32, item: &Item) -> Option<Standing>
+    ensures { result ≡ frame_of_item extent item.now }
+{
+    match item {
+        Item::Chunk {
+            form,
+            start,
+            uuid,
+            length,
+            digest,
+            ..
+        } => Some(Standing {
+            extent,
+            offset: *start,
+            form: *form,
+            uuid: *uuid,
+            length: *length,
+            digest: *digest,
+        }),
+        _ => None,
+    }
+}
+
+/// The place of an item of an extent, where it is a chunk.
+pub(crate) fn place_of(extent: u32, item: &Item) -> Option<Place>
+    ensures { result ≡ place_of extent item.now }
+{
+    frame_of_item(extent, item).map(|frame| Place {
+        extent: frame.extent,
+        offset: frame.offset,
+        length: frame.length,
+        uuid: frame.uuid,
+    })
+}
+
+/// The chunks among items of an extent, at their places.
+fn chunks_in(alloc: Global, extent: u32, items: &[Item]) -> Result<Vec<Place>, OutOfMemory>
+    ensures { IfOk result (λ v. v.items ≡ filter_map (place_of extent) items.now) }
+{
+    items
+        .iter()
+        .filter_map(|item| place_of(extent, item))
+        .collect(alloc)
+}
+
+/// The chunks of all extents, by extent and then start.
+fn all_chunks<D: PageSource>(
+    alloc: Global,
+    all: &AllFindings<'_, D>,
+) -> Result<Vec<Place>, OutOfMemory>
+    ensures { IfOk result (λ v. v.items ≡ chunks all.now.extents) }
+{
+    let mut chunks = Vec::new(alloc);
+    for i in 0..all.len() {
+        let one = all.result_at(i);
+        let found = chunks_in(alloc, one.extent(), one.findings().items())?;
+        chunks.extend_from_slice(&found)?;
+    }
+    Ok(chunks)
+}
+
+/// The chunks to whose place no sound locator points, by extent and then start.
+pub fn orphans<D: PageSource>(
+    alloc: Global,
+    all: &AllFindings<'_, D>,
+    checked: &[Checked],
+) -> Result<Vec<Place>, OutOfMemory>
+    ensures { IfOk result (λ v. v.items ≡ orphans all.now.extents checked.now) }
+{
+    let sound = SoundStarts::of(alloc, checked)?;
+    let verdicts = Verdicts::of(alloc, checked, &sound)?;
+    let known = walk(alloc, None, &verdicts, all)?;
+    Ok(known.orphans)
+}
+
+/// Those of these chunks whose UUID is twice or more among these.
+fn twins_among(
+    alloc: Global,
+    chunks: &[Place],
+    uuids: &ChunkUuids,
+) -> Result<Vec<Place>, OutOfMemory>
+    ensures { IfOk result (λ v. v.items ≡ filter (is_twin_by uuids.now) chunks.now) }
+{
+    chunks
+        .iter()
+        .copied()
+        .filter(|chunk| uuids.has_twin(chunk))
+        .collect(alloc)
+}
+
+/// The chunks whose UUID stands on another chunk too, by extent and then start.
+pub fn twins<D: PageSource>(
+    alloc: Global,
+    all: &AllFindings<'_, D>,
+) -> Result<Vec<Place>, OutOfMemory>
+    ensures { IfOk result (λ v. v.items ≡ twins all.now.extents) }
+{
+    let chunks = all_chunks(alloc, all)?;
+    let uuids = ChunkUuids::of(alloc, &chunks)?;
+    if uuids.are_distinct() {
+        return Ok(Vec::new(alloc));
+    }
+    twins_among(alloc, &chunks, &uuids)
+}

@@ -1,0 +1,58 @@
+//! All that follows from which chunks are live, at once: for a disk whose report tells all of it.
+
+ghost use Rattle.std.specs.Prelude.{◌≡◌, IfOk, map};
+ghost use Rattle.scrub_check.specs.Live.{live_bytes};
+ghost use Rattle.scrub_check.specs.Chunks.{orphans};
+ghost use Rattle.scrub_check.specs.Shared.{AreShared};
+ghost use Rattle.scrub_check.specs.Candidates.{AreCandidates};
+
+use crate::lists::candidate::Candidate;
+use crate::statuses::checked::Checked;
+use crate::lists::place::{Place, SharedPlace};
+use crate::lists::reclaiming::candidates_among;
+use crate::lists::shared_places::shared_by;
+use crate::lists::sound_starts::SoundStarts;
+use crate::lists::verdicts::Verdicts;
+use crate::lists::walked::walk;
+use scrub_disk::{OutOfMemory, PageSource};
+use scrub_scan::AllFindings;
+use scrub_super::Plan;
+use std::alloc::Global;
+
+/// What follows from which chunks of a disk are live.
+#[derive(Drop)]
+pub struct Liveness {
+    /// How many bytes the live chunks of each scanned extent take, in the order of the extents.
+    pub live: Vec<u32>,
+    /// The chunks to whose place no sound locator points, by extent and then start.
+    pub orphans: Vec<Place>,
+    /// The places that two sound locators or more point to, by extent and then byte.
+    pub shared: Vec<SharedPlace>,
+    /// The extents that may be reclaimed, by what is freed, falling, and then by number.
+    pub candidates: Vec<Candidate>,
+}
+
+/// The live bytes of each extent, and what `orphans`, `shared` and `candidates` give, together. The places that sound locators
+/// point to are sorted once, and walked once beside the items of the extents, so that each chunk is looked at once.
+pub fn liveness_of<D: PageSource>(
+    alloc: Global,
+    plan: &Plan,
+    all: &AllFindings<'_, D>,
+    checked: &[Checked],
+    in_doubt: bool,
+) -> Result<Liveness, OutOfMemory>
+    ensures live { IfOk result (λ l. l.live.items ≡ map (live_bytes checked.now) all.now.extents) }
+    ensures orphans { IfOk result (λ l. l.orphans.items ≡ orphans all.now.extents checked.now) }
+    ensures shared { IfOk result (λ l. AreShared checked.now l.shared.items) }
+    ensures candidates { IfOk result (λ l. AreCandidates plan.now all.now.extents checked.now in_doubt l.candidates.items) }
+{
+    let sound = SoundStarts::of(alloc, checked)?;
+    let verdicts = Verdicts::of(alloc, checked, &sound)?;
+    let known = walk(alloc, Some(plan.geometry()), &verdicts, all)?;
+    Ok(Liveness {
+        live: known.live,
+        orphans: known.orphans,
+        shared: shared_by(alloc, &sound)?,
+        candidates: candidates_among(alloc, plan, in_doubt, known.reclaimable)?,
+    })
+}

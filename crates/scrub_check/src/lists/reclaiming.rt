@@ -1,0 +1,178 @@
+//! Which extents may be reclaimed: those that hold garbage by half or more, and nothing that a locator might still need.
+//! What a locator is worth, and which chunks are live, is left to `status` and `walked`.
+
+ghost use Rattle.std.specs.Prelude.{◌≡◌, ◌&&◌, ◌*◌, ◌-◌, Bool, not, nat_lt, IfOk, OnOk, List};
+ghost use Rattle.std.specs.List.{list_all};
+ghost use Rattle.std.specs.List.Sorted.{IsPermutation, IsSorted, IsStrictlyIncreasing};
+ghost use Rattle.scrub_disk.specs.Image.{Image};
+ghost use Rattle.scrub_super.specs.Plan.{PlanValue};
+ghost use Rattle.scrub_scan.specs.Scanned.{Scanned, scanned};
+ghost use Rattle.scrub_scan.specs.AllFindings.{extent_numbers};
+ghost use Rattle.scrub_check.specs.declared.statuses.checked.Checked.{Checked};
+ghost use Rattle.scrub_check.specs.Live.{live_bytes};
+ghost use Rattle.scrub_check.specs.Verdicts.{AreVerdicts, with_reclaimable};
+ghost use Rattle.scrub_check.specs.Walked.{AreLiveChunks};
+ghost use Rattle.scrub_check.specs.Candidates.{CandidateValue, has_sound_alone, is_reclaimable, candidate_of, by_free, reclaimable, AreCandidates};
+ghost use Rattle.scrub_check.specs.Kept.{CandidatesAreSafe};
+
+use crate::lists::candidate::Candidate;
+use crate::statuses::checked::Checked;
+use crate::lists::sound_starts::SoundStarts;
+use crate::lists::verdicts::Verdicts;
+use crate::lists::walked::{LiveChunks, walk};
+use scrub_disk::{Geometry, OutOfMemory, PageSource};
+use scrub_scan::{AllFindings, ExtentResult};
+use scrub_super::Plan;
+use std::alloc::Global;
+use std::cmp::Reverse;
+
+/// Whether none of these pages has a byte below a write pointer.
+fn are_past(pages: &[u32], page: u32, pointer: u32) -> bool
+    ensures { result ≡ list_all (λ q. not (nat_lt (q * page) pointer)) pages.now }
+{
+    pages
+        .iter()
+        .all(|number| *number as u64 * page as u64 >= pointer as u64)
+}
+
+/// How many bytes below the write pointer of an extent are left, where the live chunks take so many.
+fn free_bytes<D: PageSource>(found: &ExtentResult<'_, D>, live: u32) -> u32
+    ensures { result ≡ (scanned found.now).pointer - live }
+{
+    found.pointer().saturating_sub(live)
+}
+
+/// Whether each locator that names an extent is sound.
+fn has_sound_alone<D: PageSource>(verdicts: &Verdicts<'_>, found: &ExtentResult<'_, D>) -> bool
+    ensures { (checked : List Checked) → AreVerdicts checked verdicts.now → result ≡ has_sound_alone checked (scanned found.now) }
+{
+    !verdicts.unsound.has(found.extent())
+}
+
+/// Whether live chunks that take so many bytes are at most half of what was written to an extent.
+fn is_half_garbage<D: PageSource>(found: &ExtentResult<'_, D>, live: u32) -> bool
+    ensures { result ≡ not (nat_lt (scanned found.now).pointer (2 * live)) }
+{
+    2 * live as u64 <= found.pointer() as u64
+}
+
+/// Whether an extent may be reclaimed whose live chunks take so many bytes.
+fn is_reclaimable<D: PageSource>(
+    geometry: Geometry,
+    verdicts: &Verdicts<'_>,
+    found: &ExtentResult<'_, D>,
+    live: u32,
+) -> bool
+    ensures { (checked : List Checked) → AreVerdicts checked verdicts.now → live ≡ live_bytes checked (scanned found.now) →
+        result ≡ is_reclaimable geometry checked (scanned found.now) }
+{
+    found.pointer() > 0
+        && are_past(
+            found.findings().bad_pages(),
+            geometry.page(),
+            found.pointer(),
+        )
+        && has_sound_alone(verdicts, found)
+        && is_half_garbage(found, live)
+}
+
+/// An extent of these live chunks as a candidate.
+fn candidate_of<D: PageSource>(found: &ExtentResult<'_, D>, live: LiveChunks) -> Candidate
+    ensures { (checked : List Checked) → AreLiveChunks checked (scanned found.now) live →
+        result ≡ candidate_of checked (scanned found.now) }
+{
+    Candidate::new(found.extent(), free_bytes(found, live.bytes), live.starts)
+}
+
+/// Adds an extent of these live chunks to the candidates, if it may be reclaimed, and the sizes of the disk are given to find
+/// that by.
+pub(crate) fn add_reclaimable<D: PageSource>(
+    geometry: Option<Geometry>,
+    verdicts: &Verdicts<'_>,
+    found: &ExtentResult<'_, D>,
+    live: LiveChunks,
+    candidates: &mut Vec<Candidate>,
+) -> Result<(), OutOfMemory>
+    ensures { (checked : List Checked) → AreVerdicts checked verdicts.now → AreLiveChunks checked (scanned found.now) live →
+        OnOk result (candidates.new.items ≡ with_reclaimable geometry checked candidates.old.items (scanned found.now)) }
+{
+    let Some(geometry) = geometry else {
+        return Ok(());
+    };
+    if !is_reclaimable(geometry, verdicts, found, live.bytes) {
+        return Ok(());
+    }
+    candidates.push(candidate_of(found, live))?;
+    Ok(())
+}
+
+/// What candidates are sorted by: what is freed, falling, and then the number.
+fn rank_of(one: &Candidate) -> (Reverse<u32>, u32)
+    ensures { result ≡ (record { 0 = one.now.free }, one.now.extent) }
+{
+    (Reverse(one.free()), one.extent())
+}
+
+/// Sorts candidates by what is freed, falling, and then by number.
+fn sort_by_free(candidates: &mut Vec<Candidate>) -> Result<(), OutOfMemory>
+    ensures same { IsPermutation candidates.old.items candidates.new.items }
+    ensures sorted { OnOk result (IsSorted by_free candidates.new.items) }
+{
+    candidates.sort_by_key(|one| rank_of(one))?;
+    Ok(())
+}
+
+/// Whether it is known which locators the disk has: there is a superblock, and no doubt.
+fn knows_locators(plan: &Plan, in_doubt: bool) -> bool
+    ensures { result ≡ (plan.now.has_superblock && not in_doubt) }
+{
+    plan.has_superblock() && !in_doubt
+}
+
+/// Those of the extents that may be reclaimed, in their order; none where it isn't known which locators the disk has.
+pub(crate) fn candidates_among(
+    alloc: Global,
+    plan: &Plan,
+    in_doubt: bool,
+    mut found: Vec<Candidate>,
+) -> Result<Vec<Candidate>, OutOfMemory>
+    ensures { (all : List Scanned) (checked : List Checked) → IsStrictlyIncreasing (extent_numbers all) →
+        found.items ≡ reclaimable plan.now.geometry all checked →
+        IfOk result (λ v. AreCandidates plan.now all checked in_doubt v.items) }
+{
+    if !knows_locators(plan, in_doubt) {
+        return Ok(Vec::new(alloc));
+    }
+    sort_by_free(&mut found)?;
+    Ok(found)
+}
+
+/// The extents that may be reclaimed, by what is freed, falling, and then by number: those that something was written
+/// to, all of it readable, that sound locators alone name, and whose live chunks take at most half of it. None without a
+/// superblock, and none in doubt: a tie, an unreadable page of extent 0 or a lost run may hide locators.
+pub fn candidates<D: PageSource>(
+    alloc: Global,
+    plan: &Plan,
+    all: &AllFindings<'_, D>,
+    checked: &[Checked],
+    in_doubt: bool,
+) -> Result<Vec<Candidate>, OutOfMemory>
+    ensures { IfOk result (λ v. AreCandidates plan.now all.now.extents checked.now in_doubt v.items) }
+{
+    let sound = SoundStarts::of(alloc, checked)?;
+    let verdicts = Verdicts::of(alloc, checked, &sound)?;
+    let known = walk(alloc, Some(plan.geometry()), &verdicts, all)?;
+    candidates_among(alloc, plan, in_doubt, known.reclaimable)
+}
+
+/// A law: there is one list of candidates at most.
+pub fn one_list_of_candidates()
+    ensures { (plan : PlanValue) (all : List Scanned) (checked : List Checked) (in_doubt : Bool) (cs ds : List CandidateValue) →
+        AreCandidates plan all checked in_doubt cs → AreCandidates plan all checked in_doubt ds → cs ≡ ds }
+{}
+
+/// A law: reclaiming candidates loses nothing that is named. Where the statuses are those of a whole scan, each locator
+/// into the extent of a candidate is sound, and the candidate keeps the chunk that it points to.
+pub fn candidates_are_safe()
+    ensures { (image : Image) (plan : PlanValue) (all : List Scanned) (checked : List Checked) → CandidatesAreSafe image plan all checked }
+{}

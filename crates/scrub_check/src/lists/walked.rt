@@ -1,0 +1,155 @@
+//! The chunks of all extents, told apart into live ones and orphans by one walk of the sorted places beside the items.
+
+ghost use Rattle.std.specs.Prelude.{◌≡◌, ◌<◌, ◌+◌, ◌++◌, ◌∷◌, ◌^◌, [], IfOk, OnOk, List, map};
+ghost use Rattle.std.specs.List.{sum_by};
+ghost use Rattle.std.specs.List.Sorted.{IsStrictlyIncreasing};
+ghost use Rattle.scrub_scan.specs.declared.item.Item.{Item};
+ghost use Rattle.scrub_scan.specs.Item.{start_of};
+ghost use Rattle.scrub_scan.specs.Scanned.{Scanned, scanned};
+ghost use Rattle.scrub_scan.specs.AllFindings.{extent_numbers};
+ghost use Rattle.scrub_check.specs.declared.statuses.checked.Checked.{Checked};
+ghost use Rattle.scrub_check.specs.Live.{size_of};
+ghost use Rattle.scrub_check.specs.Verdicts.{AreVerdicts};
+ghost use Rattle.scrub_check.specs.Walked.{HasPassed, AreLiveBy, AreWalkedOf, orphans_by};
+
+use crate::lists::candidate::Candidate;
+use crate::lists::chunks::place_of;
+use crate::lists::cursor::Cursor;
+use crate::lists::live::size_of;
+use crate::lists::place::Place;
+use crate::lists::reclaiming::add_reclaimable;
+use crate::lists::sound_starts::Start;
+use crate::lists::verdicts::Verdicts;
+use scrub_disk::{Geometry, OutOfMemory, PageSource};
+use scrub_scan::{AllFindings, ExtentResult, Item};
+use std::alloc::Global;
+
+/// The live chunks of an extent.
+#[derive(Drop)]
+pub(crate) struct LiveChunks {
+    /// How many bytes they take.
+    pub bytes: u32,
+    /// The bytes of the extent that they begin at, rising.
+    pub starts: Vec<u32>,
+}
+
+/// What is told of some extents.
+#[derive(Drop)]
+pub(crate) struct Walked {
+    /// How many bytes the live chunks of each take.
+    pub live: Vec<u32>,
+    /// The chunks in them to whose place no sound locator points, by extent and then start.
+    pub orphans: Vec<Place>,
+    /// Those that may be reclaimed, where that is asked for.
+    pub reclaimable: Vec<Candidate>,
+}
+
+/// Puts an item of an extent to the live chunks or the orphans, where it is a chunk.
+fn put_item(
+    extent: u32,
+    item: &Item,
+    cursor: &mut Cursor<'_>,
+    live: &mut LiveChunks,
+    orphans: &mut Vec<Place>,
+) -> Result<(), OutOfMemory>
+    requires passed { HasPassed cursor.old extent (start_of item.now) }
+    requires fits { live.old.bytes + size_of item.now < 2 ^ 32 }
+    ensures live { (items : List Item) → AreLiveBy cursor.old.starts.now extent items live.old →
+        OnOk result (AreLiveBy cursor.old.starts.now extent (items ++ item.now ∷ []) live.new) }
+    ensures orphans { OnOk result (orphans.new.items ≡ orphans.old.items ++ orphans_by cursor.old.starts.now extent (item.now ∷ [])) }
+    ensures same { cursor.new.starts.now ≡ cursor.old.starts.now }
+    ensures passed { HasPassed cursor.new extent (start_of item.now) }
+{
+    let Some(chunk) = place_of(extent, item) else {
+        return Ok(());
+    };
+    let offset = item.start();
+    if !cursor.has(Start { extent, offset }) {
+        orphans.push(chunk)?;
+        return Ok(());
+    }
+    live.bytes += size_of(item);
+    live.starts.push(offset)?;
+    Ok(())
+}
+
+/// The live chunks among items of an extent; the orphans among them are put behind others.
+fn live_among(
+    alloc: Global,
+    extent: u32,
+    items: &[Item],
+    cursor: &mut Cursor<'_>,
+    orphans: &mut Vec<Place>,
+) -> Result<LiveChunks, OutOfMemory>
+    requires rising { IsStrictlyIncreasing (map start_of items.now) }
+    requires sizes { sum_by size_of items.now < 2 ^ 32 }
+    requires passed { HasPassed cursor.old extent 0 }
+    ensures live { IfOk result (AreLiveBy cursor.old.starts.now extent items.now) }
+    ensures orphans { OnOk result (orphans.new.items ≡ orphans.old.items ++ orphans_by cursor.old.starts.now extent items.now) }
+    ensures same { cursor.new.starts.now ≡ cursor.old.starts.now }
+    ensures passed { OnOk result (HasPassed cursor.new (extent + 1) 0) }
+{
+    let mut live = LiveChunks {
+        bytes: 0,
+        starts: Vec::new(alloc),
+    };
+    for item in items {
+        put_item(extent, item, cursor, &mut live, orphans)?;
+    }
+    Ok(live)
+}
+
+/// Tells of one more extent.
+fn tell_extent<D: PageSource>(
+    alloc: Global,
+    geometry: Option<Geometry>,
+    verdicts: &Verdicts<'_>,
+    found: &ExtentResult<'_, D>,
+    cursor: &mut Cursor<'_>,
+    known: &mut Walked,
+) -> Result<(), OutOfMemory>
+    requires over { cursor.old.starts.now ≡ verdicts.now.sound.now }
+    requires passed { HasPassed cursor.old (scanned found.now).extent 0 }
+    ensures known { (checked : List Checked) (extents : List Scanned) → AreVerdicts checked verdicts.now →
+        AreWalkedOf geometry checked extents known.old →
+        OnOk result (AreWalkedOf geometry checked (extents ++ scanned found.now ∷ []) known.new) }
+    ensures same { cursor.new.starts.now ≡ cursor.old.starts.now }
+    ensures passed { OnOk result (HasPassed cursor.new ((scanned found.now).extent + 1) 0) }
+{
+    let items = found.findings().items();
+    // It bounds the sum of the live bytes: the items join up to the pointer.
+    let pointer = found.pointer();
+    let live = live_among(alloc, found.extent(), items, cursor, &mut known.orphans)?;
+    known.live.push(live.bytes)?;
+    add_reclaimable(geometry, verdicts, found, live, &mut known.reclaimable)
+}
+
+/// What is told of all extents; which may be reclaimed, only where the sizes of the disk are given. The places are walked once, since the extents rise, and the items in each of them.
+pub(crate) fn walk<D: PageSource>(
+    alloc: Global,
+    geometry: Option<Geometry>,
+    verdicts: &Verdicts<'_>,
+    all: &AllFindings<'_, D>,
+) -> Result<Walked, OutOfMemory>
+    ensures known { (checked : List Checked) → AreVerdicts checked verdicts.now → IfOk result (AreWalkedOf geometry checked all.now.extents) }
+    // The extents of every value of the type rise.
+    ensures rising { IsStrictlyIncreasing (extent_numbers all.now.extents) }
+{
+    let mut known = Walked {
+        live: Vec::with_capacity(alloc, all.len())?,
+        orphans: Vec::new(alloc),
+        reclaimable: Vec::new(alloc),
+    };
+    let mut cursor = Cursor::new(verdicts.sound);
+    for i in 0..all.len() {
+        tell_extent(
+            alloc,
+            geometry,
+            verdicts,
+            all.result_at(i),
+            &mut cursor,
+            &mut known,
+        )?;
+    }
+    Ok(known)
+}

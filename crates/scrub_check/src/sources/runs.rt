@@ -1,0 +1,204 @@
+//! Which index runs can be read, and why the others are lost. What the entries of several runs come to is found by
+//! `scrub_merge`.
+
+ghost use Rattle.std.specs.Prelude.{◌≡◌, IfOk, map as list_map};
+ghost use Rattle.scrub_check.specs.WholeScan.{IsWholeScan};
+ghost use Rattle.scrub_check.specs.ChunkRun.{StandsThere, HasPayloadThere, IsStateOf};
+ghost use Rattle.scrub_check.specs.Runs.{IsRunIn, HasRunStateIn, AreReadRuns};
+
+use crate::statuses::status::{Status, status_of};
+use rayon::current_num_threads;
+use rayon::prelude::*;
+use scrub_disk::{OutOfMemory, PageSource};
+use scrub_frame::Locator;
+use scrub_run::{Run, RunFault, read_run};
+use scrub_scan::{AllFindings, Standing, claimed_frame, read_payload};
+use scrub_super::Plan;
+use std::alloc::Global;
+use std::marker::Model;
+use std::thread::Threads;
+
+/// What became of an index run.
+#[derive(Debug, Clone, Copy, PartialEq, Eq)]
+pub enum RunState {
+    /// Its chunk stands, sound or hidden, and its payload is a run.
+    Read,
+    /// It is lost: its chunk has this status, neither sound nor hidden.
+    BadChunk(Status),
+    /// It is lost: its chunk stands, and its payload isn't a run.
+    NotARun,
+}
+
+/// The index runs that a plan names, in its order, which is newest first.
+#[derive(Drop)]
+pub struct ReadRuns {
+    runs: Vec<Option<Run>>,
+    states: Vec<RunState>,
+}
+
+impl Model for ReadRuns {
+    ghost use Rattle.scrub_check.specs.Runs.{ReadRunsValue, AreCounted};
+
+    ghost Value = { ReadRunsValue };
+
+    ghost view = { λ r. record { runs = r.runs.items; states = r.states.items } };
+
+    ghost invariant = { λ r. AreCounted (record { runs = r.runs.items; states = r.states.items }) };
+}
+
+impl ReadRuns {
+    ghost use Rattle.scrub_check.specs.Runs.{AreCounted};
+
+    /// The runs, `None` for each that is lost: at most 32.
+    pub fn runs(&self) -> &[Option<Run>]
+        ensures runs { result.now ≡ self.now.runs }
+        // Every value of the type is such.
+        ensures counted { AreCounted self.now }
+    {
+        self.runs.as_slice()
+    }
+
+    /// What became of each, as many as runs.
+    pub fn states(&self) -> &[RunState]
+        ensures states { result.now ≡ self.now.states }
+        // Every value of the type is such.
+        ensures counted { AreCounted self.now }
+    {
+        self.states.as_slice()
+    }
+
+    /// The runs, and what became of each, handed out.
+    pub fn into_parts(self) -> (Vec<Option<Run>>, Vec<RunState>)
+        ensures runs { result.0.items ≡ self.runs }
+        ensures states { result.1.items ≡ self.states }
+        // Every value of the type is such.
+        ensures counted { AreCounted self }
+    {
+        (self.runs, self.states)
+    }
+}
+
+/// The payload of the chunk that a locator names, where it stands. The locator tells all of the frame but its form, which
+/// the head says.
+fn payload_of<D: PageSource>(
+    alloc: Global,
+    disk: &D,
+    locator: &Locator,
+) -> Result<Vec<u8>, OutOfMemory>
+    requires { StandsThere (D.image disk.now) locator.now }
+    ensures { IfOk result (λ b. HasPayloadThere (D.image disk.now) locator.now b.items) }
+{
+    let end = disk.geometry().extent_bytes();
+    let Some(head) = claimed_frame(alloc, disk, end, locator.extent, locator.offset)? else {
+        unreachable!()
+    };
+    let standing = Standing {
+        extent: locator.extent,
+        offset: locator.offset,
+        form: head.form,
+        uuid: locator.uuid,
+        length: locator.length,
+        digest: locator.digest,
+    };
+    read_payload(alloc, disk, &standing)
+}
+
+/// The run in the chunk that a locator names, where it stands, or why it isn't one.
+fn run_in_chunk<D: PageSource>(
+    alloc: Global,
+    disk: &D,
+    locator: &Locator,
+) -> Result<(Option<Run>, RunState), OutOfMemory>
+    requires { StandsThere (D.image disk.now) locator.now }
+    ensures { IfOk result (λ r. IsStateOf (D.image disk.now) locator.now r.0 r.1) }
+{
+    let payload = payload_of(alloc, disk, locator)?;
+    match read_run(alloc, &payload) {
+        Ok(run) => Ok((Some(run), RunState::Read)),
+        Err(RunFault::NotARun) => Ok((None, RunState::NotARun)),
+        Err(RunFault::OutOfMemory) => Err(OutOfMemory),
+    }
+}
+
+/// The run that a locator names, and what became of it.
+fn run_of<D: PageSource>(
+    alloc: Global,
+    disk: &D,
+    plan: &Plan,
+    all: &AllFindings<'_, D>,
+    locator: &Locator,
+) -> Result<(Option<Run>, RunState), OutOfMemory>
+    requires { IsWholeScan (D.image disk.now) plan.now all.now.extents }
+    ensures run { IfOk result (λ r. IsRunIn (D.image disk.now) plan.now locator.now r.0) }
+    ensures state { IfOk result (λ r. HasRunStateIn (D.image disk.now) plan.now locator.now r.1) }
+{
+    match status_of(alloc, disk, plan, all, locator)? {
+        Status::Sound | Status::Hidden => run_in_chunk(alloc, disk, locator),
+        status => Ok((None, RunState::BadChunk(status))),
+    }
+}
+
+/// The index runs that a plan names, read where their chunks stand and their payloads are runs.
+pub fn read_runs<D: PageSource>(
+    alloc: Global,
+    disk: &D,
+    plan: &Plan,
+    all: &AllFindings<'_, D>,
+) -> Result<ReadRuns, OutOfMemory>
+    requires { IsWholeScan (D.image disk.now) plan.now all.now.extents }
+    ensures { IfOk result (AreReadRuns (D.image disk.now) plan.now) }
+{
+    let locators = plan.runs();
+    let mut runs = Vec::with_capacity(alloc, locators.len())?;
+    let mut states = Vec::with_capacity(alloc, locators.len())?;
+    for locator in locators {
+        let (run, state) = run_of(alloc, disk, plan, all, locator)?;
+        runs.push(run)?;
+        states.push(state)?;
+    }
+    Ok(ReadRuns { runs, states })
+}
+
+/// These runs, and what became of each, in two lists.
+fn unzipped(
+    alloc: Global,
+    read: Vec<(Option<Run>, RunState)>,
+) -> Result<(Vec<Option<Run>>, Vec<RunState>), OutOfMemory>
+    ensures runs { IfOk result (λ r. r.0.items ≡ list_map (λ one. one.0) read.items) }
+    ensures states { IfOk result (λ r. r.1.items ≡ list_map (λ one. one.1) read.items) }
+{
+    let mut runs = Vec::with_capacity(alloc, read.len())?;
+    let mut states = Vec::with_capacity(alloc, read.len())?;
+    for (run, state) in read {
+        runs.push(run)?;
+        states.push(state)?;
+    }
+    Ok((runs, states))
+}
+
+/// What `read_runs` gives, read by as many threads as there are processors at most. Each holds one payload at a time.
+pub fn read_all_runs<R: Threads + Sync, D: PageSource>(
+    rt: &R,
+    alloc: Global,
+    disk: &D,
+    plan: &Plan,
+    all: &AllFindings<'_, D>,
+) -> Result<ReadRuns, OutOfMemory>
+    requires { IsWholeScan (D.image disk.now) plan.now all.now.extents }
+    ensures { IfOk result (AreReadRuns (D.image disk.now) plan.now) }
+{
+    let locators = plan.runs();
+    let read = locators
+        .par_iter()
+        .with_min_len(locators.len().div_ceil(current_num_threads(rt)))
+        .map(
+            |locator: &Locator| -> Result<(Option<Run>, RunState), OutOfMemory>
+                requires { IsWholeScan (D.image disk.now) plan.now all.now.extents }
+                ensures { IfOk result (λ r. IsRunIn (D.image disk.entry.now) plan.entry.now locator.now r.0
+                    × HasRunStateIn (D.image disk.entry.now) plan.entry.now locator.now r.1) }
+            { run_of(alloc, disk, plan, all, locator) },
+        )
+        .collect::<Result<Vec<(Option<Run>, RunState)>, OutOfMemory>>(rt, alloc)??;
+    let (runs, states) = unzipped(alloc, read)?;
+    Ok(ReadRuns { runs, states })
+}

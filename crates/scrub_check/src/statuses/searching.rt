@@ -1,0 +1,73 @@
+//! Where among items an item begins at a place. The starts are seen by `counted_items` alone, which counts them.
+
+ghost use Rattle.std.specs.Prelude.{◌≡◌, ◌≤◌, ◌<◌, ◌^◌, ℕ, IfSome, IfNone, Contains, map, length, slice_index};
+ghost use Rattle.std.specs.List.Sorted.{IsStrictlyIncreasing};
+ghost use Rattle.scrub_scan.specs.Item.{start_of};
+
+use crate::statuses::counted_items::{CountedItems, ShowsStarts};
+use scrub_scan::Item;
+
+/// What a search for an item came to.
+#[derive(Debug, Clone, Copy, PartialEq, Eq)]
+pub struct Found {
+    /// The index of the item that begins at the place, where one does.
+    pub at: Option<usize>,
+    /// How many items were looked at.
+    pub probes: u32,
+}
+
+/// The index of a place among places that rise. It halves them with each that it is shown.
+fn search<S: ShowsStarts>(among: &mut S, start: u32) -> Option<usize>
+    requires rising { IsStrictlyIncreasing (S.starts among.old) }
+    requires unseen { S.shown among.old ≡ 0 }
+    ensures found { IfSome result (λ i. (i < length (S.starts among.old)) × (slice_index (S.starts among.old) i ≡ start)) }
+    ensures none { IfNone result (¬ Contains (S.starts among.old) start) }
+    ensures few { (digits : ℕ) → length (S.starts among.old) < 2 ^ digits → S.shown among.new ≤ digits }
+    ensures some { 0 < length (S.starts among.old) → 1 ≤ S.shown among.new }
+{
+    let mut low = 0;
+    let mut high = among.count();
+    while low < high {
+        let middle = low + (high - low) / 2;
+        let other = among.start(middle);
+        if other == start {
+            return Some(middle);
+        }
+        if other < start {
+            low = middle + 1;
+        } else {
+            high = middle;
+        }
+    }
+    None
+}
+
+/// What the search for a place comes to, with as many probes as the places counted.
+fn find<S: ShowsStarts>(among: &mut S, start: u32) -> Found
+    requires rising { IsStrictlyIncreasing (S.starts among.old) }
+    requires unseen { S.shown among.old ≡ 0 }
+    ensures found { IfSome result.at (λ i. (i < length (S.starts among.old)) × (slice_index (S.starts among.old) i ≡ start)) }
+    ensures none { IfNone result.at (¬ Contains (S.starts among.old) start) }
+    ensures counted { result.probes ≡ S.shown among.new }
+    ensures few { (digits : ℕ) → length (S.starts among.old) < 2 ^ digits → S.shown among.new ≤ digits }
+    ensures some { 0 < length (S.starts among.old) → 1 ≤ S.shown among.new }
+{
+    let at = search(among, start);
+    Found {
+        at,
+        probes: among.looks(),
+    }
+}
+
+/// The item that begins at a byte of the extent, among items whose starts rise. It halves the items with each that it
+/// looks at, so that these are at most as many as the number of items has binary digits; where there are items it looks at
+/// one at least.
+pub fn find_start(items: &[Item], start: u32) -> Found
+    requires { IsStrictlyIncreasing (map start_of items.now) }
+    ensures found { IfSome result.at (λ i. (i < length items.now) × (slice_index (map start_of items.now) i ≡ start)) }
+    ensures none { IfNone result.at (¬ Contains (map start_of items.now) start) }
+    ensures probes { (digits : ℕ) → length items.now < 2 ^ digits → result.probes ≤ digits }
+    ensures looked { 0 < length items.now → 1 ≤ result.probes }
+{
+    find(&mut CountedItems::new(items), start)
+}

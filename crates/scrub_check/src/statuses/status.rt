@@ -1,0 +1,247 @@
+//! What a locator is worth: whether the chunk that it names stands at its place.
+
+ghost use Rattle.std.specs.Prelude.{◌≡◌, ◌≤◌, ◌<◌, ◌+◌, ◌↔◌, ℕ, Some, IfOk, IfSome, IfNone, IsTrue, map};
+ghost use Rattle.std.specs.List.Sorted.{IsStrictlyIncreasing};
+ghost use Rattle.scrub_disk.specs.Image.{Image, unreadable_pages};
+ghost use Rattle.scrub_super.specs.Plan.{PlanValue};
+ghost use Rattle.scrub_check.specs.WholeScan.{IsWholeScan};
+ghost use Rattle.scrub_check.specs.Status.{end_of, InRange, HasUnreadableByte, CanStand, HasStatus, HasStatusIn, ExactlyOne};
+ghost use Rattle.scrub_check.specs.Judged.{IsOther, IsMismatch, Agrees, IsJudged, IsStatusByClaim};
+ghost use Rattle.scrub_scan.specs.Extent.{extent_of};
+ghost use Rattle.scrub_scan.specs.Item.{start_of};
+ghost use Rattle.scrub_scan.specs.Tiling.{IsTiling};
+ghost use Rattle.scrub_check.specs.Looks.{start_named_by, IsOpen, IsStatusByItems, IsKnownAmong};
+ghost use Rattle.scrub_check.specs.Seen.{AreSeen};
+
+use crate::lists::chunks::frame_of_item;
+use crate::statuses::claims::{Claim, head_claimed_at, seen_claim};
+use crate::statuses::extents::{findings_of, has_gap};
+use crate::statuses::looks::standing_at;
+use crate::statuses::searching::find_start;
+use crate::statuses::seen::Seen;
+use crate::lists::sound_starts::Start;
+use crate::statuses::whole_scan::WholeScan;
+use scrub_disk::{Geometry, OutOfMemory, PageSource};
+use scrub_frame::{Form, Head, LEAST_OVERHEAD, Locator};
+use scrub_scan::{AllFindings, Item, Standing};
+use scrub_super::Plan;
+use std::alloc::Global;
+use uuid::Uuid;
+
+/// What a locator is worth: the first of these that applies.
+#[derive(Debug, Clone, Copy, PartialEq, Eq)]
+pub enum Status {
+    /// It names extent 0 or none of the disk, or the least frame of its payload would end past the extent.
+    OutOfRange,
+    /// Its extent is retired: what stands there isn't asked.
+    Retired,
+    /// The least frame of its payload would end past the write pointer.
+    PastPointer,
+    /// A page with a byte of the least frame of its payload is unreadable.
+    Unreadable,
+    /// No frame of either form stands at its place.
+    NoFrame,
+    /// The frame there has another UUID.
+    WrongUuid,
+    /// The payload there has another length.
+    WrongLength,
+    /// The payload there has another SHA-256.
+    WrongDigest,
+    /// The chunk stands there, but the tiling stepped past it: no item begins at its place.
+    Hidden,
+    /// The chunk stands there, and an item of the tiling begins at its place.
+    Sound,
+}
+
+/// Where the frame that a locator names would end at the least, in bytes of the extent: a locator doesn't tell the form.
+fn end_of(locator: &Locator) -> u64
+    ensures { result ≡ end_of locator.now }
+{
+    locator.offset as u64 + locator.length as u64 + LEAST_OVERHEAD as u64
+}
+
+/// Whether the frame that a locator names would lie in one of the extents that chunks are written to.
+fn lies_in_range(geometry: Geometry, locator: &Locator) -> bool
+    ensures { IsTrue result ↔ InRange geometry locator.now }
+{
+    locator.extent >= 1
+        && locator.extent < geometry.extents()
+        && end_of(locator) <= geometry.extent_bytes() as u64
+}
+
+/// Why a frame of this UUID and this length isn't the one that a locator names, or `None` where both are its own.
+fn difference(locator: &Locator, uuid: Uuid, length: u32) -> Option<Status>
+    ensures other { IfSome result (IsOther locator.now uuid length) }
+    ensures same { IfNone result ((uuid ≡ locator.now.uuid) × (length ≡ locator.now.length)) }
+{
+    if uuid != locator.uuid {
+        return Some(Status::WrongUuid);
+    }
+    if length != locator.length {
+        return Some(Status::WrongLength);
+    }
+    None
+}
+
+/// Why a frame isn't the one that a locator names, or `None` where it is.
+fn mismatch(locator: &Locator, standing: &Standing) -> Option<Status>
+    ensures other { IfSome result (IsMismatch locator.now standing.now) }
+    ensures same { IfNone result (Agrees locator.now standing.now) }
+{
+    if let Some(status) = difference(locator, standing.uuid, standing.length) {
+        return Some(status);
+    }
+    if standing.digest != locator.digest {
+        return Some(Status::WrongDigest);
+    }
+    None
+}
+
+/// What a locator is worth where this frame stands at its place, or none: `agreeing` where it is the one that it names.
+fn judged(locator: &Locator, standing: Option<Standing>, agreeing: Status) -> Status
+    ensures { IsJudged locator.now standing agreeing result }
+{
+    let Some(standing) = standing else {
+        return Status::NoFrame;
+    };
+    match mismatch(locator, &standing) {
+        Some(status) => status,
+        None => agreeing,
+    }
+}
+
+/// Whether a byte of the frame that a locator names can't be read, by the unreadable pages of its extent.
+fn is_unreadable<D: PageSource>(disk: &D, bad_pages: &[u32], locator: &Locator) -> bool
+    requires in_range { InRange (D.image disk.now).geometry locator.now }
+    requires pages { bad_pages.now ≡ unreadable_pages (D.image disk.now) locator.now.extent }
+    ensures { IsTrue result ↔ HasUnreadableByte (D.image disk.now) locator.now }
+{
+    let size = locator.length as u64 + LEAST_OVERHEAD as u64;
+    has_gap(disk, bad_pages, locator.offset, size)
+}
+
+/// What a locator is worth whose frame would lie where it can be read, by the item that begins at its place; `None` where
+/// none does.
+fn status_by_item(items: &[Item], locator: &Locator) -> Option<Status>
+    requires { IsStrictlyIncreasing (map start_of items.now) }
+    ensures { (image : Image) (w : ℕ) → CanStand image w locator.now → IsTiling (extent_of image locator.now.extent w) items.now →
+        IsStatusByItems image w locator.now result }
+{
+    if let Some(i) = find_start(items, locator.offset).at {
+        let standing = frame_of_item(locator.extent, &items[i]);
+        return Some(judged(locator, standing, Status::Sound));
+    }
+    None
+}
+
+/// What a locator is worth, where the findings tell it; `None` where its place has to be looked at.
+pub(crate) fn status_by_findings<D: PageSource>(
+    scan: &WholeScan<'_, D>,
+    locator: &Locator,
+) -> Option<Status>
+    ensures known { IfSome result (HasStatusIn (D.image scan.now.disk.now) scan.now.plan.now locator.now) }
+    ensures open { IfNone result (IsOpen (D.image scan.now.disk.now) scan.now.plan.now locator.now) }
+{
+    let geometry = scan.plan.geometry();
+    if !lies_in_range(geometry, locator) {
+        return Some(Status::OutOfRange);
+    }
+    if scan.plan.is_retired(locator.extent) {
+        return Some(Status::Retired);
+    }
+    let pointer = scan.plan.pointer(locator.extent);
+    if end_of(locator) > pointer as u64 {
+        return Some(Status::PastPointer);
+    }
+    let findings = findings_of(scan.all, locator.extent);
+    if is_unreadable(scan.disk, findings.bad_pages(), locator) {
+        return Some(Status::Unreadable);
+    }
+    status_by_item(findings.items(), locator)
+}
+
+/// The place of a locator.
+pub(crate) fn start_of(locator: &Locator) -> Start
+    ensures { result ≡ start_named_by locator.now }
+{
+    Start {
+        extent: locator.extent,
+        offset: locator.offset,
+    }
+}
+
+/// What a locator is worth at whose place this frame is claimed, or none, where that is told without hashing a payload:
+/// that of a sealed frame says whether it stands at all.
+fn status_by_claim(locator: &Locator, claimed: Option<Head>) -> Option<Status>
+    ensures { IsStatusByClaim locator.now claimed result }
+{
+    let Some(head) = claimed else {
+        return Some(Status::NoFrame);
+    };
+    match head.form {
+        Form::Plain => difference(locator, head.uuid, head.length),
+        Form::Sealed => None,
+    }
+}
+
+/// The place of a locator, where none of these claims tells what it is worth.
+pub(crate) fn open_start(claims: &[Claim], locator: &Locator) -> Option<Start>
+    ensures start { IfSome result (λ s. s ≡ start_named_by locator.now) }
+    ensures known { IfNone result (IsKnownAmong claims.now locator.now) }
+{
+    let start = start_of(locator);
+    let Some(claim) = seen_claim(claims, start) else {
+        return Some(start);
+    };
+    match status_by_claim(locator, claim.head) {
+        Some(_) => None,
+        None => Some(start),
+    }
+}
+
+/// What a locator is worth that the findings don't tell, by what is claimed at its place, and only where that doesn't tell
+/// it either by what stands there.
+pub(crate) fn status_by_looks<D: PageSource>(
+    alloc: Global,
+    scan: &WholeScan<'_, D>,
+    seen: &Seen,
+    locator: &Locator,
+) -> Result<Status, OutOfMemory>
+    requires left { IsOpen (D.image scan.now.disk.now) scan.now.plan.now locator.now }
+    requires seen { AreSeen (D.image scan.now.disk.now) scan.now.plan.now seen.now }
+    ensures { IfOk result (HasStatusIn (D.image scan.now.disk.now) scan.now.plan.now locator.now) }
+{
+    let start = start_of(locator);
+    let claimed = head_claimed_at(alloc, scan, &seen.claims, start)?;
+    if let Some(status) = status_by_claim(locator, claimed) {
+        return Ok(status);
+    }
+    let standing = standing_at(alloc, scan, &seen.looks, start)?;
+    Ok(judged(locator, standing, Status::Hidden))
+}
+
+/// What a locator is worth in the image of a disk: the first status of the table that applies. The disk is looked at only
+/// where no item that was found begins at the locator's place.
+pub fn status_of<D: PageSource>(
+    alloc: Global,
+    disk: &D,
+    plan: &Plan,
+    all: &AllFindings<'_, D>,
+    locator: &Locator,
+) -> Result<Status, OutOfMemory>
+    requires { IsWholeScan (D.image disk.now) plan.now all.now.extents }
+    ensures { IfOk result (HasStatusIn (D.image disk.now) plan.now locator.now) }
+{
+    let scan = WholeScan { disk, plan, all };
+    match status_by_findings(&scan, locator) {
+        Some(status) => Ok(status),
+        None => status_by_looks(alloc, &scan, &Seen::nothing(alloc), locator),
+    }
+}
+
+/// A law: exactly one status applies to a locator, under a write pointer and by a plan. Two that do are one, and it can't
+/// be that none does. So what a locator is worth is told by the image and the pointer of its extent, and by nothing else.
+pub fn one_status()
+    ensures under_pointer { (image : Image) (w : ℕ) (locator : Locator) → ExactlyOne (HasStatus image w locator) }
+    ensures in_plan { (image : Image) (plan : PlanValue) (locator : Locator) → ExactlyOne (HasStatusIn image plan locator) }
+{}

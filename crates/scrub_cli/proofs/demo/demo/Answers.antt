@@ -1,8 +1,0 @@
--- The report is that of the demo's disk.
-use Rattle.std.proofs.lemmas.Result.{IfOk-weaker}
-use Rattle.scrub_disk.specs.Memory.{image_of}
-use Rattle.scrub_cli.proofs.demo.demo.Goals as goal
-
-pub returns-clause-answer : goal.returns-clause-answer
-returns-clause-answer g c =
-    IfOk-weaker c.disk_answer.result _ _ (λ r told. record { image = image_of c.in_ok-disk.disk; disk = c.in_ok-disk.ensures; told = told }) c.disk_answer.ensures.answer

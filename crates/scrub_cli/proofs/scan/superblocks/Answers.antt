@@ -1,6 +1,0 @@
--- The disk that was loaded is told of.
-use Rattle.scrub_disk.specs.Memory.{image_of}
-use Rattle.scrub_cli.proofs.scan.superblocks.Goals as goal
-
-pub returns : goal.returns
-returns g c = record { image = image_of c.in_ok-disk.disk; disk = c.in_ok-disk.ensures; answered = c.in_ok-superblock_listing.ensures }

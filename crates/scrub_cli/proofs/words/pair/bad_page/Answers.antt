@@ -1,0 +1,39 @@
+-- A pair has a colon, with a number on both sides of the first one.
+use Rattle.std.proofs.Common.{None, Some, sym, ◌∙◌}
+use Rattle.scrub_cli.proofs.Pairs.{pair_parts}
+use Rattle.scrub_cli.proofs.words.pair.bad_page.Goals as goal
+
+-- no colon, so no pair
+pub returns-in_err-extent : goal.returns-in_err-extent
+returns-in_err-extent c =
+    let word = c.args.word.now in
+    rw c.from_residual.ensures (record { pair = λ m n _ _ is_pair. pair_parts word None m n c.in_err-extent.ensures.cases is_pair; only = tt })
+
+-- what stands before the first colon is no number
+pub returns-in_err-decimal : goal.returns-in_err-decimal
+returns-in_err-decimal c =
+    let word = c.args.word.now in
+    let parts = Some (c.in_ok-extent.extent, c.in_ok-extent.page) in
+    rw c.from_residual-in_err-decimal.ensures (record {
+      pair = λ m n small _ is_pair.
+          c.in_err-decimal.ensures m small (pair_parts word parts m n c.in_ok-extent.ensures.cases is_pair).0;
+      only = tt;
+    })
+
+-- what stands behind it is none
+pub returns-in_err-decimal-2 : goal.returns-in_err-decimal-2
+returns-in_err-decimal-2 c =
+    let word = c.args.word.now in
+    let parts = Some (c.in_ok-extent.extent, c.in_ok-extent.page) in
+    rw c.from_residual-in_err-decimal-2.ensures (record {
+      pair = λ m n _ small is_pair.
+          c.in_err-decimal-2.ensures n small (pair_parts word parts m n c.in_ok-extent.ensures.cases is_pair).1;
+      only = tt;
+    })
+
+-- numbers that stand around the first colon are those that were read
+pub returns-clause-only : goal.returns-clause-only
+returns-clause-only c extent page is_pair =
+    let parts = Some (c.in_ok-extent.extent, c.in_ok-extent.page) in
+    let sides = pair_parts c.args.word.now parts extent page c.in_ok-extent.ensures.cases is_pair in
+    (sym sides.0.1 ∙ c.in_ok-decimal.ensures.1, sym sides.1.1 ∙ c.in_ok-decimal-2.ensures.1)

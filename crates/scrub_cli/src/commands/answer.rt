@@ -1,0 +1,147 @@
+//! What a command answers: the lines of an extent, the report, the index or the named locators of a disk, what may be
+//! reclaimed of it, or what a disk or an image has of superblocks, and the status that it ends with. How the disk came to be
+//! read is left to the commands, and where the answer goes to the run.
+
+ghost use Rattle.std.specs.Prelude.{◌≡◌, ◌+◌, ◌≤◌, ◌<◌, ◌^◌, IfOk, length};
+ghost use Rattle.std.specs.List.{list_all};
+ghost use Rattle.scrub_report.specs.Answer.{IsPartitionOfPlanned};
+ghost use Rattle.scrub_report.specs.Scrubbed.{is_clean_item};
+ghost use Rattle.scrub_cli.specs.Answer.{IsVersionAnswer};
+ghost use Rattle.scrub_cli.specs.Lines.{lines_of, status_of_clean};
+ghost use Rattle.scrub_cli.specs.Scan.{IsDiskAnswer};
+ghost use Rattle.scrub_cli.specs.SizesListed.{AreSizesListed};
+ghost use Rattle.scrub_cli.specs.Superblock.{AreSuperblocksListed};
+
+use crate::words::command::VERSION;
+use scrub_disk::{OutOfMemory, PageSource, RawImage};
+use scrub_pool::{NoGate, Takings};
+use scrub_report::{
+    Accepted, ScrubFault, are_clean_items, list_locators, list_reclaimable, list_sizes,
+    list_superblocks, scrub,
+};
+use scrub_scan::{Item, item_line};
+use std::alloc::Global;
+use std::sync::Wait;
+use std::thread::Threads;
+
+/// The whole answer of a command, in memory.
+#[derive(Drop)]
+pub struct Answer {
+    /// The bytes for the output: lines, each with its line feed, or an index.
+    pub text: Vec<u8>,
+    /// The status that the run ends with once all of it is written: 0 clean, 1 findings.
+    pub status: u8,
+}
+
+impl Answer {
+    /// The answer with this text.
+    fn new(text: Vec<u8>, is_clean: bool) -> Answer
+        ensures text { result.text.items ≡ text.items }
+        ensures status { result.status ≡ status_of_clean is_clean }
+    {
+        let status = if is_clean { 0 } else { 1 };
+        Answer { text, status }
+    }
+}
+
+/// What is wanted of a whole disk.
+#[derive(Debug, Clone, Copy)]
+pub enum Wanted {
+    /// What was found on it.
+    Report,
+    /// The index that is recovered from it.
+    Index,
+    /// Its named locators, and what they are worth.
+    Locators,
+    /// What may be reclaimed of it, where these kinds of doubts are accepted.
+    Reclaimable(Accepted),
+}
+
+/// The program's name and version.
+pub fn version(alloc: Global) -> Result<Answer, OutOfMemory>
+    ensures { IfOk result (λ a. IsVersionAnswer a.text.items a.status) }
+{
+    Ok(Answer {
+        text: Vec::from_slice(alloc, VERSION.as_bytes())?,
+        status: 0,
+    })
+}
+
+/// The lines of some items, each with a line feed.
+fn lines(alloc: Global, items: &[Item]) -> Result<Vec<u8>, OutOfMemory>
+    ensures { IfOk result (λ text. text.items ≡ lines_of items.now) }
+{
+    let mut text = Vec::new(alloc);
+    for item in items {
+        let line = item_line(alloc, item)?;
+        text.extend_from_slice(line.as_bytes())?;
+        text.push(b'\n')?;
+    }
+    Ok(text)
+}
+
+/// The lines of the items of an extent. It is clean where no item is torn, noise or lost.
+pub fn listing(alloc: Global, items: &[Item]) -> Result<Answer, OutOfMemory>
+    ensures text { IfOk result (λ a. a.text.items ≡ lines_of items.now) }
+    ensures status { IfOk result (λ a. a.status ≡ status_of_clean (list_all is_clean_item items.now)) }
+{
+    let text = lines(alloc, items)?;
+    Ok(Answer::new(text, are_clean_items(items)))
+}
+
+/// The lines of a disk's superblocks.
+pub fn superblock_listing<D: PageSource>(alloc: Global, disk: &D) -> Result<Answer, OutOfMemory>
+    ensures { IfOk result (λ a. AreSuperblocksListed (D.image disk.now) a.text.items a.status) }
+{
+    let listing = list_superblocks(alloc, disk)?;
+    Ok(Answer::new(listing.text, listing.is_clean))
+}
+
+/// The lines of the superblock records of a raw image, some blocks of which are marked as lost.
+pub fn sizes_listing<R: RawImage>(
+    alloc: Global,
+    raw: &mut R,
+    marked: &[bool],
+) -> Result<Answer, OutOfMemory>
+    requires { R.reads raw.old < 2 ^ 62 }
+    ensures { IfOk result (λ a. AreSizesListed (record { bytes = R.bytes raw.old; most_failures = R.most_failures raw.old })
+        marked.now a.text.items a.status) }
+{
+    let listing = list_sizes(alloc, raw, marked)?;
+    Ok(Answer::new(listing.text, listing.is_clean))
+}
+
+/// What is wanted of a disk that this many workers scan beside the caller, with its status, and who took which extents.
+pub fn disk_answer<R: Threads + Wait + Sync, D: PageSource>(
+    rt: &R,
+    alloc: Global,
+    disk: &D,
+    workers: u32,
+    wanted: Wanted,
+) -> Result<(Answer, Takings), ScrubFault>
+    requires { workers ≤ 64 }
+    ensures answer { IfOk result (λ r. IsDiskAnswer wanted (D.image disk.now) r.0.text.items r.0.status) }
+    ensures workers { IfOk result (λ r. length r.1.lists ≡ workers + 1) }
+    ensures partition { IfOk result (λ r. IsPartitionOfPlanned (D.image disk.now) r.1.lists) }
+{
+    match wanted {
+        Wanted::Report => {
+            let (found, takings) = scrub(rt, alloc, disk, workers, &NoGate)?;
+            let is_clean = found.is_clean();
+            Ok((Answer::new(found.into_report(), is_clean), takings))
+        }
+        Wanted::Index => {
+            let (found, takings) = scrub(rt, alloc, disk, workers, &NoGate)?;
+            let is_clean = found.is_clean();
+            Ok((Answer::new(found.into_index(), is_clean), takings))
+        }
+        Wanted::Locators => {
+            let (listing, takings) = list_locators(rt, alloc, disk, workers, &NoGate)?;
+            Ok((Answer::new(listing.text, listing.is_clean), takings))
+        }
+        Wanted::Reclaimable(accepted) => {
+            let (listing, takings) = list_reclaimable(rt, alloc, disk, workers, &NoGate, accepted)?;
+            Ok((Answer::new(listing.text, listing.is_clear), takings))
+        }
+    }
+}

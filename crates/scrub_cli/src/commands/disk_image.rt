@@ -1,0 +1,66 @@
+//! The disk in an image file, as every command on one reads it. Its sizes, and what is told of it, are left to the commands,
+//! and the map of a rescue to `rescue`.
+
+ghost use Rattle.std.specs.Prelude.{ℕ, MatchOption, MatchResult};
+ghost use Rattle.scrub_disk.specs.Memory.{image_of};
+ghost use Rattle.scrub_cli.specs.DiskImage.{NamesPage, NamePages, IsBadPageFault, IsLoadedDisk, IsDiskFault};
+
+use crate::process::fault::Fault;
+use crate::process::images::Images;
+use crate::words::pair::bad_page;
+use crate::commands::rescue::{rescue_map, rescued};
+use crate::words::ImageWords;
+use scrub_disk::{Geometry, MemDisk, load};
+use std::alloc::Global;
+
+/// The page of the disk that a word names.
+fn named_page(geometry: Geometry, word: &str) -> Option<(u32, u32)>
+    ensures { MatchOption result ((at : ℕ × ℕ) → ¬ NamesPage geometry word.now at) (NamesPage geometry word.now) }
+{
+    let (extent, page) = bad_page(word)?;
+    if extent < geometry.extents && page < geometry.pages {
+        Some((extent, page))
+    } else {
+        None
+    }
+}
+
+/// The pages that words name as unreadable. Where a word names none, the first such is the fault.
+fn bad_pages<'a>(
+    alloc: Global,
+    geometry: Geometry,
+    words: &[&'a str],
+) -> Result<Vec<(u32, u32)>, Fault<'a>>
+    ensures { MatchResult result (λ pages. NamePages geometry words.now pages.items) (IsBadPageFault geometry words.now) }
+{
+    let mut pages = Vec::new(alloc);
+    for word in words {
+        let Some(page) = named_page(geometry, word) else {
+            return Err(Fault::BadPage(word));
+        };
+        pages.push(page)?;
+    }
+    Ok(pages)
+}
+
+/// The disk of these sizes that the words name. Its faults in their order: the first word for an unreadable page that names
+/// none, a map that can't be opened, the map's first line that breaks the rules, an image that can't be opened, and one
+/// that is too long.
+pub fn load_disk<'a, I: Images>(
+    alloc: Global,
+    geometry: Geometry,
+    words: &ImageWords<'a>,
+    images: &mut I,
+) -> Result<MemDisk, Fault<'a>>
+    ensures { MatchResult result
+        (λ disk. IsLoadedDisk (I.known images.old words.now.name.now) (I.known_map images.old) words.now geometry (image_of disk))
+        (IsDiskFault (I.known images.old words.now.name.now) (I.known_map images.old) words.now geometry) }
+{
+    let bad = bad_pages(alloc, geometry, &words.bad_pages)?;
+    let map = rescue_map(alloc, words.map, images)?;
+    let Some(mut raw) = images.image(words.name) else {
+        return Err(Fault::NoImage(words.name));
+    };
+    let disk = load(alloc, &mut raw, geometry, &bad)?;
+    Ok(rescued(alloc, disk, &map)?)
+}

@@ -1,0 +1,37 @@
+//! The command `items`: the items of one extent of a raw image.
+
+ghost use Rattle.std.specs.Prelude.{MatchResult};
+ghost use Rattle.scrub_cli.specs.Items.{IsItemsAnswer, IsItemsFault};
+
+use crate::commands::answer::{Answer, listing};
+use crate::commands::disk_image::load_disk;
+use crate::process::fault::Fault;
+use crate::process::images::Images;
+use crate::words::ItemsWords;
+use scrub_disk::Geometry;
+use scrub_scan::tile;
+use std::alloc::Global;
+
+/// The items of the extent that the words name. Faults are found in the order of `Fault`.
+pub fn items<'a, I: Images>(
+    alloc: Global,
+    words: &ItemsWords<'a>,
+    images: &mut I,
+) -> Result<Answer, Fault<'a>>
+    ensures { MatchResult result
+        (λ a. IsItemsAnswer (I.known images.old words.now.image.name.now) (I.known_map images.old) words.now a.text.items a.status)
+        (IsItemsFault (I.known images.old words.now.image.name.now) (I.known_map images.old) words.now) }
+{
+    let image = &words.image;
+    let geometry = Geometry::new(image.page, image.pages, image.extents)?;
+    if words.extent >= geometry.extents {
+        return Err(Fault::Extent);
+    }
+    let pointer = words.pointer.unwrap_or(geometry.extent_bytes());
+    if pointer > geometry.extent_bytes() {
+        return Err(Fault::Pointer);
+    }
+    let disk = load_disk(alloc, geometry, image, images)?;
+    let tiling = tile(alloc, &disk, words.extent, pointer)?;
+    Ok(listing(alloc, tiling.as_slice())?)
+}

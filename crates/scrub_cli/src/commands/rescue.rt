@@ -1,0 +1,96 @@
+//! The map of the rescue that made an image: it is opened and read, and the pages that it lacks are made unreadable. What
+//! its lines say is for `scrub_map`.
+
+ghost use Rattle.std.specs.Prelude.{◌≡◌, ◌*◌, IfOk, List, MatchResult, Option, length};
+ghost use Rattle.scrub_disk.specs.Memory.{image_of};
+ghost use Rattle.scrub_map.specs.declared.block.MapBlock.{MapBlock};
+ghost use Rattle.scrub_map.specs.Kept.{KeepsBlocks};
+ghost use Rattle.scrub_cli.specs.SizesListed.{AreMarksOf};
+ghost use Rattle.scrub_cli.specs.Rescue.{IsMapFault, IsMapNamed, KeepsMap, LosesByMap, LosesMarked, LosesPages};
+
+use crate::process::fault::Fault;
+use crate::process::images::{Images, MapReadFault};
+use scrub_disk::{MemDisk, OutOfMemory, PageSource};
+use scrub_map::{RescueMap, read_map};
+use std::alloc::Global;
+
+/// The map of a name, where one is given. Its faults in their order: it can't be opened, and its first line that breaks
+/// the rules.
+pub fn rescue_map<'a, I: Images>(
+    alloc: Global,
+    name: Option<&'a str>,
+    images: &mut I,
+) -> Result<Option<RescueMap>, Fault<'a>>
+    ensures map { MatchResult result
+        (IsMapNamed (I.known_map images.old) name.entry)
+        (IsMapFault (I.known_map images.old) name.entry) }
+    ensures same_images { I.known images.new ≡ I.known images.old }
+{
+    let Some(name) = name else {
+        return Ok(None);
+    };
+    let text = match images.map(alloc, name) {
+        Ok(text) => text,
+        Err(MapReadFault::NotOpened) => return Err(Fault::NoMap(name)),
+        Err(MapReadFault::OutOfMemory) => return Err(Fault::OutOfMemory),
+    };
+    Ok(Some(read_map(alloc, &text)?))
+}
+
+/// How many blocks of `BLOCK` bytes begin in the first 67,108,864 bytes.
+const BLOCKS: usize = 1 << 17;
+
+/// The bytes of a block that is lost as a whole where sizes aren't known.
+const BLOCK: u32 = 512;
+
+/// A mark for each of the first blocks of 512 bytes, whether the map lacks it; none where there is no map.
+pub fn lost_blocks(alloc: Global, map: &Option<RescueMap>) -> Result<Vec<bool>, OutOfMemory>
+    ensures { IfOk result (λ marks. (blocks : Option (List MapBlock)) → KeepsMap map.now blocks → AreMarksOf blocks marks.items) }
+{
+    match map {
+        Some(map) => map.lost_blocks(alloc, BLOCK, BLOCKS),
+        None => Ok(Vec::new(alloc)),
+    }
+}
+
+/// A disk without the pages that the map lacks, where there is a map.
+pub fn rescued(
+    alloc: Global,
+    disk: MemDisk,
+    map: &Option<RescueMap>,
+) -> Result<MemDisk, OutOfMemory>
+    requires { (blocks : Option (List MapBlock)) × KeepsMap map.now blocks }
+    ensures { IfOk result (λ r. (blocks : Option (List MapBlock)) → KeepsMap map.now blocks →
+        LosesByMap blocks (image_of disk) (image_of r)) }
+{
+    match map {
+        Some(map) => without_lost(alloc, disk, map),
+        None => Ok(disk),
+    }
+}
+
+/// A disk whose pages are unreadable of which the map lacks a byte.
+fn without_lost(alloc: Global, mut disk: MemDisk, map: &RescueMap) -> Result<MemDisk, OutOfMemory>
+    requires { (blocks : List MapBlock) × KeepsBlocks map.now blocks }
+    ensures { IfOk result (λ r. (blocks : List MapBlock) → KeepsBlocks map.now blocks →
+        LosesPages blocks (image_of disk) (image_of r)) }
+{
+    let geometry = disk.geometry();
+    let count = geometry.pages() as usize * geometry.extents() as usize;
+    let lost = map.lost_blocks(alloc, geometry.page(), count)?;
+    mark_pages(&mut disk, &lost);
+    Ok(disk)
+}
+
+/// Makes each page unreadable whose number among all pages of the disk is marked.
+fn mark_pages(disk: &mut MemDisk, lost: &[bool])
+    requires { length lost.now ≡ (image_of disk.old).geometry.pages * (image_of disk.old).geometry.extents }
+    ensures { LosesMarked lost.now (length lost.now) (image_of disk.old) (image_of disk.new) }
+{
+    let pages = disk.geometry().pages();
+    for (number, is_lost) in lost.iter().enumerate() {
+        if *is_lost {
+            disk.mark_bad(number as u32 / pages, number as u32 % pages);
+        }
+    }
+}

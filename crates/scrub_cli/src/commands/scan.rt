@@ -1,0 +1,69 @@
+//! The commands on a whole disk in an image file: `scan`, `index`, `locators` and `reclaimable`, which scan it, and
+//! `superblocks`, which reads its extent 0.
+
+ghost use Rattle.std.specs.Prelude.{◌≡◌, ◌+◌, ◌≤◌, IfOk, MatchResult, length};
+ghost use Rattle.scrub_disk.specs.Memory.{image_of};
+ghost use Rattle.scrub_cli.specs.Scan.{AreTakingsOf, IsDiskOf, IsScanAnswer, IsScanFault};
+ghost use Rattle.scrub_cli.specs.Superblock.{IsSuperblocksAnswer};
+
+use crate::commands::answer::{Answer, Wanted, disk_answer, superblock_listing};
+use crate::commands::disk_image::load_disk;
+use crate::process::fault::Fault;
+use crate::process::images::Images;
+use crate::words::{ImageWords, ScanWords};
+use scrub_disk::{Geometry, MemDisk};
+use scrub_pool::Takings;
+use std::alloc::Global;
+use std::sync::Wait;
+use std::thread::Threads;
+
+/// The disk that the words name, of the sizes that they give. Faults are found in the order of `Fault`.
+fn disk_of<'a, I: Images>(
+    alloc: Global,
+    words: &ImageWords<'a>,
+    images: &mut I,
+) -> Result<MemDisk, Fault<'a>>
+    ensures { MatchResult result
+        (λ disk. IsDiskOf (I.known images.old words.now.name.now) (I.known_map images.old) words.now (image_of disk))
+        (IsScanFault (I.known images.old words.now.name.now) (I.known_map images.old) words.now) }
+{
+    let geometry = Geometry::new(words.page, words.pages, words.extents)?;
+    load_disk(alloc, geometry, words, images)
+}
+
+/// What is wanted of the disk that the words name, which as many workers scan as they say, and who took which extents. Faults
+/// are found in the order of `Fault`.
+pub fn scan<'a, R: Threads + Wait + Sync, I: Images>(
+    rt: &R,
+    alloc: Global,
+    words: &ScanWords<'a>,
+    images: &mut I,
+    wanted: Wanted,
+) -> Result<(Answer, Takings), Fault<'a>>
+    requires { words.now.workers ≤ 64 }
+    ensures answer { MatchResult result
+        (λ r. IsScanAnswer wanted (I.known images.old words.now.image.name.now) (I.known_map images.old) words.now.image
+        r.0.text.items r.0.status)
+        (IsScanFault (I.known images.old words.now.image.name.now) (I.known_map images.old) words.now.image) }
+    ensures workers { IfOk result (λ r. length r.1.lists ≡ words.now.workers + 1) }
+    ensures takings { IfOk result
+        (λ r. AreTakingsOf wanted (I.known images.old words.now.image.name.now) (I.known_map images.old) words.now.image
+        r.0.text.items r.0.status r.1.lists) }
+{
+    let disk = disk_of(alloc, &words.image, images)?;
+    Ok(disk_answer(rt, alloc, &disk, words.workers, wanted)?)
+}
+
+/// What the disk that the words name has of superblocks. Faults are found in the order of `Fault`.
+pub fn superblocks<'a, I: Images>(
+    alloc: Global,
+    words: &ImageWords<'a>,
+    images: &mut I,
+) -> Result<Answer, Fault<'a>>
+    ensures { MatchResult result
+        (λ a. IsSuperblocksAnswer (I.known images.old words.now.name.now) (I.known_map images.old) words.now a.text.items a.status)
+        (IsScanFault (I.known images.old words.now.name.now) (I.known_map images.old) words.now) }
+{
+    let disk = disk_of(alloc, words, images)?;
+    Ok(superblock_listing(alloc, &disk)?)
+}

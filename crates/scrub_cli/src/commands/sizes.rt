@@ -1,0 +1,30 @@
+//! The command `sizes`: the superblock records of a raw image whose sizes aren't known.
+
+ghost use Rattle.std.specs.Prelude.{◌≡◌, IfOk, MatchResult};
+ghost use Rattle.scrub_cli.specs.SizesListed.{IsSizesAnswer, IsSizesFault};
+
+use crate::commands::answer::{Answer, sizes_listing};
+use crate::process::fault::Fault;
+use crate::process::images::Images;
+use crate::commands::rescue::{lost_blocks, rescue_map};
+use crate::words::SizesWords;
+use std::alloc::Global;
+
+/// The records of the image that the words name, each with the sizes that it has itself, and the bytes that are lost. Faults
+/// are found in the order of `Fault`.
+pub fn sizes<'a, I: Images>(
+    alloc: Global,
+    words: &SizesWords<'a>,
+    images: &mut I,
+) -> Result<Answer, Fault<'a>>
+    ensures { MatchResult result
+        (λ a. IsSizesAnswer (I.known images.old words.now.name.now) (I.known_map images.old) words.now a.text.items a.status)
+        (IsSizesFault (I.known_map images.old) words.now) }
+{
+    let map = rescue_map(alloc, words.map, images)?;
+    let Some(mut raw) = images.image(words.name) else {
+        return Err(Fault::NoImage(words.name));
+    };
+    let marked = lost_blocks(alloc, &map)?;
+    Ok(sizes_listing(alloc, &mut raw, &marked)?)
+}

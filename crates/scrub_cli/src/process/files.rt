@@ -1,0 +1,151 @@
+//! Raw images and maps in files of the system. No contract says what a file holds: all that is known of an image is how
+//! often it was read, and how often that failed.
+
+ghost use Rattle.std.specs.Prelude.{◌↔◌, ◌⊎◌, ◌≤◌, ◌^◌, IsTrue, None};
+ghost use Rattle.scrub_cli.specs.FileKind.{IsBlockDevice, IsRegularFile};
+ghost use Rattle.scrub_cli.specs.Known.{file, map_file};
+
+use crate::process::images::{Images, MapReadFault};
+use scrub_disk::{RawFault, RawImage};
+use std::alloc::Global;
+use std::fs::{File, Files, metadata};
+use std::io::{ErrorKind, Read};
+use std::os::unix::fs::{FileExt, MetadataExt};
+
+/// A file that is read as a raw image.
+#[derive(Drop)]
+pub struct FileImage {
+    file: File,
+    reads: u64,
+    failures: u64,
+    ghost counted: { failures ≤ reads },
+    ghost bounded: { failures ≤ 2 ^ 64 },
+}
+
+impl RawImage for FileImage {
+    ghost bytes = { λ _. None };
+
+    ghost reads = { λ image. image.reads };
+
+    ghost failures = { λ image. image.failures };
+
+    ghost most_failures = { λ _. 2 ^ 64 };
+
+    ghost failures_are_reads = { λ image. image.counted };
+
+    ghost failures_are_bounded = { λ image. image.bounded };
+
+    fn read_at(&mut self, offset: u64, out: &mut [u8]) -> Result<usize, RawFault> {
+        self.reads += 1;
+        match self.file.read_at(out, offset) {
+            Ok(count) => Ok(count),
+            Err(_) => {
+                self.failures += 1;
+                Err(RawFault)
+            }
+        }
+    }
+}
+
+/// The bits of a file's mode that say of which kind it is, as `stat` of POSIX has them, and two of the kinds.
+const KIND_BITS: u32 = 0o170000;
+
+const REGULAR_FILE: u32 = 0o100000;
+
+const BLOCK_DEVICE: u32 = 0o060000;
+
+/// Whether a file of this mode is opened. Nothing but a regular file and a block device can be read whole, so nothing else
+/// is: not a directory, of which every read fails, and not a pipe, which would be waited for until somebody writes to it.
+fn is_opened(mode: u32) -> bool
+    ensures { IsTrue result ↔ (IsRegularFile mode ⊎ IsBlockDevice mode) }
+{
+    let kind = mode & KIND_BITS;
+    kind == REGULAR_FILE || kind == BLOCK_DEVICE
+}
+
+/// The regular file or the block device of this path. A link is followed.
+fn open_readable<R: Files<File = File>>(runtime: &R, name: &str) -> Option<File> {
+    let mode = metadata(runtime, name).ok()?.mode();
+    if !is_opened(mode) {
+        return None;
+    }
+    File::open(runtime, name).ok()
+}
+
+/// The files of the system, by their paths.
+#[derive(Drop)]
+pub struct NamedFiles<'a, R> {
+    pub runtime: &'a R,
+}
+
+impl<R: Files<File = File>> Images for NamedFiles<'_, R> {
+    type Image = FileImage;
+
+    ghost known = { λ _ _. file };
+
+    ghost known_map = { λ _. map_file };
+
+    fn image(&mut self, name: &str) -> Option<FileImage> {
+        let file = open_readable(self.runtime, name)?;
+        Some(FileImage {
+            file,
+            reads: 0,
+            failures: 0,
+        })
+    }
+
+    fn map(&mut self, alloc: Global, name: &str) -> Result<Vec<u8>, MapReadFault> {
+        let Some(mut file) = open_readable(self.runtime, name) else {
+            return Err(MapReadFault::NotOpened);
+        };
+        let mut text = Vec::new(alloc);
+        match file.read_to_end(&mut text) {
+            Ok(_) => Ok(text),
+            Err(error) if error.kind() == ErrorKind::OutOfMemory => Err(MapReadFault::OutOfMemory),
+            Err(_) => Err(MapReadFault::NotOpened),
+        }
+    }
+}
+
+#[cfg(test)]
+mod tests {
+    use super::{NamedFiles, is_opened};
+    use crate::process::images::{Images, MapReadFault};
+
+    /// The numbers are those of `inode(7)` of Linux: the kind, then the permissions, also with the set-user-ID, set-group-ID
+    /// and sticky bits.
+    #[test]
+    fn of_all_kinds_of_files_two_are_opened(rt: HostRuntime) {
+        for (mode, wanted) in [
+            (0o100644, true),
+            (0o100000, true),
+            (0o107777, true),
+            (0o060660, true),
+            (0o060000, true),
+            (0o067777, true),
+            (0o040755, false),
+            (0o020666, false),
+            (0o010644, false),
+            (0o140777, false),
+            (0o120777, false),
+            (0o160000, false),
+            (0o000777, false),
+        ] {
+            assert!(rt; is_opened(mode) == wanted, "{mode}");
+        }
+    }
+
+    #[test]
+    fn neither_a_folder_nor_a_device_without_blocks_nor_a_name_without_a_file_is_an_image_or_a_map(
+        rt: HostRuntime,
+    ) {
+        let mut files = NamedFiles { runtime: &rt };
+        for name in [".", "/dev/null", "no-such-folder/disk.img", ""] {
+            assert!(rt; files.image(name).is_none(), "{name}");
+            assert!(rt;
+                matches!(files.map(rt.alloc(), name), Err(MapReadFault::NotOpened)),
+                "{name}"
+            );
+        }
+    }
+}

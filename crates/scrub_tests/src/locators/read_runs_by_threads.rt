@@ -1,0 +1,116 @@
+//! The index runs of a disk, as threads read them, beside what one reader reads. What they have to be is left to
+//! `index_runs`.
+
+use crate::support::compare::same;
+use crate::support::disks::{
+    broken_newest_run, deleted_in_the_newest_run, put_abc_and_its_run, put_run, run_named_twice,
+};
+use scrub_check::{read_all_runs, read_runs};
+use scrub_disk::{Geometry, MemDisk};
+use scrub_fakes::{TWOS, abc_at, mark_bad, plan_of, put_chunk, put_superblock, small_disk};
+use scrub_frame::Locator;
+use scrub_run::{Entry, Run};
+use scrub_scan::scan_in_order;
+use std::alloc::Global;
+use std::process::Abort;
+use std::test::Fail;
+use std::thread::Threads;
+
+/// The entries of a run, none where it is lost.
+fn entries_of(run: &Option<Run>) -> Option<&[Entry]> {
+    run.as_ref().map(|run| run.entries())
+}
+
+/// Compares two lists of entries.
+fn check_entries(rt: &impl Abort, found: &[Entry], wanted: &[Entry]) {
+    assert!(rt; found.len() == wanted.len());
+    for (one, other) in found.iter().zip(wanted) {
+        same(rt, one.id(), other.id());
+        same(rt, one.locators(), other.locators());
+    }
+}
+
+/// Compares a run with another. Either both are lost, or neither is.
+fn check_run(rt: &impl Abort, found: &Option<Run>, wanted: &Option<Run>) {
+    match (entries_of(found), entries_of(wanted)) {
+        (Some(found), Some(wanted)) => check_entries(rt, found, wanted),
+        (None, None) => {}
+        _ => panic!(rt; "one of both is lost"),
+    }
+}
+
+/// Compares the runs of a disk as threads read them with those that one reader reads. They are this many, and as many of them
+/// are lost.
+fn check_runs<R: Threads + Abort + Sync>(
+    rt: &R,
+    alloc: Global,
+    disk: &MemDisk,
+    count: usize,
+    lost: usize,
+) -> Result<(), Fail> {
+    let plan = plan_of(alloc, disk)?;
+    let all = scan_in_order(alloc, disk, &plan)?;
+    let found = read_all_runs(rt, alloc, disk, &plan, &all)?;
+    let wanted = read_runs(alloc, disk, &plan, &all)?;
+    same(rt, found.states(), wanted.states());
+    assert!(rt; found.runs().len() == count && wanted.runs().len() == count);
+    for (one, other) in found.runs().iter().zip(wanted.runs()) {
+        check_run(rt, one, other);
+    }
+    let none = found.runs().iter().filter(|run| run.is_none()).count();
+    same(rt, none, lost);
+    Ok(())
+}
+
+#[test]
+fn no_run_is_read(rt: HostRuntime) -> Result<(), Fail> {
+    check_runs(&rt, rt.alloc(), &small_disk(rt.alloc())?, 0, 0)
+}
+
+#[test]
+fn one_run_is_read_or_lost(rt: HostRuntime) -> Result<(), Fail> {
+    let mut disk = small_disk(rt.alloc())?;
+    put_abc_and_its_run(rt.alloc(), &mut disk)?;
+    check_runs(&rt, rt.alloc(), &disk, 1, 0)?;
+    mark_bad(&mut disk, 2, 2)?;
+    check_runs(&rt, rt.alloc(), &disk, 1, 1)
+}
+
+#[test]
+fn two_and_three_runs_are_read(rt: HostRuntime) -> Result<(), Fail> {
+    let twice = run_named_twice(&rt, rt.alloc())?;
+    check_runs(&rt, rt.alloc(), &twice, 2, 0)?;
+    let broken = broken_newest_run(&rt, rt.alloc())?;
+    check_runs(&rt, rt.alloc(), &broken, 2, 1)?;
+    let deleted = deleted_in_the_newest_run(&rt, rt.alloc())?;
+    check_runs(&rt, rt.alloc(), &deleted, 3, 0)
+}
+
+/// The bytes of the frame of a run that has one locator.
+const RUN_FRAME: u32 = 155;
+
+/// A disk with 32 runs one behind the other, each with a locator of its own. Every fifth is named a byte past where it begins,
+/// and the payload of every seventh is no run, from the first on.
+fn runs_in_a_row(alloc: Global) -> Result<MemDisk, Fail> {
+    let mut disk = MemDisk::blank(alloc, Geometry::new(256, 64, 3)?)?;
+    let mut runs = Vec::new(alloc);
+    for number in 0..32u32 {
+        let offset = number.saturating_mul(RUN_FRAME);
+        let run = if number % 7 == 0 {
+            put_chunk(alloc, &mut disk, 2, offset, TWOS, &[0; 117])?
+        } else {
+            put_run(alloc, &mut disk, 2, offset, TWOS, &[abc_at(1, number)])?
+        };
+        let offset = offset.saturating_add(u32::from(number % 5 == 0));
+        runs.push(Locator { offset, ..run })?;
+    }
+    put_superblock(alloc, &mut disk, &[0, 32 * RUN_FRAME], &runs)?;
+    Ok(disk)
+}
+
+#[test]
+fn of_32_runs_each_is_read_or_lost_at_its_place(rt: HostRuntime) -> Result<(), Fail> {
+    // Seven are named past where they begin, and four more are no runs.
+    let disk = runs_in_a_row(rt.alloc())?;
+    check_runs(&rt, rt.alloc(), &disk, 32, 11)
+}

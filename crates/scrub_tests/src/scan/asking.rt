@@ -1,0 +1,203 @@
+//! How often the pages of a disk are asked for: by the choice of a superblock, by the tiling of an extent and by its scan.
+
+ghost use Rattle.std.specs.Prelude.{◌≡◌};
+
+use crate::support::compare::same;
+use crate::support::disks::one_shard;
+use crate::support::extents::{disk_with, mark_all};
+use scrub_disk::{Geometry, MemDisk, PageSource};
+use scrub_fakes::{CountingSource, ONES, TWOS, put, put_chunk, put_superblock, small_disk};
+use scrub_frame::Form;
+use scrub_scan::{scan_extent, scan_in_order, tile};
+use scrub_super::{Plan, choose};
+use std::alloc::Global;
+use std::process::Abort;
+use std::test::Fail;
+
+/// Requires that the choice of a superblock asks for each page of extent 0 once, and that the scan by one reader asks for
+/// pages of the other extents as often as its results tell: at least once for each page, and at most as often as the pages
+/// times six more than the pages.
+fn check_asked(rt: &impl Abort, alloc: Global, disk: &MemDisk) -> Result<(), Fail> {
+    let source = CountingSource::new(alloc, disk)?;
+    let geometry = source.geometry();
+    let pages = u64::from(geometry.pages());
+    let chosen = choose(alloc, &source)?;
+    let plan = Plan::make(alloc, &chosen, geometry)?;
+    let all = scan_in_order(alloc, &source, &plan)?;
+    same(rt, all.len(), plan.planned().len());
+    for extent in 0..geometry.extents() {
+        let reported = match all.result_of(extent) {
+            Some(result) => result.pages_asked(),
+            None => pages,
+        };
+        let asked = source.asked(extent);
+        same(rt, asked, reported);
+        assert!(rt; pages <= asked && asked <= pages.saturating_mul(pages + 6));
+    }
+    Ok(())
+}
+
+/// A disk of one extent beside a blank extent 0. Each of its eight pages begins with the head of a frame that would end
+/// with the extent.
+pub(crate) fn heads(alloc: Global) -> Result<MemDisk, Fail> {
+    let mut disk = MemDisk::blank(alloc, Geometry::new(64, 8, 2)?)?;
+    for page in 0u8..8 {
+        let mut head = [0x11; 22];
+        head[..2].copy_from_slice(&Form::Plain.magic());
+        head[18..].copy_from_slice(&(474 - 64 * u32::from(page)).to_be_bytes());
+        put(&mut disk, 1, 64 * u32::from(page), &head)?;
+    }
+    Ok(disk)
+}
+
+#[test]
+fn pages_are_asked_for_as_often_as_is_reported(rt: HostRuntime) -> Result<(), Fail> {
+    check_asked(&rt, rt.alloc(), &one_shard(rt.alloc())?)?;
+    check_asked(&rt, rt.alloc(), &heads(rt.alloc())?)
+}
+
+/// How often the tiling of extent 1 under a pointer asks for a page.
+fn asked_by_tile(
+    rt: &impl Abort,
+    alloc: Global,
+    disk: &MemDisk,
+    pointer: u32,
+) -> Result<u64, Fail> {
+    let source = CountingSource::new(alloc, disk)?;
+    let geometry = source.geometry();
+    assert!(rt; geometry.extents() > 1);
+    assert!(rt; pointer <= geometry.extent_bytes());
+    let _items = tile(alloc, &source, 1, pointer)?;
+    Ok(source.asked(1))
+}
+
+/// How often a scan of an extent under a plan says that it asked for a page.
+fn asked_by_scan<D: PageSource>(
+    rt: &impl Abort,
+    alloc: Global,
+    disk: &D,
+    plan: &Plan,
+    extent: u32,
+) -> Result<u64, Fail>
+    requires { plan.now.geometry ≡ (D.image disk.now).geometry }
+{
+    assert!(rt; plan.planned().contains(&extent));
+    let scanned = scan_extent(alloc, disk, plan, extent)?;
+    Ok(scanned.pages_asked())
+}
+
+/// That disk, with its far end in agreement with the heads or not, and with these pages unreadable.
+fn heads_with(alloc: Global, far_end_agrees: bool, bad_pages: &[u32]) -> Result<MemDisk, Fail> {
+    let mut disk = heads(alloc)?;
+    if far_end_agrees {
+        put(&mut disk, 1, 496, &ONES)?;
+    }
+    mark_all(&mut disk, 1, bad_pages)?;
+    Ok(disk)
+}
+
+/// Whether the far end agrees with the heads, the unreadable pages, and how often a page is asked for.
+const HEADS: [(bool, &[u32], u64); 4] = [
+    // Each page once, and the last one twice: as the far end, and for its own item.
+    (false, &[], 9),
+    // The far end and six pages for the first head, then each page for its own item.
+    (true, &[6], 15),
+    // One frame: the first page, the far end, and each other page as it passes.
+    (true, &[], 9),
+    // The far end and five pages for the first head, then each page for its own item.
+    (true, &[5, 6], 14),
+];
+
+#[test]
+fn heads_that_claim_the_extent_are_broken_off_once(rt: HostRuntime) -> Result<(), Fail> {
+    for (far_end_agrees, bad_pages, asked) in &HEADS {
+        let disk = heads_with(rt.alloc(), *far_end_agrees, bad_pages)?;
+        same(&rt, asked_by_tile(&rt, rt.alloc(), &disk, 512)?, *asked);
+    }
+    Ok(())
+}
+
+/// A disk of one extent of eight pages beside a blank extent 0. Each page but the last begins with the head of a sealed
+/// frame that would end with the extent, where what closes it stands; none of their digests is that of the payload.
+pub(crate) fn sealed_heads(alloc: Global) -> Result<MemDisk, Fail> {
+    let mut disk = MemDisk::blank(alloc, Geometry::new(64, 8, 2)?)?;
+    for page in 0u8..7 {
+        let mut head = [0x11; 22];
+        head[..2].copy_from_slice(&Form::Sealed.magic());
+        head[18..].copy_from_slice(&(440 - 64 * u32::from(page)).to_be_bytes());
+        put(&mut disk, 1, 64 * u32::from(page), &head)?;
+    }
+    put(&mut disk, 1, 494, &ONES)?;
+    put(&mut disk, 1, 510, &[0x3A, 0xA3])?;
+    Ok(disk)
+}
+
+#[test]
+fn sealed_heads_whose_far_end_agrees_are_hashed_each(rt: HostRuntime) -> Result<(), Fail> {
+    let disk = sealed_heads(rt.alloc())?;
+    // The far end once, each page for its own item, and for each head the pages up to the last.
+    assert!(rt; asked_by_tile(&rt, rt.alloc(), &disk, 512)? == 36);
+    Ok(())
+}
+
+#[test]
+fn a_healthy_extent_of_short_frames(rt: HostRuntime) -> Result<(), Fail> {
+    let mut disk = small_disk(rt.alloc())?;
+    for i in 0..6u32 {
+        put_chunk(rt.alloc(), &mut disk, 1, 41 * i, ONES, b"abc")?;
+    }
+    assert!(rt; asked_by_tile(&rt, rt.alloc(), &disk, 246)? == 4);
+    Ok(())
+}
+
+/// Requires that a scan of extent 1 tells that it asked for a page so often, and that its source counts as many.
+fn check_scan(rt: &impl Abort, alloc: Global, disk: &MemDisk, asked: u64) -> Result<(), Fail> {
+    let source = CountingSource::new(alloc, disk)?;
+    let chosen = choose(alloc, &source)?;
+    let plan = Plan::make(alloc, &chosen, source.geometry())?;
+    assert!(rt; asked_by_scan(rt, alloc, &source, &plan, 1)? == asked);
+    assert!(rt; source.asked(1) == asked);
+    Ok(())
+}
+
+#[test]
+fn a_scan_asks_for_each_page_of_heads_or_zeros(rt: HostRuntime) -> Result<(), Fail> {
+    // All of the extent is below its pointer, so its tiling asks for all of it.
+    check_scan(&rt, rt.alloc(), &heads(rt.alloc())?, 9)?;
+    check_scan(&rt, rt.alloc(), &small_disk(rt.alloc())?, 4)
+}
+
+#[test]
+fn a_scan_asks_for_each_page_of_short_frames_once(rt: HostRuntime) -> Result<(), Fail> {
+    let mut disk = small_disk(rt.alloc())?;
+    for i in 0..4u32 {
+        put_chunk(rt.alloc(), &mut disk, 1, 41 * i, ONES, b"abc")?;
+    }
+    // Pages 0 to 2 by the tiling, the pointer's page among them, and page 3 for its tail.
+    put_superblock(rt.alloc(), &mut disk, &[164, 0], &[])?;
+    check_scan(&rt, rt.alloc(), &disk, 4)?;
+    // Nothing was written: all pages for their tail.
+    put_superblock(rt.alloc(), &mut disk, &[0, 0], &[])?;
+    check_scan(&rt, rt.alloc(), &disk, 4)
+}
+
+#[test]
+fn a_scan_asks_for_the_last_page_of_a_long_frame_twice(rt: HostRuntime) -> Result<(), Fail> {
+    let mut disk = MemDisk::blank(rt.alloc(), Geometry::new(64, 8, 2)?)?;
+    put_chunk(rt.alloc(), &mut disk, 1, 0, ONES, &[0x78; 300])?;
+    put_chunk(rt.alloc(), &mut disk, 1, 338, TWOS, b"abc")?;
+    put_superblock(rt.alloc(), &mut disk, &[379], &[])?;
+    // Page 0, the far end on page 5, pages 1 to 5; then pages 6 and 7 for their tail.
+    check_scan(&rt, rt.alloc(), &disk, 9)
+}
+
+#[test]
+fn a_scan_leaves_lost_pages_to_its_tiling(rt: HostRuntime) -> Result<(), Fail> {
+    let mut disk = disk_with(rt.alloc(), &[(0, ONES, &[0x78; 60])], &[1, 3])?;
+    // Page 0, page 1 as the far end and for its own item, and pages 2 and 3 for their tail.
+    put_superblock(rt.alloc(), &mut disk, &[98, 0], &[])?;
+    check_scan(&rt, rt.alloc(), &disk, 5)?;
+    // The same with these two pages below the pointer.
+    put_superblock(rt.alloc(), &mut disk, &[256, 0], &[])?;
+    check_scan(&rt, rt.alloc(), &disk, 5)
+}

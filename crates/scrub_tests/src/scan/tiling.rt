@@ -1,0 +1,158 @@
+//! The items of an extent below its write pointer, and their lines. Those of `abc` under several pointers, of zeros and of a
+//! frame over an unreadable page are compared in `scanned` and `one_reader`.
+
+use crate::support::extents::{Written, check_lines, disk_with, put_all, put_frames};
+use scrub_disk::{Geometry, MemDisk, PageSource};
+use scrub_fakes::{ABC_DIGEST, ENDS_IN_MAGIC, ONES, THREES, TWOS, small_disk};
+use scrub_frame::Form;
+use scrub_scan::{Item, Items, one_tiling, tile};
+use std::alloc::Global;
+use std::process::Abort;
+use std::test::Fail;
+use uuid::Uuid;
+
+/// The tiling of extent 1 under a pointer.
+fn tiling_of(rt: &impl Abort, alloc: Global, disk: &MemDisk, pointer: u32) -> Result<Items, Fail> {
+    let geometry = disk.geometry();
+    assert!(rt; geometry.extents() > 1);
+    assert!(rt; pointer <= geometry.extent_bytes());
+    Ok(tile(alloc, disk, 1, pointer)?)
+}
+
+/// Compares the lines of the tiling of extent 1 under a pointer.
+pub(crate) fn check_tiling(
+    rt: &impl Abort,
+    alloc: Global,
+    disk: &MemDisk,
+    pointer: u32,
+    lines: &[&str],
+) -> Result<(), Fail> {
+    let items = tiling_of(rt, alloc, disk, pointer)?;
+    check_lines(rt, alloc, items.as_slice(), lines)
+}
+
+/// A tiling of extent 1 of a small disk: the frames and the unreadable pages there, the pointer, and the lines.
+struct Tiled<'a> {
+    frames: &'a [Written<'a>],
+    bad_pages: &'a [u32],
+    pointer: u32,
+    lines: &'a [&'a str],
+}
+
+/// Tilings of a frame whose last page is unreadable, of one that hides the chunk at the page bound by the collision, of two
+/// frames end to end, and of a frame of no payload.
+const TILINGS: [Tiled<'static>; 4] = [
+    Tiled {
+        frames: &[(0, TWOS, &[0x78; 117])],
+        bad_pages: &[2, 3],
+        pointer: 155,
+        lines: &["torn 0 64", "noise 64 128", "lost 128 155"],
+    },
+    Tiled {
+        frames: &[(0, ENDS_IN_MAGIC, &[0x78; 28]), (64, ONES, b"abc")],
+        bad_pages: &[],
+        pointer: 105,
+        lines: &[
+            "chunk 0 66 33333333-3333-3333-3333-33333333c55e 28",
+            "noise 66 105",
+        ],
+    },
+    Tiled {
+        frames: &[(0, ONES, &[0x78; 12]), (50, ONES, b"abc")],
+        bad_pages: &[],
+        pointer: 91,
+        lines: &[
+            "chunk 0 50 11111111-1111-1111-1111-111111111111 12",
+            "chunk 50 91 11111111-1111-1111-1111-111111111111 3",
+        ],
+    },
+    Tiled {
+        frames: &[(0, ONES, b"")],
+        bad_pages: &[],
+        pointer: 38,
+        lines: &["chunk 0 38 11111111-1111-1111-1111-111111111111 0"],
+    },
+];
+
+/// Compares the lines of a tiling.
+fn check_tiled(rt: &impl Abort, alloc: Global, tiled: &Tiled) -> Result<(), Fail> {
+    let disk = disk_with(alloc, tiled.frames, tiled.bad_pages)?;
+    check_tiling(rt, alloc, &disk, tiled.pointer, tiled.lines)
+}
+
+#[test]
+fn tilings_of_frames_cut_short_hiding_touching_and_empty(rt: HostRuntime) -> Result<(), Fail> {
+    for tiled in &TILINGS {
+        check_tiled(&rt, rt.alloc(), tiled)?;
+    }
+    Ok(())
+}
+
+#[test]
+fn a_head_that_claims_the_greatest_length(rt: HostRuntime) -> Result<(), Fail> {
+    let mut disk = small_disk(rt.alloc())?;
+    put_all(
+        &mut disk,
+        &[(0, &[0xC5, 0x5E]), (2, &ONES), (18, &[0xFF; 4])],
+    )?;
+    let lines = ["torn 0 64", "pad 64 128", "pad 128 192", "pad 192 256"];
+    check_tiling(&rt, rt.alloc(), &disk, 256, &lines)
+}
+
+#[test]
+fn damage_between_frames_ends_at_the_page_bound(rt: HostRuntime) -> Result<(), Fail> {
+    let mut disk = MemDisk::blank(rt.alloc(), Geometry::new(128, 2, 3)?)?;
+    let frames = [
+        (0, ONES, b"abc".as_slice()),
+        (44, TWOS, b""),
+        (128, THREES, b"abc"),
+    ];
+    put_frames(rt.alloc(), &mut disk, &frames)?;
+    let lines = [
+        "chunk 0 41 11111111-1111-1111-1111-111111111111 3",
+        "noise 41 128",
+        "chunk 128 169 33333333-3333-3333-3333-333333333333 3",
+    ];
+    check_tiling(&rt, rt.alloc(), &disk, 169, &lines)
+}
+
+/// The chunk of `abc` at the start of an extent.
+fn abc_chunk() -> Item {
+    Item::Chunk {
+        form: Form::Plain,
+        start: 0,
+        stop: 41,
+        uuid: Uuid::from_bytes(ONES),
+        length: 3,
+        digest: ABC_DIGEST,
+    }
+}
+
+#[test]
+fn an_item_of_each_kind_has_its_line(rt: HostRuntime) -> Result<(), Fail> {
+    let (start, stop) = (64, 98);
+    let lines = [
+        "chunk 0 41 11111111-1111-1111-1111-111111111111 3",
+        "pad 64 98",
+        "torn 64 98",
+        "noise 64 98",
+        "lost 64 98",
+    ];
+    let items = [
+        abc_chunk(),
+        Item::Pad { start, stop },
+        Item::Torn { start, stop },
+        Item::Noise { start, stop },
+        Item::Lost { start, stop },
+    ];
+    check_lines(&rt, rt.alloc(), &items, &lines)
+}
+
+#[test]
+fn a_chunk_has_the_digest_of_its_payload(rt: HostRuntime) -> Result<(), Fail> {
+    let disk = disk_with(rt.alloc(), &[(0, ONES, b"abc")], &[])?;
+    let items = tiling_of(&rt, rt.alloc(), &disk, 41)?;
+    assert!(rt; items.as_slice() == [abc_chunk()].as_slice());
+    one_tiling();
+    Ok(())
+}

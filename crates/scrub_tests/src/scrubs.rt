@@ -1,0 +1,12 @@
+//! Whole scrubs: reports, indexes, listings, and lists longer than any example has.
+
+pub mod large;
+pub mod listings;
+pub mod loaded;
+pub mod page_counts;
+pub mod published;
+pub mod reclaimable;
+pub mod retired;
+pub mod scrub;
+pub mod sizes;
+pub mod writing;

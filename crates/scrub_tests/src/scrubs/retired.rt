@@ -1,0 +1,286 @@
+//! Disks whose superblock retires extents: which are scanned, what the locators into the others are worth, and what is told
+//! of all this.
+
+ghost use Rattle.std.specs.Prelude.{◌≤◌};
+
+use crate::support::compare::{check_answer, same};
+use crate::support::disks::{put_abc_and_its_run, put_run};
+use crate::support::reported::{scrubbed, scrubbed_by};
+use scrub_book::{Book, Event, PoolCore, StepRefused};
+use scrub_check::{Status, status_of};
+use scrub_disk::{Geometry, MemDisk, PageSource};
+use scrub_fakes::published::NO_SHARDS;
+use scrub_fakes::{
+    CountingSource, ONES, TWOS, abc_at, mark_bad, put, put_chunk, put_contents, put_record,
+    small_disk,
+};
+use scrub_frame::Locator;
+use scrub_pool::{NoGate, Takings};
+use scrub_report::ScrubAnswer;
+use scrub_scan::scan_in_order;
+use scrub_super::{Plan, Superblock, choose};
+use std::alloc::Global;
+use std::process::Abort;
+use std::slice;
+use std::sync::Wait;
+use std::test::Fail;
+use std::thread::Threads;
+
+/// Puts a superblock record that retires extents on a page of extent 0, and tells its length in bytes.
+fn put_retiring(
+    alloc: Global,
+    disk: &mut MemDisk,
+    page: u32,
+    generation: u64,
+    pointers: &[u32],
+    retired: &[u32],
+    runs: &[Locator],
+) -> Result<usize, Fail> {
+    let superblock = Superblock::with_retired(
+        generation,
+        Vec::from_slice(alloc, pointers)?,
+        Vec::from_slice(alloc, retired)?,
+        Vec::from_slice(alloc, runs)?,
+    );
+    Ok(put_contents(alloc, disk, page, &superblock)?)
+}
+
+/// A disk of three extents with `abc` in extent 1 and the run of one shard that names it in extent 2, of which these are
+/// retired.
+fn one_shard_retiring(
+    rt: &impl Abort,
+    alloc: Global,
+    retired: &[u32],
+    length: usize,
+) -> Result<MemDisk, Fail> {
+    let mut disk = small_disk(alloc)?;
+    let run = put_abc_and_its_run(alloc, &mut disk)?;
+    let runs = slice::from_ref(&run);
+    let put = put_retiring(alloc, &mut disk, 0, 1, &[41, 155], retired, runs)?;
+    same(rt, put, length);
+    Ok(disk)
+}
+
+/// A disk of four extents, with `abc` in extent 1 and the run of one shard that names it in extent 2. Extent 3 is retired; it
+/// is full of FF, and its page 0 is unreadable.
+fn broken_and_retired(rt: &impl Abort, alloc: Global) -> Result<MemDisk, Fail> {
+    let mut disk = MemDisk::blank(alloc, Geometry::new(64, 4, 4)?)?;
+    put_chunk(alloc, &mut disk, 1, 0, ONES, b"abc")?;
+    let run = put_run(alloc, &mut disk, 2, 0, TWOS, &[abc_at(1, 0)])?;
+    put(&mut disk, 3, 0, &[0xFF; 256])?;
+    mark_bad(&mut disk, 3, 0)?;
+    let runs = slice::from_ref(&run);
+    let put = put_retiring(alloc, &mut disk, 0, 1, &[41, 155, 0], &[3], runs)?;
+    same(rt, put, 136);
+    Ok(disk)
+}
+
+/// Requires that a report has these pieces.
+fn check_pieces(rt: &impl Abort, answer: &ScrubAnswer, pieces: &[&str]) -> Result<(), Fail> {
+    let report = str::from_utf8(answer.report())?;
+    for piece in pieces {
+        assert!(rt; report.contains(*piece), "{piece} in {report}");
+    }
+    Ok(())
+}
+
+/// Scrubs a disk by so many workers, and compares the answer with that of one reader. Tells who took which extents.
+fn check_workers<R: Threads + Wait + Abort + Sync>(
+    rt: &R,
+    alloc: Global,
+    disk: &MemDisk,
+    workers: u32,
+) -> Result<Takings, Fail>
+    requires { workers ≤ 64 }
+{
+    let (answer, takings) = scrubbed_by(rt, alloc, disk, workers, &NoGate)?;
+    check_answer(rt, &answer, &scrubbed(rt, alloc, disk)?);
+    Ok(takings)
+}
+
+#[test]
+fn what_lies_in_a_retired_extent_counts_for_nothing(rt: HostRuntime) -> Result<(), Fail> {
+    let disk = broken_and_retired(&rt, rt.alloc())?;
+    let answer = scrubbed(&rt, rt.alloc(), &disk)?;
+    assert!(&rt; answer.is_clean());
+    let pieces = [
+        r#""clean":true,"#,
+        r#""extents":[{"bad":[],"extent":1,"#,
+        r#",{"bad":[],"extent":2,"items":["chunk 0 155 22222222-2222-2222-2222-222222222222 117"],"live":155,"pointer":155,"tail":0,"tail_at":null}],"geometry""#,
+        r#""retired":[3],"#,
+        r#""runs":[{"entries":1,"extent":2,"offset":0,"state":"read"}],"#,
+    ];
+    check_pieces(&rt, &answer, &pieces)?;
+    let takings = check_workers(&rt, rt.alloc(), &disk, 2)?;
+    same(&rt, takings.counted(), 2);
+    Ok(())
+}
+
+#[test]
+fn no_page_of_a_retired_extent_is_asked_for(rt: HostRuntime) -> Result<(), Fail> {
+    let disk = broken_and_retired(&rt, rt.alloc())?;
+    let source = CountingSource::new(rt.alloc(), &disk)?;
+    assert!(&rt; scrubbed(&rt, rt.alloc(), &source)?.is_clean());
+    assert!(&rt; source.geometry().extents() == 4);
+    assert!(&rt; source.asked(2) >= 4);
+    same(&rt, source.asked(3), 0);
+    Ok(())
+}
+
+/// Requires that a scrub by so many workers asks for pages of extent 2, and for none of extent 3.
+fn check_unasked<R: Threads + Wait + Abort + Sync>(
+    rt: &R,
+    alloc: Global,
+    disk: &MemDisk,
+    workers: u32,
+) -> Result<(), Fail>
+    requires { workers ≤ 64 }
+{
+    let source = CountingSource::new(alloc, disk)?;
+    assert!(rt; source.geometry().extents() == 4);
+    let (answer, _) = scrubbed_by(rt, alloc, &source, workers, &NoGate)?;
+    assert!(rt; answer.is_clean());
+    assert!(rt; source.asked(2) >= 4);
+    same(rt, source.asked(3), 0);
+    Ok(())
+}
+
+#[test]
+fn no_worker_asks_for_a_page_of_a_retired_extent(rt: HostRuntime) -> Result<(), Fail> {
+    let disk = broken_and_retired(&rt, rt.alloc())?;
+    for workers in [0, 2, 64] {
+        check_unasked(&rt, rt.alloc(), &disk, workers)?;
+    }
+    Ok(())
+}
+
+#[test]
+fn a_locator_into_a_retired_extent_dangles(rt: HostRuntime) -> Result<(), Fail> {
+    let disk = one_shard_retiring(&rt, rt.alloc(), &[1], 132)?;
+    let answer = scrubbed(&rt, rt.alloc(), &disk)?;
+    assert!(&rt; !answer.is_clean());
+    same(&rt, answer.index(), NO_SHARDS.as_slice());
+    let pieces = [
+        r#""broken":["00000000000000000000000000000001"]"#,
+        r#""dangling":[{"extent":1,"length":3,"offset":0,"owner":"shard 00000000000000000000000000000001","reason":"retired","uuid":"11"#,
+        r#""extents":[{"bad":[],"extent":2,"#,
+        r#""orphans":[],"#,
+        r#""retired":[1],"#,
+        r#""runs":[{"entries":1,"extent":2,"offset":0,"state":"read"}],"#,
+    ];
+    check_pieces(&rt, &answer, &pieces)?;
+    same(&rt, check_workers(&rt, rt.alloc(), &disk, 2)?.counted(), 1);
+    Ok(())
+}
+
+#[test]
+fn with_all_extents_retired_nothing_is_scanned(rt: HostRuntime) -> Result<(), Fail> {
+    let disk = one_shard_retiring(&rt, rt.alloc(), &[1, 2], 136)?;
+    let answer = scrubbed(&rt, rt.alloc(), &disk)?;
+    assert!(&rt; !answer.is_clean());
+    same(&rt, answer.index(), NO_SHARDS.as_slice());
+    let pieces = [
+        r#""candidates":[]"#,
+        r#""dangling":[{"extent":2,"length":117,"offset":0,"owner":"run 0","reason":"retired","uuid":"22"#,
+        r#""extents":[],"#,
+        r#""retired":[1,2],"#,
+        r#""runs":[{"entries":null,"extent":2,"offset":0,"state":"retired"}],"#,
+        r#""shards":0,"#,
+    ];
+    check_pieces(&rt, &answer, &pieces)?;
+    for workers in [0, 2, 64] {
+        let takings = check_workers(&rt, rt.alloc(), &disk, workers)?;
+        same(&rt, takings.counted(), 0);
+        for worker in 0..=takings.workers() {
+            assert!(&rt; takings.taken_by(worker).is_empty());
+        }
+    }
+    Ok(())
+}
+
+/// Requires that a book of nothing has all, and that a pool over nothing is complete after these steps; both find nothing.
+fn check_pool(
+    rt: &impl Abort,
+    alloc: Global,
+    disk: &MemDisk,
+    workers: u32,
+    steps: &[(Event, Option<StepRefused>)],
+) -> Result<(), Fail>
+    requires { workers ≤ 65 }
+{
+    let chosen = choose(alloc, disk)?;
+    let plan = Plan::make(alloc, &chosen, disk.geometry())?;
+    assert!(rt; plan.planned().is_empty());
+    let book = Book::new(alloc, disk, &plan)?;
+    assert!(rt; book.missing().is_none());
+    let found = book.finish().ok().ok_or("a book to which all came")?;
+    same(rt, found.len(), 0);
+    let mut pool = PoolCore::new(alloc, disk, &plan, workers)?;
+    for (event, wanted) in steps {
+        assert!(rt; !pool.is_complete());
+        same(rt, pool.step(*event).err(), *wanted);
+    }
+    assert!(rt; pool.is_complete());
+    let found = pool.finish().ok().ok_or("what a complete pool assembles")?;
+    same(rt, found.len(), 0);
+    Ok(())
+}
+
+#[test]
+fn a_pool_over_nothing_is_complete_once_its_members_retired(rt: HostRuntime) -> Result<(), Fail> {
+    let disk = one_shard_retiring(&rt, rt.alloc(), &[1, 2], 136)?;
+    check_pool(&rt, rt.alloc(), &disk, 0, &[])?;
+    let steps = [
+        (Event::Take(0), Some(StepRefused::QueueEmpty)),
+        (Event::Retire(0), None),
+    ];
+    check_pool(&rt, rt.alloc(), &disk, 1, &steps)
+}
+
+/// What a locator is worth on a disk.
+fn judge(alloc: Global, disk: &MemDisk, locator: &Locator) -> Result<Status, Fail> {
+    let chosen = choose(alloc, disk)?;
+    let plan = Plan::make(alloc, &chosen, disk.geometry())?;
+    let all = scan_in_order(alloc, disk, &plan)?;
+    Ok(status_of(alloc, disk, &plan, &all, locator)?)
+}
+
+#[test]
+fn out_of_range_comes_before_retired_and_retired_before_all_else(
+    rt: HostRuntime,
+) -> Result<(), Fail> {
+    let disk = one_shard_retiring(&rt, rt.alloc(), &[1], 132)?;
+    let cases = [
+        (abc_at(1, 216), Status::OutOfRange),
+        (abc_at(1, 215), Status::Retired),
+        (abc_at(1, 0), Status::Retired),
+        (abc_at(2, 0), Status::WrongUuid),
+        (abc_at(2, 200), Status::PastPointer),
+        (abc_at(3, 0), Status::OutOfRange),
+    ];
+    for (locator, status) in cases {
+        same(&rt, judge(rt.alloc(), &disk, &locator)?, status);
+    }
+    Ok(())
+}
+
+#[test]
+fn a_record_of_the_second_kind_on_a_later_page_ties(rt: HostRuntime) -> Result<(), Fail> {
+    let mut disk = small_disk(rt.alloc())?;
+    put_record(rt.alloc(), &mut disk, 0, 7, &[41, 155], &[])?;
+    put_retiring(rt.alloc(), &mut disk, 2, 7, &[0, 155], &[1], &[])?;
+    let chosen = choose(rt.alloc(), &disk)?;
+    same(&rt, (chosen.page(), chosen.records()), (Some(0), 2));
+    assert!(&rt; chosen.tie());
+    let newest = chosen.superblock().ok_or("a superblock")?;
+    same(&rt, (newest.version(), newest.generation()), (1, 7));
+    assert!(&rt; newest.retired().is_empty());
+    // A newer one counts, whatever its kind.
+    put_retiring(rt.alloc(), &mut disk, 2, 8, &[0, 155], &[1], &[])?;
+    let chosen = choose(rt.alloc(), &disk)?;
+    same(&rt, (chosen.page(), chosen.records()), (Some(2), 2));
+    let newest = chosen.superblock().ok_or("a superblock")?;
+    same(&rt, newest.retired(), [1].as_slice());
+    same(&rt, newest.version(), 2);
+    Ok(())
+}
