@@ -31,8 +31,8 @@ DEFINITIONS = TOP / "docs/DEFINITIONS.md"
 # The function whose contract is the headline: its crate, the file that has it, and its name. Then the others, each with what it is.
 HEADLINE = ("scrub_report", "answer", "scrub")
 OTHERS = [
-    (("scrub_report", "listing", "list_locators"), "`locators` is made of it"),
-    (("scrub_report", "reclaiming", "list_reclaimable"), "`reclaimable` is made of it"),
+    (("scrub_report", "listing", "list_locators"), "it makes the answer of `locators`"),
+    (("scrub_report", "reclaiming", "list_reclaimable"), "it makes the answer of `reclaimable`"),
     (("scrub_cli", "main", "run_process"), "the program, from the arguments of its process to both streams and the status"),
 ]
 
@@ -339,7 +339,7 @@ def beside(reader, before, headline, what):
     count = sum(len(needed(reader, path)) for path in files)
     known = {(path, name) for other in before for path in other.definitions for name in other.definitions[path]}
     out = ["", f"## What `{headline[2]}` adds", "",
-           f"`{headline[2]}` of `{headline[0]}`: {what}. Its contract rests on {count} definitions in {len(files)} files. These aren't in "
+           f"`{headline[2]}` of `{headline[0]}`: {what}. Its contract rests on {count} definitions in {len(files)} files. Those that aren't in "
            "the sections above:", "", "| File, in `crates/` | Lines | What it says | Definitions |", "|---|---|---|---|"]
     for path in files:
         names = [name for name in needed(reader, path) if (path, name) not in known]
@@ -351,7 +351,7 @@ def beside(reader, before, headline, what):
     out += ["", f"Types of the code that it adds: {', '.join(types)}."]
     spared = [path for path in before[0].order() if path not in reader.definitions]
     if spared:
-        out += ["", f"It needs nothing of {named(map(short, spared))}."]
+        out += ["", f"It doesn't need {named(map(short, spared))}."]
     words = {(module, name) for other in before for module in other.outside for name in other.outside[module]}
     fresh = {module: sorted(name for name in names if (module, name) not in words) for module, names in reader.outside.items()}
     fresh = [f"{named(names)} of `{module}`" for module, names in sorted(fresh.items()) if names]
@@ -369,31 +369,31 @@ def page_of(readers):
     count = sum(map(len, reached))
     out = ["# What the theorem rests on", ""]
     out += ["The theorem on the whole scrub is the contract of `scrub`. The [README](../README.md#what-is-proved-of-it) has it with its "
-            "words. It says what its definitions say: if you read these, with the types of the code that they name, and trust the "
-            "toolchain, you know what is promised. You need no body of a function, no proof and no other definition. They are "
-            f"{count} definitions in {len(files)} files of {lines} lines.", ""]
+            "words. The theorem means what its definitions mean. Read the definitions and the types of the code in them, trust the "
+            "toolchain, and you know exactly what is promised. You don't need to read a function's body, a proof or any other "
+            f"definition. There are {count} definitions in {len(files)} files of {lines} lines.", ""]
     out += ["`bench/trusted.py` makes this page: it follows the words of that contract to their definitions, and the words of these to "
-            "theirs. `./check` compares. [DEFINITIONS.md](DEFINITIONS.md) has a sentence for each definition. Further down are three "
-            "more contracts, with what they add: `list_locators`, `list_reclaimable`, and the whole program.", ""]
+            "theirs. `./check` tests that the page is up to date. [DEFINITIONS.md](DEFINITIONS.md) has a sentence for each definition. "
+            "Further down are three more contracts, with what they add: `list_locators`, `list_reclaimable`, and the whole program.", ""]
     out += ["## The files, in reading order", "",
-            "Each file comes after those that it rests on. *Needed*: how many of its definitions the theorem rests on, of how many.", "",
+            "Each file comes after those that it rests on. *Needed*: how many of the file's definitions the theorem needs, out of how many.", "",
             "| | File, in `crates/` | Lines | Needed | What it says |", "|---|---|---|---|---|"]
     for place, (spec, names) in enumerate(zip(specs, reached), 1):
         out.append(f"| {place} | {linked(spec.path)} | {spec.lines} | {len(names)} of {len(spec.definitions)} | {spec.sentence} |")
     out += ["", "## What else is in these files", "",
-            "The theorem doesn't rest on these: other public clauses use them, or steps of the code, or they are lemmas.", "",
+            "The theorem doesn't need these: they are for other public clauses or for steps of the code, or they are lemmas.", "",
             "| File | Not needed |", "|---|---|"]
     for spec, names in zip(specs, reached):
         others = [name for name in spec.definitions if name not in names]
         if others:
             out.append(f"| `{short(spec.path)}` | {named(others)} |")
     out += ["", "## Types of the code", "",
-            "These definitions name types of the code, by their public fields and variants, by the facts that a type has as ghost "
-            "fields, or by the value that contracts see of it (its model).", "", "| File, in `crates/` | Types |", "|---|---|"]
+            "The definitions use types of the code: their public fields and variants, the facts that a type has as ghost fields, or the "
+            "value that contracts see of it (its model).", "", "| File, in `crates/` | Types |", "|---|---|"]
     for path in sorted(reader.types, key=lambda path: (CRATES.index(short(path).split("/")[0]), path)):
         out.append(f"| {linked(path)} | {named(sorted(reader.types[path]))} |")
     out += ["", "## Words of the toolchain", "",
-            "Here the definitions end in words of the toolchain's library and crates, by their modules.", "", "| Module | Words |", "|---|---|"]
+            "These words of the toolchain's library and crates, by module, aren't followed further.", "", "| Module | Words |", "|---|---|"]
     for module in sorted(reader.outside):
         out.append(f"| `{module}` | {named(sorted(reader.outside[module]))} |")
     for place, (headline, what) in enumerate(OTHERS, 1):
@@ -445,7 +445,7 @@ def block_of(spec, faults):
 
 def standards_of(specs):
     """The table of public standards: of each the files whose comments name it."""
-    out = ["## Public standards", "", "Comments name these.", "", "| Standard | What for | Files |", "|---|---|---|"]
+    out = ["## Public standards", "", "The comments in these files refer to them.", "", "| Standard | What for | Files |", "|---|---|---|"]
     for words, what in STANDARDS:
         files = [spec for spec in specs if words in " ".join([spec.head, *(comment for comment, _ in spec.comments().values())])]
         out.append(f"| {words} | {what} | {', '.join(linked(spec.path) for spec in files)} |")
