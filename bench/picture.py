@@ -170,9 +170,8 @@ def doubt_in_words(report, words):
     state, kind, *rest = words
     number = [int(word) if word.isdigit() else word for word in rest]
     may_have = f"may have held {lost_superblock(report)}"
-    log = "the node's log says that "
-    is_last = f"{log}generation {generation} was its last"
-    wrote_nothing = f"{log}it wrote nothing to this disk after its last superblock, generation {generation}"
+    is_last = f"generation {generation} is the last one in the node's log"
+    wrote_nothing = f"the node's log shows no write to this disk after the superblock of generation {generation}"
     condition, place = None, (0, number[0] * page) if kind.startswith("superblock") else (0, 0)
     if kind == "no-superblock":
         texts = ["No page of extent 0 has a valid superblock of these sizes.",
