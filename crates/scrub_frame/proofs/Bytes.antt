@@ -6,15 +6,15 @@ use Rattle.std.proofs.lemmas.Nat.{be_bytes_4, from_be_bytes-to_be_bytes_4}
 use Rattle.std.specs.Int.{w32, from_be_bytes}
 use Rattle.byteorder.specs.Endian.{big_bytes, big_number}
 
--- the k bytes at place m, and all that stands behind them
+-- the k bytes at place m, and all that follow them
 pub part-rest : (x : List ℕ) (k m : ℕ) → take k (drop m x) ++ drop (m + k) x ≡ drop m x
 part-rest x k m = ap (λ t. take k (drop m x) ++ t) (sym (drop-drop k m x)) ∙ take-append-drop k (drop m x)
 
--- the k bytes at place n, where n bytes stand before them
+-- the k bytes at place n, after n bytes
 pub part_at : (before part behind : List ℕ) (n k : ℕ) → length before ≡ n → length part ≡ k → take k (drop n (before ++ (part ++ behind))) ≡ part
 part_at before part behind n k hn hk = ap (take k) (drop_at before (part ++ behind) n hn) ∙ take_at part behind k hk
 
--- four bytes are all that a number of four bytes is read from
+-- a number of four bytes is read from only four bytes
 pub number-take : (x : List ℕ) → big_number 4 (take 4 x) ≡ big_number 4 x
 number-take x = rw (get_or-take 4 x 0 0 (omega arith), get_or-take 4 x 1 0 (omega arith), get_or-take 4 x 2 0 (omega arith), get_or-take 4 x 3 0 (omega arith)) refl
 
@@ -39,7 +39,7 @@ bytes-number_at x m n are_bytes fits read =
     ap (big_bytes 4) (read ∙ number-take (drop m x))
     ∙ bytes-number (drop m x) (omega (arith, length-drop m x, fits)) (λ i. rw (get_or-drop m x i 0) (are_bytes (m + i)))
 
--- a number that four bytes can say is read from the bytes that spell it
+-- a number that fits four bytes is read from the bytes that spell it
 pub number-bytes : (n : ℕ) → n < 2 ^ 32 → big_number 4 (big_bytes 4 n) ≡ n
 number-bytes n h = number-std (big_bytes 4 n) ∙ from_be_bytes-to_be_bytes_4 n h
 

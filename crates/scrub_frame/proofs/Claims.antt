@@ -1,5 +1,5 @@
--- What the numbers of a matcher say of frames. Throughout, m is a matcher, t the bytes that it has taken, and f, u and n the
--- form, the UUID and the length that stand in its head.
+-- What a matcher's fields say of frames. Throughout, m is a matcher, t the bytes that it has taken, and f, u and n the
+-- form, the UUID and the length in its head.
 use Rattle.std.proofs.Common.{◌≡◌, ◌<◌, ◌≤◌, ◌+◌, ◌-◌, ◌^◌, ℕ, List, [], ◌++◌, length, take, drop, arith, refl, sym, ◌∙◌, ap, subst, append_assoc, length-append, length-drop, take-append-drop, inl, inr}
 use Rattle.std.proofs.lemmas.Bool.{cases_lt}
 use Rattle.std.proofs.lemmas.List.{take_at, take_all, take_rest, take-take, drop_at, drop-take, take-append-le, drop-append-le, append-nil, nil_from_length, length-take, length-take-le}
@@ -14,9 +14,9 @@ use Rattle.scrub_frame.proofs.Bytes.{part_at, number-bytes}
 use Rattle.scrub_frame.proofs.Frames.{stands, form-in_head, length-head, length-frame, length-close, seal-digest, frame_of_parts, BeginsWithHead, claimed, stands_claimed, too_short}
 use Rattle.scrub_frame.proofs.Feeding.{part_more}
 
--- ---- what stands in a head
+-- ---- what is in a head
 
--- what a head has to be for the rest to hold of it
+-- the head has these fields
 pub record IsHead (x : List ℕ) (f : Form) (u : List ℕ) (n : ℕ) : Type 0 where
   pub whole : length x ≡ head_size
   pub short : n < 2 ^ 32
@@ -49,7 +49,7 @@ close-in x f u n i = ap (λ w. w ++ mark (form_in x)) (uuid-in x f u n i) ∙ ap
 
 -- ---- what a head claims
 
--- whatever comes behind them, the bytes begin with the head
+-- whatever follows them, the bytes begin with the head
 pub claims : (m : Matcher) (t rest : List ℕ) (f : Form) (u : List ℕ) (n : ℕ) → HasTaken m t → IsHead m.head f u n → head_size ≤ m.fed → BeginsWithHead (t ++ rest) f u n
 claims m t rest f u n h i behind = record {
   sixteen = sixteen m.head f u n i;
@@ -57,17 +57,16 @@ claims m t rest f u n h i behind = record {
   head_is = take-append-le head_size t rest (omega (arith, h.count, behind)) ∙ sym h.head ∙ take_all m.fed m.head (omega (arith, i.whole, behind)) ∙ i.is;
 }
 
--- what no frame begins with, none begins with when more has come
+-- if no frame begins with the bytes, none does after more have come
 no_frame_longer : (room : ℕ) (t y : List ℕ) → NoFrameWithin room t → NoFrameWithin room (t ++ y)
-no_frame_longer room t y none rest f u b k = none (y ++ rest) f u b (subst (λ (x : List ℕ). BeginsWithFrame x f u b) (append_assoc t y rest) k)
+no_frame_longer room t y none rest f u b k = none (y ++ rest) f u b (rw (append_assoc t y rest) at k)
 
--- so it is of the whole of a piece, once it is of a part
+-- so none does after the whole of a piece, if none does after a part
 pub no_frame_behind : (room a : ℕ) (t x : List ℕ) → NoFrameWithin room (t ++ take a x) → NoFrameWithin room (t ++ x)
-no_frame_behind room a t x none = subst (λ (z : List ℕ). NoFrameWithin room z)
-    (append_assoc t (take a x) (drop a x) ∙ ap (λ z. t ++ z) (take-append-drop a x))
+no_frame_behind room a t x none = rw (append_assoc t (take a x) (drop a x) ∙ ap (λ z. t ++ z) (take-append-drop a x)) at
     (no_frame_longer room (t ++ take a x) (drop a x) none)
 
--- a frame has twenty-two bytes at least
+-- a frame has at least twenty-two bytes
 pub few_bytes : (t : List ℕ) (f : Form) (u b : List ℕ) → length t < head_size → BeginsWithFrame t f u b → ⊥
 few_bytes t f u b few k = omega (arith, (stands t f u b k).enough, few)
 
@@ -85,7 +84,7 @@ no_room m t f u n room h i behind small rest g v b k =
 -- bytes that are fewer than their head claims
 pub not_yet : (m : Matcher) (t : List ℕ) (f : Form) (u : List ℕ) (n : ℕ) → HasTaken m t → IsHead m.head f u n → head_size ≤ m.fed → m.fed < n + frame_overhead f → NoFrameYet t
 not_yet m t f u n h i behind few g v b k =
-    too_short t f u n g v b (subst (λ (x : List ℕ). BeginsWithHead x f u n) (append-nil t) (claims m t [] f u n h i behind)) (omega (arith, h.count, few)) k
+    too_short t f u n g v b (rw (append-nil t) at (claims m t [] f u n h i behind)) (omega (arith, h.count, few)) k
 
 -- ---- what closes the frame
 
@@ -95,12 +94,12 @@ close_of m t f u n h i =
     let end = payload_end-in m.head f u n i in
     ap (λ e. drop e t) (sym end) ∙ h.close ∙ ap (λ e. take (m.fed - e) (close_in m.head)) end ∙ ap (take (m.fed - (payload_start f + n))) (close-in m.head f u n i)
 
--- no more of them have come than there are
+-- at most all of them have come
 pub seen_of_close : (m : Matcher) (t : List ℕ) (f : Form) (u : List ℕ) (n : ℕ) → HasTaken m t → IsHead m.head f u n → m.fed - (payload_start f + n) ≤ close_size f
 seen_of_close m t f u n h i =
     omega (arith, ap length (close_of m t f u n h i), length-drop (payload_start f + n) t, length-take (m.fed - (payload_start f + n)) (u ++ mark f), h.count, length-close f u (sixteen m.head f u n i))
 
--- bytes behind which y comes, where the frame closes otherwise
+-- bytes followed by y, if the frame closes otherwise
 other_bytes : (m : Matcher) (t y rest : List ℕ) (f : Form) (u : List ℕ) (n : ℕ) (g : Form) (v b : List ℕ) → HasTaken m t → IsHead m.head f u n → payload_start f + n ≤ m.fed → m.fed + length y ≤ n + frame_overhead f →
     (y ≡ take (length y) (drop (m.fed - (payload_start f + n)) (u ++ mark f)) → ⊥) → BeginsWithFrame ((t ++ y) ++ rest) g v b → ⊥
 other_bytes m t y rest f u n g v b h i past fits differs k = differs (sym
@@ -127,7 +126,7 @@ other_bytes m t y rest f u n g v b h i past fits differs k = differs (sym
     x = (t ++ y) ++ rest
 
     begins : BeginsWithHead ((t ++ y) ++ rest) f u n
-    begins = subst (λ (z : List ℕ). BeginsWithHead z f u n) (sym (append_assoc t y rest)) (claims m t (y ++ rest) f u n h i (omega (arith, past)))
+    begins = rw (append_assoc t y rest) (claims m t (y ++ rest) f u n h i (omega (arith, past)))
 
     close : drop (payload_start f + n) t ≡ take (m.fed - (payload_start f + n)) (u ++ mark f)
     close = close_of m t f u n h i
@@ -150,14 +149,13 @@ other_part m t x rest f u n g v b a i h is within later fits differs k = elim (c
       let part : length (take i (drop a x)) ≡ i = length-take-le i (drop a x) (omega (arith, length-drop a x, within)) in
       other_bytes m (t ++ take a x) (take i (drop a x)) (drop (a + i) x ++ rest) f u n g v b h is past (omega (arith, part, fits))
       (λ same. differs (ap (take i) (take_rest x a) ∙ same ∙ ap (λ j. take j (drop (m.fed - (payload_start f + n)) (u ++ mark f))) part))
-      (subst (λ (z : List ℕ). BeginsWithFrame z g v b)
-      (ap (λ z. z ++ rest) (ap (λ z. t ++ z) (sym (take-append-drop (a + i) x)) ∙ sym (append_assoc t (take (a + i) x) (drop (a + i) x)) ∙ ap (λ z. z ++ drop (a + i) x) (part_more t x a i))
-      ∙ append_assoc ((t ++ take a x) ++ take i (drop a x)) (drop (a + i) x) rest) k)
+      (rw (ap (λ z. z ++ rest) (ap (λ z. t ++ z) (sym (take-append-drop (a + i) x)) ∙ sym (append_assoc t (take (a + i) x) (drop (a + i) x)) ∙ ap (λ z. z ++ drop (a + i) x) (part_more t x a i))
+      ∙ append_assoc ((t ++ take a x) ++ take i (drop a x)) (drop (a + i) x) rest) at k)
 ]
 
 -- ---- all that the head claims has come
 
--- the payload, and what stands between it and the head
+-- the payload, and what is between it and the head
 pub record HasCome (m : Matcher) (t : List ℕ) (f : Form) (n : ℕ) : Type 0 where
   pub sealed : take (seal_size f) m.seal ≡ take (seal_size f) (drop head_size t)
   pub held : Holds256 m.hasher (take n (drop (payload_start f) t))
@@ -167,13 +165,13 @@ has_come : (m : Matcher) (t : List ℕ) (f : Form) (u : List ℕ) (n : ℕ) → 
 has_come m t f u n h i full = record {
   sealed =
       sym (take_all (m.fed - head_size) (take (seal_size f) m.seal) (omega (arith, length-take (seal_size f) m.seal, full)))
-      ∙ subst (λ (g : Form). take (m.fed - head_size) (take (seal_size g) m.seal) ≡ take (seal_size g) (drop head_size t)) (form-in m.head f u n i) h.seal;
-  held = subst (λ (g : Form). Holds256 m.hasher (take n (drop (payload_start g) t))) (form-in m.head f u n i)
-      (subst (λ (k : ℕ). Holds256 m.hasher (take k (drop (payload_start (form_in m.head)) t))) (length-in m.head f u n i) h.payload);
+      ∙ rw (form-in m.head f u n i) at h.seal;
+  held = rw (← (form-in m.head f u n i))
+      (rw (length-in m.head f u n i) at h.payload);
   size = length-take-le n (drop (payload_start f) t) (omega (arith, length-drop (payload_start f) t, h.count, full));
 }
 
--- where the digest d of the payload is what stands before it, in a frame that has it there, the bytes up to a place of a
+-- if the digest d of the payload is before it, in a frame that has it there, the bytes up to a place of a
 -- piece are the frame
 pub is_whole : (m : Matcher) (t x : List ℕ) (f : Form) (u d : List ℕ) (used n : ℕ) → HasTaken m (t ++ take used x) → IsHead m.head f u n → m.fed ≡ n + frame_overhead f → used ≤ length x →
     ((b : List ℕ) → Holds256 m.hasher b → d ≡ sha256 b) → take (seal_size f) m.seal ≡ take (seal_size f) d → IsWhole t x used f u n d
@@ -216,7 +214,7 @@ is_whole m t x f u d used n h i full within digest sealed_by = record {
         ∙ ap (λ z. frame f u c ++ z) (nil_from_length k.rest (omega (arith, l, ap length k.spelled ∙ length-append (frame f u c) k.rest, length-frame f u c k.has_frame.sixteen)))
         ∙ append-nil (frame f u c)
 
--- and where it isn't, they begin with no frame
+-- and if it isn't, they begin with no frame
 pub other_digest : (m : Matcher) (t : List ℕ) (f : Form) (u d : List ℕ) (n room : ℕ) → HasTaken m t → IsHead m.head f u n → m.fed ≡ n + frame_overhead f →
     ((b : List ℕ) → Holds256 m.hasher b → d ≡ sha256 b) → (take (seal_size f) m.seal ≡ take (seal_size f) d → ⊥) → NoFrameWithin room t
 other_digest m t f u d n room h i full digest differs rest g v c k =
@@ -230,4 +228,4 @@ other_digest m t f u d n room h i full digest differs rest g v c k =
     (come.sealed
     ∙ sym (take-append-le (seal_size f) (drop head_size t) rest (omega (arith, length-drop head_size t, h.count, full)))
     ∙ ap (take (seal_size f)) (sym (drop-append-le head_size t rest (omega (arith, h.count, full))))
-    ∙ s.0.sealed ∙ seal-digest f c ∙ ap (take (seal_size f)) (sym (digest c (subst (λ (z : List ℕ). Holds256 m.hasher z) payload come.held)))))
+    ∙ s.0.sealed ∙ seal-digest f c ∙ ap (take (seal_size f)) (sym (digest c (rw payload at come.held)))))

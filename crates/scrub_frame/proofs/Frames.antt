@@ -1,4 +1,4 @@
--- What stands where in bytes that begin with a frame, and when bytes begin with one. Throughout, x and y are bytes,
+-- The parts of bytes that begin with a frame, and when bytes begin with one. Throughout, x and y are bytes,
 -- f and g forms, u and v UUIDs, b and c payloads, n and m lengths of payloads.
 use Rattle.std.proofs.Common.{◌≡◌, ◌<◌, ◌≤◌, ◌+◌, ◌^◌, ℕ, List, [], ◌∷◌, ◌++◌, length, take, drop, get_or, arith, refl, sym, ◌∙◌, ap, append_assoc, length-append, length-drop, take-append-drop, Bool, true, false, not, eqb}
 use Rattle.std.proofs.lemmas.List.{take_at, take-take, take_all, length-take-le, append-nil, drop_all}
@@ -11,7 +11,7 @@ use Rattle.sha2.specs.Sha256.{sha256}
 use Rattle.sha2.proofs.Facts256.{length-sha256}
 use Rattle.scrub_frame.specs.declared.form.Form.{Form}
 use Rattle.scrub_frame.specs.declared.form.Form.TheVariants.{Plain, Sealed}
-use Rattle.scrub_frame.specs.Frame.{magic, head, head_size, seal, seal_size, mark, payload_start, close_size, frame_overhead, frame, HasFrame, BeginsWithFrame}
+use Rattle.scrub_frame.specs.Frame.{magic, head, head_size, seal, seal_size, mark, payload_start, close_size, frame_overhead, frame, HasFrame, BeginsWithFrame, digest_size}
 use Rattle.scrub_frame.specs.Matching.{form_in}
 use Rattle.scrub_frame.proofs.Bytes.{part-rest, part_at, bytes-number_at, bytes-injective}
 
@@ -21,18 +21,14 @@ pub length-seal : (f : Form) (b : List ℕ) → length (seal f b) ≡ seal_size 
 length-seal Plain b = refl
 length-seal Sealed b = length-sha256 b
 
--- what stands before a payload is so much of its digest
+-- the seal is the first bytes of the payload's digest, none or all
 pub seal-digest : (f : Form) (b : List ℕ) → seal f b ≡ take (seal_size f) (sha256 b)
 seal-digest Plain b = refl
-seal-digest Sealed b = sym (take_all 32 (sha256 b) (omega (arith, length-sha256 b)))
+seal-digest Sealed b = sym (take_all digest_size (sha256 b) (omega (arith, length-sha256 b)))
 
-pub seal_size-few : (f : Form) → seal_size f ≤ 32
+pub seal_size-few : (f : Form) → seal_size f ≤ digest_size
 seal_size-few Plain = omega arith
 seal_size-few Sealed = omega arith
-
-pub mark-few : (f : Form) → length (mark f) ≤ 2
-mark-few Plain = omega arith
-mark-few Sealed = omega arith
 
 pub length-close : (f : Form) (u : List ℕ) → length u ≡ 16 → length (u ++ mark f) ≡ close_size f
 length-close f u lu = omega (arith, length-append u (mark f), lu)
@@ -42,12 +38,12 @@ length-close f u lu = omega (arith, length-append u (mark f), lu)
 pub length-head : (f : Form) (u : List ℕ) (n : ℕ) → length (head f u n) ≡ 6 + length u
 length-head f u n = omega (arith, length-append u (big_bytes 4 n))
 
--- the form that stands in a head
+-- the form in a head
 pub form-in_head : (f : Form) (u : List ℕ) (n : ℕ) → form_in (head f u n) ≡ f
 form-in_head Plain u n = refl
 form-in_head Sealed u n = refl
 
--- the head says which form, which UUID and which length stand in it
+-- two heads with the same bytes have the same form, UUID and length
 pub head-injective : (f g : Form) (u v : List ℕ) (n m : ℕ) → length u ≡ 16 → length v ≡ 16 → n < 2 ^ 32 → m < 2 ^ 32 → head f u n ≡ head g v m → (f ≡ g) × (u ≡ v) × (n ≡ m)
 head-injective f g u v n m lu lv hn hm same = (
   sym (form-in_head f u n) ∙ ap form_in same ∙ form-in_head g v m,
@@ -61,11 +57,11 @@ head-injective f g u v n m lu lv hn hm same = (
 
 -- the first two of twenty-two bytes
 pub first_two : (y : List ℕ) → length y ≡ head_size → take 2 y ≡ get_or y 0 0 ∷ get_or y 1 0 ∷ []
-first_two [] m = absurd (let e : ⊥ = omega (arith, m) in e)
-first_two (p ∷ []) m = absurd (let e : ⊥ = omega (arith, m) in e)
+first_two [] m = absurd (omega (arith, m))
+first_two (p ∷ []) m = absurd (omega (arith, m))
 first_two (p ∷ q ∷ ys) m = refl
 
--- twenty-two bytes that begin with the magic are the head of what stands behind it
+-- twenty-two bytes that begin with a magic are the head with the fields that follow
 pub head_read : (x u : List ℕ) (f : Form) (n : ℕ) → length x ≡ head_size → ((i : ℕ) → get_or x i 0 < 256) → get_or x 0 0 ∷ get_or x 1 0 ∷ [] ≡ magic f →
     u ≡ take 16 (take 20 (drop 2 x)) → n ≡ big_number 4 (take 4 (drop 18 x)) → x ≡ head f u n
 head_read x u f n l are_bytes first uuid size =
@@ -78,7 +74,7 @@ head_read x u f n l are_bytes first uuid size =
 
 -- ---- frames
 
--- how long a frame is
+-- the length of a frame
 pub length-frame : (f : Form) (u b : List ℕ) → length u ≡ 16 → length (frame f u b) ≡ frame_overhead f + length b
 length-frame f u b lu =
     let whole = length-append (head f u (length b)) (seal f b ++ (b ++ (u ++ mark f))) in
@@ -86,7 +82,7 @@ length-frame f u b lu =
     let behind_seal = length-append b (u ++ mark f) in
     omega (arith, whole, behind_head, behind_seal, length-head f u (length b), length-seal f b, length-close f u lu, lu)
 
--- what stands in bytes that begin with the frame of this form, this UUID and this payload
+-- the parts of bytes that begin with the frame of this form, this UUID and this payload
 pub record Stands (x : List ℕ) (f : Form) (u b : List ℕ) : Type 0 where
   pub enough : frame_overhead f + length b ≤ length x
   pub head_is : take head_size x ≡ head f u (length b)
@@ -167,7 +163,7 @@ frame_of_parts x f u n lu short enough first sealed close = record {
 
 -- ---- laws
 
--- bytes begin with one frame at most
+-- bytes begin with at most one frame
 pub one_frame_lem : (x : List ℕ) (f : Form) (u b : List ℕ) (g : Form) (v c : List ℕ) → BeginsWithFrame x f u b → BeginsWithFrame x g v c → (f ≡ g) × (u ≡ v) × (b ≡ c)
 one_frame_lem x f u b g v c h k =
     let p = stands x f u b h in
@@ -195,7 +191,7 @@ no_frame_begins_another_lem f u b rest g v c h k e = (nothing rest none, same.0,
 
     nothing : (xs : List ℕ) → length xs ≡ 0 → xs ≡ []
     nothing [] l = refl
-    nothing (y ∷ ys) l = absurd (let f : ⊥ = omega (arith, l) in f)
+    nothing (y ∷ ys) l = absurd (omega (arith, l))
 
 -- ---- reading a frame
 
@@ -217,7 +213,7 @@ pub claimed : (x : List ℕ) (f : Form) (u : List ℕ) (n : ℕ) (g : Form) (v b
 claimed x f u n g v b h k =
     head-injective f g u v n (length b) h.sixteen k.has_frame.sixteen h.short k.has_frame.short (sym h.head_is ∙ (stands x g v b k).head_is)
 
--- so what stands in them is by that head
+-- so their parts follow from that head
 pub stands_claimed : (x : List ℕ) (f : Form) (u : List ℕ) (n : ℕ) (g : Form) (v b : List ℕ) → BeginsWithHead x f u n → BeginsWithFrame x g v b → Stands x f u b × (n ≡ length b)
 stands_claimed x f u n g v b h k =
     let same = claimed x f u n g v b h k in
@@ -229,13 +225,13 @@ too_short x f u n g v b h short k =
     let s = stands_claimed x f u n g v b h k in
     omega (arith, s.0.enough, s.1, short)
 
--- nor do bytes in which something else stands where the frame would close
+-- nor do bytes with something else where the frame would close
 pub other_close : (x : List ℕ) (f : Form) (u : List ℕ) (n : ℕ) (g : Form) (v b : List ℕ) → BeginsWithHead x f u n → (take (close_size f) (drop (payload_start f + n) x) ≡ u ++ mark f → ⊥) → BeginsWithFrame x g v b → ⊥
 other_close x f u n g v b h differs k =
     let s = stands_claimed x f u n g v b h k in
     differs (ap (λ m. take (close_size f) (drop (payload_start f + m) x)) s.1 ∙ s.0.close)
 
--- nor those in which something else stands before the payload
+-- nor those with something else before the payload
 pub other_seal : (x : List ℕ) (f : Form) (u : List ℕ) (n : ℕ) (g : Form) (v b : List ℕ) → BeginsWithHead x f u n →
     (take (seal_size f) (drop head_size x) ≡ seal f (take n (drop (payload_start f) x)) → ⊥) → BeginsWithFrame x g v b → ⊥
 other_seal x f u n g v b h differs k =

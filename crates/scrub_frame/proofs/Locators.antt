@@ -3,6 +3,7 @@ use Rattle.std.proofs.Common.{◌≡◌, ◌<◌, ◌≤◌, ◌+◌, ◌*◌, �
 use Rattle.std.specs.List.{flat_map}
 use Rattle.std.proofs.lemmas.List.{take_at, drop_at, drop_all, append-nil, take_all}
 use Rattle.byteorder.specs.Endian.{big_bytes, big_number}
+use Rattle.scrub_frame.specs.Frame.{digest_size}
 use Rattle.scrub_frame.specs.declared.locator.Locator.{Locator}
 use Rattle.scrub_frame.specs.Locator.{locator_bytes, IsLocator}
 use Rattle.scrub_frame.proofs.Parts.{length-flat_map_of, flat_map-injective}
@@ -10,7 +11,7 @@ use Rattle.scrub_frame.proofs.Bytes.{part-rest, bytes-number_at, bytes-injective
 
 -- what was read from sixty bytes is spelled by them
 pub fields_read : (x u d : List ℕ) (a b c : ℕ) → length x ≡ 60 → ((i : ℕ) → get_or x i 0 < 256) → a ≡ big_number 4 (take 4 (drop 0 x)) → b ≡ big_number 4 (take 4 (drop 4 x)) → c ≡ big_number 4 (take 4 (drop 8 x)) →
-    u ≡ take 16 (drop 12 x) → d ≡ take 32 (drop 28 x) → big_bytes 4 a ++ (big_bytes 4 b ++ (big_bytes 4 c ++ (u ++ d))) ≡ x
+    u ≡ take 16 (drop 12 x) → d ≡ take digest_size (drop 28 x) → big_bytes 4 a ++ (big_bytes 4 b ++ (big_bytes 4 c ++ (u ++ d))) ≡ x
 fields_read x u d a b c l are_bytes ha hb hc hu hd =
     joined (big_bytes 4 a) (big_bytes 4 b) (big_bytes 4 c) u d
     (bytes-number_at x 0 a are_bytes (omega (arith, l)) ha) (bytes-number_at x 4 b are_bytes (omega (arith, l)) hb) (bytes-number_at x 8 c are_bytes (omega (arith, l)) hc) hu
@@ -23,7 +24,7 @@ fields_read x u d a b c l are_bytes ha hb hc hu hd =
         ∙ ap (λ z. p ++ z) (ap (λ z. z ++ drop 8 x) hq ∙ part-rest x 4 4)
         ∙ (ap (λ z. z ++ drop 4 x) hp ∙ part-rest x 4 0)
 
--- a part that is written right behind what stands already
+-- a part that is written right after those before it
 written_behind : (before part behind old new : List ℕ) (m n : ℕ) → length before ≡ m → length part ≡ n → old ≡ before ++ behind →
     new ≡ take m old ++ (part ++ drop (m + length part) old) → new ≡ (before ++ part) ++ drop n behind
 written_behind before part behind old new m n hm hn ho hw =
@@ -34,7 +35,7 @@ written_behind before part behind old new m n hm hn ho hw =
     ∙ sym (append_assoc before part (drop n behind))
 
 -- five parts a to e, written in turn over sixty bytes z: s, t, u, v and w are the bytes after each
-parts_written : (a b c d e z s t u v w : List ℕ) → length a ≡ 4 → length b ≡ 4 → length c ≡ 4 → length d ≡ 16 → length e ≡ 32 → length z ≡ 60 →
+parts_written : (a b c d e z s t u v w : List ℕ) → length a ≡ 4 → length b ≡ 4 → length c ≡ 4 → length d ≡ 16 → length e ≡ digest_size → length z ≡ 60 →
     s ≡ take 0 z ++ (a ++ drop (0 + length a) z) → t ≡ take 4 s ++ (b ++ drop (4 + length b) s) → u ≡ take 8 t ++ (c ++ drop (8 + length c) t) →
     v ≡ take 12 u ++ (d ++ drop (12 + length d) u) → w ≡ take 28 v ++ (e ++ drop (28 + length e) v) → w ≡ a ++ (b ++ (c ++ (d ++ e)))
 parts_written a b c d e z s t u v w la lb lc ld le lz hs ht hu hv hw =
@@ -58,7 +59,7 @@ parts_written a b c d e z s t u v w la lb lc ld le lz hs ht hu hv hw =
 
 -- so a locator's five fields, written in turn over sixty bytes, are the bytes of the locator
 pub fields_written : (l : Locator) (a b c d z s t u v w : List ℕ) → a ≡ big_bytes 4 l.extent → b ≡ big_bytes 4 l.offset → c ≡ big_bytes 4 l.length → d ≡ l.uuid →
-    length d ≡ 16 → length l.digest ≡ 32 → length z ≡ 60 →
+    length d ≡ 16 → length l.digest ≡ digest_size → length z ≡ 60 →
     s ≡ take 0 z ++ (a ++ drop (0 + length a) z) → t ≡ take 4 s ++ (b ++ drop (4 + length b) s) → u ≡ take 8 t ++ (c ++ drop (8 + length c) t) →
     v ≡ take 12 u ++ (d ++ drop (12 + length d) u) → w ≡ take 28 v ++ (l.digest ++ drop (28 + length l.digest) v) → w ≡ locator_bytes l
 fields_written l a b c d z s t u v w ha hb hc hd ld le lz hs ht hu hv hw =

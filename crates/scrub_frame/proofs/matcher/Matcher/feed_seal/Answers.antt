@@ -1,4 +1,4 @@
--- The part of the piece stands in the seal behind what stood there.
+-- The part of the piece is in the seal after what was there.
 use Rattle.std.proofs.Common.{arith, refl, ◌≡◌, ◌≤◌, ◌+◌, ◌-◌, ℕ, List, ◌++◌, ap, ◌∙◌, length, take, drop, length-drop}
 use Rattle.std.proofs.lemmas.List.{length-take-le}
 use Rattle.scrub_frame.specs.Frame.{payload_start}
