@@ -24,7 +24,7 @@ same_on xs all = ext_get_or 0 (drop 1 xs) (take (length xs - 1) xs) (length-drop
     let within : i < length xs - 1 = omega (arith, here, length-drop 1 xs) in
     get_or-drop 1 xs i 0 ∙ all (1 + i) (omega (arith, within)) ∙ sym (get_or-take (length xs - 1) xs i 0 within ∙ all i (omega (arith, within))))
 
--- bytes whose first is zero are zero exactly where they are the same as those one place on
+-- bytes whose first is zero are all zero exactly if they equal those one place on
 pub zeros_decided : (xs : List ℕ) (r : Bool) → get_or xs 0 0 ≡ 0 → r ≡ bytes_eq (take (length xs - 1) (drop 1 xs)) (take (length xs - 1) xs) → IsTrue r ↔ AreZero xs
 zeros_decided xs r first says =
     let decided : r ≡ bytes_eq (drop 1 xs) (take (length xs - 1) xs) =
@@ -44,7 +44,7 @@ nowhere_from i (x ∷ xs) all =
     ap (λ y. cond (not (eqb y 0)) (Some i) (position_from (λ b. not (eqb b 0)) (i + 1) xs)) (all 0 (omega arith))
     ∙ nowhere_from (i + 1) xs (λ k here. all (suc k) (omega (arith, here)))
 
--- among them none is counted, and none found
+-- none of them is counted, and none found
 pub zeros_counted : (xs : List ℕ) → AreZero xs → count_by (λ b. not (eqb b 0)) xs ≡ 0
 zeros_counted xs all = sym (length-filter (λ b. not (eqb b 0)) xs) ∙ ap length (filtered xs all)
 

@@ -16,9 +16,9 @@ page_byte image e i (Some bytes) whole he hi is gap =
     let l : length bytes ≡ image.geometry.page = whole e (i / image.geometry.page) bytes he q is in
     let there : byte image e i ≡ Some (get_or bytes (i % image.geometry.page) 0) =
     ap (byte image e) (sym (div-add-mod' i image.geometry.page)) ∙ byte-page image e (i / image.geometry.page) (i % image.geometry.page) bytes is l q (mod-lt i pos) in
-    let no_such : Some (get_or bytes (i % image.geometry.page) 0) ≡ None = sym there ∙ gap in absurd (let f : ⊥ = cc in f)
+    let no_such : Some (get_or bytes (i % image.geometry.page) 0) ≡ None = sym there ∙ gap in absurd (cc)
 
--- the part stands at the place
+-- the part is at the place
 pub part_stands : (image : Image) (e place last page : ℕ) (bytes : List ℕ) → page ≡ image.geometry.page → place < extent_bytes image.geometry → image.page e (place / page) ≡ Some bytes → length bytes ≡ page →
     last ≤ page → AreBytesAt (byte image e) place (between (place % page) last bytes)
 part_stands image e place last page bytes same within read l most k hk =

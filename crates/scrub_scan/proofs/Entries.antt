@@ -38,7 +38,7 @@ pub entry_at : (all : List Scanned) → IsStrictlyIncreasing (extent_numbers all
 entry_at all rising i f e is number =
     let there : get_or all i f ≡ f = get_or_from_slice_get all i f f is in
     let found : find (λ g. g.extent == (get_or all i f).extent) all ≡ Some (get_or all i f) = find_paired (λ g. g.extent) all (pairs_rise (λ g. g.extent) all rising) i f (slice_get_within all i f is) in
-    subst (λ (n : ℕ). entry_of all n ≡ Some f) (ap (λ g. g.extent) there ∙ number) (found ∙ ap Some there)
+    rw (ap (λ g. g.extent) there ∙ number) at (found ∙ ap Some there)
 
 -- what a search finds passes its test, and is in the list
 pub find_passes : {X : Type 0} (p : X → Bool) (xs : List X) (y : X) → find p xs ≡ Some y → (p y ≡ true) × Contains xs y
@@ -49,18 +49,18 @@ find_passes p (x ∷ xs) y found = by (p x) refl found (find_passes p xs y)
     by true is here later = let same : x ≡ y = cc in (ap p (sym same) ∙ is, (0, omega arith, same))
     by false is there later = let rest = later there in (rest.0, (suc rest.1.0, omega (arith, rest.1.1), rest.1.2))
 
--- what is kept of a planned extent stands under the plan's pointer, and is what the image holds there
+-- what is kept of a planned extent has the plan's pointer, and is what the image has there
 pub entry_facts : (image : Image) (plan : PlanValue) (all : List Scanned) (e : ℕ) (f : Scanned) → AreAllFindings image plan all → entry_of all e ≡ Some f →
     (f.extent ≡ e) × (pointer_of plan e ≡ Some f.pointer) × IsFindings image e f.pointer f.findings
 entry_facts image plan all e f h found =
     let passes = find_passes (λ g. g.extent == e) all f found in
     let same : f.extent ≡ e = grind (arith, nat_tests, passes.0) in (
       same,
-      subst (λ (n : ℕ). pointer_of plan n ≡ Some f.pointer) same (All-contains (λ (g : Scanned). pointer_of plan g.extent ≡ Some g.pointer) all f h.pointers passes.1),
-      subst (λ (n : ℕ). IsFindings image n f.pointer f.findings) same (All-contains (λ (g : Scanned). IsFindings image g.extent g.pointer g.findings) all f h.findings passes.1),
+      rw same at (All-contains (λ (g : Scanned). pointer_of plan g.extent ≡ Some g.pointer) all f h.pointers passes.1),
+      rw same at (All-contains (λ (g : Scanned). IsFindings image g.extent g.pointer g.findings) all f h.findings passes.1),
     )
 
--- the findings of a planned extent are what the image holds there, under the plan's pointer
+-- the findings of a planned extent are what the image has there, under the plan's pointer
 pub findings_facts : (image : Image) (plan : PlanValue) (all : List Scanned) (e w : ℕ) (found : Findings) → AreAllFindings image plan all → findings_in all e ≡ Some found → pointer_of plan e ≡ Some w →
     IsFindings image e w found
 findings_facts image plan all e w found h is at = by (entry_of all e) refl is
@@ -71,4 +71,4 @@ findings_facts image plan all e w found h is at = by (entry_of all e) refl is
         let facts = entry_facts image plan all e f h entry in
         let pointer : f.pointer ≡ w = cc in
         let same : f.findings ≡ found = cc in
-        subst (λ (n : ℕ). IsFindings image e n found) pointer (subst (λ (x : Findings). IsFindings image e f.pointer x) same facts.2)
+        rw (← pointer) (rw same at facts.2)

@@ -87,7 +87,7 @@ no_frame_under w h f u b k =
 
 is_readable : (w : ℕ) → ¬ IsUnreadableAt (abc_under w) 0
 unfolding abc_under ones abc
-is_readable w none = absurd (let f : ⊥ = cc in f)
+is_readable w none = absurd (cc)
 
 is_not_zero : (w : ℕ) → 0 < w → ¬ IsZero (abc_under w) 0
 unfolding abc_under ones abc
@@ -100,7 +100,7 @@ begins_with_magic w h = (omega (arith, h), (Plain, each))
     each : (k : ℕ) → k < 2 → slice_get (frame Plain ones abc) (0 + k) ≡ Some (get_or (magic Plain) k 0)
     each zero hk = refl
     each (suc zero) hk = refl
-    each (suc (suc k)) hk = absurd (let f : ⊥ = omega (arith, hk) in f)
+    each (suc (suc k)) hk = absurd (omega (arith, hk))
 
 tiling_under_40 : IsTiling (abc_under 40) (Torn 0 40 ∷ [])
 unfolding abc_under
@@ -119,7 +119,7 @@ tiling_under_1 = record {
   joined = (refl, refl);
   each = All-cons (IsItem (abc_under 1)) (Noise 0 1) [] (record {
     below = lit< tt;
-    fits = ((refl, refl), no_frame_under 1 (lit< tt), is_readable 1, is_not_zero 1 (lit< tt), λ h. absurd (let f : ⊥ = omega (arith, h.0) in f));
+    fits = ((refl, refl), no_frame_under 1 (lit< tt), is_readable 1, is_not_zero 1 (lit< tt), λ h. absurd (omega (arith, h.0)));
   }) (All-nil (IsItem (abc_under 1)));
 }
 
@@ -129,7 +129,7 @@ tiling_under_0 = record { joined = refl; each = All-nil (IsItem (abc_under 0)) }
 
 -- ---- two pages of zeros, the second of them unreadable
 
--- a byte that is zero where it is readable
+-- a byte that is zero if it is readable
 zero_or_lost : Bool → Option ℕ
 zero_or_lost true = Some 0
 zero_or_lost false = None

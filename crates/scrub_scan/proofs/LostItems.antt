@@ -1,4 +1,4 @@
--- The unreadable pages that a tiling tells: those that its lost items take up to their end.
+-- The unreadable pages that follow from a tiling: those whose ends its lost items reach.
 use Rattle.std.proofs.Common.{◌≡◌, ◌<◌, ◌≤◌, ◌+◌, ◌-◌, ◌*◌, ◌/◌, ◌++◌, ℕ, List, [], ◌∷◌, Bool, true, false, cond, suc, zero, length, filter, is_none, arith, refl, sym, ◌∙◌, ap, inl, inr, Option, Some, None, All, append_assoc}
 use Rattle.std.specs.List.{range_with_len, filter_map, cons_option}
 use Rattle.std.proofs.Math.Nat.{mul-le-mul_left, div-mul-le_self}
@@ -47,7 +47,7 @@ unreadable_page image e i page whole same disk within gap =
     ap (λ p. is_none (image.page e (i / p))) same ∙ page_byte image e i (image.page e (i / image.geometry.page)) whole disk within refl gap
 
 module _ (image : Image) (t : Target) (whole : HasWholePages image) (is : IsTarget image t) where
-  -- where each page from one place up to another can be read, no unreadable page is added
+  -- if each page from one place up to another can be read, no unreadable page is added
   pages_readable : (a b : ℕ) → a ≤ b → ((q : ℕ) → a / t.page ≤ q → q < b / t.page → is_none (image.page t.extent q) ≡ false) →
       unreadable_below image t.extent (b / t.page) ≡ unreadable_below image t.extent (a / t.page) ++ []
   pages_readable a b up readable =
@@ -57,7 +57,7 @@ module _ (image : Image) (t : Target) (whole : HasWholePages image) (is : IsTarg
       ∙ none_more (λ q. is_none (image.page t.extent q)) (a / t.page) (b / t.page - a / t.page) (λ q low high. readable q low (omega (arith, high, e)))
       ∙ sym (append-nil (unreadable_below image t.extent (a / t.page)))
 
-  -- so where a part up to a bound begins with a readable byte
+  -- so also if a part up to a bound begins with a readable byte
   one_readable : (a b : ℕ) → a ≤ b → b ≤ (a / t.page + 1) * t.page → ¬ (byte image t.extent a ≡ None) →
       unreadable_below image t.extent (b / t.page) ≡ unreadable_below image t.extent (a / t.page) ++ []
   one_readable a b up within there =
@@ -126,7 +126,7 @@ module _ (image : Image) (t : Target) (whole : HasWholePages image) (is : IsTarg
       joined_option None xs = refl
       joined_option (Some x) xs = refl
 
-  -- the lost items of a tiling tell the unreadable pages before that of the pointer
+  -- the lost items of a tiling give the unreadable pages before that of the pointer
   pub lost_pages_listed : (items : List Item) → IsTiling (target_of image t) items → filter_map (lost_page t.page) items ≡ unreadable_below image t.extent (t.pointer / t.page)
   lost_pages_listed items h =
       sym (lost_in_items 0 t.pointer items h.joined h.each ∙ ap (λ k. unreadable_below image t.extent k ++ filter_map (lost_page t.page) items) (none_before t.page t.positive))

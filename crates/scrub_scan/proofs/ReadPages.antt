@@ -1,4 +1,4 @@
--- Which pages the source was asked for, and that it was asked as often.
+-- Which pages the source was asked for, and that it was asked as many times.
 use Rattle.std.proofs.Common.{◌≡◌, ◌<◌, ◌≤◌, ◌+◌, ◌*◌, ◌/◌, ◌^◌, ◌==◌, ℕ, List, [], ◌∷◌, suc, arith, refl, sym, ap, subst, inl, inr, Some, None}
 use Rattle.std.specs.List.{Contains}
 use Rattle.std.proofs.lemmas.Bool.{cases_lt, eq-eqb}
@@ -11,19 +11,9 @@ use Rattle.scrub_scan.specs.declared.pages.Target.{Target}
 use Rattle.scrub_scan.specs.declared.pages.TwoPages.{TwoPages}
 use Rattle.scrub_scan.specs.Pages.{HasRead, IsTarget, Reaches}
 
--- what a list has, it has behind one more element
+-- what a list has, it still has with one more element in front
 later : (x : ℕ) (xs : List ℕ) (q : ℕ) → Contains xs q → Contains (x ∷ xs) q
 later x xs q h = (suc h.0, omega (arith, h.1), h.2)
-
--- before the first call
-pub none_read : (p : TwoPages) → p.near.number ≡ None → p.far.number ≡ None → HasRead p 0
-none_read p near far = record {
-  calls = [];
-  each = λ _. omega arith;
-  near = rw near tt;
-  far = rw far tt;
-  below = λ q hq. absurd (let e : ⊥ = omega (arith, hq) in e);
-}
 
 -- after a call for page q, which is the near one then
 pub near_read : (p r : TwoPages) (n q : ℕ) → r.near.number ≡ Some q → r.far.number ≡ p.far.number → (r.asked < 2 ^ 32 → p.asked + 1 ≤ r.asked) → HasRead p n → HasRead r n
@@ -45,16 +35,6 @@ far_read p r n q near far count h = record {
   below = λ k hk. later q h.calls k (h.below k hk);
 }
 
--- where the buffers change places
-pub turned : (p r : TwoPages) (n : ℕ) → r.near ≡ p.far → r.far ≡ p.near → r.asked ≡ p.asked → HasRead p n → HasRead r n
-turned p r n near far asked h = record {
-  calls = h.calls;
-  each = λ small. omega (arith, asked, h.each (omega (arith, asked, small)));
-  near = rw near h.far;
-  far = rw far h.near;
-  below = h.below;
-}
-
 -- fewer pages
 pub read_fewer : (p : TwoPages) (n m : ℕ) → m ≤ n → HasRead p n → HasRead p m
 read_fewer p n m le h = record { calls = h.calls; each = h.each; near = h.near; far = h.far; below = λ q hq. h.below q (omega (arith, hq, le)) }
@@ -68,7 +48,7 @@ read_next p n has h = record {
   far = h.far;
   below = λ q hq. elim (cases_lt q n) [
     | inl less ↦ h.below q less
-    | inr same ↦ let e : n ≡ q = omega (arith, same, hq) in subst (λ (k : ℕ). Contains h.calls k) e here
+    | inr same ↦ let e : n ≡ q = omega (arith, same, hq) in rw e at here
   ];
 }
   where
@@ -78,7 +58,7 @@ read_next p n has h = record {
       | inr far ↦ let c : Contains h.calls n = rw far at h.far in c
     ]
 
--- a place up to the next page bound is on the same page, or behind that page alone
+-- a place up to the next page bound is on the same page, or at that bound
 pub next_at_most : (p stop page : ℕ) → 0 < page → stop ≤ (p / page + 1) * page → stop / page ≤ p / page + 1
 next_at_most p stop page positive within =
     let below : stop / page < p / page + 1 + 1 = div_below stop page (p / page + 1 + 1) positive (omega (arith, within, positive)) in

@@ -23,7 +23,7 @@ pub Joins-push : (a : ℕ) (items : List Item) (item : Item) → Joins a (start_
 Joins-push a [] item h = (sym h, refl)
 Joins-push a (first ∷ items) item h = (h.0, Joins-push (stop_of first) items item h.1)
 
--- a bound lies above its place, and not above the pointer
+-- a bound is above its place, and not above the pointer
 bound_above : (x : Extent) (p : ℕ) → 0 < x.page → p < x.pointer → (p < bound x p) × (bound x p ≤ x.pointer)
 bound_above x p pos h =
     let m : p % x.page < x.page = mod-lt p pos in
@@ -60,14 +60,14 @@ same_chunk x p f a b u n d g a' b' v m c h k =
     let sha : d ≡ c = h.1.1.digest_is ∙ ap sha256 s.2 ∙ sym k.1.1.digest_is in
     ap (λ z. Chunk z a b u n d) s.0 ∙ ap (λ z. Chunk g z b u n d) (h.0 ∙ sym k.0) ∙ ap (λ z. Chunk g a' z u n d) stop ∙ ap (λ z. Chunk g a' b' z n d) s.1 ∙ ap (λ z. Chunk g a' b' v z d) e ∙ ap (λ z. Chunk g a' b' v m z) sha
 
--- where zeros stand the page is readable
+-- a page with zeros is readable
 zeros_are_readable : (x : Extent) (p : ℕ) → p < bound x p → IsZero x p → IsUnreadableAt x p → ⊥
 zeros_are_readable x p hp z none = some_none 0 (sym (z p (omega arith) hp) ∙ none)
   where
     some_none : (a : ℕ) → Some a ≡ None → ⊥
     some_none a e = cc
 
--- at most one item fits at a place: the cases exclude one another
+-- at most one item fits at a place, since the cases exclude one another
 one_item_fits : (x : Extent) (p : ℕ) (i j : Item) → p < bound x p → Fits x p i → Fits x p j → i ≡ j
 one_item_fits x p (Chunk f a b u n d) (Chunk g a' b' v m c) hp h k = same_chunk x p f a b u n d g a' b' v m c h k
 one_item_fits x p (Chunk f a b u n d) (Lost a' b') hp h k = absurd (k.1 f u h.1.0 h.1.1.frame)
@@ -95,19 +95,19 @@ one_item_fits x p (Noise a b) (Pad a' b') hp h k = absurd (h.3 k.2)
 one_item_fits x p (Noise a b) (Torn a' b') hp h k = absurd (h.4 k.4)
 one_item_fits x p (Noise a b) (Noise a' b') hp h k = same_span Noise x p a b a' b' h.0 k.0
 
--- the item at a place is one
+-- there is one item at a place
 pub one_item : (x : Extent) (i j : Item) → 0 < x.page → IsItem x i → IsItem x j → start_of i ≡ start_of j → i ≡ j
 one_item x i j pos h k e =
-    one_item_fits x (start_of i) i j (bound_above x (start_of i) pos h.below).0 h.fits (subst (λ (m : ℕ). Fits x m j) (sym e) k.fits)
+    one_item_fits x (start_of i) i j (bound_above x (start_of i) pos h.below).0 h.fits (rw e k.fits)
 
 pub one_tiling : (x : Extent) (is js : List Item) → 0 < x.page → IsTiling x is → IsTiling x js → is ≡ js
 one_tiling x is js pos h k = go 0 is js h.joined k.joined h.each k.each
   where
     go : (a : ℕ) (is js : List Item) → Joins a x.pointer is → Joins a x.pointer js → All (IsItem x) is → All (IsItem x) js → is ≡ js
     go a [] [] h k hs ks = refl
-    go a [] (j ∷ js) h k hs ks = let one : IsItem x j = All-head (IsItem x) j js ks in absurd (let f : ⊥ = omega (arith, one.below, h, k.0) in f)
-    go a (i ∷ is) [] h k hs ks = let one : IsItem x i = All-head (IsItem x) i is hs in absurd (let f : ⊥ = omega (arith, one.below, k, h.0) in f)
+    go a [] (j ∷ js) h k hs ks = let one : IsItem x j = All-head (IsItem x) j js ks in absurd (omega (arith, one.below, h, k.0))
+    go a (i ∷ is) [] h k hs ks = let one : IsItem x i = All-head (IsItem x) i is hs in absurd (omega (arith, one.below, k, h.0))
     go a (i ∷ is) (j ∷ js) h k hs ks =
         let one : i ≡ j = one_item x i j pos (All-head (IsItem x) i is hs) (All-head (IsItem x) j js ks) (h.0 ∙ sym k.0) in
-        let rest : is ≡ js = go (stop_of i) is js h.1 (subst (λ (m : ℕ). Joins m x.pointer js) (sym (ap stop_of one)) k.1) (All-tail (IsItem x) i is hs) (All-tail (IsItem x) j js ks) in
+        let rest : is ≡ js = go (stop_of i) is js h.1 (rw (ap stop_of one) k.1) (All-tail (IsItem x) i is hs) (All-tail (IsItem x) j js ks) in
         ap (λ z. z ∷ is) one ∙ ap (λ zs. j ∷ zs) rest

@@ -10,7 +10,7 @@ use Rattle.scrub_scan.proofs.Search.{searched}
 use Rattle.scrub_scan.proofs.Slots.{slot_numbers, slot_count}
 use Rattle.scrub_scan.proofs.all_findings.position_of.Goals as goal
 
--- what was found among the places was found among what stands in them
+-- what was found among the slots was found among their results
 moved_found : {D : Type 0} {s : _} (slots : List (Option (ExtentResult D s))) (e : ℕ) (o : Option ℕ) → AreFull slots → IfSome o (λ i. (i < length slots) × (slice_index (map (λ slot. option_map_or (λ r. r.extent) slot 0) slots) i ≡ e)) →
     IfSome o (λ i. (i < length (scanned_in slots)) × (slice_index (extent_numbers (scanned_in slots)) i ≡ e))
 moved_found slots e None full h = tt

@@ -9,10 +9,10 @@ use Rattle.scrub_scan.specs.Slots.{AreSlots, IsPlannedResult}
 use Rattle.scrub_scan.proofs.Slots.{full_push}
 use Rattle.scrub_scan.proofs.scanning.scan_in_order.Goals as goal
 
--- the places of all planned extents
+-- the slots of all planned extents
 all_taken : {D : Type 0} {s : _} (image : Image) (plan : PlanValue) (taken : List ℕ) (slots : List (Option (ExtentResult D s))) → taken ≡ plan.planned →
     AllZip (λ e slot. IfSome slot (λ r. IsPlannedResult image plan e r)) taken slots → AreSlots image plan slots
-all_taken image plan taken slots is are = subst (λ (es : List ℕ). AllZip (λ e slot. IfSome slot (λ r. IsPlannedResult image plan e r)) es slots) is are
+all_taken image plan taken slots is are = rw is at are
 
 pub loop-extent-preserved : goal.loop-extent-preserved
 loop-extent-preserved g c =

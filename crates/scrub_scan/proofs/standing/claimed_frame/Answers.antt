@@ -1,4 +1,4 @@
--- No frame stands there: its head is none, it claims too much, or what closes it isn't there.
+-- There is no frame: there is no head, it claims too much, or what closes it isn't there.
 use Rattle.std.proofs.Common.{arith}
 use Rattle.scrub_disk.specs.Image.{AreBytesAt}
 use Rattle.scrub_frame.specs.Frame.{head}

@@ -1,4 +1,4 @@
--- No frame stands where the bytes of its head can't be read, or are none.
+-- There is no frame if the bytes of its head can't be read, or are no head.
 use Rattle.std.proofs.Common.{arith}
 use Rattle.scrub_disk.specs.Image.{byte, AreBytesAt}
 use Rattle.scrub_scan.specs.Extent.{extent_of, HasGap}

@@ -8,9 +8,9 @@ use Rattle.scrub_scan.proofs.standing.head_in.Goals as goal
 pub returns-clause-found : goal.returns-clause-found
 returns-clause-found c =
     let all : c.in_ok-first_chunk.field-0.now ≡ c.args.bytes.now = c.in_ok-first_chunk.ensures.cases.same ∙ take_all head_size c.args.bytes.now (omega (arith, c.requires)) in
-    subst (λ (x : List ℕ). IfSome c.read_head.result (λ h. x ≡ head h.form h.uuid h.length)) all c.read_head.ensures.found
+    rw all at c.read_head.ensures.found
 
 pub returns-clause-none : goal.returns-clause-none
 returns-clause-none c =
     let all : c.in_ok-first_chunk.field-0.now ≡ c.args.bytes.now = c.in_ok-first_chunk.ensures.cases.same ∙ take_all head_size c.args.bytes.now (omega (arith, c.requires)) in
-    subst (λ (x : List ℕ). IfNone c.read_head.result ((form : Form) → ¬ (take 2 x ≡ magic form))) all c.read_head.ensures.none
+    rw all at c.read_head.ensures.none

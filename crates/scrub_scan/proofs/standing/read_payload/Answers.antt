@@ -22,8 +22,7 @@ returns g c =
     let size : length c.in-Some.payload.items ≡ s.length = rw c.in-Some.is at c.in_ok-payload.ensures.size in
     let read = rw c.in-Some.is at c.in_ok-payload.ensures.bytes in
     let bytes : AreBytesAt (byte image s.extent) (s.offset + payload_start s.form) c.in-Some.payload.items =
-    subst (λ (p : ℕ). AreBytesAt (byte image s.extent) (s.offset + p) c.in-Some.payload.items) c.payload_start.ensures.value read in
-    subst (λ (b : List ℕ). HasPayload image s b)
-    (sym (payload_read (extent_of image s.extent (extent_bytes image.geometry)) s.offset s.form s.uuid c.requires.payload c.in-Some.payload.items
-    c.requires.has.frame.frame (size ∙ c.requires.has.frame.length) bytes))
+    rw c.payload_start.ensures.value at read in
+    rw (payload_read (extent_of image s.extent (extent_bytes image.geometry)) s.offset s.form s.uuid c.requires.payload c.in-Some.payload.items
+    c.requires.has.frame.frame (size ∙ c.requires.has.frame.length) bytes)
     c.requires.has

@@ -1,4 +1,4 @@
--- Among zeros none is counted, and none found.
+-- In zeros nothing is counted, and nothing found.
 use Rattle.std.proofs.Common.{◌+◌, sym, ap, option_map}
 use Rattle.scrub_scan.proofs.AllZero.{zeros_counted, zeros_nowhere}
 use Rattle.scrub_scan.proofs.tail.nonzero_bytes.Goals as goal

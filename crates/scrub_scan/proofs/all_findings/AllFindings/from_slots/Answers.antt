@@ -16,7 +16,7 @@ invariant_of-result g c =
     let found = returns-clause-findings g c image are in (
       c.requires.full,
       record {
-        rising = subst (λ (xs : List ℕ). IsStrictlyIncreasing xs) (sym found.extents) c.planned.ensures.extents.rising;
+        rising = rw found.extents c.planned.ensures.extents.rising;
         findings = held_there image c.args.plan.now c.args.slots.items are c.requires.full;
       },
     )

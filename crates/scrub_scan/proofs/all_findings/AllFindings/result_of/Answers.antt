@@ -8,7 +8,7 @@ use Rattle.scrub_scan.specs.AllFindings.{extent_numbers}
 use Rattle.scrub_scan.proofs.Entries.{entry_at}
 use Rattle.scrub_scan.proofs.all_findings.AllFindings.result_of.Goals as goal
 
--- the places that are searched are those that are kept
+-- the slots that are searched are those that are kept
 pub position_of-requires-clause-full : goal.position_of-requires-clause-full
 position_of-requires-clause-full g c = λ κs h. rw c.deref.ensures.value c.self.invariant.0
 
@@ -22,7 +22,7 @@ result_at-requires-after_bounds g c = λ κs h.
 pub returns-in_err-i-clause-none : goal.returns-in_err-i-clause-none
 returns-in_err-i-clause-none g c =
     rw (c.from_residual.ensures, ← c.self.view_is)
-    (subst (λ (slots : List (Option (ExtentResult g.row.D.Denot g.D.PageSource))). ¬ Contains (extent_numbers (scanned_in slots)) c.args.extent) c.deref.ensures.value c.in_err-i.ensures.none)
+    (rw c.deref.ensures.value at c.in_err-i.ensures.none)
 
 pub returns-clause-found : goal.returns-clause-found
 returns-clause-found g c =

@@ -14,5 +14,5 @@ returns-clause-read g c = λ n h. elim c.if-ne.branch [
       (ap (λ (p : TwoPages). p.far.number) w.self-is)
       (λ small. omega (arith, ap (λ (p : TwoPages). p.asked) w.self-is, w.read.ensures.counted, small))
       h
-  | else-ne w ↦ subst (λ (p : TwoPages). HasRead p n) (sym w.self-is) h
+  | else-ne w ↦ rw w.self-is h
 ]

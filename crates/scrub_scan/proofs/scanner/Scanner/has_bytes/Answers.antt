@@ -1,4 +1,4 @@
--- Other bytes stand there, or some can't be read.
+-- Other bytes are there, or some can't be read.
 use Rattle.std.proofs.Common.{arith, sym, ◌∙◌, subst, List, [], ◌∷◌, ℕ, ◌≡◌, length}
 use Rattle.std.proofs.lemmas.Bool.{false≢true}
 use Rattle.std.proofs.lemmas.List.{length-take-le}
@@ -25,4 +25,4 @@ pub returns-clause-found : goal.returns-clause-found
 returns-clause-found g c = λ equal.
     let at = byte (g.D.PageSource.image c.args.disk.now) c.args.target.now.extent in
     let same : c.fill.new.out ≡ c.args.wanted.now = (bytes_eq-Decides c.fill.new.out c.args.wanted.now).0 (sym c.eq.ensures ∙ equal) in
-    subst (λ (v : List ℕ). AreBytesAt at c.args.place v) same (c.fill.ensures.filled c.if-not-fill.false)
+    rw same at (c.fill.ensures.filled c.if-not-fill.false)

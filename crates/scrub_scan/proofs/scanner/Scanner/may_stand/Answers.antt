@@ -1,4 +1,4 @@
--- Why no frame stands there: its head can't be read or is none, it claims too much or a page that can't be read, or what
+-- Why there is no frame: its head can't be read or isn't one, it claims too much or a page that can't be read, or what
 -- closes it isn't there.
 use Rattle.std.proofs.Common.{arith, sym, ◌∙◌, subst, ℕ, List, ◌≡◌, ◌<◌, ◌+◌, ◌-◌, ◌*◌, ◌/◌, ◌++◌, length, take, ap, Some}
 use Rattle.scrub_disk.specs.Image.{AreBytesAt}
@@ -61,7 +61,7 @@ returns-clause-none g c = λ no f u b k.
     let same = claimed_frame x c.args.start f u b form v c.fill.new.out n k (omega arith) (c.fill.ensures.filled c.if-not-fill.false) (omega arith) (omega arith) c.in-Some.ensures.found in
     let wanted : take c.close_bytes-close.result c.close.result ≡ v ++ mark form = closes c.close.result (v ++ mark form) (close_size form) c.close_bytes-close.result c.close_bytes-close.ensures.value c.close.ensures in
     c.has_bytes.ensures.none no
-    (subst (λ (w : List ℕ). AreBytesAt x.byte place w) (sym wanted)
+    (rw wanted
     (close_stands x c.args.start place form v b same.0 (omega (arith, same.1, c.frame_bytes-size.ensures.value, c.close_bytes-close.ensures.value))))
 
 pub returns-clause-known : goal.returns-clause-known
@@ -92,8 +92,8 @@ returns-clause-claims g c = λ holds.
       form = form;
       uuid = v;
       size = n;
-      head_stands = subst (λ (b : List ℕ). AreBytesAt x.byte c.args.start b) c.in-Some.ensures.found (c.fill.ensures.filled c.if-not-fill.false);
+      head_stands = rw c.in-Some.ensures.found at (c.fill.ensures.filled c.if-not-fill.false);
       fits = omega (arith, c.if-room-size.false, c.frame_bytes-size.ensures.value);
-      close = subst (λ (p : ℕ). AreBytesAt x.byte p (v ++ mark form)) (let e : c.args.start + c.frame_bytes-size.result - c.close_bytes-close.result ≡ c.args.start + (n + frame_overhead form) - close_size form = omega (arith, c.frame_bytes-size.ensures.value, c.close_bytes-close.ensures.value) in e)
-          (subst (λ (w : List ℕ). AreBytesAt x.byte (c.args.start + c.frame_bytes-size.result - c.close_bytes-close.result) w) wanted (c.has_bytes.ensures.found holds));
+      close = rw (← (let e : c.args.start + c.frame_bytes-size.result - c.close_bytes-close.result ≡ c.args.start + (n + frame_overhead form) - close_size form = omega (arith, c.frame_bytes-size.ensures.value, c.close_bytes-close.ensures.value) in e))
+          (rw wanted at (c.has_bytes.ensures.found holds));
     }
