@@ -79,8 +79,13 @@ tiling_under_41 = record {
 no_frame_under : (w : ℕ) → w < 41 → NoFrameAt (abc_under w) 0
 unfolding abc_under abc
 no_frame_under w h f u b k =
-    let here : FrameAt (abc_under (w + 41)) 0 f u b = record { has_frame = k.has_frame; fits = omega (arith, k.fits); stands = k.stands } in
-    let same : (f ≡ Plain) × (u ≡ ones) × (b ≡ abc) = one_frame_at (abc_under (w + 41)) 0 f u b Plain ones abc here (stands (w + 41) (omega arith)) in
+    let here : FrameAt (abc_under (w + 41)) 0 f u b = record {
+      has_frame = k.has_frame;
+      fits = omega (arith, k.fits);
+      stands = k.stands;
+    } in
+    let same : (f ≡ Plain) × (u ≡ ones) × (b ≡ abc) =
+    one_frame_at (abc_under (w + 41)) 0 f u b Plain ones abc here (stands (w + 41) (omega arith)) in
     let long : length b ≡ 3 = ap length same.2 in
     let round : frame_overhead f ≡ 38 = ap frame_overhead same.0 in
     omega (arith, k.fits, long, round, h)
@@ -91,7 +96,8 @@ is_readable w none = absurd (cc)
 
 is_not_zero : (w : ℕ) → 0 < w → ¬ IsZero (abc_under w) 0
 unfolding abc_under ones abc
-is_not_zero w h zeros = absurd (let e : Some 0xC5 ≡ Some 0 = zeros 0 (omega arith) (omega (arith, h)) in let f : ⊥ = cc in f)
+is_not_zero w h zeros =
+    absurd (let e : Some 0xC5 ≡ Some 0 = zeros 0 (omega arith) (omega (arith, h)) in let f : ⊥ = cc in f)
 
 begins_with_magic : (w : ℕ) → 2 ≤ w → HasMagic (abc_under w) 0
 unfolding abc_under ones abc
@@ -108,7 +114,13 @@ tiling_under_40 = record {
   joined = (refl, refl);
   each = All-cons (IsItem (abc_under 40)) (Torn 0 40) [] (record {
     below = lit< tt;
-    fits = ((refl, refl), no_frame_under 40 (lit< tt), is_readable 40, is_not_zero 40 (lit< tt), begins_with_magic 40 (omega arith));
+    fits = (
+      (refl, refl),
+      no_frame_under 40 (lit< tt),
+      is_readable 40,
+      is_not_zero 40 (lit< tt),
+      begins_with_magic 40 (omega arith),
+    );
   }) (All-nil (IsItem (abc_under 40)));
 }
 
@@ -119,7 +131,13 @@ tiling_under_1 = record {
   joined = (refl, refl);
   each = All-cons (IsItem (abc_under 1)) (Noise 0 1) [] (record {
     below = lit< tt;
-    fits = ((refl, refl), no_frame_under 1 (lit< tt), is_readable 1, is_not_zero 1 (lit< tt), λ h. absurd (omega (arith, h.0)));
+    fits = (
+      (refl, refl),
+      no_frame_under 1 (lit< tt),
+      is_readable 1,
+      is_not_zero 1 (lit< tt),
+      λ h. absurd (omega (arith, h.0)),
+    );
   }) (All-nil (IsItem (abc_under 1)));
 }
 
@@ -139,7 +157,8 @@ zeros_then_lost = record { byte = λ i. zero_or_lost (nat_lt i 64); page = 64; p
 
 no_frame_in_zeros : (p : ℕ) → NoFrameAt zeros_then_lost p
 unfolding zeros_then_lost zero_or_lost
-no_frame_in_zeros p f u b k = first (nat_lt (p + 0) 64) (k.stands 0 (omega (arith, length-frame f u b k.has_frame.sixteen)))
+no_frame_in_zeros p f u b k =
+    first (nat_lt (p + 0) 64) (k.stands 0 (omega (arith, length-frame f u b k.has_frame.sixteen)))
   where
     first : (b : Bool) → zero_or_lost b ≡ Some 0xC5 → ⊥
     first true e = cc

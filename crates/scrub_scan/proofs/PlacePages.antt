@@ -16,14 +16,19 @@ page_of q i page positive low high =
     omega (arith, least, below)
 
 -- each page from that of place a to that of the place before b has a place from a up to b
-pub place_in_page : (q a b page : ℕ) → 0 < page → a < b → a / page ≤ q → q ≤ (b - 1) / page → (i : ℕ) × (a ≤ i) × (i < b) × (i / page ≡ q)
+pub place_in_page : (q a b page : ℕ) → 0 < page → a < b → a / page ≤ q → q ≤ (b - 1) / page →
+    (i : ℕ) × (a ≤ i) × (i < b) × (i / page ≡ q)
 place_in_page q a b page positive some low high =
     elim (cases_lt (a / page) q) [
       | inl later ↦
           let next : a / page + 1 ≤ q = omega (arith, later) in
           let up : page * (a / page + 1) ≤ page * q = mul-le-mul_left page next in
           let past : a < a / page * page + page = omega (arith, div-add-mod' a page, mod-lt a positive) in
-          let top : page * q ≤ page * ((b - 1) / page) = mul-le-mul_left page high in
-          (q * page, omega (arith, up, past), omega (arith, top, div-mul-le_self (b - 1) page, some), page_of q (q * page) page positive (omega arith) (omega (arith, positive)))
+          let top : page * q ≤ page * ((b - 1) / page) = mul-le-mul_left page high in (
+            q * page,
+            omega (arith, up, past),
+            omega (arith, top, div-mul-le_self (b - 1) page, some),
+            page_of q (q * page) page positive (omega arith) (omega (arith, positive)),
+          )
       | inr first ↦ (a, omega arith, some, omega (arith, low, first))
     ]

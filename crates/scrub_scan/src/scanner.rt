@@ -16,7 +16,7 @@ use crate::pages::{Target, TwoPages};
 use crate::zeros::is_zero;
 use scrub_disk::{OutOfMemory, PageSource};
 use scrub_frame::{
-    DIGEST_BYTES, CLOSE_BYTES, Fed, Form, HEAD_BYTES, LEAST_OVERHEAD, Matcher, put_part, read_head,
+    CLOSE_BYTES, DIGEST_BYTES, Fed, Form, HEAD_BYTES, LEAST_OVERHEAD, Matcher, put_part, read_head,
 };
 use std::alloc::Global;
 use uuid::Uuid;

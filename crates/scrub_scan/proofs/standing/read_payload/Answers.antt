@@ -12,8 +12,14 @@ unreachable-requires g c =
     let image = g.D.PageSource.image c.args.disk.now in
     let x = extent_of image s.extent (extent_bytes image.geometry) in
     let gap = rw c.in-None.is at c.in_ok-payload.ensures.gap in
-    no_gap x s.offset (length c.requires.payload + frame_overhead s.form) s.form s.uuid c.requires.payload c.requires.has.frame.frame (omega arith)
-    (record { place = gap.place; low = omega (arith, gap.low); high = omega (arith, gap.high, c.requires.has.frame.length, c.payload_start.ensures.value); unreadable = gap.unreadable })
+    no_gap x s.offset (length c.requires.payload + frame_overhead s.form) s.form s.uuid c.requires.payload
+    c.requires.has.frame.frame (omega arith)
+    (record {
+      place = gap.place;
+      low = omega (arith, gap.low);
+      high = omega (arith, gap.high, c.requires.has.frame.length, c.payload_start.ensures.value);
+      unreadable = gap.unreadable;
+    })
 
 pub returns : goal.returns
 returns g c =
@@ -23,6 +29,7 @@ returns g c =
     let read = rw c.in-Some.is at c.in_ok-payload.ensures.bytes in
     let bytes : AreBytesAt (byte image s.extent) (s.offset + payload_start s.form) c.in-Some.payload.items =
     rw c.payload_start.ensures.value at read in
-    rw (payload_read (extent_of image s.extent (extent_bytes image.geometry)) s.offset s.form s.uuid c.requires.payload c.in-Some.payload.items
+    rw
+    (payload_read (extent_of image s.extent (extent_bytes image.geometry)) s.offset s.form s.uuid c.requires.payload c.in-Some.payload.items
     c.requires.has.frame.frame (size ∙ c.requires.has.frame.length) bytes)
     c.requires.has

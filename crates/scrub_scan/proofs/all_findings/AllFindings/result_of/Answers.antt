@@ -17,7 +17,12 @@ position_of-requires-clause-rising g c = λ κs h. rw c.deref.ensures.value c.se
 
 pub result_at-requires-after_bounds : goal.result_at-requires-after_bounds
 result_at-requires-after_bounds g c = λ κs h.
-    omega (arith, c.in_ok-i.ensures.found.0, ap (λ (slots : List (Option (ExtentResult g.row.D.Denot g.D.PageSource))). length (scanned_in slots)) c.deref.ensures.value, ap (λ v. length v.extents) c.self.view_is)
+    omega (
+      arith,
+      c.in_ok-i.ensures.found.0,
+      ap (λ (slots : List (Option (ExtentResult g.row.D.Denot g.D.PageSource))). length (scanned_in slots)) c.deref.ensures.value,
+      ap (λ v. length v.extents) c.self.view_is,
+    )
 
 pub returns-in_err-i-clause-none : goal.returns-in_err-i-clause-none
 returns-in_err-i-clause-none g c =
@@ -29,8 +34,10 @@ returns-clause-found g c =
     let all = c.args.self.now.extents in
     let i = c.in_ok-i.i in
     let number : get_or (extent_numbers all) i 0 ≡ c.args.extent =
-    ap (λ (fs : List Scanned). get_or (extent_numbers fs) i 0) (sym (ap (λ (slots : List (Option (ExtentResult g.row.D.Denot g.D.PageSource))). scanned_in slots) c.deref.ensures.value ∙ ap (λ v. v.extents) c.self.view_is)) ∙ c.in_ok-i.ensures.found.1 in
+    ap (λ (fs : List Scanned). get_or (extent_numbers fs) i 0) (sym (ap (λ (slots : List (Option (ExtentResult g.row.D.Denot g.D.PageSource))). scanned_in slots) c.deref.ensures.value ∙ ap (λ v. v.extents) c.self.view_is))
+    ∙ c.in_ok-i.ensures.found.1 in
     let decided : get_or (extent_numbers all) i 0 ≡ (scanned c.result_at.result.now).extent =
     get_or_from_slice_get (extent_numbers all) i (scanned c.result_at.result.now).extent 0
     (slice_get-map (λ (f : Scanned). f.extent) all i ∙ ap (option_map (λ (f : Scanned). f.extent)) c.result_at.ensures.result) in
-    entry_at all c.result_at.ensures.scanned.rising i (scanned c.result_at.result.now) c.args.extent c.result_at.ensures.result (sym decided ∙ number)
+    entry_at all c.result_at.ensures.scanned.rising i (scanned c.result_at.result.now) c.args.extent
+    c.result_at.ensures.result (sym decided ∙ number)

@@ -18,11 +18,14 @@ pub returns-clause-none : goal.returns-clause-none
 returns-clause-none g c = λ differs stands.
     let at = byte (g.D.PageSource.image c.args.disk.now) c.args.target.now.extent in
     let same : c.fill.new.out ≡ c.args.wanted.now =
-    same_bytes at c.args.place c.fill.new.out c.args.wanted.now (omega (arith, length-take-le {A = ℕ} (length c.args.wanted.now) (0 ∷ 0 ∷ 0 ∷ 0 ∷ 0 ∷ 0 ∷ 0 ∷ 0 ∷ 0 ∷ 0 ∷ 0 ∷ 0 ∷ 0 ∷ 0 ∷ 0 ∷ 0 ∷ 0 ∷ 0 ∷ []) (omega arith))) (c.fill.ensures.filled c.if-not-fill.false) stands in
+    same_bytes at c.args.place c.fill.new.out c.args.wanted.now
+    (omega (arith, length-take-le {A = ℕ} (length c.args.wanted.now) (0 ∷ 0 ∷ 0 ∷ 0 ∷ 0 ∷ 0 ∷ 0 ∷ 0 ∷ 0 ∷ 0 ∷ 0 ∷ 0 ∷ 0 ∷ 0 ∷ 0 ∷ 0 ∷ 0 ∷ 0 ∷ []) (omega arith)))
+    (c.fill.ensures.filled c.if-not-fill.false) stands in
     false≢true (sym differs ∙ c.eq.ensures ∙ (bytes_eq-Decides c.fill.new.out c.args.wanted.now).1 same)
 
 pub returns-clause-found : goal.returns-clause-found
 returns-clause-found g c = λ equal.
     let at = byte (g.D.PageSource.image c.args.disk.now) c.args.target.now.extent in
-    let same : c.fill.new.out ≡ c.args.wanted.now = (bytes_eq-Decides c.fill.new.out c.args.wanted.now).0 (sym c.eq.ensures ∙ equal) in
+    let same : c.fill.new.out ≡ c.args.wanted.now =
+    (bytes_eq-Decides c.fill.new.out c.args.wanted.now).0 (sym c.eq.ensures ∙ equal) in
     rw same at (c.fill.ensures.filled c.if-not-fill.false)
