@@ -1,6 +1,6 @@
 -- What a matcher's fields say of frames. Throughout, m is a matcher, t the bytes that it has taken, and f, u and n the
 -- form, the UUID and the length in its head.
-use Rattle.std.proofs.Common.{◌≡◌, ◌<◌, ◌≤◌, ◌+◌, ◌-◌, ◌^◌, ℕ, List, [], ◌++◌, length, take, drop, arith, refl, sym, ◌∙◌, ap, subst, append_assoc, length-append, length-drop, take-append-drop, inl, inr}
+use Rattle.std.proofs.Common.{◌≡◌, ◌<◌, ◌≤◌, ◌+◌, ◌-◌, ◌^◌, ℕ, List, [], ◌++◌, length, take, drop, arith, refl, sym, ◌∙◌, ap, append_assoc, length-append, length-drop, take-append-drop, inl, inr}
 use Rattle.std.proofs.lemmas.Bool.{cases_lt}
 use Rattle.std.proofs.lemmas.List.{take_at, take_all, take_rest, take-take, drop_at, drop-take, take-append-le, drop-append-le, append-nil, nil_from_length, length-take, length-take-le}
 use Rattle.byteorder.specs.Endian.{big_bytes, big_number}

@@ -1,5 +1,5 @@
 -- What is kept of an extent in a list whose extents rise.
-use Rattle.std.proofs.Common.{◌≡◌, ◌<◌, ◌==◌, ℕ, List, [], ◌∷◌, Bool, true, false, length, get_or, map, cond, arith, refl, sym, ◌∙◌, ap, subst, Some, None, Option, option_map, zero, suc, slice_get}
+use Rattle.std.proofs.Common.{◌≡◌, ◌<◌, ◌==◌, ℕ, List, [], ◌∷◌, Bool, true, false, length, get_or, map, cond, arith, refl, sym, ◌∙◌, ap, Some, None, Option, option_map, zero, suc, slice_get}
 use Rattle.std.specs.List.{find, Contains, AllPairs}
 use Rattle.std.specs.List.Sorted.{IsStrictlyIncreasing}
 use Rattle.std.proofs.lemmas.Bool.Decides.{nat_tests}

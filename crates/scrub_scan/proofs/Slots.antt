@@ -1,5 +1,5 @@
 -- Slots that each have something, and what they have.
-use Rattle.std.proofs.Common.{refl, ◌++◌, ◌&&◌, ◌≡◌, ◌<◌, ℕ, List, [], ◌∷◌, true, length, get_or, map, arith, sym, ◌∙◌, ap, Some, None, Option, IfSome, MatchOption, All, zero, suc, subst}
+use Rattle.std.proofs.Common.{refl, ◌++◌, ◌&&◌, ◌≡◌, ◌<◌, ℕ, List, [], ◌∷◌, true, length, get_or, map, arith, sym, ◌∙◌, ap, Some, None, Option, IfSome, MatchOption, All, zero, suc}
 use Rattle.std.specs.List.{AllZip, list_all}
 use Rattle.std.specs.Option.{option_map_or, is_some}
 use Rattle.std.proofs.lemmas.Bool.{true≢false}

@@ -1,5 +1,5 @@
 -- A record's own sizes: they are read from its front, and their numbers determine them.
-use Rattle.std.proofs.Common.{◌≡◌, ◌≤◌, ◌*◌, ◌^◌, ℕ, List, [], take, drop, arith, ◌∙◌, ap, Option, Some, Result, Ok, Err, MatchResult}
+use Rattle.std.proofs.Common.{◌≡◌, ◌≤◌, ◌*◌, ℕ, List, [], take, drop, arith, ◌∙◌, ap, Option, Some, Result, Ok, Err, MatchResult}
 use Rattle.std.proofs.Props.{props}
 use mathlib.Core.HLevel.{is_prop→PathP}
 use Rattle.std.specs.Array.{IsFirstChunk}

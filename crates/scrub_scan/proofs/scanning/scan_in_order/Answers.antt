@@ -1,4 +1,4 @@
-use Rattle.std.proofs.Common.{arith, ◌∙◌, subst, get_or, ◌≡◌, List, ℕ, Option, IfSome, Some}
+use Rattle.std.proofs.Common.{arith, ◌∙◌, get_or, ◌≡◌, List, ℕ, Option, IfSome, Some}
 use Rattle.std.specs.List.{AllZip}
 use Rattle.std.proofs.lemmas.List.{take_all}
 use Rattle.scrub_disk.proofs.Zips.{AllZip-take_more}

@@ -1,6 +1,5 @@
 -- There is no frame if the scanner finds none.
-use Rattle.std.proofs.Common.{ℕ, subst}
-use Rattle.scrub_scan.specs.Extent.{extent_of, NoFrameAt}
+use Rattle.scrub_scan.specs.Extent.{NoFrameAt}
 use Rattle.scrub_scan.specs.Pages.{target_of}
 use Rattle.scrub_scan.proofs.standing.frame_stands.Goals as goal
 

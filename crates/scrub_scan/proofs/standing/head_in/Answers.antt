@@ -1,8 +1,7 @@
 -- The first chunk of twenty-two bytes is all of them.
-use Rattle.std.proofs.Common.{arith, ◌≡◌, ◌∙◌, subst, List, ℕ, IfSome, IfNone, take}
+use Rattle.std.proofs.Common.{arith, ◌≡◌, ◌∙◌}
 use Rattle.std.proofs.lemmas.List.{take_all}
-use Rattle.scrub_frame.specs.declared.form.Form.{Form}
-use Rattle.scrub_frame.specs.Frame.{head, head_size, magic}
+use Rattle.scrub_frame.specs.Frame.{head_size}
 use Rattle.scrub_scan.proofs.standing.head_in.Goals as goal
 
 pub returns-clause-found : goal.returns-clause-found

@@ -1,5 +1,5 @@
 -- Other bytes are there, or some can't be read.
-use Rattle.std.proofs.Common.{arith, ◌≡◌, ◌+◌, ◌++◌, ap, sym, ◌∙◌, subst, List, ℕ, take, length}
+use Rattle.std.proofs.Common.{arith, ◌≡◌, ◌+◌, ◌++◌, ap, sym, ◌∙◌, List, ℕ, take, length}
 use Rattle.std.proofs.lemmas.Bool.{false≢true}
 use Rattle.std.proofs.lemmas.Slice.Eq.{bytes_eq-Decides}
 use Rattle.scrub_disk.specs.Image.{byte, AreBytesAt}

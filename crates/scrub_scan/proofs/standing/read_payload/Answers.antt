@@ -1,8 +1,7 @@
-use Rattle.std.proofs.Common.{arith, ◌≡◌, ◌+◌, length, sym, ◌∙◌, subst, List, ℕ}
+use Rattle.std.proofs.Common.{arith, ◌≡◌, ◌+◌, length, ◌∙◌}
 use Rattle.scrub_disk.specs.Image.{byte, extent_bytes, AreBytesAt}
 use Rattle.scrub_frame.specs.Frame.{payload_start, frame_overhead}
 use Rattle.scrub_scan.specs.Extent.{extent_of}
-use Rattle.scrub_scan.specs.Standing.{HasPayload}
 use Rattle.scrub_scan.proofs.FrameBytes.{no_gap, payload_read}
 use Rattle.scrub_scan.proofs.standing.read_payload.Goals as goal
 

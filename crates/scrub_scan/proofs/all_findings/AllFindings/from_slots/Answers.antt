@@ -1,5 +1,3 @@
-use Rattle.std.proofs.Common.{sym, subst, ℕ, List}
-use Rattle.std.specs.List.Sorted.{IsStrictlyIncreasing}
 use Rattle.scrub_scan.proofs.Slots.{of_first, all_found, held_there}
 use Rattle.scrub_scan.proofs.all_findings.AllFindings.from_slots.Goals as goal
 

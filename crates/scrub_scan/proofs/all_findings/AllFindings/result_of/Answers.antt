@@ -1,5 +1,4 @@
-use Rattle.std.proofs.Common.{sym, ◌∙◌, ap, arith, length, ◌≡◌, get_or, subst, List, Option, option_map}
-use Rattle.std.specs.List.{Contains}
+use Rattle.std.proofs.Common.{sym, ◌∙◌, ap, arith, length, ◌≡◌, get_or, List, Option, option_map}
 use Rattle.std.proofs.lemmas.Option.{slice_get-map, get_or_from_slice_get}
 use Rattle.scrub_scan.specs.declared.extent_result.ExtentResult.{ExtentResult}
 use Rattle.scrub_scan.specs.Scanned.{Scanned, scanned}

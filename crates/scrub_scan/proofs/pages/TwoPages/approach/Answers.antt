@@ -1,7 +1,6 @@
 -- The page was asked for, or is the near one already.
-use Rattle.std.proofs.Common.{arith, sym, ap, ◌∙◌, subst}
+use Rattle.std.proofs.Common.{arith, ap, ◌∙◌}
 use Rattle.scrub_scan.specs.declared.pages.TwoPages.{TwoPages}
-use Rattle.scrub_scan.specs.Pages.{HasRead}
 use Rattle.scrub_scan.proofs.ReadPages.{near_read}
 use Rattle.scrub_scan.proofs.pages.TwoPages.approach.Goals as goal
 use Rattle.scrub_scan.proofs.pages.TwoPages.approach.Goals.{then-ne, else-ne}

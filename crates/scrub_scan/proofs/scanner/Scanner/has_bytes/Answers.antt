@@ -1,9 +1,9 @@
 -- Other bytes are there, or some can't be read.
-use Rattle.std.proofs.Common.{arith, sym, ◌∙◌, subst, List, [], ◌∷◌, ℕ, ◌≡◌, length}
+use Rattle.std.proofs.Common.{arith, sym, ◌∙◌, subst, [], ◌∷◌, ℕ, ◌≡◌, length}
 use Rattle.std.proofs.lemmas.Bool.{false≢true}
 use Rattle.std.proofs.lemmas.List.{length-take-le}
 use Rattle.std.proofs.lemmas.Slice.Eq.{bytes_eq-Decides}
-use Rattle.scrub_disk.specs.Image.{byte, AreBytesAt}
+use Rattle.scrub_disk.specs.Image.{byte}
 use Rattle.scrub_scan.specs.Extent.{HasGap}
 use Rattle.scrub_scan.proofs.FrameBytes.{no_gap_in, same_bytes}
 use Rattle.scrub_scan.proofs.scanner.Scanner.has_bytes.Goals as goal

@@ -1,7 +1,6 @@
 -- Why there is no frame: its head can't be read or isn't one, it claims too much or a page that can't be read, or what
 -- closes it isn't there.
-use Rattle.std.proofs.Common.{arith, sym, ◌∙◌, subst, ℕ, List, ◌≡◌, ◌<◌, ◌+◌, ◌-◌, ◌*◌, ◌/◌, ◌++◌, length, take, ap, Some}
-use Rattle.scrub_disk.specs.Image.{AreBytesAt}
+use Rattle.std.proofs.Common.{arith, sym, ◌∙◌, ℕ, List, ◌≡◌, ◌<◌, ◌+◌, ◌-◌, ◌*◌, ◌/◌, ◌++◌, length, take, ap, Some}
 use Rattle.scrub_frame.specs.Frame.{head_size, mark, close_size, frame_overhead}
 use Rattle.scrub_scan.specs.Pages.{target_of}
 use Rattle.std.proofs.Math.Nat.{div-mul-le_self}
