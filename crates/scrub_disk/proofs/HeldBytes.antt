@@ -21,7 +21,7 @@ use Rattle.scrub_disk.proofs.Writes.{put_within, put_outside, length-put}
 pub place : (P N e i : ℕ) → (e * N + i / P) * P + i % P ≡ e * (P * N) + i
 place P N e i = omega (arith, div-add-mod' i P)
 
--- the page of byte i lies within all pages
+-- the page of byte i is among all pages
 pub page_within : (P N E e i : ℕ) → 0 < P → e < E → i < P * N → (e * N + i / P) * P + P ≤ P * N * E
 page_within P N E e i pos he hi = (page_room P N E e (i / P) he (div_below i P N pos (omega arith))).1
 
@@ -66,7 +66,7 @@ pub marked_page : (g : Geometry) (bytes : List ℕ) (bad : List Bool) (e p : ℕ
     get_or bad (e * g.pages + p) false ≡ true → (held g bytes bad).page e p ≡ None
 marked_page g bytes bad e p h = rw h refl
 
--- two places of pages that are one have one extent and one page
+-- if two pages have the same number, they have the same extent and are the same page of it
 pub apart : (N e p f q : ℕ) → p < N → q < N → e * N + p ≡ f * N + q → (e ≡ f) × (p ≡ q)
 apart N e p f q hp hq eq = (
   (sym (div-mul-add e N p hp) ∙ ap (λ n. n / N) eq) ∙ div-mul-add f N q hq,
@@ -201,7 +201,7 @@ put_all g v ys xs zs bad e offset size l he fits hs hx hz =
     (λ k hk. put_within v.items ys (e * (g.page * g.pages) + offset) (length ys) k refl (omega (arith, l, r)) hk)
     (λ i hi away. put_outside v.items ys (e * (g.page * g.pages) + offset) (length ys) i refl (omega (arith, l, r)) away hi))
 
--- the bytes of a page that was read, whoever's image it is of: what a scanner by pages goes by
+-- the bytes of a page that was read, of any image: scanners that read by pages use it
 pub byte-page : (d : Image) (e p k : ℕ) (page : List ℕ) → d.page e p ≡ Some page → length page ≡ d.geometry.page →
     p < d.geometry.pages → k < d.geometry.page →
     byte d e (p * d.geometry.page + k) ≡ Some (get_or page k 0)
@@ -219,7 +219,7 @@ byte-page d e p k page h l hp hk =
     ∙ ap (option_and_then (λ s. slice_get s k)) h
     ∙ slice_get-get_or page k 0 (omega (arith, l, hk))
 
--- no byte of an unreadable page is there
+-- no byte of an unreadable page can be read
 pub byte-unreadable : (d : Image) (e i : ℕ) → d.page e (i / d.geometry.page) ≡ None → byte d e i ≡ None
 byte-unreadable d e i h =
     either (nat_lt i (d.geometry.page * d.geometry.pages))

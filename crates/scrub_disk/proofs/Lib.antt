@@ -1,4 +1,4 @@
--- Lemmas on the bytes and marks of a disk, and on raw bytes that are read into them.
+-- Lemmas on the bytes and marks of a disk, and on raw bytes that are read into it.
 pub mod Writes
 pub mod HeldBytes
 pub mod RawBytes

@@ -21,7 +21,7 @@ uncut known place size (Some bytes) some cut at =
     slice_get_within known (place + (size - 1)) (get_or bytes (size - 1) 0) (at.stands (size - 1) last) in
     absurd (omega (arith, within, cut, some))
 
--- a page is unreadable only where its number is marked
+-- a page is unreadable only if its number is marked
 marked_at : (b : Bool) (page : List ℕ) → cond b None (Some page) ≡ None → b ≡ true
 marked_at true page e = refl
 marked_at false page e = absurd (none-some page (sym e))
@@ -45,7 +45,7 @@ loses_only g known bytes marks failures m holds = record {
       ];
 }
 
--- the same of a disk that was loaded, where the raw image may not tell its bytes
+-- the same of a disk that was loaded, if the raw image's bytes are known
 pub loses_loaded : (g : Geometry) (raw : Option (List ℕ)) (bytes : List ℕ) (marks : List Bool) (page count failures : ℕ) (image : Image) →
     image ≡ held g bytes marks → page ≡ g.page → count ≡ g.pages * g.extents →
     IfSome raw (λ known. HoldsRaw known image) → IfSome raw (λ known. MarksOnly known page count failures marks) →
@@ -89,8 +89,8 @@ holds_marked known named old new h m e q he hq =
       | inr gone ↦ rw gone.0 tt
     ]
 
--- A disk that was read from raw bytes, and behind whose last page no byte was found, is loaded once its named pages are
--- marked. The failures are counted before the reads, before the last one and behind it.
+-- a disk that was read from raw bytes, with no byte found behind its last page, is loaded once its named pages are
+-- marked; the failures are counted before the reads, before the last one and behind it
 pub loaded_with : (raw was : Option (List ℕ)) (g : Geometry) (named : List (ℕ × ℕ)) (first before after end : ℕ) (there : Bool) (old new : Image) →
     was ≡ raw → end ≡ disk_bytes g → there ≡ false → old.geometry ≡ g → first ≤ before → before ≤ after →
     HasWholePages new →
@@ -122,7 +122,7 @@ loaded_with raw was g named first before after end there old new same at absent 
       ];
     }
 
--- What was loaded while few reads failed was loaded while at most many did: for a caller that knows only a bound.
+-- what was loaded while few reads failed was loaded while at most many did: for a caller that knows only a bound
 pub loaded_with_more : (raw : Option (List ℕ)) (few many : ℕ) (g : Geometry) (named : List (ℕ × ℕ)) (image : Image) →
     few ≤ many →
     IsLoadedWith raw few g named image → IsLoadedWith raw many g named image

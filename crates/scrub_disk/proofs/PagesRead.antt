@@ -16,7 +16,7 @@ use Rattle.scrub_disk.specs.Buffered.{IsBuffered}
 abbrev pub page_bytes : ℕ → ℕ → List ℕ → List ℕ
 page_bytes page q bytes = between (q * page) (q * page + page) bytes
 
--- of the first n pages it is known which are readable, and those stand in the bytes
+-- it is known which of the first n pages are readable, and the bytes have those at their places
 pub record PagesRead (page_at : ℕ → Option (List ℕ)) (page n : ℕ) (bytes : List ℕ) (readable : List Bool) : Type 0 where
   pub count : length readable ≡ n
   pub each : (q : ℕ) → q < n → page_at q ≡ cond (get_or readable q false) (Some (page_bytes page q bytes)) None
@@ -27,14 +27,14 @@ pub page_answered : {E : Type 0} (r : Result (Unit {0}) E) (page : Option (List 
 page_answered (Ok x) page part ok err = ok
 page_answered (Err e) page part ok err = err
 
--- a page among n lies in the bytes
+-- each of n pages is within the bytes
 pub page_fits : (page q n size : ℕ) → q < n → size ≡ page * n → q * page + page ≤ size
 page_fits page q n size below e =
     let next : q + 1 ≤ n = omega (arith, below) in
     let room : page * (q + 1) ≤ page * n = mul-le-mul_left page next in
     omega (arith, room, e)
 
--- how long the part is that a page is read into
+-- the length of the part that a page is read into
 pub length-page_bytes : (page a size : ℕ) (xs ys part : List ℕ) → length part ≡ length (between a (a + page) xs) →
     xs ≡ ys → length ys ≡ size → a + page ≤ size → length part ≡ page
 length-page_bytes page a size xs ys part e same l fits =

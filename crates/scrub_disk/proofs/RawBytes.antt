@@ -11,15 +11,15 @@ use Rattle.scrub_disk.specs.Image.{AreBytesAt}
 use Rattle.scrub_disk.specs.Raw.{ReadFrom, IsRead}
 use Rattle.scrub_disk.specs.Marked.{MarksOnly}
 
--- the first `done` bytes of the list stand at the offset
+-- the first `done` bytes of the list are those at the offset
 abbrev pub StandsSoFar : List ℕ → ℕ → ℕ → List ℕ → Type 0
 StandsSoFar bytes offset done out = (k : ℕ) → k < done → slice_get bytes (offset + k) ≡ Some (get_or out k 0)
 
--- the same of the raw image's bytes, where it tells them
+-- the same of the raw image's bytes, if they are known
 abbrev pub ReadSoFar : Option (List ℕ) → ℕ → ℕ → List ℕ → Type 0
 ReadSoFar raw offset done out = IfSome raw (λ bytes. StandsSoFar bytes offset done out)
 
--- what stands after one more read
+-- the bytes after one more read
 stands_more : (bytes : List ℕ) (offset done n : ℕ) (out piece : List ℕ) → done ≤ length out →
     length piece ≡ length out - done → n ≤ length piece →
     StandsSoFar bytes offset done out → ReadFrom bytes (offset + done) piece n →
@@ -39,7 +39,7 @@ stands_more bytes offset done n out piece within l few before read k hk = elim (
       ∙ ap (λ i. get_or (put_mid done (length out - done) out piece) i 0) j)
 ]
 
--- the same where the raw image may not tell its bytes
+-- the same if the raw image's bytes are known
 pub read_more : (raw was : Option (List ℕ)) (offset done n : ℕ) (out piece : List ℕ) → was ≡ raw → done ≤ length out →
     length piece ≡ length out - done →
     ReadSoFar raw offset done out → IsRead was (offset + done) piece n →
@@ -49,12 +49,12 @@ read_more (Some bytes) was offset done n out piece e within l before read =
     let known : IsRead (Some bytes) (offset + done) piece n = rw e at read in
     stands_more bytes offset done n out piece within l known.within before known.known
 
--- the bytes below page n stand at their places, where their pages aren't marked
+-- each byte below page n is at its place, unless its page is marked
 abbrev pub HeldBelow : List ℕ → ℕ → ℕ → List Bool → List ℕ → Type 0
 HeldBelow known page n marks bytes =
     (i : ℕ) → i < n * page → get_or marks (i / page) true ≡ false → slice_get known i ≡ Some (get_or bytes i 0)
 
--- one more page was read at its place, and marked where it isn't whole
+-- one more page was read at its place, or marked if it isn't whole
 held_more : (known : List ℕ) (page n : ℕ) (marks : List Bool) (bytes piece : List ℕ) (whole : Bool) → 0 < page →
     n < length marks → n * page + page ≤ length bytes → length piece ≡ page →
     HeldBelow known page n marks bytes → OnTrue whole (AreBytesAt (slice_get known) (n * page) piece) →
@@ -86,7 +86,7 @@ held_more known page n marks bytes piece whole pos below fits l before read i hi
     given true e p = p
     given false e p = absurd (false≢true e)
 
--- the same where the raw image may not tell its bytes
+-- the same if the raw image's bytes are known
 pub pages_more : (raw was : Option (List ℕ)) (page n size : ℕ) (marks : List Bool) (bytes piece : List ℕ) (whole : Bool) →
     was ≡ raw → size ≡ page → 0 < page → n < length marks → n * page + page ≤ length bytes → length piece ≡ page →
     IfSome raw (λ known. HeldBelow known page n marks bytes) →
@@ -97,7 +97,7 @@ pages_more (Some known) was page n size marks bytes piece whole e same pos below
     let here : IfSome (Some known) (λ t. OnTrue whole (AreBytesAt (slice_get t) (n * page) piece)) = rw e at read in
     rw same (held_more known page n marks bytes piece whole pos below fits l before here)
 
--- a page more, which is marked where it wasn't read whole: then it was cut, or one more failure was counted
+-- one more page, marked if it wasn't read whole: then it was cut, or one more failure was counted
 marks_only_more : (known : List ℕ) (page n before after : ℕ) (marks : List Bool) (whole : Bool) → n < length marks →
     before ≤ after →
     MarksOnly known page n before marks → OnFalse whole ((length known < n * page + page) ⊎ (before < after)) →
@@ -132,7 +132,7 @@ marks_only_more known page n before after marks false below le m (inr more) = re
   ];
 }
 
--- the same by counts of failures, where the raw image may not tell its bytes
+-- the same by counts of failures, if the raw image's bytes are known
 pub lost_more : (raw was : Option (List ℕ)) (page n first before after : ℕ) (marks : List Bool) (whole : Bool) (start size : ℕ) →
     was ≡ raw → start ≡ n * page → size ≡ page →
     first ≤ before → before ≤ after → n < length marks →

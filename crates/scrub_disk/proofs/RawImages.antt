@@ -61,7 +61,7 @@ loaded_image g v m bytes marks image is lb lm =
     let mb : (with_items m marks).items ≡ marks = with_items_is m marks (lm ∙ sym m.ok.0) in
     is ∙ ap (λ xs. held g xs (with_items m marks).items) vb ∙ ap (λ ys. held g bytes ys) mb
 
--- an image that was loaded has the raw pages, where the raw image may not tell its bytes
+-- an image that was loaded has the raw pages, if the raw image's bytes are known
 pub holds_loaded : (g : Geometry) (raw : Option (List ℕ)) (bytes : List ℕ) (marks : List Bool) (page : ℕ) (image : Image) →
     image ≡ held g bytes marks → page ≡ g.page → length bytes ≡ g.page * (g.pages * g.extents) →
     length marks ≡ g.pages * g.extents →
@@ -78,7 +78,7 @@ front_at {X} xs i k d le hk =
     let small : k < i = omega (arith, hk, length-take-le {A = X} i xs le) in
     (small, get_or-take i xs k d small)
 
--- page q of extent e, as it is named
+-- page q of extent e, by its name
 abbrev at : ℕ → ℕ → ℕ × ℕ
 at e q = (e, q)
 

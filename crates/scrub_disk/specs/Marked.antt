@@ -9,8 +9,8 @@ pub record MarksAll (old new : Image) (named : List (ℕ × ℕ)) : Type 0 where
   pub others : (e q : ℕ) → e < old.geometry.extents → q < old.geometry.pages →
       (new.page e q ≡ old.page e q) ⊎ ((new.page e q ≡ None) × Contains named (e, q))
 
--- of the first pages, each marked one isn't whole before the bytes end, or is one of those that failures cost, listed
--- here by their numbers, at most as many as were counted
+-- each marked page among the first ones isn't whole before the bytes end, or is one of those that failures cost, listed
+-- here by their numbers, at most as many as the failures that were counted
 pub record MarksOnly (bytes : List ℕ) (page : ℕ) (count : ℕ) (failures : ℕ) (marks : List Bool) : Type 0 where
   pub failed : List ℕ
   pub few : length failed ≤ failures

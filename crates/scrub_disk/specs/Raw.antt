@@ -14,8 +14,8 @@ pub record IsRead (raw : Option (List ℕ)) (offset : ℕ) (out : List ℕ) (n :
   pub within : n ≤ length out
   pub known : IfSome raw (λ bytes. ReadFrom bytes offset out n)
 
--- A raw image before and after some reads: its bytes and the bound on its failures are the same, and the failures are still
--- counted.
+-- a raw image before and after some reads: its bytes and the bound on its failures are the same, and the failures are
+-- still counted
 pub record IsReadOn {R : Type 0} (bytes : R → Option (List ℕ)) (most_failures failures : R → ℕ) (old new : R) : Type 0 where
   pub same_bytes : bytes new ≡ bytes old
   pub same_bound : most_failures new ≡ most_failures old
@@ -40,8 +40,8 @@ HoldsRaw bytes image =
 abbrev pub IsCut : List ℕ → Geometry → ℕ → ℕ → Type 0
 IsCut bytes g e q = length bytes < raw_place g e q + g.page
 
--- a load leaves unreadable each page that is cut, and of the others only named ones and those that failures cost,
--- listed here by their numbers, at most as many as were counted
+-- after a load each page that is cut is unreadable, and of the others only named ones and those that failures cost,
+-- listed here by their numbers, at most as many as the failures that were counted
 pub record LosesOnly (bytes : List ℕ) (g : Geometry) (named : List (ℕ × ℕ)) (failures : ℕ) (image : Image) : Type 0 where
   pub cut : (e q : ℕ) → e < g.extents → q < g.pages → IsCut bytes g e q → image.page e q ≡ None
   pub failed : List ℕ
@@ -57,7 +57,7 @@ pub record HoldsKnown (bytes : List ℕ) (failures : ℕ) (g : Geometry) (named 
   pub not_too_long : failures ≡ 0 → length bytes ≤ disk_bytes g
 
 -- an image of these sizes that was loaded with at most `failures` failed reads: each page is whole or unreadable, each
--- named page is unreadable, and it has of the raw bytes what `HoldsTold` says
+-- named page is unreadable, and what is known of the raw bytes holds of it as `HoldsKnown` says
 pub record IsLoadedWith (raw : Option (List ℕ)) (failures : ℕ) (g : Geometry) (named : List (ℕ × ℕ)) (image : Image) : Type 0 where
   pub geometry : image.geometry ≡ g
   pub whole : HasWholePages image

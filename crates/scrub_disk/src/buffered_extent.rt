@@ -1,4 +1,4 @@
-//! An extent that is read whole into memory. It shows each page with whether it can be read.
+//! Reads a whole extent into memory, and keeps which of its pages are readable.
 
 ghost use Rattle.std.specs.Prelude.{◌≡◌, ◌≤◌, ◌<◌, IfOk, length};
 ghost use Rattle.scrub_disk.specs.Buffered.{IsBuffered, pages_without};
@@ -12,11 +12,11 @@ use std::alloc::Global;
 pub struct BufferedExtent {
     /// The bytes of the extent. Those of a page that could not be read are zeros and mean nothing.
     pub bytes: Vec<u8>,
-    /// For each page whether it could be read.
+    /// For each page, whether it could be read.
     pub readable: Vec<bool>,
 }
 
-/// Reads an extent whole, each page once.
+/// Reads a whole extent, each page once.
 pub fn read_extent<D: PageSource>(
     alloc: Global,
     disk: &D,
@@ -37,7 +37,7 @@ pub fn read_extent<D: PageSource>(
     Ok(BufferedExtent { bytes, readable })
 }
 
-/// The numbers of the pages of an extent that could not be read, rising. An extent has 65,536 pages at most.
+/// The numbers of the unreadable pages of an extent, rising. An extent has at most 65,536 pages.
 pub fn unreadable_pages(alloc: Global, readable: &[bool]) -> Result<Vec<u32>, OutOfMemory>
     requires { length readable.now ≤ 65536 }
     ensures { IfOk result (λ v. v.items ≡ pages_without readable.now) }

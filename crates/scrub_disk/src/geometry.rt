@@ -1,32 +1,32 @@
-//! The sizes of a disk, and the limits that they keep. The bytes are told by a `PageSource`.
+//! The sizes of a disk, and their limits.
 
 ghost use Rattle.std.specs.Prelude.{◌≡◌, ◌*◌, ◌^◌, ◌<◌, ◌≤◌, MatchResult};
 ghost use Rattle.scrub_disk.specs.Limits.{IsPageSize, AreExtents, ArePages, max_extent_bytes, max_disk_bytes};
 
 use thiserror::Error;
 
-/// The most bytes that an extent has.
+/// The most bytes that an extent can have.
 const MAX_EXTENT_BYTES: u64 = 1 << 26;
 
-/// The most bytes that a disk has.
+/// The most bytes that a disk can have.
 const MAX_DISK_BYTES: u64 = 1 << 32;
 
-/// The first limit that a geometry breaks, in the order in which the limits are tried.
+/// The first limit that a geometry breaks. The limits are checked in this order.
 #[derive(Debug, Clone, Copy, PartialEq, Eq, Error)]
 pub enum GeometryFault {
     /// The page isn't a power of two from 64 to 65,536 bytes.
     #[error("PageSize")]
     PageSize,
-    /// An extent has no page, or over 65,536.
+    /// An extent has no page, or more than 65,536.
     #[error("Pages")]
     Pages,
-    /// The disk has fewer than 2 extents, or over 65,536.
+    /// The disk has fewer than 2 extents, or more than 65,536.
     #[error("Extents")]
     Extents,
-    /// An extent has over 67,108,864 bytes.
+    /// An extent has more than 67,108,864 bytes.
     #[error("ExtentBytes")]
     ExtentBytes,
-    /// The disk has over 4,294,967,296 bytes.
+    /// The disk has more than 4,294,967,296 bytes.
     #[error("TotalBytes")]
     TotalBytes,
 }
@@ -34,11 +34,11 @@ pub enum GeometryFault {
 /// A disk's sizes, all within their limits.
 #[derive(Debug, Clone, Copy, PartialEq, Eq)]
 pub struct Geometry {
-    /// The bytes of a page.
+    /// How many bytes a page has.
     pub page: u32,
-    /// The pages of an extent.
+    /// How many pages an extent has.
     pub pages: u32,
-    /// The extents of the disk, extent 0 included.
+    /// How many extents the disk has, extent 0 included.
     pub extents: u32,
     pub ghost page_size: { IsPageSize page },
     pub ghost page_count: { ArePages pages },
@@ -50,7 +50,7 @@ pub struct Geometry {
 impl Geometry {
     ghost use Rattle.scrub_disk.specs.Faults.{IsFirstBroken, HasSizes};
 
-    /// The sizes of a disk of so many extents, each of so many pages of `page` bytes, or the first limit that is broken.
+    /// A disk of `extents` extents, each of `pages` pages of `page` bytes, or the first limit that these sizes break.
     pub fn new(page: u32, pages: u32, extents: u32) -> Result<Geometry, GeometryFault>
         ensures { MatchResult result (λ g. HasSizes g page pages extents) (IsFirstBroken page pages extents) }
     {
@@ -77,28 +77,28 @@ impl Geometry {
         })
     }
 
-    /// The bytes of a page.
+    /// How many bytes a page has.
     pub fn page(&self) -> u32
         ensures { result ≡ self.now.page }
     {
         self.page
     }
 
-    /// The pages of an extent.
+    /// How many pages an extent has.
     pub fn pages(&self) -> u32
         ensures { result ≡ self.now.pages }
     {
         self.pages
     }
 
-    /// The extents of the disk, extent 0 included.
+    /// How many extents the disk has, extent 0 included.
     pub fn extents(&self) -> u32
         ensures { result ≡ self.now.extents }
     {
         self.extents
     }
 
-    /// The bytes of an extent.
+    /// How many bytes an extent has.
     pub fn extent_bytes(&self) -> u32
         ensures { result ≡ self.now.page * self.now.pages }
     {

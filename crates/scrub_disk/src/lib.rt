@@ -1,6 +1,5 @@
 //! The disk of a storage node: its sizes, its image as a source of pages, an image in memory, and how one is loaded
-//! from raw bytes. What the bytes of a page mean is told by `scrub_super` for extent 0, and by `scrub_scan` for
-//! the others.
+//! from raw bytes. For what the bytes mean see `scrub_super` (extent 0) and `scrub_scan` (the other extents).
 #![tactic(auto)]
 
 pub mod buffered_extent;

@@ -1,4 +1,4 @@
-//! Loading a raw image into memory, page by page. No byte of a page is judged.
+//! Loads a raw image into memory, page by page. It doesn't look at what the bytes mean.
 
 ghost use Rattle.std.specs.Prelude.{◌≡◌, ◌≢◌, ◌≤◌, ◌+◌, ◌-◌, ◌*◌, ◌<◌, ◌^◌, ◌/◌, ◌⊎◌, [], All, false, true, IfOk, IfSome, length, slice_get, Err, Some};
 ghost use Rattle.std.specs.Bool.{OnTrue, OnFalse};
@@ -16,16 +16,16 @@ use thiserror::Error;
 /// Why a raw image wasn't loaded.
 #[derive(Debug, Clone, Copy, PartialEq, Eq, Error)]
 pub enum LoadFault {
-    /// There was no memory for the disk.
+    /// There wasn't enough memory for the disk.
     #[error("out of memory")]
     OutOfMemory,
-    /// There is a byte behind the last page.
+    /// A byte follows the last page.
     #[error("the raw image is too long")]
     TooLong,
 }
 
-/// Fills `out` with the bytes from an offset on, in as many reads as it takes, and says whether it did: a failure or the
-/// end may come first.
+/// Fills `out` with the bytes from an offset on, in as many reads as it takes. False if a read failed or the bytes ended
+/// first.
 fn read_whole<R: RawImage>(raw: &mut R, offset: u64, out: &mut [u8]) -> bool
     requires few_reads { R.reads raw.old + length out.old < 2 ^ 63 }
     requires in_range { offset + length out.old < 2 ^ 64 }
@@ -45,7 +45,7 @@ fn read_whole<R: RawImage>(raw: &mut R, offset: u64, out: &mut [u8]) -> bool
     true
 }
 
-/// Reads each page from its place, and marks those that couldn't be read whole.
+/// Reads each page from its place, and marks each one that couldn't be read whole.
 fn read_pages<R: RawImage>(raw: &mut R, page: usize, bytes: &mut [u8], unreadable: &mut [bool])
     requires few_reads { R.reads raw.old + length bytes.old < 2 ^ 63 }
     requires page { 0 < page }
@@ -62,7 +62,7 @@ fn read_pages<R: RawImage>(raw: &mut R, page: usize, bytes: &mut [u8], unreadabl
     }
 }
 
-/// Whether a byte stands at an offset and can be read.
+/// Whether a byte at an offset can be read.
 fn has_byte_at<R: RawImage>(raw: &mut R, offset: u64) -> bool
     requires { R.reads raw.old < 2 ^ 63 }
     ensures there { IfSome (R.bytes raw.old) (λ known. OnTrue result (offset < length known)) }
@@ -77,7 +77,7 @@ fn has_byte_at<R: RawImage>(raw: &mut R, offset: u64) -> bool
     }
 }
 
-/// The disk whose pages stand in the raw bytes one behind the other. A page that can't be read whole is unreadable.
+/// The disk whose pages follow one another in the raw bytes. A page that can't be read whole is unreadable.
 fn read_disk<R: RawImage>(
     alloc: Global,
     raw: &mut R,
@@ -100,7 +100,7 @@ fn read_disk<R: RawImage>(
     Ok(MemDisk::from_parts(geometry, bytes, unreadable))
 }
 
-/// Makes each named page unreadable, where a name is a pair of an extent and a page of it.
+/// Makes each named page unreadable. A name is an extent and a page of it.
 fn mark_all(disk: &mut MemDisk, named: &[(u32, u32)])
     requires { All (λ at. (at.0 < (image_of disk.old).geometry.extents) × (at.1 < (image_of disk.old).geometry.pages)) named.now }
     ensures { MarksAll (image_of disk.old) (image_of disk.new) named.now }
@@ -110,14 +110,13 @@ fn mark_all(disk: &mut MemDisk, named: &[(u32, u32)])
     }
 }
 
-/// Loads an image of this geometry from raw bytes, in which page q of extent e stands at byte (e × N + q) × P, for N
-/// pages an extent of P bytes each. A page is unreadable where a read of it failed, where the bytes end before it does,
-/// or where it is named in `bad`, which lists pairs of an extent and a page of it. It makes at most P + 1 reads for each
-/// page and one more, and a failed read costs one page at most. The bytes are found to be no longer than the disk, unless
-/// a read failed.
+/// Loads an image of this geometry from raw bytes. With N pages an extent and P bytes a page, page q of extent e begins at
+/// byte (e × N + q) × P. A page is unreadable if a read of it failed, if the bytes end before it does, or if `bad` names
+/// it, by its extent and its number there. At most P + 1 reads are made for each page, and one more behind the last page;
+/// a failed read costs at most one page. On success the bytes are no longer than the disk, unless a read failed.
 ///
-/// Faults, in this order: `OutOfMemory`; `TooLong`, where a byte stands behind the last page (a failure of that last
-/// read is no fault). After a fault the raw image has been read.
+/// Faults, in this order: `OutOfMemory`; `TooLong` if a byte follows the last page (if the read for it fails, that isn't a
+/// fault). Either may come after the raw image was read.
 pub fn load<R: RawImage>(
     alloc: Global,
     raw: &mut R,

@@ -1,5 +1,4 @@
-//! A disk in memory, which is written and marked by its owner and read as a page source. How one is loaded from raw
-//! bytes is left to `loading`.
+//! A disk in memory: its owner writes and marks it, and it is read as a page source. `loading` loads one from raw bytes.
 
 ghost use Rattle.std.specs.Prelude.{◌≡◌, ◌+◌, ◌*◌, ◌<◌, ◌≤◌, length, IfOk};
 
@@ -7,7 +6,7 @@ use crate::geometry::Geometry;
 use crate::source::{PageSource, Unreadable};
 use std::alloc::{AllocError as OutOfMemory, Global};
 
-/// A disk's image in memory: the bytes of all pages, extent by extent, and for each page whether it is unreadable.
+/// A disk's image in memory: the bytes of all pages, extent by extent, and a mark on each unreadable page.
 #[derive(Drop)]
 pub struct MemDisk {
     geometry: Geometry,
@@ -21,7 +20,7 @@ impl MemDisk {
     ghost use Rattle.scrub_disk.specs.Memory.{image_of, IsBlank, Puts, Marks};
     ghost use Rattle.scrub_disk.specs.Held.{held};
 
-    /// The disk of these bytes of all its pages, in order, and of these marks on the pages that are unreadable.
+    /// A disk with the bytes of all its pages, in order, and a mark for each page: true if it is unreadable.
     pub(crate) fn from_parts(geometry: Geometry, bytes: Vec<u8>, bad: Vec<bool>) -> MemDisk
         requires whole { length bytes.items ≡ geometry.page * geometry.pages * geometry.extents }
         requires each_page { length bad.items ≡ geometry.pages * geometry.extents }
@@ -48,7 +47,7 @@ impl MemDisk {
         })
     }
 
-    /// Writes bytes into an extent from an offset on, in bytes. Where a page is unreadable it stays so.
+    /// Writes bytes into an extent, from a byte offset on. An unreadable page stays unreadable.
     pub fn put(&mut self, extent: u32, offset: u32, bytes: &[u8])
         requires in_extents { extent < (image_of self.old).geometry.extents }
         requires fits { offset + length bytes.now ≤ (image_of self.old).geometry.page * (image_of self.old).geometry.pages }

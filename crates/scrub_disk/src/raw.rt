@@ -1,5 +1,5 @@
-//! Raw images: the bytes of a whole disk, as a file gives them, in pieces and with failures. How pages lie in them is
-//! left to `loading`.
+//! Raw images: the bytes of a whole disk, as a file gives them, in pieces and with failures. `loading` cuts them into
+//! pages.
 
 ghost use Rattle.std.specs.Prelude.{◌≡◌, ◌≤◌, ◌+◌, ◌<◌, ◌^◌, ℕ, List, Option, IfOk, if◌then◌else◌, is_ok};
 ghost use Rattle.scrub_disk.specs.Raw.{IsRead};
@@ -11,21 +11,20 @@ use thiserror::Error;
 #[error("the raw image could not be read")]
 pub struct RawFault;
 
-/// The bytes of a whole disk, which never change. A read may give fewer than were asked for, and it may fail. The counts
-/// are for contracts alone.
+/// The bytes of a whole disk, which never change. A read may give fewer bytes than were asked for, and it may fail. The
+/// counts exist in contracts only.
 pub trait RawImage {
-    /// Its bytes, or None where it doesn't tell them, as a file doesn't.
+    /// Its bytes, or None if they aren't known, as with a file.
     ghost bytes: { Self → Option (List ℕ) };
     /// How many reads were made.
     ghost reads: { Self → ℕ };
     /// How many of them failed.
     ghost failures: { Self → ℕ };
-    /// At most so many of its reads ever fail. No read changes this number, so that a caller knows it beforehand.
+    /// A bound on how many of its reads ever fail. No read changes it, so a caller knows it beforehand.
     ghost most_failures: { Self → ℕ };
 
-    /// Reads bytes from an offset on, in bytes, into the front of `out`, and says how many: none only where `out` is
-    /// empty, or where the offset is at the end or past it. What the rest of `out` then holds is open, and so is all of
-    /// it after a failure.
+    /// Reads bytes from a byte offset on into the front of `out`, and returns how many: 0 only if `out` is empty, or if the
+    /// offset is at the end or past it. The rest of `out` may then hold anything, and so may all of it after a failure.
     fn read_at(&mut self, offset: u64, out: &mut [u8]) -> Result<usize, RawFault>
         requires { reads self.old < 2 ^ 63 }
         ensures same_bytes { bytes self.new ≡ bytes self.old }
@@ -37,6 +36,6 @@ pub trait RawImage {
     /// A failure is a failed read.
     ghost failures_are_reads: { (image : Self) → failures image ≤ reads image };
 
-    /// No more reads fail than its bound says.
+    /// No more reads fail than the bound allows.
     ghost failures_are_bounded: { (image : Self) → failures image ≤ most_failures image };
 }

@@ -6,26 +6,32 @@ use Rattle.std.proofs.lemmas.Nat.{be_bytes_4, from_be_bytes-to_be_bytes_4}
 use Rattle.std.specs.Int.{w32, from_be_bytes}
 use Rattle.byteorder.specs.Endian.{big_bytes, big_number}
 
--- the k bytes at place m, and all that stands behind them
+-- the k bytes at place m, and all that follow them
 pub part-rest : (x : List ℕ) (k m : ℕ) → take k (drop m x) ++ drop (m + k) x ≡ drop m x
 part-rest x k m = ap (λ t. take k (drop m x) ++ t) (sym (drop-drop k m x)) ∙ take-append-drop k (drop m x)
 
--- the k bytes at place n, where n bytes stand before them
-pub part_at : (before part behind : List ℕ) (n k : ℕ) → length before ≡ n → length part ≡ k → take k (drop n (before ++ (part ++ behind))) ≡ part
+-- the k bytes at place n, after n bytes
+pub part_at : (before part behind : List ℕ) (n k : ℕ) → length before ≡ n → length part ≡ k →
+    take k (drop n (before ++ (part ++ behind))) ≡ part
 part_at before part behind n k hn hk = ap (take k) (drop_at before (part ++ behind) n hn) ∙ take_at part behind k hk
 
--- four bytes are all that a number of four bytes is read from
+-- a number of four bytes is read from only four bytes
 pub number-take : (x : List ℕ) → big_number 4 (take 4 x) ≡ big_number 4 x
-number-take x = rw (get_or-take 4 x 0 0 (omega arith), get_or-take 4 x 1 0 (omega arith), get_or-take 4 x 2 0 (omega arith), get_or-take 4 x 3 0 (omega arith)) refl
+number-take x =
+    rw
+    (get_or-take 4 x 0 0 (omega arith), get_or-take 4 x 1 0 (omega arith), get_or-take 4 x 2 0 (omega arith), get_or-take 4 x 3 0 (omega arith))
+    refl
 
 -- byteorder's number of four bytes is std's
 number-std : (x : List ℕ) → big_number 4 x ≡ from_be_bytes w32 x
 number-std x = omega arith
 
 -- the number that four bytes spell is spelled by them
-pub bytes-number : (x : List ℕ) → 4 ≤ length x → ((i : ℕ) → get_or x i 0 < 256) → big_bytes 4 (big_number 4 x) ≡ take 4 x
+pub bytes-number : (x : List ℕ) → 4 ≤ length x → ((i : ℕ) → get_or x i 0 < 256) →
+    big_bytes 4 (big_number 4 x) ≡ take 4 x
 bytes-number x enough are_bytes =
-    be_bytes_4 (take 4 x) (big_number 4 x) (length-take-le 4 x enough) below (sym (number-take x) ∙ number-std (take 4 x))
+    be_bytes_4 (take 4 x) (big_number 4 x) (length-take-le 4 x enough) below
+    (sym (number-take x) ∙ number-std (take 4 x))
   where
     below : (i : ℕ) → get_or (take 4 x) i 0 < 256
     below i = elim (cases_lt i 4) [
@@ -34,12 +40,13 @@ bytes-number x enough are_bytes =
     ]
 
 -- the same of a number that was read at place m
-pub bytes-number_at : (x : List ℕ) (m n : ℕ) → ((i : ℕ) → get_or x i 0 < 256) → m + 4 ≤ length x → n ≡ big_number 4 (take 4 (drop m x)) → big_bytes 4 n ≡ take 4 (drop m x)
+pub bytes-number_at : (x : List ℕ) (m n : ℕ) → ((i : ℕ) → get_or x i 0 < 256) → m + 4 ≤ length x →
+    n ≡ big_number 4 (take 4 (drop m x)) → big_bytes 4 n ≡ take 4 (drop m x)
 bytes-number_at x m n are_bytes fits read =
     ap (big_bytes 4) (read ∙ number-take (drop m x))
     ∙ bytes-number (drop m x) (omega (arith, length-drop m x, fits)) (λ i. rw (get_or-drop m x i 0) (are_bytes (m + i)))
 
--- a number that four bytes can say is read from the bytes that spell it
+-- a number that fits four bytes is read from the bytes that spell it
 pub number-bytes : (n : ℕ) → n < 2 ^ 32 → big_number 4 (big_bytes 4 n) ≡ n
 number-bytes n h = number-std (big_bytes 4 n) ∙ from_be_bytes-to_be_bytes_4 n h
 

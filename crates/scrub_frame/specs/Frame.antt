@@ -1,8 +1,5 @@
--- The bytes of a frame: a chunk's payload as it is on disk, in the plain or in the sealed form. Both begin with a head:
--- a magic of two bytes, a UUID, and the payload's length in four bytes. In the plain form the payload and the same UUID
--- follow. In the sealed form the payload's digest comes before the payload, and a closing mark after the second UUID.
--- Numbers are big-endian, and a digest is SHA-256 (FIPS 180-4). Where on a disk such bytes may be, the crates above
--- say.
+-- The bytes of a frame, which holds a chunk's payload on disk, in the plain or in the sealed form. Numbers are
+-- big-endian, and a digest is SHA-256 (FIPS 180-4).
 use Rattle.std.specs.Prelude.{◌≡◌, ◌<◌, ◌+◌, ◌-◌, ◌^◌, ℕ, List, [], ◌∷◌, ◌++◌, length}
 use Rattle.byteorder.specs.Endian.{big_bytes}
 use Rattle.sha2.specs.Sha256.{sha256}
@@ -26,7 +23,7 @@ head_size = 22
 abbrev pub head : Form → List ℕ → ℕ → List ℕ
 head form uuid size = magic form ++ (uuid ++ big_bytes 4 size)
 
--- what is between the head and the payload: nothing, or in a sealed frame the payload's digest
+-- what is between the head and the payload: nothing in a plain frame, the payload's digest in a sealed one
 abbrev pub seal : Form → List ℕ → List ℕ
 seal Plain payload = []
 seal Sealed payload = sha256 payload
@@ -35,29 +32,29 @@ seal Sealed payload = sha256 payload
 abbrev pub digest_size : ℕ
 digest_size = 32
 
--- how many bytes a seal has: none, or 32 in a sealed frame
+-- how many bytes a seal has: none in a plain frame, 32 in a sealed one
 abbrev pub seal_size : Form → ℕ
 seal_size Plain = 0
 seal_size Sealed = digest_size
 
--- what follows the second UUID: nothing, or in a sealed frame the closing mark 3A A3
+-- what follows the second UUID: nothing in a plain frame, the closing mark 3A A3 in a sealed one
 abbrev pub mark : Form → List ℕ
 mark Plain = []
 mark Sealed = 0x3A ∷ 0xA3 ∷ []
 
--- the byte of a frame at which its payload begins: 22, or 54 in a sealed one
+-- the byte of a frame at which its payload begins: 22 in a plain frame, 54 in a sealed one
 abbrev pub payload_start : Form → ℕ
 payload_start form = head_size + seal_size form
 
--- how many bytes the second UUID and the mark have: 16, or 18 in a sealed frame
+-- how many bytes the second UUID and the mark have: 16 in a plain frame, 18 in a sealed one
 abbrev pub close_size : Form → ℕ
 close_size form = 16 + length (mark form)
 
--- how many bytes a frame has round its payload: 38, or 72 in a sealed one
+-- how many bytes a frame has besides its payload: 38 in a plain frame, 72 in a sealed one
 abbrev pub frame_overhead : Form → ℕ
 frame_overhead form = payload_start form + close_size form
 
--- the least that a frame of either form has round its payload: 38 bytes
+-- the least number of bytes that a frame of either form has besides its payload: 38
 abbrev pub least_overhead : ℕ
 least_overhead = frame_overhead Plain
 
@@ -80,7 +77,7 @@ pub record BeginsWithFrame (bytes : List ℕ) (form : Form) (uuid payload : List
 abbrev pub BeginsWithNoFrame : List ℕ → Type 0
 BeginsWithNoFrame bytes = (form : Form) (uuid payload : List ℕ) → ¬ BeginsWithFrame bytes form uuid payload
 
--- how many bytes the longest frame has that is written: 2^26, as the largest extent
+-- how many bytes the longest frame that is written has: 2^26, as many as the largest extent
 abbrev pub longest_frame : ℕ
 longest_frame = 67108864
 

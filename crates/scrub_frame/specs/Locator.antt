@@ -8,7 +8,7 @@ use Rattle.scrub_frame.specs.Frame.{digest_size}
 abbrev pub locator_bytes : Locator → List ℕ
 locator_bytes l = big_bytes 4 l.extent ++ (big_bytes 4 l.offset ++ (big_bytes 4 l.length ++ (l.uuid ++ l.digest)))
 
--- the three numbers are below 2^32, and UUID and digest have their sizes, as in every value of the type
+-- each of the three numbers is below 2^32, and the UUID and the digest have their sizes, as in every value of the type
 pub record IsLocator (l : Locator) : Type 0 where
   pub extent : l.extent < 2 ^ 32
   pub offset : l.offset < 2 ^ 32

@@ -5,7 +5,7 @@ ghost use Rattle.sha2.specs.Sha256.{sha256};
 
 use sha2::{Digest, Sha256};
 
-/// The bytes of a SHA-256, and so of a sealed frame between its head and its payload.
+/// The size of a SHA-256 in bytes; a sealed frame has as many between its head and its payload.
 pub const DIGEST_BYTES: usize = 32;
 
 /// The SHA-256 of a payload, as in FIPS 180-4. Takes no memory.

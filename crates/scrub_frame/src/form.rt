@@ -1,5 +1,5 @@
-//! The two forms of a frame, and all that depends on the form: which magic a frame begins with, where its payload begins,
-//! and what closes it. The bytes themselves are read and written elsewhere.
+//! The two forms of a frame, and everything that depends on the form: the magic, where the payload begins, and what
+//! closes the frame. `frame` and `matcher` read the bytes; `writing` writes them.
 
 ghost use Rattle.std.specs.Prelude.{◌≡◌, ◌≤◌, ◌++◌, ◌∷◌, [], IfSome, IfNone, length, take};
 ghost use Rattle.scrub_frame.specs.declared.form.Form.{Form};
@@ -8,29 +8,29 @@ ghost use Rattle.scrub_frame.specs.Frame.{magic, mark, seal_size, payload_start,
 use crate::digest::DIGEST_BYTES;
 use uuid::Uuid;
 
-/// The bytes of a head, in either form: a magic (2), a UUID (16), and the payload's length as a big-endian number (4).
+/// The size of a head in bytes, in either form: a magic (2), a UUID (16), and the payload's length, big-endian (4).
 pub const HEAD_BYTES: usize = 22;
 
-/// The most bytes that stand behind a payload: the second UUID, and the closing mark of a sealed frame.
+/// The most bytes that follow a payload: the second UUID (16), and the closing mark of a sealed frame (2).
 pub const CLOSE_BYTES: usize = 18;
 
-/// The least that a frame of either form has round its payload, in bytes.
+/// The least number of bytes that a frame has besides its payload, in either form.
 pub const LEAST_OVERHEAD: usize = 38;
 
-/// The bytes of the longest frame that is written: those of the largest extent.
+/// The size of the longest frame that is written, in bytes: it fills the largest extent.
 const LONGEST_FRAME: usize = 67_108_864;
 
 /// The form of a frame.
 #[derive(Debug, Clone, Copy, PartialEq, Eq)]
 pub enum Form {
-    /// The head, the payload, and the UUID once more. Nothing in it tells whether the payload is the one that was written.
+    /// The head, the payload, and the UUID once more. Nothing in it shows whether the payload was changed.
     Plain,
     /// The head, the payload's SHA-256 (32), the payload, the UUID once more, and a closing mark (2).
     Sealed,
 }
 
 impl Form {
-    /// The form whose magic these two bytes are.
+    /// The form with this magic, if there is one.
     pub fn with_magic(first: u8, second: u8) -> Option<Form>
         ensures found { IfSome result (λ form. first ∷ second ∷ [] ≡ magic form) }
         ensures none { IfNone result ((form : Form) → ¬ (first ∷ second ∷ [] ≡ magic form)) }
@@ -52,7 +52,7 @@ impl Form {
         }
     }
 
-    /// How many bytes stand between the head and the payload.
+    /// How many bytes are between the head and the payload.
     pub fn seal_bytes(self) -> usize
         ensures value { result ≡ seal_size self }
         ensures few { result ≤ 32 }
@@ -63,7 +63,7 @@ impl Form {
         }
     }
 
-    /// The byte of a frame at which its payload begins.
+    /// The offset in a frame at which its payload begins, in bytes.
     pub fn payload_start(self) -> usize
         ensures value { result ≡ payload_start self }
         ensures few { result ≤ 54 }
@@ -71,7 +71,7 @@ impl Form {
         HEAD_BYTES + self.seal_bytes()
     }
 
-    /// How many bytes stand behind the payload.
+    /// How many bytes follow the payload.
     pub fn close_bytes(self) -> usize
         ensures value { result ≡ close_size self }
         ensures few { result ≤ 18 }
@@ -82,7 +82,7 @@ impl Form {
         }
     }
 
-    /// How many bytes stand round the payload.
+    /// How many bytes a frame has besides its payload.
     pub fn overhead(self) -> usize
         ensures value { result ≡ frame_overhead self }
         ensures few { result ≤ 72 }
@@ -90,14 +90,14 @@ impl Form {
         self.payload_start() + self.close_bytes()
     }
 
-    /// The longest payload that is written, in bytes: its frame fills an extent of 2^26 bytes, the largest.
+    /// The longest payload that is written, in bytes: its frame fills the largest extent, which has 2^26 bytes.
     pub fn longest_payload(self) -> usize
         ensures { result ≡ longest_payload self }
     {
         LONGEST_FRAME - self.overhead()
     }
 
-    /// What stands behind the payload of a frame of this UUID: the first `close_bytes` of these bytes.
+    /// What follows the payload in a frame with this UUID: the first `close_bytes` of these bytes.
     pub fn close(self, uuid: &Uuid) -> [u8; CLOSE_BYTES]
         ensures { take (close_size self) result ≡ uuid.now ++ mark self }
     {

@@ -1,4 +1,4 @@
-//! Frames, read from bytes. `scrub_scan` says which bytes of a disk are read so.
+//! Reads frames from bytes. `scrub_scan` decides which bytes of a disk to read.
 
 ghost use Rattle.std.specs.Prelude.{◌≡◌, ◌+◌, ◌≤◌, ◌++◌, ◌↔◌, List, [], ℕ, length, take, slice_range, IfSome, IfNone, IsTrue};
 ghost use Rattle.scrub_frame.specs.declared.form.Form.{Form};
@@ -9,19 +9,19 @@ use crate::form::{Form, HEAD_BYTES};
 use byteorder::{BigEndian, ByteOrder};
 use uuid::Uuid;
 
-/// What a frame begins with: a magic, a UUID, and the length of the payload.
+/// The head of a frame: a magic, a UUID, and the length of the payload.
 #[derive(Debug, Clone, Copy, PartialEq, Eq)]
 pub struct Head {
-    /// The form of the frame, as the magic says.
+    /// The form of the frame, from its magic.
     pub form: Form,
     /// The UUID of the frame.
     pub uuid: Uuid,
-    /// The length that the head claims for its payload, in bytes. Any `u32` may stand there.
+    /// The length that the head claims for its payload, in bytes. It can be any `u32`.
     pub length: u32,
 }
 
 impl Head {
-    /// The bytes of the frame that the head claims.
+    /// The size of the frame that the head claims, in bytes.
     pub fn frame_bytes(&self) -> u64
         ensures value { result ≡ self.now.length + frame_overhead self.now.form }
         ensures few { result ≤ 4294967367 }
@@ -29,7 +29,7 @@ impl Head {
         self.length as u64 + self.form.overhead() as u64
     }
 
-    /// The byte of that frame behind its payload.
+    /// The offset in that frame just past its payload, in bytes.
     pub fn payload_end(&self) -> u64
         ensures value { result ≡ payload_start self.now.form + self.now.length }
         ensures few { result ≤ 4294967349 }
@@ -38,21 +38,21 @@ impl Head {
     }
 }
 
-/// A frame that was found, without its payload. In bytes it is the magic of its form (2), a UUID (16), the payload's length
-/// as a big-endian number (4), of a sealed one the payload's SHA-256 (32), the payload, the same UUID again (16), and of a
-/// sealed one the closing mark 3A A3 (2).
+/// A frame that was found, without its payload. Its bytes are the magic of its form (2), a UUID (16), the payload's length
+/// as a big-endian number (4), the payload's SHA-256 (32, sealed only), the payload, the same UUID again (16), and the
+/// closing mark 3A A3 (2, sealed only).
 #[derive(Debug, Clone, Copy, PartialEq, Eq)]
 pub struct Frame {
     /// The form of the frame.
     pub form: Form,
-    /// The UUID that stands on both sides of the payload.
+    /// The UUID on both sides of the payload.
     pub uuid: Uuid,
     /// The length of the payload, in bytes. The frame is `form.overhead()` bytes longer.
     pub length: u32,
 }
 
-/// The head that twenty-two bytes are: a magic, a UUID, and a big-endian length. `None` where they begin with the magic of
-/// neither form. A head alone doesn't say that a frame follows.
+/// Parses a head of 22 bytes: a magic, a UUID, and a big-endian length. `None` if the magic is of neither form. A valid
+/// head doesn't mean that a whole frame follows.
 pub fn read_head(bytes: &[u8; HEAD_BYTES]) -> Option<Head>
     ensures found { IfSome result (λ h. bytes.now ≡ head h.form h.uuid h.length) }
     ensures none { IfNone result ((form : Form) → ¬ (take 2 bytes.now ≡ magic form)) }
@@ -65,9 +65,8 @@ pub fn read_head(bytes: &[u8; HEAD_BYTES]) -> Option<Head>
     })
 }
 
-/// The frame that the bytes begin with; its payload is `bytes[form.payload_start()..]`, so many bytes as its length says.
-/// `None` where they begin with none, also where they end before the frame does. Of a plain frame the payload isn't looked
-/// at; that of a sealed one is hashed.
+/// The frame that the bytes begin with; its payload is the `length` bytes from `form.payload_start()` on. `None` if they
+/// begin with no frame, or end before the frame does. Only the payload of a sealed frame is checked, by its digest.
 pub fn read_frame(bytes: &[u8]) -> Option<Frame>
     ensures found { IfSome result (λ f.
         BeginsWithFrame bytes.now f.form f.uuid (slice_range bytes.now (payload_start f.form) (payload_start f.form + f.length))) }
@@ -94,7 +93,7 @@ pub fn read_frame(bytes: &[u8]) -> Option<Frame>
     })
 }
 
-/// Whether this is what stands before the payload in a frame of the form. Takes no memory.
+/// Whether these are the bytes between head and payload in a frame of the form. Takes no memory.
 fn is_sealed(form: Form, sealed: &[u8], payload: &[u8]) -> bool
     requires { length sealed.now ≡ seal_size form }
     ensures { IsTrue result ↔ (sealed.now ≡ seal form payload.now) }
@@ -115,15 +114,15 @@ pub(crate) fn uuid_at(bytes: &[u8]) -> Uuid
     Uuid::from_bytes(uuid)
 }
 
-/// A law: bytes begin with one frame at most, of whichever form, so what `read_frame` finds is the frame.
+/// A law: bytes begin with at most one frame, of either form. So `read_frame` finds the only one.
 pub fn one_frame()
     ensures { (bytes : List ℕ) (form : Form) (uuid payload : List ℕ) (other_form : Form) (other_uuid other_payload : List ℕ) →
         BeginsWithFrame bytes form uuid payload → BeginsWithFrame bytes other_form other_uuid other_payload →
         (form ≡ other_form) × (uuid ≡ other_uuid) × (payload ≡ other_payload) }
 {}
 
-/// A law: no frame of either form is a proper prefix of a frame. Where one begins with the other, nothing is left over, and
-/// the two have the same form, UUID and payload.
+/// A law: no frame is a proper prefix of a frame, in either form. If one begins with another, nothing is left over, and
+/// both have the same form, UUID and payload.
 pub fn no_frame_begins_another()
     ensures { (form : Form) (uuid payload rest : List ℕ) (other_form : Form) (other_uuid other_payload : List ℕ) →
         HasFrame uuid payload → HasFrame other_uuid other_payload →

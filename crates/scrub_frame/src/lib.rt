@@ -1,7 +1,5 @@
-//! The bytes of chunk frames and of locators, and the digests of payloads. On disk a chunk's payload stands in a frame:
-//! a magic, a UUID, the payload's length, the payload, and the UUID once more; in a sealed frame its digest stands there
-//! too. A locator names a chunk by its place, length, UUID and digest. This crate reads and writes both; it knows nothing
-//! of disks, pages and write pointers.
+//! Reads and writes the bytes of chunk frames and locators, and computes digests of payloads. A frame holds a chunk's
+//! payload on disk; a locator names a chunk by its place, length, UUID and digest. Nothing here knows of disks or pages.
 #![tactic(auto)]
 
 pub mod digest;

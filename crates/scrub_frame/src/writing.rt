@@ -1,4 +1,4 @@
-//! Frames, written to the end of a byte list.
+//! Writes frames to the end of a byte list.
 
 ghost use Rattle.std.specs.Prelude.{◌≡◌, ◌+◌, ◌<◌, ◌≤◌, ◌++◌, ◌↔◌, length, vec_len, vec_capacity, OnOk, OnErr};
 ghost use Rattle.scrub_frame.specs.declared.form.Form.{Form};
@@ -21,8 +21,8 @@ pub enum FrameFault {
     OutOfMemory,
 }
 
-/// Appends the plain frame of a UUID and a payload. Its faults in their order: `TooLong`, then `OutOfMemory`. After either
-/// `out` is as it was.
+/// Appends the plain frame of a UUID and a payload. Faults, in this order: `TooLong`, `OutOfMemory`. After either, `out`
+/// is unchanged.
 pub fn write_frame(out: &mut Vec<u8>, uuid: Uuid, payload: &[u8]) -> Result<(), FrameFault>
     ensures ok { OnOk result (out.new.items ≡ out.old.items ++ frame Form.Plain uuid payload.now) }
     ensures fits { OnOk result (length payload.now ≤ longest_payload Form.Plain) }
@@ -32,8 +32,8 @@ pub fn write_frame(out: &mut Vec<u8>, uuid: Uuid, payload: &[u8]) -> Result<(), 
     write_form(out, Form::Plain, uuid, payload)
 }
 
-/// Appends the sealed frame of a UUID and a payload. Its faults in their order: `TooLong`, then `OutOfMemory`. After either
-/// `out` is as it was.
+/// Appends the sealed frame of a UUID and a payload. Faults, in this order: `TooLong`, `OutOfMemory`. After either, `out`
+/// is unchanged.
 pub fn write_sealed(out: &mut Vec<u8>, uuid: Uuid, payload: &[u8]) -> Result<(), FrameFault>
     ensures ok { OnOk result (out.new.items ≡ out.old.items ++ frame Form.Sealed uuid payload.now) }
     ensures fits { OnOk result (length payload.now ≤ longest_payload Form.Sealed) }
@@ -43,7 +43,7 @@ pub fn write_sealed(out: &mut Vec<u8>, uuid: Uuid, payload: &[u8]) -> Result<(),
     write_form(out, Form::Sealed, uuid, payload)
 }
 
-/// Appends the frame of a UUID and a payload in a form.
+/// Appends the frame of this form, with a UUID and a payload.
 fn write_form(out: &mut Vec<u8>, form: Form, uuid: Uuid, payload: &[u8]) -> Result<(), FrameFault>
     ensures ok { OnOk result (out.new.items ≡ out.old.items ++ frame form uuid payload.now) }
     ensures fits { OnOk result (length payload.now ≤ longest_payload form) }
@@ -66,7 +66,7 @@ fn write_form(out: &mut Vec<u8>, form: Form, uuid: Uuid, payload: &[u8]) -> Resu
     Ok(())
 }
 
-/// Appends what stands before a payload in a frame of the form, for which the list has room.
+/// Appends the bytes between head and payload in a frame of the form. The list has room for them.
 fn append_seal(out: &mut Vec<u8>, form: Form, payload: &[u8])
     requires { vec_len out.old + seal_size form ≤ vec_capacity out.old }
     ensures items { out.new.items ≡ out.old.items ++ seal form payload.now }
@@ -79,7 +79,7 @@ fn append_seal(out: &mut Vec<u8>, form: Form, payload: &[u8])
     }
 }
 
-/// Appends bytes for which the list has room. Takes no memory.
+/// Appends bytes to a list that has room for them. Takes no memory.
 pub fn append(out: &mut Vec<u8>, bytes: &[u8])
     requires { vec_len out.old + length bytes.now ≤ vec_capacity out.old }
     ensures items { out.new.items ≡ out.old.items ++ bytes.now }

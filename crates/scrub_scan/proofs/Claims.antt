@@ -1,4 +1,4 @@
--- What a head and what closes the frame that it claims tell of the frame between them.
+-- What a head, and what closes the frame that it claims, say of the frame between them.
 use Rattle.std.proofs.Common.{◌≡◌, ◌<◌, ◌+◌, ◌^◌, ℕ, List, ◌++◌, map, take, length, arith, refl, sym, ◌∙◌, ap, subst, Option, Some, None, IfSome, IfNone}
 use Rattle.std.specs.List.{range_with_len}
 use Rattle.std.proofs.lemmas.List.FromFn.{get_or-map-range_with_len, length-map-range_with_len}
@@ -12,36 +12,45 @@ use Rattle.scrub_scan.specs.Standing.{IsClaimedAt, IsOnlyFrame, HasPlainFrame}
 use Rattle.scrub_scan.proofs.FrameBytes.{length-head_of, claimed_head, claimed_frame, has_magic, close_stands}
 use Rattle.scrub_scan.proofs.Passing.{bytes_joined}
 
--- the frame has the fields that its head says
+-- the frame has the fields of its head
 pub only_frame : (x : Extent) (p : ℕ) (h : Head) → IsClaimedAt x p h → IsOnlyFrame x p h
-only_frame x p h claim f u b k = claimed_head x p f u b h.form h.uuid (head h.form h.uuid h.length) h.length k (length-head_of h.form h.uuid h.length claim.sixteen) claim.head_stands claim.sixteen claim.short refl
+only_frame x p h claim f u b k =
+    claimed_head x p f u b h.form h.uuid (head h.form h.uuid h.length) h.length k
+    (length-head_of h.form h.uuid h.length claim.sixteen) claim.head_stands claim.sixteen claim.short refl
 
--- where a frame stands, the frame that its head claims is it
-pub claimed_of : (x : Extent) (p : ℕ) (h : Head) (f : Form) (u b : List ℕ) → length h.uuid ≡ 16 → h.length < 2 ^ 32 → AreBytesAt x.byte p (head h.form h.uuid h.length) → FrameAt x p f u b → IsClaimedAt x p h
+-- if there is a frame, it is the one that its head claims
+pub claimed_of : (x : Extent) (p : ℕ) (h : Head) (f : Form) (u b : List ℕ) → length h.uuid ≡ 16 → h.length < 2 ^ 32 →
+    AreBytesAt x.byte p (head h.form h.uuid h.length) → FrameAt x p f u b → IsClaimedAt x p h
 claimed_of x p h f u b sixteen short stands k =
     let same : FrameAt x p h.form h.uuid b × (h.length ≡ length b) =
-    claimed_frame x p f u b h.form h.uuid (head h.form h.uuid h.length) h.length k (length-head_of h.form h.uuid h.length sixteen) stands sixteen short refl in
+    claimed_frame x p f u b h.form h.uuid (head h.form h.uuid h.length) h.length k
+    (length-head_of h.form h.uuid h.length sixteen) stands sixteen short refl in
     record {
       sixteen = sixteen;
       short = short;
       head_stands = stands;
       fits = omega (arith, same.1, same.0.fits);
-      close_stands = close_stands x p (p + h.length + payload_start h.form) h.form h.uuid b same.0 (omega (arith, same.1));
+      close_stands =
+          close_stands x p (p + h.length + payload_start h.form) h.form h.uuid b same.0 (omega (arith, same.1));
     }
 
--- bytes that were read as a head stand at their place
-pub head_of_bytes : (at : ℕ → Option ℕ) (p : ℕ) (bytes slice : List ℕ) (found : Option Head) → slice ≡ bytes → AreBytesAt at p bytes → IfSome found (λ h. slice ≡ head h.form h.uuid h.length) →
+-- bytes that were read as a head are at their place
+pub head_of_bytes : (at : ℕ → Option ℕ) (p : ℕ) (bytes slice : List ℕ) (found : Option Head) → slice ≡ bytes →
+    AreBytesAt at p bytes → IfSome found (λ h. slice ≡ head h.form h.uuid h.length) →
     IfSome found (λ h. AreBytesAt at p (head h.form h.uuid h.length))
 head_of_bytes at p bytes slice None same read is = tt
 head_of_bytes at p bytes slice (Some h) same read is = subst (λ (b : List ℕ). AreBytesAt at p b) (sym same ∙ is) read
 
--- and where they are none, no frame stands there
-pub none_of_bytes : (image : Image) (e p : ℕ) (bytes slice : List ℕ) (found : Option Head) → slice ≡ bytes → length bytes ≡ head_size → AreBytesAt (byte image e) p bytes → IfNone found ((form : Form) → ¬ (take 2 slice ≡ magic form)) →
+-- and if they are no head, there is no frame
+pub none_of_bytes : (image : Image) (e p : ℕ) (bytes slice : List ℕ) (found : Option Head) → slice ≡ bytes →
+    length bytes ≡ head_size → AreBytesAt (byte image e) p bytes →
+    IfNone found ((form : Form) → ¬ (take 2 slice ≡ magic form)) →
     IfNone found ((w : ℕ) → NoFrameAt (extent_of image e w) p)
 none_of_bytes image e p bytes slice (Some h) same size read none = tt
-none_of_bytes image e p bytes slice None same size read none = λ w f u b k. none f (ap (take 2) same ∙ has_magic (extent_of image e w) p f u b bytes k size read)
+none_of_bytes image e p bytes slice None same size read none = λ w f u b k.
+    none f (ap (take 2) same ∙ has_magic (extent_of image e w) p f u b bytes k size read)
 
--- the byte that can be read at a place, 0 where it can't
+-- the byte at a place, or 0 if it can't be read
 abbrev byte_or_zero : Option ℕ → ℕ
 byte_or_zero (Some v) = v
 byte_or_zero None = 0
@@ -54,32 +63,42 @@ there None some = absurd (some refl)
 abbrev bytes_from : (ℕ → Option ℕ) → ℕ → ℕ → List ℕ
 bytes_from at p n = map (λ i. byte_or_zero (at i)) (range_with_len p n)
 
--- they stand there, where all of them can be read
+-- they are at their place, if all of them can be read
 bytes_stand : (at : ℕ → Option ℕ) (p n : ℕ) → ¬ HasGap at p n → AreBytesAt at p (bytes_from at p n)
 bytes_stand at p n whole k below =
     let few : k < n = omega (arith, below, length-map-range_with_len (λ i. byte_or_zero (at i)) p n) in
-    there (at (p + k)) (λ none. whole (record { place = p + k; low = omega arith; high = omega (arith, few); unreadable = none }))
+    there (at (p + k))
+    (λ none. whole (record { place = p + k; low = omega arith; high = omega (arith, few); unreadable = none }))
     ∙ ap Some (sym (get_or-map-range_with_len (λ i. byte_or_zero (at i)) p n k (p + k) 0 few refl))
 
--- so a plain one stands, where all its bytes can be read
-pub plain_frame : (x : Extent) (p : ℕ) (h : Head) → IsClaimedAt x p h → h.form ≡ Plain → ¬ HasGap x.byte p (h.length + frame_overhead h.form) → HasPlainFrame x p h
+-- so a plain frame is there, if all its bytes can be read
+pub plain_frame : (x : Extent) (p : ℕ) (h : Head) → IsClaimedAt x p h → h.form ≡ Plain →
+    ¬ HasGap x.byte p (h.length + frame_overhead h.form) → HasPlainFrame x p h
 plain_frame x p h claim is whole =
     let n = h.length in
     let b = bytes_from x.byte (p + head_size) n in
     let size : length b ≡ n = length-map-range_with_len (λ i. byte_or_zero (x.byte i)) (p + head_size) n in
     let start : AreBytesAt x.byte p (head Plain h.uuid (length b)) =
-    subst (λ (m : ℕ). AreBytesAt x.byte p (head Plain h.uuid m)) (sym size) (subst (λ (f : Form). AreBytesAt x.byte p (head f h.uuid n)) is claim.head_stands) in
+    subst (λ (m : ℕ). AreBytesAt x.byte p (head Plain h.uuid m)) (sym size)
+    (subst (λ (f : Form). AreBytesAt x.byte p (head f h.uuid n)) is claim.head_stands) in
     let stop : AreBytesAt x.byte (p + head_size + n) (h.uuid ++ mark Plain) =
-    subst (λ (q : ℕ). AreBytesAt x.byte q (h.uuid ++ mark Plain)) (let e : p + n + head_size ≡ p + head_size + n = omega arith in e) (rw is at claim.close_stands) in
+    subst (λ (q : ℕ). AreBytesAt x.byte q (h.uuid ++ mark Plain))
+    (let e : p + n + head_size ≡ p + head_size + n = omega arith in e) (rw is at claim.close_stands) in
     let round : frame_overhead h.form ≡ frame_overhead Plain = ap frame_overhead is in
-    let between : AreBytesAt x.byte (p + head_size) b = bytes_stand x.byte (p + head_size) n (λ gap. whole (record { place = gap.place; low = omega (arith, gap.low); high = omega (arith, gap.high, round); unreadable = gap.unreadable })) in
-    let behind : AreBytesAt x.byte (p + head_size) (b ++ (h.uuid ++ mark Plain)) = bytes_joined x.byte (p + head_size) (p + head_size + n) b (h.uuid ++ mark Plain) (omega (arith, size)) between stop in
+    let between : AreBytesAt x.byte (p + head_size) b =
+    bytes_stand x.byte (p + head_size) n
+    (λ gap. whole (record { place = gap.place; low = omega (arith, gap.low); high = omega (arith, gap.high, round); unreadable = gap.unreadable })) in
+    let behind : AreBytesAt x.byte (p + head_size) (b ++ (h.uuid ++ mark Plain)) =
+    bytes_joined x.byte (p + head_size) (p + head_size + n) b (h.uuid ++ mark Plain) (omega (arith, size)) between
+    stop in
     record {
       payload = b;
       frame = record {
         has_frame = record { sixteen = claim.sixteen; short = omega (arith, size, claim.short) };
         fits = omega (arith, size, round, claim.fits);
-        stands = bytes_joined x.byte p (p + head_size) (head Plain h.uuid (length b)) (b ++ (h.uuid ++ mark Plain)) (omega (arith, length-head_of Plain h.uuid (length b) claim.sixteen)) start behind;
+        stands =
+            bytes_joined x.byte p (p + head_size) (head Plain h.uuid (length b)) (b ++ (h.uuid ++ mark Plain))
+            (omega (arith, length-head_of Plain h.uuid (length b) claim.sixteen)) start behind;
       };
       length = sym size;
     }

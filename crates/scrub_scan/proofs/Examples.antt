@@ -79,19 +79,25 @@ tiling_under_41 = record {
 no_frame_under : (w : ℕ) → w < 41 → NoFrameAt (abc_under w) 0
 unfolding abc_under abc
 no_frame_under w h f u b k =
-    let here : FrameAt (abc_under (w + 41)) 0 f u b = record { has_frame = k.has_frame; fits = omega (arith, k.fits); stands = k.stands } in
-    let same : (f ≡ Plain) × (u ≡ ones) × (b ≡ abc) = one_frame_at (abc_under (w + 41)) 0 f u b Plain ones abc here (stands (w + 41) (omega arith)) in
+    let here : FrameAt (abc_under (w + 41)) 0 f u b = record {
+      has_frame = k.has_frame;
+      fits = omega (arith, k.fits);
+      stands = k.stands;
+    } in
+    let same : (f ≡ Plain) × (u ≡ ones) × (b ≡ abc) =
+    one_frame_at (abc_under (w + 41)) 0 f u b Plain ones abc here (stands (w + 41) (omega arith)) in
     let long : length b ≡ 3 = ap length same.2 in
     let round : frame_overhead f ≡ 38 = ap frame_overhead same.0 in
     omega (arith, k.fits, long, round, h)
 
 is_readable : (w : ℕ) → ¬ IsUnreadableAt (abc_under w) 0
 unfolding abc_under ones abc
-is_readable w none = absurd (let f : ⊥ = cc in f)
+is_readable w none = absurd (cc)
 
 is_not_zero : (w : ℕ) → 0 < w → ¬ IsZero (abc_under w) 0
 unfolding abc_under ones abc
-is_not_zero w h zeros = absurd (let e : Some 0xC5 ≡ Some 0 = zeros 0 (omega arith) (omega (arith, h)) in let f : ⊥ = cc in f)
+is_not_zero w h zeros =
+    absurd (let e : Some 0xC5 ≡ Some 0 = zeros 0 (omega arith) (omega (arith, h)) in let f : ⊥ = cc in f)
 
 begins_with_magic : (w : ℕ) → 2 ≤ w → HasMagic (abc_under w) 0
 unfolding abc_under ones abc
@@ -100,7 +106,7 @@ begins_with_magic w h = (omega (arith, h), (Plain, each))
     each : (k : ℕ) → k < 2 → slice_get (frame Plain ones abc) (0 + k) ≡ Some (get_or (magic Plain) k 0)
     each zero hk = refl
     each (suc zero) hk = refl
-    each (suc (suc k)) hk = absurd (let f : ⊥ = omega (arith, hk) in f)
+    each (suc (suc k)) hk = absurd (omega (arith, hk))
 
 tiling_under_40 : IsTiling (abc_under 40) (Torn 0 40 ∷ [])
 unfolding abc_under
@@ -108,7 +114,13 @@ tiling_under_40 = record {
   joined = (refl, refl);
   each = All-cons (IsItem (abc_under 40)) (Torn 0 40) [] (record {
     below = lit< tt;
-    fits = ((refl, refl), no_frame_under 40 (lit< tt), is_readable 40, is_not_zero 40 (lit< tt), begins_with_magic 40 (omega arith));
+    fits = (
+      (refl, refl),
+      no_frame_under 40 (lit< tt),
+      is_readable 40,
+      is_not_zero 40 (lit< tt),
+      begins_with_magic 40 (omega arith),
+    );
   }) (All-nil (IsItem (abc_under 40)));
 }
 
@@ -119,7 +131,13 @@ tiling_under_1 = record {
   joined = (refl, refl);
   each = All-cons (IsItem (abc_under 1)) (Noise 0 1) [] (record {
     below = lit< tt;
-    fits = ((refl, refl), no_frame_under 1 (lit< tt), is_readable 1, is_not_zero 1 (lit< tt), λ h. absurd (let f : ⊥ = omega (arith, h.0) in f));
+    fits = (
+      (refl, refl),
+      no_frame_under 1 (lit< tt),
+      is_readable 1,
+      is_not_zero 1 (lit< tt),
+      λ h. absurd (omega (arith, h.0)),
+    );
   }) (All-nil (IsItem (abc_under 1)));
 }
 
@@ -129,7 +147,7 @@ tiling_under_0 = record { joined = refl; each = All-nil (IsItem (abc_under 0)) }
 
 -- ---- two pages of zeros, the second of them unreadable
 
--- a byte that is zero where it is readable
+-- a byte that is zero if it is readable
 zero_or_lost : Bool → Option ℕ
 zero_or_lost true = Some 0
 zero_or_lost false = None
@@ -139,7 +157,8 @@ zeros_then_lost = record { byte = λ i. zero_or_lost (nat_lt i 64); page = 64; p
 
 no_frame_in_zeros : (p : ℕ) → NoFrameAt zeros_then_lost p
 unfolding zeros_then_lost zero_or_lost
-no_frame_in_zeros p f u b k = first (nat_lt (p + 0) 64) (k.stands 0 (omega (arith, length-frame f u b k.has_frame.sixteen)))
+no_frame_in_zeros p f u b k =
+    first (nat_lt (p + 0) 64) (k.stands 0 (omega (arith, length-frame f u b k.has_frame.sixteen)))
   where
     first : (b : Bool) → zero_or_lost b ≡ Some 0xC5 → ⊥
     first true e = cc

@@ -1,4 +1,4 @@
--- The unreadable pages that a tiling tells: those that its lost items take up to their end.
+-- The unreadable pages that follow from a tiling: those whose ends its lost items reach.
 use Rattle.std.proofs.Common.{◌≡◌, ◌<◌, ◌≤◌, ◌+◌, ◌-◌, ◌*◌, ◌/◌, ◌++◌, ℕ, List, [], ◌∷◌, Bool, true, false, cond, suc, zero, length, filter, is_none, arith, refl, sym, ◌∙◌, ap, inl, inr, Option, Some, None, All, append_assoc}
 use Rattle.std.specs.List.{range_with_len, filter_map, cons_option}
 use Rattle.std.proofs.Math.Nat.{mul-le-mul_left, div-mul-le_self}
@@ -26,7 +26,8 @@ use Rattle.scrub_scan.proofs.ReadPages.{next_at_most}
 use Rattle.scrub_scan.proofs.Tilings.{advances}
 
 -- numbers none of which passes a test add nothing
-none_more : (p : ℕ → Bool) (a n : ℕ) → ((q : ℕ) → a ≤ q → q < a + n → p q ≡ false) → filter p (range_with_len 0 (a + n)) ≡ filter p (range_with_len 0 a)
+none_more : (p : ℕ → Bool) (a n : ℕ) → ((q : ℕ) → a ≤ q → q < a + n → p q ≡ false) →
+    filter p (range_with_len 0 (a + n)) ≡ filter p (range_with_len 0 a)
 none_more p a zero h = ap (λ k. filter p (range_with_len 0 k)) (let e : a + 0 ≡ a = omega arith in e)
 none_more p a (suc n) h =
     ap (λ k. filter p (range_with_len 0 k)) (let e : a + suc n ≡ a + n + 1 = omega arith in e)
@@ -34,7 +35,8 @@ none_more p a (suc n) h =
     ∙ none_more p a n (λ q low high. h q low (omega (arith, high)))
 
 -- a page with a readable byte can be read
-readable_page : (image : Image) (e i page : ℕ) → page ≡ image.geometry.page → ¬ (byte image e i ≡ None) → is_none (image.page e (i / page)) ≡ false
+readable_page : (image : Image) (e i page : ℕ) → page ≡ image.geometry.page → ¬ (byte image e i ≡ None) →
+    is_none (image.page e (i / page)) ≡ false
 readable_page image e i page same there = by_page (image.page e (i / page)) refl
   where
     by_page : (r : Option (List ℕ)) → image.page e (i / page) ≡ r → is_none r ≡ false
@@ -42,22 +44,27 @@ readable_page image e i page same there = by_page (image.page e (i / page)) refl
     by_page (Some bytes) is = refl
 
 -- a page of the extent with an unreadable byte can't
-unreadable_page : (image : Image) (e i page : ℕ) → HasWholePages image → page ≡ image.geometry.page → e < image.geometry.extents → i < extent_bytes image.geometry → byte image e i ≡ None → is_none (image.page e (i / page)) ≡ true
+unreadable_page : (image : Image) (e i page : ℕ) → HasWholePages image → page ≡ image.geometry.page →
+    e < image.geometry.extents → i < extent_bytes image.geometry → byte image e i ≡ None →
+    is_none (image.page e (i / page)) ≡ true
 unreadable_page image e i page whole same disk within gap =
-    ap (λ p. is_none (image.page e (i / p))) same ∙ page_byte image e i (image.page e (i / image.geometry.page)) whole disk within refl gap
+    ap (λ p. is_none (image.page e (i / p))) same
+    ∙ page_byte image e i (image.page e (i / image.geometry.page)) whole disk within refl gap
 
 module _ (image : Image) (t : Target) (whole : HasWholePages image) (is : IsTarget image t) where
-  -- where each page from one place up to another can be read, no unreadable page is added
-  pages_readable : (a b : ℕ) → a ≤ b → ((q : ℕ) → a / t.page ≤ q → q < b / t.page → is_none (image.page t.extent q) ≡ false) →
+  -- if each page from one place up to another can be read, no unreadable page is added
+  pages_readable : (a b : ℕ) → a ≤ b →
+      ((q : ℕ) → a / t.page ≤ q → q < b / t.page → is_none (image.page t.extent q) ≡ false) →
       unreadable_below image t.extent (b / t.page) ≡ unreadable_below image t.extent (a / t.page) ++ []
   pages_readable a b up readable =
       let rises : a / t.page ≤ b / t.page = page_rises a b t.page t.positive up in
       let e : a / t.page + (b / t.page - a / t.page) ≡ b / t.page = omega (arith, rises) in
       ap (unreadable_below image t.extent) (sym e)
-      ∙ none_more (λ q. is_none (image.page t.extent q)) (a / t.page) (b / t.page - a / t.page) (λ q low high. readable q low (omega (arith, high, e)))
+      ∙ none_more (λ q. is_none (image.page t.extent q)) (a / t.page) (b / t.page - a / t.page)
+      (λ q low high. readable q low (omega (arith, high, e)))
       ∙ sym (append-nil (unreadable_below image t.extent (a / t.page)))
 
-  -- so where a part up to a bound begins with a readable byte
+  -- so also if a part up to a bound begins with a readable byte
   one_readable : (a b : ℕ) → a ≤ b → b ≤ (a / t.page + 1) * t.page → ¬ (byte image t.extent a ≡ None) →
       unreadable_below image t.extent (b / t.page) ≡ unreadable_below image t.extent (a / t.page) ++ []
   one_readable a b up within there =
@@ -68,7 +75,8 @@ module _ (image : Image) (t : Target) (whole : HasWholePages image) (is : IsTarg
   -- a bound of the extent, in the target's own page size
   bound_at : (a b : ℕ) → b ≡ bound (target_of image t) a → b ≤ (a / t.page + 1) * t.page
   bound_at a b h =
-      let same : (a / image.geometry.page + 1) * image.geometry.page ≡ (a / t.page + 1) * t.page = ap (λ p. (a / p + 1) * p) (sym is.page) in
+      let same : (a / image.geometry.page + 1) * image.geometry.page ≡ (a / t.page + 1) * t.page =
+      ap (λ p. (a / p + 1) * p) (sym is.page) in
       omega (arith, h, same)
 
   -- the unreadable pages up to the end of an item, and those up to its start
@@ -76,7 +84,8 @@ module _ (image : Image) (t : Target) (whole : HasWholePages image) (is : IsTarg
       unreadable_below image t.extent (stop_of item / t.page) ≡ unreadable_below image t.extent (start_of item / t.page) ++ cons_option (lost_page t.page item) []
   lost_in_item (Chunk f start stop u n digest) h =
       let k : IsChunk (target_of image t) start f stop n u digest h.fits.1.0 = h.fits.1.1 in
-      let size : length (frame f u h.fits.1.0) ≡ frame_overhead f + length h.fits.1.0 = length-frame f u h.fits.1.0 k.frame.has_frame.sixteen in
+      let size : length (frame f u h.fits.1.0) ≡ frame_overhead f + length h.fits.1.0 =
+      length-frame f u h.fits.1.0 k.frame.has_frame.sixteen in
       pages_readable start stop (omega (arith, k.stop)) (λ q low high.
       let last : q ≤ (stop - 1) / t.page = le-div q (stop - 1) t.page t.positive
       (let next : q + 1 ≤ stop / t.page = omega (arith, high) in omega (arith, mul-le-mul_left t.page next, div-mul-le_self stop t.page, t.positive)) in
@@ -84,10 +93,12 @@ module _ (image : Image) (t : Target) (whole : HasWholePages image) (is : IsTarg
       let j : start + (here.0 - start) ≡ here.0 = omega (arith, here.1) in
       ap (λ r. is_none (image.page t.extent r)) (sym here.3)
       ∙ readable_page image t.extent here.0 t.page is.page (λ none.
-      none-some _ (sym none ∙ ap (byte image t.extent) (sym j) ∙ k.frame.stands (here.0 - start) (omega (arith, here.1, here.2, k.stop, size)))))
+      none-some _
+      (sym none ∙ ap (byte image t.extent) (sym j) ∙ k.frame.stands (here.0 - start) (omega (arith, here.1, here.2, k.stop, size)))))
   lost_in_item (Pad start stop) h =
       let up = advances (target_of image t) (Pad start stop) (omega (arith, t.positive, is.page)) h in
-      one_readable start stop (omega (arith, up.0)) (bound_at start stop h.fits.0.1) (λ none. none-some _ (sym none ∙ h.fits.2 start (omega arith) (omega (arith, up.0, h.fits.0.1))))
+      one_readable start stop (omega (arith, up.0)) (bound_at start stop h.fits.0.1)
+      (λ none. none-some _ (sym none ∙ h.fits.2 start (omega arith) (omega (arith, up.0, h.fits.0.1))))
   lost_in_item (Torn start stop) h =
       let up = advances (target_of image t) (Torn start stop) (omega (arith, t.positive, is.page)) h in
       one_readable start stop (omega (arith, up.0)) (bound_at start stop h.fits.0.1) h.fits.2
@@ -102,34 +113,47 @@ module _ (image : Image) (t : Target) (whole : HasWholePages image) (is : IsTarg
         | inl passed ↦
             let e : stop / t.page ≡ start / t.page + 1 = omega (arith, passed, next) in
             ap (unreadable_below image t.extent) e
-            ∙ filter_yes (λ q. is_none (image.page t.extent q)) (start / t.page) (unreadable_page image t.extent start t.page whole is.page is.in_extents (omega (arith, h.below, is.in_extent)) h.fits.2)
-            ∙ ap (λ b. unreadable_below image t.extent (start / t.page) ++ cons_option (cond b (Some (start / t.page)) None) []) (sym (lt-ltb (start / t.page) (stop / t.page) passed))
+            ∙ filter_yes (λ q. is_none (image.page t.extent q)) (start / t.page)
+            (unreadable_page image t.extent start t.page whole is.page is.in_extents (omega (arith, h.below, is.in_extent)) h.fits.2)
+            ∙ ap
+            (λ b. unreadable_below image t.extent (start / t.page) ++ cons_option (cond b (Some (start / t.page)) None) [])
+            (sym (lt-ltb (start / t.page) (stop / t.page) passed))
         | inr stays ↦
             let e : stop / t.page ≡ start / t.page = omega (arith, stays, rises) in
             ap (unreadable_below image t.extent) e
             ∙ sym (append-nil (unreadable_below image t.extent (start / t.page)))
-            ∙ ap (λ b. unreadable_below image t.extent (start / t.page) ++ cons_option (cond b (Some (start / t.page)) None) []) (sym (le-ltb (start / t.page) (stop / t.page) stays))
+            ∙ ap
+            (λ b. unreadable_below image t.extent (start / t.page) ++ cons_option (cond b (Some (start / t.page)) None) [])
+            (sym (le-ltb (start / t.page) (stop / t.page) stays))
       ]
 
   -- and up to the end of all items that join from a place
   lost_in_items : (a w : ℕ) (items : List Item) → Joins a w items → All (IsItem (target_of image t)) items →
       unreadable_below image t.extent (w / t.page) ≡ unreadable_below image t.extent (a / t.page) ++ filter_map (lost_page t.page) items
-  lost_in_items a w [] joined each = ap (λ k. unreadable_below image t.extent (k / t.page)) (sym joined) ∙ sym (append-nil (unreadable_below image t.extent (a / t.page)))
+  lost_in_items a w [] joined each =
+      ap (λ k. unreadable_below image t.extent (k / t.page)) (sym joined)
+      ∙ sym (append-nil (unreadable_below image t.extent (a / t.page)))
   lost_in_items a w (item ∷ items) joined each =
       lost_in_items (stop_of item) w items joined.1 (All-tail (IsItem (target_of image t)) item items each)
       ∙ ap (λ known. known ++ filter_map (lost_page t.page) items)
       (lost_in_item item (All-head (IsItem (target_of image t)) item items each) ∙ ap (λ k. unreadable_below image t.extent (k / t.page) ++ cons_option (lost_page t.page item) []) joined.0)
-      ∙ append_assoc (unreadable_below image t.extent (a / t.page)) (cons_option (lost_page t.page item) []) (filter_map (lost_page t.page) items)
-      ∙ ap (λ more. unreadable_below image t.extent (a / t.page) ++ more) (joined_option (lost_page t.page item) (filter_map (lost_page t.page) items))
+      ∙ append_assoc (unreadable_below image t.extent (a / t.page)) (cons_option (lost_page t.page item) [])
+      (filter_map (lost_page t.page) items)
+      ∙ ap (λ more. unreadable_below image t.extent (a / t.page) ++ more)
+      (joined_option (lost_page t.page item) (filter_map (lost_page t.page) items))
     where
       joined_option : (o : Option ℕ) (xs : List ℕ) → cons_option o [] ++ xs ≡ cons_option o xs
       joined_option None xs = refl
       joined_option (Some x) xs = refl
 
-  -- the lost items of a tiling tell the unreadable pages before that of the pointer
-  pub lost_pages_listed : (items : List Item) → IsTiling (target_of image t) items → filter_map (lost_page t.page) items ≡ unreadable_below image t.extent (t.pointer / t.page)
+  -- the lost items of a tiling give the unreadable pages before that of the pointer
+  pub lost_pages_listed : (items : List Item) → IsTiling (target_of image t) items →
+      filter_map (lost_page t.page) items ≡ unreadable_below image t.extent (t.pointer / t.page)
   lost_pages_listed items h =
-      sym (lost_in_items 0 t.pointer items h.joined h.each ∙ ap (λ k. unreadable_below image t.extent k ++ filter_map (lost_page t.page) items) (none_before t.page t.positive))
+      sym
+      (lost_in_items 0 t.pointer items h.joined h.each ∙ ap (λ k. unreadable_below image t.extent k ++ filter_map (lost_page t.page) items) (none_before t.page t.positive))
     where
       none_before : (p : ℕ) → 0 < p → 0 / p ≡ 0
-      none_before p positive = let below : 0 / p < 1 = div_below 0 p 1 positive (omega (arith, positive)) in omega (arith, below)
+      none_before p positive =
+          let below : 0 / p < 1 = div_below 0 p 1 positive (omega (arith, positive)) in
+          omega (arith, below)

@@ -1,5 +1,5 @@
--- Which pages the source was asked for, and that it was asked as often.
-use Rattle.std.proofs.Common.{◌≡◌, ◌<◌, ◌≤◌, ◌+◌, ◌*◌, ◌/◌, ◌^◌, ◌==◌, ℕ, List, [], ◌∷◌, suc, arith, refl, sym, ap, subst, inl, inr, Some, None}
+-- Which pages the source was asked for, and that it was asked as many times.
+use Rattle.std.proofs.Common.{◌≡◌, ◌<◌, ◌≤◌, ◌+◌, ◌*◌, ◌/◌, ◌^◌, ◌==◌, ℕ, List, ◌∷◌, suc, arith, refl, sym, ap, inl, inr, Some}
 use Rattle.std.specs.List.{Contains}
 use Rattle.std.proofs.lemmas.Bool.{cases_lt, eq-eqb}
 use Rattle.std.proofs.lemmas.Nat.{div_below}
@@ -11,22 +11,13 @@ use Rattle.scrub_scan.specs.declared.pages.Target.{Target}
 use Rattle.scrub_scan.specs.declared.pages.TwoPages.{TwoPages}
 use Rattle.scrub_scan.specs.Pages.{HasRead, IsTarget, Reaches}
 
--- what a list has, it has behind one more element
+-- what a list has, it still has with one more element in front
 later : (x : ℕ) (xs : List ℕ) (q : ℕ) → Contains xs q → Contains (x ∷ xs) q
 later x xs q h = (suc h.0, omega (arith, h.1), h.2)
 
--- before the first call
-pub none_read : (p : TwoPages) → p.near.number ≡ None → p.far.number ≡ None → HasRead p 0
-none_read p near far = record {
-  calls = [];
-  each = λ _. omega arith;
-  near = rw near tt;
-  far = rw far tt;
-  below = λ q hq. absurd (let e : ⊥ = omega (arith, hq) in e);
-}
-
 -- after a call for page q, which is the near one then
-pub near_read : (p r : TwoPages) (n q : ℕ) → r.near.number ≡ Some q → r.far.number ≡ p.far.number → (r.asked < 2 ^ 32 → p.asked + 1 ≤ r.asked) → HasRead p n → HasRead r n
+pub near_read : (p r : TwoPages) (n q : ℕ) → r.near.number ≡ Some q → r.far.number ≡ p.far.number →
+    (r.asked < 2 ^ 32 → p.asked + 1 ≤ r.asked) → HasRead p n → HasRead r n
 near_read p r n q near far count h = record {
   calls = q ∷ h.calls;
   each = λ small. omega (arith, count small, h.each (omega (arith, count small, small)));
@@ -36,7 +27,8 @@ near_read p r n q near far count h = record {
 }
 
 -- and which is the far one
-pub far_read : (p r : TwoPages) (n q : ℕ) → r.near.number ≡ p.near.number → r.far.number ≡ Some q → (r.asked < 2 ^ 32 → p.asked + 1 ≤ r.asked) → HasRead p n → HasRead r n
+pub far_read : (p r : TwoPages) (n q : ℕ) → r.near.number ≡ p.near.number → r.far.number ≡ Some q →
+    (r.asked < 2 ^ 32 → p.asked + 1 ≤ r.asked) → HasRead p n → HasRead r n
 far_read p r n q near far count h = record {
   calls = q ∷ h.calls;
   each = λ small. omega (arith, count small, h.each (omega (arith, count small, small)));
@@ -45,19 +37,15 @@ far_read p r n q near far count h = record {
   below = λ k hk. later q h.calls k (h.below k hk);
 }
 
--- where the buffers change places
-pub turned : (p r : TwoPages) (n : ℕ) → r.near ≡ p.far → r.far ≡ p.near → r.asked ≡ p.asked → HasRead p n → HasRead r n
-turned p r n near far asked h = record {
-  calls = h.calls;
-  each = λ small. omega (arith, asked, h.each (omega (arith, asked, small)));
-  near = rw near h.far;
-  far = rw far h.near;
-  below = h.below;
-}
-
 -- fewer pages
 pub read_fewer : (p : TwoPages) (n m : ℕ) → m ≤ n → HasRead p n → HasRead p m
-read_fewer p n m le h = record { calls = h.calls; each = h.each; near = h.near; far = h.far; below = λ q hq. h.below q (omega (arith, hq, le)) }
+read_fewer p n m le h = record {
+  calls = h.calls;
+  each = h.each;
+  near = h.near;
+  far = h.far;
+  below = λ q hq. h.below q (omega (arith, hq, le));
+}
 
 -- and one more, which a buffer has
 pub read_next : (p : TwoPages) (n : ℕ) → Reaches p n → HasRead p n → HasRead p (n + 1)
@@ -68,7 +56,7 @@ read_next p n has h = record {
   far = h.far;
   below = λ q hq. elim (cases_lt q n) [
     | inl less ↦ h.below q less
-    | inr same ↦ let e : n ≡ q = omega (arith, same, hq) in subst (λ (k : ℕ). Contains h.calls k) e here
+    | inr same ↦ let e : n ≡ q = omega (arith, same, hq) in rw e at here
   ];
 }
   where
@@ -78,22 +66,30 @@ read_next p n has h = record {
       | inr far ↦ let c : Contains h.calls n = rw far at h.far in c
     ]
 
--- a place up to the next page bound is on the same page, or behind that page alone
+-- a place up to the next page bound is on the same page, or at that bound
 pub next_at_most : (p stop page : ℕ) → 0 < page → stop ≤ (p / page + 1) * page → stop / page ≤ p / page + 1
 next_at_most p stop page positive within =
-    let below : stop / page < p / page + 1 + 1 = div_below stop page (p / page + 1 + 1) positive (omega (arith, within, positive)) in
+    let below : stop / page < p / page + 1 + 1 =
+    div_below stop page (p / page + 1 + 1) positive (omega (arith, within, positive)) in
     omega (arith, below)
 
 -- the pages before that of the pointer are pages of the extent
 pub pages_before : (image : Image) (t : Target) → IsTarget image t → t.pointer / t.page ≤ image.geometry.pages
 pages_before image t is =
-    let size : image.geometry.pages * t.page ≡ image.geometry.pages * image.geometry.page = ap (λ p. image.geometry.pages * p) is.page in
-    let below : t.pointer / t.page < image.geometry.pages + 1 = div_below t.pointer t.page (image.geometry.pages + 1) t.positive (omega (arith, size, is.in_extent, t.positive)) in
+    let size : image.geometry.pages * t.page ≡ image.geometry.pages * image.geometry.page =
+    ap (λ p. image.geometry.pages * p) is.page in
+    let below : t.pointer / t.page < image.geometry.pages + 1 =
+    div_below t.pointer t.page (image.geometry.pages + 1) t.positive (omega (arith, size, is.in_extent, t.positive)) in
     omega (arith, below)
 
 -- so there were as many calls as there are pages
 pub all_read : (p : TwoPages) (n : ℕ) → n ≤ 2 ^ 32 → HasRead p n → n ≤ p.asked
 all_read p n small h = elim (cases_lt p.asked (2 ^ 32)) [
-  | inl few ↦ omega (arith, h.each few, le-length_from_below h.calls n (λ q hq. let c = h.below q hq in list_any_at (λ k. q == k) h.calls c.0 q c.1 (eq-eqb q _ (sym c.2))))
+  | inl few ↦
+      omega (
+        arith,
+        h.each few,
+        le-length_from_below h.calls n (λ q hq. let c = h.below q hq in list_any_at (λ k. q == k) h.calls c.0 q c.1 (eq-eqb q _ (sym c.2))),
+      )
   | inr many ↦ omega (arith, many, small)
 ]

@@ -11,7 +11,7 @@ use Rattle.std.proofs.lemmas.Bool.Decides.{nat_tests}
 use Rattle.std.proofs.lemmas.List.{get_or-map, length-map}
 use Rattle.std.proofs.lemmas.List.Kept.{AllPairs-from_increasing}
 
--- a number that rises compares so with k
+-- how a rising number compares with k
 compare-rises : (a b k : ℕ) → a ≤ b → ordering_index (nat_cmp a k) ≤ ordering_index (nat_cmp b k)
 compare-rises a b k h = grind (arith, nat_tests)
 
@@ -23,19 +23,28 @@ some_of (x ∷ xs) h = x
 module _ {X : Type 0} (number : X → ℕ) (xs : List X) (rising : IsStrictlyIncreasing (map number xs)) where
   number-rises : (i j : ℕ) (d : X) → i ≤ j → j < length xs → number (get_or xs i d) ≤ number (get_or xs j d)
   number-rises i j d le below = elim (cases_eq i j) [
-    | inl same ↦ let e : number (get_or xs i d) ≡ number (get_or xs j d) = ap (λ n. number (get_or xs n d)) same in omega (arith, e)
+    | inl same ↦
+        let e : number (get_or xs i d) ≡ number (get_or xs j d) = ap (λ n. number (get_or xs n d)) same in
+        omega (arith, e)
     | inr differ ↦
-        let less : get_or (map number xs) i 0 < get_or (map number xs) j 0 = AllPairs-from_increasing (map number xs) rising i j 0 (omega arith) (omega (arith, below, length-map xs number)) in
+        let less : get_or (map number xs) i 0 < get_or (map number xs) j 0 =
+        AllPairs-from_increasing (map number xs) rising i j 0 (omega arith)
+        (omega (arith, below, length-map xs number)) in
         omega (arith, less, get_or-map number xs i d 0 (omega arith), get_or-map number xs j d 0 below)
   ]
 
   compares-rise : (k : ℕ) → IsNonDecreasingBy (λ x. ordering_index (nat_cmp (number x) k)) xs
-  compares-rise k i j d le below = compare-rises (number (get_or xs i d)) (number (get_or xs j d)) k (number-rises i j d le below)
+  compares-rise k i j d le below =
+      compare-rises (number (get_or xs i d)) (number (get_or xs j d)) k (number-rises i j d le below)
 
   -- a binary search for a number ends at a value that has it, or there is none
-  pub searched : (k : ℕ) (r : Result ℕ ℕ) → IsSearchInRange r (length xs) → IsBinarySearchResult (λ x. nat_cmp (number x) k) xs r →
+  pub searched : (k : ℕ) (r : Result ℕ ℕ) → IsSearchInRange r (length xs) →
+      IsBinarySearchResult (λ x. nat_cmp (number x) k) xs r →
       IfSome (result_ok r) (λ i. (i < length xs) × (get_or (map number xs) i 0 ≡ k)) × IfNone (result_ok r) (¬ Contains (map number xs) k)
-  searched k (Ok i) within equal = ((within, get_or-map number xs i (some_of xs (omega arith)) 0 within ∙ ranked (number (get_or xs i (some_of xs (omega arith)))) k Equal (sym (equal (some_of xs (omega arith))))), tt)
+  searched k (Ok i) within equal = (
+    (within, get_or-map number xs i (some_of xs (omega arith)) 0 within ∙ ranked (number (get_or xs i (some_of xs (omega arith)))) k Equal (sym (equal (some_of xs (omega arith))))),
+    tt,
+  )
   searched k (Err i) within parted = (
     tt,
     λ there.
@@ -49,6 +58,10 @@ module _ {X : Type 0} (number : X → ℕ) (xs : List X) (rising : IsStrictlyInc
           let same : number (get_or xs j d) ≡ k = sym (get_or-map number xs j d k in_xs) ∙ has in
           let point = parted (compares-rise k) in
           elim (cases_lt j i) [
-            | inl less ↦ let smaller : number (get_or xs j d) < k = ranked (number (get_or xs j d)) k Less (sym (point.0 j d (omega arith) less)) in omega (arith, smaller, same)
-            | inr more ↦ let greater : k < number (get_or xs j d) = ranked (number (get_or xs j d)) k Greater (sym (point.1 j d more in_xs)) in omega (arith, greater, same)
+            | inl less ↦
+                let smaller : number (get_or xs j d) < k = ranked (number (get_or xs j d)) k Less (sym (point.0 j d (omega arith) less)) in
+                omega (arith, smaller, same)
+            | inr more ↦
+                let greater : k < number (get_or xs j d) = ranked (number (get_or xs j d)) k Greater (sym (point.1 j d more in_xs)) in
+                omega (arith, greater, same)
           ]

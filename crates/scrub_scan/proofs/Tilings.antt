@@ -1,5 +1,5 @@
 -- Tilings: how one grows item by item, and that an extent has one.
-use Rattle.std.proofs.Common.{◌≡◌, ◌<◌, ◌≤◌, ◌+◌, ◌*◌, ◌/◌, ◌%◌, ℕ, List, [], ◌∷◌, ◌++◌, length, arith, refl, sym, ◌∙◌, ap, All, subst, Some, None}
+use Rattle.std.proofs.Common.{◌≡◌, ◌<◌, ◌≤◌, ◌+◌, ◌*◌, ◌/◌, ◌%◌, ℕ, List, [], ◌∷◌, ◌++◌, length, arith, refl, sym, ◌∙◌, ap, All, Some, None}
 use Rattle.std.proofs.Math.Nat.{mod-lt}
 use Rattle.std.proofs.lemmas.Nat.{div-add-mod'}
 use Rattle.std.proofs.lemmas.List.Elements.{All-push, All-head, All-tail}
@@ -19,11 +19,12 @@ pub record TiledTo (x : Extent) (place : ℕ) (items : List Item) : Type 0 where
   pub each : All (IsItem x) items
   pub within : place ≤ x.pointer
 
-pub Joins-push : (a : ℕ) (items : List Item) (item : Item) → Joins a (start_of item) items → Joins a (stop_of item) (items ++ item ∷ [])
+pub Joins-push : (a : ℕ) (items : List Item) (item : Item) → Joins a (start_of item) items →
+    Joins a (stop_of item) (items ++ item ∷ [])
 Joins-push a [] item h = (sym h, refl)
 Joins-push a (first ∷ items) item h = (h.0, Joins-push (stop_of first) items item h.1)
 
--- a bound lies above its place, and not above the pointer
+-- a bound is above its place, and not above the pointer
 bound_above : (x : Extent) (p : ℕ) → 0 < x.page → p < x.pointer → (p < bound x p) × (bound x p ≤ x.pointer)
 bound_above x p pos h =
     let m : p % x.page < x.page = mod-lt p pos in
@@ -31,16 +32,26 @@ bound_above x p pos h =
     (omega (arith, s, h), omega arith)
 
 -- an item stops above its start, and not above the pointer
-pub advances : (x : Extent) (item : Item) → 0 < x.page → IsItem x item → (start_of item < stop_of item) × (stop_of item ≤ x.pointer)
+pub advances : (x : Extent) (item : Item) → 0 < x.page → IsItem x item →
+    (start_of item < stop_of item) × (stop_of item ≤ x.pointer)
 advances x (Chunk f start stop u n digest) pos h =
     let k : IsChunk x start f stop n u digest h.fits.1.0 = h.fits.1.1 in
     (omega (arith, k.stop), omega (arith, k.stop, k.frame.fits))
-advances x (Lost start stop) pos h = let b = bound_above x start pos h.below in (omega (arith, h.fits.0.1, b.0), omega (arith, h.fits.0.1, b.1))
-advances x (Pad start stop) pos h = let b = bound_above x start pos h.below in (omega (arith, h.fits.0.1, b.0), omega (arith, h.fits.0.1, b.1))
-advances x (Torn start stop) pos h = let b = bound_above x start pos h.below in (omega (arith, h.fits.0.1, b.0), omega (arith, h.fits.0.1, b.1))
-advances x (Noise start stop) pos h = let b = bound_above x start pos h.below in (omega (arith, h.fits.0.1, b.0), omega (arith, h.fits.0.1, b.1))
+advances x (Lost start stop) pos h =
+    let b = bound_above x start pos h.below in
+    (omega (arith, h.fits.0.1, b.0), omega (arith, h.fits.0.1, b.1))
+advances x (Pad start stop) pos h =
+    let b = bound_above x start pos h.below in
+    (omega (arith, h.fits.0.1, b.0), omega (arith, h.fits.0.1, b.1))
+advances x (Torn start stop) pos h =
+    let b = bound_above x start pos h.below in
+    (omega (arith, h.fits.0.1, b.0), omega (arith, h.fits.0.1, b.1))
+advances x (Noise start stop) pos h =
+    let b = bound_above x start pos h.below in
+    (omega (arith, h.fits.0.1, b.0), omega (arith, h.fits.0.1, b.1))
 
-pub one_more_item : (x : Extent) (p q : ℕ) (items : List Item) (item : Item) → 0 < x.page → TiledTo x p items → start_of item ≡ p → IsItem x item → q ≡ stop_of item → TiledTo x q (items ++ item ∷ [])
+pub one_more_item : (x : Extent) (p q : ℕ) (items : List Item) (item : Item) → 0 < x.page → TiledTo x p items →
+    start_of item ≡ p → IsItem x item → q ≡ stop_of item → TiledTo x q (items ++ item ∷ [])
 one_more_item x p q items item pos h starts is stops = record {
   joined = rw stops (Joins-push 0 items item (rw starts h.joined));
   each = All-push (IsItem x) items item h.each is;
@@ -48,7 +59,8 @@ one_more_item x p q items item pos h starts is stops = record {
 }
 
 -- an item of the same kind from the same place to the bound is the same; one of two chunks of the same frame, too
-same_span : (kind : ℕ → ℕ → Item) (x : Extent) (p a b a' b' : ℕ) → Spans x p a b → Spans x p a' b' → kind a b ≡ kind a' b'
+same_span : (kind : ℕ → ℕ → Item) (x : Extent) (p a b a' b' : ℕ) → Spans x p a b → Spans x p a' b' →
+    kind a b ≡ kind a' b'
 same_span kind x p a b a' b' h k = ap (λ n. kind n b) (h.0 ∙ sym k.0) ∙ ap (λ n. kind a' n) (h.1 ∙ sym k.1)
 
 same_chunk : (x : Extent) (p : ℕ) (f : Form) (a b : ℕ) (u : List ℕ) (n : ℕ) (d : List ℕ) (g : Form) (a' b' : ℕ) (v : List ℕ) (m : ℕ) (c : List ℕ) →
@@ -56,18 +68,21 @@ same_chunk : (x : Extent) (p : ℕ) (f : Form) (a b : ℕ) (u : List ℕ) (n : �
 same_chunk x p f a b u n d g a' b' v m c h k =
     let s : (f ≡ g) × (u ≡ v) × (h.1.0 ≡ k.1.0) = one_frame_at x p f u h.1.0 g v k.1.0 h.1.1.frame k.1.1.frame in
     let e : n ≡ m = h.1.1.length ∙ ap length s.2 ∙ sym k.1.1.length in
-    let stop : b ≡ b' = h.1.1.stop ∙ ap (λ t. p + length t + frame_overhead f) s.2 ∙ ap (λ (o : Form). p + length k.1.0 + frame_overhead o) s.0 ∙ sym k.1.1.stop in
+    let stop : b ≡ b' =
+    h.1.1.stop ∙ ap (λ t. p + length t + frame_overhead f) s.2
+    ∙ ap (λ (o : Form). p + length k.1.0 + frame_overhead o) s.0 ∙ sym k.1.1.stop in
     let sha : d ≡ c = h.1.1.digest_is ∙ ap sha256 s.2 ∙ sym k.1.1.digest_is in
-    ap (λ z. Chunk z a b u n d) s.0 ∙ ap (λ z. Chunk g z b u n d) (h.0 ∙ sym k.0) ∙ ap (λ z. Chunk g a' z u n d) stop ∙ ap (λ z. Chunk g a' b' z n d) s.1 ∙ ap (λ z. Chunk g a' b' v z d) e ∙ ap (λ z. Chunk g a' b' v m z) sha
+    ap (λ z. Chunk z a b u n d) s.0 ∙ ap (λ z. Chunk g z b u n d) (h.0 ∙ sym k.0) ∙ ap (λ z. Chunk g a' z u n d) stop
+    ∙ ap (λ z. Chunk g a' b' z n d) s.1 ∙ ap (λ z. Chunk g a' b' v z d) e ∙ ap (λ z. Chunk g a' b' v m z) sha
 
--- where zeros stand the page is readable
+-- a page with zeros is readable
 zeros_are_readable : (x : Extent) (p : ℕ) → p < bound x p → IsZero x p → IsUnreadableAt x p → ⊥
 zeros_are_readable x p hp z none = some_none 0 (sym (z p (omega arith) hp) ∙ none)
   where
     some_none : (a : ℕ) → Some a ≡ None → ⊥
     some_none a e = cc
 
--- at most one item fits at a place: the cases exclude one another
+-- at most one item fits at a place, since the cases exclude one another
 one_item_fits : (x : Extent) (p : ℕ) (i j : Item) → p < bound x p → Fits x p i → Fits x p j → i ≡ j
 one_item_fits x p (Chunk f a b u n d) (Chunk g a' b' v m c) hp h k = same_chunk x p f a b u n d g a' b' v m c h k
 one_item_fits x p (Chunk f a b u n d) (Lost a' b') hp h k = absurd (k.1 f u h.1.0 h.1.1.frame)
@@ -95,19 +110,27 @@ one_item_fits x p (Noise a b) (Pad a' b') hp h k = absurd (h.3 k.2)
 one_item_fits x p (Noise a b) (Torn a' b') hp h k = absurd (h.4 k.4)
 one_item_fits x p (Noise a b) (Noise a' b') hp h k = same_span Noise x p a b a' b' h.0 k.0
 
--- the item at a place is one
+-- there is one item at a place
 pub one_item : (x : Extent) (i j : Item) → 0 < x.page → IsItem x i → IsItem x j → start_of i ≡ start_of j → i ≡ j
 one_item x i j pos h k e =
-    one_item_fits x (start_of i) i j (bound_above x (start_of i) pos h.below).0 h.fits (subst (λ (m : ℕ). Fits x m j) (sym e) k.fits)
+    one_item_fits x (start_of i) i j (bound_above x (start_of i) pos h.below).0 h.fits (rw e k.fits)
 
 pub one_tiling : (x : Extent) (is js : List Item) → 0 < x.page → IsTiling x is → IsTiling x js → is ≡ js
 one_tiling x is js pos h k = go 0 is js h.joined k.joined h.each k.each
   where
-    go : (a : ℕ) (is js : List Item) → Joins a x.pointer is → Joins a x.pointer js → All (IsItem x) is → All (IsItem x) js → is ≡ js
+    go : (a : ℕ) (is js : List Item) → Joins a x.pointer is → Joins a x.pointer js → All (IsItem x) is →
+        All (IsItem x) js → is ≡ js
     go a [] [] h k hs ks = refl
-    go a [] (j ∷ js) h k hs ks = let one : IsItem x j = All-head (IsItem x) j js ks in absurd (let f : ⊥ = omega (arith, one.below, h, k.0) in f)
-    go a (i ∷ is) [] h k hs ks = let one : IsItem x i = All-head (IsItem x) i is hs in absurd (let f : ⊥ = omega (arith, one.below, k, h.0) in f)
+    go a [] (j ∷ js) h k hs ks =
+        let one : IsItem x j = All-head (IsItem x) j js ks in
+        absurd (omega (arith, one.below, h, k.0))
+    go a (i ∷ is) [] h k hs ks =
+        let one : IsItem x i = All-head (IsItem x) i is hs in
+        absurd (omega (arith, one.below, k, h.0))
     go a (i ∷ is) (j ∷ js) h k hs ks =
-        let one : i ≡ j = one_item x i j pos (All-head (IsItem x) i is hs) (All-head (IsItem x) j js ks) (h.0 ∙ sym k.0) in
-        let rest : is ≡ js = go (stop_of i) is js h.1 (subst (λ (m : ℕ). Joins m x.pointer js) (sym (ap stop_of one)) k.1) (All-tail (IsItem x) i is hs) (All-tail (IsItem x) j js ks) in
+        let one : i ≡ j =
+        one_item x i j pos (All-head (IsItem x) i is hs) (All-head (IsItem x) j js ks) (h.0 ∙ sym k.0) in
+        let rest : is ≡ js =
+        go (stop_of i) is js h.1 (rw (ap stop_of one) k.1) (All-tail (IsItem x) i is hs)
+        (All-tail (IsItem x) j js ks) in
         ap (λ z. z ∷ is) one ∙ ap (λ zs. j ∷ zs) rest

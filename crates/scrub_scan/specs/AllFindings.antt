@@ -1,4 +1,4 @@
--- The findings of one reader, who goes through the planned extents in the order of their numbers.
+-- The findings of all planned extents, in rising order.
 use Rattle.std.specs.Prelude.{◌≡◌, ◌<◌, ◌==◌, ℕ, List, [], All, map, Some, Option, MatchOption, option_map, length, slice_index}
 use Rattle.std.specs.List.{find}
 use Rattle.std.specs.List.Sorted.{IsStrictlyIncreasing}

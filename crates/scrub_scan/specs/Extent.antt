@@ -4,8 +4,8 @@ use Rattle.scrub_disk.specs.Image.{Image, byte, AreBytesAt}
 use Rattle.scrub_frame.specs.declared.form.Form.{Form}
 use Rattle.scrub_frame.specs.Frame.{frame, magic, frame_overhead, HasFrame}
 
--- an extent under its write pointer: each byte, None if its page is unreadable; the bytes of a page; and the pointer,
--- in bytes
+-- an extent under its write pointer: each byte, or None if its page is unreadable; the size of a page; and the pointer,
+-- both in bytes
 pub record Extent : Type 0 where
   pub byte : ℕ → Option ℕ
   pub page : ℕ
@@ -21,7 +21,7 @@ pub record FrameAt (x : Extent) (p : ℕ) (f : Form) (u b : List ℕ) : Type 0 w
   pub fits : p + length b + frame_overhead f ≤ x.pointer
   pub stands : AreBytesAt x.byte p (frame f u b)
 
--- the least of the pointer and the next page bound above p
+-- the next page bound above p, or the pointer if that comes first
 abbrev pub bound : Extent → ℕ → ℕ
 bound x p = min x.pointer ((p / x.page + 1) * x.page)
 
@@ -29,7 +29,7 @@ bound x p = min x.pointer ((p / x.page + 1) * x.page)
 abbrev pub NoFrameAt : Extent → ℕ → Type 0
 NoFrameAt x p = (f : Form) (u b : List ℕ) → ¬ FrameAt x p f u b
 
--- p is a place of the extent, and its page is unreadable
+-- byte p of the extent can't be read, since its page is unreadable
 abbrev pub IsUnreadableAt : Extent → ℕ → Type 0
 IsUnreadableAt x p = x.byte p ≡ None
 

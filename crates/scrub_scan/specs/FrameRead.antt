@@ -1,4 +1,4 @@
--- How bytes are read from their place: each page's are put after those before it.
+-- Steps of reading the bytes at a place: those of each page are put after those before it.
 use Rattle.std.specs.Prelude.{◌≡◌, ◌<◌, ◌≤◌, ◌++◌, ℕ, List, Option, length}
 use Rattle.scrub_disk.specs.Image.{AreBytesAt}
 

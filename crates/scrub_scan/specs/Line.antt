@@ -1,5 +1,5 @@
--- The line of an item: the word for its kind, of a chunk by its form, and its numbers in decimal, with one space
--- between; a UUID is written as RFC 9562 does, in lower case.
+-- The line of an item: the word for its kind, and its numbers in decimal, with one space between. A UUID is written as in
+-- RFC 9562, in lower case.
 use Rattle.std.specs.Prelude.{ℕ, List, ◌++◌, codes}
 use Rattle.std.specs.Fmt.{decimal}
 use Rattle.uuid.specs.Text.{hyphenated_text, lower}
@@ -21,7 +21,7 @@ abbrev pub chunk_word : Form → List ℕ
 chunk_word Plain = codes "chunk"
 chunk_word Sealed = codes "sealed"
 
--- the line of an item: the word for its kind, where it begins and stops, and of a chunk its UUID and its payload's
+-- the line of an item: the word for its kind, where it begins and stops, and for a chunk its UUID and its payload's
 -- length
 abbrev pub line_of : Item → List ℕ
 line_of (Chunk form start stop uuid length digest) =

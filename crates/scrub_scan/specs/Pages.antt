@@ -50,7 +50,7 @@ pub record HasRead (p : TwoPages) (n : ℕ) : Type 0 where
   pub far : IfSome p.far.number (Contains calls)
   pub below : (q : ℕ) → q < n → Contains calls q
 
--- pages before and after some reads into the far one: the near one is the same, and what was asked for still counts
+-- pages before and after some reads into the far one: the near one is the same, and what was asked for is still counted
 pub record KeepsNear (old new : TwoPages) : Type 0 where
   pub near : new.near ≡ old.near
   pub read : (n : ℕ) → HasRead old n → HasRead new n
@@ -65,7 +65,7 @@ pub record IsTarget (image : Image) (t : Target) : Type 0 where
 abbrev pub last_page : Target → ℕ → Form → ℕ → ℕ
 last_page t p f n = (p + n + frame_overhead f - 1) / t.page
 
--- how many page reads a frame costs beside its first page g, with its last on page b: none if these are one
+-- how many page reads a frame costs besides its first page g, if its last page is b: none if these are one page
 abbrev pub frame_cost : ℕ → ℕ → ℕ
 frame_cost g b = if nat_lt g b then 4 + (b - g) else 0
 

@@ -1,4 +1,4 @@
--- The frame at a place of an extent, and its payload; and what the ends of a frame alone say of one.
+-- The frame at a place of an extent, and its payload; and what a frame's two ends alone say of it.
 use Rattle.std.specs.Prelude.{◌≡◌, ◌<◌, ◌≤◌, ◌+◌, ◌^◌, ◌++◌, ℕ, List}
 use Rattle.std.specs.Prelude.{length as len}
 use Rattle.sha2.specs.Sha256.{sha256}

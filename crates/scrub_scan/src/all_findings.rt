@@ -1,4 +1,4 @@
-//! The findings of all planned extents, of which there may be none. How those of one extent come about is left to `scanning`.
+//! The findings of all planned extents, of which there may be none. `scanning` makes those of one extent.
 
 ghost use Rattle.std.specs.Prelude.{◌≡◌, ◌<◌, ℕ, map, length, IfSome, IfNone, Contains, Some, slice_get, slice_index};
 ghost use Rattle.std.specs.Option.{option_map_or};
@@ -13,7 +13,7 @@ use scrub_disk::PageSource;
 use scrub_super::Plan;
 use std::marker::Model;
 
-/// What was found in the scanned extents of one source, by the rising numbers of the extents, each once.
+/// What was found in the scanned extents of one source: each extent once, in rising order.
 #[derive(Drop)]
 pub struct AllFindings<'d, D: PageSource> {
     slots: Vec<Option<ExtentResult<'d, D>>>,
@@ -31,7 +31,7 @@ impl<'d, D: PageSource> Model for AllFindings<'d, D> {
         (record { source = first_source (held_in a.slots.items); extents = scanned_in a.slots.items }) };
 }
 
-/// The number of the extent whose result stands in a place, 0 where there is none.
+/// The number of the extent whose result is in a slot, or 0 if it is empty.
 fn number_in<D: PageSource>(slot: &Option<ExtentResult<'_, D>>) -> u32
     ensures { result ≡ option_map_or (λ r. r.extent) slot.now 0 }
 {
@@ -41,7 +41,7 @@ fn number_in<D: PageSource>(slot: &Option<ExtentResult<'_, D>>) -> u32
     }
 }
 
-/// Where among places that each have a result, by rising numbers of extents, that of an extent is.
+/// The index of an extent's result, if there is one. Each slot has a result, and their extents rise.
 fn position_of<D: PageSource>(slots: &[Option<ExtentResult<'_, D>>], extent: u32) -> Option<usize>
     requires full { AreFull slots.now }
     requires rising { IsStrictlyIncreasing (extent_numbers (scanned_in slots.now)) }
@@ -58,8 +58,8 @@ impl<'d, D: PageSource> AllFindings<'d, D> {
     ghost use Rattle.scrub_scan.specs.Slots.{AreSlots};
     ghost use Rattle.scrub_scan.specs.AllFindings.{entry_of, findings_in, AreScannedBy, AreAllFindings, IsOfImage};
 
-    /// The findings of one reader, of places that have the results of the planned extents, in their order, all there, of
-    /// one image and under the plan's pointers. It takes no memory: the places are kept as they are.
+    /// All findings, from slots that hold the results of the planned extents in order, none missing, of one image and with
+    /// the plan's pointers. Takes no memory: it keeps the slots.
     pub fn from_slots(plan: &Plan, slots: Vec<Option<ExtentResult<'d, D>>>) -> AllFindings<'d, D>
         requires slots { (image : Image) × AreSlots image plan.now slots.items }
         requires full { AreFull slots.items }
@@ -67,7 +67,7 @@ impl<'d, D: PageSource> AllFindings<'d, D> {
         ensures image { (image : Image) → AreSlots image plan.now slots.entry.items → IsOfImage (λ s. D.image s) result image }
         ensures findings { (image : Image) → AreSlots image plan.now slots.entry.items → AreAllFindings image plan.now result.extents }
     {
-        // It tells that the planned extents rise.
+        // For the proof alone: the contract of `planned` says that the planned extents rise, as the type's invariant needs.
         let _ = plan.planned();
         AllFindings { slots }
     }
@@ -75,7 +75,7 @@ impl<'d, D: PageSource> AllFindings<'d, D> {
     /// How many extents were scanned.
     pub fn len(&self) -> usize
         ensures count { result ≡ length self.now.extents }
-        // Every value of the type is such.
+        // The type's invariant, for callers that only borrow the findings.
         ensures scanned { AreScannedBy (λ s. D.image s) self.now }
     {
         self.slots.len()
@@ -85,7 +85,7 @@ impl<'d, D: PageSource> AllFindings<'d, D> {
     pub fn extent_at(&self, i: usize) -> u32
         requires { i < length self.now.extents }
         ensures number { result ≡ slice_index (extent_numbers self.now.extents) i }
-        // Every value of the type is such.
+        // The type's invariant, for callers that only borrow the findings.
         ensures scanned { AreScannedBy (λ s. D.image s) self.now }
     {
         self.result_at(i).extent()
@@ -95,7 +95,7 @@ impl<'d, D: PageSource> AllFindings<'d, D> {
     pub fn result_at(&self, i: usize) -> &ExtentResult<'d, D>
         requires { i < length self.now.extents }
         ensures result { slice_get self.now.extents i ≡ Some (scanned result.now) }
-        // Every value of the type is such.
+        // The type's invariant, for callers that only borrow the findings.
         ensures scanned { AreScannedBy (λ s. D.image s) self.now }
     {
         match &self.slots[i] {
@@ -108,7 +108,7 @@ impl<'d, D: PageSource> AllFindings<'d, D> {
     pub fn result_of(&self, extent: u32) -> Option<&ExtentResult<'d, D>>
         ensures found { IfSome result (λ r. entry_of self.now.extents extent ≡ Some (scanned r.now)) }
         ensures none { IfNone result (¬ Contains (extent_numbers self.now.extents) extent) }
-        // Every value of the type is such.
+        // The type's invariant, for callers that only borrow the findings.
         ensures scanned { AreScannedBy (λ s. D.image s) self.now }
     {
         let i = position_of(&self.slots, extent)?;
@@ -119,7 +119,7 @@ impl<'d, D: PageSource> AllFindings<'d, D> {
     pub fn of_extent(&self, extent: u32) -> Option<&Findings>
         ensures found { IfSome result (λ f. findings_in self.now.extents extent ≡ Some f.now) }
         ensures none { IfNone result (¬ Contains (extent_numbers self.now.extents) extent) }
-        // Every value of the type is such.
+        // The type's invariant, for callers that only borrow the findings.
         ensures scanned { AreScannedBy (λ s. D.image s) self.now }
     {
         Some(self.result_of(extent)?.findings())

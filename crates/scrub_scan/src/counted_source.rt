@@ -1,5 +1,5 @@
-//! A source whose reads are counted, and their count. Only a read raises the count, and code that has a counted source
-//! alone can't read without raising one. Which pages are read is left to `pages`.
+//! A source whose reads are counted. Only a read raises the count, and code that has only the counted source can't read
+//! without raising it. `pages` decides which pages are read.
 
 ghost use Rattle.std.specs.Prelude.{◌≡◌, ◌+◌, ◌-◌, ◌^◌, ◌<◌, min, length, OnOk, OnErr, Some, None};
 ghost use Rattle.scrub_disk.specs.Image.{HasWholePages};
@@ -7,8 +7,7 @@ ghost use Rattle.scrub_disk.specs.Image.{HasWholePages};
 use scrub_disk::{Geometry, PageSource, Unreadable};
 use std::marker::Model;
 
-/// A source that gives a page only where the call is counted. Its field is private, so nobody gets the bare source back.
-/// Contracts see the source.
+/// A source that counts each read. Its field is private, so nobody gets the bare source back. Contracts see the source.
 #[derive(Drop)]
 pub(crate) struct CountedSource<'d, D: PageSource> {
     source: &'d D,
@@ -20,8 +19,8 @@ impl<'d, D: PageSource> Model for CountedSource<'d, D> {
     ghost view = { λ c. c.source.now };
 }
 
-/// How often a counted source was asked for a page. It can't be copied, and it can't be made from a number: `lend` makes
-/// it at 0, and `read_page` alone raises it.
+/// How often a counted source was asked for a page. It can't be copied or made from a number: `lend` makes it at 0, and
+/// only `read_page` raises it.
 #[derive(Drop)]
 pub(crate) struct PagesAsked {
     count: u64,
@@ -35,7 +34,7 @@ impl Model for PagesAsked {
     ghost view = { λ a. a.count };
 }
 
-/// Lends a source, so that its reads are counted, from 0 on.
+/// Wraps a source so that its reads are counted, from 0 on.
 pub(crate) fn lend<'d, D: PageSource>(source: &'d D) -> (CountedSource<'d, D>, PagesAsked)
     ensures source { result.0 ≡ source.now }
     ensures none { result.1 ≡ 0 }
@@ -56,13 +55,13 @@ impl<'d, D: PageSource> CountedSource<'d, D> {
     /// The disk's sizes.
     pub fn geometry(&self) -> Geometry
         ensures value { result ≡ (D.image self.now).geometry }
-        // Every source is such.
+        // The law of a source, for callers of this crate.
         ensures whole_pages { HasWholePages (D.image self.now) }
     {
         self.source.geometry()
     }
 
-    /// Reads one page of an extent into `out`, as the source does, and counts the call. A count of 2^64 - 1 stays.
+    /// Reads one page of an extent into `out`, as the source does, and counts the call. The count stays at 2^64 - 1.
     pub fn read_page(
         &self,
         asked: &mut PagesAsked,

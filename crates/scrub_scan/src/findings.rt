@@ -1,4 +1,4 @@
-//! What was found in an extent: its items, its tail and its unreadable pages. How they were found is left to `scanning`.
+//! What was found in an extent: its items, its tail and its unreadable pages. `scanning` finds them.
 
 ghost use Rattle.std.specs.Prelude.{◌≡◌};
 
@@ -28,7 +28,7 @@ impl PageNumbers {
     }
 }
 
-/// What was found in an extent under a write pointer.
+/// What was found in an extent with a write pointer.
 #[derive(Drop)]
 pub struct Findings {
     /// The items below the pointer, in order.

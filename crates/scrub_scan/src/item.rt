@@ -1,4 +1,4 @@
-//! The items of an extent, and their lines of text. Where items begin and end is left to `tiling`.
+//! The items of an extent, and their lines of text. `tiling` finds where they begin and end.
 
 ghost use Rattle.std.specs.Prelude.{◌≡◌, IfOk, length, string_bytes};
 
@@ -9,13 +9,12 @@ use std::fmt;
 use std::marker::Model;
 use uuid::Uuid;
 
-/// What stands on a part of an extent, from its byte `start` up to its byte `stop`, which belongs to what comes next. All
-/// but a chunk stop at the next page bound above their start, or at the write pointer where that comes first.
+/// A part of an extent, from byte `start` up to but not including byte `stop`. All items except chunks stop at the next
+/// page bound above their start, or at the write pointer if that comes first.
 #[derive(Debug, Clone, Copy, PartialEq, Eq)]
 pub enum Item {
-    /// A whole frame on readable pages, with its form, its UUID, the length of its payload in bytes (`stop` is
-    /// `form.overhead()` bytes further than that), and the SHA-256 of its payload. Nothing says that the payload is what its
-    /// writer meant.
+    /// A whole frame on readable pages, with its form, its UUID, the length of its payload in bytes (`stop - start` is
+    /// `form.overhead()` more), and the SHA-256 of its payload. The payload may still not be what its writer meant.
     Chunk {
         form: Form,
         start: u32,
@@ -29,7 +28,7 @@ pub enum Item {
         start: u32,
         stop: u32,
     },
-    /// A magic of one of the forms with no whole frame behind it, as a write that never ended leaves it.
+    /// A magic of one of the forms without a whole frame, as an interrupted write leaves it.
     Torn {
         start: u32,
         stop: u32,
@@ -46,7 +45,7 @@ pub enum Item {
     },
 }
 
-/// The items of an extent in rising order, without gap or overlap. Contracts see them as a list.
+/// The items of an extent in rising order, without gaps or overlaps. Contracts see them as a list.
 #[derive(Drop)]
 pub struct Items {
     pub(crate) items: Vec<Item>,
@@ -64,7 +63,7 @@ impl Model for Items {
 impl Item {
     ghost use Rattle.scrub_scan.specs.Item.{span_of, start_of, stop_of};
 
-    /// The byte of the extent that the item begins at, and the one behind its last.
+    /// The byte of the extent at which the item begins, and the one behind its last.
     fn span(&self) -> (u32, u32)
         ensures { result ≡ span_of self.now }
     {
@@ -77,7 +76,7 @@ impl Item {
         }
     }
 
-    /// The byte of the extent that the item begins at.
+    /// The byte of the extent at which the item begins.
     pub fn start(&self) -> u32
         ensures { result ≡ start_of self.now }
     {
@@ -131,9 +130,8 @@ impl fmt::Display for Item {
 
 ghost use Rattle.scrub_scan.specs.Line.{chunk_word, line_of};
 
-/// The line of an item, without a line feed: the word for its kind (of a chunk `chunk` or `sealed`, by its form), its start
-/// and stop in decimal, and of a chunk its
-/// UUID as RFC 9562 writes it, in lower case, and the length of its payload.
+/// The line of an item, without a line feed: the word for its kind (`chunk` or `sealed` for a chunk, by its form), its
+/// start and stop in decimal, and for a chunk also its UUID (RFC 9562, lower case) and the length of its payload.
 pub fn item_line(alloc: Global, item: &Item) -> Result<String, OutOfMemory>
     ensures { IfOk result (λ line. string_bytes line ≡ line_of item.now) }
 {

@@ -1,4 +1,4 @@
-//! Reading the bytes at a place of an extent, where all of them can be read. They are judged in `standing`.
+//! Reads the bytes at a place of an extent, if all of them are readable. `standing` judges them.
 
 ghost use Rattle.std.specs.Prelude.{◌≡◌, ◌+◌, ◌<◌, ◌≤◌, IfOk, IfSome, IfNone, None, length};
 ghost use Rattle.scrub_disk.specs.Image.{byte, extent_bytes, AreBytesAt};
@@ -8,8 +8,8 @@ ghost use Rattle.scrub_scan.specs.FrameRead.{AppendsAtMost};
 use scrub_disk::{OutOfMemory, PageSource};
 use std::alloc::Global;
 
-/// Appends the bytes of an extent from a place on that lie on the page of the place, at most `size` of them, and says how
-/// many these are: `None` where the page is unreadable. The page is read into the buffer.
+/// Appends the bytes of an extent from `place` to the end of its page, at most `size` of them, and returns how many these
+/// are. `None` if the page is unreadable. The page is read into the buffer.
 fn append_part<D: PageSource>(
     disk: &D,
     extent: u32,
@@ -39,7 +39,7 @@ fn append_part<D: PageSource>(
     Ok(Some(last - first))
 }
 
-/// The `size` bytes of an extent from `start` on, or `None` where one of them lies on an unreadable page.
+/// The `size` bytes of an extent from `start` on, or `None` if one of them is on an unreadable page.
 pub(crate) fn read_bytes<D: PageSource>(
     alloc: Global,
     disk: &D,

@@ -1,4 +1,4 @@
-//! The item at a place of an extent, found by reading one page at a time. Which places are asked for is left to `tiling`.
+//! Finds the item at a place of an extent, reading one page at a time. `tiling` decides which places to look at.
 
 ghost use Rattle.std.specs.Prelude.{◌≡◌, ◌+◌, ◌-◌, ◌*◌, ◌/◌, ◌^◌, ◌<◌, ◌≤◌, ◌↔◌, ◌∷◌, [], ℕ, List, true, false, None, Some, IsTrue, IfOk, IfSome, IfNone, length, slice_index};
 ghost use Rattle.scrub_disk.specs.Image.{Image, byte, extent_bytes, AreBytesAt};
@@ -16,12 +16,12 @@ use crate::pages::{Target, TwoPages};
 use crate::zeros::is_zero;
 use scrub_disk::{OutOfMemory, PageSource};
 use scrub_frame::{
-    DIGEST_BYTES, CLOSE_BYTES, Fed, Form, HEAD_BYTES, LEAST_OVERHEAD, Matcher, put_part, read_head,
+    CLOSE_BYTES, DIGEST_BYTES, Fed, Form, HEAD_BYTES, LEAST_OVERHEAD, Matcher, put_part, read_head,
 };
 use std::alloc::Global;
 use uuid::Uuid;
 
-/// A frame that stands at a place.
+/// A frame that was found at a place.
 #[derive(Clone, Copy)]
 pub(crate) struct Found {
     pub form: Form,
@@ -32,13 +32,13 @@ pub(crate) struct Found {
     pub digest: [u8; DIGEST_BYTES],
 }
 
-/// Reads an extent by pages. It keeps two pages, the running digest of the frame that passes, and one page that it found
-/// unreadable.
+/// Reads an extent page by page. It keeps two pages, the running digest of the current frame, and the number of one
+/// unreadable page.
 #[derive(Drop)]
 pub(crate) struct Scanner {
     pub pages: TwoPages,
     matcher: Matcher,
-    /// The last page that broke off a frame. Other frames that claim it are refused without being read.
+    /// The last unreadable page that cut off a frame. Other frames that claim it are refused without being read.
     gap: Option<u32>,
 }
 
@@ -51,7 +51,7 @@ fn has_magic(part: &[u8]) -> bool
     part.len() >= 2 && Form::with_magic(part[0], part[1]).is_some()
 }
 
-/// The item of a part that can be read, from a place where no frame stands up to the bound above it.
+/// The item of a readable part: it begins at a place with no frame, and goes up to the next bound.
 fn readable_item(part: &[u8], start: u32, stop: u32) -> Item
     requires some { start < stop }
     requires whole { start + length part.now ≡ stop }
@@ -86,7 +86,7 @@ impl Scanner {
         })
     }
 
-    /// The count of its reads, once it reads no more.
+    /// The count of its reads, when it is done.
     pub fn into_asked(self) -> PagesAsked
         ensures { result ≡ self.pages.asked }
     {
@@ -120,7 +120,7 @@ impl Scanner {
         }
     }
 
-    /// The frame that stands at a place below the pointer, whose page becomes the near one.
+    /// The frame at a place below the pointer, if there is one. The page of the place becomes the near one.
     pub fn frame_at<D: PageSource>(
         &mut self,
         disk: &CountedSource<'_, D>,
@@ -149,7 +149,7 @@ impl Scanner {
         self.pass_frame(disk, target, start)
     }
 
-    /// The chunk of a frame that stands at a place. Where the next item begins on the far page, that becomes the near one.
+    /// The chunk of a frame that was found at a place. If the next item begins on the far page, that becomes the near one.
     fn chunk_of(&mut self, target: &Target, start: usize, found: Found) -> Item
         requires below { start < target.now.pointer }
         requires fits { start + found.length + frame_overhead found.form ≤ target.now.pointer }
@@ -180,7 +180,7 @@ impl Scanner {
         }
     }
 
-    /// The item at a place on the near page, where no frame stands: what lies between it and the bound above it.
+    /// The item at a place on the near page with no frame: it goes up to the next bound.
     fn unframed_at(&self, target: &Target, start: usize) -> Item
         requires below { start < target.now.pointer }
         requires page { self.now.pages.page ≡ target.now.page }
@@ -200,9 +200,9 @@ impl Scanner {
         }
     }
 
-    /// Whether a frame may stand at a place, by its head, by the page that is known to be unreadable, and by what closes it.
-    /// It is asked before anything is hashed, so that a head which claims a frame whose far end isn't there costs three
-    /// pages at most.
+    /// Whether a frame may be at a place: its head is there, it doesn't contain the page known to be unreadable, and what
+    /// closes it is there. This is checked before anything is hashed, so a head without its far end costs at most three
+    /// page reads.
     fn may_stand<D: PageSource>(
         &mut self,
         disk: &CountedSource<'_, D>,
@@ -245,7 +245,7 @@ impl Scanner {
         )
     }
 
-    /// Whether the page that broke off a frame is one of these.
+    /// Whether the known unreadable page is one of these.
     fn has_gap(&self, first: usize, last: usize) -> bool
         ensures found { IsTrue result → (q : ℕ) × (self.now.gap ≡ Some q) × (first ≤ q) × (q ≤ last) }
         ensures none { result ≡ false → (q : ℕ) → self.now.gap ≡ Some q → first ≤ q → last < q }
@@ -256,7 +256,7 @@ impl Scanner {
         }
     }
 
-    /// Whether these bytes, no more than close a frame, stand at a place.
+    /// Whether these bytes, at most as many as close a frame, are at a place.
     fn has_bytes<D: PageSource>(
         &mut self,
         disk: &CountedSource<'_, D>,
@@ -285,7 +285,7 @@ impl Scanner {
         *found == *wanted
     }
 
-    /// Fills `out` with the bytes from a place on, and says whether all of them can be read.
+    /// Fills `out` with the bytes from a place on. False if one of them is unreadable.
     fn fill<D: PageSource>(
         &mut self,
         disk: &CountedSource<'_, D>,
@@ -321,7 +321,7 @@ impl Scanner {
         true
     }
 
-    /// The frame that stands at a place. Its bytes are hashed as they pass.
+    /// The frame at a place, if there is one. Its payload is hashed page by page.
     fn pass_frame<D: PageSource>(
         &mut self,
         disk: &CountedSource<'_, D>,
@@ -367,7 +367,7 @@ impl Scanner {
         None
     }
 
-    /// Feeds what stands from a place up to the bound above it: `No` where that can't be read.
+    /// Feeds the matcher the bytes from a place up to the next bound. `No` if they are unreadable.
     fn pass_page<D: PageSource>(
         &mut self,
         disk: &CountedSource<'_, D>,

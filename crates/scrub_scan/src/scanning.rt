@@ -1,4 +1,4 @@
-//! Scanning planned extents: of each its items, its tail and its unreadable pages, read page by page.
+//! Scans planned extents page by page, and finds the items, the tail and the unreadable pages of each.
 
 ghost use Rattle.std.specs.Prelude.{◌≡◌, ◌≤◌, ◌<◌, Contains, IfOk, Some};
 ghost use Rattle.scrub_disk.specs.Image.{extent_bytes};
@@ -18,7 +18,7 @@ use scrub_disk::{OutOfMemory, PageSource};
 use scrub_super::Plan;
 use std::alloc::Global;
 
-/// What an extent of a source's image holds under a write pointer.
+/// Scans an extent with a write pointer.
 fn scan_under<'d, D: PageSource>(
     alloc: Global,
     disk: &'d D,
@@ -31,7 +31,7 @@ fn scan_under<'d, D: PageSource>(
     ensures extent { IfOk result (λ r. (scanned r).extent ≡ extent) }
     ensures pointer { IfOk result (λ r. (scanned r).pointer ≡ pointer) }
 {
-    // The only loan: whatever reads below gets the source through it, and the result gets its count.
+    // The source is lent only here: all reads below go through it, and the result gets its count.
     let (counted, asked) = lend(disk);
     let target = Target::new(&counted, extent, pointer);
     let mut scanner = Scanner::new(alloc, target.page, asked)?;
@@ -52,8 +52,7 @@ fn scan_under<'d, D: PageSource>(
     Ok(ExtentResult::new(disk, extent, pointer, findings, scanner.into_asked()))
 }
 
-/// What a planned extent of a source's image holds under the plan's write pointer. Its result tells how often a page was
-/// asked for.
+/// Scans a planned extent with the plan's write pointer. `pages_asked` of the result is the number of page reads.
 pub fn scan_extent<'d, D: PageSource>(
     alloc: Global,
     disk: &'d D,
@@ -66,12 +65,12 @@ pub fn scan_extent<'d, D: PageSource>(
     ensures extent { IfOk result (λ r. (scanned r).extent ≡ extent) }
     ensures pointer { IfOk result (λ r. pointer_of plan.now extent ≡ Some (scanned r).pointer) }
 {
-    // It tells that the planned extents rise.
+    // For the proof alone: the contract of `planned` says that the planned extents are below the disk's number of extents.
     let _ = plan.planned();
     scan_under(alloc, disk, extent, plan.pointer(extent))
 }
 
-/// The findings of one reader, who scans the planned extents one after another, by rising numbers.
+/// Scans all planned extents one after another, in rising order.
 pub fn scan_in_order<'d, D: PageSource>(
     alloc: Global,
     disk: &'d D,

@@ -1,4 +1,4 @@
-//! The frame at a given place of an extent, without the tiling. `scrub_check` says whether an item begins there.
+//! The frame at a given place of an extent, without the tiling. `scrub_check` finds out whether an item begins there.
 
 ghost use Rattle.std.specs.Prelude.{◌≡◌, ◌<◌, ◌≤◌, ◌+◌, ◌++◌, ℕ, List, true, false, take, length, IfOk, IfSome, IfNone};
 ghost use Rattle.scrub_disk.specs.Image.{Image, byte, extent_bytes, AreBytesAt};
@@ -17,12 +17,12 @@ use scrub_frame::{DIGEST_BYTES, Form, HEAD_BYTES, Head, LEAST_OVERHEAD, read_hea
 use std::alloc::Global;
 use uuid::Uuid;
 
-/// A frame that stands in an extent.
+/// A frame that was found in an extent.
 #[derive(Debug, Clone, Copy, PartialEq, Eq)]
 pub struct Standing {
     /// The number of the extent.
     pub extent: u32,
-    /// The byte of the extent that the frame begins at.
+    /// The byte of the extent at which the frame begins.
     pub offset: u32,
     /// The form of the frame.
     pub form: Form,
@@ -34,8 +34,8 @@ pub struct Standing {
     pub digest: [u8; DIGEST_BYTES],
 }
 
-/// The frame that stands at a place of an extent: it ends at or before the pointer, and every byte of it can be read.
-/// Places are bytes of the extent. Only the pages that the frame claims are read.
+/// The frame at byte `offset` of an extent, if there is one, all of it is readable, and it ends at or before the pointer
+/// (in bytes too). Only the pages that its head claims are read.
 pub fn frame_stands<D: PageSource>(
     alloc: Global,
     disk: &D,
@@ -76,7 +76,7 @@ pub fn frame_stands<D: PageSource>(
     }
 }
 
-/// The head that the bytes of one are.
+/// Parses a head.
 fn head_in(bytes: &[u8]) -> Option<Head>
     requires { length bytes.now ≡ head_size }
     ensures found { IfSome result (λ h. bytes.now ≡ head h.form h.uuid h.length) }
@@ -85,7 +85,7 @@ fn head_in(bytes: &[u8]) -> Option<Head>
     read_head(bytes.first_chunk::<HEAD_BYTES>()?)
 }
 
-/// The head that stands at a place of an extent, where it can be read.
+/// The head at a place of an extent, if there is one and it is readable.
 fn head_at<D: PageSource>(
     alloc: Global,
     disk: &D,
@@ -104,7 +104,7 @@ fn head_at<D: PageSource>(
     }
 }
 
-/// Whether what closes the frame that a head claims stands where that frame would end.
+/// Whether the frame that a head claims is closed where it would end.
 fn is_closed<D: PageSource>(
     alloc: Global,
     disk: &D,
@@ -132,9 +132,9 @@ fn is_closed<D: PageSource>(
     }
 }
 
-/// The head at a place of an extent, where what closes the frame that it claims stands too, at or before the pointer. A
-/// frame that stands there has the form, the UUID and the length that it says. Whether one does is another question: what
-/// lies between the head and the close isn't read, and no payload is hashed. At most four pages are read.
+/// The head at a place of an extent, if the frame that it claims is closed where it would end, at or before the pointer. If
+/// a frame is there, it has this form, UUID and length. But there may be none: what is between the head and the close isn't
+/// read, and no payload is hashed. At most four pages are read.
 pub fn claimed_frame<D: PageSource>(
     alloc: Global,
     disk: &D,
@@ -163,7 +163,7 @@ pub fn claimed_frame<D: PageSource>(
     Ok(Some(head))
 }
 
-/// The payload of a frame that stands in the disk's image.
+/// The payload of a frame that is in the disk's image.
 pub fn read_payload<D: PageSource>(
     alloc: Global,
     disk: &D,
@@ -185,15 +185,15 @@ pub fn read_payload<D: PageSource>(
     }
 }
 
-/// A law: at a place of an extent one frame stands at most, under whichever pointers it is judged. So what `frame_stands`
-/// finds and what `read_payload` gives is the frame that stands there.
+/// A law: at most one frame is at a place of an extent, whatever the pointers. So `frame_stands` finds the only one, and
+/// `read_payload` gives its payload.
 pub fn one_frame_stands()
     ensures { (image : Image) (e v w place : ℕ) (f : Form) (t b : List ℕ) (g : Form) (u c : List ℕ) →
         FrameAt (extent_of image e v) place f t b → FrameAt (extent_of image e w) place g u c → (f ≡ g) × (t ≡ u) × (b ≡ c) }
 {}
 
-/// A law: what stands at a place where `claimed_frame` finds a head is a frame of the fields that it says, or none; and a
-/// plain one does stand there, where all its bytes can be read.
+/// A law: where `claimed_frame` finds a head, there is a frame with these fields or none; and if the head is plain and all
+/// its frame's bytes are readable, the frame is there.
 pub fn a_claim_is_of_one_frame()
     ensures only { (x : Extent) (place : ℕ) (h : Head) → IsClaimedAt x place h → IsOnlyFrame x place h }
     ensures plain { (x : Extent) (place : ℕ) (h : Head) → IsClaimedAt x place h → h.form ≡ Form.Plain →

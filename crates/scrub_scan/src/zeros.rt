@@ -1,9 +1,9 @@
-//! Whether bytes are zero, told by comparing slices, which goes many bytes at a time. `scanner` and
-//! `tail` ask for it.
+//! Tests whether bytes are zero by comparing slices, which is fast, since many bytes are compared at a time. `scanner` and
+//! `tail` use it.
 
 ghost use Rattle.std.specs.Prelude.{◌≡◌, ◌<◌, ◌↔◌, ℕ, IsTrue, length, slice_index};
 
-/// Whether all bytes of a part are zero: the first is, and every other is the same as the one before it.
+/// Whether all bytes of a part are zero: the first is, and each other one equals the one before it.
 pub(crate) fn is_zero(part: &[u8]) -> bool
     ensures { IsTrue result ↔ ((k : ℕ) → k < length part.now → slice_index part.now k ≡ 0) }
 {

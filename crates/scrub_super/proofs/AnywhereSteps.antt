@@ -1,4 +1,4 @@
--- Records in the front of a raw image: what stands in readable bytes, and the search from one multiple of 64 to the next.
+-- Records in the front of a raw image: those in readable bytes, and the search from one multiple of 64 to the next.
 use Rattle.std.proofs.Common.{◌≡◌, ◌<◌, ◌≤◌, ◌+◌, ◌-◌, ◌*◌, ◌/◌, ◌%◌, ◌⊎◌, ◌++◌, ℕ, Bool, List, [], ◌∷◌, length, take, drop, get_or, arith, refl, sym, ◌∙◌, ap, inl, inr, Option, Some, None, IfSome, length-append, option_to_list}
 use Rattle.std.specs.List.{between, Contains, AllPairs}
 use Rattle.std.specs.Option.{option_map_or}
@@ -30,7 +30,7 @@ pub some_record : (g : Geometry) (c : Contents) → 32 ≤ length (record_bytes 
 some_record g c =
     omega (arith, length-append (record_body g c) (sha256 (record_body g c)), length-sha256 (record_body g c))
 
--- ---- a record in bytes that are cut behind it
+-- ---- a record in bytes that are cut off after it
 
 module _ {g : Geometry} {x : List ℕ} {c : Contents} (b : BeginsWithRecord g x c) where
   record_fits : length (record_bytes g c) ≤ length x
@@ -127,13 +127,13 @@ module _ (bytes : List ℕ) {lost : List Bool} {offset end : ℕ} (up : IsReadab
       ∙ slice_get-get_or bytes (offset + k) 0 (omega (arith, hk, up.within))
       ∙ ap Some (sym (get_or-between bytes offset end k 0 (omega (arith, hk))))
 
-  -- and none where they end
+  -- and the byte where they end isn't
   end_not_left : {x : ℕ} → byte_left bytes lost end ≡ Some x → ⊥
   end_not_left is =
       let there = left_there bytes lost end _ is in
       there.0 (up.stops (slice_get_within bytes end _ there.1))
 
-  -- a record that they begin with stands at the offset
+  -- a record that they begin with is at the offset
   stands_of_tells : {r : FoundRecord} → offset % 64 ≡ 0 → TellsRecord (between offset end bytes) offset r →
       IsFoundRecord (byte_left bytes lost) r
   stands_of_tells {r} step t = (t.0, rw t.1 stands, t.3, t.4)
@@ -200,7 +200,7 @@ this_or_lower slot o step low =
 multiple : (slot : ℕ) → (slot * 64) % 64 ≡ 0
 multiple slot = omega arith
 
--- what stands at the offset is told, if something does
+-- the record at the offset is found, if there is one
 pub slot_more : (bytes : List ℕ) {part : List ℕ} (lost : List Bool) (slot : ℕ) {end offset : ℕ} {known : Option FoundRecord} {records : List FoundRecord} →
     offset ≡ slot * 64 → part ≡ between (slot * 64) end bytes → IsReadableTo (length bytes) lost (slot * 64) end →
     IfSome known (TellsRecord part offset) → ((r : FoundRecord) → TellsRecord part offset r → known ≡ Some r) →
@@ -285,7 +285,7 @@ module _ {bytes : List ℕ} {lost : List Bool} {offset block : ℕ} (marks : Are
     stops = λ h. absurd (omega (arith, h));
   }
 
--- and they end there for a later offset, too
+-- and they end there for a later offset too
 pub end_later : {size : ℕ} {lost : List Bool} {offset later end : ℕ} → IsReadableTo size lost offset end →
     offset ≤ later → later < end → IsReadableTo size lost later end
 end_later up le lt = record {

@@ -6,6 +6,7 @@ use Rattle.std.proofs.lemmas.List.{length-take-le, get_or_append_left, get_or-ap
 use Rattle.std.proofs.lemmas.List.Elements.{Contains-push, Contains-append_left}
 use Rattle.std.proofs.Math.Seq.{get_or-append_seam}
 use Rattle.scrub_disk.specs.Image.{AreBytesAt}
+use Rattle.scrub_disk.specs.Limits.{max_extent_bytes}
 use Rattle.scrub_super.specs.Blocks.{IsMarked, byte_left, LosesBlocks}
 use Rattle.scrub_super.specs.BlocksRead.{IsBlockRead, AreBlockMarks, AreBlocksRead, AreAllRead}
 
@@ -34,7 +35,7 @@ block_read (Some bytes) offset before after n m is_lost out le size stands ends 
 
 -- ---- marks
 
--- marks stand in the list
+-- each true mark is in the list
 pub mark_within : (lost : List Bool) (n : ℕ) → IsMarked lost n → n < length lost
 mark_within [] n marked = absurd (false≢true marked)
 mark_within (b ∷ lost) zero marked = omega arith
@@ -83,7 +84,7 @@ module _ {read out new : List ℕ} {lost more : List Bool} {len : ℕ} {is_lost 
     | inr last ↦ omega (arith, last.0, some last.1, size, length-next)
   ]
 
-  -- the failures that were counted, and one more where they rose
+  -- the failures that were counted, and one more if they rose
   one_block : {known : List ℕ} {marks : List Bool} {start : ℕ} (before after : ℕ) {former latter : ℕ} →
       length read ≡ 512 * length lost → start ≡ length lost * 512 → before ≤ after →
       (former < latter → before < after) → AreBlocksRead known marks before read lost →
@@ -152,7 +153,7 @@ module _ {read out new : List ℕ} {lost more : List Bool} {len : ℕ} {is_lost 
         }
       ]
 
-  -- the same where the raw image may not tell its bytes
+  -- the same if the raw image's bytes are known
   module _ {raw was : Option (List ℕ)} (marks : List Bool) {n start : ℕ} (first before after : ℕ) {m : Bool}
       (same : was ≡ raw) (number : length lost ≡ n) (mark : m ≡ get_or marks n false) (size : length read ≡ 512 * n)
       (place : start ≡ n * 512) (low : first ≤ before) (le : before ≤ after)
@@ -184,9 +185,9 @@ module _ {read out new : List ℕ} {lost more : List Bool} {len : ℕ} {is_lost 
 
 -- ---- all blocks
 
--- there are as many as are read at most
+-- as many bytes as the largest extent has are all that matters
 pub all_read_full : (raw : Option (List ℕ)) (marks lost : List Bool) (read : List ℕ) (failures : ℕ) →
-    length read ≡ 2 ^ 26 → IfSome raw (λ known. AreBlocksRead known marks failures read lost) →
+    length read ≡ max_extent_bytes → IfSome raw (λ known. AreBlocksRead known marks failures read lost) →
     IfSome raw (λ known. AreAllRead known marks failures read lost)
 all_read_full None marks lost read failures full blocks = tt
 all_read_full (Some known) marks lost read failures full blocks = record { blocks = blocks; ended = inr full }
@@ -210,7 +211,7 @@ left_there bytes lost i x is = by (get_or lost (i / 512) false) refl is
 module _ {known : List ℕ} {marks lost : List Bool} {failures : ℕ} {read : List ℕ}
     (all : AreAllRead known marks failures read lost) where
   -- below byte 2^26 those of what was read are those of the raw image
-  pub same_left : (i : ℕ) → i < 2 ^ 26 → byte_left known lost i ≡ byte_left read lost i
+  pub same_left : (i : ℕ) → i < max_extent_bytes → byte_left known lost i ≡ byte_left read lost i
   same_left i small = by (get_or lost (i / 512) false) refl
     where
       unlost : (IsMarked lost (i / 512) → ⊥) → slice_get known i ≡ slice_get read i
@@ -227,7 +228,7 @@ module _ {known : List ℕ} {marks lost : List Bool} {failures : ℕ} {read : Li
       by true e = refl
       by false e = unlost (λ marked. false≢true (sym e ∙ marked))
 
-  -- and the blocks are lost that may be
+  -- and only those blocks are lost that may be
   pub loses_blocks : AreBlockMarks read lost → LosesBlocks known marks failures lost
   loses_blocks blocks = record {
     few_blocks = blocks.few;

@@ -39,7 +39,7 @@ module _ {image : Image} {bytes : List ℕ} {readable : List Bool} (h : IsBuffer
           absurd
           (none-some x (sym (byte-unreadable image 0 i (rw marked at (h.pages (i / image.geometry.page) below))) ∙ e))
 
-  -- a record that stands at a page is what the bytes from there on begin with
+  -- the bytes from a page on begin with the record at the page
   pub front_at : {g : ℕ} {c : Contents} → RecordStandsAt image g c →
       BeginsWithRecord image.geometry (drop (g * image.geometry.page) bytes) c
   front_at {g} {c} s = record {
@@ -191,7 +191,7 @@ module _ {image : Image} {f : RecordsSeen} {b : Newest} (found : AreSeenFrom (St
         generation : c.generation ≡ b.generation
         generation = ap (λ d. d.generation) (sym same) ∙ newest.there.2
 
--- what was found in the bytes is what stands on the image
+-- what was found in the bytes is what the image has
 pub found_of : {image : Image} {g : Geometry} {xs bytes : List ℕ} {ys readable : List Bool} {f : RecordsSeen} →
     g ≡ image.geometry → xs ≡ bytes → ys ≡ readable → IsBuffered image 0 bytes readable →
     ((page : ℕ → ℕ → Option (List ℕ)) → IsBuffered (record { geometry = g; page = page }) 0 xs ys → AreSeenFrom (StandsFrom (record { geometry = g; page = page })) 0 f) →

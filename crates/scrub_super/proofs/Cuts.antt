@@ -4,18 +4,19 @@ use Rattle.std.proofs.Common.{◌≡◌, ◌≤◌, ◌+◌, ℕ, List, ◌++◌
 use Rattle.std.proofs.Math.Seq.{take-add}
 use Rattle.std.proofs.lemmas.List.{take_at}
 use Rattle.scrub_frame.proofs.Bytes.{part_at}
+use Rattle.scrub_frame.specs.Frame.{digest_size}
 
--- the parts, where they stand in the bytes
+-- the parts, at their places in the bytes
 pub record AreParts (x head pointers retired runs digest : List ℕ) (a p t r : ℕ) : Type 0 where
-  pub enough : a + p + t + r + 32 ≤ length x
+  pub enough : a + p + t + r + digest_size ≤ length x
   pub head_is : take a x ≡ head
   pub pointers_are : take p (drop a x) ≡ pointers
   pub retired_are : take t (drop (a + p) x) ≡ retired
   pub runs_are : take r (drop (a + p + t) x) ≡ runs
-  pub digest_is : take 32 (drop (a + p + t + r) x) ≡ digest
+  pub digest_is : take digest_size (drop (a + p + t + r) x) ≡ digest
 
 pub parts_of : {x head pointers retired runs digest : List ℕ} (rest : List ℕ) {a p t r : ℕ} →
-    length head ≡ a → length pointers ≡ p → length retired ≡ t → length runs ≡ r → length digest ≡ 32 →
+    length head ≡ a → length pointers ≡ p → length retired ≡ t → length runs ≡ r → length digest ≡ digest_size →
     x ≡ (head ++ (pointers ++ (retired ++ runs))) ++ digest ++ rest →
     AreParts x head pointers retired runs digest a p t r
 parts_of {x} {head} {pointers} {retired} {runs} {digest} rest {a} {p} {t} {r} lh lp lt lr ld e = record {
@@ -43,12 +44,12 @@ parts_of {x} {head} {pointers} {retired} {runs} {digest} rest {a} {p} {t} {r} lh
 -- the parts, put together again
 pub whole_of : {x head pointers retired runs digest : List ℕ} {a p t r : ℕ} →
     AreParts x head pointers retired runs digest a p t r →
-    x ≡ (head ++ (pointers ++ (retired ++ runs))) ++ digest ++ drop (a + p + t + r + 32) x
+    x ≡ (head ++ (pointers ++ (retired ++ runs))) ++ digest ++ drop (a + p + t + r + digest_size) x
 whole_of h =
     rw (← h.head_is, ← h.pointers_are, ← h.retired_are, ← h.runs_are, ← h.digest_is)
     (simp (append_assoc, ← drop-drop, take-append-drop))
 
--- four parts that stand one behind the other
+-- four parts that follow one another
 pub four_parts : (x : List ℕ) (a p t r : ℕ) →
     take a x ++ (take p (drop a x) ++ (take t (drop (a + p) x) ++ take r (drop (a + p + t) x))) ≡ take (a + p + t + r) x
 four_parts x a p t r = simp (take-add, append_assoc)

@@ -47,7 +47,7 @@ rise_more {i = i} h is above within = record {
   ];
 }
 
--- where the next number isn't above the last, the numbers don't rise
+-- if the next number isn't above the last, the numbers don't rise
 pub not_above : {e : ℕ} {x : List ℕ} (i : ℕ) {last n : ℕ} → RiseTo e x i last → n ≡ number_in x i →
     4 * i + 4 ≤ length x → n ≤ last → SpellExtents e x → ⊥
 not_above zero h is fits low s = omega (arith, h.none refl, is, low, s.from_one 0 fits)
@@ -80,7 +80,7 @@ found_extent xs n r rising result = by r (searched xs n r result falls)
       | inr more ↦ let high : n < get_or xs k 0 = at.2 k more below in grind (arith, nat_tests)
     ])))
 
--- the extents in use up to one more
+-- the extents in use, with one more
 module _ (retired : List ℕ) (i j : ℕ) (next : j ≡ i + 1) (low : 1 ≤ i) where
   more : extents_in_use j retired ≡ extents_in_use i retired ++ cond (is_in_use retired i) (i ∷ []) []
   more =

@@ -1,4 +1,4 @@
--- A record that is put together from what was read of it.
+-- A record, put together from what was read of it.
 use Rattle.std.proofs.Common.{◌≡◌, ◌<◌, ◌≤◌, ◌+◌, ◌*◌, ◌-◌, ◌^◌, ℕ, List, [], length, take, drop, get_or, arith, refl, sym, subst, ◌∙◌, ap, length-drop, All, Option, Some, None, IfSome, option_map}
 use Rattle.std.specs.List.{flat_map, between}
 use Rattle.std.specs.Option.{option_map_or, unwrap_or}
@@ -12,6 +12,7 @@ use Rattle.scrub_frame.specs.declared.locator.Locator.{Locator}
 use Rattle.scrub_frame.specs.Locator.{locator_bytes, IsLocator}
 use Rattle.scrub_frame.proofs.Bytes.{bytes-number, number-take}
 use Rattle.scrub_frame.proofs.Locators.{fields_read, same_locators}
+use Rattle.scrub_frame.specs.Frame.{digest_size}
 use Rattle.scrub_super.specs.declared.head.Cuts.{Cuts}
 use Rattle.scrub_super.specs.declared.pages.RecordKind.TheVariants.{Ssb1, Ssb2}
 use Rattle.scrub_super.specs.Pages.{kind_of}
@@ -35,7 +36,7 @@ locator_of x = record {
   offset = big_number 4 (take 4 (drop 4 x));
   length = big_number 4 (take 4 (drop 8 x));
   uuid = take 16 (drop 12 x);
-  digest = take 32 (drop 28 x);
+  digest = take digest_size (drop 28 x);
 }
 
 locator_spelled : (x : List ℕ) → length x ≡ 60 → AreBytes x → locator_bytes (locator_of x) ≡ x
@@ -55,13 +56,13 @@ locator_fits x l h = record {
   offset = small 4 (omega arith);
   size = small 8 (omega arith);
   uuid = length_part x 12 16 (omega arith);
-  digest = length_part x 28 32 (omega arith);
+  digest = length_part x 28 digest_size (omega arith);
 }
   where
     small : (m : ℕ) → m + 4 ≤ length x → big_number 4 (take 4 (drop m x)) < 2 ^ 32
     small m fits = big_from-lt 0 4 (take 4 (drop m x)) (bytes_part x m 4 fits h)
 
--- what was read of numbers that stand in bytes one after another is spelled by these bytes
+-- numbers that were read from bytes one after another are spelled by these bytes
 pub numbers_spelled : (x ws : List ℕ) (n : ℕ) → length x ≡ 4 * n → length ws ≡ n → AreBytes x →
     ((k : ℕ) → k < length ws → get_or ws k 0 ≡ number_in x k) → flat_map (big_bytes 4) ws ≡ x
 numbers_spelled x ws n l count h each =
@@ -114,7 +115,7 @@ locators_fit r part l bytes k d hk =
     rw (get_or-values locator_of 60 r k d part here)
     (locator_fits _ (length_part part (60 * k) 60 (omega arith)) (bytes_part part (60 * k) 60 (omega arith) bytes))
 
--- the list that a head tells of, as bytes spell it
+-- the list that a head announces, as bytes spell it
 abbrev pub listed_values : Option ℕ → List ℕ → Option (List ℕ)
 listed_values k part = option_map (λ t. numbers t part) k
 
@@ -134,13 +135,13 @@ listed_spelled (Some t) part l h = flat_map-values (big_bytes 4) (big_number 4) 
 
 -- ---- the record
 
--- a record stands where a head does, each pointer is within the limit, the retired extents rise, and the digest is right
+-- there is a record if there is a head, each pointer is within the limit, the retired extents rise, and the digest is right
 pub record_found : {g : Geometry} (x : List ℕ) {n r : ℕ} {k : Option ℕ} {cuts : Cuts} {most e : ℕ} → AreBytes x →
     IsHead g (take (record_head_size k) x) n r k → AreCuts g r k cuts →
-    cuts.digest + 32 ≤ length x → most ≡ g.page * g.pages →
+    cuts.digest + digest_size ≤ length x → most ≡ g.page * g.pages →
     ((j : ℕ) → 4 * j + 4 ≤ length (between cuts.pointers cuts.retired x) → number_in (between cuts.pointers cuts.retired x) j ≤ most) →
     e ≡ g.extents → SpellExtents e (between cuts.retired cuts.runs x) →
-    take 32 (drop cuts.digest x) ≡ sha256 (take cuts.digest x) → BeginsWithSome g x n r k
+    take digest_size (drop cuts.digest x) ≡ sha256 (take cuts.digest x) → BeginsWithSome g x n r k
 record_found {g} x {n} {r} {k} bytes head at enough limit within count extents digest = record {
   contents = c;
   begins =
@@ -174,7 +175,7 @@ record_found {g} x {n} {r} {k} bytes head at enough limit within count extents d
       runs = values locator_of 60 r rs;
     }
 
-    room : digest_place g r k + 32 ≤ length x
+    room : digest_place g r k + digest_size ≤ length x
     room = omega (arith, at.digest_at)
 
     p_long : length ps ≡ 4 * (g.extents - 1)
@@ -228,7 +229,7 @@ pub small_some : {g : Geometry} {x : List ℕ} {n r : ℕ} {k : Option ℕ} → 
     retired_count k < 2 ^ 16
 small_some {g} some = rw some.listed at (small_count g some.contents.retired some.begins.contents.retired)
 
--- a record is of the second kind where its head tells how many extents are retired
+-- a record is of the second kind if its head has a number of retired extents
 pub known_kind : {g : Geometry} {x : List ℕ} {n r : ℕ} {k : Option ℕ} (some : BeginsWithSome g x n r k) →
     option_map_or (λ _. Ssb2) k Ssb1 ≡ kind_of some.contents
 known_kind some = rw (← some.listed) (by some.contents.retired)
@@ -237,7 +238,7 @@ known_kind some = rw (← some.listed) (by some.contents.retired)
     by None = refl
     by (Some xs) = refl
 
--- what was read of the parts of a record is what the record tells
+-- what was read from the parts of a record are its contents
 pub contents_read : {g : Geometry} {x ws : List ℕ} {o : Option (List ℕ)} {rs : List Locator} {n r : ℕ} {k : Option ℕ} {cuts : Cuts} →
     BeginsWithSome g x n r k → AreCuts g r k cuts →
     length ws ≡ g.extents - 1 → AreSmall ws → flat_map (big_bytes 4) ws ≡ between cuts.pointers cuts.retired x →

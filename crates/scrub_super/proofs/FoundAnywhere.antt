@@ -1,5 +1,6 @@
 -- What was found in the front of a raw image is what the raw image holds, and there is one answer.
-use Rattle.std.proofs.Common.{◌≡◌, ◌<◌, ◌+◌, ◌^◌, ℕ, Bool, List, arith, sym, ◌∙◌, Option, Some, None, IfSome}
+use Rattle.std.proofs.Common.{◌≡◌, ◌<◌, ◌+◌, ℕ, Bool, List, arith, sym, ◌∙◌, Option, Some, None, IfSome}
+use Rattle.scrub_disk.specs.Limits.{max_extent_bytes}
 use Rattle.scrub_super.specs.declared.anywhere.FoundRecord.{FoundRecord}
 use Rattle.scrub_super.specs.declared.anywhere.LostBytes.{LostBytes}
 use Rattle.scrub_super.specs.Blocks.{byte_left}
@@ -8,8 +9,8 @@ use Rattle.scrub_super.specs.Anywhere.{IsFoundRecord, AreFoundRecords, AreLostRa
 use Rattle.scrub_super.proofs.BlocksFront.{same_left, loses_blocks}
 use Rattle.scrub_super.proofs.RisingLists.{one_rising_by}
 
--- a record depends on the bytes below 2^26 alone
-same_record : (at also : ℕ → Option ℕ) (r : FoundRecord) → ((i : ℕ) → i < 2 ^ 26 → at i ≡ also i) →
+-- a record depends only on the bytes below 2^26
+same_record : (at also : ℕ → Option ℕ) (r : FoundRecord) → ((i : ℕ) → i < max_extent_bytes → at i ≡ also i) →
     IsFoundRecord at r → IsFoundRecord also r
 same_record at also r same f = (
   f.0,
@@ -25,7 +26,7 @@ same_record at also r same f = (
   f.3,
 )
 
-same_records : {at also : ℕ → Option ℕ} {records : List FoundRecord} → ((i : ℕ) → i < 2 ^ 26 → at i ≡ also i) →
+same_records : {at also : ℕ → Option ℕ} {records : List FoundRecord} → ((i : ℕ) → i < max_extent_bytes → at i ≡ also i) →
     AreFoundRecords at records → AreFoundRecords also records
 same_records {at} {also} same h = record {
   rising = h.rising;

@@ -7,7 +7,7 @@ use Rattle.scrub_disk.specs.declared.geometry.Geometry.{Geometry}
 use Rattle.scrub_super.specs.Record.{digit_of, front_bytes, head_bytes}
 use Rattle.scrub_super.specs.RecordRead.{IsFront, IsHead, record_head_size}
 
--- what is read where a front stands
+-- what is read from a front
 module _ {g : Geometry} {x : List ℕ} {digit generation runs d n r : ℕ} (hd : digit ≡ get_or x 3 0)
     (hn : generation ≡ big_number 8 (take 8 (drop 4 x)))
     (hr : runs ≡ big_number 2 (take 2 (drop 24 x))) (h : IsFront g x d n r) where
@@ -18,7 +18,7 @@ module _ {g : Geometry} {x : List ℕ} {digit generation runs d n r : ℕ} (hd :
     (rw h.spelled at hr) ∙ big_number-reads_back 2 r [] (omega (arith, h.few)),
   )
 
-  -- a front is spelled again by what is read
+  -- what is read spells the front again
   pub front_again : {y : List ℕ} → y ≡ front_bytes digit g generation runs → x ≡ y
   front_again hy = h.spelled ∙ sym (rw (front_read.0, front_read.1, front_read.2) at hy)
 

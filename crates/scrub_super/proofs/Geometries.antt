@@ -1,5 +1,5 @@
--- The sizes that a record has itself: they are read from its front, and they are given by their numbers.
-use Rattle.std.proofs.Common.{◌≡◌, ◌≤◌, ◌*◌, ◌^◌, ℕ, List, [], take, drop, arith, ◌∙◌, ap, Option, Some, Result, Ok, Err, MatchResult}
+-- A record's own sizes: they are read from its front, and their numbers determine them.
+use Rattle.std.proofs.Common.{◌≡◌, ◌≤◌, ◌*◌, ℕ, List, [], take, drop, arith, ◌∙◌, ap, Option, Some, Result, Ok, Err, MatchResult}
 use Rattle.std.proofs.Props.{props}
 use mathlib.Core.HLevel.{is_prop→PathP}
 use Rattle.std.specs.Array.{IsFirstChunk}
@@ -9,7 +9,7 @@ use Rattle.byteorder.specs.Numbers.{big_number-reads_back}
 use Rattle.scrub_disk.specs.declared.geometry.Geometry.{Geometry}
 use Rattle.scrub_disk.specs.declared.geometry.GeometryFault.{GeometryFault}
 use Rattle.scrub_disk.specs.declared.geometry.GeometryFault.TheVariants.{PageSize, Pages, Extents, ExtentBytes, TotalBytes}
-use Rattle.scrub_disk.specs.Limits.{IsPageSize, ArePages, AreExtents}
+use Rattle.scrub_disk.specs.Limits.{IsPageSize, ArePages, AreExtents, max_extent_bytes, max_disk_bytes}
 use Rattle.scrub_disk.specs.Faults.{HasSizes, IsFirstBroken}
 use Rattle.scrub_super.specs.Contents.{Contents}
 use Rattle.scrub_super.specs.Record.{BeginsWithRecord}
@@ -17,7 +17,7 @@ use Rattle.scrub_super.specs.RecordRead.{IsFront}
 use Rattle.scrub_super.proofs.Fronts.{front_of_head}
 use Rattle.scrub_super.proofs.RecordParts.{is_head}
 
--- ---- sizes are given by their numbers, whatever shows that they are within their limits
+-- ---- sizes are determined by their numbers, whatever shows that they are within their limits
 
 IsPageSize-prop : {p : ℕ} → IsProp (IsPageSize p)
 IsPageSize-prop = hlevel props
@@ -39,8 +39,8 @@ same_geometry g h p n e = λ i. record {
   page_size = is_prop→PathP (λ j. IsPageSize (p j)) (λ j. IsPageSize-prop) g.page_size h.page_size i;
   page_count = is_prop→PathP (λ j. ArePages (n j)) (λ j. ArePages-prop) g.page_count h.page_count i;
   extent_count = is_prop→PathP (λ j. AreExtents (e j)) (λ j. AreExtents-prop) g.extent_count h.extent_count i;
-  extent_fits = is_prop→PathP (λ j. p j * n j ≤ 2 ^ 26) (λ j. le-prop _ _) g.extent_fits h.extent_fits i;
-  total_fits = is_prop→PathP (λ j. p j * n j * e j ≤ 2 ^ 32) (λ j. le-prop _ _) g.total_fits h.total_fits i;
+  extent_fits = is_prop→PathP (λ j. p j * n j ≤ max_extent_bytes) (λ j. le-prop _ _) g.extent_fits h.extent_fits i;
+  total_fits = is_prop→PathP (λ j. p j * n j * e j ≤ max_disk_bytes) (λ j. le-prop _ _) g.total_fits h.total_fits i;
 }
 
 -- no limit of a geometry is broken
@@ -58,7 +58,7 @@ sizes_accepted {g} (Ok h) hp hn he sizes is =
     is ∙ ap Some (same_geometry h g (sizes.page ∙ hp) (sizes.pages ∙ hn) (sizes.extents ∙ he))
 sizes_accepted {g} (Err fault) hp hn he broken is = absurd (not_broken g fault (rw (hp, hn, he) at broken))
 
--- ---- the numbers stand in the front
+-- ---- the numbers are in the front
 
 front_sizes : {g : Geometry} {x : List ℕ} {d generation runs p n e : ℕ} → IsFront g x d generation runs →
     p ≡ big_number 4 (take 4 (drop 12 x)) → n ≡ big_number 4 (take 4 (drop 16 x)) →
@@ -69,7 +69,7 @@ front_sizes {g} h hp hn he = (
   (rw h.spelled at he) ∙ big_number-reads_back 4 g.extents [] (omega (arith, g.extent_count.most)),
 )
 
--- where a record begins, its sizes are read
+-- the sizes of a record are read where it begins
 pub sizes_read : (x : List ℕ) {y : List ℕ} (made : Result Geometry GeometryFault) {known : Option Geometry} {p n e : ℕ} →
     IsFirstChunk x y 26 →
     p ≡ big_number 4 (take 4 (drop 12 y)) → n ≡ big_number 4 (take 4 (drop 16 y)) →

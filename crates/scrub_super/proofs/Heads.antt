@@ -16,7 +16,7 @@ use Rattle.scrub_super.proofs.Parts.{AreBytes, AreBytes-drop, AreBytes-take}
 two_bytes : (y : List ℕ) (t : ℕ) → length y ≡ 2 → AreBytes y → t ≡ big_number 2 y → big_bytes 2 t ≡ y
 two_bytes y t l h is = be_bytes_2 y t l h (is ∙ (let e : big_number 2 y ≡ from_be_bytes w16 y = omega arith in e))
 
--- where the first bytes are a front
+-- if the first bytes are a front
 module _ {g : Geometry} {x y : List ℕ} {d n r : ℕ} (first : IsFirstChunk x y 26) (front : IsFront g y d n r) where
   pub listing_head : {z : List ℕ} {t : ℕ} → d ≡ 0x32 → IsFirstChunk x z 28 → AreBytes x →
       t ≡ big_number 2 (take 2 (drop 26 z)) → IsHead g (take 28 x) n r (Some t)

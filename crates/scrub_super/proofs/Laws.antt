@@ -1,4 +1,4 @@
--- At most one record stands on a page, so an image has one choice.
+-- At most one record begins on a page, so an image has one choice.
 use Rattle.std.proofs.Common.{◌≡◌, ◌<◌, ◌≤◌, ℕ, zero, suc, List, [], ◌∷◌, length, drop, arith, refl, sym, ◌∙◌, ap, Option, Some, None, inl, inr, ◌↔◌}
 use Rattle.std.specs.List.{Contains}
 use Rattle.std.specs.List.Sorted.{IsStrictlyIncreasing}
@@ -16,7 +16,7 @@ use Rattle.scrub_super.specs.Record.{record_bytes}
 use Rattle.scrub_super.specs.Chosen.{RecordStandsAt, IsNewestRecord, IsChosen, Choice, IsChoice}
 use Rattle.scrub_super.proofs.OneRecord.{one_record_lem}
 
--- where one record is as long as the other or longer
+-- if one record is as long as the other or longer
 longer_record : {image : Image} {g : ℕ} (c d : Contents) →
     length (record_bytes image.geometry d) ≤ length (record_bytes image.geometry c) →
     RecordStandsAt image g c → RecordStandsAt image g d → c ≡ d
@@ -76,7 +76,7 @@ contains_least : (x q : ℕ) (xs : List ℕ) → IsStrictlyIncreasing (x ∷ xs)
 contains_least x q xs up (zero, here, is) = omega (arith, is)
 contains_least x q xs up (suc k, here, is) = omega (arith, rest_above x q xs up (k, omega (arith, here), is))
 
--- rising lists with the same numbers are one list
+-- rising lists with the same numbers are the same
 one_rising : (xs ys : List ℕ) → IsStrictlyIncreasing xs → IsStrictlyIncreasing ys →
     ((q : ℕ) → Contains xs q ↔ Contains ys q) → xs ≡ ys
 one_rising [] [] ux uy both = refl

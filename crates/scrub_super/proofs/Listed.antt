@@ -1,4 +1,4 @@
--- The lists that a record tells: how many there are of their elements, and how large these are.
+-- The lists of a record: how many elements they have, and how large these are.
 use Rattle.std.proofs.Common.{◌≡◌, ◌<◌, ◌≤◌, ◌+◌, ◌*◌, ◌-◌, ◌^◌, ℕ, zero, suc, List, [], ◌∷◌, length, arith, refl, sym, ap, All, Option, Some, None, IfSome, option_map}
 use Rattle.std.specs.List.{flat_map}
 use Rattle.std.specs.List.Sorted.{IsStrictlyIncreasing}
@@ -41,7 +41,7 @@ length_pointers {ws = ws} h = omega (arith, length_numbers ws)
 pub small_pointers : {g : Geometry} {ws : List ℕ} → ArePointers g ws → AreSmall ws
 small_pointers {g} h i z hi = omega (arith, h.within i z hi, g.extent_fits)
 
--- ---- retired extents, where they are listed
+-- ---- retired extents, if they are listed
 
 pub length_listed : (o : Option (List ℕ)) → length (unwrap_or o []) ≡ retired_count (option_map length o)
 length_listed None = refl
@@ -86,7 +86,7 @@ pub small_listed : (g : Geometry) (o : Option (List ℕ)) → IfSome o (AreRetir
 small_listed g None h = tt
 small_listed g (Some xs) h = λ i z hi. omega (arith, h.below i z hi, g.extent_count.most)
 
--- lists that are spelled by the same bytes, or that neither record has, are one
+-- lists that are spelled by the same bytes, or that neither record has, are the same
 pub same_listed : (o p : Option (List ℕ)) → option_map length o ≡ option_map length p → IfSome o AreSmall →
     IfSome p AreSmall →
     flat_map (big_bytes 4) (unwrap_or o []) ≡ flat_map (big_bytes 4) (unwrap_or p []) → o ≡ p

@@ -11,13 +11,13 @@ use Rattle.scrub_super.specs.Anywhere.{AreLostRanges}
 use Rattle.scrub_super.proofs.BlocksFront.{mark_within}
 use Rattle.scrub_super.proofs.RisingLists.{rises_more}
 
--- from `first` on all blocks below one are lost, and the block before isn't
+-- all blocks from `first` up to a block are lost, and the one before `first` isn't
 pub record RunsFrom (lost : List Bool) (first block : ℕ) : Type 0 where
   pub from : first ≤ block
   pub all : (n : ℕ) → first ≤ n → n < block → IsMarked lost n
   pub not_before : (n : ℕ) → n + 1 ≡ first → IsMarked lost n → ⊥
 
--- the runs that end below a block or with it
+-- the runs that end at a block or before it
 pub record AreRunsTo (lost : List Bool) (block : ℕ) (ranges : List LostBytes) : Type 0 where
   pub rising : AllPairs (λ a b. a.from < b.from) ranges
   pub in_list : (l : LostBytes) (first stop : ℕ) → IsLostRun lost first stop → stop ≤ block → l.from ≡ first * 512 →
@@ -63,7 +63,7 @@ same_run {lost} {first} block {f} h run = elim (cases_lt f first) [
   ]
 ]
 
--- where no run ends with this block, the runs are those so far
+-- if no run ends with this block, the runs are those so far
 runs_kept : {lost : List Bool} {block : ℕ} {ranges : List LostBytes} →
     ((f : ℕ) → IsLostRun lost f (block + 1) → ⊥) → AreRunsTo lost block ranges → AreRunsTo lost (block + 1) ranges
 runs_kept {lost} {block} none h = record {
@@ -78,7 +78,7 @@ runs_kept {lost} {block} none h = record {
 same_bytes : {l m : LostBytes} → l.from ≡ m.from → l.to ≡ m.to → l ≡ m
 same_bytes hf ht = λ i. record { from = hf i; to = ht i }
 
--- and where one does, that one more
+-- and if one does, it is one more
 runs_more : {lost : List Bool} {first block : ℕ} {ranges : List LostBytes} (l : LostBytes) →
     RunsFrom lost first (block + 1) → first < block + 1 → (IsMarked lost (block + 1) → ⊥) →
     l.from ≡ first * 512 → l.to ≡ (block + 1) * 512 → AreRunsTo lost block ranges →
@@ -110,7 +110,7 @@ runs_more {lost} {first} {block} {ranges} l from some ends hf ht h = record {
       | inr above ↦ absurd (run.not_behind (from.all stop above (omega (arith, low))))
     ]
 
--- the run that ends with a block, where its mark and the next one say so
+-- the run that ends with a block, if its mark and the next one say so
 pub runs_next : {lost : List Bool} {first block : ℕ} {ranges more : List LostBytes} → RunsFrom lost first (block + 1) →
     more ≡ ranges ++ ended_run lost first block → AreRunsTo lost block ranges → AreRunsTo lost (block + 1) more
 runs_next {lost} {first} {block} {ranges} from e h =

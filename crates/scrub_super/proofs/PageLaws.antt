@@ -17,7 +17,7 @@ use Rattle.scrub_super.specs.Pages.{AreSuperblockPages, IsRank, IsSuperblockPage
 use Rattle.scrub_super.proofs.Laws.{one_record_on_page}
 use Rattle.scrub_super.proofs.Standing.{some_bytes}
 
--- no byte of an unreadable page is there
+-- no byte of an unreadable page can be read
 module _ (image : Image) (q : ℕ) (lost : image.page 0 q ≡ None) where
   no_first_byte : {x : ℕ} → byte image 0 (q * image.geometry.page) ≡ Some x → ⊥
   no_first_byte {x} there =

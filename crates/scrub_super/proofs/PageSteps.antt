@@ -10,6 +10,7 @@ use Rattle.scrub_disk.specs.declared.geometry.Geometry.{Geometry}
 use Rattle.scrub_disk.specs.Image.{Image}
 use Rattle.scrub_disk.specs.Buffered.{IsBuffered}
 use Rattle.scrub_disk.specs.NextUnreadable.{IsNextUnreadable}
+use Rattle.scrub_frame.specs.Frame.{digest_size}
 use Rattle.scrub_super.specs.declared.choosing.RecordsSeen.{RecordsSeen}
 use Rattle.scrub_super.specs.declared.pages.RecordKind.{RecordKind}
 use Rattle.scrub_super.specs.declared.pages.RecordKind.TheVariants.{Ssb1, Ssb2}
@@ -30,10 +31,10 @@ use Rattle.scrub_super.proofs.Standing.{stands_of_front, front_of_stands}
 
 -- ---- what is found
 
--- what a head tells of a record
+-- the record, from its head
 pub found_by_head : {g : Geometry} {x y : List ℕ} {start n r to : ℕ} {k : Option ℕ} {cuts : Cuts} {kind : RecordKind} →
     y ≡ x → BeginsWithSome g y n r k → AreCuts g r k cuts →
-    kind ≡ option_map_or (λ _. Ssb2) k Ssb1 → to ≡ start + cuts.digest + 32 →
+    kind ≡ option_map_or (λ _. Ssb2) k Ssb1 → to ≡ start + cuts.digest + digest_size →
     (c : Contents) × BeginsWithRecord g x c × IsFoundOf g start c (record { kind = kind; generation = n; to = to })
 found_by_head hx some at hk ht = (
   some.contents,
@@ -143,7 +144,7 @@ module _ {image : Image} {q reach : ℕ} (h : IsRecordReach image q reach) where
     reached = λ i low. let x = h.reached i low in (x.0, omega (arith, x.1), x.2);
   }
 
--- a page is covered where a record from before reaches behind its first byte
+-- a page is covered if an earlier record reaches past its first byte
 pub known_of : {image : Image} {bytes part : List ℕ} {readable : List Bool} {q start size reach : ℕ} →
     IsBuffered image 0 bytes readable → q < image.geometry.pages →
     size ≡ image.geometry.page → start ≡ q * size → part ≡ between start (start + size) bytes →
@@ -188,7 +189,7 @@ each_more image old {new} {q} page hq hn each here r p is = elim (cases_lt r q) 
     there : get_or (old ++ page ∷ []) r p ≡ p
     there = rw hn at (get_or_from_slice_get new r p p is)
 
--- ---- what is found in memory is on the image
+-- ---- what is found in memory is in the image
 
 module _ {image : Image} {g : Geometry} {xs bytes : List ℕ} {ys readable : List Bool} {found : List (Option Found)}
     (hg : g ≡ image.geometry) (hx : xs ≡ bytes) (hy : ys ≡ readable) (h : IsBuffered image 0 bytes readable) where

@@ -34,7 +34,7 @@ get_or-values read size (suc n) (suc k) d x h =
     let e : size * suc k ≡ size + size * k = omega arith in
     rw (e, ← drop-drop (size * k) size x) (get_or-values read size n k d (drop size x) (omega arith))
 
--- where a part is spelled as it was read, so is the whole
+-- if each part is spelled as it was read, so is the whole
 pub flat_map-values : {X : Type 0} (spell : X → List ℕ) (read : List ℕ → X) (size n : ℕ) (x : List ℕ) →
     ((y : List ℕ) → length y ≡ size → AreBytes y → spell (read y) ≡ y) → length x ≡ size * n → AreBytes x →
     flat_map spell (values read size n x) ≡ x

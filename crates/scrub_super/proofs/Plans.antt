@@ -31,7 +31,7 @@ in_use_planned e retired = record {
     value : (k d : ℕ) → k < length all → get_or all k d ≡ 1 + k
     value k d hk = get_or-range_with_len 1 (e - 1) k d (omega (arith, hk, length-range_with_len 1 (e - 1)))
 
--- they are all but extent 0 where none is retired
+-- they are all extents except extent 0 if none is retired
 pub all_kept : (e : ℕ) → extents_in_use e [] ≡ range_with_len 1 (e - 1)
 all_kept e = kept (range_with_len 1 (e - 1))
   where

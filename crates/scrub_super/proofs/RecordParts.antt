@@ -1,4 +1,4 @@
--- The parts of the bytes that begin with a record, by its own numbers and by those that a head tells.
+-- The parts of the bytes that begin with a record, by its own numbers and by those in a head.
 use Rattle.std.proofs.Common.{◌≡◌, ◌+◌, ◌*◌, ◌-◌, ℕ, List, ◌++◌, length, take, drop, arith, length-append, sym, ◌∙◌, ap, Option}
 use Rattle.std.specs.List.{flat_map, between}
 use Rattle.byteorder.specs.Endian.{big_bytes}
@@ -7,6 +7,7 @@ use Rattle.sha2.proofs.Facts256.{length-sha256}
 use Rattle.scrub_disk.specs.declared.geometry.Geometry.{Geometry}
 use Rattle.scrub_frame.specs.Locator.{locator_bytes}
 use Rattle.scrub_frame.proofs.Locators.{length-locators}
+use Rattle.scrub_frame.specs.Frame.{digest_size}
 use Rattle.scrub_super.specs.declared.head.Cuts.{Cuts}
 use Rattle.scrub_super.specs.Contents.{Contents, retired_in}
 use Rattle.scrub_super.specs.Record.{head_bytes, record_body, record_bytes, AreContents, BeginsWithRecord}
@@ -15,7 +16,7 @@ use Rattle.scrub_super.proofs.Cuts.{AreParts, parts_of, whole_of, body_of}
 use Rattle.scrub_super.proofs.Fronts.{length_head, one_head}
 use Rattle.scrub_super.proofs.Listed.{count_in, length_pointers, length_retired, small_count}
 
--- where the parts of a record begin, whose head tells these numbers
+-- where the parts of a record begin, by the numbers in its head
 abbrev pub retired_place : Geometry → Option ℕ → ℕ
 retired_place g k = record_head_size k + 4 * (g.extents - 1)
 
@@ -47,7 +48,7 @@ module _ {g : Geometry} {r : ℕ} {k : Option ℕ} {cuts : Cuts} (at : AreCuts g
   pub runs_cut : between cuts.runs cuts.digest x ≡ run_bytes g r k x
   runs_cut = let size : cuts.digest - cuts.runs ≡ 60 * r = omega arith in rw (size, at.runs_at)
 
--- what the digest of some contents is taken of, behind a head that tells these numbers
+-- what the digest of some contents is taken of, behind a head with these numbers
 abbrev pub body_behind : Geometry → ℕ → ℕ → Option ℕ → Contents → List ℕ
 body_behind g n r k c =
     head_bytes g n r k ++
@@ -76,9 +77,9 @@ module _ {g : Geometry} {x : List ℕ} {c : Contents} (b : BeginsWithRecord g x 
     spelled = record_parts.head_is;
   }
 
--- how long the record of some contents is
+-- the length of the record of some contents
 pub length_record : {g : Geometry} {c : Contents} → AreContents g c →
-    length (record_bytes g c) ≡ digest_place g (length c.runs) (count_in c) + 32
+    length (record_bytes g c) ≡ digest_place g (length c.runs) (count_in c) + digest_size
 length_record {g} {c} h =
     simp length-append
     (omega (
@@ -94,7 +95,7 @@ pub record_of_parts : {g : Geometry} {x : List ℕ} {c : Contents} → AreConten
     AreRecordParts g x c.generation (length c.runs) (count_in c) c → BeginsWithRecord g x c
 record_of_parts contents parts = record { contents = contents; rest = _; spelled = whole_of parts }
 
--- the same by a head that stands there
+-- the same by the head that is there
 module _ {g : Geometry} {x : List ℕ} {n r : ℕ} {k : Option ℕ} {c : Contents}
     (h : IsHead g (take (record_head_size k) x) n r k) (b : BeginsWithRecord g x c) where
   -- the head is that of the record
@@ -104,6 +105,6 @@ module _ {g : Geometry} {x : List ℕ} {n r : ℕ} {k : Option ℕ} {c : Content
   pub known_parts : AreRecordParts g x n r k c
   known_parts = rw (record_head.0, record_head.1, record_head.2) at (record_parts b)
 
-  -- the digest stands behind what it is taken of
-  pub known_digest : take 32 (drop (digest_place g r k) x) ≡ sha256 (take (digest_place g r k) x)
+  -- the digest follows what it is taken of
+  pub known_digest : take digest_size (drop (digest_place g r k) x) ≡ sha256 (take (digest_place g r k) x)
   known_digest = known_parts.digest_is ∙ ap sha256 (sym (body_of known_parts))

@@ -1,4 +1,4 @@
--- Why no record stands where a test of the bytes fails.
+-- Why there is no record if a test of the bytes fails.
 use Rattle.std.proofs.Common.{◌≡◌, ◌<◌, ◌≤◌, ◌+◌, ◌*◌, ℕ, List, length, take, drop, get_or, arith, refl, sym, ◌∙◌, ap, Bool, false, IsTrue, Option}
 use Rattle.std.specs.List.{flat_map, between}
 use Rattle.std.specs.Array.{IsFirstChunk}
@@ -7,6 +7,7 @@ use Rattle.byteorder.specs.Endian.{big_bytes, big_number}
 use Rattle.sha2.specs.Sha256.{sha256}
 use Rattle.scrub_disk.specs.declared.geometry.Geometry.{Geometry}
 use Rattle.scrub_frame.proofs.Bytes.{number-bytes, number-take}
+use Rattle.scrub_frame.specs.Frame.{digest_size}
 use Rattle.scrub_super.specs.declared.head.Cuts.{Cuts}
 use Rattle.scrub_super.specs.Contents.{Contents}
 use Rattle.scrub_super.specs.Planned.{AreRetired}
@@ -17,7 +18,7 @@ use Rattle.scrub_super.proofs.Listed.{AreSmall, length_numbers, small_pointers, 
 use Rattle.scrub_super.proofs.Parts.{part-flat_map}
 use Rattle.scrub_super.proofs.RecordParts.{digest_place, is_head, known_parts, known_digest, pointers_cut, retired_cut}
 
--- no record stands where no front does
+-- there is no record if there is no front
 pub no_front : {g : Geometry} {x y : List ℕ} {c : Contents} → IsFirstChunk x y 26 →
     ((d n r : ℕ) → IsFront g y d n r → ⊥) → BeginsWithRecord g x c → ⊥
 no_front {x = x} first none b = none _ _ _ (rw (← first.same) at (front_of_head x (is_head b)))
@@ -45,16 +46,16 @@ spells_extents {e} {xs} few h = record {
     value : (k : ℕ) → k < length xs → number_in (flat_map (big_bytes 4) xs) k ≡ get_or xs k 0
     value k here = spelled_number xs k (λ i z hi. omega (arith, h.below i z hi)) here
 
--- where a head stands, but not the rest
+-- there is a head, but not the rest
 module _ {g : Geometry} {x : List ℕ} {n r : ℕ} {k : Option ℕ} {c : Contents}
     (h : IsHead g (take (record_head_size k) x) n r k) (b : BeginsWithRecord g x c) where
   -- the bytes end before the digest does
-  pub too_short : {e : ℕ} → e ≡ digest_place g r k → length x < e + 32 → ⊥
+  pub too_short : {e : ℕ} → e ≡ digest_place g r k → length x < e + digest_size → ⊥
   too_short he short = omega (arith, (known_parts h b).enough)
 
-  -- another digest stands there
+  -- another digest is there
   pub other_digest : {e : ℕ} {answer : Bool} → e ≡ digest_place g r k →
-      (take 32 (drop e x) ≡ sha256 (take e x) → IsTrue answer) → answer ≡ false → ⊥
+      (take digest_size (drop e x) ≡ sha256 (take e x) → IsTrue answer) → answer ≡ false → ⊥
   other_digest he body wrong = false≢true (sym wrong ∙ body (rw he (known_digest h b)))
 
   -- a pointer is over the limit
@@ -72,7 +73,7 @@ module _ {g : Geometry} {x : List ℕ} {n r : ℕ} {k : Option ℕ} {c : Content
           rw (spelled_number c.pointers j (small_pointers b.contents.pointers) here)
           (b.contents.pointers.within j 0 here)
 
-  -- the retired extents don't rise, or one is none of the disk's
+  -- the retired extents don't rise, or one isn't an extent of the disk
   pub not_extents : {cuts : Cuts} {e : ℕ} {answer : Bool} → AreCuts g r k cuts → e ≡ g.extents →
       (SpellExtents e (between cuts.retired cuts.runs x) → IsTrue answer) → answer ≡ false → ⊥
   not_extents at count all over =

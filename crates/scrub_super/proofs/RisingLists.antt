@@ -1,4 +1,4 @@
--- Lists that rise by a number of each element: they grow at their end, and one is all that hold the same.
+-- Lists that rise by a number of each element: they grow at their end, and two with the same elements are the same.
 use Rattle.std.proofs.Common.{◌≡◌, ◌⊎◌, ◌<◌, ℕ, zero, suc, List, [], ◌∷◌, ◌++◌, get_or, arith, refl, sym, ◌∙◌, ap, inl, inr}
 use Rattle.std.specs.List.{AllPairs, Contains}
 use Rattle.std.proofs.lemmas.List.Elements.{All-contains_itself}
@@ -33,7 +33,7 @@ module _ {X : Type 0} (key : X → ℕ) where
   same_first x y xs ys ux uy (inr there) (inr back) =
       absurd (omega (arith, first_below x y xs ux back, first_below y x ys uy there))
 
-  -- what is behind the first is behind the other list's
+  -- what follows the first element of one list follows that of the other
   behind : (x y z : X) (xs ys : List X) → Rises (x ∷ xs) → x ≡ y → Contains xs z → (y ≡ z) ⊎ Contains ys z →
       Contains ys z
   behind x y z xs ys up same there (inr c) = c

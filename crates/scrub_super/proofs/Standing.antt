@@ -1,4 +1,4 @@
--- Records in the bytes of an extent 0 that is held in memory are those that stand on the image.
+-- The records in the bytes of extent 0, held in memory, are those of the image.
 use Rattle.std.proofs.Common.{◌≡◌, ◌<◌, ◌≤◌, ◌+◌, ◌*◌, ◌/◌, ◌%◌, ◌-◌, ℕ, List, Bool, true, false, length, drop, get_or, arith, sym, ◌∙◌, ap, Some, None, inl, inr, length-append}
 use Rattle.std.specs.List.{between}
 use Rattle.std.proofs.lemmas.Bool.{cases_lt, le-ltb}
@@ -62,7 +62,7 @@ module _ {image : Image} {bytes : List ℕ} {readable : List Bool} (h : IsBuffer
           (omega (arith, h.size, mul-le-mul_right {m = q + 1} {n = image.geometry.pages} size (omega (arith, below))))
           ∙ (let e : q * size + size - q * size ≡ size = omega arith in e)
 
-  -- no byte stands where the readable pages end
+  -- there is no byte where the readable pages end
   byte_ends : (s : ℕ) → s ≤ length readable → (s < length readable → get_or readable s false ≡ false) →
       byte image 0 (s * image.geometry.page) ≡ None
   byte_ends s within ends = elim (cases_lt s (length readable)) [

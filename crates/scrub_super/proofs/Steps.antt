@@ -1,4 +1,4 @@
--- One page down in the search for records, over the bytes of an extent 0 that is held in memory.
+-- One page down in the search for records, over the bytes of extent 0 in memory.
 use Rattle.std.proofs.Common.{◌≡◌, ◌<◌, ◌+◌, ◌*◌, ℕ, List, Bool, Option, true, false, length, get_or, arith, sym, ◌∙◌, ap, inl, inr}
 use Rattle.std.specs.List.{between}
 use Rattle.std.proofs.lemmas.Bool.{cases_lt}
@@ -36,7 +36,7 @@ up_to_there readable p q s hp marked up = record {
   unreadable = up.unreadable;
 }
 
--- one page down, where the bytes from page q on up to where the readable pages end are searched
+-- one page down: the bytes from page q to the end of the readable pages are searched
 module _ {image : Image} {bytes part : List ℕ} {readable : List Bool} {p q s size : ℕ} (hp : p ≡ q + 1)
     (hs : size ≡ image.geometry.page) (is : part ≡ between (q * size) (s * size) bytes)
     (h : IsBuffered image 0 bytes readable) (up : IsNextUnreadable readable q s) where

@@ -1,4 +1,4 @@
--- What is appended where a record is written, and that it is read again.
+-- What is appended when a record is written, and that it reads back.
 use Rattle.std.proofs.Common.{◌≡◌, ◌<◌, ◌≤◌, ◌+◌, ◌*◌, ◌-◌, ◌^◌, ℕ, List, ◌++◌, length, take, drop, arith, sym, ◌∙◌, ap, append_assoc, length-drop, length-append, IfSome}
 use Rattle.std.specs.List.{flat_map}
 use Rattle.std.proofs.lemmas.List.{take_all, drop_at}
@@ -16,7 +16,7 @@ use Rattle.scrub_super.specs.RecordRead.{body_size, record_head_size, retired_co
 use Rattle.scrub_super.proofs.Fronts.{length_head}
 use Rattle.scrub_super.proofs.Listed.{count_in, small_count, length_listed, length_numbers}
 
--- the head that tells of these contents
+-- the head of these contents
 abbrev pub head_for : Contents → Head
 head_for s = record { generation = s.generation; runs = length s.runs; retired = count_in s }
 
@@ -29,7 +29,7 @@ module _ (g : Geometry) (s : Contents) {head : Head} (is : head ≡ head_for s) 
       cuts.digest ≡ body_size s
   cuts_size at pointers = omega (arith, rw is at at.digest_at, pointers.count)
 
-  -- how long the list is behind a head
+  -- the length of the list after a head was appended
   pub head_appended : (old : List ℕ) {new : List ℕ} → new ≡ old ++ head_bytes g head.generation head.runs head.retired →
       length new ≡ length old + record_head_size (count_in s)
   head_appended old h =
@@ -71,7 +71,7 @@ record_written g s old {seen = seen} {start = start} h3 hs hl hd h4 =
         take_all _ _ (omega (arith, length-drop start seen)) ∙ ap (drop start) (hs ∙ h3)
         ∙ drop_at old (record_body g s) start (sym hl)
 
--- what was appended is read again, whatever follows it
+-- what was appended reads back, whatever follows it
 pub record_again : (g : Geometry) (s : Contents) (old new rest : List ℕ) (n : ℕ) → n ≡ length old →
     new ≡ old ++ record_bytes g s → AreContents g s → BeginsWithRecord g (drop n new ++ rest) s
 record_again g s old new rest n hn hnew contents = record {

@@ -1,4 +1,4 @@
--- The superblock records of raw bytes, each of the sizes that it has itself, and the bytes that are lost.
+-- The superblock records of raw bytes, each judged by its own sizes, and the bytes that are lost.
 use Rattle.std.specs.Prelude.{◌≡◌, ◌<◌, ◌≤◌, ◌+◌, ◌*◌, ◌%◌, ◌↔◌, ℕ, List, Bool, Option, AllPairs, Contains}
 use Rattle.std.specs.Prelude.{length as len}
 use Rattle.scrub_disk.specs.declared.geometry.Geometry.{Geometry}
@@ -28,7 +28,7 @@ pub record AreFoundRecords (at : ℕ → Option ℕ) (records : List FoundRecord
   pub rising : AllPairs (λ a b. a.offset < b.offset) records
   pub exact : (r : FoundRecord) → Contains records r ↔ IsFoundRecord at r
 
--- the range has the bytes of neighbouring lost blocks, as many as there are
+-- the range has the bytes of a longest run of lost blocks
 abbrev pub AreLostBytes : List Bool → LostBytes → Type 0
 AreLostBytes lost l = (first stop : ℕ) × IsLostRun lost first stop × (l.from ≡ first * 512) × (l.to ≡ stop * 512)
 
@@ -42,7 +42,7 @@ pub record AreFoundAnywhere (bytes : List ℕ) (lost : List Bool) (records : Lis
   pub records_are : AreFoundRecords (byte_left bytes lost) records
   pub ranges_are : AreLostRanges lost ranges
 
--- all superblock records of raw bytes, and all lost bytes, for some lost blocks that fit these marks and so many
+-- all superblock records of raw bytes, and all lost bytes, for some lost blocks that fit these marks and this number of
 -- failures
 pub record AreFoundWith (bytes : List ℕ) (marks : List Bool) (failures : ℕ) (records : List FoundRecord) (ranges : List LostBytes) : Type 0 where
   pub lost : List Bool

@@ -10,8 +10,8 @@ IsMarked marks n = slice_index_or marks n false ≡ true
 abbrev pub byte_left : List ℕ → List Bool → ℕ → Option ℕ
 byte_left bytes lost i = if slice_index_or lost (i / 512) false then None else slice_get bytes i
 
--- of the blocks of 512 bytes below byte 2^26 each marked one that begins before the end is lost, and of the others only
--- those that failures cost, listed here by their numbers, at most as many as were counted
+-- among the blocks of 512 bytes below byte 2^26 each marked one that begins before the end is lost, and of the others only
+-- those that failures cost, listed here by their numbers, at most as many as the failures that were counted
 pub record LosesBlocks (bytes : List ℕ) (marks : List Bool) (failures : ℕ) (lost : List Bool) : Type 0 where
   pub few_blocks : len lost ≤ 2 ^ 17
   pub marked : (n : ℕ) → n < 2 ^ 17 → n * 512 < len bytes → IsMarked marks n → IsMarked lost n

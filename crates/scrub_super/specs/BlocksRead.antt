@@ -11,8 +11,7 @@ use Rattle.scrub_super.specs.Record.{BeginsWithRecord, record_bytes}
 use Rattle.scrub_super.specs.Pages.{kind_of}
 use Rattle.scrub_super.specs.Blocks.{IsMarked}
 
--- a block at an offset came to `n` bytes in the front of `out`, or is lost, by its mark or because a failure was
--- counted
+-- a block at an offset gave `n` bytes in the front of `out`, or is lost, by its mark or because a failure was counted
 pub record IsBlockRead (bytes : List ℕ) (offset : ℕ) (is_marked : Bool) (before after : ℕ) (out : List ℕ) (n : ℕ) (is_lost : Bool) : Type 0 where
   pub read : is_lost ≡ false → AreBytesAt (slice_get bytes) offset (take n out)
   pub ended : n < 512 → len bytes ≤ offset + n
@@ -25,8 +24,8 @@ pub record AreBlockMarks (bytes : List ℕ) (lost : List Bool) : Type 0 where
   pub few : len lost ≤ 2 ^ 17
   pub begins : (n : ℕ) → IsMarked lost n → n * 512 < len bytes
 
--- the bytes of blocks that aren't lost are those of the raw image, and the lost blocks are those that marks and
--- failures say
+-- the bytes of blocks that aren't lost are those of the raw image, and the lost blocks are the marked ones and those that
+-- failures cost
 pub record AreBlocksRead (bytes : List ℕ) (marks : List Bool) (failures : ℕ) (read : List ℕ) (lost : List Bool) : Type 0 where
   pub held : (i : ℕ) → i < len read → ¬ IsMarked lost (i / 512) → slice_get bytes i ≡ Some (slice_index read i)
   pub marked : (n : ℕ) → n < len lost → n * 512 < len bytes → IsMarked marks n → IsMarked lost n

@@ -1,5 +1,4 @@
--- The superblock that counts: of the valid records of an image the newest, and of equally new ones that on the lowest
--- page.
+-- The superblock that counts: the newest valid record of an image, and in a tie the one on the lowest page.
 use Rattle.std.specs.Prelude.{◌≡◌, ◌≢◌, ◌<◌, ◌≤◌, ◌*◌, ◌↔◌, ℕ, List, Bool, Option, Some, None, IsTrue, Contains}
 use Rattle.std.specs.Prelude.{length as len}
 use Rattle.std.specs.List.Sorted.{IsStrictlyIncreasing}

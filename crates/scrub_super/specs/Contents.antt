@@ -1,4 +1,4 @@
--- What a superblock says: generation, write pointers, retired extents if they are listed, and the index runs.
+-- The contents of a superblock: generation, write pointers, retired extents if they are listed, and index runs.
 use Rattle.std.specs.Prelude.{ℕ, List, [], Option}
 use Rattle.std.specs.Option.{option_map_or, unwrap_or}
 use Rattle.scrub_frame.specs.declared.locator.Locator.{Locator}
@@ -15,6 +15,6 @@ pub record Contents : Type 0 where
 abbrev pub version_of : Contents → ℕ
 version_of c = option_map_or (λ _. 2) c.retired 1
 
--- the retired extents, none if there is no list
+-- the retired extents, or none if there is no list
 abbrev pub retired_in : Contents → List ℕ
 retired_in c = unwrap_or c.retired []

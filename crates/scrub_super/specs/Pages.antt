@@ -59,7 +59,7 @@ IsSuperblockPage image q (Damaged kind) = (bytes : List ℕ) × IsUnclaimed imag
 IsSuperblockPage image q Stray =
     (bytes : List ℕ) × IsUnclaimed image q bytes × (¬ All (λ b. b ≡ 0) bytes) × ((kind : RecordKind) → ¬ (take 4 bytes ≡ magic_of kind))
 
--- the list says of each page of extent 0 what it is, from page 0 on
+-- the list says what each page of extent 0 is, from page 0 on
 pub record AreSuperblockPages (image : Image) (pages : List SuperblockPage) : Type 0 where
   pub count : len pages ≡ image.geometry.pages
   pub each : (q : ℕ) (page : SuperblockPage) → slice_get pages q ≡ Some page → IsSuperblockPage image q page

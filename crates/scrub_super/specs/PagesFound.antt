@@ -1,4 +1,4 @@
--- What is found on the pages of extent 0, from which both the choice and what each page is follow.
+-- Steps of judging the pages of extent 0: the records found there, from which the choice and the list of pages follow.
 use Rattle.std.specs.Prelude.{◌≡◌, ◌<◌, ◌≤◌, ◌+◌, ◌*◌, ◌↔◌, ℕ, List, Bool, Option, Some, None, IsTrue, slice_index_or, if◌then◌else◌}
 use Rattle.std.specs.Prelude.{length as len}
 use Rattle.scrub_disk.specs.declared.geometry.Geometry.{Geometry}

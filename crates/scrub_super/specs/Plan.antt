@@ -1,4 +1,4 @@
--- What a plan says, and how it follows from the superblock that counts, or from there being none.
+-- The contents of a plan, and how it follows from the superblock that counts, or from there being none.
 use Rattle.std.specs.Prelude.{◌≡◌, ◌-◌, ◌*◌, ◌==◌, ℕ, List, [], All, Bool, true, false, Option, None, MatchOption, if◌then◌else◌, replicate, slice_get}
 use Rattle.scrub_disk.specs.declared.geometry.Geometry.{Geometry}
 use Rattle.scrub_frame.specs.declared.locator.Locator.{Locator}
@@ -8,7 +8,7 @@ use Rattle.scrub_super.specs.Contents.{Contents, retired_in}
 use Rattle.scrub_super.specs.Chosen.{Choice}
 
 -- the disk's sizes, the extents to scan, those that are retired, the write pointers of extents 1, 2 and so on, the
--- locators of the index runs, newest first, and whether a superblock says all these
+-- locators of the index runs, newest first, and whether these come from a superblock
 pub record PlanValue : Type 0 where
   pub geometry : Geometry
   pub planned : List ℕ
@@ -17,7 +17,7 @@ pub record PlanValue : Type 0 where
   pub runs : List Locator
   pub has_superblock : Bool
 
--- what each plan keeps: planned and retired extents rise and none is both, and pointers and runs are within their
+-- what holds of each plan: planned and retired extents rise and none is both, and pointers and runs are within their
 -- limits
 pub record IsPlan (plan : PlanValue) : Type 0 where
   pub extents : ArePlanned plan.geometry.extents plan.planned
@@ -26,7 +26,7 @@ pub record IsPlan (plan : PlanValue) : Type 0 where
   pub within : ArePointers plan.geometry plan.pointers
   pub located : AreRunLocators plan.runs
 
--- the write pointer of an extent, or None for extent 0 and for a number that is no extent of the disk
+-- the write pointer of an extent, or None for extent 0 and for a number that isn't an extent of the disk
 abbrev pub pointer_of : PlanValue → ℕ → Option ℕ
 pointer_of plan e = if e == 0 then None else slice_get plan.pointers (e - 1)
 
@@ -44,7 +44,7 @@ pub record IsPlanWithout (plan : PlanValue) (g : Geometry) : Type 0 where
   pub pointers : plan.pointers ≡ replicate (g.extents - 1) (g.page * g.pages)
   pub runs : plan.runs ≡ []
 
--- the plan by what was chosen, of all extents but extent 0 and the retired ones
+-- the plan that follows from the choice, with all extents except extent 0 and the retired ones
 pub record IsPlanOf (choice : Choice) (plan : PlanValue) : Type 0 where
   pub geometry : plan.geometry ≡ choice.geometry
   pub all : plan.planned ≡ extents_in_use choice.geometry.extents plan.retired

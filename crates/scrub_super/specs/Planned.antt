@@ -21,6 +21,6 @@ AreRetired extents retired = AreChunkExtents extents retired
 abbrev pub is_in_use : List ℕ → ℕ → Bool
 is_in_use retired e = not (list_any (λ r. r == e) retired)
 
--- all extents but extent 0 and the retired ones, rising
+-- all extents except extent 0 and the retired ones, rising
 abbrev pub extents_in_use : ℕ → List ℕ → List ℕ
 extents_in_use extents retired = filter (is_in_use retired) (range_with_len 1 (extents - 1))

@@ -1,4 +1,4 @@
--- How a record is read: by its head, and what that says of the whole.
+-- Steps of reading a record: its head, and what that says of the whole record.
 use Rattle.std.specs.Prelude.{◌≡◌, ◌<◌, ◌≤◌, ◌+◌, ◌*◌, ◌-◌, ◌^◌, ℕ, List, Option, Some, None, drop, option_map}
 use Rattle.std.specs.Prelude.{length as len}
 use Rattle.std.specs.Option.{unwrap_or}
@@ -8,7 +8,7 @@ use Rattle.scrub_super.specs.declared.head.Cuts.{Cuts}
 use Rattle.scrub_super.specs.Contents.{Contents}
 use Rattle.scrub_super.specs.Record.{BeginsWithRecord, front_bytes, head_bytes}
 
--- what a record of either kind begins with, of this geometry and with so many index runs
+-- the front of a record of either kind, of this geometry, with so many index runs
 pub record IsFront (g : Geometry) (bytes : List ℕ) (digit generation runs : ℕ) : Type 0 where
   pub fits : generation < 2 ^ 64
   pub few : runs ≤ 32

@@ -1,4 +1,4 @@
--- What is known of the records on the pages that were seen, from the last page down.
+-- Steps of the choice: the records on the pages seen so far, from the last page down.
 use Rattle.std.specs.Prelude.{◌≡◌, ◌≢◌, ◌<◌, ◌≤◌, ◌+◌, ◌==◌, ◌↔◌, ℕ, List, false, Some, IsTrue, Contains, MatchOption}
 use Rattle.std.specs.Prelude.{length as len}
 use Rattle.std.specs.List.Sorted.{IsStrictlyIncreasing}
@@ -12,7 +12,7 @@ use Rattle.scrub_super.specs.Chosen.{RecordStandsAt}
 abbrev pub StandsFrom : Image → ℕ → ℕ → Type 0
 StandsFrom image q n = (c : Contents) × RecordStandsAt image q c × (c.generation ≡ n)
 
--- the newest record on the pages from `low` on, of equally new ones that on the lowest page, and whether there is a tie
+-- the newest record on the pages from `low` on, in a tie the one on the lowest page, and whether there is a tie
 pub record IsNewestFrom (stands : ℕ → ℕ → Type 0) (low : ℕ) (newest : Newest) : Type 0 where
   pub from : low ≤ newest.page
   pub there : stands newest.page newest.generation

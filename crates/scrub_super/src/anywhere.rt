@@ -1,5 +1,4 @@
-//! The superblock records of a raw image, whatever its sizes: each record is judged by the sizes that it has itself. What
-//! they mean together is left to the caller.
+//! Finds the superblock records of a raw image whose sizes aren't known: each record is judged by its own sizes.
 
 ghost use Rattle.std.specs.Prelude.{◌≡◌, ◌+◌, ◌-◌, ◌<◌, ◌≤◌, ◌^◌, ℕ, List, Bool, IfOk, IfSome};
 ghost use Rattle.scrub_disk.specs.Limits.{max_extent_bytes};
@@ -15,27 +14,27 @@ use crate::pages::RecordKind;
 use scrub_disk::{Geometry, OutOfMemory, RawImage};
 use std::alloc::Global;
 
-/// A superblock record, as it is told.
+/// A superblock record that was found.
 #[derive(Debug, Clone, Copy, PartialEq, Eq)]
 pub struct FoundRecord {
-    /// Where it begins, in bytes from the start of the image: a multiple of 64 and of its page size, below 67,108,864.
+    /// Where it begins, in bytes from the image's start: a multiple of 64 and of its page size, below 67,108,864.
     pub offset: u32,
     pub kind: RecordKind,
     pub generation: u64,
-    /// The sizes that it has itself.
+    /// The disk's sizes according to the record.
     pub geometry: Geometry,
 }
 
-/// Neighbouring blocks of 512 bytes that are lost, with none before or behind them.
+/// A longest range of lost blocks, of 512 bytes each.
 #[derive(Debug, Clone, Copy, PartialEq, Eq)]
 pub struct LostBytes {
     /// The first lost byte, a multiple of 512.
     pub from: u32,
-    /// The byte behind the last one, a multiple of 512 too, at most 67,108,864. The image may end before it.
+    /// The byte behind the last lost one, a multiple of 512, at most 67,108,864. The image may end before it.
     pub to: u32,
 }
 
-/// What the first 67,108,864 bytes of a raw image hold of superblock records.
+/// The superblock records and the lost bytes in the first 67,108,864 bytes of a raw image.
 #[derive(Debug, Drop)]
 pub struct FoundSuperblocks {
     /// By rising offset. Records may overlap.
@@ -44,13 +43,13 @@ pub struct FoundSuperblocks {
     pub lost: Vec<LostBytes>,
 }
 
-/// Finds each superblock record that begins at a multiple of 64 below 67,108,864, where it is a record of the sizes that it
-/// has itself, begins at a bound of its pages and ends in its extent 0. The image is read once, in blocks of 512 bytes, as far
-/// as 67,108,864 or its end; what follows doesn't matter. A record with a byte in a lost block isn't there.
+/// Finds each superblock record that begins at a multiple of 64 below 67,108,864. Such a record is valid for its own sizes,
+/// begins at one of its page bounds, ends in its extent 0, and has no byte in a lost block. The image is read once, in
+/// blocks of 512 bytes, up to byte 67,108,864 or its end.
 ///
-/// A block is lost where a read for it failed, or where it is marked and begins before the end. `marked` has a mark for each
-/// of the first blocks, and a block past the list's end isn't marked. Where the last reads fail, nothing says where the image
-/// ends: then their blocks are lost, too. Memory is taken for the bytes, a mark of each block, and the two lists.
+/// A block is lost if a read for it failed, or if it is marked and begins before the end. `marked` has a mark for each of
+/// the first blocks; a block past the list's end isn't marked. If the last reads fail, the end of the image isn't known,
+/// and their blocks are lost too. Memory: the bytes, a mark for each block, and the two lists.
 pub fn find_superblocks<R: RawImage>(
     alloc: Global,
     raw: &mut R,
@@ -70,7 +69,7 @@ pub fn find_superblocks<R: RawImage>(
     Ok(FoundSuperblocks { records, lost })
 }
 
-/// A law: for given bytes and lost blocks there is one answer.
+/// A law: the bytes and the lost blocks determine the answer.
 pub fn one_answer_for_lost_blocks()
     ensures { (bytes : List ℕ) (lost : List Bool) (a b : List FoundRecord) (r s : List LostBytes) →
         AreFoundAnywhere bytes lost a r → AreFoundAnywhere bytes lost b s → (a ≡ b) × (r ≡ s) }

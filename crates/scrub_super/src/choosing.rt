@@ -1,4 +1,4 @@
-//! Choosing the superblock that counts, by reading extent 0.
+//! Reads extent 0 and chooses the superblock that counts.
 
 ghost use Rattle.std.specs.Prelude.{◌≡◌, ◌+◌, ◌*◌, ◌<◌, ◌≤◌, ◌^◌, ℕ, List, Option, IfOk, length, drop};
 ghost use Rattle.scrub_disk.specs.Buffered.{IsBuffered};
@@ -21,11 +21,11 @@ use std::alloc::Global;
 pub(crate) struct Newest {
     pub page: u32,
     pub generation: u64,
-    /// Whether its generation stands on another page too.
+    /// Whether another page has a record of the same generation.
     pub tie: bool,
 }
 
-/// What was seen so far: the newest record, and on how many pages there is one.
+/// The records so far: the newest one, and how many pages have one.
 #[derive(Clone, Copy)]
 pub(crate) struct RecordsSeen {
     pub newest: Option<Newest>,
@@ -34,7 +34,7 @@ pub(crate) struct RecordsSeen {
 
 ghost use Rattle.scrub_super.specs.RecordsSeen.{AddsRecord, AreSeenFrom, StandsFrom};
 
-/// What was seen with one more record, on a lower page than those before.
+/// Adds one more record, on a lower page than those before.
 pub(crate) fn with_record(seen: RecordsSeen, page: u32, generation: u64) -> RecordsSeen
     requires { seen.records + 1 < 2 ^ 32 }
     ensures { AddsRecord seen result page generation }
@@ -58,7 +58,7 @@ pub(crate) fn with_record(seen: RecordsSeen, page: u32, generation: u64) -> Reco
     }
 }
 
-/// Where the readable pages from a page on end, by where those from the next page on do.
+/// The end of the readable pages from a page on; `next_end` is the end of those from the next page on.
 pub(crate) fn readable_end(readable: &[bool], page: usize, next_end: usize) -> usize
     requires in_pages { page < length readable.now }
     requires next { IsNextUnreadable readable.now (page + 1) next_end }
@@ -70,7 +70,7 @@ pub(crate) fn readable_end(readable: &[bool], page: usize, next_end: usize) -> u
     next_end
 }
 
-/// The records in the bytes of extent 0, each page bound judged by itself.
+/// The records in the bytes of extent 0. Each page is judged by itself.
 fn find_records(bytes: &[u8], readable: &[bool], geometry: Geometry) -> RecordsSeen
     requires bytes { length bytes.now ≡ geometry.page * geometry.pages }
     requires pages { length readable.now ≡ geometry.pages }
@@ -82,7 +82,7 @@ fn find_records(bytes: &[u8], readable: &[bool], geometry: Geometry) -> RecordsS
         newest: None,
         records: 0,
     };
-    // Where the readable pages from this one on end.
+    // The end of the readable pages from this one on.
     let mut end = readable.len();
     for page in (0..readable.len()).rev() {
         end = readable_end(readable, page, end);
@@ -93,7 +93,7 @@ fn find_records(bytes: &[u8], readable: &[bool], geometry: Geometry) -> RecordsS
     seen
 }
 
-/// Extent 0 in memory, and the records that stand in it.
+/// Reads extent 0 into memory, and finds the records in it.
 fn search<D: PageSource>(
     alloc: Global,
     disk: &D,
@@ -106,7 +106,7 @@ fn search<D: PageSource>(
     Ok((extent, seen))
 }
 
-/// What the record tells that stands at a page.
+/// Parses the record at a page.
 fn superblock_at(
     alloc: Global,
     bytes: &[u8],
@@ -124,7 +124,7 @@ fn superblock_at(
     }
 }
 
-/// What is chosen by the records that are seen in extent 0.
+/// The choice that follows from the records in extent 0.
 pub(crate) fn chosen_by<D: PageSource>(
     alloc: Global,
     disk: &D,
@@ -151,9 +151,9 @@ pub(crate) fn chosen_by<D: PageSource>(
     ))
 }
 
-/// The superblock that counts on a disk: of the valid records in extent 0 the one of the greatest generation, and of
-/// equally new ones the one on the lowest page. Each page of extent 0 is read once, into one buffer; beside it memory is
-/// taken for a mark of each page, the list of the unreadable ones and the one superblock.
+/// The superblock that counts on a disk: the valid record in extent 0 with the greatest generation, and in a tie the one on
+/// the lowest page. Each page of extent 0 is read once. Memory: a buffer for extent 0, a mark for each page, the list of
+/// unreadable pages, and one superblock.
 pub fn choose<D: PageSource>(alloc: Global, disk: &D) -> Result<Chosen, OutOfMemory>
     ensures { IfOk result (IsChoice (D.image disk.now)) }
 {
@@ -161,7 +161,7 @@ pub fn choose<D: PageSource>(alloc: Global, disk: &D) -> Result<Chosen, OutOfMem
     chosen_by(alloc, disk, &extent, seen)
 }
 
-/// A law: on a page of extent 0 stands one record at most, so an image has one choice.
+/// A law: at most one record begins on a page of extent 0, so an image has one choice.
 pub fn one_choice()
     ensures on_a_page { (image : Image) (page : ℕ) (c d : Contents) →
         RecordStandsAt image page c → RecordStandsAt image page d → c ≡ d }

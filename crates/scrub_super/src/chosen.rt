@@ -1,4 +1,4 @@
-//! Which superblock counts. What follows from it for a scan is left to `plan`.
+//! The superblock that counts, if there is one. `plan` derives the scan from it.
 
 ghost use Rattle.std.specs.Prelude.{◌≡◌, IfSome, false};
 ghost use Rattle.std.specs.Option.{option_copied};
@@ -7,7 +7,7 @@ use crate::superblock::Superblock;
 use scrub_disk::Geometry;
 use std::marker::Model;
 
-/// What the superblock records of a disk tell: which one counts, and what speaks against it.
+/// The superblock record that counts on a disk, and what puts it in doubt: a tie, or unreadable pages.
 #[derive(Drop)]
 pub struct Chosen {
     geometry: Geometry,
@@ -40,7 +40,7 @@ impl Model for Chosen {
 impl Chosen {
     ghost use Rattle.scrub_super.specs.Record.{AreContents};
 
-    /// What is chosen where there is no record.
+    /// The choice if there is no record.
     pub(crate) fn without(geometry: Geometry, bad_pages: Vec<u32>) -> Chosen
         ensures { result ≡ record {
           geometry = geometry;
@@ -61,7 +61,7 @@ impl Chosen {
         }
     }
 
-    /// What is chosen where there are records.
+    /// The choice if there are records.
     pub(crate) fn by(
         geometry: Geometry,
         superblock: Superblock,
@@ -98,7 +98,7 @@ impl Chosen {
         self.superblock.as_ref()
     }
 
-    /// The page of extent 0 that it stands on, from 0.
+    /// The page of extent 0 on which it begins, counted from 0.
     pub fn page(&self) -> Option<u32>
         ensures { result ≡ self.now.page }
     {
@@ -112,7 +112,7 @@ impl Chosen {
         self.records
     }
 
-    /// Whether the greatest generation stands on two or more pages.
+    /// Whether two or more pages have a record of the greatest generation.
     pub fn tie(&self) -> bool
         ensures { result ≡ self.now.tie }
     {

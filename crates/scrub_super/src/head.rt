@@ -1,5 +1,5 @@
-//! What stands before the write pointers of a record, and where the parts behind it begin. `record` says
-//! what they mean.
+//! The head of a record, which comes before its write pointers, and where the parts behind it begin. `record` reads and
+//! writes these parts.
 
 ghost use Rattle.std.specs.Prelude.{◌≡◌, ◌+◌, ◌≤◌, ◌<◌, ◌^◌, ◌++◌, ℕ, IfSome, IfNone, length, take, vec_len, vec_capacity, option_map};
 ghost use Rattle.scrub_super.specs.Contents.{Contents};
@@ -11,16 +11,16 @@ use byteorder::{BigEndian, ByteOrder};
 use scrub_disk::Geometry;
 use scrub_frame::{LOCATOR_BYTES, append};
 
-/// The digit of `SSB1`, what a record with no list of retired extents begins with.
+/// The digit of `SSB1`: the record has no list of retired extents.
 const PLAIN: u8 = 0x31;
 
-/// The digit of `SSB2`, what a record with such a list begins with.
+/// The digit of `SSB2`: the record has a list of retired extents.
 const LISTING: u8 = 0x32;
 
 /// The most index runs that a record names.
 pub const MAX_RUNS: usize = 32;
 
-/// What both kinds of record tell first, the disk's sizes aside.
+/// The fields that both kinds of record begin with, without the disk's sizes.
 #[derive(Clone, Copy)]
 struct Front {
     digit: u8,
@@ -28,16 +28,16 @@ struct Front {
     runs: usize,
 }
 
-/// What a record tells before its write pointers, the disk's sizes aside.
+/// The fields of a record before its write pointers, without the disk's sizes.
 #[derive(Clone, Copy)]
 pub(crate) struct Head {
     pub generation: u64,
     pub runs: usize,
-    /// How many retired extents it lists, if it has a list of them.
+    /// The number of retired extents, if they are listed.
     pub retired: Option<usize>,
 }
 
-/// Where the parts of a record begin, in bytes from its start.
+/// Where the parts of a record begin, in bytes from the record's start.
 #[derive(Clone, Copy)]
 pub(crate) struct Cuts {
     pub pointers: usize,
@@ -46,7 +46,7 @@ pub(crate) struct Cuts {
     pub digest: usize,
 }
 
-/// The first bytes of a record.
+/// The first 26 bytes of a record.
 fn front_of(digit: u8, geometry: Geometry, generation: u64, runs: u16) -> [u8; 26]
     ensures { result ≡ front_bytes digit geometry generation runs }
 {
@@ -60,7 +60,7 @@ fn front_of(digit: u8, geometry: Geometry, generation: u64, runs: u16) -> [u8; 2
     bytes
 }
 
-/// The front that the bytes are, if they are one of this geometry.
+/// Parses the front of a record, if it is one of this geometry.
 fn read_front(bytes: &[u8; 26], geometry: Geometry) -> Option<Front>
     ensures found { IfSome result (λ f. IsFront geometry bytes.now f.digit f.generation f.runs) }
     ensures none { IfNone result ((digit generation runs : ℕ) → ¬ IsFront geometry bytes.now digit generation runs) }
@@ -78,7 +78,7 @@ fn read_front(bytes: &[u8; 26], geometry: Geometry) -> Option<Front>
     })
 }
 
-/// The head that the bytes begin with, if they begin with that of a record of this geometry.
+/// Parses the head that the bytes begin with, if it is that of a record of this geometry.
 pub(crate) fn read_head(bytes: &[u8], geometry: Geometry) -> Option<Head>
     ensures found { IfSome result (λ h. IsHead geometry (take (record_head_size h.retired) bytes.now) h.generation h.runs h.retired) }
     ensures none { IfNone result ((c : Contents) → ¬ BeginsWithRecord geometry bytes.now c) }
@@ -106,7 +106,7 @@ pub(crate) fn read_head(bytes: &[u8], geometry: Geometry) -> Option<Head>
     })
 }
 
-/// How many bytes stand before the write pointers.
+/// How many bytes a record has before its write pointers.
 fn head_len(retired: Option<usize>) -> usize
     ensures { result ≡ record_head_size retired }
 {
@@ -152,7 +152,7 @@ pub(crate) fn head_of(superblock: &Superblock) -> Head
     }
 }
 
-/// Appends a head, where the list has room for it. Takes no memory.
+/// Appends a head to a list that has room for it. Takes no memory.
 pub(crate) fn append_head(out: &mut Vec<u8>, geometry: Geometry, head: Head)
     requires few { head.runs ≤ MAX_RUNS }
     requires small { retired_count head.retired < 2 ^ 16 }

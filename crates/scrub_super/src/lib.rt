@@ -1,5 +1,4 @@
-//! The superblock of a disk: its records, which of them counts, and the plan of the scan that follows from it.
-//! `scrub_scan` goes by that plan.
+//! The superblock of a disk: its records, which of them counts, and the plan that `scrub_scan` follows.
 #![tactic(auto)]
 
 pub mod anywhere;

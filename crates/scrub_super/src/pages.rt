@@ -1,4 +1,4 @@
-//! What each page of extent 0 holds of superblocks: a record, the rest of one, a damaged one, or anything else.
+//! What a page of extent 0 holds: a superblock record, the rest of one, a damaged one, or anything else.
 
 ghost use Rattle.std.specs.Prelude.{◌≡◌, ◌↔◌, ℕ, All, IfNone, IfSome, IsTrue, take};
 ghost use Rattle.scrub_disk.specs.Image.{Image};
@@ -8,7 +8,7 @@ ghost use Rattle.std.specs.Option.{option_map_or};
 ghost use Rattle.scrub_super.specs.declared.pages.RecordKind.{RecordKind};
 ghost use Rattle.scrub_super.specs.declared.pages.RecordKind.TheVariants.{Ssb1, Ssb2};
 
-/// Which of the two kinds a record is of, by the four bytes that it begins with.
+/// The kind of a record, by its first four bytes.
 #[derive(Debug, Clone, Copy, PartialEq, Eq)]
 pub enum RecordKind {
     /// `SSB1`: it has no list of retired extents.
@@ -17,7 +17,7 @@ pub enum RecordKind {
     Ssb2,
 }
 
-/// How new a record is beside the other records of its disk.
+/// How new a record is, compared with the other records of its disk.
 #[derive(Debug, Clone, Copy, PartialEq, Eq)]
 pub enum Rank {
     /// Its generation is the greatest, and another page has a record of the same generation.
@@ -28,7 +28,7 @@ pub enum Rank {
     Older,
 }
 
-/// What a page of extent 0 holds of superblocks: the first of these that applies.
+/// What a page of extent 0 holds: the first of these that applies.
 #[derive(Debug, Clone, Copy, PartialEq, Eq)]
 pub enum SuperblockPage {
     /// The page is unreadable.
@@ -39,12 +39,12 @@ pub enum SuperblockPage {
         generation: u64,
         rank: Rank,
     },
-    /// A byte of the page lies in a valid record that begins on a page before it.
+    /// A valid record that begins on an earlier page reaches into the page.
     Covered,
     /// All bytes of the page are zero.
     Zero,
-    /// The page begins with the four bytes of a kind: a wrong digest, other sizes, a field out of range, or a record that
-    /// an unreadable page or the end of the extent cuts off.
+    /// The page begins with the four bytes of a kind, but with no valid record: its digest is wrong, it has other sizes or
+    /// a field out of range, or an unreadable page or the end of the extent cuts it off.
     Damaged {
         kind: RecordKind,
     },
@@ -64,7 +64,7 @@ fn are_zero(bytes: &[u8]) -> bool
     true
 }
 
-/// The kind whose four bytes stand first, if those of one do.
+/// The kind whose four bytes come first, if there is one.
 fn kind_at(bytes: &[u8]) -> Option<RecordKind>
     ensures found { IfSome result (λ kind. take 4 bytes.now ≡ magic_of kind) }
     ensures none { IfNone result ((kind : RecordKind) → ¬ (take 4 bytes.now ≡ magic_of kind)) }
@@ -88,7 +88,7 @@ pub(crate) fn kind_by(retired: Option<usize>) -> RecordKind
     }
 }
 
-/// What a page holds on which no record begins.
+/// What a page holds if no record begins on it.
 pub(crate) fn page_without_record(
     bytes: &[u8],
     is_readable: bool,

@@ -1,4 +1,4 @@
-//! What is to be scanned, and what is known of it before. `scrub_scan` goes by it.
+//! The plan of a scan: what to scan, and what the superblock says about it. `scrub_scan` follows it.
 
 ghost use Rattle.std.specs.Prelude.{◌≡◌, ◌==◌, ◌<◌, ◌≤◌, ◌*◌, All, Contains, IfOk, Some, true};
 ghost use Rattle.std.specs.List.{list_any};
@@ -11,7 +11,7 @@ use scrub_frame::Locator;
 use std::alloc::Global;
 use std::marker::Model;
 
-/// The extents to scan, those that are retired, the write pointer of each extent, and where the index runs stand.
+/// The extents to scan, the retired extents, the write pointer of each extent, and the locators of the index runs.
 #[derive(Drop)]
 pub struct Plan {
     geometry: Geometry,
@@ -51,8 +51,8 @@ impl Plan {
     ghost use Rattle.scrub_super.specs.Record.{AreRunLocators};
     ghost use Rattle.scrub_super.specs.Plan.{pointer_of, IsPlanOf, IsRestricted};
 
-    /// The plan of all extents but extent 0 and the retired ones, by the superblock that was chosen. Without one each
-    /// extent is taken for full, none for retired, and no index run is known.
+    /// The plan of all extents except extent 0 and the retired ones, from the chosen superblock. If there is no superblock,
+    /// each extent counts as full, none is retired, and there are no index runs.
     pub fn make(alloc: Global, chosen: &Chosen, geometry: Geometry) -> Result<Plan, OutOfMemory>
         requires same_geometry { chosen.now.geometry ≡ geometry }
         ensures { IfOk result (IsPlanOf chosen.now) }
@@ -77,7 +77,7 @@ impl Plan {
         }
     }
 
-    /// The same plan with these extents alone planned.
+    /// The same plan, but with only these extents planned.
     pub fn restrict(&self, alloc: Global, extents: &[u32]) -> Result<Plan, OutOfMemory>
         requires rising { IsStrictlyIncreasing extents.now }
         requires each_planned { All (Contains self.now.planned) extents.now }
@@ -103,17 +103,17 @@ impl Plan {
     /// The extents to scan, rising. There may be none.
     pub fn planned(&self) -> &[u32]
         ensures planned { result.now ≡ self.now.planned }
-        // Every value of the type is such.
+        // The type's invariant, for callers that only borrow the plan.
         ensures extents { ArePlanned self.now.geometry.extents self.now.planned }
         ensures in_use { All (λ e. is_in_use self.now.retired e ≡ true) self.now.planned }
     {
         self.planned.as_slice()
     }
 
-    /// The retired extents, rising: none of them is to be read.
+    /// The retired extents, rising. None of them is read.
     pub fn retired(&self) -> &[u32]
         ensures retired { result.now ≡ self.now.retired }
-        // Every value of the type is such.
+        // The type's invariant, for callers that only borrow the plan.
         ensures extents { AreRetired self.now.geometry.extents self.now.retired }
     {
         self.retired.as_slice()
@@ -126,7 +126,7 @@ impl Plan {
         has_extent(&self.retired, extent)
     }
 
-    /// The write pointer of an extent, a retired one too, in bytes from the extent's start.
+    /// The write pointer of an extent, retired or not, in bytes from the extent's start.
     pub fn pointer(&self, extent: u32) -> u32
         requires from_one { 1 ≤ extent }
         requires in_extents { extent < self.now.geometry.extents }
@@ -139,13 +139,13 @@ impl Plan {
     /// The locators of the index runs, newest first.
     pub fn runs(&self) -> &[Locator]
         ensures runs { result.now ≡ self.now.runs }
-        // Every value of the type is such.
+        // The type's invariant, for callers that only borrow the plan.
         ensures located { AreRunLocators self.now.runs }
     {
         self.runs.as_slice()
     }
 
-    /// Whether the pointers and the runs are those of a superblock.
+    /// Whether the pointers and the runs come from a superblock.
     pub fn has_superblock(&self) -> bool
         ensures { result ≡ self.now.has_superblock }
     {
@@ -153,7 +153,7 @@ impl Plan {
     }
 }
 
-/// Whether an extent stands among rising ones.
+/// Whether an extent is one of these, which rise.
 fn has_extent(extents: &[u32], extent: u32) -> bool
     requires { IsStrictlyIncreasing extents.now }
     ensures { result ≡ list_any (λ e. e == extent) extents.now }
@@ -161,7 +161,7 @@ fn has_extent(extents: &[u32], extent: u32) -> bool
     extents.binary_search(&extent).is_ok()
 }
 
-/// All extents but extent 0 and the retired ones, rising.
+/// All extents except extent 0 and the retired ones, rising.
 fn all_in_use(alloc: Global, extents: u32, retired: &[u32]) -> Result<Vec<u32>, OutOfMemory>
     requires some { 1 ≤ extents }
     requires rising { IsStrictlyIncreasing retired.now }

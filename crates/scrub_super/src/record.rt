@@ -1,4 +1,4 @@
-//! Superblock records as bytes. Where on a disk records stand, and which of them counts, is left to `chosen`.
+//! Reads and writes superblock records. `choosing` finds them on a disk.
 
 ghost use Rattle.std.specs.Prelude.{◌≡◌, ◌+◌, ◌*◌, ◌-◌, ◌≤◌, ◌<◌, ◌^◌, ◌++◌, ◌↔◌, ℕ, List, [], Option, IsTrue, IfSome, IfNone, IfOk, All, take, drop, length, vec_len, vec_capacity, option_map, OnOk, OnErr};
 ghost use Rattle.std.specs.List.{flat_map};
@@ -23,7 +23,7 @@ use scrub_frame::{
 };
 use std::alloc::Global;
 
-/// Whether no number of four bytes is over the most.
+/// Whether each four-byte number is at most `most`.
 fn are_within(bytes: &[u8], most: u32) -> bool
     ensures { IsTrue result ↔ ((k : ℕ) → 4 * k + 4 ≤ length bytes.now → big_number 4 (drop (4 * k) bytes.now) ≤ most) }
 {
@@ -35,7 +35,7 @@ fn are_within(bytes: &[u8], most: u32) -> bool
     true
 }
 
-/// Whether numbers of four bytes each rise, each among 1 up to the number of extents.
+/// Whether the four-byte numbers rise, from 1 up to less than `extents`.
 fn are_extents(bytes: &[u8], extents: u32) -> bool
     ensures { IsTrue result ↔ SpellExtents extents bytes.now }
 {
@@ -50,7 +50,7 @@ fn are_extents(bytes: &[u8], extents: u32) -> bool
     true
 }
 
-/// Whether the digest of the bytes before the end stands there.
+/// Whether the digest of the bytes before `end` follows them.
 fn has_digest_at(bytes: &[u8], end: usize) -> bool
     requires { end + digest_size ≤ length bytes.now }
     ensures { IsTrue result ↔ (take digest_size (drop end bytes.now) ≡ sha256 (take end bytes.now)) }
@@ -58,8 +58,8 @@ fn has_digest_at(bytes: &[u8], end: usize) -> bool
     digest_of(&bytes[..end]).as_slice() == &bytes[end..end + DIGEST_BYTES]
 }
 
-/// The head of the record that the bytes begin with, if they begin with one. The digest is taken only where all before
-/// it fits. Takes no memory.
+/// The head of the record that the bytes begin with, if they begin with one. The bytes are hashed only if all fields are
+/// in range. Takes no memory.
 pub(crate) fn record_at(bytes: &[u8], geometry: Geometry) -> Option<Head>
     ensures found { IfSome result (λ h. BeginsWithSome geometry bytes.now h.generation h.runs h.retired) }
     ensures within { IfSome result (λ h.
@@ -83,7 +83,7 @@ pub(crate) fn record_at(bytes: &[u8], geometry: Geometry) -> Option<Head>
     Some(head)
 }
 
-/// The numbers of four bytes each.
+/// Parses `count` numbers of four bytes each.
 fn read_numbers(alloc: Global, bytes: &[u8], count: usize) -> Result<Vec<u32>, OutOfMemory>
     requires { length bytes.now ≡ 4 * count }
     ensures count { IfOk result (λ v. length v.items ≡ count) }
@@ -95,7 +95,7 @@ fn read_numbers(alloc: Global, bytes: &[u8], count: usize) -> Result<Vec<u32>, O
     Ok(numbers)
 }
 
-/// The retired extents, if there is a list of them.
+/// Parses the list of retired extents, if there is one.
 fn read_retired(
     alloc: Global,
     bytes: &[u8],
@@ -112,8 +112,7 @@ fn read_retired(
     }
 }
 
-/// What the record that the bytes begin with tells, if they begin with a record of this geometry. What follows it
-/// doesn't matter.
+/// Parses the record that the bytes begin with, if they begin with one of this geometry. Bytes behind it don't matter.
 pub fn read_record(
     alloc: Global,
     bytes: &[u8],
@@ -144,7 +143,7 @@ fn append_numbers(out: &mut Vec<u8>, numbers: &[u32])
     }
 }
 
-/// Appends all of a record that stands before its digest, where the list has room for it. Takes no memory.
+/// Appends a record without its digest to a list that has room for it. Takes no memory.
 fn append_body(out: &mut Vec<u8>, geometry: Geometry, superblock: &Superblock)
     requires few { length superblock.now.runs ≤ MAX_RUNS }
     requires retired { IfSome superblock.now.retired (AreRetired geometry.extents) }
@@ -161,8 +160,8 @@ fn append_body(out: &mut Vec<u8>, geometry: Geometry, superblock: &Superblock)
     append_locators(out, superblock.runs());
 }
 
-/// Appends the record of a superblock for a disk of this geometry: 58 bytes, 4 for each pointer and 60 for each run; with
-/// a list of retired extents 2 more, and 4 for each of them. A refusal leaves `out` as it was.
+/// Appends the record of a superblock for a disk of this geometry: 58 bytes, 4 for each pointer and 60 for each run; with a
+/// list of retired extents, 2 more and 4 for each of these. After `OutOfMemory`, `out` is unchanged.
 pub fn write_record(
     out: &mut Vec<u8>,
     geometry: Geometry,
@@ -174,7 +173,7 @@ pub fn write_record(
     ensures ok { OnOk result (out.new.items ≡ out.old.items ++ record_bytes geometry superblock.now) }
     ensures err { OnErr result (out.new.items ≡ out.old.items) }
 
-    // It is read again, whatever follows it.
+    // The record reads back, whatever follows it.
     ensures read_again { OnOk result ((rest : List ℕ) →
         BeginsWithRecord geometry (drop (vec_len out.old) out.new.items ++ rest) superblock.now) }
 {
@@ -186,7 +185,7 @@ pub fn write_record(
     Ok(())
 }
 
-/// A law: bytes begin with one record of a geometry at most.
+/// A law: bytes begin with at most one record of a geometry.
 pub fn one_record()
     ensures { (geometry : Geometry) (bytes : List ℕ) (c d : Contents) →
         BeginsWithRecord geometry bytes c → BeginsWithRecord geometry bytes d → c ≡ d }

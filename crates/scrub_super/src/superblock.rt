@@ -1,12 +1,11 @@
-//! What a superblock tells. How it stands on a disk is left to `record`.
+//! The contents of a superblock. `record` reads and writes its bytes.
 
 ghost use Rattle.std.specs.Prelude.{◌≡◌, None, Some, option_map};
 
 use scrub_frame::Locator;
 use std::marker::Model;
 
-/// The write pointers of a disk as they were flushed last, which of its extents are retired, and where its index runs
-/// stand.
+/// A disk's generation, write pointers, retired extents and index runs, as they were last flushed.
 #[derive(Drop)]
 pub struct Superblock {
     generation: u64,
@@ -32,7 +31,7 @@ impl Model for Superblock {
 impl Superblock {
     ghost use Rattle.scrub_super.specs.Contents.{retired_in, version_of};
 
-    /// A superblock of what is handed in, with no list of retired extents. Takes no memory.
+    /// A superblock with no list of retired extents. Takes no memory.
     pub fn new(generation: u64, pointers: Vec<u32>, runs: Vec<Locator>) -> Superblock
         ensures { result ≡ record { generation = generation; pointers = pointers.items; retired = None; runs = runs.items } }
     {
@@ -44,7 +43,7 @@ impl Superblock {
         }
     }
 
-    /// A superblock of what is handed in, with a list of retired extents, which may be empty. Takes no memory.
+    /// A superblock with a list of retired extents, which may be empty. Takes no memory.
     pub fn with_retired(
         generation: u64,
         pointers: Vec<u32>,
@@ -61,7 +60,7 @@ impl Superblock {
         }
     }
 
-    /// A superblock of what is handed in, with a list of retired extents or without one. Takes no memory.
+    /// A superblock with or without a list of retired extents. Takes no memory.
     pub(crate) fn of(
         generation: u64,
         pointers: Vec<u32>,
@@ -83,14 +82,14 @@ impl Superblock {
         }
     }
 
-    /// How new it is: the greatest generation counts.
+    /// The generation: a greater one is newer.
     pub fn generation(&self) -> u64
         ensures { result ≡ self.now.generation }
     {
         self.generation
     }
 
-    /// Which kind of record tells it: 1 has no list of retired extents, 2 has one.
+    /// The kind of its record: 1 without a list of retired extents, 2 with one.
     pub fn version(&self) -> u32
         ensures { result ≡ version_of self.now }
     {
@@ -117,7 +116,7 @@ impl Superblock {
         }
     }
 
-    /// The retired extents, none where there is no list of them.
+    /// The retired extents. Empty if there is no list of them.
     pub fn retired(&self) -> &[u32]
         ensures { result.now ≡ retired_in self.now }
     {

@@ -1,5 +1,5 @@
-//! Each page of extent 0 by itself: where records begin, how far they reach, and what the other pages hold. Which record
-//! counts is for `choosing`.
+//! Judges each page of extent 0 by itself: where records begin, how far they reach, and what the other pages hold.
+//! `choosing` picks the record that counts.
 
 ghost use Rattle.std.specs.Prelude.{◌≡◌, ◌+◌, ◌*◌, ◌<◌, ◌≤◌, ◌^◌, ℕ, List, Option, IfOk, IfSome, IfNone, length, slice_range};
 ghost use Rattle.scrub_disk.specs.Limits.{max_extent_bytes};
@@ -22,16 +22,16 @@ use scrub_disk::{Geometry, OutOfMemory, PageSource, read_extent};
 use scrub_frame::DIGEST_BYTES;
 use std::alloc::Global;
 
-/// What is found of a record.
+/// A record that was found.
 #[derive(Clone, Copy)]
 pub(crate) struct Found {
     pub kind: RecordKind,
     pub generation: u64,
-    /// The byte of extent 0 that follows it.
+    /// The byte of extent 0 behind it.
     pub to: usize,
 }
 
-/// What is found of the record that begins at a byte and ends before another, if there is one.
+/// The record that begins at byte `start` and ends at or before byte `end`, if there is one.
 fn found_at(bytes: &[u8], start: usize, end: usize, geometry: Geometry) -> Option<Found>
     requires within { (start ≤ end) × (end ≤ length bytes.now) }
     requires fits { length bytes.now ≤ max_extent_bytes }
@@ -47,7 +47,7 @@ fn found_at(bytes: &[u8], start: usize, end: usize, geometry: Geometry) -> Optio
     })
 }
 
-/// What is found at each page of extent 0. Each page bound is judged by itself.
+/// The record at each page of extent 0, if there is one. Each page is judged by itself.
 fn find_all(
     alloc: Global,
     bytes: &[u8],
@@ -62,7 +62,7 @@ fn find_all(
 {
     let size = geometry.page() as usize;
     let mut found = vec![in alloc; None; readable.len()]?;
-    // Where the readable pages from this one on end.
+    // The end of the readable pages from this one on.
     let mut end = readable.len();
     for page in (0..readable.len()).rev() {
         end = readable_end(readable, page, end);
@@ -71,7 +71,7 @@ fn find_all(
     Ok(found)
 }
 
-/// What is seen of the records that were found.
+/// The newest of the records that were found, and their number.
 fn seen_in(found: &[Option<Found>]) -> RecordsSeen
     requires { length found.now ≤ 65536 }
     ensures { (image : Image) → AreFoundOnPages image found.now → AreSeenFrom (StandsFrom image) 0 result }
@@ -88,7 +88,7 @@ fn seen_in(found: &[Option<Found>]) -> RecordsSeen
     seen
 }
 
-/// How new a record of this generation is beside the others.
+/// The rank of a record of this generation among the others.
 fn rank_of(seen: RecordsSeen, generation: u64) -> Rank
     ensures { (image : Image) (q : ℕ) (c : Contents) → AreSeenFrom (StandsFrom image) 0 seen →
         RecordStandsAt image q c → generation ≡ c.generation → IsRank image c result }
@@ -121,7 +121,7 @@ fn page_of(
     }
 }
 
-/// How far records reach, with what is found at one more page.
+/// How far records reach, with the record of one more page, if it has one.
 fn reach_with(reach: usize, found: Option<Found>) -> usize
     ensures { (image : Image) (q : ℕ) → IsRecordReach image q reach → IsFoundOnPage image q found → IsRecordReach image (q + 1) result }
 {
@@ -131,7 +131,7 @@ fn reach_with(reach: usize, found: Option<Found>) -> usize
     }
 }
 
-/// What each page of extent 0 holds, by what was found.
+/// What each page of extent 0 holds, from the records that were found.
 fn pages_of(
     alloc: Global,
     bytes: &[u8],
@@ -149,7 +149,7 @@ fn pages_of(
 {
     let size = geometry.page() as usize;
     let mut pages = Vec::with_capacity(alloc, found.len())?;
-    // How far the records reach that begin on the pages before.
+    // How far the records on earlier pages reach.
     let mut reach = 0;
     for page in 0..found.len() {
         let start = page * size;
@@ -161,9 +161,9 @@ fn pages_of(
     Ok(pages)
 }
 
-/// The superblock that counts on a disk, as `choose` tells it, and what each page of extent 0 holds, from page 0 on. Each page
-/// of extent 0 is read once. Each record is hashed once, and the one that counts once more, as it is read. Beside what `choose`
-/// takes, memory is taken for what is found at each page and for the answer.
+/// The superblock that counts on a disk, as `choose` finds it, and what each page of extent 0 holds, from page 0 on. Each
+/// page of extent 0 is read once. Each record is hashed once, and the one that counts is hashed again when it is parsed.
+/// Memory: what `choose` takes, the records found by page, and the answer.
 pub fn choose_with_pages<D: PageSource>(
     alloc: Global,
     disk: &D,

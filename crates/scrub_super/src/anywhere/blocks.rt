@@ -1,5 +1,4 @@
-//! Reading the front of a raw image in blocks of 512 bytes, some of which may be lost. What the bytes mean is left to
-//! `search`.
+//! Reads the front of a raw image in blocks of 512 bytes, some of which may be lost. `search` looks at the bytes.
 
 ghost use Rattle.std.specs.Prelude.{◌≡◌, ◌+◌, ◌-◌, ◌*◌, ◌<◌, ◌≤◌, ◌^◌, ◌++◌, ◌∷◌, [], true, false, IfOk, IfSome, OnErr, OnOk, length, slice_get, slice_index_or, take};
 ghost use Rattle.scrub_disk.specs.Limits.{max_extent_bytes};
@@ -9,31 +8,31 @@ ghost use Rattle.scrub_super.specs.BlocksRead.{AreAllRead, AreBlockMarks, IsBloc
 use scrub_disk::{OutOfMemory, RawFault, RawImage};
 use std::alloc::Global;
 
-/// The bytes of a block.
+/// The size of a block, in bytes.
 const BLOCK_BYTES: usize = 512;
 
-/// How many blocks are read at most: 67,108,864 bytes, which no extent 0 is longer than.
+/// The most blocks that are read: 67,108,864 bytes, the size of the largest extent.
 const MOST_BLOCKS: usize = 131072;
 
 /// The front of a raw image.
 #[derive(Drop)]
 pub(crate) struct Blocks {
-    /// The bytes, as far as the image or its front has them. Those of a lost block mean nothing.
+    /// The bytes, up to the image's end or 67,108,864. Those of a lost block mean nothing.
     pub bytes: Vec<u8>,
     /// Which blocks are lost.
     pub lost: Vec<bool>,
 }
 
-/// What a block came to.
+/// How a block was read.
 #[derive(Clone, Copy)]
 struct Block {
-    /// How many bytes it has, fewer than 512 only where the image ends.
+    /// How many bytes it has: fewer than 512 only if the image ends in it.
     len: usize,
     is_lost: bool,
 }
 
-/// Fills the front of `out` with the bytes from an offset on, in as many reads as it takes, and says how many there are:
-/// fewer than `out` has room for only where the image ends.
+/// Fills `out` with the bytes from an offset on, in as many reads as it takes, and returns how many there are: fewer than
+/// `out` has room for only if the image ends.
 fn read_front<R: RawImage>(raw: &mut R, offset: u64, out: &mut [u8]) -> Result<usize, RawFault>
     requires few_reads { R.reads raw.old + length out.old < 2 ^ 63 }
     requires in_range { offset + length out.old < 2 ^ 64 }
@@ -57,7 +56,7 @@ fn read_front<R: RawImage>(raw: &mut R, offset: u64, out: &mut [u8]) -> Result<u
     Ok(done)
 }
 
-/// Reads a block into `out`, which has its size, and says what came of it. A block that can't be read is taken for whole.
+/// Reads a block into `out`, which has its size. A block that can't be read counts as whole, and is lost.
 fn read_block<R: RawImage>(raw: &mut R, offset: u64, is_marked: bool, out: &mut [u8]) -> Block
     requires few_reads { R.reads raw.old + 512 < 2 ^ 63 }
     requires in_range { offset + 512 < 2 ^ 64 }
@@ -83,7 +82,7 @@ fn read_block<R: RawImage>(raw: &mut R, offset: u64, is_marked: bool, out: &mut 
     }
 }
 
-/// Whether a block is marked. A block past the list's end isn't.
+/// Whether a block is marked. A block past the list's end isn't marked.
 fn is_marked(marks: &[bool], number: usize) -> bool
     ensures { result ≡ slice_index_or marks.now number false }
 {

@@ -1,4 +1,4 @@
-//! The runs of lost blocks.
+//! Joins neighbouring lost blocks into ranges of bytes.
 
 ghost use Rattle.std.specs.Prelude.{◌≡◌, ◌+◌, ◌*◌, ◌<◌, ◌≤◌, ◌^◌, ◌++◌, IfOk, OnOk, length};
 ghost use Rattle.scrub_super.specs.Anywhere.{AreLostRanges};
@@ -8,7 +8,7 @@ use crate::anywhere::LostBytes;
 use scrub_disk::OutOfMemory;
 use std::alloc::Global;
 
-/// The bytes of neighbouring blocks, from the first one up to the one behind them.
+/// The bytes of the blocks from `first` up to but not including `stop`.
 fn bytes_of(first: usize, stop: usize) -> LostBytes
     requires first { first ≤ 2 ^ 17 }
     requires stop { stop ≤ 2 ^ 17 }
@@ -21,7 +21,7 @@ fn bytes_of(first: usize, stop: usize) -> LostBytes
     }
 }
 
-/// Adds the run that ends with a block, if one does: where the block is lost and the next one isn't.
+/// Adds the range that ends with a block, if one does: the block is lost, and the next one isn't.
 fn add_run(
     ranges: &mut Vec<LostBytes>,
     lost: &[bool],
@@ -39,7 +39,7 @@ fn add_run(
     Ok(())
 }
 
-/// The runs of lost blocks, as bytes, each as long as it goes.
+/// The ranges of lost bytes, each as long as possible.
 pub(crate) fn lost_ranges(alloc: Global, lost: &[bool]) -> Result<Vec<LostBytes>, OutOfMemory>
     requires { length lost.now ≤ 2 ^ 17 }
     ensures { IfOk result (λ v. AreLostRanges lost.now v.items) }

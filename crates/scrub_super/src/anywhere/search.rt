@@ -1,12 +1,12 @@
-//! The search for records in bytes of which some blocks are lost: each multiple of 64 is judged by itself.
+//! Searches bytes, with some blocks lost, for records. Each multiple of 64 is judged by itself.
 //!
-//! The ranges of a record are judged before anything is hashed, so a forged file can't make the search hash much. The
-//! numbers of a record that is hashed don't hold the first bytes of another one: as a number, `SSB1` or `SSB2` is above each
-//! range, and so is what begins with its last two bytes, which is what the numbers of the first kind would hold. So the
-//! numbers of such records don't overlap, and have 67,108,864 bytes together at most. Beside them each record has 28 bytes
-//! before its numbers and 1,920 of locators at most. It begins at one of 196,608 places, since pages have to be larger than
-//! offset / 65,536: there are 65,536 places below 4 MiB, and 32,768 from each of 4, 8, 16 and 32 MiB up to twice as much.
-//! Together these are less than 451 million bytes.
+//! A forged file can't make the search hash much, since a record is hashed only if its fields are in range. The numbers of
+//! such a record (pointers and retired extents) can't contain the first bytes of another record: read as a number, `SSB1`
+//! or `SSB2` is above each range, and so is a number that begins with its last two bytes, as in records of the first kind.
+//! So the numbers of hashed records don't overlap, and have at most 67,108,864 bytes together. In addition each record has
+//! 28 bytes before its numbers and at most 1,920 bytes of locators. Records begin at no more than 196,608 places, since a
+//! page has to be larger than offset / 65,536: 65,536 places below 4 MiB, and 32,768 from each of 4, 8, 16 and 32 MiB up to
+//! twice as much. In all, fewer than 451 million bytes are hashed.
 
 ghost use Rattle.std.specs.Prelude.{◌≡◌, ◌+◌, ◌*◌, ◌%◌, ◌<◌, ◌≤◌, ◌^◌, ◌++◌, ℕ, Option, Some, IfOk, IfSome, OnOk, length, option_to_list};
 ghost use Rattle.scrub_disk.specs.declared.geometry.Geometry.{Geometry};
@@ -24,8 +24,8 @@ use byteorder::{BigEndian, ByteOrder};
 use scrub_disk::{Geometry, OutOfMemory};
 use std::alloc::Global;
 
-/// The sizes that a record has which the bytes begin with, if they begin with one. Nearly all other bytes are refused by
-/// the first three.
+/// The sizes in the record that the bytes begin with, if they begin with one. The first three bytes rule out nearly all
+/// others.
 fn sizes_in(bytes: &[u8]) -> Option<Geometry>
     ensures { (g : Geometry) (c : Contents) → BeginsWithRecord g bytes.now c → result ≡ Some g }
 {
@@ -39,7 +39,7 @@ fn sizes_in(bytes: &[u8]) -> Option<Geometry>
     Geometry::new(page, pages, extents).ok()
 }
 
-/// How many of so many bytes from an offset on lie in extent 0: none where no page begins at the offset.
+/// How many of `len` bytes from an offset on are in extent 0. None if no page begins at the offset.
 fn room_at(offset: u32, len: usize, geometry: Geometry) -> usize
     ensures within { result ≤ len }
     ensures page_bound { 0 < result → offset % geometry.page ≡ 0 }
@@ -52,7 +52,7 @@ fn room_at(offset: u32, len: usize, geometry: Geometry) -> usize
     len.min((geometry.extent_bytes() - offset) as usize)
 }
 
-/// The record that the bytes begin with, if they begin with one of its own sizes. The bytes stand at an offset of the image.
+/// The record that the bytes begin with, judged by its own sizes, if there is one. `offset` is their place in the image.
 fn record_from(bytes: &[u8], offset: u32) -> Option<FoundRecord>
     ensures found { IfSome result (TellsRecord bytes.now offset) }
     ensures only { (r : FoundRecord) → TellsRecord bytes.now offset r → result ≡ Some r }
@@ -68,8 +68,8 @@ fn record_from(bytes: &[u8], offset: u32) -> Option<FoundRecord>
     })
 }
 
-/// Where the readable bytes from an offset on end: at the first lost block, or with the bytes. `known` is where they were
-/// found to end from a lower offset on; where that is above the offset, it is the answer.
+/// The end of the readable bytes from an offset on: the first lost block, or the end of the bytes. `known` is the answer
+/// for a lower offset; if it is above this offset, it is the answer here too.
 fn readable_end(bytes: &[u8], lost: &[bool], offset: usize, known: usize) -> usize
     requires marks { AreBlockMarks bytes.now lost.now }
     requires within { offset ≤ length bytes.now }
@@ -97,7 +97,7 @@ fn add_record(found: &mut Vec<FoundRecord>, one: Option<FoundRecord>) -> Result<
     Ok(())
 }
 
-/// All records in the front of a raw image, by rising offset.
+/// All records in the front of a raw image, in rising order of offset.
 pub(crate) fn find_records(
     alloc: Global,
     bytes: &[u8],

@@ -1,4 +1,4 @@
--- The disk that was read and marked is the one that the raw bytes, the failures and the names give.
+-- The disk that was read and marked is the one that follows from the raw bytes, the failures and the names.
 use Rattle.std.proofs.Common.{◌*◌, ◌∙◌, ap}
 use Rattle.scrub_disk.specs.Memory.{image_of}
 use Rattle.scrub_disk.specs.WholePages.{held_whole}

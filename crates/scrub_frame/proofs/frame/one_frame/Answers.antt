@@ -1,4 +1,4 @@
--- The law, by the parts that stand in bytes that begin with a frame.
+-- The law, by the parts of bytes that begin with a frame.
 use Rattle.scrub_frame.proofs.Frames.{one_frame_lem}
 use Rattle.scrub_frame.proofs.frame.one_frame.Goals as goal
 

@@ -1,4 +1,4 @@
--- So many locators were read, and the bytes so far spell them.
+-- This many locators were read, and the bytes so far spell them.
 use Rattle.std.proofs.Common.{◌≡◌, ◌*◌, length, take, All}
 use Rattle.std.specs.List.{flat_map}
 use Rattle.scrub_frame.specs.Locator.{locator_bytes, IsLocator}

@@ -15,9 +15,14 @@ returns-clause-part g c =
       record {
         some = omega (arith, c.min-last.ensures, offset, c.requires.some);
         part = between (c.args.place % length c.args.buffer.now) c.min-last.result c.read_page.new.out;
-        count = length-between c.read_page.new.out (c.args.place % length c.args.buffer.now) c.min-last.result (omega (arith, c.min-last.ensures, l));
-        bytes = part_stands image c.args.extent c.args.place c.min-last.result (length c.args.buffer.now) c.read_page.new.out
-            c.requires.one_page (omega (arith, c.requires.in_extent, c.requires.some)) (search rules) l (omega (arith, c.min-last.ensures));
+        count =
+            length-between c.read_page.new.out (c.args.place % length c.args.buffer.now) c.min-last.result
+            (omega (arith, c.min-last.ensures, l));
+        bytes =
+            part_stands image c.args.extent c.args.place c.min-last.result (length c.args.buffer.now)
+            c.read_page.new.out
+            c.requires.one_page (omega (arith, c.requires.in_extent, c.requires.some)) (search rules) l
+            (omega (arith, c.min-last.ensures));
         appended = c.in_ok-extend_from_slice.ensures.items;
       },
     )

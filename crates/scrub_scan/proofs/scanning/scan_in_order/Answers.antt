@@ -1,4 +1,4 @@
-use Rattle.std.proofs.Common.{arith, ◌∙◌, subst, get_or, ◌≡◌, List, ℕ, Option, IfSome, Some}
+use Rattle.std.proofs.Common.{arith, ◌∙◌, get_or, ◌≡◌, List, ℕ, Option, IfSome, Some}
 use Rattle.std.specs.List.{AllZip}
 use Rattle.std.proofs.lemmas.List.{take_all}
 use Rattle.scrub_disk.proofs.Zips.{AllZip-take_more}
@@ -9,10 +9,11 @@ use Rattle.scrub_scan.specs.Slots.{AreSlots, IsPlannedResult}
 use Rattle.scrub_scan.proofs.Slots.{full_push}
 use Rattle.scrub_scan.proofs.scanning.scan_in_order.Goals as goal
 
--- the places of all planned extents
-all_taken : {D : Type 0} {s : _} (image : Image) (plan : PlanValue) (taken : List ℕ) (slots : List (Option (ExtentResult D s))) → taken ≡ plan.planned →
+-- the slots of all planned extents
+all_taken : {D : Type 0} {s : _} (image : Image) (plan : PlanValue) (taken : List ℕ) (slots : List (Option (ExtentResult D s))) →
+    taken ≡ plan.planned →
     AllZip (λ e slot. IfSome slot (λ r. IsPlannedResult image plan e r)) taken slots → AreSlots image plan slots
-all_taken image plan taken slots is are = subst (λ (es : List ℕ). AllZip (λ e slot. IfSome slot (λ r. IsPlannedResult image plan e r)) es slots) is are
+all_taken image plan taken slots is are = rw is at are
 
 pub loop-extent-preserved : goal.loop-extent-preserved
 loop-extent-preserved g c =
@@ -26,12 +27,18 @@ loop-extent-preserved g c =
       extent_is = c.in_ok-scan_extent.ensures.extent;
       pointer_is = c.in_ok-scan_extent.ensures.pointer;
     } in record {
-      are = AllZip-take_more (λ e slot. IfSome slot (λ r. IsPlannedResult image plan e r)) planned c.loop-extent.slots.items _ i 0 (Some found) c.loop-extent-test.true c.loop-extent.invariant.are is c.in_ok-push.ensures.items;
+      are =
+          AllZip-take_more (λ e slot. IfSome slot (λ r. IsPlannedResult image plan e r)) planned
+          c.loop-extent.slots.items _ i 0 (Some found) c.loop-extent-test.true c.loop-extent.invariant.are is
+          c.in_ok-push.ensures.items;
       full = full_push c.loop-extent.slots.items _ found c.loop-extent.invariant.full c.in_ok-push.ensures.items;
     }
 
 pub from_slots-requires-clause-slots : goal.from_slots-requires-clause-slots
-from_slots-requires-clause-slots g c = λ κs h. (g.D.PageSource.image c.args.disk.now, all_taken (g.D.PageSource.image c.args.disk.now) c.args.plan.now _ c.loop-extent.slots.items (take_all c.loop-extent.extent-index c.planned-extent-items.result.now (omega arith) ∙ c.planned-extent-items.ensures.planned) c.loop-extent.invariant.are)
+from_slots-requires-clause-slots g c = λ κs h. (
+  g.D.PageSource.image c.args.disk.now,
+  all_taken (g.D.PageSource.image c.args.disk.now) c.args.plan.now _ c.loop-extent.slots.items (take_all c.loop-extent.extent-index c.planned-extent-items.result.now (omega arith) ∙ c.planned-extent-items.ensures.planned) c.loop-extent.invariant.are,
+)
 
 pub returns-clause-image : goal.returns-clause-image
 returns-clause-image g c =

@@ -1,4 +1,4 @@
--- No frame stands there: its head is none, it claims too much, or what closes it isn't there.
+-- There is no frame: there is no head, it claims too much, or what closes it isn't there.
 use Rattle.std.proofs.Common.{arith}
 use Rattle.scrub_disk.specs.Image.{AreBytesAt}
 use Rattle.scrub_frame.specs.Frame.{head}
@@ -14,14 +14,18 @@ pub returns-then-frame_bytes-pointer-clause-none : goal.returns-then-frame_bytes
 returns-then-frame_bytes-pointer-clause-none g c = λ f u b k.
     let x = extent_of (g.D.PageSource.image c.args.disk.now) c.args.extent c.args.pointer in
     let h = c.in-Some.head in
-    let stands : AreBytesAt x.byte c.args.offset (head h.form h.uuid h.length) = rw c.in-Some.is at c.in_ok-head.ensures.found in
-    let claim : IsClaimedAt x c.args.offset h = claimed_of x c.args.offset h f u b (omega arith) (omega arith) stands k in
+    let stands : AreBytesAt x.byte c.args.offset (head h.form h.uuid h.length) =
+    rw c.in-Some.is at c.in_ok-head.ensures.found in
+    let claim : IsClaimedAt x c.args.offset h =
+    claimed_of x c.args.offset h f u b (omega arith) (omega arith) stands k in
     omega (arith, claim.fits, c.frame_bytes.ensures.value, c.if-frame_bytes-pointer.true)
 
 pub returns-then-not-branch-clause-none : goal.returns-then-not-branch-clause-none
 returns-then-not-branch-clause-none g c = λ f u b k.
     let x = extent_of (g.D.PageSource.image c.args.disk.now) c.args.extent c.args.pointer in
     let h = c.in-Some.head in
-    let stands : AreBytesAt x.byte c.args.offset (head h.form h.uuid h.length) = rw c.in-Some.is at c.in_ok-head.ensures.found in
-    let claim : IsClaimedAt x c.args.offset h = claimed_of x c.args.offset h f u b (omega arith) (omega arith) stands k in
+    let stands : AreBytesAt x.byte c.args.offset (head h.form h.uuid h.length) =
+    rw c.in-Some.is at c.in_ok-head.ensures.found in
+    let claim : IsClaimedAt x c.args.offset h =
+    claimed_of x c.args.offset h f u b (omega arith) (omega arith) stands k in
     c.in_ok-is_closed.ensures.none c.if-not-branch.true claim.close_stands

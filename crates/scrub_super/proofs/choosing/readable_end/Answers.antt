@@ -1,4 +1,4 @@
--- The page itself where it is unreadable, and what holds of the next one where it isn't.
+-- The page itself if it is unreadable, else what holds of the next one.
 use Rattle.std.proofs.Common.{refl}
 use Rattle.scrub_super.proofs.Steps.{up_to_here, up_to_there}
 use Rattle.scrub_super.proofs.choosing.readable_end.Goals as goal

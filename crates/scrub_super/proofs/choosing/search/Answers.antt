@@ -1,4 +1,4 @@
--- What was seen in the bytes of extent 0 is what stands in it.
+-- What was seen in the bytes of extent 0 is what the extent has.
 use Rattle.scrub_super.proofs.Choices.{found_of}
 use Rattle.scrub_super.proofs.choosing.search.Goals as goal
 

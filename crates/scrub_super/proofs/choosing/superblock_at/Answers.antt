@@ -1,4 +1,4 @@
--- The record that stands there is read.
+-- The record that is there is read.
 use Rattle.std.proofs.Common.{◌≡◌, ◌*◌, ◌-◌, ℕ, length, length-drop, take, drop, arith}
 use Rattle.std.proofs.lemmas.List.{take_all}
 use Rattle.scrub_super.proofs.choosing.superblock_at.Goals as goal

@@ -1,4 +1,4 @@
--- Bytes that differ from the front that they tell of are no front.
+-- Bytes that differ from the front made from their own numbers are no front.
 use Rattle.std.proofs.Common.{arith, refl}
 use Rattle.scrub_frame.proofs.Frames.{ne_true}
 use Rattle.scrub_super.proofs.Fronts.{front_read, front_again}

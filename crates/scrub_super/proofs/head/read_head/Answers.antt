@@ -1,4 +1,4 @@
--- Which head stands behind a front, and that no record begins where none does.
+-- Which head a front begins, and that no record begins without one.
 use Rattle.std.proofs.Common.{arith}
 use Rattle.scrub_super.proofs.Refused.{no_front}
 use Rattle.scrub_super.proofs.Heads.{listing_head}

@@ -1,4 +1,4 @@
--- What was read of the parts is what the record tells.
+-- What was read from the parts are the record's contents.
 use Rattle.std.proofs.Common.{arith}
 use Rattle.scrub_super.proofs.Found.{small_some, contents_read}
 use Rattle.scrub_super.proofs.record.read_record.Goals as goal

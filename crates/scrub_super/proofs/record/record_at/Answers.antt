@@ -1,4 +1,4 @@
--- Why no record stands where a test fails, and that one stands where none does.
+-- Why there is no record if a test fails, and that there is one if none does.
 use Rattle.std.proofs.Common.{arith}
 use Rattle.scrub_super.proofs.Refused.{too_short, over_limit, not_extents, other_digest}
 use Rattle.scrub_super.proofs.Found.{record_found}

@@ -1,4 +1,4 @@
--- What is found in memory is what the image holds.
+-- What is found in memory is what the image has.
 use Rattle.std.proofs.Common.{◌∙◌, ap, arith, length}
 use Rattle.scrub_super.specs.PagesFound.{AreFoundOnPages}
 use Rattle.scrub_super.proofs.PageSteps.{found_on, pages_on}

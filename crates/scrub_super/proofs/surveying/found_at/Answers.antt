@@ -1,4 +1,4 @@
--- What the head tells of the record.
+-- The record, from its head.
 use Rattle.std.proofs.Common.{refl}
 use Rattle.scrub_super.proofs.Found.{small_some}
 use Rattle.scrub_super.proofs.PageSteps.{found_by_head}

@@ -8,5 +8,6 @@ use Rattle.scrub_scan.proofs.all_findings.AllFindings.extent_at.Goals as goal
 pub returns-clause-number : goal.returns-clause-number
 returns-clause-number g c =
     c.extent.ensures
-    ∙ sym (get_or_from_slice_get (extent_numbers c.args.self.now.extents) c.args.i (scanned c.result_at.result.now).extent 0
+    ∙ sym
+    (get_or_from_slice_get (extent_numbers c.args.self.now.extents) c.args.i (scanned c.result_at.result.now).extent 0
     (slice_get-map (λ (f : Scanned). f.extent) c.args.self.now.extents c.args.i ∙ ap (option_map (λ (f : Scanned). f.extent)) c.result_at.ensures.result))

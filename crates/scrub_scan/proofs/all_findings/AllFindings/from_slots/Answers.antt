@@ -1,5 +1,3 @@
-use Rattle.std.proofs.Common.{sym, subst, ℕ, List}
-use Rattle.std.specs.List.Sorted.{IsStrictlyIncreasing}
 use Rattle.scrub_scan.proofs.Slots.{of_first, all_found, held_there}
 use Rattle.scrub_scan.proofs.all_findings.AllFindings.from_slots.Goals as goal
 
@@ -16,7 +14,7 @@ invariant_of-result g c =
     let found = returns-clause-findings g c image are in (
       c.requires.full,
       record {
-        rising = subst (λ (xs : List ℕ). IsStrictlyIncreasing xs) (sym found.extents) c.planned.ensures.extents.rising;
+        rising = rw found.extents c.planned.ensures.extents.rising;
         findings = held_there image c.args.plan.now c.args.slots.items are c.requires.full;
       },
     )

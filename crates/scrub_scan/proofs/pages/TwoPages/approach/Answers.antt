@@ -1,7 +1,6 @@
 -- The page was asked for, or is the near one already.
-use Rattle.std.proofs.Common.{arith, sym, ap, ◌∙◌, subst}
+use Rattle.std.proofs.Common.{arith, ap, ◌∙◌}
 use Rattle.scrub_scan.specs.declared.pages.TwoPages.{TwoPages}
-use Rattle.scrub_scan.specs.Pages.{HasRead}
 use Rattle.scrub_scan.proofs.ReadPages.{near_read}
 use Rattle.scrub_scan.proofs.pages.TwoPages.approach.Goals as goal
 use Rattle.scrub_scan.proofs.pages.TwoPages.approach.Goals.{then-ne, else-ne}
@@ -14,5 +13,5 @@ returns-clause-read g c = λ n h. elim c.if-ne.branch [
       (ap (λ (p : TwoPages). p.far.number) w.self-is)
       (λ small. omega (arith, ap (λ (p : TwoPages). p.asked) w.self-is, w.read.ensures.counted, small))
       h
-  | else-ne w ↦ subst (λ (p : TwoPages). HasRead p n) (sym w.self-is) h
+  | else-ne w ↦ rw w.self-is h
 ]

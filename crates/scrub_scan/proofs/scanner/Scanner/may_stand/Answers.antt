@@ -1,7 +1,6 @@
--- Why no frame stands there: its head can't be read or is none, it claims too much or a page that can't be read, or what
+-- Why there is no frame: its head can't be read or isn't one, it claims too much or a page that can't be read, or what
 -- closes it isn't there.
-use Rattle.std.proofs.Common.{arith, sym, ◌∙◌, subst, ℕ, List, ◌≡◌, ◌<◌, ◌+◌, ◌-◌, ◌*◌, ◌/◌, ◌++◌, length, take, ap, Some}
-use Rattle.scrub_disk.specs.Image.{AreBytesAt}
+use Rattle.std.proofs.Common.{arith, sym, ◌∙◌, ℕ, List, ◌≡◌, ◌<◌, ◌+◌, ◌-◌, ◌*◌, ◌/◌, ◌++◌, length, take, ap, Some}
 use Rattle.scrub_frame.specs.Frame.{head_size, mark, close_size, frame_overhead}
 use Rattle.scrub_scan.specs.Pages.{target_of}
 use Rattle.std.proofs.Math.Nat.{div-mul-le_self}
@@ -15,7 +14,8 @@ use Rattle.scrub_scan.proofs.scanner.Scanner.may_stand.Goals.{then-room-size-via
 
 pub returns-then-not-fill-clause-none : goal.returns-then-not-fill-clause-none
 returns-then-not-fill-clause-none g c = λ _ f u b k.
-    no_gap (target_of (g.D.PageSource.image c.args.disk.now) c.args.target.now) c.args.start head_size f u b k (omega arith) (c.fill.ensures.gap c.if-not-fill.true)
+    no_gap (target_of (g.D.PageSource.image c.args.disk.now) c.args.target.now) c.args.start head_size f u b k
+    (omega arith) (c.fill.ensures.gap c.if-not-fill.true)
 
 pub returns-in_default-clause-none : goal.returns-in_default-clause-none
 returns-in_default-clause-none g c = λ _ f u b k.
@@ -34,14 +34,18 @@ returns-then-room-size-clause-none g c = λ _ f u b k.
     let n = c.in-Some.head.length in
     let page = c.args.target.now.page in
     let e = c.args.target.now.extent in
-    let same = claimed_frame x c.args.start f u b form c.in-Some.head.uuid c.fill.new.out n k (omega arith) (c.fill.ensures.filled c.if-not-fill.false) (omega arith) (omega arith) c.in-Some.ensures.found in
+    let same =
+    claimed_frame x c.args.start f u b form c.in-Some.head.uuid c.fill.new.out n k (omega arith)
+    (c.fill.ensures.filled c.if-not-fill.false) (omega arith) (omega arith) c.in-Some.ensures.found in
     let size : c.frame_bytes-size.result ≡ n + frame_overhead form = c.frame_bytes-size.ensures.value in
     elim c.then-room-size.branch [
       | then-room-size-via-then-room-size w ↦ omega (arith, w.if-room-size.true, same.1, same.0.fits, size)
       | then-room-size-via-else-room-size+then-has_gap w ↦
           let gap = w.has_gap.ensures.found w.if-has_gap.true in
           let none = rw gap.1 at c.fill.ensures.scans.gap in
-          let here = place_in_page gap.0 c.args.start (c.args.start + c.frame_bytes-size.result) page c.args.target.now.positive (omega (arith, size)) gap.2 gap.3 in
+          let here =
+          place_in_page gap.0 c.args.start (c.args.start + c.frame_bytes-size.result) page c.args.target.now.positive
+          (omega (arith, size)) gap.2 gap.3 in
           no_gap x c.args.start (n + frame_overhead form) form c.in-Some.head.uuid b same.0 (omega (arith, same.1))
           (record {
             place = here.0;
@@ -58,10 +62,14 @@ returns-clause-none g c = λ no f u b k.
     let v = c.in-Some.head.uuid in
     let n = c.in-Some.head.length in
     let place = c.args.start + c.frame_bytes-size.result - c.close_bytes-close.result in
-    let same = claimed_frame x c.args.start f u b form v c.fill.new.out n k (omega arith) (c.fill.ensures.filled c.if-not-fill.false) (omega arith) (omega arith) c.in-Some.ensures.found in
-    let wanted : take c.close_bytes-close.result c.close.result ≡ v ++ mark form = closes c.close.result (v ++ mark form) (close_size form) c.close_bytes-close.result c.close_bytes-close.ensures.value c.close.ensures in
+    let same =
+    claimed_frame x c.args.start f u b form v c.fill.new.out n k (omega arith)
+    (c.fill.ensures.filled c.if-not-fill.false) (omega arith) (omega arith) c.in-Some.ensures.found in
+    let wanted : take c.close_bytes-close.result c.close.result ≡ v ++ mark form =
+    closes c.close.result (v ++ mark form) (close_size form) c.close_bytes-close.result
+    c.close_bytes-close.ensures.value c.close.ensures in
     c.has_bytes.ensures.none no
-    (subst (λ (w : List ℕ). AreBytesAt x.byte place w) (sym wanted)
+    (rw wanted
     (close_stands x c.args.start place form v b same.0 (omega (arith, same.1, c.frame_bytes-size.ensures.value, c.close_bytes-close.ensures.value))))
 
 pub returns-clause-known : goal.returns-clause-known
@@ -72,13 +80,20 @@ returns-clause-known g c = λ f u b k last near.
     let n = c.in-Some.head.length in
     let q = c.args.start / t.page in
     let place = c.args.start + c.frame_bytes-size.result - c.close_bytes-close.result in
-    let same = claimed_head x c.args.start f u b form c.in-Some.head.uuid c.fill.new.out n k (omega arith) (c.fill.ensures.filled c.if-not-fill.false) (omega arith) (omega arith) c.in-Some.ensures.found in
+    let same =
+    claimed_head x c.args.start f u b form c.in-Some.head.uuid c.fill.new.out n k (omega arith)
+    (c.fill.ensures.filled c.if-not-fill.false) (omega arith) (omega arith) c.in-Some.ensures.found in
     let round : frame_overhead form ≡ frame_overhead f = ap frame_overhead same.0 in
     let size : c.frame_bytes-size.result ≡ n + frame_overhead form = c.frame_bytes-size.ensures.value in
-    let end : c.args.start + length b + frame_overhead f - 1 < (q + 1) * t.page = below_bound (c.args.start + length b + frame_overhead f - 1) q t.page t.positive last in
-    let page : place / t.page ≡ q = page_of q place t.page t.positive (omega (arith, div-mul-le_self c.args.start t.page, size, c.close_bytes-close.ensures.value)) (omega (arith, end, same.2, round, size, c.close_bytes-close.ensures.value)) in
+    let end : c.args.start + length b + frame_overhead f - 1 < (q + 1) * t.page =
+    below_bound (c.args.start + length b + frame_overhead f - 1) q t.page t.positive last in
+    let page : place / t.page ≡ q =
+    page_of q place t.page t.positive
+    (omega (arith, div-mul-le_self c.args.start t.page, size, c.close_bytes-close.ensures.value))
+    (omega (arith, end, same.2, round, size, c.close_bytes-close.ensures.value)) in
     let next : (place / t.page + 1) * t.page ≡ (q + 1) * t.page = ap (λ i. (i + 1) * t.page) page in
-    c.has_bytes.ensures.known (ap (λ h. h.number) c.fill.ensures.kept.near ∙ near ∙ ap Some (sym page)) (omega (arith, next, end, same.2, round, size, c.close_bytes-close.ensures.value, length-take c.close_bytes-close.result c.close.result))
+    c.has_bytes.ensures.known (ap (λ h. h.number) c.fill.ensures.kept.near ∙ near ∙ ap Some (sym page))
+    (omega (arith, next, end, same.2, round, size, c.close_bytes-close.ensures.value, length-take c.close_bytes-close.result c.close.result))
     ∙ c.fill.ensures.known near (omega (arith, end))
 
 pub returns-clause-claims : goal.returns-clause-claims
@@ -87,13 +102,17 @@ returns-clause-claims g c = λ holds.
     let form = c.in-Some.head.form in
     let v = c.in-Some.head.uuid in
     let n = c.in-Some.head.length in
-    let wanted : take c.close_bytes-close.result c.close.result ≡ v ++ mark form = closes c.close.result (v ++ mark form) (close_size form) c.close_bytes-close.result c.close_bytes-close.ensures.value c.close.ensures in
+    let wanted : take c.close_bytes-close.result c.close.result ≡ v ++ mark form =
+    closes c.close.result (v ++ mark form) (close_size form) c.close_bytes-close.result
+    c.close_bytes-close.ensures.value c.close.ensures in
     record {
       form = form;
       uuid = v;
       size = n;
-      head_stands = subst (λ (b : List ℕ). AreBytesAt x.byte c.args.start b) c.in-Some.ensures.found (c.fill.ensures.filled c.if-not-fill.false);
+      head_stands = rw c.in-Some.ensures.found at (c.fill.ensures.filled c.if-not-fill.false);
       fits = omega (arith, c.if-room-size.false, c.frame_bytes-size.ensures.value);
-      close = subst (λ (p : ℕ). AreBytesAt x.byte p (v ++ mark form)) (let e : c.args.start + c.frame_bytes-size.result - c.close_bytes-close.result ≡ c.args.start + (n + frame_overhead form) - close_size form = omega (arith, c.frame_bytes-size.ensures.value, c.close_bytes-close.ensures.value) in e)
-          (subst (λ (w : List ℕ). AreBytesAt x.byte (c.args.start + c.frame_bytes-size.result - c.close_bytes-close.result) w) wanted (c.has_bytes.ensures.found holds));
+      close =
+          rw
+          (← (let e : c.args.start + c.frame_bytes-size.result - c.close_bytes-close.result ≡ c.args.start + (n + frame_overhead form) - close_size form = omega (arith, c.frame_bytes-size.ensures.value, c.close_bytes-close.ensures.value) in e))
+          (rw wanted at (c.has_bytes.ensures.found holds));
     }

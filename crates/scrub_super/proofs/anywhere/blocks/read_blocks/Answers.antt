@@ -1,4 +1,4 @@
--- One more block, with which the image may end.
+-- One more block, in which the image may end.
 use Rattle.std.proofs.Common.{rules, arith, refl, length, ◌≡◌, ◌≤◌}
 use Rattle.scrub_super.proofs.BlocksFront.{AddsBlock, length-next, length-marks, begins_next, blocks_next, blocks_end, all_read_full}
 use Rattle.scrub_super.proofs.anywhere.blocks.read_blocks.Goals as goal

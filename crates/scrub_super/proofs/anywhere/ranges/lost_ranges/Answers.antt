@@ -1,4 +1,4 @@
--- One more block, with which a run may end.
+-- One more block, at which a run may end.
 use Rattle.std.proofs.Common.{arith, ◌+◌}
 use Rattle.scrub_super.proofs.LostRuns.{RunsFrom, starts_behind, goes_on, runs_next, all_runs}
 use Rattle.scrub_super.proofs.anywhere.ranges.lost_ranges.Goals as goal

@@ -1,4 +1,4 @@
--- The runs that end with a block so far, and where the lost blocks begin that go on with the next one.
+-- The runs that have ended so far, and the beginning of the one that may go on with the next block.
 use Rattle.scrub_super.proofs.LostRuns.{AreRunsTo, RunsFrom}
 use Rattle.scrub_super.proofs.anywhere.ranges.lost_ranges.Given as goal
 

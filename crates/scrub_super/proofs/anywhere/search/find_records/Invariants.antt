@@ -1,4 +1,4 @@
--- The records below the next offset, and where the readable bytes end that go on there.
+-- The records below the next offset, and the end of the readable bytes there.
 use Rattle.std.proofs.Common.{◌<◌, ◌*◌, length}
 use Rattle.scrub_super.specs.Blocks.{byte_left}
 use Rattle.scrub_super.specs.BlocksRead.{IsReadableTo}

@@ -1,4 +1,4 @@
--- The record of the sizes that the bytes tell, where there is room for it.
+-- The record with the sizes in the bytes, if there is room for it.
 use Rattle.std.proofs.Common.{refl, length}
 use Rattle.std.proofs.lemmas.Option.{none-some}
 use Rattle.scrub_super.proofs.AnywhereSteps.{IsRoom, none_in_room, found_in_room, only_in_room}

@@ -1,4 +1,4 @@
--- The sizes that a record has are those that its front tells.
+-- The sizes of a record are those in its front.
 use Rattle.scrub_super.proofs.Geometries.{sizes_read}
 use Rattle.scrub_super.proofs.anywhere.search.sizes_in.Goals as goal
 

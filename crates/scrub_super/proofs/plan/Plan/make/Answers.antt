@@ -1,4 +1,4 @@
--- What the lists of a plan keep, with a superblock and without one.
+-- What holds of the lists of a plan, with a superblock and without one.
 use Rattle.std.proofs.Common.{◌-◌, arith, refl, []}
 use Rattle.scrub_super.specs.Record.{AreContents}
 use Rattle.scrub_super.proofs.Listed.{listed_extents}
