@@ -1,4 +1,4 @@
-//! Writing out to writers that have room, that fail, that take no byte, and that count how often they are called.
+//! `write_out` to writers that have room, that fail, that take no byte, and that count their calls.
 
 ghost use Rattle.std.specs.Prelude.{Some};
 
@@ -28,7 +28,7 @@ fn short_writes_go_on(rt: HostRuntime) -> Result<(), Fail> {
 }
 
 #[test]
-fn a_writer_that_takes_some_bytes_and_then_none(rt: HostRuntime) {
+fn a_write_fault_has_the_number_of_written_bytes(rt: HostRuntime) {
     let bytes = b"more than ten bytes";
     for room in 0..bytes.len() {
         for fails in [true, false] {
@@ -40,7 +40,7 @@ fn a_writer_that_takes_some_bytes_and_then_none(rt: HostRuntime) {
     }
 }
 
-/// Takes so many bytes a call at most, and counts the calls.
+/// Takes at most `most` bytes a call, and counts the calls.
 #[derive(Drop)]
 struct CountingWriter {
     taken: Vec<u8>,
@@ -49,7 +49,7 @@ struct CountingWriter {
 }
 
 impl CountingWriter {
-    /// A writer that wasn't called yet.
+    /// A writer that hasn't been called.
     fn new(alloc: Global, most: usize) -> CountingWriter {
         CountingWriter {
             taken: Vec::new(alloc),
