@@ -218,12 +218,12 @@ const NO_RUNS: [(&str, &[u8], &[&[u8]]); 13] = [
         &[FIRST_OF_ONE, ABC, SECOND_OF_TWO, ABC],
     ),
     (
-        "the first two alike exchanged",
+        "the first two similar identifiers swapped",
         THREE_ENTRIES,
         &[MIDDLE, LOW, HIGH],
     ),
     (
-        "the last two alike exchanged",
+        "the last two similar identifiers swapped",
         THREE_ENTRIES,
         &[LOW, HIGH, MIDDLE],
     ),
@@ -259,7 +259,7 @@ fn a_run_ends_with_its_digest(rt: HostRuntime) -> Result<(), Fail> {
     assert!(rt; is_refused(rt.alloc(), &ONE_SHARD[..116]), "a byte missing");
     assert!(rt; is_refused(rt.alloc(), &[]), "nothing");
     let longer = [ONE_SHARD.as_slice(), &[0]].concat(rt.alloc())?;
-    assert!(rt; is_refused(rt.alloc(), &longer), "a byte behind the digest");
+    assert!(rt; is_refused(rt.alloc(), &longer), "a byte after the digest");
     let inner = payload(rt.alloc(), &ONE_SHARD[..85], &[&[0]])?;
     assert!(rt; is_refused(rt.alloc(), &inner), "a byte in front of it");
     Ok(())

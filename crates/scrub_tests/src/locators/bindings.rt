@@ -25,7 +25,7 @@ struct Merge {
 
 const MERGES: [Merge; 8] = [
     Merge {
-        what: "a deleted shard stays deleted behind a lost run",
+        what: "a deleted shard stays deleted after a lost run",
         runs: &[
             None,
             Some(&[(1, None), (2, Some(0))]),
@@ -57,7 +57,7 @@ const MERGES: [Merge; 8] = [
         absent: (1, 2),
     },
     Merge {
-        what: "behind a lost run a shard is doubtful",
+        what: "after a lost run a shard is doubtful",
         runs: &[None, Some(&[(1, Some(0))])],
         wanted: &[(1, true, 1, 0)],
         absent: (2, 3),
@@ -75,7 +75,7 @@ const MERGES: [Merge; 8] = [
         absent: (3, 4),
     },
     Merge {
-        what: "three identifiers that differ behind their first twelve bytes alone are bound each",
+        what: "each of three identifiers that differ only after their first twelve bytes is bound",
         runs: &[
             Some(&[(0x7F00_0002, Some(0)), (0x7F01_0000, Some(0))]),
             Some(&[(0x7F00_0002, Some(41)), (0x7F00_0101, Some(41))]),

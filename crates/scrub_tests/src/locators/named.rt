@@ -113,7 +113,7 @@ fn a_shard_that_the_newest_run_deletes_is_not_bound(rt: HostRuntime) -> Result<(
 const TWO_RUNS_AND_A_SHARD: [Owner; 3] = [Owner::Run(0), Owner::Run(1), Owner::Shard(SHARD)];
 
 #[test]
-fn a_shard_behind_a_broken_run_is_bound_and_doubtful(rt: HostRuntime) -> Result<(), Fail> {
+fn a_shard_after_a_broken_run_is_bound_and_doubtful(rt: HostRuntime) -> Result<(), Fail> {
     let disk = broken_newest_run(&rt, rt.alloc())?;
     let (map, named) = shards_and_named(rt.alloc(), &disk)?;
     check_bound(&rt, &map, 1, true);

@@ -136,7 +136,7 @@ const STATUS_ROWS: [StatusRow; 13] = [
         ..WHOLE
     },
     StatusRow {
-        what: "a frame of whose last page one byte is its own",
+        what: "a frame with one byte on its last page",
         chunks: &[LONG],
         bad_pages: &[(1, 2)],
         cases: &[(LONG, 91, Status::Unreadable)],
@@ -176,7 +176,7 @@ const STATUS_ROWS: [StatusRow; 13] = [
         ..WHOLE
     },
     StatusRow {
-        what: "one byte behind the start of a frame",
+        what: "one byte after the start of a frame",
         pointer: Some(256),
         chunks: &[ABC],
         cases: &[

@@ -191,7 +191,7 @@ fn a_scan_asks_for_the_last_page_of_a_long_frame_twice(rt: HostRuntime) -> Resul
 }
 
 #[test]
-fn a_scan_leaves_lost_pages_to_its_tiling(rt: HostRuntime) -> Result<(), Fail> {
+fn a_scan_does_not_ask_again_for_pages_lost_in_its_tiling(rt: HostRuntime) -> Result<(), Fail> {
     let mut disk = disk_with(rt.alloc(), &[(0, ONES, &[0x78; 60])], &[1, 3])?;
     // Page 0, page 1 as the far end and for its own item, and pages 2 and 3 for the tail.
     put_superblock(rt.alloc(), &mut disk, &[98, 0], &[])?;

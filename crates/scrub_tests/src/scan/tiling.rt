@@ -102,7 +102,7 @@ fn a_head_that_claims_the_greatest_length_is_torn(rt: HostRuntime) -> Result<(),
 }
 
 #[test]
-fn damage_between_frames_ends_at_the_page_bound(rt: HostRuntime) -> Result<(), Fail> {
+fn damage_between_frames_ends_at_the_page_boundary(rt: HostRuntime) -> Result<(), Fail> {
     let mut disk = MemDisk::blank(rt.alloc(), Geometry::new(128, 2, 3)?)?;
     let frames = [
         (0, ONES, b"abc".as_slice()),

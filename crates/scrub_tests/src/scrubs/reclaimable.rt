@@ -28,7 +28,7 @@ fn check<R: Threads + Wait + Abort + Sync>(
 }
 
 /// A disk of three extents. Extent 2 has a chunk that nothing names, and after it a run that the superblock names twice.
-fn run_behind_garbage(alloc: Global) -> Result<MemDisk, Fail> {
+fn run_after_garbage(alloc: Global) -> Result<MemDisk, Fail> {
     let mut disk = small_disk(alloc)?;
     put_chunk(alloc, &mut disk, 2, 0, ONES, &[0x78; 60])?;
     let run = put_run(alloc, &mut disk, 2, 98, TWOS, &[])?;
@@ -46,7 +46,7 @@ fn each_owner_of_a_run_to_keep_has_a_line(rt: HostRuntime) -> Result<(), Fail> {
     check(
         &rt,
         rt.alloc(),
-        &run_behind_garbage(rt.alloc())?,
+        &run_after_garbage(rt.alloc())?,
         NONE,
         lines,
     )

@@ -11,7 +11,7 @@ use std::io::{ErrorKind, Write};
 use std::test::Fail;
 
 #[test]
-fn all_bytes_come_in_order(rt: HostRuntime) -> Result<(), Fail> {
+fn all_bytes_are_written_in_order(rt: HostRuntime) -> Result<(), Fail> {
     let mut bytes = Vec::new(rt.alloc());
     write_out(&mut bytes, b"chunk")?;
     write_out(&mut bytes, b"s")?;
@@ -20,7 +20,7 @@ fn all_bytes_come_in_order(rt: HostRuntime) -> Result<(), Fail> {
 }
 
 #[test]
-fn short_writes_go_on(rt: HostRuntime) -> Result<(), Fail> {
+fn short_writes_are_continued(rt: HostRuntime) -> Result<(), Fail> {
     let mut narrow = NarrowWriter::new(rt.alloc(), 11, true);
     write_out(&mut narrow, b"ten bytes.")?;
     same(&rt, narrow.taken.as_slice(), b"ten bytes.".as_slice());
@@ -77,7 +77,7 @@ impl Write for CountingWriter {
 }
 
 #[test]
-fn a_writer_is_called_no_more_often_than_it_needs(rt: HostRuntime) -> Result<(), Fail> {
+fn a_writer_is_called_no_more_often_than_needed(rt: HostRuntime) -> Result<(), Fail> {
     let text = vec![in rt.alloc(); b'x'; 100_000]?;
     let cases = [(usize::MAX, 1), (100_000, 1), (99_999, 2), (4_096, 25)];
     for (most, calls) in cases {

@@ -13,7 +13,7 @@ pub restrict-requires-clause-each_planned : goal.restrict-requires-clause-each_p
 restrict-requires-clause-each_planned g c =
     let three : c.geometry-geometry.result.extents - 1 ≡ 3 = omega arith in
     rw
-      (c.in_ok-plan.ensures.planned
-        ∙ ap (λ (x : Geometry). range_with_len 1 (x.extents - 1)) (sym c.geometry-geometry.ensures)
-        ∙ ap (range_with_len 1) three)
-      two_of_three
+    (c.in_ok-plan.ensures.planned
+    ∙ ap (λ (x : Geometry). range_with_len 1 (x.extents - 1)) (sym c.geometry-geometry.ensures)
+    ∙ ap (range_with_len 1) three)
+    two_of_three
