@@ -1,5 +1,4 @@
-//! Which calls are wanted, and how each of them ended. The calls themselves, each in a row with its name, are at the ends of the
-//! modules named here.
+//! Which calls are wanted, and how each of them ended. The calls, each with its name, are at the ends of the modules used here.
 
 use crate::ending::{Stop, Wanted};
 use crate::{checks, frames, lists, loading, maps, pool, records, report, runs, scans};
@@ -11,47 +10,49 @@ use std::thread::Threads;
 
 /// Which calls are wanted. A call is named by its path and a second word: a number of workers, a kind of record, or nothing.
 #[derive(Clone, Copy)]
-pub enum Asked<'a> {
-    /// Of all calls the names alone.
+pub enum Selection<'a> {
+    /// Only the names of all calls.
     Names,
     /// All calls.
     All,
-    /// The call of these two words, so far.
+    /// The call with these two words, and how far it goes.
     One(&'a str, &'a str, Wanted),
 }
 
-/// A walk over all calls, of which some are made.
+/// A walk over all calls that makes the wanted ones.
 #[derive(Drop)]
 pub struct Trial<'a, O: Write> {
-    asked: Asked<'a>,
+    selected: Selection<'a>,
     out: &'a mut O,
-    /// The greatest status so far. None where no call was wanted.
+    /// The greatest status so far, or `None` if no call was wanted.
     status: Option<u8>,
 }
 
 impl<'a, O: Write> Trial<'a, O> {
-    pub fn new(asked: Asked<'a>, out: &'a mut O) -> Trial<'a, O> {
+    pub fn new(selected: Selection<'a>, out: &'a mut O) -> Trial<'a, O> {
         Trial {
-            asked,
+            selected,
             out,
             status: None,
         }
     }
 
-    /// How far the call of these two words is to go. None where it isn't to be made. It takes no memory.
+    /// How far the call with these two words goes, or `None` if it isn't made. It takes no memory.
     pub fn wants(&mut self, name: &str, second: &str) -> Option<Wanted> {
-        match self.asked {
-            Asked::Names => {
+        match self.selected {
+            Selection::Names => {
                 let written = write_name(self.out, name, second, b"\n");
                 self.wrote(written);
                 None
             }
-            Asked::All => {
+            Selection::All => {
                 let written = write_name(self.out, name, second, b" ");
                 self.wrote(written);
                 Some(Wanted::Answer)
             }
-            Asked::One(one, other, wanted) => (one == name && other == second).then_some(wanted),
+            Selection::One(one, other, wanted) => (one == name && other == second).then_some(
+                wanted,
+            ),
         }
     }
 
@@ -67,13 +68,13 @@ impl<'a, O: Write> Trial<'a, O> {
         self.wrote(written);
     }
 
-    /// The status is at least 1 where something wasn't written.
+    /// The status is at least 1 if something couldn't be written.
     fn wrote(&mut self, written: Result<(), WriteFault>) {
         let status = if written.is_ok() { 0 } else { 1 };
         self.status = Some(self.status.unwrap_or(0).max(status));
     }
 
-    /// The status of the program. A call that isn't there is wrong.
+    /// The status of the program. It is 1 if there is no such call.
     pub fn status(mut self) -> u8 {
         match self.status {
             Some(status) => status,
@@ -85,7 +86,7 @@ impl<'a, O: Write> Trial<'a, O> {
     }
 }
 
-/// Writes the words that name a call, and what is to be behind them.
+/// Writes the words that name a call, and then `end`.
 fn write_name<O: Write>(
     out: &mut O,
     name: &str,

@@ -1,9 +1,9 @@
-//! What the locators of disks are worth, and which runs can be read.
+//! Calls that read index runs and find the statuses of locators.
 
 use crate::calls::Trial;
 use crate::disks::{
-    broken_newest_run, deleted_in_the_newest_run, judged_locators, judged_names, names_in,
-    nine_locators,
+    broken_newest_run, deleted_in_the_newest_run, locators_with_status, names_in,
+    names_with_status, nine_locators,
 };
 use crate::ending::{Stop, Wanted, right};
 use crate::runs::is_one_shard;
@@ -18,7 +18,7 @@ use std::alloc::Global;
 use std::io::Write;
 use std::thread::Threads;
 
-/// Whether a run says that the shard was deleted.
+/// Whether a run deletes the shard.
 fn is_deletion(run: &Run) -> bool {
     match run.entries() {
         [entry] => entry.id() == SHARD && entry.locators().is_empty(),
@@ -26,7 +26,7 @@ fn is_deletion(run: &Run) -> bool {
     }
 }
 
-/// Whether three runs were read, of which the newest deletes the shard and the others name its chunk.
+/// Whether three runs were read: the newest deletes the shard, and the others name its chunk.
 fn are_three(read: &ReadRuns) -> bool {
     let are_right = match read.runs() {
         [Some(newest), Some(older), Some(oldest)] => {
@@ -37,7 +37,7 @@ fn are_three(read: &ReadRuns) -> bool {
     are_right && read.states() == [RunState::Read; 3].as_slice()
 }
 
-/// Whether of two runs the newer is lost, since its payload is no run, and the older names the chunk of the shard.
+/// Whether the newer of two runs is lost, since its payload isn't a run, and the older one names the chunk of the shard.
 fn is_one_of_two(read: &ReadRuns) -> bool {
     let are_right = match read.runs() {
         [None, Some(older)] => is_one_shard(older),
@@ -46,7 +46,7 @@ fn is_one_of_two(read: &ReadRuns) -> bool {
     are_right && read.states() == [RunState::NotARun, RunState::Read].as_slice()
 }
 
-/// The runs of the disk whose newest run deletes the shard, and of that whose newest run is broken.
+/// The runs of two disks: on one the newest run deletes the shard, on the other it is broken.
 pub fn read_runs(alloc: Global, wanted: Wanted) -> Result<(), Stop> {
     let (deleted, broken) = (deleted_in_the_newest_run(alloc)?, broken_newest_run(alloc)?);
     let (first, second) = (plan_of(alloc, &deleted)?, plan_of(alloc, &broken)?);
@@ -68,13 +68,13 @@ pub fn read_all_runs<R: Threads + Sync>(rt: &R, alloc: Global, wanted: Wanted) -
     right(are_three(&three))
 }
 
-/// What nine locators are worth, one after another.
+/// The statuses of nine locators, one after another.
 pub fn status_of(alloc: Global, wanted: Wanted) -> Result<(), Stop> {
     let (disk, _) = nine_locators(alloc)?;
     let plan = plan_of(alloc, &disk)?;
     let all = scan_in_order(alloc, &disk, &plan)?;
     wanted.made()?;
-    for (locator, status) in judged_locators() {
+    for (locator, status) in locators_with_status() {
         let found = scrub_check::status_of(alloc, &disk, &plan, &all, &locator)?;
         right(found == status)?;
     }
@@ -88,31 +88,31 @@ pub fn named_locators(alloc: Global, wanted: Wanted) -> Result<(), Stop> {
     let all = scan_in_order(alloc, &disk, &plan)?;
     let read = scrub_check::read_runs(alloc, &disk, &plan, &all)?;
     let map = merge(alloc, read.runs())?;
-    let names = names_in(alloc, &judged_names(alloc, run)?)?;
+    let names = names_in(alloc, &names_with_status(alloc, run)?)?;
     wanted.made()?;
     let named = scrub_check::named_locators(alloc, &plan, &map)?;
     right(named.as_slice() == names.as_slice())
 }
 
-/// What these are worth, in their order.
+/// The statuses of these locators, in their order.
 pub fn check_all<R: Threads + Sync>(rt: &R, alloc: Global, wanted: Wanted) -> Result<(), Stop> {
     let (disk, run) = nine_locators(alloc)?;
     let plan = plan_of(alloc, &disk)?;
     let all = scan_in_order(alloc, &disk, &plan)?;
-    let judged = judged_names(alloc, run)?;
-    let named = names_in(alloc, &judged)?;
+    let expected = names_with_status(alloc, run)?;
+    let named = names_in(alloc, &expected)?;
     wanted.made()?;
     let checked = scrub_check::check_all(rt, alloc, &disk, &plan, &all, &named)?;
-    right(checked.as_slice() == judged.as_slice())
+    right(checked.as_slice() == expected.as_slice())
 }
 
-/// The same, where the run was read before.
+/// The same, with the run read before.
 pub fn check_named<R: Threads + Sync>(rt: &R, alloc: Global, wanted: Wanted) -> Result<(), Stop> {
     let (disk, run) = nine_locators(alloc)?;
     check_named_on(rt, alloc, wanted, &disk, run)
 }
 
-/// What the locators are worth that a disk with this run names.
+/// The statuses of the locators that a disk with this run names.
 fn check_named_on<R: Threads + Sync>(
     rt: &R,
     alloc: Global,
@@ -123,11 +123,11 @@ fn check_named_on<R: Threads + Sync>(
     let plan = plan_of(alloc, disk)?;
     let all = scan_in_order(alloc, disk, &plan)?;
     let read = scrub_check::read_runs(alloc, disk, &plan, &all)?;
-    let judged = judged_names(alloc, run)?;
-    let named = names_in(alloc, &judged)?;
+    let expected = names_with_status(alloc, run)?;
+    let named = names_in(alloc, &expected)?;
     wanted.made()?;
     let checked = scrub_check::check_named(rt, alloc, disk, &plan, &all, read.states(), &named)?;
-    right(checked.as_slice() == judged.as_slice())
+    right(checked.as_slice() == expected.as_slice())
 }
 
 /// The calls of this module.

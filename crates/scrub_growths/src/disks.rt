@@ -1,5 +1,4 @@
-//! The disks that calls are tried on, and the payloads and records on them, put together field by field. What is to be
-//! found there is left to the calls.
+//! The disks that calls are tried on, and the payloads and records on them, put together field by field.
 
 ghost use Rattle.std.specs.Prelude.{◌≡◌, IfOk};
 ghost use Rattle.scrub_disk.specs.Memory.{image_of};
@@ -18,7 +17,7 @@ use std::alloc::Global;
 use std::slice;
 use uuid::Uuid;
 
-/// The payload of the run of these shards, each of which has these locators.
+/// The payload of the run of these shards, each with these locators.
 pub fn payload_of(alloc: Global, ids: &[ShardId], locators: &[Locator]) -> Result<Vec<u8>, Stop> {
     let mut payload = Vec::from_slice(alloc, b"RUN1\0\0\0")?;
     payload.push(u8::try_from(ids.len()).map_err(|_| Stop::Wrong)?)?;
@@ -40,12 +39,12 @@ fn append_shard(payload: &mut Vec<u8>, id: ShardId, locators: &[Locator]) -> Res
     Ok(())
 }
 
-/// The payload of the run of one shard, which has the `abc` at the start of extent 1.
+/// The payload of the run of one shard with the `abc` at the start of extent 1.
 pub fn one_shard_payload(alloc: Global) -> Result<Vec<u8>, Stop> {
     payload_of(alloc, &[SHARD], &[abc_at(1, 0)])
 }
 
-/// Puts the run of one shard, which has these locators, and tells the run's own.
+/// Puts the run of one shard with these locators. Returns the run's own locator.
 fn put_run(
     alloc: Global,
     disk: &mut MemDisk,
@@ -65,8 +64,8 @@ pub fn abc_alone(alloc: Global) -> Result<MemDisk, Stop> {
     Ok(disk)
 }
 
-/// A disk of three extents with `abc` at the start of extent 1, and the run of one shard that names it in extent 2. Tells
-/// the run's locator.
+/// A disk of three extents with `abc` at the start of extent 1, and the run of one shard that names it in extent 2. Returns the
+/// run's locator with the disk.
 pub fn one_shard(alloc: Global) -> Result<(MemDisk, Locator), Stop> {
     let mut disk = abc_alone(alloc)?;
     let run = put_run(alloc, &mut disk, 2, 0, TWOS, &[abc_at(1, 0)])?;
@@ -74,15 +73,15 @@ pub fn one_shard(alloc: Global) -> Result<(MemDisk, Locator), Stop> {
     Ok((disk, run))
 }
 
-/// A disk of four extents, all zeros.
+/// A blank disk of four extents.
 pub fn four_extents(alloc: Global) -> Result<MemDisk, Stop>
     ensures { IfOk result (λ disk. (image_of disk).geometry.extents ≡ 4) }
 {
     Ok(MemDisk::blank(alloc, Geometry::new(64, 4, 4)?)?)
 }
 
-/// A disk of four extents with `abc` in extent 1, the run of one shard that names it in extent 2, and a superblock that
-/// retires extent 3. The run's locator comes with it.
+/// A disk of four extents with `abc` in extent 1, the run of one shard that names it in extent 2, and a superblock that retires
+/// extent 3. Returns the run's locator with the disk.
 pub fn one_retired(alloc: Global) -> Result<(MemDisk, Locator), Stop> {
     let mut disk = four_extents(alloc)?;
     put_chunk(alloc, &mut disk, 1, 0, ONES, b"abc")?;
@@ -107,8 +106,8 @@ pub fn restricted(alloc: Global, disk: &MemDisk, wanted: Wanted) -> Result<Plan,
     Ok(whole.restrict(alloc, &[1, 3])?)
 }
 
-/// A disk of four extents with `abc` in extent 1 and three runs of one shard: the newest, at the start of extent 2,
-/// deletes it; one behind it and one in extent 3 name the chunk.
+/// A disk of four extents with `abc` in extent 1 and three runs of one shard. The newest, at the start of extent 2, deletes it;
+/// the one after it and the one in extent 3 name the chunk.
 pub fn deleted_in_the_newest_run(alloc: Global) -> Result<MemDisk, Stop> {
     let mut disk = four_extents(alloc)?;
     put_chunk(alloc, &mut disk, 1, 0, ONES, b"abc")?;
@@ -120,8 +119,8 @@ pub fn deleted_in_the_newest_run(alloc: Global) -> Result<MemDisk, Stop> {
     Ok(disk)
 }
 
-/// A disk of four extents with `abc` in extent 1 and two runs of one shard: the newer, in extent 2, deletes it, but the
-/// last bit of its digest is another; the older, in extent 3, names the chunk.
+/// A disk of four extents with `abc` in extent 1 and two runs of one shard. The newer, in extent 2, deletes it, but the last
+/// bit of its digest is flipped; the older, in extent 3, names the chunk.
 pub fn broken_newest_run(alloc: Global) -> Result<MemDisk, Stop> {
     let mut disk = four_extents(alloc)?;
     put_chunk(alloc, &mut disk, 1, 0, ONES, b"abc")?;
@@ -134,8 +133,8 @@ pub fn broken_newest_run(alloc: Global) -> Result<MemDisk, Stop> {
     Ok(disk)
 }
 
-/// Nine locators, each with what it is worth on the disk of `nine_locators`.
-pub fn judged_locators() -> [(Locator, Status); 9] {
+/// Nine locators, each with its status on the disk of `nine_locators`.
+pub fn locators_with_status() -> [(Locator, Status); 9] {
     let abc = abc_at(1, 0);
     let other_uuid = Locator {
         uuid: Uuid::from_bytes(TWOS),
@@ -158,26 +157,26 @@ pub fn judged_locators() -> [(Locator, Status); 9] {
     ]
 }
 
-/// A disk with pages of 256 bytes, eight pages an extent and four extents, under the pointers 512, 297 and 635. Extent 1
-/// has `abc` at 0, and its page 1 is unreadable. Extent 2 has a frame of 258 bytes at 0, whose last two bytes are the
-/// magic of the frame of `abc` at 256. Extent 3 has the run of one shard with the nine locators. Tells the run's locator.
+/// A disk with pages of 256 bytes, eight pages an extent, four extents, and the pointers 512, 297 and 635. Extent 1 has `abc`
+/// at 0, and its page 1 is unreadable. Extent 2 has a frame of 258 bytes at 0; its last two bytes are the magic of the frame of
+/// `abc` at 256. Extent 3 has the run of one shard with the nine locators. Returns the run's locator with the disk.
 pub fn nine_locators(alloc: Global) -> Result<(MemDisk, Locator), Stop> {
     let mut disk = MemDisk::blank(alloc, Geometry::new(256, 8, 4)?)?;
     put_chunk(alloc, &mut disk, 1, 0, ONES, b"abc")?;
     mark_bad(&mut disk, 1, 1)?;
     put_chunk(alloc, &mut disk, 2, 0, ENDS_IN_MAGIC, &[0x78; 220])?;
     put_chunk(alloc, &mut disk, 2, 256, ONES, b"abc")?;
-    let locators = judged_locators().map(|judged| judged.0);
+    let locators = locators_with_status().map(|one| one.0);
     let run = put_run(alloc, &mut disk, 3, 0, TWOS, &locators)?;
     put_superblock(alloc, &mut disk, &[512, 297, 635], slice::from_ref(&run))?;
     Ok((disk, run))
 }
 
-/// What the disk of `nine_locators` names: its run, and the nine locators of its shard, with what each is worth.
-pub fn judged_names(alloc: Global, run: Locator) -> Result<Vec<Checked>, Stop> {
+/// What the disk of `nine_locators` names: its run, and the nine locators of its shard, each with its status.
+pub fn names_with_status(alloc: Global, run: Locator) -> Result<Vec<Checked>, Stop> {
     let mut checked = Vec::new(alloc);
     checked.push(sound(Owner::Run(0), run))?;
-    for (locator, status) in judged_locators() {
+    for (locator, status) in locators_with_status() {
         checked.push(Checked {
             owner: Owner::Shard(SHARD),
             locator,
@@ -196,7 +195,7 @@ fn sound(owner: Owner, locator: Locator) -> Checked {
     }
 }
 
-/// Who names which locator, without what it is worth.
+/// Who names which locator, without the status.
 pub fn names_in(alloc: Global, checked: &[Checked]) -> Result<Vec<Named>, Stop> {
     let mut named = Vec::new(alloc);
     for one in checked {
@@ -208,13 +207,13 @@ pub fn names_in(alloc: Global, checked: &[Checked]) -> Result<Vec<Named>, Stop> 
     Ok(named)
 }
 
-/// The payload of the run of two shards, both of which name the `abc` at 41 of extent 1.
+/// The payload of the run of two shards that both name the `abc` at 41 of extent 1.
 pub fn two_shards_payload(alloc: Global) -> Result<Vec<u8>, Stop> {
     payload_of(alloc, &[SHARD, shard_of(2)], &[abc_at(1, 41)])
 }
 
-/// A disk of three extents with `abc` under one UUID at 0 and 41 of extent 1, and the run of two shards, both of which
-/// name the second, in extent 2. Tells what it names, which is sound throughout.
+/// A disk of three extents with `abc` under one UUID at 0 and 41 of extent 1. The run in extent 2 has two shards, which both
+/// name the second. Returns the locators that it names, all sound, with the disk.
 pub fn twins_and_shared(alloc: Global) -> Result<(MemDisk, [Checked; 3]), Stop> {
     let mut disk = abc_alone(alloc)?;
     put_chunk(alloc, &mut disk, 1, 41, ONES, b"abc")?;
@@ -229,8 +228,8 @@ pub fn twins_and_shared(alloc: Global) -> Result<(MemDisk, [Checked; 3]), Stop> 
     Ok((disk, names))
 }
 
-/// A disk of 40 extents, each of 64 pages of 64 bytes. Each extent from 1 to 38 has `abc` at its start, under the UUID of
-/// sixteen bytes that are its number; extent 39 has the run of 38 shards, each of one of these chunks.
+/// A disk of 40 extents, each of 64 pages of 64 bytes. Extents 1 to 38 each begin with `abc`, under a UUID of sixteen bytes
+/// that are the extent's number. Extent 39 has the run of 38 shards, each of one of these chunks.
 pub fn many_shards(alloc: Global) -> Result<MemDisk, Stop> {
     let mut disk = MemDisk::blank(alloc, Geometry::new(64, 64, 40)?)?;
     let mut pointers = Vec::new(alloc);

@@ -1,4 +1,4 @@
-//! How far a call is to go, and how it ends. What is printed of that is left to `main`.
+//! How far a call goes, and how it ends. For what is printed of that see `calls`.
 
 use scrub_disk::{GeometryFault, LoadFault, OutOfMemory};
 use scrub_fakes::Misfit;
@@ -9,17 +9,17 @@ use scrub_report::ScrubFault;
 use scrub_run::RunFault;
 use std::alloc::AllocFailed;
 
-/// How far a call is to go.
+/// How far a call goes.
 #[derive(Debug, Clone, Copy)]
 pub enum Wanted {
-    /// Its values are made, and it isn't called.
+    /// Its values are made, but it isn't called.
     Values,
-    /// It is called, and its answer is compared.
+    /// It is called, and its answer is checked.
     Answer,
 }
 
 impl Wanted {
-    /// Says that all values of a call are made. What comes behind it takes memory for the call alone.
+    /// Marks that all values of a call are made. After that only the call itself takes memory.
     pub fn made(self) -> Result<(), Stop> {
         match self {
             Wanted::Values => Err(Stop::Made),
@@ -28,23 +28,23 @@ impl Wanted {
     }
 }
 
-/// Why a call hasn't answered, or not as it should.
+/// Why a call didn't answer, or not as it should.
 #[derive(Debug, Clone, Copy, PartialEq, Eq)]
 pub enum Stop {
     /// The values are made, and no more is wanted.
     Made,
-    /// A growth was refused, to the call or to the making of its values.
+    /// A growth was refused, in the call or while its values were made.
     OutOfMemory,
-    /// The answer is another than the right one, or what was lent isn't as it was.
+    /// The answer is wrong, or what was lent isn't as it was.
     Wrong,
 }
 
-/// Requires that an answer is the right one.
+/// Checks that an answer is right.
 pub fn right(is_right: bool) -> Result<(), Stop> {
     if is_right { Ok(()) } else { Err(Stop::Wrong) }
 }
 
-/// What becomes of a refused growth, after which what was lent has to be as it was.
+/// The outcome of a refused growth. What was lent has to be as it was.
 pub fn refused(is_as_it_was: bool) -> Result<(), Stop> {
     Err(if is_as_it_was {
         Stop::OutOfMemory

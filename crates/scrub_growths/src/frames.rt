@@ -1,4 +1,4 @@
-//! Frames of both forms that are appended, beside their bytes field by field; and locators that are read.
+//! Frames of both forms, appended and compared with their bytes field by field; and locators that are read.
 
 use crate::calls::Trial;
 use crate::disks::one_shard_payload;
@@ -9,11 +9,11 @@ use std::alloc::Global;
 use std::io::Write;
 use uuid::Uuid;
 
-/// What stands in a list before a frame is appended.
+/// What a list has before a frame is appended.
 const BEFORE: [u8; 1] = [7];
 
-/// The bytes before, and behind them the frame of these first two bytes, this UUID and payload, with a seal before the
-/// payload and a mark at the end, both of which a plain frame has none of.
+/// `BEFORE`, and after it the frame with these first two bytes, this UUID and this payload. A sealed frame has a seal before
+/// the payload and a mark at the end; a plain one has neither.
 fn framed(
     alloc: Global,
     magic: [u8; 2],
@@ -34,7 +34,7 @@ fn framed(
     Ok(bytes)
 }
 
-/// What comes of appending to a list of the bytes before. A refusal leaves it as it was.
+/// The outcome of appending to `BEFORE`. A refusal leaves the list as it was.
 fn appended(answer: Result<(), FrameFault>, out: &[u8]) -> Result<(), Stop> {
     match answer {
         Ok(()) => Ok(()),
@@ -69,7 +69,7 @@ pub fn write_sealed(alloc: Global, wanted: Wanted) -> Result<(), Stop> {
     right(out.as_slice() == frame.as_slice())
 }
 
-/// Three locators, which were written one after another.
+/// Three locators that were written one after another.
 pub fn read_locators(alloc: Global, wanted: Wanted) -> Result<(), Stop> {
     let locators = [abc_at(1, 0), abc_at(2, 41), abc_at(1, 82)];
     let mut bytes = Vec::new(alloc);

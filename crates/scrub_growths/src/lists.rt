@@ -1,8 +1,7 @@
-//! The lists that are drawn from what locators are worth: those of the disk of nine locators, and those of the disk of
-//! twins and a shared place.
+//! The lists that follow from the statuses of locators, on the disk of nine locators and on that of twins and a shared place.
 
 use crate::calls::Trial;
-use crate::disks::{judged_names, nine_locators, twins_and_shared};
+use crate::disks::{names_with_status, nine_locators, twins_and_shared};
 use crate::ending::{Stop, Wanted, right};
 use scrub_check::{Candidate, Place, SharedPlace};
 use scrub_fakes::{ONES, SHARD, plan_of};
@@ -11,34 +10,34 @@ use std::alloc::Global;
 use std::io::Write;
 use uuid::Uuid;
 
-/// Seven locators of nine that dangle.
+/// The seven of nine locators that dangle.
 pub fn dangling(alloc: Global, wanted: Wanted) -> Result<(), Stop> {
     let (_, run) = nine_locators(alloc)?;
-    let judged = judged_names(alloc, run)?;
+    let checked = names_with_status(alloc, run)?;
     wanted.made()?;
-    let dangling = scrub_check::dangling(alloc, &judged)?;
-    right(judged.get(1..8) == Some(dangling.as_slice()))
+    let dangling = scrub_check::dangling(alloc, &checked)?;
+    right(checked.get(1..8) == Some(dangling.as_slice()))
 }
 
 /// The one that is hidden.
 pub fn hidden(alloc: Global, wanted: Wanted) -> Result<(), Stop> {
     let (_, run) = nine_locators(alloc)?;
-    let judged = judged_names(alloc, run)?;
+    let checked = names_with_status(alloc, run)?;
     wanted.made()?;
-    let hidden = scrub_check::hidden(alloc, &judged)?;
-    right(judged.get(8..9) == Some(hidden.as_slice()))
+    let hidden = scrub_check::hidden(alloc, &checked)?;
+    right(checked.get(8..9) == Some(hidden.as_slice()))
 }
 
 /// Their shard, which is broken.
 pub fn broken_shards(alloc: Global, wanted: Wanted) -> Result<(), Stop> {
     let (_, run) = nine_locators(alloc)?;
-    let judged = judged_names(alloc, run)?;
+    let checked = names_with_status(alloc, run)?;
     wanted.made()?;
-    let broken = scrub_check::broken_shards(alloc, &judged)?;
+    let broken = scrub_check::broken_shards(alloc, &checked)?;
     right(broken.as_slice() == [SHARD].as_slice())
 }
 
-/// How many bytes are live in the extents of the disk of twins and a shared place: one chunk of two, and the run.
+/// The live bytes in the extents of the disk of twins and a shared place: one chunk of two, and the run.
 const LIVE: [u32; 2] = [41, 232];
 
 /// The shared place of that disk.

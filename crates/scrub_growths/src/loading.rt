@@ -1,4 +1,4 @@
-//! Disks in memory, blank or loaded, page by page; extents that are read whole; and the superblocks of raw bytes.
+//! Disks in memory, blank or loaded; extents that are read whole; and the superblocks of raw bytes.
 
 use crate::calls::Trial;
 use crate::disks::one_shard;
@@ -9,7 +9,7 @@ use scrub_super::{FoundRecord, LostBytes, RecordKind};
 use std::alloc::Global;
 use std::io::Write;
 
-/// The bytes of a page of a small disk, or None where it is unreadable.
+/// The bytes of a page of a small disk, or None if it is unreadable.
 fn page_of(disk: &MemDisk, number: u32) -> Option<[u8; 64]> {
     let geometry = disk.geometry();
     if geometry.page() != 64 || geometry.pages() != 4 || geometry.extents() != 3 || number >= 12 {
@@ -22,7 +22,7 @@ fn page_of(disk: &MemDisk, number: u32) -> Option<[u8; 64]> {
     }
 }
 
-/// Whether a small disk has these bytes, but for two pages that are unreadable, by their numbers on the whole disk.
+/// Whether a small disk has these bytes, except for two unreadable pages, given by their numbers on the whole disk.
 fn has_bytes(disk: &MemDisk, bytes: &[u8], unreadable: [u32; 2]) -> bool {
     for number in 0..12 {
         let start = number as usize * 64;
@@ -59,7 +59,8 @@ fn one_shard_bytes(alloc: Global) -> Result<Vec<u8>, Stop> {
     Ok(bytes)
 }
 
-/// Its bytes cut off within page 2 of extent 2, and all of them with one failure at page 0 of extent 1.
+/// Loads the disk with one shard twice: from bytes cut off within page 2 of extent 2, and from all bytes with one failure at
+/// page 0 of extent 1.
 pub fn load(alloc: Global, wanted: Wanted) -> Result<(), Stop> {
     let bytes = one_shard_bytes(alloc)?;
     let cut = bytes.get(..668).ok_or(Stop::Wrong)?;
@@ -71,7 +72,7 @@ pub fn load(alloc: Global, wanted: Wanted) -> Result<(), Stop> {
     right(has_bytes(&of_short, &bytes, [10, 11]) && has_bytes(&of_failing, &bytes, [4, NONE]))
 }
 
-/// Extent 2 of the disk with one shard, of which page 1 is unreadable.
+/// Extent 2 of the disk with one shard, with page 1 unreadable.
 pub fn read_extent(alloc: Global, wanted: Wanted) -> Result<(), Stop> {
     let bytes = one_shard_bytes(alloc)?;
     let (mut disk, _) = one_shard(alloc)?;
@@ -89,14 +90,14 @@ pub fn read_extent(alloc: Global, wanted: Wanted) -> Result<(), Stop> {
     )
 }
 
-/// The pages of five that could not be read.
+/// The unreadable ones of five pages.
 pub fn unreadable_pages(alloc: Global, wanted: Wanted) -> Result<(), Stop> {
     wanted.made()?;
     let pages = scrub_disk::unreadable_pages(alloc, &[false, true, false, true, false])?;
     right(pages.as_slice() == [0, 2, 4].as_slice())
 }
 
-/// The superblock of the bytes of the disk with one shard, whose second block of 512 is marked as lost.
+/// The superblock in the bytes of the disk with one shard. The second block of 512 bytes is marked as lost.
 pub fn find_superblocks(alloc: Global, wanted: Wanted) -> Result<(), Stop> {
     let bytes = one_shard_bytes(alloc)?;
     let mut raw = RawBytes::new(&bytes);
@@ -118,7 +119,7 @@ pub fn find_superblocks(alloc: Global, wanted: Wanted) -> Result<(), Stop> {
     )
 }
 
-/// The lines of what is found there.
+/// The lines of these superblocks.
 pub fn list_sizes(alloc: Global, wanted: Wanted) -> Result<(), Stop> {
     let bytes = one_shard_bytes(alloc)?;
     let mut raw = RawBytes::new(&bytes);

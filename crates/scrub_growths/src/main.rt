@@ -1,12 +1,11 @@
-//! Tries every call that can lack memory on small values, so that a script can refuse each of its growths in turn. The
-//! first word names a call. For those that start workers the second one says how many scan beside the caller, and for
-//! superblocks of the second kind it is `SSB2`. The last word is `answered`, or `made` where the values of the call are to be
-//! made and no more. Prints `right`, with status 0, where the answer is the right one whole; `out of memory`, with status 4,
-//! where a growth was refused; and else `wrong`, with status 1. Without words each call is made once, and its line begins
-//! with its name. The word `calls` lists the calls. For which growths are refused, see `bench/growths.py`.
+//! Makes each call that can run out of memory, on small values, so that `bench/growths.py` can refuse each of its growths in
+//! turn. Arguments: the name of the call; for a call with workers how many there are beside the caller, or `SSB2` for
+//! superblocks of the second kind; and `answered`, or `made` to make only the values of the call. Prints `right` with status 0,
+//! `out of memory` with status 4 if a growth was refused, or `wrong` with status 1. Without arguments it makes each call once,
+//! and prints its name before the answer. `calls` lists the calls.
 #![tactic(auto)]
 
-/// A row for a call: the two words that name it, and the function that makes it, as far as is wanted.
+/// A row for a call: the two words that name it, and the function that makes it as far as wanted.
 macro_rules! made {
     ($trial:ident, $name:literal, $second:expr, $wanted:ident => $call:expr) => {
         if let Some($wanted) = $trial.wants($name, $second) {
@@ -31,7 +30,7 @@ mod runs;
 mod scans;
 mod takings;
 
-use crate::calls::{Asked, Trial, all};
+use crate::calls::{Selection, Trial, all};
 use crate::ending::{Stop, Wanted};
 use std::env::Env;
 use std::io::{ErrorKind, Write};
@@ -39,8 +38,8 @@ use std::process::ExitCode;
 use std::sync::Wait;
 use std::thread::Threads;
 
-/// No call has such a name.
-const NO_CALL: Asked<'static> = Asked::One("", "", Wanted::Answer);
+/// No call has this name.
+const NO_CALL: Selection<'static> = Selection::One("", "", Wanted::Answer);
 
 fn main(rt: HostRuntime) -> ExitCode {
     let mut out = rt.stdout();
@@ -51,7 +50,7 @@ fn main(rt: HostRuntime) -> ExitCode {
     ExitCode::from(status)
 }
 
-/// All words of the process, of which the first is the program's name.
+/// The arguments of the process, after the program's name.
 fn process_words<R: Env + AllocGlobal>(rt: &R) -> Result<Vec<String>, Stop> {
     match std::env::args(rt) {
         Ok(words) => Ok(words.collect(rt.alloc())?),
@@ -60,37 +59,37 @@ fn process_words<R: Env + AllocGlobal>(rt: &R) -> Result<Vec<String>, Stop> {
     }
 }
 
-/// Does what the words want, and gives the status.
+/// Does what the arguments say, and returns the status.
 fn answer<R: AllocGlobal + Threads + Wait + Sync, O: Write>(
     rt: &R,
     words: &[String],
     out: &mut O,
 ) -> u8 {
-    let mut trial = Trial::new(asked_by(words), out);
+    let mut trial = Trial::new(selection_of(words), out);
     all(rt, rt.alloc(), &mut trial);
     trial.status()
 }
 
-/// The calls that words name, of which the first is the program's name.
-fn asked_by(words: &[String]) -> Asked<'_> {
+/// The calls that the arguments name.
+fn selection_of(words: &[String]) -> Selection<'_> {
     match words {
-        [] | [_] => Asked::All,
-        [_, word] if word.as_str() == "calls" => Asked::Names,
-        [_, name] => Asked::One(name.as_str(), "", Wanted::Answer),
-        [_, name, last] => match far(last) {
-            Some(wanted) => Asked::One(name.as_str(), "", wanted),
-            None => Asked::One(name.as_str(), last.as_str(), Wanted::Answer),
+        [] | [_] => Selection::All,
+        [_, word] if word.as_str() == "calls" => Selection::Names,
+        [_, name] => Selection::One(name.as_str(), "", Wanted::Answer),
+        [_, name, last] => match how_far(last) {
+            Some(wanted) => Selection::One(name.as_str(), "", wanted),
+            None => Selection::One(name.as_str(), last.as_str(), Wanted::Answer),
         },
-        [_, name, second, last] => match far(last) {
-            Some(wanted) => Asked::One(name.as_str(), second.as_str(), wanted),
+        [_, name, second, last] => match how_far(last) {
+            Some(wanted) => Selection::One(name.as_str(), second.as_str(), wanted),
             None => NO_CALL,
         },
         _ => NO_CALL,
     }
 }
 
-/// How far a call is to go, if a word says so.
-fn far(word: &String) -> Option<Wanted> {
+/// How far a call goes, if the word says so.
+fn how_far(word: &String) -> Option<Wanted> {
     match word.as_str() {
         "made" => Some(Wanted::Values),
         "answered" => Some(Wanted::Answer),
@@ -98,9 +97,9 @@ fn far(word: &String) -> Option<Wanted> {
     }
 }
 
-/// Writes why there are no words, and gives the status.
+/// Writes why there are no arguments, and returns the status.
 fn stopped<O: Write>(stop: Stop, out: &mut O) -> u8 {
-    let mut trial = Trial::new(Asked::All, out);
+    let mut trial = Trial::new(Selection::All, out);
     trial.ended(Err(stop));
     trial.status()
 }

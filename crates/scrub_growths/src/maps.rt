@@ -6,16 +6,16 @@ use scrub_map::RescueMap;
 use std::alloc::Global;
 use std::io::Write;
 
-/// A map of four blocks of 64 bytes, of which the first and the third were rescued.
+/// A map of four blocks of 64 bytes; the first and the third were rescued.
 const MAP: &[u8] = b"# by hand\n0 ?\n0 64 +\n64 64 *\n0x80 64 +\n192 64 -\n";
 
-/// Whether a map lacks those blocks alone that the text says.
+/// Whether a map lacks just the two blocks that `MAP` lacks.
 fn has_two_gaps(alloc: Global, map: &RescueMap) -> Result<bool, Stop> {
     let lost = map.lost_blocks(alloc, 64, 4)?;
     Ok(lost.as_slice() == [false, true, false, true].as_slice())
 }
 
-/// The map, read.
+/// Reads the map.
 pub fn read_map(alloc: Global, wanted: Wanted) -> Result<(), Stop> {
     wanted.made()?;
     let map = scrub_map::read_map(alloc, MAP)?;

@@ -1,4 +1,4 @@
-//! What collects results, and what workers take from: books, pools without threads, queues, and a scan by workers.
+//! Books that collect results, pools without threads, queues that workers take from, and a scan by workers.
 
 ghost use Rattle.std.specs.Prelude.{◌≡◌, ◌≤◌};
 
@@ -34,7 +34,7 @@ pub fn new_book(alloc: Global, wanted: Wanted) -> Result<(), Stop> {
     }
 }
 
-/// Whether a worker retires, and took these extents and has their results.
+/// Whether a worker retires, with these extents taken and their results.
 fn retires_with(core: WorkerCore<'_, MemDisk>, taken: &[u32]) -> bool {
     match core.retire() {
         Ok(retired) => retired.taken() == taken && retired.results().len() == taken.len(),
@@ -42,7 +42,7 @@ fn retires_with(core: WorkerCore<'_, MemDisk>, taken: &[u32]) -> bool {
     }
 }
 
-/// Room for an extent, which is then taken and scanned, and room for more.
+/// Room for an extent, which is then taken and scanned, and then room for more.
 pub fn reserve(alloc: Global, wanted: Wanted) -> Result<(), Stop> {
     let (disk, _) = one_shard(alloc)?;
     let plan = plan_of(alloc, &disk)?;
@@ -61,7 +61,7 @@ pub fn reserve(alloc: Global, wanted: Wanted) -> Result<(), Stop> {
     }
 }
 
-/// Requires that steps of a pool, none of which takes memory, come out so.
+/// Checks the answers to steps of a pool that take no memory.
 fn check_steps(
     pool: &mut PoolCore<'_, MemDisk>,
     steps: &[(Event, Result<(), StepRefused>)],
@@ -81,7 +81,7 @@ const TAKING: [(Event, Result<(), StepRefused>); 5] = [
     (Event::Take(2), Err(StepRefused::NoWorker)),
 ];
 
-/// Both retire, when they are done.
+/// Both retire once they are done.
 const RETIRING: [(Event, Result<(), StepRefused>); 4] = [
     (Event::Take(0), Err(StepRefused::QueueEmpty)),
     (Event::Retire(1), Ok(())),
@@ -99,7 +99,7 @@ pub fn new_pool(alloc: Global, wanted: Wanted) -> Result<(), Stop> {
     right(pool.arrivals().is_empty() && !pool.is_complete())
 }
 
-/// Lets a member be done. Where that is refused it still holds its extent, so that it can't take another.
+/// Marks a member as done. If that is refused, the member still holds its extent, so that it can't take another.
 fn done(pool: &mut PoolCore<'_, MemDisk>, member: u32) -> Result<(), Stop> {
     match pool.step(Event::Done(member)) {
         Ok(()) => right(pool.arrivals().is_empty()),
@@ -111,7 +111,7 @@ fn done(pool: &mut PoolCore<'_, MemDisk>, member: u32) -> Result<(), Stop> {
     }
 }
 
-/// The steps by which the two members of a pool are done. Then both retire.
+/// The steps by which the two members of a pool are done and then retire.
 pub fn step(alloc: Global, wanted: Wanted) -> Result<(), Stop> {
     let (disk, _) = one_shard(alloc)?;
     let run = run_chunk(&one_shard_payload(alloc)?);
@@ -129,7 +129,7 @@ pub fn step(alloc: Global, wanted: Wanted) -> Result<(), Stop> {
     }
 }
 
-/// Requires that these extents come out of a queue, one after another, and then none.
+/// Checks that a queue gives these extents, one after another, and then none.
 fn takes<R: Wait>(
     rt: &R,
     queue: &ExtentQueue,
@@ -155,7 +155,7 @@ pub fn new_queue<R: Wait>(rt: &R, alloc: Global, wanted: Wanted) -> Result<(), S
     takes(rt, &queue, &mut first, plan.planned())
 }
 
-/// A second pass of that queue, which takes the first extent. It is joined into the first pass, which takes all others.
+/// A second pass of that queue takes the first extent, and is joined into the first pass, which takes all others.
 pub fn split<R: Wait>(rt: &R, alloc: Global, wanted: Wanted) -> Result<(), Stop> {
     let disk = many_shards(alloc)?;
     let plan = plan_of(alloc, &disk)?;
@@ -173,7 +173,7 @@ pub fn split<R: Wait>(rt: &R, alloc: Global, wanted: Wanted) -> Result<(), Stop>
     )
 }
 
-/// The disk with one shard, by so many workers and the caller.
+/// Scans the disk with one shard, by `workers` workers and the caller.
 pub fn scan_all<R: Threads + Wait + Sync>(
     rt: &R,
     alloc: Global,

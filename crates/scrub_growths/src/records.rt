@@ -1,5 +1,5 @@
-//! Superblocks of both kinds: that of the disk with one shard, and one that retires an extent. Each has its record, beside
-//! its bytes field by field, is chosen, and gives a plan.
+//! Superblocks of both kinds: that of the disk with one shard, and one that retires an extent. Each is compared as a record
+//! with its bytes field by field, is chosen, and gives a plan.
 
 ghost use Rattle.std.specs.Prelude.{IfOk, IfSome};
 ghost use Rattle.scrub_super.specs.Planned.{AreRetired};
@@ -14,7 +14,7 @@ use std::alloc::Global;
 use std::io::Write;
 use std::slice;
 
-/// The disk whose superblock is of a kind, with the locator of its run.
+/// The disk with a superblock of this kind, and the locator of its run.
 fn disk_of(alloc: Global, kind: RecordKind) -> Result<(MemDisk, Locator), Stop> {
     match kind {
         RecordKind::Ssb1 => one_shard(alloc),
@@ -38,7 +38,7 @@ fn retired_by(kind: RecordKind) -> &'static [u32] {
     }
 }
 
-/// What stands in its record before the pointers.
+/// What its record has before the pointers.
 fn head_of(kind: RecordKind) -> &'static [u8] {
     match kind {
         RecordKind::Ssb1 => b"SSB1\0\0\0\0\0\0\0\x01\0\0\0\x40\0\0\0\x04\0\0\0\x03\0\x01",
@@ -80,7 +80,7 @@ fn plan_by(alloc: Global, disk: &MemDisk) -> Result<Plan, Stop> {
     Ok(Plan::make(alloc, &chosen, disk.geometry())?)
 }
 
-/// That superblock, which retires what this plan has retired.
+/// That superblock, with the retired extents of this plan.
 fn superblock_of(
     alloc: Global,
     kind: RecordKind,
@@ -98,7 +98,7 @@ fn superblock_of(
     Ok(Superblock::with_retired(1, pointers, retired, runs))
 }
 
-/// Its record, which is appended to one byte.
+/// Its record, appended to one byte.
 pub fn write_record(alloc: Global, wanted: Wanted, kind: RecordKind) -> Result<(), Stop> {
     let (disk, run) = disk_of(alloc, kind)?;
     let record = record_of(alloc, kind, &run)?;
@@ -188,7 +188,7 @@ pub fn make_plan(alloc: Global, wanted: Wanted, kind: RecordKind) -> Result<(), 
     )
 }
 
-/// The plan of four extents, restricted: of zeros to extents 1 and 3, and of those of which one is retired to none.
+/// Restricted plans of four extents: that of a blank disk to extents 1 and 3, and one with a retired extent to none.
 pub fn restrict(alloc: Global, wanted: Wanted, kind: RecordKind) -> Result<(), Stop> {
     match kind {
         RecordKind::Ssb1 => restrict_zeros(alloc, wanted),
@@ -196,7 +196,7 @@ pub fn restrict(alloc: Global, wanted: Wanted, kind: RecordKind) -> Result<(), S
     }
 }
 
-/// The plan of four extents of zeros, restricted to extents 1 and 3.
+/// The plan of a blank disk of four extents, restricted to extents 1 and 3.
 fn restrict_zeros(alloc: Global, wanted: Wanted) -> Result<(), Stop> {
     let disk = four_extents(alloc)?;
     let plan = restricted(alloc, &disk, wanted)?;
@@ -214,7 +214,7 @@ fn restrict_zeros(alloc: Global, wanted: Wanted) -> Result<(), Stop> {
     )
 }
 
-/// The plan of four extents, of which extent 3 is retired, restricted to none.
+/// The plan of four extents with extent 3 retired, restricted to none.
 fn restrict_retiring(alloc: Global, wanted: Wanted) -> Result<(), Stop> {
     let (disk, run) = one_retired(alloc)?;
     let whole = plan_by(alloc, &disk)?;

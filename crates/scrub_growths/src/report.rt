@@ -1,4 +1,4 @@
-//! Whole scrubs, beside the published reports, and what is listed of a disk as lines.
+//! Whole scrubs, compared with the published reports, and listings of a disk.
 
 ghost use Rattle.std.specs.Prelude.{◌≤◌};
 
@@ -19,7 +19,7 @@ const LOCATORS: &str = "run 0 2 0 117 22222222-2222-2222-2222-222222222222 sound
 shard 00000000000000000000000000000001 1 0 3 11111111-1111-1111-1111-111111111111 sound
 ";
 
-/// What may be reclaimed of the disk of twins and a shared place: two shards have to be changed for the one chunk.
+/// What may be reclaimed on the disk of twins and a shared place: two shards name the one chunk to move.
 const RECLAIMABLE: &str = "reclaim 1 41
 move 1 41 3 11111111-1111-1111-1111-111111111111 shard 00000000000000000000000000000001
 move 1 41 3 11111111-1111-1111-1111-111111111111 shard 00000000000000000000000000000002
@@ -30,7 +30,7 @@ fn is_answer(answer: &ScrubAnswer, report: &str, index: &[u8], is_clean: bool) -
     answer.report() == report.as_bytes() && answer.index() == index && answer.is_clean() == is_clean
 }
 
-/// The disk of twins and a shared place, by one reader.
+/// Scrubs the disk of twins and a shared place, by one reader.
 pub fn scrub_in_order<R: Threads + Sync>(
     rt: &R,
     alloc: Global,
@@ -43,7 +43,7 @@ pub fn scrub_in_order<R: Threads + Sync>(
     right(is_answer(&answer, TWINS, &index, false))
 }
 
-/// The disk with one shard, by so many workers and the caller.
+/// Scrubs the disk with one shard, by `workers` workers and the caller.
 pub fn scrub<R: Threads + Wait + Sync>(
     rt: &R,
     alloc: Global,
@@ -67,7 +67,7 @@ pub fn list_superblocks(alloc: Global, wanted: Wanted) -> Result<(), Stop> {
     right(listing.text.as_slice() == b"record 0 SSB1 1 counts\n".as_slice() && listing.is_clean)
 }
 
-/// The named locators of the disk with one shard, by so many workers and the caller.
+/// The named locators of the disk with one shard, by `workers` workers and the caller.
 pub fn list_locators<R: Threads + Wait + Sync>(
     rt: &R,
     alloc: Global,
@@ -86,7 +86,7 @@ pub fn list_locators<R: Threads + Wait + Sync>(
     )
 }
 
-/// What may be reclaimed of the disk of twins and a shared place, by so many workers and the caller.
+/// What may be reclaimed on the disk of twins and a shared place, by `workers` workers and the caller.
 pub fn list_reclaimable<R: Threads + Wait + Sync>(
     rt: &R,
     alloc: Global,

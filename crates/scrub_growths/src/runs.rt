@@ -1,4 +1,4 @@
-//! Index runs that are written, beside their bytes field by field, read or copied, and what their merging binds.
+//! Index runs: written and compared with their bytes field by field, read, copied and merged.
 
 use crate::calls::Trial;
 use crate::disks::{one_shard_payload, payload_of, two_shards_payload};
@@ -20,7 +20,7 @@ pub fn write_run(alloc: Global, wanted: Wanted) -> Result<(), Stop> {
     right(written.as_slice() == payload.as_slice())
 }
 
-/// The same by a writer that has room for it.
+/// The same by a writer with room for it.
 pub fn new_writer(alloc: Global, wanted: Wanted) -> Result<(), Stop> {
     let payload = one_shard_payload(alloc)?;
     let entry = Entry::new(SHARD, Vec::from_slice(alloc, &[abc_at(1, 0)])?);
@@ -31,7 +31,7 @@ pub fn new_writer(alloc: Global, wanted: Wanted) -> Result<(), Stop> {
     right(written.as_slice() == payload.as_slice())
 }
 
-/// The same by one that has no room for the locator.
+/// The same by a writer without room for the locator.
 pub fn append_entry(alloc: Global, wanted: Wanted) -> Result<(), Stop> {
     let payload = one_shard_payload(alloc)?;
     let entry = Entry::new(SHARD, Vec::from_slice(alloc, &[abc_at(1, 0)])?);
@@ -61,7 +61,7 @@ pub fn is_one_shard(run: &Run) -> bool {
     }
 }
 
-/// Requires that a payload is refused, though not for want of memory.
+/// Checks that a payload is refused because it isn't a run.
 fn not_a_run(alloc: Global, payload: &[u8]) -> Result<(), Stop> {
     match scrub_run::read_run(alloc, payload) {
         Ok(_) => Err(Stop::Wrong),
@@ -70,8 +70,8 @@ fn not_a_run(alloc: Global, payload: &[u8]) -> Result<(), Stop> {
     }
 }
 
-/// The run of one shard, that of none, and payloads that are none: of two shards of one identifier, of an entry of 65
-/// locators, with a byte behind the digest, of no bytes, and of a count that no 40 bytes hold.
+/// The run of one shard, that of none, and payloads that aren't runs: two shards with one identifier, an entry of 65 locators,
+/// a byte after the digest, no bytes, and a count that 40 bytes can't hold.
 pub fn read_run(alloc: Global, wanted: Wanted) -> Result<(), Stop> {
     let payload = one_shard_payload(alloc)?;
     let equal = payload_of(alloc, &[SHARD; 2], &[abc_at(1, 0)])?;
@@ -107,7 +107,7 @@ pub fn copy_run(alloc: Global, wanted: Wanted) -> Result<(), Stop> {
     }
 }
 
-/// Runs of the shard alone, newest first: one that is told here as its deletion, its chunk, or lost.
+/// Runs of the one shard, newest first: `Some(true)` has its chunk, `Some(false)` deletes it, and `None` is lost.
 fn runs_of(alloc: Global, given: &[Option<bool>]) -> Result<Vec<Option<Run>>, Stop> {
     let named = one_shard_payload(alloc)?;
     let deleted = payload_of(alloc, &[SHARD], &[])?;
@@ -122,7 +122,7 @@ fn runs_of(alloc: Global, given: &[Option<bool>]) -> Result<Vec<Option<Run>>, St
     Ok(runs)
 }
 
-/// Whether a map binds the shard alone, by run 1 and in doubt.
+/// Whether a map binds only the one shard, by run 1 and in doubt.
 fn binds_in_doubt(map: &ShardMap) -> bool {
     match map.bindings() {
         [one] => {
@@ -135,12 +135,12 @@ fn binds_in_doubt(map: &ShardMap) -> bool {
     }
 }
 
-/// Three runs of one shard, of which the newest deletes it; and two, of which the newer is lost.
+/// Three runs of one shard, the newest of which deletes it; and two, the newer of which is lost.
 const THREE: [Option<bool>; 3] = [Some(false), Some(true), Some(true)];
 
 const TWO: [Option<bool>; 2] = [None, Some(true)];
 
-/// What these bind.
+/// The bindings of these runs.
 pub fn merge(alloc: Global, wanted: Wanted) -> Result<(), Stop> {
     let (three, two) = (runs_of(alloc, &THREE)?, runs_of(alloc, &TWO)?);
     if three.len() != 3 || two.len() != 2 {
@@ -152,7 +152,7 @@ pub fn merge(alloc: Global, wanted: Wanted) -> Result<(), Stop> {
     right(deleted.bindings().is_empty() && binds_in_doubt(&doubtful))
 }
 
-/// The same of runs that are handed over.
+/// The same for runs that are handed over.
 pub fn merge_owned(alloc: Global, wanted: Wanted) -> Result<(), Stop> {
     let (three, two) = (runs_of(alloc, &THREE)?, runs_of(alloc, &TWO)?);
     if three.len() != 3 || two.len() != 2 {

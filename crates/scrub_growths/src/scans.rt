@@ -1,4 +1,4 @@
-//! What is found in extents: tilings and their lines, findings of one extent and of all, and frames that stand.
+//! What is found in extents: tilings and their lines, findings of one extent and of all, and frames at given places.
 
 ghost use Rattle.std.specs.Prelude.{◌≡◌, IfOk, Some};
 ghost use Rattle.scrub_disk.specs.Memory.{image_of};
@@ -34,7 +34,7 @@ fn abc_chunk() -> Item {
     chunk(ONES, 3, 41, ABC_DIGEST)
 }
 
-/// The four pages of zeros of an extent without a pointer.
+/// The four pages of zeros of an extent, without a superblock.
 const PADS: [Item; 4] = [
     Item::Pad { start: 0, stop: 64 },
     Item::Pad {
@@ -70,7 +70,7 @@ pub fn item_line(alloc: Global, wanted: Wanted) -> Result<(), Stop> {
     right(line.as_str() == "chunk 0 41 11111111-1111-1111-1111-111111111111 3")
 }
 
-/// Whether a result is that of a readable extent, with this pointer and these items, and nothing behind the pointer.
+/// Whether a result is that of a readable extent, with this pointer and these items, and nothing past the pointer.
 fn has(found: &ExtentResult<'_, MemDisk>, extent: u32, pointer: u32, items: &[Item]) -> bool {
     let findings = found.findings();
     found.extent() == extent
@@ -81,7 +81,7 @@ fn has(found: &ExtentResult<'_, MemDisk>, extent: u32, pointer: u32, items: &[It
         && findings.bad_pages().is_empty()
 }
 
-/// Extent 1 of four, all zeros and without a superblock.
+/// Extent 1 of a blank disk of four.
 pub fn scan_extent(alloc: Global, wanted: Wanted) -> Result<(), Stop> {
     let disk = four_extents(alloc)?;
     let plan = plan_of(alloc, &disk)?;
@@ -93,7 +93,7 @@ pub fn scan_extent(alloc: Global, wanted: Wanted) -> Result<(), Stop> {
     right(has(&found, 1, 256, &PADS))
 }
 
-/// What is found in a planned extent.
+/// The result of a planned extent.
 pub fn scan_planned<'d>(
     alloc: Global,
     disk: &'d MemDisk,
@@ -133,7 +133,7 @@ pub fn scan_in_order(alloc: Global, wanted: Wanted) -> Result<(), Stop> {
     right(are_of_one_shard(&found, &run))
 }
 
-/// The frame of a payload, plain, at a place.
+/// The plain frame of a payload, at a place.
 fn standing(extent: u32, offset: u32, uuid: [u8; 16], payload: &[u8]) -> Standing {
     Standing {
         extent,
@@ -145,8 +145,8 @@ fn standing(extent: u32, offset: u32, uuid: [u8; 16], payload: &[u8]) -> Standin
     }
 }
 
-/// The two frames of extent 2 in the disk of nine locators, the second of which the tiling steps past, and a place of
-/// extent 1 at which none stands.
+/// The two frames in extent 2 of the disk of nine locators, the second of which the tiling steps past, and a place of extent 1
+/// without a frame.
 pub fn frame_stands(alloc: Global, wanted: Wanted) -> Result<(), Stop> {
     let (disk, _) = nine_locators(alloc)?;
     let geometry = disk.geometry();

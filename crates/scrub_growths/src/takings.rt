@@ -1,4 +1,4 @@
-//! How many workers scan, and who took what of the disk with one shard.
+//! How many workers scan, and which of them took what on the disk with one shard.
 
 ghost use Rattle.std.specs.Prelude.{◌≤◌};
 
@@ -12,7 +12,7 @@ pub enum Workers {
     Two,
 }
 
-/// The numbers that calls are tried with.
+/// The numbers of workers that calls are tried with.
 pub const WORKERS: [Workers; 3] = [Workers::None, Workers::One, Workers::Two];
 
 impl Workers {
@@ -37,7 +37,7 @@ impl Workers {
     }
 }
 
-/// Whether so many workers and the caller took extents 1 and 2 together, each once, and both were counted.
+/// Whether `workers` workers and the caller together took extents 1 and 2, each once, and both were counted.
 pub fn is_partition(takings: &Takings, workers: u32) -> bool {
     takings.workers() == workers
         && takings.counted() == 2

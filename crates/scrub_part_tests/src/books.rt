@@ -1,4 +1,4 @@
-//! What comes of adding results to a book, in one order or another.
+//! What a book answers to results that are added in one order or another.
 
 ghost use Rattle.std.specs.Prelude.{◌≡◌, OnOk, IfOk};
 ghost use Rattle.scrub_disk.specs.Memory.{image_of};
@@ -12,7 +12,7 @@ use std::alloc::Global;
 use std::process::Abort;
 use std::test::Fail;
 
-/// What came of adding a result: a refusal has the extent of the result that came back.
+/// The answer to an added result. A refusal has the extent of the result that came back.
 #[derive(PartialEq, Drop)]
 enum Outcome {
     Added,
@@ -20,7 +20,7 @@ enum Outcome {
     Double(u32),
 }
 
-/// What a book answered to a result.
+/// The outcome of a book's answer.
 fn outcome_of(answer: Result<(), AddRefused<'_, MemDisk>>) -> Outcome {
     match answer {
         Ok(()) => Outcome::Added,
@@ -29,7 +29,7 @@ fn outcome_of(answer: Result<(), AddRefused<'_, MemDisk>>) -> Outcome {
     }
 }
 
-/// Scans a planned extent, adds its result, and compares what came of that.
+/// Scans a planned extent, adds its result, and checks the answer.
 fn check_added<'d>(
     rt: &impl Abort,
     alloc: Global,
@@ -74,13 +74,13 @@ fn check_refusals<'d>(
     check_added(rt, alloc, disk, whole, book, 2, &Outcome::Stranger(2))
 }
 
-/// Compares the extents of findings with 1 and 3.
+/// Checks that findings are those of extents 1 and 3.
 fn check_extents(rt: &impl Abort, all: &AllFindings<'_, MemDisk>) {
     assert!(rt; all.len() == 2);
     assert!(rt; all.extent_at(0) == 1 && all.extent_at(1) == 3);
 }
 
-/// Asks a book of extents 1 and 3, in which extent 1 is missing, for what it found: it comes back.
+/// Asks a book of extents 1 and 3 for its findings while extent 1 is missing, and returns the book that comes back.
 fn came_back<'d>(rt: &impl Abort, book: Book<'d, MemDisk>) -> Result<Book<'d, MemDisk>, Fail>
     ensures { IfOk result (λ back. back ≡ book.entry) }
 {
@@ -90,7 +90,7 @@ fn came_back<'d>(rt: &impl Abort, book: Book<'d, MemDisk>) -> Result<Book<'d, Me
     Ok(back)
 }
 
-/// What comes of the results of these extents, of which the plan has 1 and 3, and that one reader finds these too.
+/// Checks a book of extents 1 and 3, and that one reader finds these extents too.
 fn check_1_and_3(
     rt: &impl Abort,
     alloc: Global,
@@ -114,7 +114,7 @@ fn check_1_and_3(
 }
 
 #[test]
-fn results_of_extents_1_and_3(rt: HostRuntime) -> Result<(), Fail> {
+fn a_book_takes_the_results_of_its_extents_1_and_3(rt: HostRuntime) -> Result<(), Fail> {
     let disk = MemDisk::blank(rt.alloc(), Geometry::new(64, 4, 4)?)?;
     let whole = plan_of(rt.alloc(), &disk)?;
     let plan = whole.restrict(rt.alloc(), &[1, 3])?;

@@ -1,5 +1,5 @@
-//! Entries of no locator, of one and of two, in one run: read, written, copied and taken. For payloads that are no runs see
-//! `run_payloads`.
+//! Entries with no locator, with one and with two, in one run: read, written, copied and taken. For payloads that aren't runs
+//! see `run_payloads`.
 
 ghost use Rattle.std.specs.Prelude.{◌≤◌, length};
 
@@ -16,7 +16,7 @@ fn one() -> [Locator; 1] {
     [abc_at(1, 0)]
 }
 
-/// Those of the third.
+/// The locators of the third entry.
 fn two() -> [Locator; 2] {
     [abc_at(1, 41), abc_at(2, 0)]
 }
@@ -34,7 +34,7 @@ fn put_entry(bytes: &mut Vec<u8>, id: ShardId, locators: &[Locator]) -> Result<(
     Ok(())
 }
 
-/// The payload of the run of three shards, which have no locator, one and two.
+/// The payload of the run of three shards, with no locator, one and two.
 fn three_shards(alloc: Global) -> Result<Vec<u8>, Fail> {
     let mut bytes = Vec::from_slice(alloc, b"RUN1\0\0\0\x03")?;
     put_entry(&mut bytes, shard_of(1), &[])?;
@@ -51,7 +51,7 @@ fn check_entry(rt: &impl Abort, entry: &Entry, id: ShardId, locators: &[Locator]
     assert!(rt; entry.locators() == locators);
 }
 
-/// Compares a run with that of the three shards.
+/// Checks that a run is that of the three shards.
 fn check_three(rt: &impl Abort, run: &Run) {
     match run.entries() {
         [first, second, third] => {
@@ -64,7 +64,7 @@ fn check_three(rt: &impl Abort, run: &Run) {
 }
 
 #[test]
-fn they_are_read_and_written(rt: HostRuntime) -> Result<(), Fail> {
+fn entries_are_read_and_written(rt: HostRuntime) -> Result<(), Fail> {
     let payload = three_shards(rt.alloc())?;
     let run = read_run(rt.alloc(), &payload)?;
     check_three(&rt, &run);
@@ -74,7 +74,7 @@ fn they_are_read_and_written(rt: HostRuntime) -> Result<(), Fail> {
 }
 
 #[test]
-fn they_are_copied(rt: HostRuntime) -> Result<(), Fail> {
+fn entries_are_copied(rt: HostRuntime) -> Result<(), Fail> {
     let run = read_run(rt.alloc(), &three_shards(rt.alloc())?)?;
     let copy = run.copy(rt.alloc())?;
     check_three(&rt, &copy);
@@ -82,7 +82,7 @@ fn they_are_copied(rt: HostRuntime) -> Result<(), Fail> {
     Ok(())
 }
 
-/// Takes the entry at a place, and compares it with an identifier and locators. From then on it is there without locators.
+/// Takes the entry at a place, and checks its identifier and locators. After that the entry is still there, without locators.
 fn check_taken(
     rt: &impl Abort,
     alloc: Global,
@@ -102,7 +102,7 @@ fn check_taken(
 }
 
 #[test]
-fn they_are_taken(rt: HostRuntime) -> Result<(), Fail> {
+fn entries_are_taken(rt: HostRuntime) -> Result<(), Fail> {
     let mut run = read_run(rt.alloc(), &three_shards(rt.alloc())?)?;
     check_taken(&rt, rt.alloc(), &mut run, 1, shard_of(2), &one());
     check_taken(&rt, rt.alloc(), &mut run, 2, shard_of(3), &two());

@@ -1,4 +1,4 @@
-//! What the fakes do, and what the builders put on one disk.
+//! What the fakes do, and what the builders put on a disk.
 
 use crate::compare::same;
 use scrub_disk::{PageSource, RawFault, RawImage};
@@ -11,7 +11,7 @@ use std::slice;
 use std::test::Fail;
 
 #[test]
-fn a_raw_image_gives_short_reads_and_fails_where_it_is_reported(rt: HostRuntime) {
+fn a_raw_image_gives_short_reads_and_fails_at_the_chosen_read(rt: HostRuntime) {
     let bytes = [1, 2, 3, 4, 5];
     let mut out = [0; 4];
     let mut raw = RawBytes::failing(&bytes, 2, 1, 1);
@@ -56,7 +56,7 @@ fn calls_are_counted_for_each_extent(rt: HostRuntime) -> Result<(), Fail> {
 }
 
 #[test]
-fn a_chunk_its_run_and_the_superblock_of_both_are_put(rt: HostRuntime) -> Result<(), Fail> {
+fn the_builders_put_a_chunk_its_run_and_a_superblock(rt: HostRuntime) -> Result<(), Fail> {
     let alloc = rt.alloc();
     let mut disk = small_disk(alloc)?;
     let chunk = put_chunk(alloc, &mut disk, 1, 0, ONES, b"abc")?;

@@ -1,4 +1,4 @@
-//! The texts of faults, which no clause says. Those of a refused geometry stand in what the program prints.
+//! The texts of faults, which no contract states. For those of a refused geometry see `scrub_cli`.
 
 use crate::compare::same;
 use scrub_disk::{LoadFault, RawFault, Unreadable};
@@ -10,7 +10,7 @@ use std::fmt::Display;
 use std::process::Abort;
 use std::test::Fail;
 
-/// Requires that a fault prints as this text.
+/// Checks the text of a fault.
 fn check_text<F: Display + Drop>(
     rt: &impl Abort,
     alloc: Global,
@@ -22,7 +22,7 @@ fn check_text<F: Display + Drop>(
 }
 
 #[test]
-fn each_fault_is_reported_by_its_own_text(rt: HostRuntime) -> Result<(), Fail> {
+fn each_fault_has_its_own_text(rt: HostRuntime) -> Result<(), Fail> {
     let alloc = rt.alloc();
     for (fault, text) in [
         (RunFault::OutOfMemory, "out of memory"),

@@ -1,5 +1,5 @@
-//! Digests and chunk frames of both forms, with bytes from the formats' description and from FIPS 180-4. Frames that come in
-//! pieces are left to `matching`.
+//! Digests and chunk frames of both forms, with bytes from the formats' description and from FIPS 180-4. For frames that come
+//! in pieces see `matching`.
 
 use scrub_fakes::{ABC_DIGEST, ONES};
 use scrub_frame::{
@@ -22,7 +22,7 @@ pub(crate) const ABC_FRAME: [u8; 41] = [
     0x11, 0x11, 0x11, 0x11, 0x11, 0x11, 0x11, 0x11, 0x11,
 ];
 
-/// The frame of no payload with that UUID.
+/// The frame without payload with that UUID.
 pub(crate) const EMPTY_FRAME: [u8; 38] = [
     0xc5, 0x5e, 0x11, 0x11, 0x11, 0x11, 0x11, 0x11, 0x11, 0x11, 0x11, 0x11, 0x11, 0x11, 0x11, 0x11,
     0x11, 0x11, 0x00, 0x00, 0x00, 0x00, 0x11, 0x11, 0x11, 0x11, 0x11, 0x11, 0x11, 0x11, 0x11, 0x11,
@@ -38,7 +38,7 @@ pub(crate) const SEALED_ABC: [u8; 75] = [
     0x11, 0x11, 0x11, 0x11, 0x11, 0x11, 0x11, 0x11, 0x11, 0x3a, 0xa3,
 ];
 
-/// The sealed frame of no payload with that UUID.
+/// The sealed frame without payload with that UUID.
 const SEALED_EMPTY: [u8; 72] = [
     0xc5, 0x5f, 0x11, 0x11, 0x11, 0x11, 0x11, 0x11, 0x11, 0x11, 0x11, 0x11, 0x11, 0x11, 0x11, 0x11,
     0x11, 0x11, 0x00, 0x00, 0x00, 0x00, 0xe3, 0xb0, 0xc4, 0x42, 0x98, 0xfc, 0x1c, 0x14, 0x9a, 0xfb,
@@ -52,7 +52,7 @@ pub(crate) fn ones() -> Uuid {
     Uuid::from_bytes(ONES)
 }
 
-/// Whether the bytes begin with a frame of that UUID, of this form, whose payload has this length.
+/// Whether the bytes begin with a frame of that UUID, of this form and with a payload of this length.
 fn begin_with_frame(bytes: &[u8], form: Form, length: u32) -> bool {
     let frame = Frame {
         form,
@@ -62,7 +62,7 @@ fn begin_with_frame(bytes: &[u8], form: Form, length: u32) -> bool {
     read_frame(bytes) == Some(frame)
 }
 
-/// Whether such a frame is read, and nothing without its last byte.
+/// Whether such a frame is read, and none without its last byte.
 fn is_read_whole(frame: &[u8], form: Form, length: u32) -> bool {
     match frame.split_last() {
         Some((_, front)) => begin_with_frame(frame, form, length) && read_frame(front).is_none(),
@@ -70,7 +70,7 @@ fn is_read_whole(frame: &[u8], form: Form, length: u32) -> bool {
     }
 }
 
-/// The frame of `abc`, and behind it the magic and a byte 0.
+/// The frame of `abc`, followed by the magic and a zero byte.
 pub(crate) fn followed_frame() -> [u8; 44] {
     let mut bytes = [0; 44];
     bytes[..41].copy_from_slice(&ABC_FRAME);
@@ -85,7 +85,7 @@ pub(crate) fn changed_frame() -> [u8; 41] {
     bytes
 }
 
-/// A head of these two bytes, and else of bytes FF: it claims the greatest length.
+/// A head of these two bytes, and then bytes FF: it claims the greatest length.
 fn head_bytes(first: u8, second: u8) -> [u8; 22] {
     let mut bytes = [0xFF; 22];
     bytes[0] = first;
@@ -93,7 +93,7 @@ fn head_bytes(first: u8, second: u8) -> [u8; 22] {
     bytes
 }
 
-/// A page of that head and bytes FF: a place past that length, if it wrapped, would hold the UUID once more.
+/// A page of that head and bytes FF. If the end of the claimed payload wrapped, the UUID would be found there once more.
 fn page_of(head: &[u8; 22]) -> [u8; 64] {
     let mut page = [0xFF; 64];
     page[..22].copy_from_slice(head);
@@ -101,7 +101,7 @@ fn page_of(head: &[u8; 22]) -> [u8; 64] {
 }
 
 #[test]
-fn digests_of_abc_and_of_no_bytes(rt: HostRuntime) {
+fn abc_and_no_bytes_have_their_published_digests(rt: HostRuntime) {
     assert!(rt; digest_of(b"abc") == ABC_DIGEST);
     assert!(rt; digest_of(b"") == EMPTY_DIGEST);
 }
@@ -125,7 +125,7 @@ fn the_frame_of_abc_is_read_whole_or_not_at_all(rt: HostRuntime) {
 }
 
 #[test]
-fn a_frame_of_no_payload_has_38_bytes(rt: HostRuntime) {
+fn a_frame_without_payload_has_38_bytes(rt: HostRuntime) {
     assert!(rt; is_read_whole(&EMPTY_FRAME, Form::Plain, 0));
 }
 
@@ -159,7 +159,7 @@ fn a_head_begins_with_the_magic_and_claims_any_length(rt: HostRuntime) {
         length: 4_294_967_295,
     };
     assert!(rt; read_head(&bytes) == Some(head));
-    // The page ends before that payload.
+    // The page ends before the claimed payload.
     assert!(rt; read_frame(&page_of(&bytes)).is_none());
     let sealed = head_bytes(0xC5, 0x5F);
     assert!(rt; read_head(&sealed).is_some_and(|head| head.form == Form::Sealed));

@@ -1,11 +1,11 @@
-//! Sizes of disks at the limits and past them, and the texts of broken limits.
+//! Sizes of disks at the limits and past them, and the names of broken limits.
 
 use crate::compare::same;
 use scrub_disk::{Geometry, GeometryFault};
 use std::test::Fail;
 
 #[test]
-fn sizes_within_the_limits(rt: HostRuntime) -> Result<(), Fail> {
+fn sizes_within_the_limits_are_accepted(rt: HostRuntime) -> Result<(), Fail> {
     let small = Geometry::new(64, 4, 3)?;
     same(
         &rt,
@@ -33,7 +33,7 @@ fn the_first_broken_limit_is_reported(rt: HostRuntime) {
 }
 
 #[test]
-fn a_fault_is_reported_by_the_name_of_its_limit(rt: HostRuntime) -> Result<(), Fail> {
+fn a_fault_prints_as_the_name_of_its_limit(rt: HostRuntime) -> Result<(), Fail> {
     let texts = [
         (GeometryFault::PageSize, "PageSize"),
         (GeometryFault::Pages, "Pages"),

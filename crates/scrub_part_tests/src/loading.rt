@@ -1,4 +1,4 @@
-//! Raw images that give few bytes at once or fail, and the disks that are loaded from them.
+//! Raw images that give few bytes at once or fail, and the disks loaded from them.
 
 ghost use Rattle.std.specs.Prelude.{◌<◌, ◌^◌, All};
 
@@ -9,7 +9,7 @@ use std::alloc::Global;
 use std::process::Abort;
 use std::test::Fail;
 
-/// Bytes of which no two pages of 64 have the same, and one more than twelve such pages have.
+/// Bytes in which no two pages of 64 are equal: twelve such pages, and one byte more.
 fn numbered() -> [u8; 769] {
     let mut bytes = [0; 769];
     for (place, byte) in bytes.iter_mut().enumerate() {
@@ -18,8 +18,8 @@ fn numbered() -> [u8; 769] {
     bytes
 }
 
-/// Loads three extents of four pages of 64 bytes, sees that each readable page has its own of these bytes, and tells
-/// the others as pairs of an extent and a page of it.
+/// Loads three extents of four pages of 64 bytes, checks that each readable page has its own of these bytes, and returns the
+/// unreadable pages as pairs of extent and page.
 fn unreadable_pages<R: RawImage>(
     rt: &impl Abort,
     alloc: Global,
@@ -56,7 +56,7 @@ fn each_page_of_a_whole_image_is_readable(rt: HostRuntime) -> Result<(), Fail> {
 }
 
 #[test]
-fn pages_behind_the_end_of_a_short_image_are_unreadable(rt: HostRuntime) -> Result<(), Fail> {
+fn pages_past_the_end_of_a_short_image_are_unreadable(rt: HostRuntime) -> Result<(), Fail> {
     let bytes = numbered();
     let mut raw = RawBytes::failing(&bytes[..668], 4096, 0, 0);
     let unreadable = unreadable_pages(&rt, rt.alloc(), &mut raw, &[], &bytes)?;
@@ -65,7 +65,7 @@ fn pages_behind_the_end_of_a_short_image_are_unreadable(rt: HostRuntime) -> Resu
 }
 
 #[test]
-fn no_bytes_leave_no_page_readable(rt: HostRuntime) -> Result<(), Fail> {
+fn an_empty_image_has_no_readable_page(rt: HostRuntime) -> Result<(), Fail> {
     let mut raw = RawBytes::failing(&[], 4096, 0, 0);
     let unreadable = unreadable_pages(&rt, rt.alloc(), &mut raw, &[], &numbered())?;
     same(&rt, unreadable.len(), 12);
@@ -74,7 +74,7 @@ fn no_bytes_leave_no_page_readable(rt: HostRuntime) -> Result<(), Fail> {
 }
 
 #[test]
-fn one_byte_behind_the_last_page_is_too_long(rt: HostRuntime) -> Result<(), Fail> {
+fn one_byte_after_the_last_page_is_too_long(rt: HostRuntime) -> Result<(), Fail> {
     let bytes = numbered();
     let geometry = Geometry::new(64, 4, 3)?;
     let mut raw = RawBytes::failing(&bytes, 4096, 0, 0);
@@ -92,7 +92,7 @@ fn one_byte_behind_the_last_page_is_too_long(rt: HostRuntime) -> Result<(), Fail
 }
 
 #[test]
-fn one_byte_at_a_time_makes_as_many_reads_as_bytes_and_one_more(
+fn one_byte_at_a_time_takes_as_many_reads_as_bytes_and_one_more(
     rt: HostRuntime,
 ) -> Result<(), Fail> {
     let bytes = numbered();

@@ -1,4 +1,5 @@
-//! Locators and their sixty bytes, one by one and in lists. What a locator is worth on a disk is left to `status`.
+//! Locators and their sixty bytes, one by one and in lists. For the status of a locator on a disk see `status` in
+//! `scrub_tests`.
 
 ghost use Rattle.std.specs.Prelude.{◌≡◌};
 
@@ -24,14 +25,14 @@ fn the_locator_of_abc_is_read_and_written(rt: HostRuntime) {
     assert!(rt; written_and_read(&locator) == locator);
 }
 
-/// A locator that was written is read back, whatever it is: this follows from the contracts alone.
+/// Any locator that was written is read back: this follows from the contracts alone.
 fn written_and_read(locator: &Locator) -> Locator
     ensures { result ≡ locator.now }
 {
     read_locator(&write_locator(locator))
 }
 
-/// Bytes that were read as a locator are written again, whatever they are.
+/// Any bytes that were read as a locator are written again.
 fn read_and_written(bytes: &[u8; 60]) -> [u8; 60]
     ensures { result ≡ bytes.now }
 {
@@ -51,7 +52,7 @@ fn moved_locator() -> [u8; 60] {
     bytes
 }
 
-/// Whether the locators are that of `abc` and the one at offset 41.
+/// Whether these locators are that of `abc` and the one at offset 41, in this order.
 fn are_in_order(locators: &[Locator]) -> bool {
     let abc = read_locator(&ABC_LOCATOR);
     locators == [abc, Locator { offset: 41, ..abc }].as_slice()

@@ -1,4 +1,4 @@
-//! Frames of both forms that are found as their bytes pass, cut into pieces, with the bytes of `frames`.
+//! Frames of both forms, found in bytes that come in pieces. The bytes are those of `frames`.
 
 ghost use Rattle.std.specs.Prelude.{◌<◌, ◌≤◌, length};
 
@@ -6,7 +6,7 @@ use crate::frames::{ABC_FRAME, EMPTY_FRAME, SEALED_ABC, changed_frame, followed_
 use scrub_fakes::ABC_DIGEST;
 use scrub_frame::{Fed, Form, Matcher, read_frame};
 
-/// The answer to bytes that are fed in two pieces, cut at a place.
+/// The answer to bytes fed in two pieces, cut at a place.
 fn fed_in_two(bytes: &[u8], place: usize) -> Fed
     requires some { 0 < place }
     requires more { place < length bytes.now }
@@ -18,7 +18,7 @@ fn fed_in_two(bytes: &[u8], place: usize) -> Fed
     }
 }
 
-/// The answer to bytes that are fed one by one: the first that isn't `More`.
+/// The answer to bytes fed one by one: the first that isn't `More`.
 fn fed_by_bytes(bytes: &[u8], room: u64) -> Fed
     requires { length bytes.now ≤ room }
 {
@@ -35,7 +35,7 @@ fn fed_by_bytes(bytes: &[u8], room: u64) -> Fed
     Fed::More
 }
 
-/// What is found in a frame of `abc`, where so many bytes of the last piece belong to it.
+/// The answer for a frame of `abc`, if `used` bytes of the last piece belong to it.
 fn abc_found(form: Form, used: usize) -> Fed {
     Fed::Whole {
         used,
@@ -56,7 +56,7 @@ fn changed_at(place: usize) -> [u8; 75]
 }
 
 #[test]
-fn the_frame_of_abc_is_found_in_every_two_pieces_and_byte_by_byte(rt: HostRuntime) {
+fn the_frame_of_abc_is_found_in_any_two_pieces_and_byte_by_byte(rt: HostRuntime) {
     for place in 1..41 {
         assert!(rt; fed_in_two(&ABC_FRAME, place) == abc_found(Form::Plain, 41 - place));
         assert!(rt; fed_in_two(&changed_frame(), place) == Fed::No);
@@ -68,7 +68,7 @@ fn the_frame_of_abc_is_found_in_every_two_pieces_and_byte_by_byte(rt: HostRuntim
 }
 
 #[test]
-fn the_sealed_frame_of_abc_is_found_in_every_two_pieces_and_byte_by_byte(rt: HostRuntime) {
+fn the_sealed_frame_of_abc_is_found_in_any_two_pieces_and_byte_by_byte(rt: HostRuntime) {
     for place in 1..75 {
         assert!(rt; fed_in_two(&SEALED_ABC, place) == abc_found(Form::Sealed, 75 - place));
     }
@@ -78,7 +78,7 @@ fn the_sealed_frame_of_abc_is_found_in_every_two_pieces_and_byte_by_byte(rt: Hos
 }
 
 #[test]
-fn a_sealed_frame_with_any_byte_changed_is_none(rt: HostRuntime) {
+fn a_sealed_frame_with_any_byte_changed_is_not_found(rt: HostRuntime) {
     for place in 0..75 {
         let bytes = changed_at(place);
         assert!(rt; read_frame(&bytes).is_none(), "{place}");
@@ -87,7 +87,7 @@ fn a_sealed_frame_with_any_byte_changed_is_none(rt: HostRuntime) {
 }
 
 #[test]
-fn a_frame_for_which_there_is_no_room_is_none(rt: HostRuntime) {
+fn a_frame_without_room_is_not_found(rt: HostRuntime) {
     assert!(rt; fed_by_bytes(&ABC_FRAME[..40], 40) == Fed::No);
     assert!(rt; fed_by_bytes(&ABC_FRAME[..40], 41) == Fed::More);
     assert!(rt; fed_by_bytes(&changed_frame(), 64) == Fed::No);

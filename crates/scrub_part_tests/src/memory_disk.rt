@@ -18,7 +18,7 @@ fn page_of(disk: &MemDisk, extent: u32, page: u32) -> Result<[u8; 64], Unreadabl
     Ok(out)
 }
 
-/// Reads the last page of a source through its bound.
+/// Reads the last page of a source through the trait.
 fn read_last_page<D: PageSource>(disk: &D, out: &mut [u8]) -> Result<(), Unreadable>
     requires { length out.old ≡ (D.image disk.now).geometry.page }
 {
@@ -58,7 +58,9 @@ fn the_last_byte_of_the_disk_is_put(rt: HostRuntime) -> Result<(), Fail> {
 }
 
 #[test]
-fn an_unreadable_page_stays_so_and_leaves_the_buffer(rt: HostRuntime) -> Result<(), Fail> {
+fn an_unreadable_page_stays_unreadable_and_leaves_the_buffer_alone(
+    rt: HostRuntime,
+) -> Result<(), Fail> {
     let mut disk = small_disk(rt.alloc())?;
     disk.mark_bad(2, 3);
     disk.put(2, 128, &[5; 128]);

@@ -1,4 +1,4 @@
-//! What one worker took and found on small disks, and when it retires. What a pool of them does is left to `events`.
+//! What one worker took and found on small disks, and when it retires. For a pool of workers see `events` in `scrub_tests`.
 
 ghost use Rattle.std.specs.Prelude.{◌≡◌, None, Some, IfOk};
 ghost use Rattle.scrub_disk.specs.Memory.{image_of};
@@ -14,8 +14,8 @@ use std::alloc::Global;
 use std::process::Abort;
 use std::test::Fail;
 
-/// Makes room for an extent, takes it and scans it. While the worker holds the extent it doesn't retire, and which one it
-/// holds is proved where it is done.
+/// Makes room for an extent, takes it and scans it. While the worker holds the extent it doesn't retire. That it holds this
+/// extent is proved at `done`.
 fn take_and_scan<'d>(
     rt: &impl Abort,
     alloc: Global,
@@ -37,7 +37,7 @@ fn take_and_scan<'d>(
     Ok(core)
 }
 
-/// Compares results: each by its extent, its write pointer and the number of its items.
+/// Compares results by extent, write pointer and number of items.
 fn check_results(
     rt: &impl Abort,
     results: &[ExtentResult<'_, MemDisk>],
@@ -50,7 +50,7 @@ fn check_results(
     }
 }
 
-/// Compares what a retired worker took and found.
+/// Checks what a retired worker took and found.
 fn check_retired(
     rt: &impl Abort,
     retired: &Retired<'_, MemDisk>,
@@ -74,7 +74,7 @@ fn came_back<'d>(alloc: Global) -> Result<WorkerCore<'d, MemDisk>, Fail>
     Ok(core.retire().err().ok_or("a worker that holds an extent")?)
 }
 
-/// Scans an extent, which has to be planned.
+/// Scans an extent that has to be planned.
 fn scan_planned<'d>(
     rt: &impl Abort,
     alloc: Global,
@@ -89,7 +89,7 @@ fn scan_planned<'d>(
     Ok(scan_extent(alloc, disk, plan, extent)?)
 }
 
-/// A worker that was asked to retire while it held extent 1, and retired once that was scanned.
+/// A worker that was asked to retire while it held extent 1, and retired after its scan.
 fn retired_at_last<'d>(
     rt: &impl Abort,
     alloc: Global,
@@ -102,7 +102,7 @@ fn retired_at_last<'d>(
 }
 
 #[test]
-fn a_worker_that_holds_an_extent_comes_back(rt: HostRuntime) -> Result<(), Fail> {
+fn a_worker_that_holds_an_extent_cannot_retire(rt: HostRuntime) -> Result<(), Fail> {
     let disk = small_disk(rt.alloc())?;
     let retired = retired_at_last(&rt, rt.alloc(), &disk)?;
     check_retired(&rt, &retired, &[1], &[(1, 256, 4)]);

@@ -1,5 +1,5 @@
-//! Vectors and worked examples of superblock records as bytes, which are those of the format's description, their digests
-//! by another SHA-256. What counts on a disk, and the plan that follows, is left to `superblock`.
+//! Superblock records as bytes: vectors and worked examples from the format's description, with digests by another SHA-256. For
+//! what counts on a disk, and for the plan, see `superblock`.
 
 use crate::compare::same;
 use scrub_disk::Geometry;
@@ -11,8 +11,8 @@ use std::process::Abort;
 use std::test::Fail;
 use uuid::Uuid;
 
-/// The record of pages of 64 bytes, four pages an extent and three extents: generation 1, pointers 41 and 155, and one
-/// run of 117 bytes at extent 2, offset 0, whose UUID is sixteen bytes 22.
+/// The record for pages of 64 bytes, four pages an extent and three extents: generation 1, pointers 41 and 155, and one run of
+/// 117 bytes at extent 2, offset 0, with a UUID of sixteen bytes 22.
 const RECORD: [u8; 126] = [
     0x53, 0x53, 0x42, 0x31, 0x00, 0x00, 0x00, 0x00, 0x00, 0x00, 0x00, 0x01, 0x00, 0x00, 0x00, 0x40,
     0x00, 0x00, 0x00, 0x04, 0x00, 0x00, 0x00, 0x03, 0x00, 0x01, 0x00, 0x00, 0x00, 0x29, 0x00, 0x00,
@@ -66,7 +66,7 @@ fn record_of(
     Ok(record)
 }
 
-/// Puts the digest of all before it at the end of a record.
+/// Puts the digest of all bytes before it at the end of a record.
 fn end_with_digest(rt: &impl Abort, record: &mut [u8]) {
     assert!(rt; record.len() >= 32);
     let end = record.len() - 32;
@@ -99,10 +99,10 @@ fn a_record_is_appended_and_read_whatever_follows_it(rt: HostRuntime) -> Result<
 }
 
 #[test]
-fn what_is_no_record_of_the_geometry_is_not_read(rt: HostRuntime) -> Result<(), Fail> {
+fn a_record_with_a_wrong_byte_or_geometry_is_not_read(rt: HostRuntime) -> Result<(), Fail> {
     let geometry = Geometry::new(64, 4, 3)?;
-    // The last byte of the magic, of the page size, of the pages, of the extents and of the number of runs, and a
-    // pointer of 257.
+    // The last byte of the magic, of the page size, of the pages, of the extents and of the number of runs; and a pointer of
+    // 257.
     for (place, byte) in [(3, 0x32), (15, 0x80), (19, 8), (23, 2), (25, 0), (28, 1)] {
         let mut record = RECORD;
         record[place] = byte;
@@ -133,7 +133,7 @@ fn what_is_no_record_of_the_geometry_is_not_read(rt: HostRuntime) -> Result<(), 
 }
 
 #[test]
-fn a_record_names_32_runs_at_most(rt: HostRuntime) -> Result<(), Fail> {
+fn a_record_names_at_most_32_runs(rt: HostRuntime) -> Result<(), Fail> {
     let geometry = Geometry::new(64, 64, 3)?;
     let runs = [run_locator(); 32];
     let most = record_of(&rt, rt.alloc(), geometry, &[41, 155], &runs)?;
@@ -162,8 +162,8 @@ fn a_record_of_65535_pointers_is_read(rt: HostRuntime) -> Result<(), Fail> {
     Ok(())
 }
 
-/// The record of generation 7 of pages of 64 bytes, four pages an extent and three extents, with pointers 41 and 155, no
-/// runs, and these retired extents, whose number is told as `count`.
+/// The record of generation 7 for pages of 64 bytes, four pages an extent and three extents, with pointers 41 and 155, no runs,
+/// and these retired extents, whose number it gives as `count`.
 fn listing(alloc: Global, count: u8, retired: &[u8]) -> Result<Vec<u8>, Fail> {
     let mut record = Vec::new(alloc);
     record.extend_from_slice(b"SSB2\x00\x00\x00\x00\x00\x00\x00\x07")?;
@@ -197,7 +197,7 @@ fn a_record_with_retired_extents_is_read(rt: HostRuntime) -> Result<(), Fail> {
 }
 
 #[test]
-fn retired_extents_rise_and_are_the_disks_own(rt: HostRuntime) -> Result<(), Fail> {
+fn retired_extents_have_to_rise_and_be_on_the_disk(rt: HostRuntime) -> Result<(), Fail> {
     let geometry = Geometry::new(64, 4, 3)?;
     for retired in [&[2, 1], &[1, 1]] {
         let record = listing(rt.alloc(), 2, retired)?;
@@ -209,17 +209,19 @@ fn retired_extents_rise_and_are_the_disks_own(rt: HostRuntime) -> Result<(), Fai
     }
     let record = listing(rt.alloc(), 3, &[1, 2, 2])?;
     assert!(rt; read_record(rt.alloc(), &record, geometry)?.is_none());
-    // The number of them forged: more than stand there.
+    // A forged number of retired extents, more than there are.
     let record = listing(rt.alloc(), 255, &[1])?;
     assert!(rt; read_record(rt.alloc(), &record, geometry)?.is_none());
     Ok(())
 }
 
 #[test]
-fn a_record_with_retired_extents_and_a_forged_number_is_none(rt: HostRuntime) -> Result<(), Fail> {
+fn a_record_with_retired_extents_and_a_forged_number_is_not_read(
+    rt: HostRuntime,
+) -> Result<(), Fail> {
     let geometry = Geometry::new(64, 4, 3)?;
-    // The bytes of a page, the pages, the extents, the number of runs and that of retired extents: each by its first byte,
-    // by its last one, and by both.
+    // The page size, the pages, the extents, the number of runs and that of retired extents: each changed in its first byte, in
+    // its last one, and in both.
     for (first, last) in [(12usize, 15usize), (16, 19), (20, 23), (24, 25), (26, 27)] {
         for (high, low) in [(0xFFu8, None), (0, Some(0xFE)), (0xFF, Some(0xFF))] {
             let mut record = listing(rt.alloc(), 1, &[1])?;

@@ -1,4 +1,4 @@
-//! Texts that are maps of a rescue and texts that aren't, and which blocks the maps lack.
+//! Texts that are maps of a rescue and texts that aren't, and the blocks that the maps lack.
 
 ghost use Rattle.std.specs.Prelude.{◌<◌, ◌≤◌, ◌*◌, ◌^◌};
 
@@ -23,7 +23,7 @@ const FLOPPY: &str = "\
 0x00120000  0x00048000  ?
 ";
 
-/// The marks of the first blocks of a size, in bytes.
+/// The marks of the first `count` blocks of `size` bytes.
 fn marks(alloc: Global, text: &str, size: u32, count: usize) -> Result<Vec<bool>, Fail>
     requires size { 0 < size }
     requires within { size * count ≤ 2 ^ 63 }
@@ -32,7 +32,7 @@ fn marks(alloc: Global, text: &str, size: u32, count: usize) -> Result<Vec<bool>
     Ok(map.lost_blocks(alloc, size, count)?)
 }
 
-/// The line at which a text is refused, or 0 where it isn't.
+/// The line at which a text is refused, or 0 if it isn't.
 fn refused_line(alloc: Global, text: &str) -> u64 {
     match read_map(alloc, text.as_bytes()) {
         Err(MapFault::Line(line)) => line,
@@ -41,7 +41,7 @@ fn refused_line(alloc: Global, text: &str) -> u64 {
 }
 
 #[test]
-fn a_map_as_ddrescue_writes_it(rt: HostRuntime) -> Result<(), Fail> {
+fn a_map_that_ddrescue_wrote_is_read(rt: HostRuntime) -> Result<(), Fail> {
     let marks = marks(rt.alloc(), FLOPPY, 4096, 400)?;
     assert_eq!(rt; marks.iter().position(|lost| *lost), Some(279));
     assert_eq!(rt; marks.iter().filter(|lost| **lost).count(), 121);
@@ -49,7 +49,7 @@ fn a_map_as_ddrescue_writes_it(rt: HostRuntime) -> Result<(), Fail> {
 }
 
 #[test]
-fn blocks_that_maps_lack(rt: HostRuntime) -> Result<(), Fail> {
+fn a_map_lacks_the_blocks_that_were_not_rescued_whole(rt: HostRuntime) -> Result<(), Fail> {
     for (blocks, wanted) in [
         ("", [true, true, true]),
         ("0 8 +", [false, false, true]),
@@ -81,7 +81,7 @@ fn blocks_that_maps_lack(rt: HostRuntime) -> Result<(), Fail> {
 }
 
 #[test]
-fn texts_that_are_refused(rt: HostRuntime) {
+fn a_text_that_is_not_a_map_is_refused_at_its_line(rt: HostRuntime) {
     for (text, line) in [
         ("", 1),
         ("\n", 2),

@@ -1,5 +1,5 @@
-//! Worked examples of index runs as bytes, sound and broken. Their bytes come from the format's description; the digests
-//! of the two vectors were made by another program. Which runs of a disk are read is left to `index_runs`.
+//! Index runs as bytes, sound and broken, from the format's description; the digests of the two vectors are by another program.
+//! For which runs of a disk are read see `index_runs` in `scrub_tests`.
 
 ghost use Rattle.std.specs.Prelude.{◌≡◌, IfOk};
 
@@ -12,7 +12,7 @@ use std::process::Abort;
 use std::slice;
 use std::test::Fail;
 
-/// The run of one shard, which has the chunk of `abc` at extent 1, offset 0.
+/// The run of one shard with the chunk of `abc` at extent 1, offset 0.
 const ONE_SHARD: [u8; 117] = [
     0x52, 0x55, 0x4e, 0x31, 0x00, 0x00, 0x00, 0x01, 0x00, 0x00, 0x00, 0x00, 0x00, 0x00, 0x00, 0x00,
     0x00, 0x00, 0x00, 0x00, 0x00, 0x00, 0x00, 0x01, 0x01, 0x00, 0x00, 0x00, 0x01, 0x00, 0x00, 0x00,
@@ -35,7 +35,7 @@ const ABC_LOCATOR: [u8; 60] = [
 /// The locator of `abc` as a part of a payload.
 const ABC: &[u8] = &ABC_LOCATOR;
 
-/// The head of a run of one entry: the magic, and the number of entries that are claimed.
+/// The head of a run of one entry: the magic, and the claimed number of entries.
 const ONE_ENTRY: &[u8] = b"RUN1\0\0\0\x01";
 
 /// The head of a run of two entries.
@@ -44,33 +44,33 @@ const TWO_ENTRIES: &[u8] = b"RUN1\0\0\0\x02";
 /// The head of a run of three entries.
 const THREE_ENTRIES: &[u8] = b"RUN1\0\0\0\x03";
 
-/// The head of an entry: the identifier of sixteen zero bytes, and the number of locators that are claimed, 1.
+/// The head of an entry: the identifier of sixteen zero bytes, and the claimed number of locators, 1.
 const ZEROTH_OF_ONE: &[u8] = b"\0\0\0\0\0\0\0\0\0\0\0\0\0\0\0\x00\x01";
 
-/// The heads of entries of the identifier of fifteen zero bytes and 01.
+/// Heads of entries of the identifier of fifteen zero bytes and 01.
 const FIRST_OF_NONE: &[u8] = b"\0\0\0\0\0\0\0\0\0\0\0\0\0\0\0\x01\x00";
 
 const FIRST_OF_ONE: &[u8] = b"\0\0\0\0\0\0\0\0\0\0\0\0\0\0\0\x01\x01";
 
-/// The heads of entries of the identifier of fifteen zero bytes and 02.
+/// Heads of entries of the identifier of fifteen zero bytes and 02.
 const SECOND_OF_ONE: &[u8] = b"\0\0\0\0\0\0\0\0\0\0\0\0\0\0\0\x02\x01";
 
 const SECOND_OF_TWO: &[u8] = b"\0\0\0\0\0\0\0\0\0\0\0\0\0\0\0\x02\x02";
 
-/// The heads of runs of one entry, each with the head of an entry of 64 locators or of 65 behind it.
+/// Heads of runs of one entry, each followed by the head of an entry of 64 locators or of 65.
 const ONE_OF_64: &[u8] = b"RUN1\0\0\0\x01\0\0\0\0\0\0\0\0\0\0\0\0\0\0\0\x01\x40";
 
 const ONE_OF_65: &[u8] = b"RUN1\0\0\0\x01\0\0\0\0\0\0\0\0\0\0\0\0\0\0\0\x01\x41";
 
-/// Three entries of shards that were deleted. Their identifiers rise and differ behind their first fourteen bytes alone;
-/// the last byte falls where the one before it rises.
+/// Three entries of deleted shards. Their identifiers rise and differ only in their last two bytes; the last byte falls once,
+/// when the one before it rises.
 const LOW: &[u8] = b"\x7F\x7F\x7F\x7F\x7F\x7F\x7F\x7F\x7F\x7F\x7F\x7F\x7F\x7F\x00\x02\x00";
 
 const MIDDLE: &[u8] = b"\x7F\x7F\x7F\x7F\x7F\x7F\x7F\x7F\x7F\x7F\x7F\x7F\x7F\x7F\x01\x01\x00";
 
 const HIGH: &[u8] = b"\x7F\x7F\x7F\x7F\x7F\x7F\x7F\x7F\x7F\x7F\x7F\x7F\x7F\x7F\x01\x02\x00";
 
-/// The payload of a run's head and the parts behind it, with its digest.
+/// The payload of a run: its head, these parts, and its digest.
 fn payload(alloc: Global, head: &[u8], parts: &[&[u8]]) -> Result<Vec<u8>, OutOfMemory> {
     let mut bytes = Vec::from_slice(alloc, head)?;
     for part in parts {
@@ -86,12 +86,12 @@ fn is_run(alloc: Global, payload: &[u8]) -> bool {
     read_run(alloc, payload).is_ok()
 }
 
-/// Whether a payload is refused, and not for want of memory.
-fn is_none(alloc: Global, payload: &[u8]) -> bool {
+/// Whether a payload is refused because it isn't a run.
+fn is_refused(alloc: Global, payload: &[u8]) -> bool {
     matches!(read_run(alloc, payload), Err(RunFault::NotARun))
 }
 
-/// Compares entries with their identifiers and locators.
+/// Compares entries with identifiers and locators.
 fn check_entries(rt: &impl Abort, entries: &[Entry], wanted: &[(ShardId, &[Locator])]) {
     assert!(rt; entries.len() == wanted.len());
     for (entry, (id, locators)) in entries.iter().zip(wanted) {
@@ -100,7 +100,7 @@ fn check_entries(rt: &impl Abort, entries: &[Entry], wanted: &[(ShardId, &[Locat
     }
 }
 
-/// Compares the entries of the run that a payload is.
+/// Checks the entries of the run with this payload.
 fn check_read(
     rt: &impl Abort,
     alloc: Global,
@@ -171,8 +171,8 @@ fn deleted_shards_are_read_in_their_order(rt: HostRuntime) -> Result<(), Fail> {
     )
 }
 
-/// What makes no run of what would be one else, and the head and the parts behind it. No list of as many entries as the
-/// first head claims could be held: the count alone makes no list grow.
+/// Why a payload isn't a run, its head, and the parts after it. No memory could hold as many entries as the first head claims:
+/// the count alone must not make a list grow.
 const NO_RUNS: [(&str, &[u8], &[&[u8]]); 13] = [
     ("the greatest count", b"RUN1\xFF\xFF\xFF\xFF", &[]),
     ("65 locators", ONE_OF_65, &[ABC; 65]),
@@ -218,19 +218,19 @@ const NO_RUNS: [(&str, &[u8], &[&[u8]]); 13] = [
         &[FIRST_OF_ONE, ABC, SECOND_OF_TWO, ABC],
     ),
     (
-        "the first two alike exchanged",
+        "the first two similar identifiers swapped",
         THREE_ENTRIES,
         &[MIDDLE, LOW, HIGH],
     ),
     (
-        "the last two alike exchanged",
+        "the last two similar identifiers swapped",
         THREE_ENTRIES,
         &[LOW, HIGH, MIDDLE],
     ),
 ];
 
 #[test]
-fn what_is_no_run(rt: HostRuntime) -> Result<(), Fail> {
+fn a_payload_that_is_not_a_run_is_refused(rt: HostRuntime) -> Result<(), Fail> {
     let sound = payload(
         rt.alloc(),
         TWO_ENTRIES,
@@ -242,7 +242,7 @@ fn what_is_no_run(rt: HostRuntime) -> Result<(), Fail> {
     assert!(rt; is_run(rt.alloc(), &most), "64 locators");
     for (what, head, parts) in &NO_RUNS {
         let bytes = payload(rt.alloc(), head, parts)?;
-        assert!(rt; is_none(rt.alloc(), &bytes), "{what}");
+        assert!(rt; is_refused(rt.alloc(), &bytes), "{what}");
     }
     Ok(())
 }
@@ -252,20 +252,20 @@ fn a_run_ends_with_its_digest(rt: HostRuntime) -> Result<(), Fail> {
     let mut bytes = ONE_SHARD;
     assert!(rt; is_run(rt.alloc(), &bytes));
     bytes[116] ^= 1;
-    assert!(rt; is_none(rt.alloc(), &bytes), "another digest");
+    assert!(rt; is_refused(rt.alloc(), &bytes), "another digest");
     bytes[116] ^= 1;
     bytes[40] ^= 1;
-    assert!(rt; is_none(rt.alloc(), &bytes), "the digest of other bytes");
-    assert!(rt; is_none(rt.alloc(), &ONE_SHARD[..116]), "a byte missing");
-    assert!(rt; is_none(rt.alloc(), &[]), "nothing");
+    assert!(rt; is_refused(rt.alloc(), &bytes), "the digest of other bytes");
+    assert!(rt; is_refused(rt.alloc(), &ONE_SHARD[..116]), "a byte missing");
+    assert!(rt; is_refused(rt.alloc(), &[]), "nothing");
     let longer = [ONE_SHARD.as_slice(), &[0]].concat(rt.alloc())?;
-    assert!(rt; is_none(rt.alloc(), &longer), "a byte behind the digest");
+    assert!(rt; is_refused(rt.alloc(), &longer), "a byte after the digest");
     let inner = payload(rt.alloc(), &ONE_SHARD[..85], &[&[0]])?;
-    assert!(rt; is_none(rt.alloc(), &inner), "a byte in front of it");
+    assert!(rt; is_refused(rt.alloc(), &inner), "a byte in front of it");
     Ok(())
 }
 
-/// A run that is read is written again byte for byte, whatever it is: this follows from the contracts alone.
+/// Any run that is read is written again byte for byte: this follows from the contracts alone.
 fn read_and_written(alloc: Global, payload: &[u8]) -> Result<Vec<u8>, RunFault>
     ensures { IfOk result (λ out. out.items ≡ payload.now) }
 {

@@ -1,5 +1,5 @@
-//! Superblock records in raw images of any sizes, and the blocks of such images that are lost. The records are spelled here,
-//! byte by byte, but for their digests.
+//! Superblock records in raw images of any sizes, and the lost blocks of such images. The records are spelled out here byte by
+//! byte, except for their digests.
 
 ghost use Rattle.std.specs.Prelude.{◌<◌, ◌^◌};
 
@@ -12,19 +12,19 @@ use std::alloc::Global;
 use std::process::Abort;
 use std::test::Fail;
 
-/// Pages of 64 bytes, eight pages an extent and two extents: generation 3, and nothing is written.
+/// Pages of 64 bytes, eight pages an extent and two extents: generation 3, nothing written.
 const SMALL_PAGES: [u8; 30] = [
     0x53, 0x53, 0x42, 0x31, 0, 0, 0, 0, 0, 0, 0, 3, 0, 0, 0, 64, 0, 0, 0, 8, 0, 0, 0, 2, 0, 0, 0,
     0, 0, 0,
 ];
 
-/// Pages of 512 bytes, two pages an extent and two extents: generation 9, no extent is retired, and nothing is written.
+/// Pages of 512 bytes, two pages an extent and two extents: generation 9, no retired extent, nothing written.
 const LARGE_PAGES: [u8; 32] = [
     0x53, 0x53, 0x42, 0x32, 0, 0, 0, 0, 0, 0, 0, 9, 0, 0, 2, 0, 0, 0, 0, 2, 0, 0, 0, 2, 0, 0, 0, 0,
     0, 0, 0, 0,
 ];
 
-/// Puts bytes at an offset, and behind them their digest.
+/// Puts bytes at an offset, and their digest after them.
 fn put_with_digest(rt: &impl Abort, image: &mut [u8; 2048], offset: usize, body: &[u8]) {
     assert!(rt; offset <= 1024 && body.len() <= 512);
     let end = offset + body.len();
@@ -32,9 +32,8 @@ fn put_with_digest(rt: &impl Abort, image: &mut [u8; 2048], offset: usize, body:
     image[end..end + 32].copy_from_slice(&digest_of(body));
 }
 
-/// A disk that was formatted twice: a record at byte 64 and one at byte 512, each of other sizes. Beside them stand what are
-/// no records: the first bytes of one at 256, one that begins at no bound of its pages at 704, and one behind its own
-/// extent 0 at 1,024.
+/// A disk that was formatted twice: a record at byte 64, and one of other sizes at byte 512. Three others aren't records: the
+/// first bytes of one at 256, one at 704 that isn't on a boundary of its pages, and one at 1,024 that is past its own extent 0.
 fn formatted_twice(rt: &impl Abort) -> [u8; 2048] {
     let mut image = [0; 2048];
     put_with_digest(rt, &mut image, 64, &SMALL_PAGES);
@@ -45,7 +44,7 @@ fn formatted_twice(rt: &impl Abort) -> [u8; 2048] {
     image
 }
 
-/// Finds the records, and sees that they begin at these offsets and that these bytes are lost.
+/// Finds the records, and checks their offsets and the lost bytes.
 fn finds<R: RawImage>(
     rt: &impl Abort,
     alloc: Global,
@@ -120,7 +119,7 @@ fn a_record_ends_with_the_image_or_is_cut_off(rt: HostRuntime) -> Result<(), Fai
 }
 
 #[test]
-fn a_failed_read_costs_its_block(rt: HostRuntime) -> Result<(), Fail> {
+fn a_failed_read_loses_its_block(rt: HostRuntime) -> Result<(), Fail> {
     let image = formatted_twice(&rt);
     let failures = [
         (0, 1, &[512][..], &[(0, 512)][..]),
@@ -136,7 +135,7 @@ fn a_failed_read_costs_its_block(rt: HostRuntime) -> Result<(), Fail> {
 }
 
 #[test]
-fn a_marked_block_is_lost_where_it_begins_before_the_end(rt: HostRuntime) -> Result<(), Fail> {
+fn a_marked_block_is_lost_if_it_begins_before_the_end(rt: HostRuntime) -> Result<(), Fail> {
     let image = formatted_twice(&rt);
     let marks = [
         (2048, &[true][..], &[512][..], &[(0, 512)][..]),

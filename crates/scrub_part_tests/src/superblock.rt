@@ -1,4 +1,4 @@
-//! Which superblock counts on a disk, and the plan that follows from it.
+//! Which superblock counts on a disk, and the plan that follows.
 
 use crate::compare::same;
 use scrub_disk::{Geometry, MemDisk, PageSource};
@@ -9,7 +9,7 @@ use std::alloc::Global;
 use std::process::Abort;
 use std::test::Fail;
 
-/// What is to be told of a disk of three extents.
+/// What is expected of a disk of three extents.
 #[derive(Clone, Copy)]
 struct Expected<'a> {
     /// The page and the generation of the superblock that counts.
@@ -21,7 +21,7 @@ struct Expected<'a> {
     runs: &'a [Locator],
 }
 
-/// Of nothing but zeros no record is told, and full extents.
+/// A disk of zeros has no record, and full extents.
 fn nothing<'a>() -> Expected<'a> {
     Expected {
         newest: None,
@@ -33,8 +33,8 @@ fn nothing<'a>() -> Expected<'a> {
     }
 }
 
-/// Compares what was chosen: the page and the generation of the superblock that counts, the number of records, whether
-/// there is a tie, and the unreadable pages.
+/// Checks the choice: the page and the generation of the superblock that counts, the number of records, whether there is a tie,
+/// and the unreadable pages.
 fn check_chosen(
     rt: &impl Abort,
     chosen: &Chosen,
@@ -53,7 +53,7 @@ fn check_chosen(
     same(rt, chosen.bad_pages(), bad_pages);
 }
 
-/// Compares the plan of a disk of three extents.
+/// Checks the plan of a disk of three extents.
 fn check_plan(
     rt: &impl Abort,
     plan: &Plan,
@@ -69,7 +69,7 @@ fn check_plan(
     same(rt, plan.has_superblock(), has_superblock);
 }
 
-/// Compares the choice on a disk and its plan.
+/// Checks the choice on a disk and its plan.
 fn check(rt: &impl Abort, alloc: Global, disk: &MemDisk, expected: &Expected) -> Result<(), Fail> {
     let chosen = choose(alloc, disk)?;
     check_chosen(
@@ -87,7 +87,7 @@ fn check(rt: &impl Abort, alloc: Global, disk: &MemDisk, expected: &Expected) ->
 }
 
 #[test]
-fn a_blank_disk_has_no_superblock_nor_one_whose_record_is_unreadable(
+fn a_blank_disk_or_one_with_an_unreadable_record_has_no_superblock(
     rt: HostRuntime,
 ) -> Result<(), Fail> {
     let mut disk = small_disk(rt.alloc())?;
@@ -105,7 +105,7 @@ fn a_blank_disk_has_no_superblock_nor_one_whose_record_is_unreadable(
 }
 
 #[test]
-fn a_record_tells_pointers_and_runs_also_none(rt: HostRuntime) -> Result<(), Fail> {
+fn a_plan_has_the_pointers_and_runs_of_its_record_or_none(rt: HostRuntime) -> Result<(), Fail> {
     let runs = [abc_at(1, 0)];
     for (pointers, runs, length) in [([41, 155], runs.as_slice(), 126), ([0, 0], &[], 66)] {
         let mut disk = small_disk(rt.alloc())?;
@@ -164,7 +164,7 @@ fn the_newer_record_counts_until_a_byte_of_it_is_changed(rt: HostRuntime) -> Res
 }
 
 #[test]
-fn a_record_spans_three_pages_that_are_all_readable(rt: HostRuntime) -> Result<(), Fail> {
+fn a_record_over_three_pages_needs_all_of_them_readable(rt: HostRuntime) -> Result<(), Fail> {
     let mut disk = small_disk(rt.alloc())?;
     let runs = [abc_at(1, 0), abc_at(2, 0)];
     let length = put_record(rt.alloc(), &mut disk, 1, 1, &[41, 155], &runs)?;
@@ -189,9 +189,9 @@ fn a_record_spans_three_pages_that_are_all_readable(rt: HostRuntime) -> Result<(
     check(&rt, rt.alloc(), &disk, &cut)
 }
 
-/// Two locators of which these bytes are a part, from their thirtieth byte on. The locators of a record stand from 34 on,
-/// so page 1 begins with that byte.
-fn locators_round(alloc: Global, bytes: &[u8]) -> Result<[Locator; 2], Fail> {
+/// Two locators that contain these bytes, from byte 30 on. The locators of a record begin at byte 34, so these bytes begin on
+/// page 1.
+fn locators_around(alloc: Global, bytes: &[u8]) -> Result<[Locator; 2], Fail> {
     let mut both = Vec::from_slice(alloc, &[0; 30])?;
     both.extend_from_slice(bytes)?;
     both.extend_from_slice(&[0; 24])?;
@@ -200,10 +200,10 @@ fn locators_round(alloc: Global, bytes: &[u8]) -> Result<[Locator; 2], Fail> {
     Ok([read_locator(first), read_locator(second)])
 }
 
-/// A disk whose record of generation 5 on page 0, 186 bytes, has in its locators a record of generation 9, 66 bytes, that begins
-/// on page 1.
+/// A disk with a record of generation 5 (186 bytes) on page 0. Its locators contain a record of generation 9 (66 bytes) that
+/// begins on page 1.
 pub(crate) fn nested_records(rt: &impl Abort, alloc: Global) -> Result<MemDisk, Fail> {
-    // The inner record is taken from a disk of its own.
+    // The inner record comes from a disk of its own.
     let mut source = small_disk(alloc)?;
     put_record(alloc, &mut source, 0, 9, &[3, 4], &[])?;
     let mut page = [0u8; 64];
@@ -214,14 +214,14 @@ pub(crate) fn nested_records(rt: &impl Abort, alloc: Global) -> Result<MemDisk, 
     assert!(rt; read.is_ok());
     let mut record = Vec::from_slice(alloc, &page)?;
     record.extend_from_slice(&next[..2])?;
-    let runs = locators_round(alloc, &record)?;
+    let runs = locators_around(alloc, &record)?;
     let mut disk = small_disk(alloc)?;
     put_record(alloc, &mut disk, 0, 5, &[41, 155], &runs)?;
     Ok(disk)
 }
 
 #[test]
-fn a_record_stands_in_the_locators_of_another(rt: HostRuntime) -> Result<(), Fail> {
+fn a_record_inside_the_locators_of_another_counts(rt: HostRuntime) -> Result<(), Fail> {
     let disk = nested_records(&rt, rt.alloc())?;
     let inner = Expected {
         newest: Some((1, 9)),

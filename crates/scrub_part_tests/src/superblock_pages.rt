@@ -1,4 +1,4 @@
-//! What each page of extent 0 holds of superblocks, on small disks: three extents, each of four pages of 64 bytes.
+//! What each page of extent 0 holds of superblocks, on small disks: three extents of four pages of 64 bytes.
 
 use crate::compare::same;
 use crate::superblock::nested_records;
@@ -12,23 +12,23 @@ use std::test::Fail;
 /// What is done to extent 0 of a blank disk.
 #[derive(Clone, Copy)]
 enum Step {
-    /// A record of the first kind of this generation is put on a page: 66 bytes, and 60 for each run.
+    /// Puts a record of the first kind with this generation on a page: 66 bytes, and 60 for each run.
     Plain {
         page: u32,
         generation: u64,
         runs: usize,
     },
-    /// A record of the second kind is, which lists no extent and names one run: 128 bytes.
+    /// Puts a record of the second kind, which lists no extent and names one run: 128 bytes.
     Listing {
         page: u32,
         generation: u64,
     },
-    /// A byte is put at an offset.
+    /// Puts a byte at an offset.
     Byte {
         offset: u32,
         byte: u8,
     },
-    /// A page becomes unreadable.
+    /// Makes a page unreadable.
     Bad {
         page: u32,
     },
@@ -97,7 +97,7 @@ fn take_step(alloc: Global, disk: &mut MemDisk, step: Step) -> Result<(), Misfit
     }
 }
 
-/// Compares what the pages hold, and what is chosen beside it with what is chosen alone.
+/// Checks what the pages hold, and that the choice made along with them is the one made alone.
 fn check(
     rt: &impl Abort,
     alloc: Global,
@@ -114,7 +114,7 @@ fn check(
     Ok(())
 }
 
-/// Compares what the pages hold after these steps.
+/// Checks what the pages hold after these steps.
 fn check_steps(
     rt: &impl Abort,
     alloc: Global,
@@ -189,7 +189,7 @@ fn a_damaged_record_leaves_a_damaged_page_and_a_stray_one(rt: HostRuntime) -> Re
             &[plain(0, 7), plain(2, 8), Step::Bad { page: 2 }],
             [counts, COVERED, LOST, STRAY],
         ),
-        // A record of 186 bytes whose last page can't be read.
+        // A record of 186 bytes whose last page is unreadable.
         (&[long, Step::Bad { page: 3 }], [ZERO, DAMAGED, STRAY, LOST]),
     ];
     for (steps, wanted) in cases {
@@ -199,7 +199,7 @@ fn a_damaged_record_leaves_a_damaged_page_and_a_stray_one(rt: HostRuntime) -> Re
 }
 
 #[test]
-fn a_page_behind_a_record_is_reported_by_itself(rt: HostRuntime) -> Result<(), Fail> {
+fn a_page_after_a_record_is_reported_by_its_own_bytes(rt: HostRuntime) -> Result<(), Fail> {
     let whole = Step::Listing {
         page: 0,
         generation: 4,
@@ -220,7 +220,7 @@ fn a_page_behind_a_record_is_reported_by_itself(rt: HostRuntime) -> Result<(), F
 }
 
 #[test]
-fn a_page_lies_in_a_record_also_behind_a_shorter_one_that_begins_later(
+fn a_page_is_covered_by_a_record_even_after_a_shorter_one_inside_it(
     rt: HostRuntime,
 ) -> Result<(), Fail> {
     let disk = nested_records(&rt, rt.alloc())?;

@@ -1,4 +1,4 @@
-//! A small extent that is read whole, and its unreadable pages.
+//! Small extents that are read whole, and their unreadable pages.
 
 use crate::compare::same;
 use scrub_disk::{PageSource, read_extent, unreadable_pages};
@@ -6,7 +6,7 @@ use scrub_fakes::small_disk;
 use std::process::Abort;
 use std::test::Fail;
 
-/// Requires that so many bytes from a place on are the same.
+/// Checks that `count` bytes from a place on are equal to `byte`.
 fn check_bytes(rt: &impl Abort, bytes: &[u8], start: usize, count: usize, byte: u8) {
     assert!(rt; start <= bytes.len());
     let found = bytes[start..].iter().take(count).filter(|b| **b == byte);
@@ -14,7 +14,7 @@ fn check_bytes(rt: &impl Abort, bytes: &[u8], start: usize, count: usize, byte: 
 }
 
 #[test]
-fn an_extent_is_read_but_for_its_unreadable_pages(rt: HostRuntime) -> Result<(), Fail> {
+fn an_extent_is_read_except_for_its_unreadable_pages(rt: HostRuntime) -> Result<(), Fail> {
     let mut disk = small_disk(rt.alloc())?;
     let geometry = disk.geometry();
     assert!(rt; geometry.extents() == 3 && geometry.pages() == 4);
@@ -38,7 +38,7 @@ fn an_extent_is_read_but_for_its_unreadable_pages(rt: HostRuntime) -> Result<(),
 }
 
 #[test]
-fn an_extent_of_readable_pages_has_no_unreadable_one(rt: HostRuntime) -> Result<(), Fail> {
+fn an_extent_of_readable_pages_has_no_unreadable_page(rt: HostRuntime) -> Result<(), Fail> {
     assert!(rt; unreadable_pages(rt.alloc(), &[true; 4])?.is_empty());
     assert!(rt; unreadable_pages(rt.alloc(), &[])?.is_empty());
     let none = unreadable_pages(rt.alloc(), &[false; 3])?;

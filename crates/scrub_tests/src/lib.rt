@@ -1,5 +1,5 @@
-//! Tests that cross crates: worked examples on whole images, whole scrubs beside their published reports, searches beside
-//! plain walks, and lists of a size that no example has. It has nothing that another crate could use.
+//! Tests that cross crates, from the pages up: `scan`, `locators`, `workers`, `scrubs`. What they share is in `support`. No
+//! crate depends on this one.
 #![tactic(auto)]
 
 #[cfg(test)]

@@ -1,4 +1,4 @@
-//! Index runs, bindings, named locators, their statuses, and the lists that follow from them.
+//! Tests of index runs, bindings, named locators, their statuses, and the lists that follow from them.
 
 pub mod bindings;
 pub mod hidden_places;

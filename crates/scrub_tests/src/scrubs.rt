@@ -1,4 +1,4 @@
-//! Whole scrubs: reports, indexes, listings, and lists longer than any example has.
+//! Tests of whole scrubs: reports, indexes, listings, and lists longer than in any example.
 
 pub mod large;
 pub mod listings;

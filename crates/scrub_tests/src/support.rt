@@ -1,4 +1,4 @@
-//! What the tests share: worked disks, extents and their contents, and how what was found is compared.
+//! What the tests share: worked disks, extents and their contents, and comparisons.
 
 pub mod compare;
 pub mod disks;

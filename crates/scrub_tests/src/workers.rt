@@ -1,4 +1,5 @@
-//! What any number of workers finds, answers and takes, beside one reader, while a gate holds some of them up.
+//! Tests of workers: any number of them finds and answers what one reader does and takes each extent once, even if a gate holds
+//! some of them up.
 
 ghost use Rattle.std.specs.Prelude.{◌≤◌};
 
@@ -29,9 +30,8 @@ use std::test::Fail;
 use std::thread::Threads;
 use std::time::Clock;
 
-/// Scans and scrubs a disk by so many workers and the caller, each of whose first extents is held until so many have
-/// passed with one. Compares what is found and answered with what one reader finds and answers, and who took what with
-/// what the gates were told.
+/// Scans and scrubs a disk with `workers` workers and the caller. Each is held at its first extent until `held` of them have
+/// passed with one. Compares the findings and the answer with those of one reader, and who took what with what the gates saw.
 fn check_workers<R: Threads + Wait + Abort + Clock + Sync>(
     rt: &R,
     alloc: Global,
@@ -56,7 +56,9 @@ fn check_workers<R: Threads + Wait + Abort + Clock + Sync>(
 }
 
 #[test]
-fn extent_1_is_held_until_another_worker_passed_with_extent_2(rt: HostRuntime) -> Result<(), Fail> {
+fn extent_1_is_held_until_another_worker_has_passed_with_extent_2(
+    rt: HostRuntime,
+) -> Result<(), Fail> {
     let disk = one_shard(rt.alloc())?;
     check_workers(&rt, rt.alloc(), &disk, 1, 2)
 }
@@ -76,13 +78,13 @@ fn eight_workers_are_held_until_each_has_passed_with_an_extent(
 }
 
 #[test]
-fn of_65_workers_39_take_one_of_39_extents_each(rt: HostRuntime) -> Result<(), Fail> {
+fn each_of_39_extents_has_its_own_worker_of_65(rt: HostRuntime) -> Result<(), Fail> {
     let (disk, _) = many_shards(&rt, rt.alloc())?;
     check_workers(&rt, rt.alloc(), &disk, 64, 39)
 }
 
-/// Scans a disk by so many workers and the caller, of whom all but one are held at their first extents until every extent was
-/// taken. So that one takes all that the others leave.
+/// Scans a disk with `workers` workers and the caller. All but worker `alone` are held at their first extents until every
+/// extent is taken, so that one takes all that the others leave.
 fn check_left_alone<R: Threads + Wait + Abort + Clock + Sync>(
     rt: &R,
     alloc: Global,
@@ -112,7 +114,7 @@ fn each_worker_goes_on_until_nothing_is_left(rt: HostRuntime) -> Result<(), Fail
     Ok(())
 }
 
-/// Scans a disk by so many workers and the caller, whose reads wait until all of them are inside one at the same time.
+/// Scans a disk with `workers` workers and the caller. Their reads wait until all of them are reading at the same time.
 fn check_meeting<R: Threads + Wait + Abort + Clock + Sync>(
     rt: &R,
     alloc: Global,
@@ -141,9 +143,9 @@ fn all_workers_read_pages_at_the_same_time(rt: HostRuntime) -> Result<(), Fail> 
     Ok(())
 }
 
-/// Scrubs a disk by so many workers and the caller, each of whose first extents is held until all of them have passed with
-/// one. Requires that the gate was told of each extent once, by who took it and before it was read, and of each total once
-/// the extent was read.
+/// Scrubs a disk with `workers` workers and the caller. Each is held at its first extent until all of them have passed with
+/// one. Checks that each extent was reported to the gate once, by the worker that took it and before it was read, and each
+/// total once, after the extent was read.
 fn check_reports<R: Threads + Wait + Abort + Clock + Sync>(
     rt: &R,
     alloc: Global,
@@ -161,7 +163,7 @@ fn check_reports<R: Threads + Wait + Abort + Clock + Sync>(
 }
 
 #[test]
-fn a_gate_is_reported_of_each_of_70_extents_before_it_is_read(rt: HostRuntime) -> Result<(), Fail> {
+fn each_of_70_extents_is_reported_to_a_gate_before_it_is_read(rt: HostRuntime) -> Result<(), Fail> {
     let disk = MemDisk::blank(rt.alloc(), Geometry::new(64, 2, 71)?)?;
     for workers in [0, 3] {
         check_reports(&rt, rt.alloc(), &disk, workers)?;
@@ -183,7 +185,7 @@ fn any_number_of_workers_answers_what_one_reader_answers(rt: HostRuntime) -> Res
 }
 
 #[test]
-fn a_disk_of_one_extent_of_one_page(rt: HostRuntime) -> Result<(), Fail> {
+fn workers_find_the_only_page_of_a_disk(rt: HostRuntime) -> Result<(), Fail> {
     let disk = MemDisk::blank(rt.alloc(), Geometry::new(64, 1, 2)?)?;
     let plan = plan_of(rt.alloc(), &disk)?;
     let wanted = scan_in_order(rt.alloc(), &disk, &plan)?;

@@ -1,5 +1,4 @@
-//! Worked examples of merges: which bindings the shard map of a list of index runs has. The runs are read from payloads
-//! that are put together here.
+//! Which bindings the shard map of a list of index runs has. The runs are read from payloads that are built here.
 
 use crate::support::disks::{entry_of, payload_of, shard};
 use scrub_fakes::abc_at;
@@ -10,13 +9,13 @@ use std::process::Abort;
 use std::slice;
 use std::test::Fail;
 
-/// A shard as a run tells of it: its number, and the offset of its `abc` in extent 1, or none where it was deleted.
+/// A shard in a run: its number, and the offset of its `abc` in extent 1, or `None` if the run deletes it.
 type Written = (u32, Option<u32>);
 
-/// A binding that is wanted: its run, whether it is doubtful, the number of its shard, and the offset of its `abc`.
+/// An expected binding: its run, whether it is doubtful, the number of its shard, and the offset of its `abc`.
 type Wanted = (u32, bool, u32, u32);
 
-/// What comes of runs, newest first, each of which is lost or has its entries: all bindings, and two shards that have none.
+/// Runs, newest first, each lost (`None`) or with its shards; all expected bindings; and two shards without a binding.
 struct Merge {
     what: &'static str,
     runs: &'static [Option<&'static [Written]>],
@@ -26,7 +25,7 @@ struct Merge {
 
 const MERGES: [Merge; 8] = [
     Merge {
-        what: "a deleted shard stays deleted behind a lost run",
+        what: "a deleted shard stays deleted after a lost run",
         runs: &[
             None,
             Some(&[(1, None), (2, Some(0))]),
@@ -58,7 +57,7 @@ const MERGES: [Merge; 8] = [
         absent: (1, 2),
     },
     Merge {
-        what: "behind a lost run a shard is doubtful",
+        what: "after a lost run a shard is doubtful",
         runs: &[None, Some(&[(1, Some(0))])],
         wanted: &[(1, true, 1, 0)],
         absent: (2, 3),
@@ -76,7 +75,7 @@ const MERGES: [Merge; 8] = [
         absent: (3, 4),
     },
     Merge {
-        what: "three identifiers that differ behind their first twelve bytes alone are bound each",
+        what: "each of three identifiers that differ only after their first twelve bytes is bound",
         runs: &[
             Some(&[(0x7F00_0002, Some(0)), (0x7F01_0000, Some(0))]),
             Some(&[(0x7F00_0002, Some(41)), (0x7F00_0101, Some(41))]),
@@ -90,13 +89,13 @@ const MERGES: [Merge; 8] = [
     },
 ];
 
-/// The run of these entries.
+/// The run with these entries.
 fn read(alloc: Global, entries: &[Entry]) -> Result<Run, Fail> {
     let payload = payload_of(alloc, entries)?;
     Ok(read_run(alloc, &payload)?)
 }
 
-/// The run that tells of these shards.
+/// The run with these shards.
 fn run_of(alloc: Global, shards: &[Written]) -> Result<Run, Fail> {
     let mut entries = Vec::new(alloc);
     for (number, offset) in shards {
@@ -108,7 +107,7 @@ fn run_of(alloc: Global, shards: &[Written]) -> Result<Run, Fail> {
     read(alloc, &entries)
 }
 
-/// The shard map of runs, each of which is lost or tells of its shards.
+/// The shard map of runs, each lost or with its shards.
 fn merged(rt: &impl Abort, alloc: Global, runs: &[Option<&[Written]>]) -> Result<ShardMap, Fail> {
     let mut read = Vec::new(alloc);
     for run in runs {
@@ -121,7 +120,7 @@ fn merged(rt: &impl Abort, alloc: Global, runs: &[Option<&[Written]>]) -> Result
     Ok(merge(alloc, &read)?)
 }
 
-/// Compares a binding, and requires that it is the one that is found for its shard.
+/// Checks a binding, and that the map finds it for its shard.
 fn check_binding(rt: &impl Abort, map: &ShardMap, binding: &Binding, wanted: &Wanted, what: &str) {
     let (run, doubtful, number, offset) = *wanted;
     assert!(rt; binding.id() == shard(number), "{what}");
@@ -140,7 +139,7 @@ fn check_binding(rt: &impl Abort, map: &ShardMap, binding: &Binding, wanted: &Wa
     );
 }
 
-/// Compares all bindings of a map. Requires that it has none for the shards that are told.
+/// Checks all bindings of a map, and that the absent shards have none.
 fn check_merge(rt: &impl Abort, alloc: Global, merge: &Merge) -> Result<(), Fail> {
     let map = merged(rt, alloc, merge.runs)?;
     let what = merge.what;
@@ -161,7 +160,7 @@ fn the_newest_binding_of_each_shard_counts(rt: HostRuntime) -> Result<(), Fail> 
     Ok(())
 }
 
-/// The run of 2,000 shards from a number on, each with `abc` at the offset of its number.
+/// The run of the 2,000 shards from `first` on, each with `abc` at the offset of its number.
 fn numbered(alloc: Global, first: u32) -> Result<Run, Fail> {
     let mut entries = Vec::new(alloc);
     for number in first..first.saturating_add(2000) {
@@ -170,8 +169,8 @@ fn numbered(alloc: Global, first: u32) -> Result<Run, Fail> {
     read(alloc, &entries)
 }
 
-/// Requires that the bindings are those of the shards from 0 on, in order: of each run its last 1,000, and of the first
-/// run all.
+/// Checks that the bindings are those of the shards from 0 on, in order: all 2,000 of the first run, and the last 1,000 of each
+/// later run.
 fn check_numbered(rt: &impl Abort, bindings: &[Binding]) {
     let mut number = 0u32;
     for binding in bindings {
@@ -185,7 +184,7 @@ fn check_numbered(rt: &impl Abort, bindings: &[Binding]) {
 }
 
 #[test]
-fn thirty_two_runs_of_two_thousand_entries(rt: HostRuntime) -> Result<(), Fail> {
+fn thirty_two_runs_of_two_thousand_entries_are_merged(rt: HostRuntime) -> Result<(), Fail> {
     let mut runs = Vec::new(rt.alloc());
     for run in 0..32 {
         runs.push(Some(numbered(rt.alloc(), 1000 * run)?))?;

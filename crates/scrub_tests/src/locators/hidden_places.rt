@@ -1,4 +1,4 @@
-//! How often the pages of a place are asked for at which a frame stands and no item begins.
+//! How often the checks ask for the pages of a frame at which no item begins.
 
 use crate::support::compare::same;
 use scrub_check::{Named, Owner, Status, check_all, check_named, named_locators, read_runs};
@@ -14,8 +14,8 @@ use std::test::Fail;
 use std::thread::Threads;
 use uuid::Uuid;
 
-/// The byte of extent 1 at which the hidden frames here begin. No item does, since it is no page bound and the frame before
-/// it is none.
+/// The byte of extent 1 at which the hidden frames here begin. No item begins there, since it isn't a page boundary and no
+/// frame ends there.
 const HIDDEN: u32 = 10;
 
 /// A blank disk of two extents, each of 64 pages of 64 bytes.
@@ -23,7 +23,7 @@ fn blank(alloc: Global) -> Result<MemDisk, Fail> {
     Ok(MemDisk::blank(alloc, Geometry::new(64, 64, 2)?)?)
 }
 
-/// What so many equal locators to extent 1 are worth, and how often its pages are asked for where they are checked.
+/// The statuses of `count` copies of one locator to extent 1, and how often checking them asks for a page of that extent.
 fn checked_alike<R: Threads + Sync>(
     rt: &R,
     alloc: Global,
@@ -46,8 +46,8 @@ fn checked_alike<R: Threads + Sync>(
     Ok((statuses, source.asked(1).saturating_sub(before)))
 }
 
-/// Requires that equal locators have this status, and that a thousand of them ask for no more pages than one; tells how
-/// many one asks for.
+/// Checks that a locator has this status, and that a thousand copies of it have it too and ask for no more pages. Returns how
+/// many pages one locator asks for.
 fn check_alike<R: Threads + Sync + std::process::Abort>(
     rt: &R,
     alloc: Global,
@@ -65,7 +65,7 @@ fn check_alike<R: Threads + Sync + std::process::Abort>(
 }
 
 #[test]
-fn a_thousand_locators_to_a_hidden_place_ask_for_its_pages_as_often_as_one(
+fn a_thousand_locators_to_a_hidden_place_ask_for_no_more_pages_than_one(
     rt: HostRuntime,
 ) -> Result<(), Fail> {
     let mut disk = blank(rt.alloc())?;
@@ -77,7 +77,7 @@ fn a_thousand_locators_to_a_hidden_place_ask_for_its_pages_as_often_as_one(
 }
 
 #[test]
-fn another_uuid_or_length_at_a_hidden_place_is_reported_without_its_payload(
+fn a_wrong_uuid_or_length_at_a_hidden_place_is_found_without_its_payload(
     rt: HostRuntime,
 ) -> Result<(), Fail> {
     let mut disk = blank(rt.alloc())?;
@@ -98,7 +98,7 @@ fn another_uuid_or_length_at_a_hidden_place_is_reported_without_its_payload(
 }
 
 #[test]
-fn another_uuid_at_a_hidden_sealed_frame_is_reported_by_its_payload(
+fn a_wrong_uuid_at_a_hidden_sealed_frame_is_found_with_its_payload(
     rt: HostRuntime,
 ) -> Result<(), Fail> {
     let mut disk = blank(rt.alloc())?;
@@ -109,14 +109,14 @@ fn another_uuid_at_a_hidden_sealed_frame_is_reported_by_its_payload(
     };
     let asked = check_alike(&rt, rt.alloc(), &disk, &other, Status::WrongUuid)?;
     assert!(rt; asked >= 33);
-    // One byte of the payload is another one: then no frame stands there.
+    // With one byte of the payload changed, there is no frame.
     put(&mut disk, 1, HIDDEN + 100, &[8])?;
     check_alike(&rt, rt.alloc(), &disk, &other, Status::NoFrame)?;
     Ok(())
 }
 
 #[test]
-fn the_place_of_a_hidden_run_is_not_asked_for_again_once_the_run_is_read(
+fn the_pages_of_a_hidden_run_are_not_read_again_for_its_status(
     rt: HostRuntime,
 ) -> Result<(), Fail> {
     let mut disk = blank(rt.alloc())?;

@@ -1,8 +1,8 @@
-//! Which index runs of a disk are read, and what becomes of the others.
+//! Which index runs of a disk are read, and why the others are lost.
 
 use crate::support::compare::same;
 use crate::support::disks::{Worked, put_abc_and_its_run, put_run};
-use crate::support::reported::judge;
+use crate::support::reported::status_on;
 use scrub_check::{ReadRuns, RunState, Status, read_runs};
 use scrub_disk::MemDisk;
 use scrub_fakes::{
@@ -17,15 +17,15 @@ use std::slice;
 use std::test::Fail;
 use uuid::Uuid;
 
-/// What became of the runs of a disk.
+/// Reads the runs of a disk.
 fn read(alloc: Global, disk: &MemDisk) -> Result<ReadRuns, Fail> {
     let plan = plan_of(alloc, disk)?;
     let all = scan_in_order(alloc, disk, &plan)?;
     Ok(read_runs(alloc, disk, &plan, &all)?)
 }
 
-/// What becomes of a run of one shard: it is lost, or it is read and deletes the shard, or binds it to `abc` at the start of
-/// extent 1.
+/// What is expected of a run of one shard: it is lost; or it is read, and deletes the shard or binds it to `abc` at the start
+/// of extent 1.
 #[derive(Debug, Clone, Copy, PartialEq, Eq)]
 enum Found {
     Lost,
@@ -33,7 +33,7 @@ enum Found {
     Binds,
 }
 
-/// Compares what became of a run.
+/// Checks one run.
 fn check_run(rt: &impl Abort, run: &Option<Run>, found: Found) {
     let abc = [abc_at(1, 0)];
     match (run, found) {
@@ -45,14 +45,14 @@ fn check_run(rt: &impl Abort, run: &Option<Run>, found: Found) {
     }
 }
 
-/// Requires that a run has one shard, with these locators.
+/// Checks that a run has one shard, with these locators.
 fn check_shard(rt: &impl Abort, run: &Run, locators: &[Locator]) {
     assert!(rt; run.entries().len() == 1);
     same(rt, run.entries()[0].id(), SHARD);
     same(rt, run.entries()[0].locators(), locators);
 }
 
-/// Compares what became of the runs of a disk, and the locators of those that were read.
+/// Checks the states of a disk's runs, and the contents of those that were read.
 fn check_runs(
     rt: &impl Abort,
     alloc: Global,
@@ -69,12 +69,12 @@ fn check_runs(
     Ok(())
 }
 
-/// Requires that of the runs of a disk just one is told, and that it is lost in this way.
+/// Checks that a disk has one run, and that it is lost with this state.
 fn check_lost(rt: &impl Abort, alloc: Global, disk: &MemDisk, state: RunState) -> Result<(), Fail> {
     check_runs(rt, alloc, disk, slice::from_ref(&state), &[Found::Lost])
 }
 
-/// A disk, the states of its runs, newest first, and what each run says.
+/// A disk, the states of its runs, newest first, and what each run holds.
 type Runs = (Worked, &'static [RunState], &'static [Found]);
 
 const RUNS: [Runs; 6] = [
@@ -86,7 +86,7 @@ const RUNS: [Runs; 6] = [
         &[RunState::Read; 3],
         &[Found::Deletes, Found::Binds, Found::Binds],
     ),
-    // A run with another digest is lost, and the older one is read.
+    // A run with a wrong digest is lost, and the older one is read.
     (
         Worked::BrokenNewestRun,
         &[RunState::NotARun, RunState::Read],
@@ -119,7 +119,7 @@ fn runs_of_worked_disks_are_read_or_lost(rt: HostRuntime) -> Result<(), Fail> {
     Ok(())
 }
 
-/// Requires that the run with this locator, under this pointer, is lost for this reason.
+/// Checks that the run with this locator is lost with this status, under this write pointer of extent 2.
 fn check_located(
     rt: &impl Abort,
     alloc: Global,
@@ -133,7 +133,7 @@ fn check_located(
 }
 
 #[test]
-fn a_run_is_lost_for_the_reason_of_its_locator(rt: HostRuntime) -> Result<(), Fail> {
+fn a_run_is_lost_with_the_status_of_its_locator(rt: HostRuntime) -> Result<(), Fail> {
     let mut disk = small_disk(rt.alloc())?;
     let run = put_abc_and_its_run(rt.alloc(), &mut disk)?;
     let uuid = Uuid::from_bytes(ONES);
@@ -159,12 +159,12 @@ fn a_hidden_run_is_read(rt: HostRuntime) -> Result<(), Fail> {
     put_chunk(rt.alloc(), &mut disk, 1, 0, ENDS_IN_MAGIC, &[0x78; 28])?;
     let run = put_run(rt.alloc(), &mut disk, 1, 64, TWOS, &[abc_at(1, 0)])?;
     put_superblock(rt.alloc(), &mut disk, &[219, 0], slice::from_ref(&run))?;
-    same(&rt, judge(rt.alloc(), &disk, &run)?, Status::Hidden);
+    same(&rt, status_on(rt.alloc(), &disk, &run)?, Status::Hidden);
     check_runs(&rt, rt.alloc(), &disk, &[RunState::Read], &[Found::Binds])
 }
 
 #[test]
-fn a_chunk_whose_payload_is_no_run_is_no_run(rt: HostRuntime) -> Result<(), Fail> {
+fn a_run_is_lost_if_its_payload_is_not_a_run(rt: HostRuntime) -> Result<(), Fail> {
     let mut disk = small_disk(rt.alloc())?;
     put_chunk(rt.alloc(), &mut disk, 1, 0, ONES, b"abc")?;
     put_superblock(rt.alloc(), &mut disk, &[41, 0], &[abc_at(1, 0)])?;

@@ -1,8 +1,8 @@
-//! The lists that are drawn from what the named locators are worth, and which chunks are live by them.
+//! The lists that follow from the statuses of the named locators, and which chunks are live.
 
 use crate::support::compare::same;
 use crate::support::disks::{
-    deleted_in_the_newest_run, half_garbage, judged_locators, nine_locators, run_named_twice,
+    deleted_in_the_newest_run, half_garbage, locators_with_status, nine_locators, run_named_twice,
 };
 use crate::support::reported::lists_of;
 use scrub_check::{
@@ -16,14 +16,14 @@ use std::process::Abort;
 use std::test::Fail;
 use uuid::Uuid;
 
-/// The live bytes of extents 0 to 3, each asked for by itself.
+/// The live bytes of extents 0 to 3, each computed by itself.
 fn live_one_by_one(alloc: Global, disk: &MemDisk, checked: &[Checked]) -> Result<[u32; 4], Fail> {
     let plan = plan_of(alloc, disk)?;
     let all = scan_in_order(alloc, disk, &plan)?;
     Ok([0, 1, 2, 3].map(|extent| live_bytes(&all, checked, extent)))
 }
 
-/// Where an item begins at a place, among those that begin at 0, 41, 64 and 128, and how many were looked at.
+/// The item at `start` among items that begin at 0, 41, 64 and 128, and how many of them the search looked at.
 fn found_at(start: u32) -> Found {
     let items = [
         Item::Noise { start: 0, stop: 41 },
@@ -52,7 +52,7 @@ fn an_item_is_found_at_its_start_and_nowhere_else(rt: HostRuntime) {
 }
 
 #[test]
-fn no_more_items_are_looked_at_than_their_number_has_digits(rt: HostRuntime) {
+fn the_search_among_four_items_looks_at_three_at_most(rt: HostRuntime) {
     for start in [0, 41, 64, 128, 129] {
         assert!(rt; found_at(start).probes <= 3);
     }
@@ -74,14 +74,14 @@ fn named_locators_are_checked_in_their_order(rt: HostRuntime) -> Result<(), Fail
     same(&rt, found.checked[0].owner, Owner::Run(0));
     same(&rt, found.checked[0].locator, run);
     same(&rt, found.checked[0].status, Status::Sound);
-    for (checked, judged) in found.checked[1..].iter().zip(&judged_locators()) {
-        same(&rt, (checked.locator, checked.status), *judged);
+    for (checked, expected) in found.checked[1..].iter().zip(&locators_with_status()) {
+        same(&rt, (checked.locator, checked.status), *expected);
     }
     Ok(())
 }
 
 #[test]
-fn of_nine_locators_seven_dangle_and_one_is_hidden(rt: HostRuntime) -> Result<(), Fail> {
+fn seven_of_nine_locators_dangle_and_one_is_hidden(rt: HostRuntime) -> Result<(), Fail> {
     let (disk, _) = nine_locators(&rt, rt.alloc())?;
     let found = lists_of(&rt, rt.alloc(), &disk)?;
     let dangling = dangling(rt.alloc(), &found.checked)?;
@@ -115,7 +115,7 @@ fn a_chunk_that_a_hidden_locator_names_is_not_live(rt: HostRuntime) -> Result<()
 }
 
 #[test]
-fn what_a_deleted_shard_had_is_an_orphan(rt: HostRuntime) -> Result<(), Fail> {
+fn the_chunk_of_a_deleted_shard_is_an_orphan(rt: HostRuntime) -> Result<(), Fail> {
     let disk = deleted_in_the_newest_run(&rt, rt.alloc())?;
     let found = lists_of(&rt, rt.alloc(), &disk)?;
     same(&rt, found.live.as_slice(), [0, 250, 155].as_slice());
@@ -139,7 +139,7 @@ fn a_chunk_that_two_locators_name_is_live_once(rt: HostRuntime) -> Result<(), Fa
     Ok(())
 }
 
-/// Requires that one extent may be reclaimed, and what that frees and keeps.
+/// Checks that there is one candidate: its extent, the bytes that it frees, and the chunks that it keeps.
 fn check_candidate(
     rt: &impl Abort,
     candidates: &[Candidate],
@@ -163,7 +163,7 @@ fn an_extent_that_no_locator_names_may_be_reclaimed(rt: HostRuntime) -> Result<(
 }
 
 #[test]
-fn an_extent_that_is_half_live_may_be_reclaimed_but_for_what_lives(
+fn a_half_live_extent_may_be_reclaimed_and_keeps_its_live_chunk(
     rt: HostRuntime,
 ) -> Result<(), Fail> {
     let disk = half_garbage(rt.alloc())?;
@@ -173,7 +173,9 @@ fn an_extent_that_is_half_live_may_be_reclaimed_but_for_what_lives(
 }
 
 #[test]
-fn what_a_locator_dangles_into_or_hides_in_is_not_reclaimed(rt: HostRuntime) -> Result<(), Fail> {
+fn an_extent_with_a_dangling_or_hidden_locator_is_not_reclaimed(
+    rt: HostRuntime,
+) -> Result<(), Fail> {
     let (disk, _) = nine_locators(&rt, rt.alloc())?;
     let found = lists_of(&rt, rt.alloc(), &disk)?;
     assert!(rt; found.candidates.is_empty());

@@ -1,8 +1,8 @@
-//! Which locators a disk names, and what its shards are bound to.
+//! Which locators a disk names, and which runs bind its shards.
 
 use crate::support::compare::same;
 use crate::support::disks::{
-    broken_newest_run, deleted_in_the_newest_run, judged_locators, nine_locators,
+    broken_newest_run, deleted_in_the_newest_run, locators_with_status, nine_locators,
     put_abc_and_its_run, run_named_twice,
 };
 use scrub_check::{Named, Owner, named_locators, read_runs};
@@ -15,8 +15,7 @@ use std::alloc::Global;
 use std::process::Abort;
 use std::test::Fail;
 
-/// The shard map of a disk, and the locators that it names. The runs that were read are few enough to be merged: their type
-/// says so.
+/// The shard map of a disk, and the locators that it names. The type of the runs says that they are few enough to merge.
 fn shards_and_named(alloc: Global, disk: &MemDisk) -> Result<(ShardMap, Vec<Named>), Fail> {
     let plan = plan_of(alloc, disk)?;
     let all = scan_in_order(alloc, disk, &plan)?;
@@ -26,23 +25,23 @@ fn shards_and_named(alloc: Global, disk: &MemDisk) -> Result<(ShardMap, Vec<Name
     Ok((map, named))
 }
 
-/// A locator of the shard in the runs here.
-fn of_shard(locator: Locator) -> Named {
+/// A locator of the one shard in the runs here.
+fn named_by_shard(locator: Locator) -> Named {
     Named {
         owner: Owner::Shard(SHARD),
         locator,
     }
 }
 
-/// The locator of a run.
-fn of_run(number: u32, locator: Locator) -> Named {
+/// The locator of run `number`.
+fn named_by_run(number: u32, locator: Locator) -> Named {
     Named {
         owner: Owner::Run(number),
         locator,
     }
 }
 
-/// Requires that the shard alone is bound, by this run.
+/// Checks that only the one shard is bound, and by this run.
 fn check_bound(rt: &impl Abort, map: &ShardMap, run: u32, doubtful: bool) {
     assert!(rt; map.bindings().len() == 1);
     assert!(rt;
@@ -51,13 +50,13 @@ fn check_bound(rt: &impl Abort, map: &ShardMap, run: u32, doubtful: bool) {
     );
 }
 
-/// Requires that no shard is bound.
+/// Checks that no shard is bound.
 fn check_unbound(rt: &impl Abort, map: &ShardMap) {
     assert!(rt; map.bindings().is_empty());
     assert!(rt; map.get(&SHARD).is_none());
 }
 
-/// Compares who has the locators that are named.
+/// Checks the owners of named locators.
 fn check_owners(rt: &impl Abort, named: &[Named], owners: &[Owner]) {
     assert!(rt; named.len() == owners.len());
     for (named, owner) in named.iter().zip(owners) {
@@ -71,7 +70,7 @@ fn the_locator_of_a_run_is_named_before_those_of_its_shard(rt: HostRuntime) -> R
     let run = put_abc_and_its_run(rt.alloc(), &mut disk)?;
     let (map, named) = shards_and_named(rt.alloc(), &disk)?;
     check_bound(&rt, &map, 0, false);
-    let wanted = [of_run(0, run), of_shard(abc_at(1, 0))];
+    let wanted = [named_by_run(0, run), named_by_shard(abc_at(1, 0))];
     same(&rt, named.as_slice(), wanted.as_slice());
     Ok(())
 }
@@ -83,7 +82,7 @@ fn the_locator_of_a_lost_run_is_named(rt: HostRuntime) -> Result<(), Fail> {
     mark_bad(&mut disk, 2, 0)?;
     let (map, named) = shards_and_named(rt.alloc(), &disk)?;
     check_unbound(&rt, &map);
-    same(&rt, named.as_slice(), [of_run(0, run)].as_slice());
+    same(&rt, named.as_slice(), [named_by_run(0, run)].as_slice());
     Ok(())
 }
 
@@ -94,9 +93,9 @@ fn a_run_and_nine_locators_of_a_shard_are_named_in_their_order(
     let (disk, run) = nine_locators(&rt, rt.alloc())?;
     let (_, named) = shards_and_named(rt.alloc(), &disk)?;
     assert!(rt; named.len() == 10);
-    same(&rt, named[0], of_run(0, run));
-    for (found, (locator, _)) in named[1..].iter().zip(judged_locators()) {
-        same(&rt, *found, of_shard(locator));
+    same(&rt, named[0], named_by_run(0, run));
+    for (found, (locator, _)) in named[1..].iter().zip(locators_with_status()) {
+        same(&rt, *found, named_by_shard(locator));
     }
     Ok(())
 }
@@ -110,11 +109,11 @@ fn a_shard_that_the_newest_run_deletes_is_not_bound(rt: HostRuntime) -> Result<(
     Ok(())
 }
 
-/// The owners of two runs' locators and one shard's.
+/// The owners of the locators of two runs and of one shard.
 const TWO_RUNS_AND_A_SHARD: [Owner; 3] = [Owner::Run(0), Owner::Run(1), Owner::Shard(SHARD)];
 
 #[test]
-fn a_shard_behind_a_broken_run_is_bound_and_doubtful(rt: HostRuntime) -> Result<(), Fail> {
+fn a_shard_after_a_broken_run_is_bound_and_doubtful(rt: HostRuntime) -> Result<(), Fail> {
     let disk = broken_newest_run(&rt, rt.alloc())?;
     let (map, named) = shards_and_named(rt.alloc(), &disk)?;
     check_bound(&rt, &map, 1, true);

@@ -1,5 +1,4 @@
-//! The shard map of a list of runs once more, by an ordered map that the runs are put into, newest first, as a slow
-//! reference.
+//! A slow reference for the shard map: an ordered map that the runs are put into, newest first.
 
 use crate::support::compare::same;
 use scrub_check::read_runs;
@@ -14,7 +13,7 @@ use std::collections::BTreeMap;
 use std::process::Abort;
 use std::test::Fail;
 
-/// The newest entry of a shard: the number of its run, whether a lost run stands before that, and the locators.
+/// The newest entry of a shard: the number of its run, whether a lost run comes before that one, and the locators.
 #[derive(Debug, PartialEq, Eq, Drop)]
 struct Newest {
     run: u32,
@@ -22,7 +21,7 @@ struct Newest {
     locators: Vec<Locator>,
 }
 
-/// Puts the entries of a run into a map, but for shards that have one already.
+/// Puts the entries of a run into a map, except for shards that it has already.
 fn put_run(
     alloc: Global,
     newest: &mut BTreeMap<ShardId, Newest>,
@@ -44,7 +43,7 @@ fn put_run(
     Ok(())
 }
 
-/// The newest entry of each shard, deleted ones too.
+/// The newest entry of each shard, deleted ones included.
 fn newest_of(alloc: Global, runs: &[Option<Run>]) -> Result<BTreeMap<ShardId, Newest>, Fail> {
     let mut newest = BTreeMap::new(alloc);
     let mut doubtful = false;
@@ -59,7 +58,7 @@ fn newest_of(alloc: Global, runs: &[Option<Run>]) -> Result<BTreeMap<ShardId, Ne
     Ok(newest)
 }
 
-/// Compares a binding with what the map has of its shard.
+/// Compares a binding with the map's entry for its shard.
 fn check_binding(rt: &impl Abort, found: &Binding, id: ShardId, wanted: &Newest) {
     same(rt, found.id(), id);
     same(rt, found.locators(), wanted.locators.as_slice());

@@ -1,4 +1,4 @@
-//! The index runs of a disk, as threads read them, beside what one reader reads. What they have to be is left to
+//! The index runs of a disk as threads read them, compared with those that one reader reads. For what they should be see
 //! `index_runs`.
 
 use crate::support::compare::same;
@@ -16,7 +16,7 @@ use std::process::Abort;
 use std::test::Fail;
 use std::thread::Threads;
 
-/// The entries of a run, none where it is lost.
+/// The entries of a run, or `None` if it is lost.
 fn entries_of(run: &Option<Run>) -> Option<&[Entry]> {
     run.as_ref().map(|run| run.entries())
 }
@@ -30,7 +30,7 @@ fn check_entries(rt: &impl Abort, found: &[Entry], wanted: &[Entry]) {
     }
 }
 
-/// Compares a run with another. Either both are lost, or neither is.
+/// Compares a run with another: either both are lost, or both have the same entries.
 fn check_run(rt: &impl Abort, found: &Option<Run>, wanted: &Option<Run>) {
     match (entries_of(found), entries_of(wanted)) {
         (Some(found), Some(wanted)) => check_entries(rt, found, wanted),
@@ -39,8 +39,8 @@ fn check_run(rt: &impl Abort, found: &Option<Run>, wanted: &Option<Run>) {
     }
 }
 
-/// Compares the runs of a disk as threads read them with those that one reader reads. They are this many, and as many of them
-/// are lost.
+/// Compares the runs of a disk that threads read with those that one reader reads. Checks how many there are, and how many are
+/// lost.
 fn check_runs<R: Threads + Abort + Sync>(
     rt: &R,
     alloc: Global,
@@ -86,11 +86,11 @@ fn two_and_three_runs_are_read(rt: HostRuntime) -> Result<(), Fail> {
     check_runs(&rt, rt.alloc(), &deleted, 3, 0)
 }
 
-/// The bytes of the frame of a run that has one locator.
+/// The size in bytes of the frame of a run with one locator.
 const RUN_FRAME: u32 = 155;
 
-/// A disk with 32 runs one behind the other, each with a locator of its own. Every fifth is named a byte past where it begins,
-/// and the payload of every seventh is no run, from the first on.
+/// A disk with 32 runs in a row, each with its own locator. From the first on, every fifth locator is one byte off, and every
+/// seventh payload isn't a run.
 fn runs_in_a_row(alloc: Global) -> Result<MemDisk, Fail> {
     let mut disk = MemDisk::blank(alloc, Geometry::new(256, 64, 3)?)?;
     let mut runs = Vec::new(alloc);
@@ -109,8 +109,8 @@ fn runs_in_a_row(alloc: Global) -> Result<MemDisk, Fail> {
 }
 
 #[test]
-fn of_32_runs_each_is_read_or_lost_at_its_place(rt: HostRuntime) -> Result<(), Fail> {
-    // Seven are named past where they begin, and four more are no runs.
+fn each_of_32_runs_is_read_or_lost_at_its_place(rt: HostRuntime) -> Result<(), Fail> {
+    // Seven locators are one byte off, and four more payloads aren't runs.
     let disk = runs_in_a_row(rt.alloc())?;
     check_runs(&rt, rt.alloc(), &disk, 32, 11)
 }

@@ -1,8 +1,8 @@
-//! Locators of sealed frames: what they are worth, how many bytes such chunks take, and runs that stand in them.
+//! Locators of sealed frames: their statuses, the bytes that such chunks take, and index runs in sealed frames.
 
 use crate::support::compare::same;
 use crate::support::disks::put_run;
-use crate::support::reported::{judge, lists_of};
+use crate::support::reported::{lists_of, status_on};
 use scrub_check::Status;
 use scrub_disk::MemDisk;
 use scrub_fakes::{
@@ -14,7 +14,7 @@ use std::process::Abort;
 use std::slice;
 use std::test::Fail;
 
-/// A disk of three extents with the sealed frame of `abc`, 75 bytes, at the start of extent 1, under this pointer.
+/// A disk of three extents with the sealed frame of `abc` (75 bytes) at the start of extent 1, under this write pointer.
 fn sealed_under(alloc: Global, pointer: u32) -> Result<MemDisk, Fail> {
     let mut disk = small_disk(alloc)?;
     put_superblock(alloc, &mut disk, &[pointer, 0], &[])?;
@@ -22,15 +22,15 @@ fn sealed_under(alloc: Global, pointer: u32) -> Result<MemDisk, Fail> {
     Ok(disk)
 }
 
-/// Compares what the locator of `abc` at the start of extent 1 is worth under a pointer.
+/// Checks the status of the locator of `abc` at the start of extent 1, under a write pointer.
 fn check_under(rt: &impl Abort, alloc: Global, pointer: u32, status: Status) -> Result<(), Fail> {
     let disk = sealed_under(alloc, pointer)?;
-    same(rt, judge(alloc, &disk, &abc_at(1, 0))?, status);
+    same(rt, status_on(alloc, &disk, &abc_at(1, 0))?, status);
     Ok(())
 }
 
 #[test]
-fn the_range_and_the_pointer_are_those_of_the_least_frame(rt: HostRuntime) -> Result<(), Fail> {
+fn range_and_pointer_are_checked_by_the_size_of_a_plain_frame(rt: HostRuntime) -> Result<(), Fail> {
     check_under(&rt, rt.alloc(), 75, Status::Sound)?;
     check_under(&rt, rt.alloc(), 60, Status::NoFrame)?;
     check_under(&rt, rt.alloc(), 40, Status::PastPointer)
@@ -42,7 +42,7 @@ fn a_sealed_frame_with_an_unreadable_end_is_no_frame(rt: HostRuntime) -> Result<
     mark_bad(&mut disk, 1, 1)?;
     same(
         &rt,
-        judge(rt.alloc(), &disk, &abc_at(1, 0))?,
+        status_on(rt.alloc(), &disk, &abc_at(1, 0))?,
         Status::NoFrame,
     );
     Ok(())
@@ -56,7 +56,7 @@ fn a_chunk_over_the_end_of_a_sealed_frame_is_sound(rt: HostRuntime) -> Result<()
     put_chunk(rt.alloc(), &mut disk, 1, 128, ONES, b"abc")?;
     same(
         &rt,
-        judge(rt.alloc(), &disk, &abc_at(1, 128))?,
+        status_on(rt.alloc(), &disk, &abc_at(1, 128))?,
         Status::Sound,
     );
     Ok(())
@@ -73,7 +73,7 @@ fn both_forms(alloc: Global) -> Result<MemDisk, Fail> {
 }
 
 #[test]
-fn live_bytes_are_those_of_each_form(rt: HostRuntime) -> Result<(), Fail> {
+fn live_bytes_count_chunks_of_both_forms(rt: HostRuntime) -> Result<(), Fail> {
     let lists = lists_of(&rt, rt.alloc(), &both_forms(rt.alloc())?)?;
     assert!(rt; lists.live.as_slice() == [116, 215].as_slice());
     assert!(rt; lists.orphans.is_empty());

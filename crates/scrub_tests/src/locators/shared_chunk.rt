@@ -1,4 +1,4 @@
-//! One chunk that 3,200 locators name: the run of fifty shards, each of which has 64 locators to it.
+//! One chunk that 3,200 locators name: fifty shards in one run, each with 64 locators to it.
 
 use crate::support::compare::same;
 use crate::support::disks::payload_of;
@@ -13,7 +13,7 @@ use std::process::Abort;
 use std::slice;
 use std::test::Fail;
 
-/// The payload of the run of the shards 1 to 50. Each has 64 locators, all of `abc` at the start of extent 1.
+/// The payload of the run of shards 1 to 50, each with 64 locators of the `abc` at the start of extent 1.
 fn run_of_fifty(alloc: Global) -> Result<Vec<u8>, Fail> {
     let mut entries = Vec::new(alloc);
     for number in 1..51 {
@@ -23,8 +23,7 @@ fn run_of_fifty(alloc: Global) -> Result<Vec<u8>, Fail> {
     payload_of(alloc, &entries)
 }
 
-/// A disk of three extents of 256 KiB with that chunk in extent 1 and that run in extent 2, the run's locator, and its
-/// payload.
+/// A disk of three extents of 256 KiB with that chunk in extent 1 and that run in extent 2; the run's locator; and its payload.
 fn fifty_shards(rt: &impl Abort, alloc: Global) -> Result<(MemDisk, Locator, Vec<u8>), Fail> {
     let mut disk = MemDisk::blank(alloc, Geometry::new(4_096, 64, 3)?)?;
     put_chunk(alloc, &mut disk, 1, 0, ONES, b"abc")?;
@@ -35,7 +34,7 @@ fn fifty_shards(rt: &impl Abort, alloc: Global) -> Result<(MemDisk, Locator, Vec
     Ok((disk, run, payload))
 }
 
-/// Requires that locators of the chunk are sound, 64 for each shard, and that the shards come in their order.
+/// Checks that the locators of the chunk are sound, 64 for each shard, in the order of the shards.
 fn check_shards(rt: &impl Abort, checked: &[Checked]) {
     assert!(rt; checked.len() == 3_200);
     for (number, sixty_four) in (1..51).zip(checked.chunks(64)) {

@@ -1,8 +1,8 @@
-//! What locators are worth: each status once, and what parts it from a sound locator.
+//! Statuses of locators: each of them, and the cases on both sides of each limit.
 
 use crate::support::compare::same;
-use crate::support::disks::{judged_locators, nine_locators, overwritten_end};
-use crate::support::reported::judge;
+use crate::support::disks::{locators_with_status, nine_locators, overwritten_end};
+use crate::support::reported::status_on;
 use scrub_check::Status;
 use scrub_disk::MemDisk;
 use scrub_fakes::{
@@ -14,7 +14,7 @@ use std::process::Abort;
 use std::test::Fail;
 use uuid::Uuid;
 
-/// Compares what locators are worth on a disk.
+/// Checks the statuses of locators on a disk.
 fn check(
     rt: &impl Abort,
     alloc: Global,
@@ -22,12 +22,12 @@ fn check(
     cases: &[(Locator, Status)],
 ) -> Result<(), Fail> {
     for (locator, status) in cases {
-        same(rt, judge(alloc, disk, locator)?, *status);
+        same(rt, status_on(alloc, disk, locator)?, *status);
     }
     Ok(())
 }
 
-/// A disk of three extents with `abc` at the start of extent 1, under this pointer.
+/// A disk of three extents with `abc` at the start of extent 1, under this write pointer.
 fn abc_under(alloc: Global, pointer: u32) -> Result<MemDisk, Fail> {
     let mut disk = small_disk(alloc)?;
     put_superblock(alloc, &mut disk, &[pointer, 0], &[])?;
@@ -36,43 +36,43 @@ fn abc_under(alloc: Global, pointer: u32) -> Result<MemDisk, Fail> {
 }
 
 #[test]
-fn nine_locators_of_nine_statuses(rt: HostRuntime) -> Result<(), Fail> {
+fn nine_locators_have_nine_statuses(rt: HostRuntime) -> Result<(), Fail> {
     let (disk, run) = nine_locators(&rt, rt.alloc())?;
-    check(&rt, rt.alloc(), &disk, &judged_locators())?;
+    check(&rt, rt.alloc(), &disk, &locators_with_status())?;
     check(&rt, rt.alloc(), &disk, &[(run, Status::Sound)])
 }
 
 /// A chunk: its extent, its offset, its UUID and its payload.
 type Chunk = (u32, u32, [u8; 16], &'static [u8]);
 
-/// A small disk: the pointer of extent 1, where there is a superblock, the chunks, and the unreadable pages; and locators: the
-/// chunk that each is of, the length that it has, and what it is worth.
+/// A small disk: the pointer of extent 1 if there is a superblock, the chunks, and the unreadable pages. Then locators: the
+/// chunk that each is of, its length, and its status.
 #[derive(Clone, Copy)]
-struct Judged {
+struct StatusRow {
     what: &'static str,
     pointer: Option<u32>,
     chunks: &'static [Chunk],
     bad_pages: &'static [(u32, u32)],
-    judged: &'static [(Chunk, u32, Status)],
+    cases: &'static [(Chunk, u32, Status)],
 }
 
-/// Without a superblock each pointer is the extent's end.
-const WHOLE: Judged = Judged {
+/// Without a superblock each pointer is at the end of its extent.
+const WHOLE: StatusRow = StatusRow {
     what: "",
     pointer: None,
     chunks: &[],
     bad_pages: &[],
-    judged: &[],
+    cases: &[],
 };
 
 const ABC: Chunk = (1, 0, ONES, b"abc");
 
-/// Frames of 64 and of 129 bytes; the last byte of the second is the first of page 2.
+/// Payloads of frames of 64 and of 129 bytes; the last byte of the second frame is the first of page 2.
 const SHORT: &[u8] = &[0x78; 26];
 
 const LONG: Chunk = (1, 0, ONES, &[0x78; 91]);
 
-/// The UUID of `abc` with another first byte, and with another last one.
+/// The UUID of `abc` with another first byte, and with another last byte.
 const OTHER_FIRST: [u8; 16] = [
     0x10, 0x11, 0x11, 0x11, 0x11, 0x11, 0x11, 0x11, 0x11, 0x11, 0x11, 0x11, 0x11, 0x11, 0x11, 0x11,
 ];
@@ -81,11 +81,11 @@ const OTHER_LAST: [u8; 16] = [
     0x11, 0x11, 0x11, 0x11, 0x11, 0x11, 0x11, 0x11, 0x11, 0x11, 0x11, 0x11, 0x11, 0x11, 0x11, 0x10,
 ];
 
-const JUDGED: [Judged; 13] = [
-    Judged {
+const STATUS_ROWS: [StatusRow; 13] = [
+    StatusRow {
         what: "a chunk in extent 0 or past the last extent",
         chunks: &[(0, 0, ONES, b"abc"), ABC, (2, 0, ONES, b"abc")],
-        judged: &[
+        cases: &[
             ((0, 0, ONES, b"abc"), 3, Status::OutOfRange),
             (ABC, 3, Status::Sound),
             ((2, 0, ONES, b"abc"), 3, Status::Sound),
@@ -93,123 +93,123 @@ const JUDGED: [Judged; 13] = [
         ],
         ..WHOLE
     },
-    Judged {
+    StatusRow {
         what: "a frame that would end one byte past the extent",
         chunks: &[(1, 192, ONES, SHORT)],
-        judged: &[
+        cases: &[
             ((1, 192, ONES, SHORT), 26, Status::Sound),
             ((1, 192, ONES, SHORT), 27, Status::OutOfRange),
             ((1, 192, ONES, SHORT), u32::MAX, Status::OutOfRange),
         ],
         ..WHOLE
     },
-    Judged {
+    StatusRow {
         what: "a frame that ends at the pointer",
         pointer: Some(41),
         chunks: &[ABC],
-        judged: &[
+        cases: &[
             (ABC, 3, Status::Sound),
             ((1, 0, OTHER_FIRST, b"abc"), 3, Status::WrongUuid),
             ((1, 0, OTHER_LAST, b"abc"), 3, Status::WrongUuid),
         ],
         ..WHOLE
     },
-    Judged {
+    StatusRow {
         what: "a frame that ends one byte past the pointer",
         pointer: Some(40),
         chunks: &[ABC],
-        judged: &[(ABC, 3, Status::PastPointer)],
+        cases: &[(ABC, 3, Status::PastPointer)],
         ..WHOLE
     },
-    Judged {
+    StatusRow {
         what: "a frame whose first page is unreadable",
         chunks: &[LONG],
         bad_pages: &[(1, 0)],
-        judged: &[(LONG, 91, Status::Unreadable)],
+        cases: &[(LONG, 91, Status::Unreadable)],
         ..WHOLE
     },
-    Judged {
+    StatusRow {
         what: "a frame whose second page is unreadable",
         chunks: &[LONG],
         bad_pages: &[(1, 1)],
-        judged: &[(LONG, 91, Status::Unreadable)],
+        cases: &[(LONG, 91, Status::Unreadable)],
         ..WHOLE
     },
-    Judged {
-        what: "a frame of whose last page one byte is its own",
+    StatusRow {
+        what: "a frame with one byte on its last page",
         chunks: &[LONG],
         bad_pages: &[(1, 2)],
-        judged: &[(LONG, 91, Status::Unreadable)],
+        cases: &[(LONG, 91, Status::Unreadable)],
         ..WHOLE
     },
-    Judged {
+    StatusRow {
         what: "a frame before an unreadable page",
         chunks: &[LONG],
         bad_pages: &[(1, 3)],
-        judged: &[(LONG, 91, Status::Sound)],
+        cases: &[(LONG, 91, Status::Sound)],
         ..WHOLE
     },
-    Judged {
+    StatusRow {
         what: "a frame that ends with its page is read without the next",
         chunks: &[(1, 0, ONES, SHORT)],
         bad_pages: &[(1, 1)],
-        judged: &[
+        cases: &[
             ((1, 0, ONES, SHORT), 26, Status::Sound),
             ((1, 0, ONES, SHORT), 27, Status::Unreadable),
         ],
         ..WHOLE
     },
-    Judged {
+    StatusRow {
         what: "a frame that ends with the last byte of the last extent",
         chunks: &[(2, 192, ONES, SHORT)],
-        judged: &[
+        cases: &[
             ((2, 192, ONES, SHORT), 26, Status::Sound),
             ((2, 192, ONES, SHORT), 27, Status::OutOfRange),
         ],
         ..WHOLE
     },
-    Judged {
+    StatusRow {
         what: "that frame, with the last page unreadable",
         chunks: &[(2, 192, ONES, SHORT)],
         bad_pages: &[(2, 3)],
-        judged: &[((2, 192, ONES, SHORT), 26, Status::Unreadable)],
+        cases: &[((2, 192, ONES, SHORT), 26, Status::Unreadable)],
         ..WHOLE
     },
-    Judged {
-        what: "one byte behind the start of a frame",
+    StatusRow {
+        what: "one byte after the start of a frame",
         pointer: Some(256),
         chunks: &[ABC],
-        judged: &[
+        cases: &[
             (ABC, 3, Status::Sound),
             ((1, 1, ONES, b"abc"), 3, Status::NoFrame),
         ],
         ..WHOLE
     },
-    Judged {
+    StatusRow {
         what: "a length of one byte less or more",
         pointer: Some(256),
         chunks: &[ABC],
-        judged: &[(ABC, 2, Status::WrongLength), (ABC, 4, Status::WrongLength)],
+        cases: &[(ABC, 2, Status::WrongLength), (ABC, 4, Status::WrongLength)],
         ..WHOLE
     },
 ];
 
-/// Makes the disk.
-fn disk_of(alloc: Global, judged: &Judged) -> Result<MemDisk, Fail> {
+/// Makes the disk of a row.
+fn disk_of(alloc: Global, row: &StatusRow) -> Result<MemDisk, Fail> {
     let mut disk = small_disk(alloc)?;
-    if let Some(pointer) = judged.pointer {
+    if let Some(pointer) = row.pointer {
         put_superblock(alloc, &mut disk, &[pointer, 0], &[])?;
     }
-    for (extent, offset, uuid, payload) in judged.chunks {
+    for (extent, offset, uuid, payload) in row.chunks {
         put_chunk(alloc, &mut disk, *extent, *offset, *uuid, payload)?;
     }
-    for (extent, page) in judged.bad_pages {
+    for (extent, page) in row.bad_pages {
         mark_bad(&mut disk, *extent, *page)?;
     }
     Ok(disk)
 }
 
-/// The locator of a chunk, with another length.
+/// The locator of a chunk, with this length.
 fn locator_of(chunk: &Chunk, length: u32) -> Locator {
     let (extent, offset, uuid, payload) = *chunk;
     Locator {
@@ -221,26 +221,26 @@ fn locator_of(chunk: &Chunk, length: u32) -> Locator {
     }
 }
 
-/// Compares what the locators of a row are worth.
-fn check_judged(rt: &impl Abort, alloc: Global, row: &Judged) -> Result<(), Fail> {
+/// Checks the statuses of the locators of a row.
+fn check_row(rt: &impl Abort, alloc: Global, row: &StatusRow) -> Result<(), Fail> {
     let disk = disk_of(alloc, row)?;
-    for (chunk, length, status) in row.judged {
-        let found = judge(alloc, &disk, &locator_of(chunk, *length))?;
+    for (chunk, length, status) in row.cases {
+        let found = status_on(alloc, &disk, &locator_of(chunk, *length))?;
         assert!(rt; found == *status, "{}", row.what);
     }
     Ok(())
 }
 
 #[test]
-fn locators_are_worth_what_parts_them_from_sound_ones(rt: HostRuntime) -> Result<(), Fail> {
-    for row in &JUDGED {
-        check_judged(&rt, rt.alloc(), row)?;
+fn each_locator_has_the_status_of_its_fault(rt: HostRuntime) -> Result<(), Fail> {
+    for row in &STATUS_ROWS {
+        check_row(&rt, rt.alloc(), row)?;
     }
     Ok(())
 }
 
 #[test]
-fn one_other_byte_makes_another_digest(rt: HostRuntime) -> Result<(), Fail> {
+fn one_changed_byte_makes_a_digest_wrong(rt: HostRuntime) -> Result<(), Fail> {
     let disk = abc_under(rt.alloc(), 41)?;
     for place in [0, 31] {
         let mut digest = ABC_DIGEST;
@@ -249,13 +249,13 @@ fn one_other_byte_makes_another_digest(rt: HostRuntime) -> Result<(), Fail> {
             digest,
             ..abc_at(1, 0)
         };
-        let found = judge(rt.alloc(), &disk, &locator)?;
+        let found = status_on(rt.alloc(), &disk, &locator)?;
         assert!(rt; found == Status::WrongDigest, "byte {place}");
     }
     Ok(())
 }
 
-/// The locator of the frame that `overwritten_end` has at the start of extent 1.
+/// The locator of the frame that `overwritten_end` puts at the start of extent 1.
 fn overwritten(uuid: [u8; 16]) -> Locator {
     locate(1, 0, Uuid::from_bytes(uuid), &[0x78; 28])
 }
@@ -277,7 +277,7 @@ fn a_chunk_is_hidden_by_a_frame_whose_uuid_ends_in_its_magic(rt: HostRuntime) ->
 }
 
 #[test]
-fn of_several_reasons_the_first_counts(rt: HostRuntime) -> Result<(), Fail> {
+fn the_first_of_several_faults_is_the_status(rt: HostRuntime) -> Result<(), Fail> {
     let mut disk = abc_under(rt.alloc(), 130)?;
     mark_bad(&mut disk, 1, 1)?;
     mark_bad(&mut disk, 1, 2)?;
@@ -309,7 +309,7 @@ fn of_several_reasons_the_first_counts(rt: HostRuntime) -> Result<(), Fail> {
         ),
     ];
     for (locator, status) in cases {
-        same(&rt, judge(rt.alloc(), &disk, &locator)?, status);
+        same(&rt, status_on(rt.alloc(), &disk, &locator)?, status);
     }
     Ok(())
 }

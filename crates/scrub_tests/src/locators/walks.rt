@@ -1,14 +1,14 @@
-//! The lists of the checks and of chunks once more, by plain walks straight from their definitions, as a slow reference;
-//! and with them the items of each extent and the shard map, on each disk whole and with each page unreadable in turn.
+//! Slow references for the lists of the checks: plain walks straight from the definitions. Each worked disk is compared whole
+//! and with each page unreadable in turn, along with its items and its shard map.
 
 ghost use Rattle.std.specs.Prelude.{map};
 ghost use Rattle.std.specs.List.Sorted.{IsStrictlyIncreasing};
 ghost use Rattle.scrub_scan.specs.Item.{start_of};
 
-use crate::support::compare::same;
-use crate::support::disks::{Worked, nine_locators};
 use crate::locators::ordered_map::check_map;
 use crate::scan::plain_scan::check_scan;
+use crate::support::compare::same;
+use crate::support::disks::{Worked, nine_locators};
 use crate::support::reported::checked_of;
 use scrub_check::{
     Candidate, Checked, Place, SharedPlace, Status, candidates, find_start, orphans, shared, twins,
@@ -22,7 +22,7 @@ use std::process::Abort;
 use std::test::Fail;
 use std::thread::Threads;
 
-/// The chunks of a disk, by extent and then start.
+/// The chunks of a disk, by extent and then by start.
 fn walk_chunks(alloc: Global, all: &AllFindings<'_, MemDisk>) -> Result<Vec<Place>, Fail> {
     let mut places = Vec::new(alloc);
     for i in 0..all.len() {
@@ -56,7 +56,7 @@ fn sound_at(checked: &[Checked], extent: u32, offset: u32) -> usize {
         .count()
 }
 
-/// The chunks to whose place no sound locator points.
+/// The chunks that no sound locator points to.
 fn walk_orphans(alloc: Global, chunks: &[Place], checked: &[Checked]) -> Result<Vec<Place>, Fail> {
     let mut orphans = Vec::new(alloc);
     for chunk in chunks {
@@ -67,7 +67,7 @@ fn walk_orphans(alloc: Global, chunks: &[Place], checked: &[Checked]) -> Result<
     Ok(orphans)
 }
 
-/// The chunks whose UUID stands on another chunk, too.
+/// The chunks whose UUID another chunk has too.
 fn walk_twins(alloc: Global, chunks: &[Place]) -> Result<Vec<Place>, Fail> {
     let mut twins = Vec::new(alloc);
     for chunk in chunks {
@@ -78,7 +78,7 @@ fn walk_twins(alloc: Global, chunks: &[Place]) -> Result<Vec<Place>, Fail> {
     Ok(twins)
 }
 
-/// The places of a small disk that several sound locators point to, by a walk over all bytes of all extents.
+/// The places of a small disk that several sound locators point to, found by a walk over all bytes of all extents.
 fn walk_shared(
     alloc: Global,
     disk: &MemDisk,
@@ -92,7 +92,7 @@ fn walk_shared(
     Ok(shared)
 }
 
-/// Adds those places of an extent of so many bytes, rising.
+/// Adds those places of an extent of `bytes` bytes, in rising order.
 fn add_shared(
     shared: &mut Vec<SharedPlace>,
     checked: &[Checked],
@@ -120,7 +120,7 @@ struct Reclaimed {
     keep: Vec<u32>,
 }
 
-/// The starts of the live chunks of an extent, and how many bytes these take.
+/// The starts of the live chunks of an extent, and their bytes in all.
 fn walk_live(
     alloc: Global,
     found: &ExtentResult<'_, MemDisk>,
@@ -138,7 +138,7 @@ fn walk_live(
     Ok((starts, bytes))
 }
 
-/// Whether something was written to an extent, all of it is readable, and sound locators alone name the extent.
+/// Whether an extent has bytes below its pointer, all of them readable, and only sound locators name the extent.
 fn is_known(disk: &MemDisk, found: &ExtentResult<'_, MemDisk>, checked: &[Checked]) -> bool {
     let page = disk.geometry().page() as u64;
     let pointer = found.pointer() as u64;
@@ -152,8 +152,7 @@ fn is_known(disk: &MemDisk, found: &ExtentResult<'_, MemDisk>, checked: &[Checke
             && one.status != Status::Sound)
 }
 
-/// The extents that may be reclaimed where there is a superblock and no doubt, by what is freed, falling, and then by
-/// number.
+/// The extents that may be reclaimed if there is a superblock and no doubt: those that free most bytes first, then by number.
 fn walk_candidates(
     alloc: Global,
     disk: &MemDisk,
@@ -176,7 +175,7 @@ fn walk_candidates(
     Ok(found)
 }
 
-/// Compares candidates with what the walk finds.
+/// Compares the candidates with those of the walk.
 fn check_candidates(
     rt: &impl Abort,
     alloc: Global,
@@ -198,12 +197,12 @@ fn check_candidates(
     Ok(())
 }
 
-/// Where an item begins at a place, by a walk over all items.
+/// The index of the item that begins at `start`, by a walk over all items.
 fn walk_start(items: &[Item], start: u32) -> Option<usize> {
     items.iter().position(|item| item.start() == start)
 }
 
-/// Whether the search for an item finds what the walk finds, at each byte up to a pointer.
+/// Whether the search for an item agrees with the walk, at each byte up to a pointer.
 fn agrees_on_starts(items: &[Item], pointer: u32) -> bool
     requires { IsStrictlyIncreasing (map start_of items.now) }
 {
@@ -214,7 +213,7 @@ fn agrees_on_starts(items: &[Item], pointer: u32) -> bool
     agrees
 }
 
-/// Compares the search for an item at each byte of an extent with what the walk finds.
+/// Compares the search for an item with the walk, at each byte of an extent up to its pointer.
 fn check_starts(
     rt: &impl Abort,
     alloc: Global,
@@ -231,7 +230,7 @@ fn check_starts(
     Ok(())
 }
 
-/// Compares what is found on a disk, its shard map and its lists with what the plain walks find.
+/// Compares the findings of a disk, its shard map and its lists with the references.
 fn check(rt: &(impl Abort + Threads + Sync), alloc: Global, disk: &MemDisk) -> Result<(), Fail> {
     check_scan(rt, alloc, disk)?;
     check_map(rt, alloc, disk)?;
@@ -264,7 +263,7 @@ pub(crate) fn copy_of(alloc: Global, disk: &MemDisk) -> Result<MemDisk, Fail> {
     Ok(copy)
 }
 
-/// Copies a page, or marks it where it is unreadable.
+/// Copies a page, or marks it if it is unreadable.
 fn copy_page(
     alloc: Global,
     disk: &MemDisk,
@@ -284,7 +283,7 @@ fn copy_page(
     Ok(())
 }
 
-/// Does so for a disk, and for each disk that has one more page of it unreadable.
+/// Runs `check` on a disk, and on each copy of it with one more unreadable page.
 fn check_each(
     rt: &(impl Abort + Threads + Sync),
     alloc: Global,
@@ -305,7 +304,7 @@ fn check_each(
 const WALKED: [Worked; 13] = [
     Worked::Zeros,
     Worked::OneShard,
-    Worked::BehindThePointer,
+    Worked::PastThePointer,
     Worked::TornFrame,
     Worked::HalfGarbage,
     Worked::OverwrittenEnd,

@@ -1,17 +1,19 @@
-//! Item lines where a head claims a frame: eight heads that claim the rest of an extent, one of the zero UUID that claims as
-//! much as there is or a byte more, and one of a sealed frame whose last byte is at the pointer.
+//! Items of heads that claim a frame: eight that claim the rest of an extent, one of the zero UUID that claims all there is or
+//! a byte more, and one of a sealed frame that ends one byte past the pointer.
 
-use crate::scan::asking::heads;
+use crate::scan::page_reads::heads;
+use crate::scan::tiling::check_tiling;
 use crate::support::compare::same;
 use crate::support::extents::{Expected, check_extent, put_all};
-use crate::scan::tiling::check_tiling;
 use scrub_disk::{PageSource, read_extent};
 use scrub_fakes::{CountingSource, ONES, plan_of, put_sealed, put_superblock, small_disk};
 use scrub_scan::tile;
 use std::test::Fail;
 
 #[test]
-fn eight_heads_that_claim_the_rest_of_an_extent_are_torn_each(rt: HostRuntime) -> Result<(), Fail> {
+fn each_of_eight_heads_that_claim_the_rest_of_an_extent_is_torn(
+    rt: HostRuntime,
+) -> Result<(), Fail> {
     let disk = heads(rt.alloc())?;
     let lines = [
         "torn 0 64",
@@ -27,7 +29,7 @@ fn eight_heads_that_claim_the_rest_of_an_extent_are_torn_each(rt: HostRuntime) -
 }
 
 #[test]
-fn a_whole_extent_is_read_in_8_pages_where_the_scanner_asks_for_more(
+fn reading_a_whole_extent_asks_for_8_pages_and_tiling_it_for_more(
     rt: HostRuntime,
 ) -> Result<(), Fail> {
     let disk = heads(rt.alloc())?;
@@ -42,7 +44,7 @@ fn a_whole_extent_is_read_in_8_pages_where_the_scanner_asks_for_more(
     Ok(())
 }
 
-/// The length that a head of the zero UUID claims at the start of an extent of zeros, and the lines below the extent's end.
+/// The length that a head of the zero UUID claims at the start of an extent of zeros, and the lines of the whole extent.
 const CLAIMS: [(u32, &[&str]); 3] = [
     (
         218,

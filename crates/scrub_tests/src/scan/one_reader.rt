@@ -12,7 +12,7 @@ use std::test::Fail;
 /// Four pages of zeros.
 const PADS: [&str; 4] = ["pad 0 64", "pad 64 128", "pad 128 192", "pad 192 256"];
 
-/// Compares the findings of one reader: of these extents, in this order, each with its lines.
+/// Checks the findings of one reader: these extents, in this order, each with its lines.
 fn check_all(
     rt: &impl Abort,
     alloc: Global,
@@ -32,14 +32,14 @@ fn check_all(
     Ok(())
 }
 
-/// Requires that one reader has findings of these extents, and of no other.
+/// Checks that one reader has findings of these extents, and of no other.
 fn check_extents(rt: &impl Abort, all: &AllFindings<'_, MemDisk>, extents: &[u32], count: u32) {
     for other in 0..=count {
         assert!(rt; extents.contains(&other) == all.of_extent(other).is_some());
     }
 }
 
-/// Compares the findings of one reader of all planned extents, which are 1 and 2.
+/// Checks the findings of one reader in all planned extents, which are 1 and 2.
 fn check_both(
     rt: &impl Abort,
     alloc: Global,
@@ -53,12 +53,13 @@ fn check_both(
 }
 
 #[test]
-fn one_reader_of_a_blank_disk(rt: HostRuntime) -> Result<(), Fail> {
+fn one_reader_finds_pads_on_a_blank_disk(rt: HostRuntime) -> Result<(), Fail> {
     let disk = small_disk(rt.alloc())?;
     check_both(&rt, rt.alloc(), &disk, &[&PADS, &PADS])
 }
 
-/// The lines of extent 1 of the disk of one shard: of its chunk, and of the zeros behind it, which no superblock leaves out.
+/// The lines of extent 1 of the disk of one shard: its chunk, and the zeros after it, which are left out only if there is a
+/// superblock.
 const FIRST: [&str; 5] = [
     "chunk 0 41 11111111-1111-1111-1111-111111111111 3",
     "pad 41 64",
@@ -67,7 +68,7 @@ const FIRST: [&str; 5] = [
     "pad 192 256",
 ];
 
-/// The lines of extent 2 of that disk, of its chunk and of the zeros behind it.
+/// The lines of extent 2 of that disk: its chunk, and the zeros after it.
 const SECOND: [&str; 3] = [
     "chunk 0 155 22222222-2222-2222-2222-222222222222 117",
     "pad 155 192",
@@ -75,7 +76,7 @@ const SECOND: [&str; 3] = [
 ];
 
 #[test]
-fn one_reader_of_a_chunk_and_its_run_with_and_without_extent_0(
+fn one_reader_finds_a_chunk_and_its_run_with_and_without_extent_0(
     rt: HostRuntime,
 ) -> Result<(), Fail> {
     let disk = one_shard(rt.alloc())?;

@@ -1,11 +1,13 @@
-//! The scan, the tilings and the counts of asked pages beside the slow reference, on the worked disks that `walks` and `swept`
-//! leave out or of which they see one extent.
+//! The scan, the tilings and the counts of page reads compared with the slow reference, on the worked disks that `walks` and
+//! `swept` leave out, or of which they see one extent only.
 
-use crate::scan::asking::heads;
-use crate::support::disks::{broken_newest_run, deleted_in_the_newest_run, many_shards, one_shard_without};
-use crate::support::extents::{Written, disk_with, put_all, put_frames};
-use crate::scan::plain_scan::{check_scan, check_tilings};
 use crate::locators::walks::copy_of;
+use crate::scan::page_reads::heads;
+use crate::scan::plain_scan::{check_scan, check_tilings};
+use crate::support::disks::{
+    broken_newest_run, deleted_in_the_newest_run, many_shards, one_shard_without,
+};
+use crate::support::extents::{Written, disk_with, put_all, put_frames};
 use scrub_disk::{Geometry, MemDisk, PageSource};
 use scrub_fakes::{ONES, THREES, TWOS, mark_bad, put_superblock, small_disk};
 use std::alloc::Global;
@@ -21,14 +23,14 @@ fn check_disk(rt: &impl Abort, alloc: Global, disk: &MemDisk) -> Result<(), Fail
     Ok(())
 }
 
-/// That disk with one more page unreadable.
+/// A copy of a disk with one more page unreadable.
 fn copy_without(alloc: Global, disk: &MemDisk, extent: u32, page: u32) -> Result<MemDisk, Fail> {
     let mut copy = copy_of(alloc, disk)?;
     mark_bad(&mut copy, extent, page)?;
     Ok(copy)
 }
 
-/// Compares those of a disk, and of each disk that has one more page of it unreadable.
+/// Runs `check_disk` on a disk, and on each copy of it with one more unreadable page.
 fn check_each(rt: &impl Abort, alloc: Global, disk: &MemDisk) -> Result<(), Fail> {
     check_disk(rt, alloc, disk)?;
     let geometry = disk.geometry();
@@ -40,7 +42,7 @@ fn check_each(rt: &impl Abort, alloc: Global, disk: &MemDisk) -> Result<(), Fail
     Ok(())
 }
 
-/// A disk of three extents, extent 1 of which begins with a head of the greatest length.
+/// A disk of three extents. Extent 1 begins with a head that claims the greatest length.
 fn greatest_length(alloc: Global) -> Result<MemDisk, Fail> {
     let mut disk = small_disk(alloc)?;
     let head: [(u32, &[u8]); 3] = [(0, &[0xC5, 0x5E]), (2, &ONES), (18, &[0xFF; 4])];
@@ -48,7 +50,7 @@ fn greatest_length(alloc: Global) -> Result<MemDisk, Fail> {
     Ok(disk)
 }
 
-/// A disk of three extents of two pages of 128 bytes. In extent 1 zeros part two frames, and a third is on page 1.
+/// A disk of three extents of two pages of 128 bytes. Extent 1 has two frames with zeros between them, and a third on page 1.
 fn two_large_pages(alloc: Global) -> Result<MemDisk, Fail> {
     let mut disk = MemDisk::blank(alloc, Geometry::new(128, 2, 3)?)?;
     let frames = [
@@ -61,7 +63,7 @@ fn two_large_pages(alloc: Global) -> Result<MemDisk, Fail> {
     Ok(disk)
 }
 
-/// Frames of extent 1, and its write pointer: two end to end, one of no payload, and one that ends at the pointer or is cut
+/// Frames of extent 1 and its write pointer: two end to end, one without payload, and one that ends at the pointer or is cut
 /// off by it.
 const BELOW: [(&[Written<'static>], u32); 5] = [
     (&[(0, ONES, &[0x78; 12]), (50, ONES, b"abc")], 91),
@@ -112,7 +114,7 @@ fn disks_with_several_unreadable_pages_are_scanned_as_by_the_reference(
     check_each(&rt, alloc, &one_shard_without(alloc, 0, &[0, 1, 2, 3])?)
 }
 
-/// A copy of a disk with this page of each extent but extent 0 unreadable.
+/// A copy of a disk with page `page` of each extent but extent 0 unreadable.
 fn copy_without_all(alloc: Global, disk: &MemDisk, page: u32) -> Result<MemDisk, Fail> {
     let mut copy = copy_of(alloc, disk)?;
     for extent in 1..disk.geometry().extents() {
@@ -121,7 +123,7 @@ fn copy_without_all(alloc: Global, disk: &MemDisk, page: u32) -> Result<MemDisk,
     Ok(copy)
 }
 
-/// What is found in an extent depends on its own pages and its pointer, so one copy has a page of each extent unreadable.
+/// The findings of an extent depend only on its own pages and pointer, so one copy can have an unreadable page in every extent.
 #[test]
 fn a_disk_of_forty_extents_is_scanned_as_by_the_reference(rt: HostRuntime) -> Result<(), Fail> {
     let alloc = rt.alloc();

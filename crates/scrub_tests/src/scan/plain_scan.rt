@@ -1,5 +1,5 @@
-//! What lies in an extent once more, straight from the definitions, as a slow reference: a copy of the whole extent, each
-//! item found in it by itself, and the tail counted byte by byte.
+//! A slow reference for the scan, straight from the definitions: it copies the whole extent, finds each item by itself, and
+//! counts the tail byte by byte.
 
 use crate::support::compare::same;
 use scrub_disk::{BufferedExtent, MemDisk, OutOfMemory, PageSource, read_extent, unreadable_pages};
@@ -11,7 +11,7 @@ use std::alloc::Global;
 use std::process::Abort;
 use std::test::Fail;
 
-/// A copy of an extent, the bytes of its pages, and its write pointer.
+/// A copy of an extent, the size of its pages in bytes, and its write pointer.
 #[derive(Clone, Copy)]
 struct Copied<'a> {
     extent: &'a BufferedExtent,
@@ -31,8 +31,8 @@ fn can_be_read(copied: &Copied<'_>, start: u32, stop: u32) -> bool {
     all
 }
 
-/// The place behind a frame that begins at `start`.
-fn place_behind(frame: &Frame, start: u32) -> u32 {
+/// Where a frame that begins at `start` ends.
+fn end_of_frame(frame: &Frame, start: u32) -> u32 {
     let overhead = match frame.form {
         Form::Plain => 38,
         Form::Sealed => 72,
@@ -40,21 +40,21 @@ fn place_behind(frame: &Frame, start: u32) -> u32 {
     start.saturating_add(frame.length).saturating_add(overhead)
 }
 
-/// The frame that stands at a place.
+/// The frame at a place, if there is one.
 fn frame_at(copied: &Copied<'_>, start: u32) -> Option<Frame> {
     let below = copied
         .extent
         .bytes
         .get(start as usize..copied.pointer as usize)?;
     let frame = read_frame(below)?;
-    if can_be_read(copied, start, place_behind(&frame, start)) {
+    if can_be_read(copied, start, end_of_frame(&frame, start)) {
         Some(frame)
     } else {
         None
     }
 }
 
-/// The chunk of a frame that stands at a place.
+/// The chunk of a frame at a place.
 fn chunk_at(copied: &Copied<'_>, frame: &Frame, start: u32) -> Item {
     let first = (start as usize).saturating_add(frame.form.payload_start());
     let behind = first.saturating_add(frame.length as usize);
@@ -62,7 +62,7 @@ fn chunk_at(copied: &Copied<'_>, frame: &Frame, start: u32) -> Item {
     Item::Chunk {
         form: frame.form,
         start,
-        stop: place_behind(frame, start),
+        stop: end_of_frame(frame, start),
         uuid: frame.uuid,
         length: frame.length,
         digest: digest_of(payload),
@@ -99,7 +99,7 @@ fn item_at(copied: &Copied<'_>, start: u32) -> Item {
 fn items_of(alloc: Global, copied: &Copied<'_>) -> Result<Vec<Item>, OutOfMemory> {
     let mut items = Vec::new(alloc);
     let mut start = 0;
-    // Each item has a byte or more.
+    // Each item has at least one byte, so these turns are enough.
     for _ in 0..copied.pointer {
         if start < copied.pointer {
             let item = item_at(copied, start);
@@ -110,11 +110,11 @@ fn items_of(alloc: Global, copied: &Copied<'_>) -> Result<Vec<Item>, OutOfMemory
     Ok(items)
 }
 
-/// How many bytes at and past the pointer can be read and aren't zero, and the place of the first.
+/// How many readable bytes at and past the pointer aren't zero, and the place of the first.
 fn tail_of(copied: &Copied<'_>) -> (u32, Option<u32>) {
     let (mut count, mut first) = (0u32, None);
     let mut place = 0u32;
-    // What can't be read is zero in the copy.
+    // Unreadable pages are zero in the copy.
     for byte in &copied.extent.bytes {
         if place >= copied.pointer && *byte != 0 {
             count = count.saturating_add(1);
@@ -125,7 +125,7 @@ fn tail_of(copied: &Copied<'_>) -> (u32, Option<u32>) {
     (count, first)
 }
 
-/// Compares what was found in an extent with what the reference finds.
+/// Compares the findings of an extent with the reference.
 fn check_extent(
     rt: &impl Abort,
     alloc: Global,
@@ -150,8 +150,8 @@ fn check_extent(
     Ok(())
 }
 
-/// Compares what one reader finds in each planned extent with what the reference finds, and how often a result says that
-/// its scan asked for a page with what the source counts.
+/// Compares the findings of one reader in each planned extent with the reference, and the page reads that each result reports
+/// with the count of the source.
 pub(crate) fn check_scan(rt: &impl Abort, alloc: Global, disk: &MemDisk) -> Result<(), Fail> {
     let source = CountingSource::new(alloc, disk)?;
     let geometry = source.geometry();
@@ -170,7 +170,7 @@ pub(crate) fn check_scan(rt: &impl Abort, alloc: Global, disk: &MemDisk) -> Resu
     Ok(())
 }
 
-/// Compares the tiling of an extent with what the reference finds, under each pointer.
+/// Compares the tiling of an extent with the reference, under each pointer.
 pub(crate) fn check_tilings(
     rt: &impl Abort,
     alloc: Global,

@@ -10,8 +10,8 @@ use std::test::Fail;
 /// The line of the chunk of `abc` at the start of an extent.
 const ABC: [&str; 1] = ["chunk 0 41 11111111-1111-1111-1111-111111111111 3"];
 
-/// Puts a superblock with a pointer of extent 1 and pointer 0 of extent 2, and compares what a scan of extent 1 finds.
-/// Requires that a scan of extent 2 finds nothing.
+/// Puts a superblock with a pointer of extent 1 and pointer 0 of extent 2. Checks what a scan of extent 1 finds, and that a
+/// scan of extent 2 finds nothing.
 fn check_under(
     rt: &impl Abort,
     alloc: Global,
@@ -25,7 +25,7 @@ fn check_under(
     check_extent(rt, alloc, disk, &plan, 2, 0, &full(&[]))
 }
 
-/// What a scan finds of the chunk of `abc` under a pointer.
+/// What a scan finds of the chunk of `abc`, by the pointer.
 const TAILS: [(u32, Expected<'static>); 4] = [
     (
         41,
@@ -66,7 +66,7 @@ const TAILS: [(u32, Expected<'static>); 4] = [
 ];
 
 #[test]
-fn the_tails_of_abc_under_pointers_41_40_1_and_0(rt: HostRuntime) -> Result<(), Fail> {
+fn the_bytes_of_abc_past_the_pointer_are_the_tail(rt: HostRuntime) -> Result<(), Fail> {
     let mut disk = disk_with(rt.alloc(), &[(0, ONES, b"abc")], &[])?;
     for (pointer, expected) in &TAILS {
         check_under(&rt, rt.alloc(), &mut disk, *pointer, expected)?;
@@ -75,9 +75,9 @@ fn the_tails_of_abc_under_pointers_41_40_1_and_0(rt: HostRuntime) -> Result<(), 
 }
 
 #[test]
-fn a_tail_behind_an_unreadable_page(rt: HostRuntime) -> Result<(), Fail> {
+fn a_tail_begins_after_an_unreadable_page(rt: HostRuntime) -> Result<(), Fail> {
     let mut disk = disk_with(rt.alloc(), &[(0, ONES, b"abc")], &[1])?;
-    // The bytes on page 1 can't be read, and of those on pages 2 and 3 three aren't zero.
+    // Page 1 is unreadable; three bytes of pages 2 and 3 aren't zero.
     put_all(&mut disk, &[(64, &[7; 64]), (130, &[7, 0, 9]), (255, &[7])])?;
     let expected = Expected {
         lines: &ABC,
@@ -88,8 +88,7 @@ fn a_tail_behind_an_unreadable_page(rt: HostRuntime) -> Result<(), Fail> {
     check_under(&rt, rt.alloc(), &mut disk, 41, &expected)
 }
 
-/// Compares what a scan of extent 1 finds under a pointer of a frame on two pages, where these pages are unreadable, its
-/// second one among them.
+/// Checks what a scan of extent 1 finds under a pointer, with a frame on pages 0 and 1 of which at least page 1 is unreadable.
 fn check_unreadable(
     rt: &impl Abort,
     alloc: Global,
@@ -106,7 +105,7 @@ fn check_unreadable(
 }
 
 #[test]
-fn unreadable_pages_on_both_sides_of_the_pointer(rt: HostRuntime) -> Result<(), Fail> {
+fn unreadable_pages_are_found_on_both_sides_of_the_pointer(rt: HostRuntime) -> Result<(), Fail> {
     let cut_off = ["torn 0 64", "lost 64 98"];
     check_unreadable(&rt, rt.alloc(), &[1], 98, &cut_off)?;
     check_unreadable(&rt, rt.alloc(), &[1, 3], 98, &cut_off)?;

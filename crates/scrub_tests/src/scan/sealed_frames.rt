@@ -1,8 +1,9 @@
-//! Sealed frames beside plain ones: where they stand, what is left of those that don't, and the collision that they close.
+//! Sealed frames beside plain ones: when they are whole, what is left of those that aren't, and the collision that they
+//! prevent.
 
-use crate::support::extents::{Written, mark_all, put_all, put_frames};
 use crate::scan::standing_frames::{Place, check_stands};
 use crate::scan::tiling::check_tiling;
+use crate::support::extents::{Written, mark_all, put_all, put_frames};
 use scrub_disk::{MemDisk, PageSource};
 use scrub_fakes::{ABC_DIGEST, ENDS_IN_MAGIC, ONES, TWOS, mark_bad, put_sealed, small_disk};
 use scrub_frame::Form;
@@ -12,14 +13,15 @@ use std::process::Abort;
 use std::test::Fail;
 use uuid::Uuid;
 
-/// A disk whose extent 1 has the sealed frame of `abc`, 75 bytes, at 0.
+/// A disk whose extent 1 has the sealed frame of `abc` (75 bytes) at 0.
 fn sealed_abc(alloc: Global) -> Result<MemDisk, Fail> {
     let mut disk = small_disk(alloc)?;
     put_sealed(alloc, &mut disk, 1, 0, ONES, b"abc")?;
     Ok(disk)
 }
 
-/// What is put into extent 1: sealed frames, plain frames, and bytes over them; the unreadable pages, the pointer, and the lines.
+/// What is put into extent 1 (sealed frames, plain frames, and bytes over them), the unreadable pages, the pointer, and the
+/// lines.
 #[derive(Clone, Copy)]
 struct Tiled {
     sealed: &'static [Written<'static>],
@@ -47,7 +49,7 @@ const TILINGS: [Tiled; 6] = [
         lines: &["torn 0 64", "noise 64 74"],
         ..SEALED_ABC
     },
-    // Its payload was changed.
+    // Its payload is changed.
     Tiled {
         bytes: &[(56, b"d")],
         lines: &["torn 0 64", "noise 64 75"],
@@ -69,7 +71,7 @@ const TILINGS: [Tiled; 6] = [
         ],
         ..SEALED_ABC
     },
-    // The closing mark closes the collision.
+    // The closing mark prevents the collision.
     Tiled {
         sealed: &[(0, ENDS_IN_MAGIC, &[0x78; 58])],
         plain: &[(128, ONES, b"abc")],
@@ -83,7 +85,7 @@ const TILINGS: [Tiled; 6] = [
     },
 ];
 
-/// Compares the lines of a tiling.
+/// Checks the lines of a tiling.
 fn check_tiled(rt: &impl Abort, alloc: Global, tiled: &Tiled) -> Result<(), Fail> {
     let mut disk = small_disk(alloc)?;
     for (offset, uuid, payload) in tiled.sealed {
@@ -124,20 +126,20 @@ fn standing_sealed() -> Standing {
     }
 }
 
-/// Places and pointers at which no sealed frame of `abc` at 0 stands.
-const BARE: [Place; 3] = [(74, 1, 0), (60, 1, 0), (75, 1, 1)];
+/// Pointers and places without a sealed frame of `abc`.
+const PLACES_WITHOUT_FRAME: [Place; 3] = [(74, 1, 0), (60, 1, 0), (75, 1, 1)];
 
 #[test]
 fn a_sealed_frame_stands_at_its_place(rt: HostRuntime) -> Result<(), Fail> {
     let disk = sealed_abc(rt.alloc())?;
     check_stands(&rt, rt.alloc(), &disk, (75, 1, 0), Some(standing_sealed()))?;
-    for place in &BARE {
+    for place in &PLACES_WITHOUT_FRAME {
         check_stands(&rt, rt.alloc(), &disk, *place, None)?;
     }
     Ok(())
 }
 
-/// Compares the payload of the frame at 0 of extent 1.
+/// Checks the payload of the frame at 0 of extent 1.
 fn check_payload(rt: &impl Abort, alloc: Global, disk: &MemDisk) -> Result<(), Fail> {
     let geometry = disk.geometry();
     assert!(rt; geometry.extents() > 1 && geometry.extent_bytes() >= 75);
@@ -148,6 +150,6 @@ fn check_payload(rt: &impl Abort, alloc: Global, disk: &MemDisk) -> Result<(), F
 }
 
 #[test]
-fn the_payload_of_a_sealed_frame_is_read_behind_its_digest(rt: HostRuntime) -> Result<(), Fail> {
+fn the_payload_of_a_sealed_frame_is_read_after_its_digest(rt: HostRuntime) -> Result<(), Fail> {
     check_payload(&rt, rt.alloc(), &sealed_abc(rt.alloc())?)
 }

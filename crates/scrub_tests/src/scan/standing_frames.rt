@@ -1,4 +1,4 @@
-//! The frames that stand at given places, whatever the tiling makes of these.
+//! Frames at given places, whatever the tiling finds there.
 
 use crate::support::disks::collision;
 use scrub_disk::{MemDisk, PageSource};
@@ -10,13 +10,13 @@ use std::process::Abort;
 use std::test::Fail;
 use uuid::Uuid;
 
-/// The SHA-256 of 220 bytes 78.
+/// The SHA-256 of 220 bytes 0x78.
 const LONG_DIGEST: [u8; 32] = [
     0x53, 0x2f, 0xa9, 0x80, 0x28, 0x6a, 0x8e, 0x43, 0xc6, 0x36, 0x18, 0xf3, 0x1f, 0x43, 0x47, 0x1f,
     0x48, 0xa2, 0xab, 0xf7, 0x96, 0x45, 0x1b, 0xe2, 0x9e, 0x1e, 0x4f, 0xd2, 0x83, 0xb1, 0xe0, 0x28,
 ];
 
-/// The disk of the collision, with `abc` at 0 of extent 1, whose page 1 is unreadable.
+/// The disk of the collision, with `abc` at 0 of extent 1. Page 1 of that extent is unreadable.
 fn two_extents(alloc: Global) -> Result<MemDisk, Fail> {
     let mut disk = collision(alloc)?;
     put_chunk(alloc, &mut disk, 1, 0, ONES, b"abc")?;
@@ -24,10 +24,10 @@ fn two_extents(alloc: Global) -> Result<MemDisk, Fail> {
     Ok(disk)
 }
 
-/// A pointer, and a place under it: the number of an extent and a byte of it.
+/// A pointer, and a place under it: an extent and an offset in bytes.
 pub(crate) type Place = (u32, u32, u32);
 
-/// Compares the frame that stands at a place.
+/// Checks which frame stands at a place, if any.
 pub(crate) fn check_stands(
     rt: &impl Abort,
     alloc: Global,
@@ -72,7 +72,7 @@ fn standing_long() -> Standing {
     }
 }
 
-/// Requires that a frame stands at its place under each of these pointers.
+/// Checks that a frame stands at its place under each of these pointers.
 fn check_standing(
     rt: &impl Abort,
     alloc: Global,
@@ -88,17 +88,15 @@ fn check_standing(
 }
 
 #[test]
-fn frames_stand_where_they_were_written_and_end_at_the_pointer(
-    rt: HostRuntime,
-) -> Result<(), Fail> {
+fn frames_stand_where_they_were_written_up_to_the_pointer(rt: HostRuntime) -> Result<(), Fail> {
     let disk = two_extents(rt.alloc())?;
     check_standing(&rt, rt.alloc(), &disk, &standing_abc(1, 0), &[512, 41])?;
     check_standing(&rt, rt.alloc(), &disk, &standing_long(), &[297, 258])?;
     check_standing(&rt, rt.alloc(), &disk, &standing_abc(2, 256), &[512, 297])
 }
 
-/// Places where none was written, and those of the frames under a pointer one byte before their ends.
-const BARE: [Place; 7] = [
+/// Places without a frame, and places of frames under a pointer one byte before their end.
+const PLACES_WITHOUT_FRAME: [Place; 7] = [
     (512, 1, 41),
     (512, 1, 300),
     (512, 1, 2048),
@@ -111,13 +109,13 @@ const BARE: [Place; 7] = [
 #[test]
 fn no_frame_stands_where_none_was_written_or_past_the_pointer(rt: HostRuntime) -> Result<(), Fail> {
     let disk = two_extents(rt.alloc())?;
-    for place in &BARE {
+    for place in &PLACES_WITHOUT_FRAME {
         check_stands(&rt, rt.alloc(), &disk, *place, None)?;
     }
     Ok(())
 }
 
-/// Puts the frame of `abc` into extent 1, and requires that it stands there, or that none does.
+/// Puts the frame of `abc` into extent 1, and checks whether it stands there.
 fn check_put(
     rt: &impl Abort,
     alloc: Global,
@@ -137,14 +135,15 @@ fn check_put(
 #[test]
 fn a_frame_with_a_byte_on_an_unreadable_page_does_not_stand(rt: HostRuntime) -> Result<(), Fail> {
     let mut disk = two_extents(rt.alloc())?;
-    // Frames of 41 bytes. The first ends with page 0; of the others the last byte, part of the head and all lie on page 1.
+    // Frames of 41 bytes. The first ends with page 0. Of the others the last byte, part of the head, or all bytes are on page
+    // 1.
     for (offset, stands) in &[(215, true), (216, false), (240, false), (300, false)] {
         check_put(&rt, rt.alloc(), &mut disk, *offset, *stands)?;
     }
     Ok(())
 }
 
-/// Compares the payload of the frame of `abc` at 256 of extent 2.
+/// Checks the payload of the frame of `abc` at 256 of extent 2.
 fn check_payload(rt: &impl Abort, alloc: Global, disk: &MemDisk) -> Result<(), Fail> {
     let geometry = disk.geometry();
     assert!(rt; geometry.extents() > 2 && geometry.extent_bytes() >= 297);
@@ -155,6 +154,6 @@ fn check_payload(rt: &impl Abort, alloc: Global, disk: &MemDisk) -> Result<(), F
 }
 
 #[test]
-fn the_payload_of_a_frame_that_was_stepped_past(rt: HostRuntime) -> Result<(), Fail> {
+fn the_payload_of_a_frame_that_was_stepped_past_is_read(rt: HostRuntime) -> Result<(), Fail> {
     check_payload(&rt, rt.alloc(), &two_extents(rt.alloc())?)
 }

@@ -1,17 +1,17 @@
-//! The tiling beside the slow reference, under every pointer, on the worked images of one extent, whole and with each page
+//! The tiling compared with the slow reference under every pointer, on worked images of one extent, whole and with each page
 //! unreadable in turn.
 
-use crate::scan::asking::{heads, sealed_heads};
-use crate::support::extents::{Written, disk_with};
-use crate::scan::plain_scan::check_tilings;
 use crate::locators::walks::copy_of;
+use crate::scan::page_reads::{heads, sealed_heads};
+use crate::scan::plain_scan::check_tilings;
+use crate::support::extents::{Written, disk_with};
 use scrub_disk::{MemDisk, PageSource};
 use scrub_fakes::{ENDS_IN_MAGIC, ONES, TWOS, mark_bad, put, put_chunk, put_sealed, small_disk};
 use std::alloc::Global;
 use std::process::Abort;
 use std::test::Fail;
 
-/// Compares the tilings of extent 1 of a disk, and of each disk that has one more page of it unreadable.
+/// Compares the tilings of extent 1 of a disk, and of each copy with one more of its pages unreadable.
 fn check_swept(rt: &impl Abort, alloc: Global, disk: &MemDisk) -> Result<(), Fail> {
     check_tilings(rt, alloc, disk, 1)?;
     for page in 0..disk.geometry().pages() {
@@ -22,8 +22,8 @@ fn check_swept(rt: &impl Abort, alloc: Global, disk: &MemDisk) -> Result<(), Fai
     Ok(())
 }
 
-/// Plain frames of extent 1: one, two that touch, one of no payload, one over two pages, the collision, one over three
-/// pages, and two between which something else stands.
+/// Plain frames of extent 1: one, two that touch, one without payload, one over two pages, the collision, one over three pages,
+/// and three with gaps between them.
 const FRAMES: [&[Written<'static>]; 7] = [
     &[(0, ONES, b"abc")],
     &[(0, ONES, &[0x78; 12]), (50, ONES, b"abc")],
@@ -35,7 +35,7 @@ const FRAMES: [&[Written<'static>]; 7] = [
 ];
 
 #[test]
-fn tilings_of_plain_frames_are_those_of_the_reference(rt: HostRuntime) -> Result<(), Fail> {
+fn plain_frames_are_tiled_as_by_the_reference(rt: HostRuntime) -> Result<(), Fail> {
     check_swept(&rt, rt.alloc(), &small_disk(rt.alloc())?)?;
     for frames in &FRAMES {
         check_swept(&rt, rt.alloc(), &disk_with(rt.alloc(), frames, &[])?)?;
@@ -44,7 +44,7 @@ fn tilings_of_plain_frames_are_those_of_the_reference(rt: HostRuntime) -> Result
 }
 
 #[test]
-fn tilings_of_sealed_frames_are_those_of_the_reference(rt: HostRuntime) -> Result<(), Fail> {
+fn sealed_frames_are_tiled_as_by_the_reference(rt: HostRuntime) -> Result<(), Fail> {
     let mut disk = small_disk(rt.alloc())?;
     put_sealed(rt.alloc(), &mut disk, 1, 0, ONES, b"abc")?;
     check_swept(&rt, rt.alloc(), &disk)?;
@@ -59,9 +59,7 @@ fn tilings_of_sealed_frames_are_those_of_the_reference(rt: HostRuntime) -> Resul
 }
 
 #[test]
-fn tilings_of_heads_that_claim_the_extent_are_those_of_the_reference(
-    rt: HostRuntime,
-) -> Result<(), Fail> {
+fn heads_that_claim_the_extent_are_tiled_as_by_the_reference(rt: HostRuntime) -> Result<(), Fail> {
     let mut disk = heads(rt.alloc())?;
     check_swept(&rt, rt.alloc(), &disk)?;
     put(&mut disk, 1, 496, &ONES)?;

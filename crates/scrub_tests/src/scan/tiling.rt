@@ -1,5 +1,5 @@
-//! The items of an extent below its write pointer, and their lines. Those of `abc` under several pointers, of zeros and of a
-//! frame over an unreadable page are compared in `scanned` and `one_reader`.
+//! The items of an extent below its write pointer, and their lines. For `abc` under several pointers, zeros, and a frame over
+//! an unreadable page see `scanned` and `one_reader`.
 
 use crate::support::extents::{Written, check_lines, disk_with, put_all, put_frames};
 use scrub_disk::{Geometry, MemDisk, PageSource};
@@ -19,7 +19,7 @@ fn tiling_of(rt: &impl Abort, alloc: Global, disk: &MemDisk, pointer: u32) -> Re
     Ok(tile(alloc, disk, 1, pointer)?)
 }
 
-/// Compares the lines of the tiling of extent 1 under a pointer.
+/// Checks the lines of the tiling of extent 1 under a pointer.
 pub(crate) fn check_tiling(
     rt: &impl Abort,
     alloc: Global,
@@ -31,7 +31,7 @@ pub(crate) fn check_tiling(
     check_lines(rt, alloc, items.as_slice(), lines)
 }
 
-/// A tiling of extent 1 of a small disk: the frames and the unreadable pages there, the pointer, and the lines.
+/// A tiling of extent 1 of a small disk: the frames, the unreadable pages, the pointer, and the lines.
 struct Tiled<'a> {
     frames: &'a [Written<'a>],
     bad_pages: &'a [u32],
@@ -39,8 +39,8 @@ struct Tiled<'a> {
     lines: &'a [&'a str],
 }
 
-/// Tilings of a frame whose last page is unreadable, of one that hides the chunk at the page bound by the collision, of two
-/// frames end to end, and of a frame of no payload.
+/// Tilings of a frame whose last page is unreadable, a frame that hides the chunk at the page boundary (the collision), two
+/// frames end to end, and a frame without payload.
 const TILINGS: [Tiled<'static>; 4] = [
     Tiled {
         frames: &[(0, TWOS, &[0x78; 117])],
@@ -74,14 +74,16 @@ const TILINGS: [Tiled<'static>; 4] = [
     },
 ];
 
-/// Compares the lines of a tiling.
+/// Checks the lines of a tiling.
 fn check_tiled(rt: &impl Abort, alloc: Global, tiled: &Tiled) -> Result<(), Fail> {
     let disk = disk_with(alloc, tiled.frames, tiled.bad_pages)?;
     check_tiling(rt, alloc, &disk, tiled.pointer, tiled.lines)
 }
 
 #[test]
-fn tilings_of_frames_cut_short_hiding_touching_and_empty(rt: HostRuntime) -> Result<(), Fail> {
+fn frames_that_are_cut_short_hiding_touching_or_empty_are_tiled(
+    rt: HostRuntime,
+) -> Result<(), Fail> {
     for tiled in &TILINGS {
         check_tiled(&rt, rt.alloc(), tiled)?;
     }
@@ -89,7 +91,7 @@ fn tilings_of_frames_cut_short_hiding_touching_and_empty(rt: HostRuntime) -> Res
 }
 
 #[test]
-fn a_head_that_claims_the_greatest_length(rt: HostRuntime) -> Result<(), Fail> {
+fn a_head_that_claims_the_greatest_length_is_torn(rt: HostRuntime) -> Result<(), Fail> {
     let mut disk = small_disk(rt.alloc())?;
     put_all(
         &mut disk,
@@ -100,7 +102,7 @@ fn a_head_that_claims_the_greatest_length(rt: HostRuntime) -> Result<(), Fail> {
 }
 
 #[test]
-fn damage_between_frames_ends_at_the_page_bound(rt: HostRuntime) -> Result<(), Fail> {
+fn damage_between_frames_ends_at_the_page_boundary(rt: HostRuntime) -> Result<(), Fail> {
     let mut disk = MemDisk::blank(rt.alloc(), Geometry::new(128, 2, 3)?)?;
     let frames = [
         (0, ONES, b"abc".as_slice()),

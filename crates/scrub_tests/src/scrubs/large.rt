@@ -1,11 +1,10 @@
-//! Whole disks that hold more of one thing than any example: named places at which no item begins, places that two shards
-//! name, lines of a listing, retired extents, and the payload of a sealed run. No clause refuses a body that answers out of
-//! memory for them.
+//! Whole disks with more of one thing than in any example. A body that always answers out of memory for them meets every
+//! contract, so only tests refuse it.
 
+use crate::scrubs::listings::{NONE, Which, listing_of};
+use crate::scrubs::sizes::{filled, run_of_shards};
 use crate::support::compare::same;
 use crate::support::disks::{entry_of, payload_of, put_run, shard};
-use crate::scrubs::listings::{NONE, Which, listed};
-use crate::scrubs::sizes::{filled, run_of_shards};
 use crate::support::reported::{checked_of, scrubbed};
 use scrub_check::{Owner, SharedPlace, Status, broken_shards, dangling, hidden, shared};
 use scrub_disk::{Geometry, MemDisk, PageSource, read_extent};
@@ -19,10 +18,10 @@ use std::sync::Wait;
 use std::test::Fail;
 use std::thread::Threads;
 
-/// How many shards name a place of extent 1 each.
+/// How many shards there are. Each names one place of extent 1.
 const SHARDS: u32 = 200_000;
 
-/// What is at the places that they name.
+/// What is at the places that the shards name.
 #[derive(Debug, Clone, Copy, PartialEq, Eq)]
 enum Places {
     /// Zeros, and no item begins there.
@@ -34,7 +33,8 @@ enum Places {
 }
 
 impl Places {
-    /// The place that the shard of a number names. Each page has six of those that no item begins at, from its second byte on.
+    /// The place that shard `number` names. At a place that isn't shared no item begins: there are six of them on each page,
+    /// from its second byte on.
     fn of(self, number: u32) -> u32 {
         match self {
             Places::Blank | Places::Hidden => (number / 6)
@@ -46,7 +46,7 @@ impl Places {
     }
 }
 
-/// A disk whose shards each name the chunk of `abc` at a place of extent 1. Extent 2 has their run.
+/// A disk whose shards each name a chunk of `abc` in extent 1. Their run is in extent 2.
 fn named(alloc: Global, places: Places) -> Result<MemDisk, Fail> {
     let mut disk = MemDisk::blank(alloc, Geometry::new(256, 65_536, 3)?)?;
     let mut entries = Vec::new(alloc);
@@ -71,9 +71,9 @@ const LAST_SHARED: SharedPlace = SharedPlace {
     count: 2,
 };
 
-/// Judges the locators of these shards. Compares their status, and how many hidden ones, dangling ones, broken shards and shared
-/// places there are.
-fn check_judged<R: Threads + Abort + Sync>(
+/// Checks the locators of these shards: their status, and the numbers of hidden locators, dangling locators, broken shards and
+/// shared places.
+fn check_statuses<R: Threads + Abort + Sync>(
     rt: &R,
     alloc: Global,
     places: Places,
@@ -107,22 +107,22 @@ fn check_judged<R: Threads + Abort + Sync>(
 #[test]
 fn each_of_200000_places_without_a_chunk_breaks_a_shard(rt: HostRuntime) -> Result<(), Fail> {
     let counts = [0, 200_000, 200_000, 0];
-    check_judged(&rt, rt.alloc(), Places::Blank, Status::NoFrame, counts)
+    check_statuses(&rt, rt.alloc(), Places::Blank, Status::NoFrame, counts)
 }
 
 #[test]
 fn each_of_200000_hidden_chunks_is_found(rt: HostRuntime) -> Result<(), Fail> {
     let counts = [200_000, 0, 0, 0];
-    check_judged(&rt, rt.alloc(), Places::Hidden, Status::Hidden, counts)
+    check_statuses(&rt, rt.alloc(), Places::Hidden, Status::Hidden, counts)
 }
 
 #[test]
 fn each_of_100000_chunks_that_two_shards_name_is_shared(rt: HostRuntime) -> Result<(), Fail> {
     let counts = [0, 0, 0, 100_000];
-    check_judged(&rt, rt.alloc(), Places::Shared, Status::Sound, counts)
+    check_statuses(&rt, rt.alloc(), Places::Shared, Status::Sound, counts)
 }
 
-/// Requires so many lines of a disk, of which the last is this one.
+/// Checks the number of lines of a listing, and its last line.
 fn check_lines<R: Threads + Wait + Abort + Sync>(
     rt: &R,
     alloc: Global,
@@ -131,7 +131,7 @@ fn check_lines<R: Threads + Wait + Abort + Sync>(
     count: usize,
     last: &str,
 ) -> Result<(), Fail> {
-    let found = listed(rt, alloc, disk, 1, &NoGate, which)?;
+    let found = listing_of(rt, alloc, disk, 1, &NoGate, which)?;
     assert!(rt; found.is_good);
     let text = str::from_utf8(&found.text)?;
     same(rt, text.matches("\n").count(), count);
@@ -140,10 +140,10 @@ fn check_lines<R: Threads + Wait + Abort + Sync>(
 }
 
 #[test]
-fn of_100032_locators_each_has_its_lines(rt: HostRuntime) -> Result<(), Fail> {
+fn each_of_100032_locators_has_its_lines(rt: HostRuntime) -> Result<(), Fail> {
     let geometry = Geometry::new(256, 65_536, 3)?;
     let disk = filled(rt.alloc(), geometry, 200_064, 1_563)?;
-    // The last chunk that is named is at 100,031 * 41, and its shard is number 1,562.
+    // The last named chunk is at 100,031 * 41, and its shard is number 1,562.
     let last =
         "shard 0000000000000000000000000000061a 1 4101271 3 11111111-1111-1111-1111-111111111111 sound\n";
     check_lines(&rt, rt.alloc(), &disk, Which::Locators, 100_033, last)?;
@@ -174,7 +174,8 @@ fn a_sealed_run_of_a_mebibyte_is_read(rt: HostRuntime) -> Result<(), Fail> {
     Ok(())
 }
 
-/// A disk of 104 extents with `abc` in extent 1 and the run of one shard that names it in extent 2. These extents are retired.
+/// A disk of 104 extents with `abc` in extent 1 and the run of one shard that names it in extent 2. Extents `retired` are
+/// retired.
 fn retiring(alloc: Global, retired: &[u32]) -> Result<MemDisk, Fail> {
     let mut disk = MemDisk::blank(alloc, Geometry::new(64, 16, 104)?)?;
     put_chunk(alloc, &mut disk, 1, 0, ONES, b"abc")?;
@@ -192,7 +193,7 @@ fn retiring(alloc: Global, retired: &[u32]) -> Result<MemDisk, Fail> {
     Ok(disk)
 }
 
-/// Requires that the record of a disk, its choice and its plan have these extents as retired.
+/// Checks that the record of a disk, its choice and its plan have these extents as retired.
 fn check_retired(
     rt: &impl Abort,
     alloc: Global,
@@ -216,7 +217,7 @@ fn check_retired(
     Ok(())
 }
 
-/// Requires that the scrub of a disk has these extents as retired, and that the listings answer too.
+/// Checks that the scrub of a disk reports these extents as retired, and that the listings scan all others.
 fn check_scrubbed<R: Threads + Wait + Abort + Sync>(
     rt: &R,
     alloc: Global,
@@ -232,7 +233,7 @@ fn check_scrubbed<R: Threads + Wait + Abort + Sync>(
     let (list, _) = behind.split_once("]").ok_or("their end")?;
     same(rt, list.split(",").count(), retired.len());
     for which in [Which::Locators, Which::Reclaimable(NONE)] {
-        let found = listed(rt, alloc, disk, 2, &NoGate, which)?;
+        let found = listing_of(rt, alloc, disk, 2, &NoGate, which)?;
         assert!(rt; found.is_good);
         let left = found.takings.counted();
         same(rt, left.saturating_add(retired.len() as u64), 103);

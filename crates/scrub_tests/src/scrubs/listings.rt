@@ -1,4 +1,4 @@
-//! The two listings for which a disk is scanned, by any number of workers.
+//! The two listings that scan a disk, of named locators and of what may be reclaimed, by any number of workers.
 
 ghost use Rattle.std.specs.Prelude.{◌≤◌};
 
@@ -10,21 +10,21 @@ use std::sync::Wait;
 use std::test::Fail;
 use std::thread::Threads;
 
-/// Which listing.
+/// Which listing is made.
 #[derive(Debug, Clone, Copy, PartialEq, Eq)]
 pub(crate) enum Which {
     /// The named locators.
     Locators,
-    /// What may be reclaimed, where these kinds of doubts are accepted.
+    /// What may be reclaimed, with these kinds of doubt accepted.
     Reclaimable(Accepted),
 }
 
-/// A listing, and who took which extents for it.
+/// A listing, and which worker took which extents for it.
 #[derive(Drop)]
 pub(crate) struct Listing {
     /// Its lines.
     pub(crate) text: Vec<u8>,
-    /// Whether the program ends with status 0 where it prints them.
+    /// Whether the program ends with status 0 after printing them.
     pub(crate) is_good: bool,
     pub(crate) takings: Takings,
 }
@@ -37,7 +37,7 @@ pub(crate) const NONE: Accepted = Accepted {
     tail_lost: false,
 };
 
-/// A listing of a disk, by so many workers and the caller.
+/// A listing of a disk, by `workers` workers and the caller.
 fn answer<D: PageSource, G: Gate, R: Threads + Wait + Sync>(
     rt: &R,
     alloc: Global,
@@ -68,8 +68,8 @@ fn answer<D: PageSource, G: Gate, R: Threads + Wait + Sync>(
     }
 }
 
-/// The same, where out of memory fails the test.
-pub(crate) fn listed<D: PageSource, G: Gate, R: Threads + Wait + Sync>(
+/// The same; out of memory fails the test.
+pub(crate) fn listing_of<D: PageSource, G: Gate, R: Threads + Wait + Sync>(
     rt: &R,
     alloc: Global,
     disk: &D,
@@ -80,7 +80,7 @@ pub(crate) fn listed<D: PageSource, G: Gate, R: Threads + Wait + Sync>(
     requires { workers ≤ 64 }
 {
     match answer(rt, alloc, disk, workers, gate, which) {
-        Ok(listed) => Ok(listed),
+        Ok(listing) => Ok(listing),
         Err(ScrubFault::OutOfMemory) => Err(Fail::from("out of memory")),
     }
 }

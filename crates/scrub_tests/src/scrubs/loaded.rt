@@ -1,5 +1,5 @@
-//! The disk with one shard, loaded from raw bytes that come one by one, are cut short or fail: its scrub beside that of the
-//! disk in memory with the same pages unreadable.
+//! The disk with one shard, loaded from raw bytes that come one by one, are cut short or fail. Its scrub is compared with that
+//! of a disk in memory with the same unreadable pages.
 
 ghost use Rattle.std.specs.Prelude.{◌≡◌, ◌≤◌};
 
@@ -15,7 +15,7 @@ use std::process::Abort;
 use std::test::Fail;
 use std::thread::Threads;
 
-/// The bytes of the disk with one shard: twelve pages of 64, extent by extent.
+/// The bytes of the disk with one shard: twelve pages of 64 bytes, extent by extent.
 fn raw_bytes(rt: &impl Abort, alloc: Global) -> Result<Vec<u8>, Fail> {
     let disk = one_shard(alloc)?;
     let geometry = disk.geometry();
@@ -30,22 +30,22 @@ fn raw_bytes(rt: &impl Abort, alloc: Global) -> Result<Vec<u8>, Fail> {
     Ok(raw)
 }
 
-/// The scrub of the disk with one shard whose pages from the first of these numbers up to the second are unreadable. They
-/// are counted from the first page of extent 0 on.
+/// The scrub of the disk with one shard, with the pages from `first` up to but not including `end` unreadable. Pages are
+/// counted from the first page of extent 0.
 fn scrubbed_without<R: Threads + Sync>(
     rt: &R,
     alloc: Global,
     first: u32,
-    behind: u32,
+    end: u32,
 ) -> Result<ScrubAnswer, Fail> {
     let mut disk = one_shard(alloc)?;
-    for number in first..behind {
+    for number in first..end {
         mark_bad(&mut disk, number / 4, number % 4)?;
     }
     scrubbed(rt, alloc, &disk)
 }
 
-/// The scrub of the disk that is loaded from a raw image.
+/// The scrub of the disk loaded from a raw image.
 fn scrubbed_from<R: Threads + Sync>(
     rt: &R,
     alloc: Global,
@@ -62,13 +62,13 @@ fn bytes_that_come_one_by_one_make_the_whole_disk(rt: HostRuntime) -> Result<(),
     let bytes = raw_bytes(&rt, rt.alloc())?;
     let mut raw = RawBytes::failing(&bytes, 1, 0, 0);
     let answer = scrubbed_from(&rt, rt.alloc(), &mut raw)?;
-    // It lists no unreadable page.
+    // The report lists no unreadable page.
     same(&rt, str::from_utf8(answer.report())?, ONE_SHARD);
     same(&rt, (raw.reads, raw.failures), (769, 0));
     Ok(())
 }
 
-/// Cuts the bytes at each length that leaves so many pages whole. The other pages are unreadable.
+/// Cuts the bytes at each length that leaves `whole` pages whole. The other pages are unreadable.
 fn check_cuts(
     rt: &(impl Abort + Threads + Sync),
     alloc: Global,
@@ -98,7 +98,7 @@ fn a_disk_that_is_cut_short_has_the_whole_pages_before_the_cut(
     Ok(())
 }
 
-/// Scrubs what is loaded where one read fails, counted from 0. A read gives so many bytes at most.
+/// The scrub of the disk loaded from these bytes. Read `failing`, counted from 0, fails; a read gives at most `most` bytes.
 fn scrubbed_failing<R: Abort + Threads + Sync>(
     rt: &R,
     alloc: Global,
@@ -114,7 +114,7 @@ fn scrubbed_failing<R: Abort + Threads + Sync>(
     Ok(answer)
 }
 
-/// The first read of a page fails, or the second one, which has the 24 bytes that the first one left.
+/// Either the first read of a page fails, or the second one, for the 24 bytes that the first one left.
 #[test]
 fn a_read_that_fails_makes_its_own_page_unreadable(rt: HostRuntime) -> Result<(), Fail> {
     let bytes = raw_bytes(&rt, rt.alloc())?;
@@ -129,7 +129,7 @@ fn a_read_that_fails_makes_its_own_page_unreadable(rt: HostRuntime) -> Result<()
     Ok(())
 }
 
-/// The last read asks for a byte behind the disk.
+/// The last read asks for a byte past the end of the disk.
 #[test]
 fn a_last_read_that_fails_is_no_fault(rt: HostRuntime) -> Result<(), Fail> {
     let bytes = raw_bytes(&rt, rt.alloc())?;

@@ -1,4 +1,4 @@
-//! How often a whole scrub asks for each page of a disk: by the scan once, and again for the payloads of the index runs.
+//! How often a whole scrub asks for each page: once for the scan, and again for the payloads of the index runs.
 
 ghost use Rattle.std.specs.Prelude.{◌≤◌};
 ghost use Rattle.scrub_disk.specs.Memory.{image_of};
@@ -20,12 +20,12 @@ use std::thread::Threads;
 #[derive(Drop)]
 struct PageCounts<'a> {
     disk: &'a MemDisk,
-    // Extent by extent, the pages of each.
+    // All pages, extent by extent.
     asked: Vec<AtomicU64>,
 }
 
 impl<'a> PageCounts<'a> {
-    /// A source of a disk's pages, of which none was asked for.
+    /// A source of a disk's pages, with all counts 0.
     fn new(alloc: Global, disk: &'a MemDisk) -> Result<PageCounts<'a>, Fail> {
         let geometry = disk.geometry();
         let mut asked = Vec::new(alloc);
@@ -76,22 +76,22 @@ impl PageSource for PageCounts<'_> {
     }
 }
 
-/// How often a scrub of the disk of many shards asks for a page. The run's frame stands on pages 0 to 46 of extent 39; its
-/// payload begins on page 0 and ends on page 46, and so does what closes it.
+/// How often a scrub of the disk of many shards asks for a page. The run's frame is on pages 0 to 46 of extent 39: its payload
+/// begins on page 0, and both the payload and the closing bytes end on page 46.
 fn wanted(extent: u32, page: u32) -> u64 {
     match (extent, page) {
-        // By the scan, for the head, and for the payload.
+        // For the scan, the head, and the payload.
         (39, 0) => 3,
-        // By the scan and for the payload.
+        // For the scan and the payload.
         (39, 1..=45) => 2,
-        // By the scan as the far end and as it passes, for what closes the frame, and for the payload.
+        // For the scan, as the far end and in its turn; for the closing bytes; and for the payload.
         (39, 46) => 4,
-        // By the scan, or in extent 0 for the superblock.
+        // For the scan, or in extent 0 for the superblock.
         _ => 1,
     }
 }
 
-/// Requires that each page of an extent of the disk of many shards was asked for as often as a scrub does.
+/// Checks how often each page of an extent of the disk of many shards was asked for.
 fn check_extent(rt: &impl Abort, source: &PageCounts<'_>, extent: u32) {
     for page in 0..64 {
         let asked = source.asked(extent, page);
@@ -100,7 +100,7 @@ fn check_extent(rt: &impl Abort, source: &PageCounts<'_>, extent: u32) {
     }
 }
 
-/// Requires that each page of the disk of many shards was asked for as often as a scrub does.
+/// Checks how often each page of the disk of many shards was asked for.
 fn check_pages(rt: &impl Abort, source: &PageCounts<'_>) {
     for extent in 0..40 {
         check_extent(rt, source, extent);
@@ -110,7 +110,7 @@ fn check_pages(rt: &impl Abort, source: &PageCounts<'_>) {
 }
 
 #[test]
-fn one_reader_asks_for_each_page_once_but_for_the_run(rt: HostRuntime) -> Result<(), Fail> {
+fn one_reader_asks_for_each_page_once_except_those_of_the_run(rt: HostRuntime) -> Result<(), Fail> {
     let (disk, _) = many_shards(&rt, rt.alloc())?;
     let source = PageCounts::new(rt.alloc(), &disk)?;
     assert!(&rt; scrubbed(&rt, rt.alloc(), &source)?.is_clean());
@@ -118,7 +118,7 @@ fn one_reader_asks_for_each_page_once_but_for_the_run(rt: HostRuntime) -> Result
     Ok(())
 }
 
-/// Scrubs the disk of many shards by so many workers, and requires that each page was asked for as often as a scrub does.
+/// Scrubs the disk of many shards with `workers` workers, and checks how often each page was asked for.
 fn check_workers<R: Threads + Wait + Abort + Sync>(
     rt: &R,
     alloc: Global,

@@ -1,4 +1,4 @@
-//! The published reports of whole scrubs, byte for byte, and the recovered indexes beside them.
+//! Published reports of whole scrubs, byte for byte, and the recovered indexes.
 
 use crate::support::compare::same;
 use crate::support::disks::{one_shard, overwritten_end, twins_and_shared};
@@ -11,7 +11,7 @@ use std::process::Abort;
 use std::test::Fail;
 use std::thread::Threads;
 
-/// Compares the report and the index of a disk, and whether it is clean.
+/// Checks the report and the index of a disk, and whether it is clean.
 fn check(
     rt: &(impl Abort + Threads + Sync),
     alloc: Global,
@@ -54,7 +54,7 @@ fn twins_and_a_shared_place_are_reported(rt: HostRuntime) -> Result<(), Fail> {
     check(&rt, rt.alloc(), &disk, TWINS, &index, false)
 }
 
-/// The report of the disk before, but for the page and the candidate.
+/// The report differs from that of the test above only in the page and the candidate.
 #[test]
 fn an_unreadable_page_of_extent_0_leaves_no_candidate(rt: HostRuntime) -> Result<(), Fail> {
     let (mut disk, index) = twins_and_shared(&rt, rt.alloc())?;

@@ -1,8 +1,8 @@
-//! What may be reclaimed of worked disks, line by line, and what speaks against it.
+//! What may be reclaimed on worked disks, line by line, and the doubts that forbid it.
 
+use crate::scrubs::listings::{NONE, Which, listing_of};
 use crate::support::compare::same;
 use crate::support::disks::{Worked, put_run};
-use crate::scrubs::listings::{NONE, Which, listed};
 use scrub_disk::MemDisk;
 use scrub_fakes::{ONES, TWOS, put_chunk, put_superblock, small_disk};
 use scrub_pool::NoGate;
@@ -13,7 +13,7 @@ use std::sync::Wait;
 use std::test::Fail;
 use std::thread::Threads;
 
-/// Requires that these are the lines of a disk, where these kinds of doubts are accepted.
+/// Checks the lines of a disk, with these kinds of doubt accepted.
 fn check<R: Threads + Wait + Abort + Sync>(
     rt: &R,
     alloc: Global,
@@ -21,15 +21,14 @@ fn check<R: Threads + Wait + Abort + Sync>(
     accepted: Accepted,
     text: &str,
 ) -> Result<(), Fail> {
-    let listing = listed(rt, alloc, disk, 1, &NoGate, Which::Reclaimable(accepted))?;
+    let listing = listing_of(rt, alloc, disk, 1, &NoGate, Which::Reclaimable(accepted))?;
     same(rt, str::from_utf8(&listing.text)?, text);
     same(rt, listing.is_good, !text.contains("doubt"));
     Ok(())
 }
 
-/// A disk of three extents with a chunk and a run behind it in extent 2; the superblock names the run twice, and nothing names
-/// the chunk.
-fn run_behind_garbage(alloc: Global) -> Result<MemDisk, Fail> {
+/// A disk of three extents. Extent 2 has a chunk that nothing names, and after it a run that the superblock names twice.
+fn run_after_garbage(alloc: Global) -> Result<MemDisk, Fail> {
     let mut disk = small_disk(alloc)?;
     put_chunk(alloc, &mut disk, 2, 0, ONES, &[0x78; 60])?;
     let run = put_run(alloc, &mut disk, 2, 98, TWOS, &[])?;
@@ -47,7 +46,7 @@ fn each_owner_of_a_run_to_keep_has_a_line(rt: HostRuntime) -> Result<(), Fail> {
     check(
         &rt,
         rt.alloc(),
-        &run_behind_garbage(rt.alloc())?,
+        &run_after_garbage(rt.alloc())?,
         NONE,
         lines,
     )
@@ -70,15 +69,16 @@ const TAIL_LOST: Accepted = Accepted {
     ..NONE
 };
 
-/// A disk with one chunk past the pointer, and one whose extent 1 has unreadable pages past it.
-const WRITTEN: Worked = Worked::BehindThePointer;
+/// A disk with one chunk past the pointer.
+const WRITTEN: Worked = Worked::PastThePointer;
 
+/// A disk with unreadable pages past the pointer of extent 1.
 const UNREADABLE: Worked = Worked::Without(1, &[0, 1, 3]);
 
-/// A disk, the kinds of doubts that are accepted, and the lines.
-type Listed = (Worked, Accepted, &'static str);
+/// A disk, the accepted kinds of doubt, and the lines.
+type Row = (Worked, Accepted, &'static str);
 
-const LISTED: [Listed; 17] = [
+const ROWS: [Row; 17] = [
     // Each owner of a chunk to keep has a line.
     (
         Worked::TwinsAndShared,
@@ -98,7 +98,7 @@ const LISTED: [Listed; 17] = [
         ),
     ),
     (Worked::DeletedInTheNewestRun, NONE, "reclaim 1 41\n"),
-    // A superblock in doubt lets nothing go.
+    // With a superblock in doubt, nothing may be reclaimed.
     (Worked::Zeros, NONE, "doubt no-superblock\n"),
     (Worked::TwoSuperblocks(7), NONE, "doubt tie\n"),
     (Worked::Without(0, &[3]), NONE, "doubt superblock-lost 3\n"),
@@ -117,7 +117,7 @@ const LISTED: [Listed; 17] = [
         DAMAGED_OR_STRAY,
         "accepted superblock-damaged 2\naccepted superblock-stray 3\n",
     ),
-    // A lost run lets nothing go.
+    // With a lost run, nothing may be reclaimed.
     (
         Worked::BrokenNewestRun,
         NONE,
@@ -128,7 +128,7 @@ const LISTED: [Listed; 17] = [
         NONE,
         "doubt run-lost 0 unreadable\n",
     ),
-    // What is past a pointer has to be accepted.
+    // Bytes past a pointer have to be accepted.
     (WRITTEN, NONE, "doubt tail 1 0 38\n"),
     (WRITTEN, TAIL_LOST, "doubt tail 1 0 38\n"),
     (WRITTEN, TAIL, "accepted tail 1 0 38\n"),
@@ -150,8 +150,8 @@ const LISTED: [Listed; 17] = [
 ];
 
 #[test]
-fn of_worked_disks_these_lines_are_listed(rt: HostRuntime) -> Result<(), Fail> {
-    for (worked, accepted, lines) in &LISTED {
+fn each_worked_disk_lists_what_may_be_reclaimed(rt: HostRuntime) -> Result<(), Fail> {
+    for (worked, accepted, lines) in &ROWS {
         check(
             &rt,
             rt.alloc(),

@@ -1,5 +1,4 @@
-//! Disks whose superblock retires extents: which are scanned, what the locators into the others are worth, and what is told
-//! of all this.
+//! Disks whose superblock retires extents: what is scanned, the status of locators into retired extents, and the reports.
 
 ghost use Rattle.std.specs.Prelude.{◌≤◌};
 
@@ -26,7 +25,7 @@ use std::sync::Wait;
 use std::test::Fail;
 use std::thread::Threads;
 
-/// Puts a superblock record that retires extents on a page of extent 0, and tells its length in bytes.
+/// Puts a superblock record that retires extents on a page of extent 0. Returns its length in bytes.
 fn put_retiring(
     alloc: Global,
     disk: &mut MemDisk,
@@ -45,8 +44,8 @@ fn put_retiring(
     Ok(put_contents(alloc, disk, page, &superblock)?)
 }
 
-/// A disk of three extents with `abc` in extent 1 and the run of one shard that names it in extent 2, of which these are
-/// retired.
+/// A disk of three extents with `abc` in extent 1 and the run of one shard that names it in extent 2. Extents `retired` are
+/// retired. The record has `length` bytes.
 fn one_shard_retiring(
     rt: &impl Abort,
     alloc: Global,
@@ -61,8 +60,8 @@ fn one_shard_retiring(
     Ok(disk)
 }
 
-/// A disk of four extents, with `abc` in extent 1 and the run of one shard that names it in extent 2. Extent 3 is retired; it
-/// is full of FF, and its page 0 is unreadable.
+/// A disk of four extents with `abc` in extent 1 and the run of one shard that names it in extent 2. Extent 3 is retired; it is
+/// full of FF, and its page 0 is unreadable.
 fn broken_and_retired(rt: &impl Abort, alloc: Global) -> Result<MemDisk, Fail> {
     let mut disk = MemDisk::blank(alloc, Geometry::new(64, 4, 4)?)?;
     put_chunk(alloc, &mut disk, 1, 0, ONES, b"abc")?;
@@ -75,7 +74,7 @@ fn broken_and_retired(rt: &impl Abort, alloc: Global) -> Result<MemDisk, Fail> {
     Ok(disk)
 }
 
-/// Requires that a report has these pieces.
+/// Checks that a report has these pieces.
 fn check_pieces(rt: &impl Abort, answer: &ScrubAnswer, pieces: &[&str]) -> Result<(), Fail> {
     let report = str::from_utf8(answer.report())?;
     for piece in pieces {
@@ -84,7 +83,8 @@ fn check_pieces(rt: &impl Abort, answer: &ScrubAnswer, pieces: &[&str]) -> Resul
     Ok(())
 }
 
-/// Scrubs a disk by so many workers, and compares the answer with that of one reader. Tells who took which extents.
+/// Scrubs a disk with `workers` workers, and compares the answer with that of one reader. Returns which worker took which
+/// extents.
 fn check_workers<R: Threads + Wait + Abort + Sync>(
     rt: &R,
     alloc: Global,
@@ -99,14 +99,17 @@ fn check_workers<R: Threads + Wait + Abort + Sync>(
 }
 
 #[test]
-fn what_lies_in_a_retired_extent_counts_for_nothing(rt: HostRuntime) -> Result<(), Fail> {
+fn the_content_of_a_retired_extent_is_ignored(rt: HostRuntime) -> Result<(), Fail> {
     let disk = broken_and_retired(&rt, rt.alloc())?;
     let answer = scrubbed(&rt, rt.alloc(), &disk)?;
     assert!(&rt; answer.is_clean());
     let pieces = [
         r#""clean":true,"#,
         r#""extents":[{"bad":[],"extent":1,"#,
-        r#",{"bad":[],"extent":2,"items":["chunk 0 155 22222222-2222-2222-2222-222222222222 117"],"live":155,"pointer":155,"tail":0,"tail_at":null}],"geometry""#,
+        concat!(
+            r#",{"bad":[],"extent":2,"items":["chunk 0 155 22222222-2222-2222-2222-222222222222 117"],"#,
+            r#""live":155,"pointer":155,"tail":0,"tail_at":null}],"geometry""#
+        ),
         r#""retired":[3],"#,
         r#""runs":[{"entries":1,"extent":2,"offset":0,"state":"read"}],"#,
     ];
@@ -127,7 +130,7 @@ fn no_page_of_a_retired_extent_is_asked_for(rt: HostRuntime) -> Result<(), Fail>
     Ok(())
 }
 
-/// Requires that a scrub by so many workers asks for pages of extent 2, and for none of extent 3.
+/// Checks that a scrub by `workers` workers asks for pages of extent 2, and for none of extent 3.
 fn check_unasked<R: Threads + Wait + Abort + Sync>(
     rt: &R,
     alloc: Global,
@@ -162,7 +165,10 @@ fn a_locator_into_a_retired_extent_dangles(rt: HostRuntime) -> Result<(), Fail> 
     same(&rt, answer.index(), NO_SHARDS.as_slice());
     let pieces = [
         r#""broken":["00000000000000000000000000000001"]"#,
-        r#""dangling":[{"extent":1,"length":3,"offset":0,"owner":"shard 00000000000000000000000000000001","reason":"retired","uuid":"11"#,
+        concat!(
+            r#""dangling":[{"extent":1,"length":3,"offset":0,"owner":"shard 00000000000000000000000000000001","#,
+            r#""reason":"retired","uuid":"11"#
+        ),
         r#""extents":[{"bad":[],"extent":2,"#,
         r#""orphans":[],"#,
         r#""retired":[1],"#,
@@ -174,7 +180,7 @@ fn a_locator_into_a_retired_extent_dangles(rt: HostRuntime) -> Result<(), Fail> 
 }
 
 #[test]
-fn with_all_extents_retired_nothing_is_scanned(rt: HostRuntime) -> Result<(), Fail> {
+fn nothing_is_scanned_if_all_extents_are_retired(rt: HostRuntime) -> Result<(), Fail> {
     let disk = one_shard_retiring(&rt, rt.alloc(), &[1, 2], 136)?;
     let answer = scrubbed(&rt, rt.alloc(), &disk)?;
     assert!(&rt; !answer.is_clean());
@@ -198,7 +204,8 @@ fn with_all_extents_retired_nothing_is_scanned(rt: HostRuntime) -> Result<(), Fa
     Ok(())
 }
 
-/// Requires that a book of nothing has all, and that a pool over nothing is complete after these steps; both find nothing.
+/// Checks that a book without planned extents is complete, and that a pool without them is complete after these steps. Both
+/// find nothing.
 fn check_pool(
     rt: &impl Abort,
     alloc: Global,
@@ -227,7 +234,9 @@ fn check_pool(
 }
 
 #[test]
-fn a_pool_over_nothing_is_complete_once_its_members_retired(rt: HostRuntime) -> Result<(), Fail> {
+fn a_pool_over_nothing_is_complete_once_its_members_have_retired(
+    rt: HostRuntime,
+) -> Result<(), Fail> {
     let disk = one_shard_retiring(&rt, rt.alloc(), &[1, 2], 136)?;
     check_pool(&rt, rt.alloc(), &disk, 0, &[])?;
     let steps = [
@@ -237,8 +246,8 @@ fn a_pool_over_nothing_is_complete_once_its_members_retired(rt: HostRuntime) -> 
     check_pool(&rt, rt.alloc(), &disk, 1, &steps)
 }
 
-/// What a locator is worth on a disk.
-fn judge(alloc: Global, disk: &MemDisk, locator: &Locator) -> Result<Status, Fail> {
+/// The status of a locator on a disk.
+fn status_on(alloc: Global, disk: &MemDisk, locator: &Locator) -> Result<Status, Fail> {
     let chosen = choose(alloc, disk)?;
     let plan = Plan::make(alloc, &chosen, disk.geometry())?;
     let all = scan_in_order(alloc, disk, &plan)?;
@@ -246,7 +255,7 @@ fn judge(alloc: Global, disk: &MemDisk, locator: &Locator) -> Result<Status, Fai
 }
 
 #[test]
-fn out_of_range_comes_before_retired_and_retired_before_all_else(
+fn out_of_range_comes_before_retired_and_retired_before_the_rest(
     rt: HostRuntime,
 ) -> Result<(), Fail> {
     let disk = one_shard_retiring(&rt, rt.alloc(), &[1], 132)?;
@@ -259,7 +268,7 @@ fn out_of_range_comes_before_retired_and_retired_before_all_else(
         (abc_at(3, 0), Status::OutOfRange),
     ];
     for (locator, status) in cases {
-        same(&rt, judge(rt.alloc(), &disk, &locator)?, status);
+        same(&rt, status_on(rt.alloc(), &disk, &locator)?, status);
     }
     Ok(())
 }
@@ -275,7 +284,7 @@ fn a_record_of_the_second_kind_on_a_later_page_ties(rt: HostRuntime) -> Result<(
     let newest = chosen.superblock().ok_or("a superblock")?;
     same(&rt, (newest.version(), newest.generation()), (1, 7));
     assert!(&rt; newest.retired().is_empty());
-    // A newer one counts, whatever its kind.
+    // The newer one counts, whatever its kind.
     put_retiring(rt.alloc(), &mut disk, 2, 8, &[0, 155], &[1], &[])?;
     let chosen = choose(rt.alloc(), &disk)?;
     same(&rt, (chosen.page(), chosen.records()), (Some(2), 2));

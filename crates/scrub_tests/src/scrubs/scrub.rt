@@ -1,4 +1,4 @@
-//! Single keys of what whole scrubs report, of disks whose whole report is published nowhere.
+//! Parts of the reports of whole scrubs, for disks without a published report.
 
 use crate::support::compare::same;
 use crate::support::disks::{Worked, nine_locators};
@@ -11,7 +11,7 @@ use std::process::Abort;
 use std::test::Fail;
 use std::thread::Threads;
 
-/// Requires that a disk is clean or not, and that its report has these pieces.
+/// Checks whether a disk is clean, and that its report has these pieces.
 fn check(
     rt: &(impl Abort + Threads + Sync),
     alloc: Global,
@@ -32,9 +32,9 @@ fn check(
 type Reported = (Worked, bool, &'static [&'static str]);
 
 const REPORTS: [Reported; 9] = [
-    // What lies behind a pointer is a tail.
+    // Bytes past a pointer are a tail.
     (
-        Worked::BehindThePointer,
+        Worked::PastThePointer,
         true,
         &[
             r#"{"bad":[],"extent":1,"items":[],"live":0,"pointer":0,"tail":38,"tail_at":0}"#,
@@ -51,7 +51,7 @@ const REPORTS: [Reported; 9] = [
             r#""candidates":[]"#,
         ],
     ),
-    // What a run with another digest may have had leaves doubt.
+    // A run with a wrong digest leaves doubt.
     (
         Worked::BrokenNewestRun,
         false,
@@ -63,7 +63,7 @@ const REPORTS: [Reported; 9] = [
             r#""shards":1"#,
         ],
     ),
-    // Without extent 0 every chunk is an orphan.
+    // Without extent 0 all chunks are orphans.
     (
         Worked::Without(0, &[0, 1, 2, 3]),
         false,
@@ -97,7 +97,7 @@ const REPORTS: [Reported; 9] = [
             r#""candidates":[]"#,
         ],
     ),
-    // Of two superblocks of one generation the first counts, else the newer one, unless it is broken.
+    // Of two superblocks of one generation the first counts; otherwise the newer one, unless it is broken.
     (
         Worked::TwoSuperblocks(7),
         false,
@@ -136,7 +136,9 @@ fn reports_of_worked_disks_have_these_pieces(rt: HostRuntime) -> Result<(), Fail
 }
 
 #[test]
-fn what_the_newest_run_deletes_is_an_orphan(rt: HostRuntime) -> Result<(), Fail> {
+fn the_chunk_of_a_shard_that_the_newest_run_deletes_is_an_orphan(
+    rt: HostRuntime,
+) -> Result<(), Fail> {
     let disk = Worked::DeletedInTheNewestRun.disk(&rt, rt.alloc())?;
     let pieces = [
         r#""candidates":[{"extent":1,"free":41,"keep":[]}]"#,
@@ -151,7 +153,7 @@ fn what_the_newest_run_deletes_is_an_orphan(rt: HostRuntime) -> Result<(), Fail>
     Ok(())
 }
 
-/// What is told of seven dangling locators, but for the reason: extent, length, place and UUID.
+/// What is reported of seven dangling locators: first extent, length and offset, then reason and UUID.
 const DANGLING: [(&str, &str); 7] = [
     (
         r#""extent":4,"length":3,"offset":0"#,
@@ -200,7 +202,10 @@ fn a_shard_whose_locators_dangle_is_broken(rt: HostRuntime) -> Result<(), Fail> 
     for (place, reason) in DANGLING {
         let owner = r#""owner":"shard 00000000000000000000000000000001""#;
         let expected = format!(in rt.alloc(); "{{{place},{owner},\"reason\":{reason}")?;
-        assert!(rt; report.contains(expected.as_str()), "{expected} in {report}");
+        assert!(rt;
+            report.contains(expected.as_str()),
+            "{expected} in {report}"
+        );
     }
     Ok(())
 }

@@ -1,5 +1,5 @@
-//! Sizes that no example has. No clause refuses a body that answers want of memory where a list is long, so each call
-//! that makes a list is called with a long one here. No clock is read.
+//! Lists longer than in any example. A body that answers out of memory for a long list meets every contract, so each call that
+//! makes a list gets a long one here. No clock is read.
 
 ghost use Rattle.std.specs.Prelude.{◌≡◌, ◌<◌, All, Contains, IsTrue, OnOk};
 ghost use Rattle.scrub_disk.specs.Memory.{image_of};
@@ -20,7 +20,7 @@ use std::process::Abort;
 use std::slice;
 use std::test::Fail;
 
-/// The entry of a shard of 64 chunks of `abc`, which stand in extent 1 one behind another.
+/// The entry of shard `number`: 64 chunks of `abc`, one after another in extent 1.
 fn entry_of_64(alloc: Global, number: u32) -> Result<Entry, Fail> {
     let mut locators = Vec::with_capacity(alloc, 64)?;
     for i in 0..64 {
@@ -30,7 +30,7 @@ fn entry_of_64(alloc: Global, number: u32) -> Result<Entry, Fail> {
     Ok(Entry::new(shard(number), locators))
 }
 
-/// The payload of a run of so many shards, each of 64 chunks.
+/// The payload of a run of `shards` shards, each of 64 chunks.
 pub(crate) fn run_of_shards(alloc: Global, shards: u32) -> Result<Vec<u8>, Fail> {
     let mut entries = Vec::new(alloc);
     for number in 0..shards {
@@ -39,8 +39,8 @@ pub(crate) fn run_of_shards(alloc: Global, shards: u32) -> Result<Vec<u8>, Fail>
     payload_of(alloc, &entries)
 }
 
-/// A disk of three extents with so many chunks of `abc` under one UUID in extent 1, and in extent 2 the run of so many
-/// shards, which name the first of the chunks, 64 each.
+/// A disk of three extents: `chunks` chunks of `abc` under one UUID in extent 1, and in extent 2 the run of `shards` shards
+/// that name the first of the chunks, 64 each.
 pub(crate) fn filled(
     alloc: Global,
     geometry: Geometry,
@@ -77,7 +77,7 @@ fn two_hundred_thousand_named_twins_are_scrubbed(rt: HostRuntime) -> Result<(), 
 }
 
 #[test]
-fn of_many_chunks_half_are_garbage(rt: HostRuntime) -> Result<(), Fail> {
+fn half_of_many_chunks_are_garbage(rt: HostRuntime) -> Result<(), Fail> {
     let geometry = Geometry::new(64, 16_384, 3)?;
     let disk = filled(rt.alloc(), geometry, 25_000, 195)?;
     let plan = plan_of(rt.alloc(), &disk)?;
@@ -168,7 +168,7 @@ fn many_named_pages_are_unreadable(rt: HostRuntime) -> Result<(), Fail> {
 }
 
 #[test]
-fn as_many_runs_are_read_as_a_superblock_names(rt: HostRuntime) -> Result<(), Fail> {
+fn all_32_runs_of_a_superblock_are_read(rt: HostRuntime) -> Result<(), Fail> {
     let mut disk = MemDisk::blank(rt.alloc(), Geometry::new(1_024, 2, 3)?)?;
     let run = put_abc_and_its_run(rt.alloc(), &mut disk)?;
     put_superblock(rt.alloc(), &mut disk, &[41, 155], &[run; 32])?;
@@ -215,7 +215,7 @@ fn fill_from_last<'d>(
     Ok(())
 }
 
-/// Compares the extents of findings.
+/// Compares the extents of two findings.
 fn check_extents(
     rt: &impl Abort,
     found: &AllFindings<'_, MemDisk>,
@@ -231,7 +231,7 @@ fn check_extents(
 }
 
 #[test]
-fn a_book_of_65535_extents_filled_from_the_last(rt: HostRuntime) -> Result<(), Fail> {
+fn a_book_of_65535_extents_is_filled_from_the_last(rt: HostRuntime) -> Result<(), Fail> {
     let disk = MemDisk::blank(rt.alloc(), Geometry::new(64, 1, 65_536)?)?;
     let plan = plan_of(rt.alloc(), &disk)?;
     let mut book = Book::new(rt.alloc(), &disk, &plan)?;

@@ -1,4 +1,4 @@
-//! Writing out to writers that have room, that fail, that take no byte, and that count how often they are called.
+//! `write_out` to writers that have room, that fail, that take no byte, and that count their calls.
 
 ghost use Rattle.std.specs.Prelude.{Some};
 
@@ -11,7 +11,7 @@ use std::io::{ErrorKind, Write};
 use std::test::Fail;
 
 #[test]
-fn all_bytes_come_in_order(rt: HostRuntime) -> Result<(), Fail> {
+fn all_bytes_are_written_in_order(rt: HostRuntime) -> Result<(), Fail> {
     let mut bytes = Vec::new(rt.alloc());
     write_out(&mut bytes, b"chunk")?;
     write_out(&mut bytes, b"s")?;
@@ -20,7 +20,7 @@ fn all_bytes_come_in_order(rt: HostRuntime) -> Result<(), Fail> {
 }
 
 #[test]
-fn short_writes_go_on(rt: HostRuntime) -> Result<(), Fail> {
+fn short_writes_are_continued(rt: HostRuntime) -> Result<(), Fail> {
     let mut narrow = NarrowWriter::new(rt.alloc(), 11, true);
     write_out(&mut narrow, b"ten bytes.")?;
     same(&rt, narrow.taken.as_slice(), b"ten bytes.".as_slice());
@@ -28,7 +28,7 @@ fn short_writes_go_on(rt: HostRuntime) -> Result<(), Fail> {
 }
 
 #[test]
-fn a_writer_that_takes_some_bytes_and_then_none(rt: HostRuntime) {
+fn a_write_fault_has_the_number_of_written_bytes(rt: HostRuntime) {
     let bytes = b"more than ten bytes";
     for room in 0..bytes.len() {
         for fails in [true, false] {
@@ -40,7 +40,7 @@ fn a_writer_that_takes_some_bytes_and_then_none(rt: HostRuntime) {
     }
 }
 
-/// Takes so many bytes a call at most, and counts the calls.
+/// Takes at most `most` bytes a call, and counts the calls.
 #[derive(Drop)]
 struct CountingWriter {
     taken: Vec<u8>,
@@ -49,7 +49,7 @@ struct CountingWriter {
 }
 
 impl CountingWriter {
-    /// A writer that wasn't called yet.
+    /// A writer that hasn't been called.
     fn new(alloc: Global, most: usize) -> CountingWriter {
         CountingWriter {
             taken: Vec::new(alloc),
@@ -77,7 +77,7 @@ impl Write for CountingWriter {
 }
 
 #[test]
-fn a_writer_is_called_no_more_often_than_it_needs(rt: HostRuntime) -> Result<(), Fail> {
+fn a_writer_is_called_no_more_often_than_needed(rt: HostRuntime) -> Result<(), Fail> {
     let text = vec![in rt.alloc(); b'x'; 100_000]?;
     let cases = [(usize::MAX, 1), (100_000, 1), (99_999, 2), (4_096, 25)];
     for (most, calls) in cases {

@@ -1,4 +1,4 @@
-//! How tests compare what they found with what they wanted.
+//! How tests compare what they found with what they expected.
 
 use scrub_disk::MemDisk;
 use scrub_report::ScrubAnswer;
@@ -6,8 +6,8 @@ use scrub_scan::{AllFindings, ExtentResult};
 use std::fmt::Debug;
 use std::process::Abort;
 
-/// Requires that what was found is what was wanted, and else prints both. That it can be printed is proved here, once, and
-/// not in each test.
+/// Checks that two values are equal, and prints both if they aren't. That they can be printed is proved here once, and not in
+/// each test.
 pub(crate) fn same<T: PartialEq + Debug + Drop>(rt: &impl Abort, found: T, wanted: T) {
     assert_eq!(rt; found, wanted);
 }

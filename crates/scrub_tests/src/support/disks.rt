@@ -1,5 +1,5 @@
-//! Worked examples that several modules look at: what is written to a disk in memory. Bytes, numbers and digests are
-//! those of the format's description. What is found on these disks is left to the modules around.
+//! Worked disks that several modules use. Bytes, numbers and digests are those of the format's description. For what is found
+//! on these disks see the tests.
 
 use scrub_check::Status;
 use scrub_disk::{Geometry, MemDisk, PageSource};
@@ -15,7 +15,7 @@ use std::slice;
 use std::test::Fail;
 use uuid::Uuid;
 
-/// Puts the run of one shard, which has these locators, and tells the run's own.
+/// Puts the run of one shard with these locators. Returns the run's own locator.
 pub(crate) fn put_run(
     alloc: Global,
     disk: &mut MemDisk,
@@ -28,8 +28,8 @@ pub(crate) fn put_run(
     Ok(put_chunk(alloc, disk, extent, offset, uuid, &payload)?)
 }
 
-/// Writes to a blank disk of three extents `abc` at the start of extent 1, the run of one shard that names it in extent
-/// 2, and the superblock of both. Tells the run's locator.
+/// Writes to a blank disk of three extents: `abc` at the start of extent 1, the run of one shard that names it in extent 2, and
+/// the superblock of both. Returns the run's locator.
 pub(crate) fn put_abc_and_its_run(alloc: Global, disk: &mut MemDisk) -> Result<Locator, Fail> {
     put_chunk(alloc, disk, 1, 0, ONES, b"abc")?;
     let run = put_run(alloc, disk, 2, 0, TWOS, &[abc_at(1, 0)])?;
@@ -44,8 +44,8 @@ pub(crate) fn abc_on_four_extents(alloc: Global) -> Result<MemDisk, Fail> {
     Ok(disk)
 }
 
-/// A disk of four extents with `abc` in extent 1 and three runs of one shard: the newest, at the start of extent 2,
-/// deletes it; one behind it and one in extent 3 name the chunk.
+/// A disk of four extents with `abc` in extent 1 and three runs of one shard. The newest, at the start of extent 2, deletes it;
+/// the one after it and the one in extent 3 name the chunk.
 pub(crate) fn deleted_in_the_newest_run(rt: &impl Abort, alloc: Global) -> Result<MemDisk, Fail> {
     let mut disk = abc_on_four_extents(alloc)?;
     let newest = put_run(alloc, &mut disk, 2, 0, TWOS, &[])?;
@@ -57,7 +57,7 @@ pub(crate) fn deleted_in_the_newest_run(rt: &impl Abort, alloc: Global) -> Resul
     Ok(disk)
 }
 
-/// The payload of the run that deletes the shard, with the last bit of its digest changed.
+/// The payload of the run that deletes the shard, with the last bit of its digest flipped.
 pub(crate) fn broken_run(rt: &impl Abort, alloc: Global) -> Result<Vec<u8>, Fail> {
     let mut broken = run_of(alloc, SHARD, &[])?;
     assert!(rt; broken.len() == 57);
@@ -65,8 +65,8 @@ pub(crate) fn broken_run(rt: &impl Abort, alloc: Global) -> Result<Vec<u8>, Fail
     Ok(broken)
 }
 
-/// A disk of four extents with `abc` in extent 1 and two runs of one shard: the newer, in extent 2, deletes it, but the
-/// last bit of its digest is another; the older, in extent 3, names the chunk.
+/// A disk of four extents with `abc` in extent 1 and two runs of one shard. The newer, in extent 2, deletes it, but the last
+/// bit of its digest is flipped; the older, in extent 3, names the chunk.
 pub(crate) fn broken_newest_run(rt: &impl Abort, alloc: Global) -> Result<MemDisk, Fail> {
     let mut disk = abc_on_four_extents(alloc)?;
     let broken = broken_run(rt, alloc)?;
@@ -76,8 +76,7 @@ pub(crate) fn broken_newest_run(rt: &impl Abort, alloc: Global) -> Result<MemDis
     Ok(disk)
 }
 
-/// A disk of three extents with `abc` in extent 1 and the run that names it in extent 2; the superblock names the run
-/// twice.
+/// A disk of three extents with `abc` in extent 1 and the run that names it in extent 2. The superblock names the run twice.
 pub(crate) fn run_named_twice(rt: &impl Abort, alloc: Global) -> Result<MemDisk, Fail> {
     let mut disk = small_disk(alloc)?;
     let run = put_abc_and_its_run(alloc, &mut disk)?;
@@ -86,8 +85,8 @@ pub(crate) fn run_named_twice(rt: &impl Abort, alloc: Global) -> Result<MemDisk,
     Ok(disk)
 }
 
-/// Nine locators, each with what it is worth on the disk of `nine_locators`.
-pub(crate) fn judged_locators() -> [(Locator, Status); 9] {
+/// Nine locators, each with its status on the disk of `nine_locators`.
+pub(crate) fn locators_with_status() -> [(Locator, Status); 9] {
     let abc = abc_at(1, 0);
     let twos = Uuid::from_bytes(TWOS);
     [
@@ -109,22 +108,22 @@ pub(crate) fn judged_locators() -> [(Locator, Status); 9] {
     ]
 }
 
-/// A disk with pages of 256 bytes, eight pages an extent and four extents, under the pointers 512, 297 and 635. Extent 1
-/// has `abc` at 0, and its page 1 is unreadable. Extent 2 has a frame of 258 bytes at 0, whose last two bytes are the
-/// magic of the frame of `abc` at 256. Extent 3 has the run of one shard with the nine locators. Tells the run's locator.
+/// A disk with pages of 256 bytes, eight pages an extent, four extents, and the pointers 512, 297 and 635. Extent 1 has `abc`
+/// at 0, and its page 1 is unreadable. Extent 2 has a frame of 258 bytes at 0; its last two bytes are the magic of the frame of
+/// `abc` at 256. Extent 3 has the run of one shard with the nine locators. Returns the run's locator.
 pub(crate) fn nine_locators(rt: &impl Abort, alloc: Global) -> Result<(MemDisk, Locator), Fail> {
     let mut disk = collision(alloc)?;
     put_chunk(alloc, &mut disk, 1, 0, ONES, b"abc")?;
     mark_bad(&mut disk, 1, 1)?;
-    let locators = judged_locators().map(|judged| judged.0);
+    let locators = locators_with_status().map(|one| one.0);
     let run = put_run(alloc, &mut disk, 3, 0, TWOS, &locators)?;
     assert!(rt; run.length == 597);
     put_superblock(alloc, &mut disk, &[512, 297, 635], slice::from_ref(&run))?;
     Ok((disk, run))
 }
 
-/// A disk with pages of 256 bytes, eight pages an extent and four extents. Extent 2 has a frame of 258 bytes at 0, whose
-/// last two bytes are the magic of the frame of `abc` at 256.
+/// A disk with pages of 256 bytes, eight pages an extent and four extents. Extent 2 has a frame of 258 bytes at 0; its last two
+/// bytes are the magic of the frame of `abc` at 256.
 pub(crate) fn collision(alloc: Global) -> Result<MemDisk, Fail> {
     let mut disk = MemDisk::blank(alloc, Geometry::new(256, 8, 4)?)?;
     put_chunk(alloc, &mut disk, 2, 0, ENDS_IN_MAGIC, &[0x78; 220])?;
@@ -132,8 +131,8 @@ pub(crate) fn collision(alloc: Global) -> Result<MemDisk, Fail> {
     Ok(disk)
 }
 
-/// A disk of three extents with a frame of 66 bytes under this UUID at the start of extent 1, and `abc` written at 64,
-/// over its last two bytes. Extent 2 has the run of one shard with this `abc`.
+/// A disk of three extents. Extent 1 begins with a frame of 66 bytes under this UUID; `abc`, written at 64, overwrites its last
+/// two bytes. Extent 2 has the run of one shard with this `abc`.
 pub(crate) fn overwritten_end(alloc: Global, uuid: [u8; 16]) -> Result<MemDisk, Fail> {
     let mut disk = small_disk(alloc)?;
     put_chunk(alloc, &mut disk, 1, 0, uuid, &[0x78; 28])?;
@@ -143,7 +142,7 @@ pub(crate) fn overwritten_end(alloc: Global, uuid: [u8; 16]) -> Result<MemDisk, 
     Ok(disk)
 }
 
-/// A disk of three extents with `abc` at 0 and 41 of extent 1, and a run that names the second alone.
+/// A disk of three extents with `abc` at 0 and 41 of extent 1, and a run that names only the second.
 pub(crate) fn half_garbage(alloc: Global) -> Result<MemDisk, Fail> {
     let mut disk = small_disk(alloc)?;
     put_chunk(alloc, &mut disk, 1, 0, ONES, b"abc")?;
@@ -160,7 +159,7 @@ pub(crate) fn one_shard(alloc: Global) -> Result<MemDisk, Fail> {
     Ok(disk)
 }
 
-/// That disk, with these pages of an extent unreadable.
+/// The disk of `one_shard`, with these pages of an extent unreadable.
 pub(crate) fn one_shard_without(
     alloc: Global,
     extent: u32,
@@ -173,14 +172,14 @@ pub(crate) fn one_shard_without(
     Ok(disk)
 }
 
-/// The identifier of twelve zero bytes and a number.
+/// The identifier of twelve zero bytes and a big-endian number.
 pub(crate) fn shard(number: u32) -> ShardId {
     let mut bytes = [0; 16];
     bytes[12..].copy_from_slice(&number.to_be_bytes());
     ShardId(bytes)
 }
 
-/// The payload of the run of these entries.
+/// The payload of the run with these entries.
 pub(crate) fn payload_of(alloc: Global, entries: &[Entry]) -> Result<Vec<u8>, Fail> {
     let mut payload = Vec::from_slice(alloc, b"RUN1")?;
     payload.extend_from_slice(&u32::try_from(entries.len())?.to_be_bytes())?;
@@ -202,14 +201,14 @@ fn append_entry(payload: &mut Vec<u8>, entry: &Entry) -> Result<(), Fail> {
     Ok(())
 }
 
-/// An entry of one locator.
+/// An entry with one locator.
 pub(crate) fn entry_of(alloc: Global, id: ShardId, locator: Locator) -> Result<Entry, Fail> {
     let locators = Vec::from_slice(alloc, slice::from_ref(&locator))?;
     Ok(Entry::new(id, locators))
 }
 
-/// A disk of three extents with `abc` under one UUID at 0 and 41 of extent 1, and the run of two shards, both of which
-/// name the second, in extent 2. Tells the run's payload.
+/// A disk of three extents with `abc` under one UUID at 0 and 41 of extent 1. The run in extent 2 has two shards, which both
+/// name the second. Returns the run's payload with the disk.
 pub(crate) fn twins_and_shared(rt: &impl Abort, alloc: Global) -> Result<(MemDisk, Vec<u8>), Fail> {
     let mut disk = small_disk(alloc)?;
     put_chunk(alloc, &mut disk, 1, 0, ONES, b"abc")?;
@@ -225,15 +224,15 @@ pub(crate) fn twins_and_shared(rt: &impl Abort, alloc: Global) -> Result<(MemDis
     Ok((disk, payload))
 }
 
-/// A disk of three extents with `abc` in extent 1, which is behind its write pointer.
-fn behind_the_pointer(alloc: Global) -> Result<MemDisk, Fail> {
+/// A disk of three extents with `abc` in extent 1, past the write pointer.
+fn past_the_pointer(alloc: Global) -> Result<MemDisk, Fail> {
     let mut disk = small_disk(alloc)?;
     put_chunk(alloc, &mut disk, 1, 0, ONES, b"abc")?;
     put_superblock(alloc, &mut disk, &[0, 0], &[])?;
     Ok(disk)
 }
 
-/// A disk of three extents with a frame of 98 bytes at the start of extent 1, of which page 1 is unreadable.
+/// A disk of three extents with a frame of 98 bytes at the start of extent 1. Page 1 of that extent is unreadable.
 fn torn_frame(alloc: Global) -> Result<MemDisk, Fail> {
     let mut disk = small_disk(alloc)?;
     put_chunk(alloc, &mut disk, 1, 0, ONES, &[0x78; 60])?;
@@ -242,8 +241,8 @@ fn torn_frame(alloc: Global) -> Result<MemDisk, Fail> {
     Ok(disk)
 }
 
-/// A disk of one shard with two superblocks: on page 0 of generation 7, and on page 2 of this one, with the pointers 0
-/// and 155.
+/// A disk of one shard with two superblocks: one of generation 7 on page 0, and one of this generation on page 2, with the
+/// pointers 0 and 155.
 fn two_superblocks(alloc: Global, generation: u64) -> Result<MemDisk, Fail> {
     let mut disk = small_disk(alloc)?;
     let run = put_abc_and_its_run(alloc, &mut disk)?;
@@ -272,7 +271,7 @@ fn last_byte(disk: &MemDisk) -> Result<u8, Fail> {
     }
 }
 
-/// The disk of two superblocks of which the one on page 2 is newer, but its last byte is another.
+/// The disk of two superblocks. The one on page 2 is newer, but the last bit of its last byte is flipped.
 fn broken_superblock(alloc: Global) -> Result<MemDisk, Fail> {
     let mut disk = two_superblocks(alloc, 8)?;
     let last = last_byte(&disk)?;
@@ -280,8 +279,8 @@ fn broken_superblock(alloc: Global) -> Result<MemDisk, Fail> {
     Ok(disk)
 }
 
-/// A disk of 40 extents, each of 64 pages of 64 bytes. Each extent from 1 to 38 has `abc` at its start, under the UUID of
-/// sixteen bytes that are its number; extent 39 has the run of 38 shards, each of one of these chunks, whose payload comes
+/// A disk of 40 extents, each of 64 pages of 64 bytes. Extents 1 to 38 each begin with `abc`, under a UUID of sixteen bytes
+/// that are the extent's number. Extent 39 has the run of 38 shards, each of one of these chunks. Returns the run's payload
 /// with the disk.
 pub(crate) fn many_shards(rt: &impl Abort, alloc: Global) -> Result<(MemDisk, Vec<u8>), Fail> {
     let mut disk = MemDisk::blank(alloc, Geometry::new(64, 64, 40)?)?;
@@ -299,23 +298,23 @@ pub(crate) fn many_shards(rt: &impl Abort, alloc: Global) -> Result<(MemDisk, Ve
     Ok((disk, payload))
 }
 
-/// The worked disks that tables name. What each has on it is said at the function that makes it.
+/// The worked disks that tables name. For what is on a disk see the function that makes it.
 #[derive(Debug, Clone, Copy, PartialEq, Eq)]
 pub(crate) enum Worked {
     Zeros,
     OneShard,
-    /// That disk, with these pages of an extent unreadable.
+    /// The disk of one shard, with these pages of an extent unreadable.
     Without(u32, &'static [u32]),
-    BehindThePointer,
+    PastThePointer,
     TornFrame,
     HalfGarbage,
-    /// The frame whose end is overwritten has a UUID that ends in the magic.
+    /// The overwritten frame has a UUID that ends in the magic.
     OverwrittenEnd,
     TwinsAndShared,
     RunNamedTwice,
     DeletedInTheNewestRun,
     BrokenNewestRun,
-    /// The second one of this generation.
+    /// The second superblock has this generation.
     TwoSuperblocks(u64),
     BrokenSuperblock,
 }
@@ -327,7 +326,7 @@ impl Worked {
             Worked::Zeros => Ok(small_disk(alloc)?),
             Worked::OneShard => one_shard(alloc),
             Worked::Without(extent, pages) => one_shard_without(alloc, extent, pages),
-            Worked::BehindThePointer => behind_the_pointer(alloc),
+            Worked::PastThePointer => past_the_pointer(alloc),
             Worked::TornFrame => torn_frame(alloc),
             Worked::HalfGarbage => half_garbage(alloc),
             Worked::OverwrittenEnd => overwritten_end(alloc, ENDS_IN_MAGIC),

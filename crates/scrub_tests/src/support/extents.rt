@@ -1,5 +1,4 @@
-//! What is put into one extent of a small disk, and how the findings of an extent are compared with what is to be found
-//! there. Which extents are looked at, and how, is left to the modules around.
+//! What is put into one extent of a small disk, and how its findings are compared with what is expected.
 
 ghost use Rattle.std.specs.Prelude.{◌≡◌};
 ghost use Rattle.scrub_disk.specs.Memory.{image_of};
@@ -27,7 +26,7 @@ pub(crate) fn put_frames(
     Ok(())
 }
 
-/// Puts bytes into extent 1, each at an offset.
+/// Puts bytes into extent 1, each part at its offset.
 pub(crate) fn put_all(disk: &mut MemDisk, parts: &[(u32, &[u8])]) -> Result<(), Fail> {
     for (offset, bytes) in parts {
         put(disk, 1, *offset, bytes)?;
@@ -43,7 +42,7 @@ pub(crate) fn mark_all(disk: &mut MemDisk, extent: u32, pages: &[u32]) -> Result
     Ok(())
 }
 
-/// A disk of three extents without a superblock. Extent 1 has these frames, and pages that are unreadable.
+/// A disk of three extents without a superblock. Extent 1 has these frames and these unreadable pages.
 pub(crate) fn disk_with(
     alloc: Global,
     frames: &[Written],
@@ -55,7 +54,7 @@ pub(crate) fn disk_with(
     Ok(disk)
 }
 
-/// Compares items by their lines.
+/// Compares items with lines.
 pub(crate) fn check_lines(
     rt: &impl Abort,
     alloc: Global,
@@ -70,7 +69,7 @@ pub(crate) fn check_lines(
     Ok(())
 }
 
-/// What is to be found in an extent.
+/// What is expected of an extent.
 #[derive(Clone, Copy)]
 pub(crate) struct Expected<'a> {
     pub(crate) lines: &'a [&'a str],
@@ -79,7 +78,7 @@ pub(crate) struct Expected<'a> {
     pub(crate) bad_pages: &'a [u32],
 }
 
-/// What is to be found in a readable extent that has nothing past its pointer.
+/// What is expected of a readable extent with nothing past its pointer.
 pub(crate) fn full<'a>(lines: &'a [&'a str]) -> Expected<'a> {
     Expected {
         lines,
@@ -89,7 +88,7 @@ pub(crate) fn full<'a>(lines: &'a [&'a str]) -> Expected<'a> {
     }
 }
 
-/// Compares what was found in an extent.
+/// Checks the findings of an extent.
 pub(crate) fn check_findings(
     rt: &impl Abort,
     alloc: Global,
@@ -102,7 +101,7 @@ pub(crate) fn check_findings(
     check_lines(rt, alloc, findings.items(), expected.lines)
 }
 
-/// Compares what a scan of an extent finds under the write pointer of a plan.
+/// Checks what a scan of an extent finds under the write pointer of a plan.
 pub(crate) fn check_extent(
     rt: &impl Abort,
     alloc: Global,

@@ -1,4 +1,4 @@
-//! What the calls of the checks report of a disk, and what a scrub answers, by one reader and by workers.
+//! What the checks and the scrubs answer for a disk, by one reader and by workers.
 
 ghost use Rattle.std.specs.Prelude.{◌≤◌};
 
@@ -18,14 +18,14 @@ use std::sync::Wait;
 use std::test::Fail;
 use std::thread::Threads;
 
-/// What a locator is worth on a disk.
-pub(crate) fn judge(alloc: Global, disk: &MemDisk, locator: &Locator) -> Result<Status, Fail> {
+/// The status of a locator on a disk.
+pub(crate) fn status_on(alloc: Global, disk: &MemDisk, locator: &Locator) -> Result<Status, Fail> {
     let plan = plan_of(alloc, disk)?;
     let all = scan_in_order(alloc, disk, &plan)?;
     Ok(status_of(alloc, disk, &plan, &all, locator)?)
 }
 
-/// What the scrub of a disk by one reader answers.
+/// The answer of a scrub by one reader.
 pub(crate) fn scrubbed<D: PageSource, R: Threads + Sync>(
     rt: &R,
     alloc: Global,
@@ -37,7 +37,7 @@ pub(crate) fn scrubbed<D: PageSource, R: Threads + Sync>(
     }
 }
 
-/// What the scrub of a disk by so many workers and the caller answers, and who took which extents.
+/// The answer of a scrub by `workers` workers and the caller, and which worker took which extents.
 pub(crate) fn scrubbed_by<D: PageSource, G: Gate, R: Threads + Wait + Sync>(
     rt: &R,
     alloc: Global,
@@ -53,7 +53,7 @@ pub(crate) fn scrubbed_by<D: PageSource, G: Gate, R: Threads + Wait + Sync>(
     }
 }
 
-/// What is told of the locators that a disk names, and of its chunks.
+/// The locators that a disk names, with their statuses, and the lists that follow from them.
 #[derive(Drop)]
 pub(crate) struct Lists {
     pub(crate) checked: Vec<Checked>,
@@ -63,7 +63,7 @@ pub(crate) struct Lists {
     pub(crate) candidates_in_doubt: Vec<Candidate>,
 }
 
-/// The locators that a disk names, with what they are worth.
+/// The locators that a disk names, with their statuses.
 pub(crate) fn checked_of<R: Threads + Sync>(
     rt: &R,
     alloc: Global,
@@ -77,7 +77,7 @@ pub(crate) fn checked_of<R: Threads + Sync>(
     Ok(check_all(rt, alloc, disk, &plan, &all, &named)?)
 }
 
-/// The lists that are told of a disk.
+/// The lists of a disk.
 pub(crate) fn lists_of<R: Threads + Sync>(
     rt: &R,
     alloc: Global,

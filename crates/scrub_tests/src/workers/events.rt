@@ -1,4 +1,4 @@
-//! What a pool of workers does, event by event, as the pure machine tells it.
+//! What a pool of workers does, event by event, in the pure machine.
 
 use crate::support::compare::{check_found, same};
 use crate::support::disks::one_shard;
@@ -10,7 +10,7 @@ use std::alloc::Global;
 use std::process::Abort;
 use std::test::Fail;
 
-/// Compares what comes of these steps, one after another.
+/// Checks the answers to these steps, one after another.
 fn check_steps(
     rt: &impl Abort,
     pool: &mut PoolCore<'_, MemDisk>,
@@ -21,7 +21,7 @@ fn check_steps(
     }
 }
 
-/// Finishes a pool that is complete and has these arrivals, and compares what it assembles with what one reader finds.
+/// Finishes a complete pool that has these arrivals, and compares its findings with those of one reader.
 fn check_complete(
     rt: &impl Abort,
     alloc: Global,
@@ -41,7 +41,7 @@ fn check_complete(
     Ok(())
 }
 
-/// A pool that isn't complete, as it came back when it was asked for what it assembles.
+/// Asks an incomplete pool for its findings, and returns the pool that comes back.
 fn came_back<'d>(
     rt: &impl Abort,
     pool: PoolCore<'d, MemDisk>,
@@ -50,7 +50,7 @@ fn came_back<'d>(
     Ok(pool.finish().err().ok_or("a pool that isn't complete")?)
 }
 
-/// What comes of the steps of two members until the second has retired.
+/// Steps of two members until the second has retired, each with its refusal or none.
 const BEFORE: [(Event, Option<StepRefused>); 9] = [
     (Event::Take(0), None),
     (Event::Take(0), Some(StepRefused::Busy)),
@@ -63,14 +63,14 @@ const BEFORE: [(Event, Option<StepRefused>); 9] = [
     (Event::Retire(1), None),
 ];
 
-/// What is left to be done, and one step more.
+/// What the first member has left to do, and one step more.
 const AFTER: [(Event, Option<StepRefused>); 2] = [
     (Event::Retire(0), None),
     (Event::Retire(0), Some(StepRefused::Retired)),
 ];
 
 #[test]
-fn the_steps_of_two_members(rt: HostRuntime) -> Result<(), Fail> {
+fn two_members_take_extents_finish_and_retire(rt: HostRuntime) -> Result<(), Fail> {
     let disk = one_shard(rt.alloc())?;
     let plan = plan_of(rt.alloc(), &disk)?;
     let mut pool = PoolCore::new(rt.alloc(), &disk, &plan, 2)?;
@@ -81,7 +81,7 @@ fn the_steps_of_two_members(rt: HostRuntime) -> Result<(), Fail> {
 }
 
 #[test]
-fn a_pool_of_no_workers(rt: HostRuntime) -> Result<(), Fail> {
+fn a_pool_of_no_workers_takes_nothing(rt: HostRuntime) -> Result<(), Fail> {
     let disk = one_shard(rt.alloc())?;
     let plan = plan_of(rt.alloc(), &disk)?;
     let mut pool = PoolCore::new(rt.alloc(), &disk, &plan, 0)?;
@@ -95,8 +95,8 @@ fn a_pool_of_no_workers(rt: HostRuntime) -> Result<(), Fail> {
     Ok(())
 }
 
-/// Three planned extents and three members, by two schedules that differ in who takes what, who is done first and who
-/// retires first.
+/// Two schedules of three members over three planned extents. They differ in who takes what, who is done first and who retires
+/// first.
 const SCHEDULES: [([Event; 9], [u32; 3]); 2] = [
     (
         [
@@ -128,7 +128,7 @@ const SCHEDULES: [([Event; 9], [u32; 3]); 2] = [
     ),
 ];
 
-/// Runs a schedule of which no step is refused, and compares the arrivals and what is assembled.
+/// Runs a schedule without a refused step, and checks the arrivals and the findings.
 fn check_schedule(
     rt: &impl Abort,
     alloc: Global,

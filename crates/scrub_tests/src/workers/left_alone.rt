@@ -1,4 +1,4 @@
-//! A gate that holds all workers but one, until every extent was taken.
+//! A gate that holds all workers but one until every extent is taken.
 
 use crate::support::compare::same;
 use crate::workers::pausing::{PAUSES, pause};
@@ -7,19 +7,19 @@ use std::process::Abort;
 use std::sync::atomic::{AtomicU64, Ordering};
 use std::time::Clock;
 
-/// Holds each worker but one at its first extent, until so many extents were taken as the disk has planned.
+/// Holds each worker but one at its first extent, until as many extents are taken as are planned.
 #[derive(Drop)]
 pub(super) struct LeftAlone<'c, C: Clock> {
     clock: &'c C,
     alone: u32,
     planned: u64,
     passed: AtomicU64,
-    // How often a worker was held too long.
+    // How many times a worker was held too long.
     faults: AtomicU64,
 }
 
 impl<'c, C: Clock> LeftAlone<'c, C> {
-    /// A gate for the worker of this number, which alone isn't held, on a disk of so many planned extents.
+    /// A gate for a disk of `planned` planned extents. Only worker `alone` isn't held.
     pub(super) fn new(clock: &'c C, alone: u32, planned: u64) -> LeftAlone<'c, C> {
         LeftAlone {
             clock,
@@ -30,7 +30,7 @@ impl<'c, C: Clock> LeftAlone<'c, C> {
         }
     }
 
-    /// Waits until every extent was taken.
+    /// Waits until every extent is taken.
     fn hold(&self) {
         for _ in 0..PAUSES {
             if self.passed.load(Ordering::SeqCst) >= self.planned {
@@ -41,7 +41,7 @@ impl<'c, C: Clock> LeftAlone<'c, C> {
         self.faults.fetch_add(1, Ordering::SeqCst);
     }
 
-    /// Requires that no worker was held too long: so the one that wasn't held took what the others left.
+    /// Checks that no worker was held too long, so that the one that wasn't held took what the others left.
     pub(super) fn check(&self, rt: &impl Abort) {
         same(rt, self.passed.load(Ordering::SeqCst), self.planned);
         same(rt, self.faults.load(Ordering::SeqCst), 0);

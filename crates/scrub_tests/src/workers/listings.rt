@@ -1,11 +1,11 @@
-//! The listings of the named locators and of what may be reclaimed, by any number of workers: what is reported to the gate,
-//! who took what, how often pages are asked for, and which lines are printed.
+//! The listings of the named locators and of what may be reclaimed, by any number of workers: the lines, who took what, what
+//! the gate saw, and how often pages are asked for.
 
 ghost use Rattle.std.specs.Prelude.{◌≤◌};
 
+use crate::scrubs::listings::{NONE, Which, listing_of};
 use crate::support::compare::same;
 use crate::support::disks::many_shards;
-use crate::scrubs::listings::{NONE, Which, listed};
 use crate::workers::reading_watch::ReadingWatch;
 use crate::workers::watch::Watch;
 use scrub_disk::{MemDisk, PageSource};
@@ -19,7 +19,7 @@ use std::thread::Threads;
 use std::time::Clock;
 use uuid::Uuid;
 
-/// The disk of many shards with a second chunk in each of extents 1 to 38, which nobody names.
+/// The disk of many shards, with a second chunk in each of extents 1 to 38 that nobody names.
 fn halved(rt: &impl Abort, alloc: Global) -> Result<MemDisk, Fail> {
     let (mut disk, payload) = many_shards(rt, alloc)?;
     let mut pointers = Vec::new(alloc);
@@ -33,7 +33,7 @@ fn halved(rt: &impl Abort, alloc: Global) -> Result<MemDisk, Fail> {
     Ok(disk)
 }
 
-/// The lines of that disk: its run and its shards, or the extents that hold a chunk to keep beside one that nobody names.
+/// The lines of that disk: its run and its shards, or its extents to reclaim, each with the chunk to move.
 fn lines(alloc: Global, which: Which) -> Result<String, Fail> {
     let mut text = match which {
         Which::Locators => {
@@ -57,8 +57,8 @@ fn lines(alloc: Global, which: Which) -> Result<String, Fail> {
     Ok(text)
 }
 
-/// Lists that disk by so many workers and the caller, each of whose first extents is held until so many have passed with
-/// one. Compares the lines, and who took what with what was reported to the gate.
+/// Lists that disk with `workers` workers and the caller. Each is held at its first extent until `held` of them have passed
+/// with one. Checks the lines, and compares who took what with what the gate saw.
 fn check_listing<R: Threads + Wait + Abort + Clock + Sync>(
     rt: &R,
     alloc: Global,
@@ -71,7 +71,7 @@ fn check_listing<R: Threads + Wait + Abort + Clock + Sync>(
 {
     let plan = plan_of(alloc, disk)?;
     let watch = Watch::new(rt, alloc, workers + 1, disk.geometry().extents(), held)?;
-    let found = listed(rt, alloc, disk, workers, &watch, which)?;
+    let found = listing_of(rt, alloc, disk, workers, &watch, which)?;
     watch.check(rt, &found.takings, plan.planned());
     same(
         rt,
@@ -96,8 +96,8 @@ fn any_number_of_workers_lists_the_same_lines(rt: HostRuntime) -> Result<(), Fai
     Ok(())
 }
 
-/// Requires that of the disk of many shards each page was asked for once, but for those of the run: of its 64 pages 45 have
-/// its bytes alone and are asked for twice, the first three times, and the last four times.
+/// Checks how often pages of the disk of many shards were asked for: once each, except those with bytes of the run in extent
+/// 39. The first of these was asked for three times, the last one four times, and the 45 between them twice.
 fn check_asked(rt: &impl Abort, source: &CountingSource<'_>) {
     assert!(rt; source.geometry().extents() == 40);
     for extent in 0..39 {
@@ -106,8 +106,8 @@ fn check_asked(rt: &impl Abort, source: &CountingSource<'_>) {
     same(rt, source.asked(39), 114);
 }
 
-/// Lists that disk by so many workers and the caller. Requires that each extent was reported to the gate before it was read and
-/// each total after, and that each page was asked for as often as it has to be.
+/// Lists that disk with `workers` workers and the caller. Checks that the gate saw each extent before it was read and each
+/// total after, and that each page was asked for as often as it has to be.
 fn check_reading<R: Threads + Wait + Abort + Clock + Sync>(
     rt: &R,
     alloc: Global,
@@ -120,14 +120,14 @@ fn check_reading<R: Threads + Wait + Abort + Clock + Sync>(
     let plan = plan_of(alloc, disk)?;
     let source = CountingSource::new(alloc, disk)?;
     let watch = ReadingWatch::new(rt, alloc, &source, workers + 1)?;
-    let found = listed(rt, alloc, &source, workers, &watch, which)?;
+    let found = listing_of(rt, alloc, &source, workers, &watch, which)?;
     watch.check(rt, &found.takings, plan.planned());
     check_asked(rt, &source);
     Ok(())
 }
 
 #[test]
-fn a_listing_asks_for_each_page_once_but_for_the_run(rt: HostRuntime) -> Result<(), Fail> {
+fn a_listing_asks_for_each_page_once_except_those_of_the_run(rt: HostRuntime) -> Result<(), Fail> {
     let disk = halved(&rt, rt.alloc())?;
     for which in [Which::Locators, Which::Reclaimable(NONE)] {
         for workers in [0, 3] {

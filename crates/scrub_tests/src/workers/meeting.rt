@@ -9,21 +9,21 @@ use scrub_disk::{Geometry, MemDisk, PageSource, Unreadable};
 use std::sync::atomic::{AtomicU64, Ordering};
 use std::time::Clock;
 
-/// A disk in memory as a page source whose reads wait until so many threads are inside one at the same time, which ends all
-/// waiting. The first that waits too long ends it too.
+/// A disk in memory as a page source. Its reads wait until `wanted` threads are reading at the same time; from then on none
+/// waits. The first that waits too long ends the waiting too.
 #[derive(Drop)]
 pub(super) struct MeetingSource<'a, C: Clock> {
     clock: &'a C,
     disk: &'a MemDisk,
     wanted: u64,
     inside: AtomicU64,
-    // Each 0 until it is so, and then 1.
+    // Each is 0 until it happens, and then 1.
     met: AtomicU64,
     given_up: AtomicU64,
 }
 
 impl<'a, C: Clock> MeetingSource<'a, C> {
-    /// A source of a disk's pages, of which so many are to be read at the same time.
+    /// A source of a disk's pages, of which `wanted` are to be read at the same time.
     pub(super) fn new(clock: &'a C, disk: &'a MemDisk, wanted: u32) -> MeetingSource<'a, C>
         ensures { image_of result.disk.now ≡ image_of disk.now }
     {
@@ -37,12 +37,12 @@ impl<'a, C: Clock> MeetingSource<'a, C> {
         }
     }
 
-    /// Whether as many threads as wanted were inside a read at the same time.
+    /// Whether `wanted` threads were reading at the same time.
     pub(super) fn has_met(&self) -> bool {
         self.met.load(Ordering::SeqCst) != 0
     }
 
-    /// Goes inside, and waits until as many are there as are wanted.
+    /// Counts a reader in, and waits until `wanted` of them are in.
     fn enter(&self) {
         let others = self.inside.fetch_add(1, Ordering::SeqCst);
         if others.saturating_add(1) >= self.wanted {
@@ -57,7 +57,7 @@ impl<'a, C: Clock> MeetingSource<'a, C> {
         self.given_up.store(1, Ordering::SeqCst);
     }
 
-    /// Goes out again.
+    /// Counts a reader out.
     fn leave(&self) {
         self.inside.fetch_sub(1, Ordering::SeqCst);
     }

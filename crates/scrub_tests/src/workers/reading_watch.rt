@@ -1,4 +1,4 @@
-//! A gate that looks, whenever it is told something, at what was asked of a page source.
+//! A gate that compares each report with the reads that a page source has counted.
 
 use crate::workers::watch::Watch;
 use scrub_disk::PageSource;
@@ -9,8 +9,8 @@ use std::process::Abort;
 use std::test::Fail;
 use std::time::Clock;
 
-/// A watch that holds each worker until all have passed, and counts a fault where a page of an extent was asked for before a
-/// worker passed with it, or fewer than all pages before it was counted.
+/// A watch that holds each worker until all have passed. It counts a fault if a page of an extent was asked for before a worker
+/// passed with that extent, or fewer than all pages before the extent was counted.
 #[derive(Drop)]
 pub(super) struct ReadingWatch<'a, C: Clock> {
     source: &'a CountingSource<'a>,
@@ -18,7 +18,7 @@ pub(super) struct ReadingWatch<'a, C: Clock> {
 }
 
 impl<'a, C: Clock> ReadingWatch<'a, C> {
-    /// A gate for so many workers, the caller among them, who scan the disk of this source.
+    /// A gate for `workers` workers, the caller among them, that scan the disk of this source.
     pub(super) fn new(
         clock: &'a C,
         alloc: Global,
@@ -30,7 +30,7 @@ impl<'a, C: Clock> ReadingWatch<'a, C> {
         Ok(ReadingWatch { source, watch })
     }
 
-    /// How often a page of an extent was asked for, if it is one of the disk.
+    /// How often a page of an extent was asked for, or `None` if the disk has no such extent.
     fn asked(&self, extent: u64) -> Option<u64> {
         if extent >= u64::from(self.source.geometry().extents()) {
             return None;
@@ -38,7 +38,7 @@ impl<'a, C: Clock> ReadingWatch<'a, C> {
         Some(self.source.asked(extent as u32))
     }
 
-    /// Whether a page was asked for at least as often as an extent has pages.
+    /// Whether pages of an extent were asked for at least as often as it has pages.
     fn was_read(&self, extent: u64) -> bool {
         match self.asked(extent) {
             Some(asked) => asked >= u64::from(self.source.geometry().pages()),
@@ -46,7 +46,7 @@ impl<'a, C: Clock> ReadingWatch<'a, C> {
         }
     }
 
-    /// Requires what a watch requires.
+    /// Checks what the watch checks.
     pub(super) fn check(&self, rt: &impl Abort, takings: &Takings, planned: &[u32]) {
         self.watch.check(rt, takings, planned);
     }

@@ -1,5 +1,4 @@
-//! Worked examples: two threads that take from one queue, and a scan that nobody watches. Scans that a gate holds up are
-//! left to `workers`.
+//! Two threads that take from one queue, and a scan without a gate. For scans that a gate holds up see `workers`.
 
 ghost use Rattle.std.specs.Prelude.{◌≡◌};
 
@@ -12,12 +11,12 @@ use std::sync::Wait;
 use std::test::Fail;
 use std::thread;
 
-/// A disk of 40 extents of a page of 64 bytes, all zeros.
+/// A blank disk of 40 extents of one page of 64 bytes.
 fn many_extents(alloc: Global) -> Result<MemDisk, Fail> {
     Ok(MemDisk::blank(alloc, Geometry::new(64, 1, 40)?)?)
 }
 
-/// Takes extents until none is left, and gives what was taken, as bits.
+/// Takes extents until none is left, and returns them as bits.
 fn take_all<R: Wait + Abort>(rt: &R, queue: &ExtentQueue, pass: &mut TakePass) -> u64
     requires { pass.old.queue ≡ queue.now }
     ensures queue { pass.new.queue ≡ pass.old.queue }
@@ -52,7 +51,7 @@ fn two_threads_take_each_extent_once(rt: HostRuntime) -> Result<(), Fail> {
 }
 
 #[test]
-fn three_workers_that_nobody_watches(rt: HostRuntime) -> Result<(), Fail> {
+fn three_workers_without_a_gate_scan_all_extents(rt: HostRuntime) -> Result<(), Fail> {
     let disk = many_extents(rt.alloc())?;
     let plan = plan_of(rt.alloc(), &disk)?;
     let (queue, mut first) = ExtentQueue::new(&rt, rt.alloc(), &plan)?;
@@ -74,6 +73,6 @@ fn three_workers_that_nobody_watches(rt: HostRuntime) -> Result<(), Fail> {
 }
 
 #[test]
-fn want_of_memory_is_the_one_fault(rt: HostRuntime) {
+fn out_of_memory_is_the_only_pool_fault(rt: HostRuntime) {
     assert!(&rt; PoolFault::from(OutOfMemory) == PoolFault::OutOfMemory);
 }

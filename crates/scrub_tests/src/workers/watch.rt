@@ -1,4 +1,4 @@
-//! A gate that keeps what it is told, and holds workers up.
+//! A gate that records what workers report, and holds them up.
 
 use crate::support::compare::same;
 use crate::workers::pausing::{PAUSES, pause};
@@ -9,29 +9,29 @@ use std::sync::atomic::{AtomicU64, Ordering};
 use std::test::Fail;
 use std::time::Clock;
 
-/// Who told which numbers, from 1 on. Each is told once, and one worker's numbers rise.
+/// Which worker reported which number, from 1 on. Each number is reported once, and the numbers of one worker rise.
 #[derive(Drop)]
 struct Record {
-    // By the numbers: who told it, as the worker's own number and 1 more, or 0.
-    tellers: Vec<AtomicU64>,
-    // By the workers, the caller last: the last number that it told, or 0.
+    // By number: the worker that reported it, plus 1, or 0.
+    reporters: Vec<AtomicU64>,
+    // By worker, the caller last: the last number that it reported, or 0.
     last: Vec<AtomicU64>,
 }
 
-/// Keeps what each worker tells, and holds each worker's first extent until so many workers passed with one.
+/// Records what each worker reports, and holds each at its first extent until `wanted` workers have passed with one.
 #[derive(Drop)]
 pub(super) struct Watch<'c, C: Clock> {
     clock: &'c C,
-    // The extents with which workers passed, and the totals that they were told.
+    // The extents with which workers passed, and the totals that they counted.
     passed: Record,
     counted: Record,
-    // How often a number was told again, didn't rise or is none of the disk's, a worker wasn't asked for, or a worker was
-    // held too long.
+    // How often a number came again, didn't rise or wasn't one of the disk's, an unknown worker reported, or a worker was held
+    // too long.
     faults: AtomicU64,
     wanted: usize,
 }
 
-/// So many zeros.
+/// `count` zeros.
 fn zeros(alloc: Global, count: u32) -> Result<Vec<AtomicU64>, Fail> {
     let mut cells = Vec::new(alloc);
     for _ in 0..count {
@@ -41,20 +41,20 @@ fn zeros(alloc: Global, count: u32) -> Result<Vec<AtomicU64>, Fail> {
 }
 
 impl Record {
-    /// A record for so many workers, and for the numbers below an end, of which none was told.
+    /// An empty record for `workers` workers and the numbers below `end`.
     fn new(alloc: Global, workers: u32, end: u32) -> Result<Record, Fail> {
         Ok(Record {
-            tellers: zeros(alloc, end)?,
+            reporters: zeros(alloc, end)?,
             last: zeros(alloc, workers)?,
         })
     }
 
-    /// Notes that a worker told a number, and gives the one that it told before, or 0. `None` is a fault.
+    /// Records that a worker reported a number. Returns the number that it reported before, or 0. `None` is a fault.
     fn note(&self, worker: u32, number: u64) -> Option<u64> {
         let last = self.last.get(worker as usize)?;
-        let teller = self.tellers.get(number as usize)?;
+        let reporter = self.reporters.get(number as usize)?;
         let before = last.swap(number, Ordering::SeqCst);
-        let other = teller.swap(u64::from(worker) + 1, Ordering::SeqCst);
+        let other = reporter.swap(u64::from(worker) + 1, Ordering::SeqCst);
         if other == 0 && before < number {
             Some(before)
         } else {
@@ -62,24 +62,24 @@ impl Record {
         }
     }
 
-    /// Whether it was this worker who told a number.
+    /// Whether this worker reported a number.
     fn has_event(&self, worker: u32, number: u32) -> bool {
-        match self.tellers.get(number as usize) {
-            Some(teller) => teller.load(Ordering::SeqCst) == u64::from(worker) + 1,
+        match self.reporters.get(number as usize) {
+            Some(reporter) => reporter.load(Ordering::SeqCst) == u64::from(worker) + 1,
             None => false,
         }
     }
 
-    /// How many numbers a worker told.
+    /// How many numbers a worker reported.
     fn count(&self, worker: u32) -> usize {
         let wanted = u64::from(worker) + 1;
-        self.tellers
+        self.reporters
             .iter()
-            .filter(|teller| teller.load(Ordering::SeqCst) == wanted)
+            .filter(|reporter| reporter.load(Ordering::SeqCst) == wanted)
             .count()
     }
 
-    /// The last number that a worker told, or 0.
+    /// The last number that a worker reported, or 0.
     fn last_of(&self, worker: u32) -> u64 {
         match self.last.get(worker as usize) {
             Some(last) => last.load(Ordering::SeqCst),
@@ -87,7 +87,7 @@ impl Record {
         }
     }
 
-    /// How many workers told a number.
+    /// How many workers reported a number.
     fn workers(&self) -> usize {
         self.last
             .iter()
@@ -97,7 +97,7 @@ impl Record {
 }
 
 impl<'c, C: Clock> Watch<'c, C> {
-    /// A gate for so many workers, the caller among them, on a disk of so many extents. It holds each worker until so many
+    /// A gate for `workers` workers, the caller among them, on a disk of `extents` extents. It holds each worker until `wanted`
     /// of them have passed.
     pub(super) fn new(
         clock: &'c C,
@@ -115,7 +115,7 @@ impl<'c, C: Clock> Watch<'c, C> {
         })
     }
 
-    /// The extent with which a worker passed last, or 0.
+    /// The extent with which a worker last passed, or 0.
     pub(super) fn last_passed(&self, worker: u32) -> u64 {
         self.passed.last_of(worker)
     }
@@ -125,7 +125,7 @@ impl<'c, C: Clock> Watch<'c, C> {
         self.faults.fetch_add(1, Ordering::SeqCst);
     }
 
-    /// Waits until so many workers passed as are wanted.
+    /// Waits until `wanted` workers have passed.
     fn hold(&self) {
         for _ in 0..PAUSES {
             if self.passed.workers() >= self.wanted {
@@ -136,7 +136,7 @@ impl<'c, C: Clock> Watch<'c, C> {
         self.fault();
     }
 
-    /// Requires that a worker told the extents that it took, and as many totals.
+    /// Checks that a worker reported the extents that it took, and as many totals.
     fn check_worker(&self, rt: &impl Abort, worker: u32, taken: &[u32]) {
         same(rt, self.passed.count(worker), taken.len());
         same(rt, self.counted.count(worker), taken.len());
@@ -145,13 +145,13 @@ impl<'c, C: Clock> Watch<'c, C> {
         }
     }
 
-    /// Requires that there are as many workers as the gate is for, that it was told what they took, each worker's extents
-    /// in the order in which it took them, and as many totals, one by one; and that each extent but extent 0 is planned.
-    /// So each planned extent was told once.
+    /// Checks that there are as many workers as the gate is for, that each reported the extents that it took, in the order in
+    /// which it took them, and as many totals, one by one; and that each extent but extent 0 is planned. So each planned extent
+    /// was reported once.
     pub(super) fn check(&self, rt: &impl Abort, takings: &Takings, planned: &[u32]) {
         same(rt, takings.workers() as usize + 1, self.passed.last.len());
         same(rt, takings.counted(), planned.len() as u64);
-        same(rt, planned.len() + 1, self.counted.tellers.len());
+        same(rt, planned.len() + 1, self.counted.reporters.len());
         for worker in 0..=takings.workers() {
             self.check_worker(rt, worker, takings.taken_by(worker));
         }

@@ -1,3 +1,4 @@
+-- Extents 1 and 3 are among the planned ones: 1, 2 and 3.
 use Rattle.std.proofs.Common.{◌≡◌, ◌-◌, ◌∙◌, arith, ap}
 use Rattle.std.specs.List.{range_with_len}
 use Rattle.scrub_disk.specs.Memory.{image_of}

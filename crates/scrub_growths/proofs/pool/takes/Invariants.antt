@@ -1,3 +1,4 @@
+-- The pass stays one of this queue.
 use Rattle.std.proofs.Common.{◌≡◌}
 use Rattle.scrub_growths.proofs.pool.takes.Given as goal
 

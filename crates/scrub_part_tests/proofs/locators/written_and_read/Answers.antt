@@ -1,4 +1,4 @@
--- The round trip, by the two contracts and the law that no two locators have the same bytes.
+-- The round trip follows from both contracts and the law that no two locators have the same bytes.
 use Rattle.std.proofs.Common.{◌∙◌}
 use Rattle.scrub_frame.proofs.Locators.{one_locator_lem}
 use Rattle.scrub_part_tests.proofs.locators.written_and_read.Goals as goal

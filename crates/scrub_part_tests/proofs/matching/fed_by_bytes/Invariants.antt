@@ -1,4 +1,4 @@
--- What is left of the room.
+-- The room left and the bytes fed make up the whole room.
 use Rattle.std.proofs.Common.{◌≡◌, ◌+◌}
 use Rattle.scrub_frame.specs.Matching.{left}
 use Rattle.scrub_part_tests.proofs.matching.fed_by_bytes.Given as goal

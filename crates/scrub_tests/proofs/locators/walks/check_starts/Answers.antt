@@ -12,4 +12,5 @@ pub agrees_on_starts-requires : goal.agrees_on_starts-requires
 agrees_on_starts-requires g c =
     let image = image_of c.args.disk.now in
     subst (λ (is : List Item). IsStrictlyIncreasing (map start_of is)) (sym c.as_slice.ensures)
-    (starts_rise (extent_of image c.args.extent c.args.pointer) c.in_ok-items.items (omega (arith, image.geometry.page_size.least)) c.in_ok-items.ensures)
+    (starts_rise (extent_of image c.args.extent c.args.pointer) c.in_ok-items.items
+    (omega (arith, image.geometry.page_size.least)) c.in_ok-items.ensures)

@@ -1,3 +1,4 @@
+-- The pass stays one of this queue, and the endless iterator goes on.
 use Rattle.std.proofs.Common.{◌≡◌}
 use Rattle.scrub_tests.proofs.workers.taking.take_all.Given as goal
 

@@ -4,7 +4,7 @@ use Rattle.scrub_disk.specs.Memory.{image_of}
 use Rattle.scrub_check.specs.declared.sources.runs.RunState.{RunState}
 use Rattle.scrub_check.specs.Runs.{AreRunStates}
 use Rattle.scrub_check.proofs.CheckedLists.{states_read}
-use Rattle.scrub_tests.proofs.locators.hidden_places.the_place_of_a_hidden_run_is_not_asked_for_again_once_the_run_is_read.Goals as goal
+use Rattle.scrub_tests.proofs.locators.hidden_places.the_pages_of_a_hidden_run_are_not_read_again_for_its_status.Goals as goal
 
 pub check_named-requires-clause-states : goal.check_named-requires-clause-states
 check_named-requires-clause-states g c κs =

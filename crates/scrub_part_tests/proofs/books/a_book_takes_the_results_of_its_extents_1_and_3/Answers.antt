@@ -1,10 +1,12 @@
+-- Extents 1 and 3 are among the planned ones: 1, 2 and 3.
 use Rattle.std.proofs.Common.{◌≡◌, ◌-◌, ◌∙◌, arith, ap}
 use Rattle.std.specs.List.{range_with_len}
 use Rattle.scrub_disk.specs.Memory.{image_of}
 use Rattle.scrub_fakes.proofs.Planned.{two_of_three}
-use Rattle.scrub_part_tests.proofs.books.results_of_extents_1_and_3.Goals as goal
+use Rattle.scrub_part_tests.proofs.books.a_book_takes_the_results_of_its_extents_1_and_3.Goals as goal
 
 pub restrict-requires-clause-each_planned : goal.restrict-requires-clause-each_planned
 restrict-requires-clause-each_planned g c =
-    let three : (image_of c.in_ok-disk.disk).geometry.extents - 1 ≡ 3 = omega (arith, ap (λ x. x.extents) c.in_ok-disk.ensures.geometry, c.in_ok-new.ensures.extents) in
+    let three : (image_of c.in_ok-disk.disk).geometry.extents - 1 ≡ 3 =
+    omega (arith, ap (λ x. x.extents) c.in_ok-disk.ensures.geometry, c.in_ok-new.ensures.extents) in
     rw (c.in_ok-whole.ensures.planned ∙ ap (range_with_len 1) three) two_of_three

@@ -1,4 +1,4 @@
-//! How often the pages of a disk are asked for: by the choice of a superblock, by the tiling of an extent and by its scan.
+//! How often pages are asked for: by the choice of a superblock, by the tiling of an extent, and by its scan.
 
 ghost use Rattle.std.specs.Prelude.{◌≡◌};
 
@@ -14,9 +14,8 @@ use std::alloc::Global;
 use std::process::Abort;
 use std::test::Fail;
 
-/// Requires that the choice of a superblock asks for each page of extent 0 once, and that the scan by one reader asks for
-/// pages of the other extents as often as its results tell: at least once for each page, and at most as often as the pages
-/// times six more than the pages.
+/// Checks that choosing a superblock asks once for each page of extent 0, and that a scan by one reader asks for pages of each
+/// other extent as often as its result reports: at least `pages` times, and at most `pages * (pages + 6)` times.
 fn check_asked(rt: &impl Abort, alloc: Global, disk: &MemDisk) -> Result<(), Fail> {
     let source = CountingSource::new(alloc, disk)?;
     let geometry = source.geometry();
@@ -37,7 +36,7 @@ fn check_asked(rt: &impl Abort, alloc: Global, disk: &MemDisk) -> Result<(), Fai
     Ok(())
 }
 
-/// A disk of one extent beside a blank extent 0. Each of its eight pages begins with the head of a frame that would end
+/// A disk of two extents; extent 0 is blank. Each of the eight pages of extent 1 begins with the head of a frame that would end
 /// with the extent.
 pub(crate) fn heads(alloc: Global) -> Result<MemDisk, Fail> {
     let mut disk = MemDisk::blank(alloc, Geometry::new(64, 8, 2)?)?;
@@ -51,7 +50,7 @@ pub(crate) fn heads(alloc: Global) -> Result<MemDisk, Fail> {
 }
 
 #[test]
-fn pages_are_asked_for_as_often_as_is_reported(rt: HostRuntime) -> Result<(), Fail> {
+fn pages_are_asked_for_as_often_as_a_scan_reports(rt: HostRuntime) -> Result<(), Fail> {
     check_asked(&rt, rt.alloc(), &one_shard(rt.alloc())?)?;
     check_asked(&rt, rt.alloc(), &heads(rt.alloc())?)
 }
@@ -71,7 +70,7 @@ fn asked_by_tile(
     Ok(source.asked(1))
 }
 
-/// How often a scan of an extent under a plan says that it asked for a page.
+/// How often the scan of an extent reports that it asked for a page.
 fn asked_by_scan<D: PageSource>(
     rt: &impl Abort,
     alloc: Global,
@@ -86,7 +85,7 @@ fn asked_by_scan<D: PageSource>(
     Ok(scanned.pages_asked())
 }
 
-/// That disk, with its far end in agreement with the heads or not, and with these pages unreadable.
+/// The disk of `heads`, with or without a far end that agrees with the heads, and with these pages unreadable.
 fn heads_with(alloc: Global, far_end_agrees: bool, bad_pages: &[u32]) -> Result<MemDisk, Fail> {
     let mut disk = heads(alloc)?;
     if far_end_agrees {
@@ -96,20 +95,20 @@ fn heads_with(alloc: Global, far_end_agrees: bool, bad_pages: &[u32]) -> Result<
     Ok(disk)
 }
 
-/// Whether the far end agrees with the heads, the unreadable pages, and how often a page is asked for.
+/// Whether the far end agrees with the heads, the unreadable pages, and how often the tiling asks for a page.
 const HEADS: [(bool, &[u32], u64); 4] = [
-    // Each page once, and the last one twice: as the far end, and for its own item.
+    // Each page once, and the last one twice: as the far end and for its own item.
     (false, &[], 9),
     // The far end and six pages for the first head, then each page for its own item.
     (true, &[6], 15),
-    // One frame: the first page, the far end, and each other page as it passes.
+    // One frame: the first page, the far end, and then each other page.
     (true, &[], 9),
     // The far end and five pages for the first head, then each page for its own item.
     (true, &[5, 6], 14),
 ];
 
 #[test]
-fn heads_that_claim_the_extent_are_broken_off_once(rt: HostRuntime) -> Result<(), Fail> {
+fn at_most_one_head_that_claims_the_extent_is_followed(rt: HostRuntime) -> Result<(), Fail> {
     for (far_end_agrees, bad_pages, asked) in &HEADS {
         let disk = heads_with(rt.alloc(), *far_end_agrees, bad_pages)?;
         same(&rt, asked_by_tile(&rt, rt.alloc(), &disk, 512)?, *asked);
@@ -117,8 +116,8 @@ fn heads_that_claim_the_extent_are_broken_off_once(rt: HostRuntime) -> Result<()
     Ok(())
 }
 
-/// A disk of one extent of eight pages beside a blank extent 0. Each page but the last begins with the head of a sealed
-/// frame that would end with the extent, where what closes it stands; none of their digests is that of the payload.
+/// A disk of two extents; extent 0 is blank. Each of the first seven of eight pages of extent 1 begins with the head of a
+/// sealed frame that would end with the extent. The closing bytes are there, but no digest is that of its payload.
 pub(crate) fn sealed_heads(alloc: Global) -> Result<MemDisk, Fail> {
     let mut disk = MemDisk::blank(alloc, Geometry::new(64, 8, 2)?)?;
     for page in 0u8..7 {
@@ -133,7 +132,7 @@ pub(crate) fn sealed_heads(alloc: Global) -> Result<MemDisk, Fail> {
 }
 
 #[test]
-fn sealed_heads_whose_far_end_agrees_are_hashed_each(rt: HostRuntime) -> Result<(), Fail> {
+fn each_sealed_head_whose_far_end_agrees_is_hashed(rt: HostRuntime) -> Result<(), Fail> {
     let disk = sealed_heads(rt.alloc())?;
     // The far end once, each page for its own item, and for each head the pages up to the last.
     assert!(rt; asked_by_tile(&rt, rt.alloc(), &disk, 512)? == 36);
@@ -141,7 +140,7 @@ fn sealed_heads_whose_far_end_agrees_are_hashed_each(rt: HostRuntime) -> Result<
 }
 
 #[test]
-fn a_healthy_extent_of_short_frames(rt: HostRuntime) -> Result<(), Fail> {
+fn the_tiling_of_short_frames_asks_for_each_page_once(rt: HostRuntime) -> Result<(), Fail> {
     let mut disk = small_disk(rt.alloc())?;
     for i in 0..6u32 {
         put_chunk(rt.alloc(), &mut disk, 1, 41 * i, ONES, b"abc")?;
@@ -150,7 +149,7 @@ fn a_healthy_extent_of_short_frames(rt: HostRuntime) -> Result<(), Fail> {
     Ok(())
 }
 
-/// Requires that a scan of extent 1 tells that it asked for a page so often, and that its source counts as many.
+/// Checks how often a scan of extent 1 asks for a page, by its own report and by the count of its source.
 fn check_scan(rt: &impl Abort, alloc: Global, disk: &MemDisk, asked: u64) -> Result<(), Fail> {
     let source = CountingSource::new(alloc, disk)?;
     let chosen = choose(alloc, &source)?;
@@ -162,7 +161,7 @@ fn check_scan(rt: &impl Abort, alloc: Global, disk: &MemDisk, asked: u64) -> Res
 
 #[test]
 fn a_scan_asks_for_each_page_of_heads_or_zeros(rt: HostRuntime) -> Result<(), Fail> {
-    // All of the extent is below its pointer, so its tiling asks for all of it.
+    // The whole extent is below its pointer, so the tiling asks for all of it.
     check_scan(&rt, rt.alloc(), &heads(rt.alloc())?, 9)?;
     check_scan(&rt, rt.alloc(), &small_disk(rt.alloc())?, 4)
 }
@@ -173,10 +172,10 @@ fn a_scan_asks_for_each_page_of_short_frames_once(rt: HostRuntime) -> Result<(),
     for i in 0..4u32 {
         put_chunk(rt.alloc(), &mut disk, 1, 41 * i, ONES, b"abc")?;
     }
-    // Pages 0 to 2 by the tiling, the pointer's page among them, and page 3 for its tail.
+    // Pages 0 to 2 for the tiling, since the pointer is on page 2, and page 3 for the tail.
     put_superblock(rt.alloc(), &mut disk, &[164, 0], &[])?;
     check_scan(&rt, rt.alloc(), &disk, 4)?;
-    // Nothing was written: all pages for their tail.
+    // Nothing is below the pointer: all pages for the tail.
     put_superblock(rt.alloc(), &mut disk, &[0, 0], &[])?;
     check_scan(&rt, rt.alloc(), &disk, 4)
 }
@@ -187,17 +186,17 @@ fn a_scan_asks_for_the_last_page_of_a_long_frame_twice(rt: HostRuntime) -> Resul
     put_chunk(rt.alloc(), &mut disk, 1, 0, ONES, &[0x78; 300])?;
     put_chunk(rt.alloc(), &mut disk, 1, 338, TWOS, b"abc")?;
     put_superblock(rt.alloc(), &mut disk, &[379], &[])?;
-    // Page 0, the far end on page 5, pages 1 to 5; then pages 6 and 7 for their tail.
+    // Page 0, the far end on page 5, pages 1 to 5; then pages 6 and 7 for the tail.
     check_scan(&rt, rt.alloc(), &disk, 9)
 }
 
 #[test]
-fn a_scan_leaves_lost_pages_to_its_tiling(rt: HostRuntime) -> Result<(), Fail> {
+fn a_scan_does_not_ask_again_for_pages_lost_in_its_tiling(rt: HostRuntime) -> Result<(), Fail> {
     let mut disk = disk_with(rt.alloc(), &[(0, ONES, &[0x78; 60])], &[1, 3])?;
-    // Page 0, page 1 as the far end and for its own item, and pages 2 and 3 for their tail.
+    // Page 0, page 1 as the far end and for its own item, and pages 2 and 3 for the tail.
     put_superblock(rt.alloc(), &mut disk, &[98, 0], &[])?;
     check_scan(&rt, rt.alloc(), &disk, 5)?;
-    // The same with these two pages below the pointer.
+    // The same with both unreadable pages below the pointer.
     put_superblock(rt.alloc(), &mut disk, &[256, 0], &[])?;
     check_scan(&rt, rt.alloc(), &disk, 5)
 }
