@@ -1,5 +1,5 @@
--- Two neighbouring options of a command, exchanged: the walk finds no fault where it found none, and ends with rows in which
--- each name has the same.
+-- Exchanging two neighbouring options of a command: a walk without a fault still has none, and ends with the same rows for
+-- each name.
 use Rattle.std.proofs.Common.{◌≡◌, ◌≢◌, ◌⊎◌, ◌∙◌, inl, inr, ℕ, suc, Bool, true, false, List, [], ◌∷◌, ◌++◌, Option, None, Some, refl, sym, ap, ap₂, subst, not, codes, arith}
 use Rattle.std.specs.Prelude.{IfSome, fold, if◌then◌else◌, ◌&&◌, ◌||◌, is_some}
 use Rattle.std.specs.List.{All, list_any}
@@ -22,7 +22,7 @@ use Rattle.clap_walk.proofs.Values.{no_defaults}
 use Rattle.clap_walk.proofs.SameRows.{exchanged_same, fault_apart, given_same}
 use Rattle.clap_walk.proofs.AlikeWalks.{LikeWalk, settle_like, settled_like, walk_like, with_rows}
 
--- where there is no fault in two, there is none in both
+-- if two steps have no fault, both together have none
 pub joined : (first second : Kinds) → first ≡ [] → second ≡ [] → or_else first second ≡ []
 joined first second none nothing = rw none nothing
 
@@ -35,7 +35,7 @@ long_word name value is = rest name is ∙ ap Some (name_and_value-at name value
     rest [] is = refl
     rest (x ∷ xs) is = refl
 
--- the word is no `--`
+-- the word isn't `--`
 no_end_word : (name value : Text) → bytes_eq (option_word name value) (45 ∷ 45 ∷ []) ≡ false
 no_end_word [] value = refl
 no_end_word (x ∷ xs) value = refl
@@ -261,7 +261,7 @@ module _ (s : Shape) (each : EachRule IsByName s.rules) where
     abbrev other : List Text
     other = option_word other_name other_value ∷ (option_word name value ∷ after)
 
-    -- what is said of two walks
+    -- the two walks compared
     abbrev pub Exchanged : Walk → List Text → List Text → Type 0
     Exchanged w words others =
         (walk_fault s [] w others ≡ []) × LikeWalk (fold (walked c []) w words) (fold (walked c []) w others)

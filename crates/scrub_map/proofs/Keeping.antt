@@ -1,4 +1,4 @@
--- One block more, and the gaps that it leaves.
+-- One more block, and the gap before it.
 use Rattle.std.proofs.Common.{◌≡◌, ◌<◌, ◌≤◌, ◌+◌, ◌⊎◌, ℕ, true, false, List, [], ◌∷◌, ◌++◌, arith, sym, ◌∙◌, subst, inl, inr}
 use Rattle.std.specs.Prelude.{◌↔◌}
 use Rattle.std.proofs.lemmas.Bool.{cases_lt, false≢true}
@@ -10,7 +10,7 @@ use Rattle.scrub_map.specs.Kept.{HasGapsBelowEnd, KeepsBlocks}
 use Rattle.scrub_map.specs.Rescued.{IsCovered, IsRescuedIn}
 use Rattle.scrub_map.proofs.Lost.{in_gaps_before, in_gaps_last, in_gaps_push}
 
--- the bytes that one block more covers
+-- the bytes covered with one more block
 covered_push : (blocks : List MapBlock) (block : MapBlock) (i : ℕ) → IsCovered (blocks ++ block ∷ []) i → IsCovered blocks i ⊎ IsRescuedIn block i
 covered_push [] block i (inl here) = inr here
 covered_push [] block i (inr none) = absurd none
@@ -39,7 +39,7 @@ none_unread block e i is = absurd (false≢true (sym e ∙ is.rescued))
 pub none_empty : (block : MapBlock) → block.size ≡ 0 → (i : ℕ) → ¬ IsRescuedIn block i
 none_empty block e i is = omega (arith, e, is.low, is.high)
 
--- the gaps have the bytes from one on up to another besides
+-- the gaps with one more, which has the bytes from one place up to another
 pub record GapsGrow (old new : List Gap) (from to : ℕ) : Type 0 where
   pub only : (i : ℕ) → IsInGaps new i → IsInGaps old i ⊎ ((from ≤ i) × (i < to))
   pub stay : (i : ℕ) → IsInGaps old i → IsInGaps new i
@@ -59,7 +59,7 @@ grow_none old new from to e none = record {
   grown = λ i low high. absurd (omega (arith, none, low, high));
 }
 
--- a block that was rescued: what is before it and behind the one before is a gap
+-- a rescued block: the bytes between it and the one before are a gap
 pub kept_more : (old : RescueMap) (new : List Gap) (end : ℕ) (block : MapBlock) → block.is_rescued ≡ true → old.end ≤ block.position → HasGapsBelowEnd old →
     end ≡ block.position + block.size → GapsGrow old.gaps.items new old.end block.position →
     (blocks : List MapBlock) → KeepsBlocks old blocks → (i : ℕ) → (IsInGaps new i ⊎ (end ≤ i)) ↔ (¬ IsCovered (blocks ++ block ∷ []) i)

@@ -13,7 +13,7 @@ use Rattle.scrub_map.specs.Kept.{KeepsBlocks}
 use Rattle.scrub_map.specs.Rescued.{AreLostBlocks}
 use Rattle.scrub_map.specs.Gaps.{IsHitBy, IsInGap, IsInGaps, MarksGap}
 
--- a gap hits each block from its first byte's to its last byte's
+-- a gap hits each block from that of its first byte to that of its last byte
 hit_between : (gap : Gap) (size n : ℕ) → 0 < size → gap.from / size ≤ n → n ≤ (gap.to - 1) / size → IsHitBy gap size n
 hit_between gap size n some low high =
     let first : gap.from < n * size + size = omega (arith, mul-le-mul_left size low) in
@@ -24,7 +24,7 @@ hit_between gap size n some low high =
       | inr behind ↦ record { place = gap.from; low = behind; high = first; inside = record { low = omega arith; high = filled } }
     ]
 
--- and no other
+-- it hits no other block
 between_hit : (gap : Gap) (size n : ℕ) → 0 < size → IsHitBy gap size n → (gap.from / size ≤ n) × (n ≤ (gap.to - 1) / size)
 between_hit gap size n some hit = (
   elim (cases_lt n (gap.from / size)) [
@@ -39,7 +39,7 @@ between_hit gap size n some hit = (
   ],
 )
 
--- a mark for each block from the first on that the loop has passed, and those of before
+-- each block that the loop has passed is marked, and other marks are as before
 pub record MarksFrom (first behind number : ℕ) (before after : List Bool) : Type 0 where
   pub placed : (number ≤ behind) ⊎ (number ≡ first)
   pub marked : (n : ℕ) → n < length before → (get_or after n false ≡ true) ↔ ((get_or before n false ≡ true) ⊎ ((first ≤ n) × (n < number)))
@@ -95,7 +95,7 @@ pub record MarksGaps (gaps : List Gap) (size count : ℕ) (marks : List Bool) : 
   pub one_each : length marks ≡ count
   pub marked : (n : ℕ) → n < count → (get_or marks n false ≡ true) ↔ IsHitByAny gaps size n
 
--- a byte of one gap more
+-- a byte of one more gap
 pub in_gaps_push : (gaps : List Gap) (gap : Gap) (i : ℕ) → IsInGaps (gaps ++ gap ∷ []) i → IsInGaps gaps i ⊎ IsInGap gap i
 in_gaps_push [] gap i (inl here) = inr here
 in_gaps_push [] gap i (inr none) = absurd none
@@ -159,7 +159,7 @@ lost_marked map gap i size count before after all from to small m same marks blo
       );
 }
 
--- the same where the marks are written into a vector
+-- the same for marks in a vector
 pub gaps_more_in : {Z : Type 0} (v : Vec Bool Z) (gaps : List Gap) (i size sized count : ℕ) (gap : Gap) (now new : List Bool) → i < length gaps → gap ≡ get_or gaps i gap → sized ≡ size →
     now ≡ v.items → length new ≡ length now → MarksGaps (take i gaps) size count v.items → MarksGap gap sized now new → MarksGaps (take (i + 1) gaps) size count (with_items v new).items
 gaps_more_in v gaps i size sized count gap now new below item se e same m marks =

@@ -14,7 +14,7 @@ one_map text = of_said (statements (map_lines text))
     of_said [] a b first second = absurd first
     of_said (state ∷ said) a b first second = same_blocks 0 said a b first.1 second.1
 
--- the front of a map's blocks
+-- the first blocks of a map
 blocks_front : (from : ℕ) (said more : List (List (List ℕ))) (all : List MapBlock) → AreBlocksFrom from (said ++ more) all → (blocks : List MapBlock) × AreBlocksFrom from said blocks
 blocks_front from [] more all are = ([], tt)
 blocks_front from (s ∷ said) more [] are = absurd are
@@ -32,13 +32,13 @@ front_said (state ∷ said) more (inr is) =
     let front : (blocks : List MapBlock) × AreBlocksFrom 0 said blocks = blocks_front 0 said more is.0 is.1.1 in
     inr (front.0, (is.1.0, front.1))
 
--- what begins a map begins with what begins one
+-- the front of what begins a map begins a map too
 begins_front : (lines more : List (List ℕ)) → BeginsMap (lines ++ more) → BeginsMap lines
 begins_front lines more begins =
     front_said (statements lines) (statements more)
     (subst (λ (s : List (List (List ℕ))). (s ≡ []) ⊎ ((blocks : List MapBlock) × IsMapOf s blocks)) (statements-append lines more) begins)
 
--- where all lines begin a map, none breaks a rule
+-- if all lines begin a map, none breaks a rule
 none_breaks : (lines : List (List ℕ)) (k : ℕ) → BeginsMap lines → ¬ BreaksAt lines k
 none_breaks lines k begins at =
     at.breaks (begins_front (at.before ++ at.line ∷ []) at.behind
@@ -48,7 +48,7 @@ pub no_bad_line : (text : List ℕ) (blocks : List MapBlock) (k : ℕ) → IsMap
 no_bad_line text blocks k is (inl at) = none_breaks (map_lines text) k (inr (blocks, is)) at
 no_bad_line text blocks k is (inr none) = subst (λ (s : List (List (List ℕ))). IsMapOf s blocks) none.0 is
 
--- of two fronts of a list the shorter one begins the longer one
+-- of two fronts of a list, the shorter one begins the longer one
 longer_front : (a : List (List ℕ)) (x : List ℕ) (behind b bs : List (List ℕ)) → a ++ (x ∷ behind) ≡ b ++ bs → length a < length b → (m : List (List ℕ)) × (b ≡ (a ++ x ∷ []) ++ m)
 longer_front a x behind [] bs e less = absurd (omega (arith, less))
 longer_front [] x behind (y ∷ b) bs e less = (b, same_first x y behind (b ++ bs) e b)
@@ -79,7 +79,7 @@ one_bad_line text j k (inl first) (inr none) = absurd (none_breaks (map_lines te
 one_bad_line text j k (inr none) (inl second) = absurd (none_breaks (map_lines text) k (inl none.0) second)
 one_bad_line text j k (inr none) (inr other) = none.1 ∙ sym other.1
 
--- blocks lack one list of marks
+-- blocks decide one list of marks
 same_truth : (a b : Bool) → (a ≡ true → b ≡ true) → (b ≡ true → a ≡ true) → a ≡ b
 same_truth true b to back = sym (to refl)
 same_truth false true to back = back refl

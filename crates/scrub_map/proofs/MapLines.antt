@@ -1,4 +1,4 @@
--- What one line more says of the map that its lines are.
+-- What one more line says of the map.
 use Rattle.std.proofs.Common.{◌≡◌, ◌<◌, ◌≤◌, ◌+◌, ◌⊎◌, ℕ, Bool, true, false, not, List, [], ◌∷◌, ◌++◌, length, map, arith, refl, sym, ◌∙◌, ap, subst, inl, inr, append_assoc, length-append, Result, Ok, Err, IfOk}
 use Rattle.std.specs.Prelude.{IfErr}
 use Rattle.std.specs.Prelude.{filter}
@@ -72,7 +72,7 @@ same_blocks from (fields ∷ said) (x ∷ a) (y ∷ b) first second =
     let rest : AreBlocksFrom (x.position + x.size) said b = subst (λ z. AreBlocksFrom (z.position + z.size) said b) (sym same) second.2 in
     ap (λ z. z ∷ a) same ∙ ap (λ c. y ∷ c) (same_blocks (x.position + x.size) said a b first.2 rest)
 
--- one block more
+-- one more block
 blocks_push : (from : ℕ) (said : List (List (List ℕ))) (blocks : List MapBlock) (fields : List (List ℕ)) (block : MapBlock) →
     AreBlocksFrom from said blocks → IsBlock fields block → end_from from blocks ≤ block.position → AreBlocksFrom from (said ++ fields ∷ []) (blocks ++ block ∷ [])
 blocks_push from [] [] fields block are is behind = (is, behind, tt)
@@ -80,7 +80,7 @@ blocks_push from [] (x ∷ blocks) fields block are is behind = absurd are
 blocks_push from (s ∷ said) [] fields block are is behind = absurd are
 blocks_push from (s ∷ said) (x ∷ blocks) fields block are is behind = (are.0, are.1, blocks_push (x.position + x.size) said blocks fields block are.2 is behind)
 
--- and what it says of the blocks before it
+-- and the blocks before it
 record Splits (from : ℕ) (said : List (List (List ℕ))) (fields : List (List ℕ)) : Type 0 where
   blocks : List MapBlock
   block : MapBlock
@@ -101,13 +101,13 @@ pub end_from-push : (from : ℕ) (blocks : List MapBlock) (block : MapBlock) →
 end_from-push from [] block = refl
 end_from-push from (x ∷ blocks) block = end_from-push (x.position + x.size) blocks block
 
--- a map with a block more
+-- a map with one more block
 pub map_push : (said : List (List (List ℕ))) (blocks : List MapBlock) (fields : List (List ℕ)) (block : MapBlock) →
     IsMapOf said blocks → IsBlock fields block → end_from 0 blocks ≤ block.position → IsMapOf (said ++ fields ∷ []) (blocks ++ block ∷ [])
 map_push [] blocks fields block is one behind = absurd is
 map_push (state ∷ said) blocks fields block is one behind = (is.0, blocks_push 0 said blocks fields block is.1 one behind)
 
--- behind a map whose last block ends at `next` comes a block from there on, or a rule is broken
+-- after a map whose last block ends at `next`, either a block from there on follows, or a rule is broken
 pub map_breaks : (said : List (List (List ℕ))) (blocks : List MapBlock) (fields : List (List ℕ)) (next : ℕ) → IsMapOf said blocks → next ≡ end_from 0 blocks →
     ((block : MapBlock) → IsBlock fields block → next ≤ block.position → ⊥) → (all : List MapBlock) → ¬ IsMapOf (said ++ fields ∷ []) all
 map_breaks [] blocks fields next is e none all whole = absurd is
@@ -116,7 +116,7 @@ map_breaks (state ∷ said) blocks fields next is e none all whole =
     let same : cut.blocks ≡ blocks = same_blocks 0 said cut.blocks blocks cut.are is.1 in
     none cut.block cut.is (subst (λ n. n ≤ cut.block.position) (ap (end_from 0) same ∙ sym e) cut.behind)
 
--- one line more, which says nothing
+-- one more line, which says nothing
 pub read_silent : (lines : List (List ℕ)) (line : List ℕ) (fields : List (List ℕ)) (r : Reading) → line_fields line ≡ fields → says_nothing fields ≡ true → HasReadLines lines r → HasReadLines (lines ++ line ∷ []) r
 read_silent lines line fields r e nothing read = record {
   blocks = read.blocks;
@@ -189,7 +189,7 @@ no_block lines line fields old e some has none read begins =
     push_not_nil [] x same = cc
     push_not_nil (y ∷ xs) x same = cc
 
--- a line that is a block which begins before `next` is no block from there on
+-- a line with a block that begins before `next` isn't a block from there on
 pub other_block : (fields : List (List ℕ)) (block : MapBlock) (next : ℕ) → IsBlock fields block → block.position < next → (other : MapBlock) → IsBlock fields other → next ≤ other.position → ⊥
 other_block fields block next is before other same behind =
     let position : block.position ≡ other.position = ap (λ (b : MapBlock). b.position) (same_block fields block other is same) in
@@ -257,7 +257,7 @@ lacks_state text rest number r e up has =
     let none = first_said r.has_state (statements up.lines) up.read.blocks has up.read.said in
     inr (ap statements all ∙ none.0, up.place ∙ ap (λ l. length l + 1) (sym all))
 
--- the same by what came of the end of the lines
+-- the same, from the outcome at the end of the lines
 pub whole_map : (text rest : List ℕ) (number : ℕ) (r : Reading) (result : Result RescueMap MapFault) → length rest ≡ 0 → HasReadUpTo text rest number r →
     IfOk result (λ map. (r.has_state ≡ true) × (map ≡ r.map)) → IfOk result (λ map. (blocks : List MapBlock) × IsMap text blocks × KeepsBlocks map blocks)
 whole_map text rest number r (Ok map) e up ok = read_whole_map text rest number r map e up ok.0 ok.1
@@ -269,7 +269,7 @@ no_map text rest number r (Ok map) e up bad = tt
 no_map text rest number r (Err OutOfMemory) e up bad = tt
 no_map text rest number r (Err (Line k)) e up bad = subst (IsFirstBadLine text) (sym bad.0) (lacks_state text rest number r e up bad.1)
 
--- and by what came of a line
+-- and from the outcome of a line
 pub bad_line : (text rest line behind : List ℕ) (number : ℕ) (r : Reading) (fault : MapFault) → map_lines rest ≡ line ∷ map_lines behind → HasReadUpTo text rest number r →
     IfBadLine fault (λ k. (k ≡ number) × BreaksRules (line_fields line) r) → IfBadLine fault (IsFirstBadLine text)
 bad_line text rest line behind number r OutOfMemory cut up bad = tt

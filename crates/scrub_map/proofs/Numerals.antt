@@ -1,4 +1,4 @@
--- Digits and the numbers that they write, one digit after the other.
+-- Digits, and the numbers that they spell, digit by digit.
 use Rattle.std.proofs.Common.{◌≡◌, ◌<◌, ◌≤◌, ◌+◌, ◌*◌, ◌^◌, ℕ, List, [], ◌∷◌, zero, suc, length, take, get_or, arith, refl, sym, ◌∙◌, ap, subst}
 use Rattle.std.specs.Char.{digit_value}
 use Rattle.std.specs.Str.Parse.{AllDigits, digits_value}
@@ -7,7 +7,7 @@ use Rattle.std.proofs.lemmas.Str.Parse.{digits_value-take-le}
 use Rattle.std.proofs.lemmas.List.{take_all}
 use Rattle.scrub_map.specs.Number.{AppendsDigit, WritesNumber}
 
--- the first i digits write this value, which is at most 2^63 - 1
+-- the first i digits spell this value, which is at most 2^63 - 1
 pub record WritesSoFar (radix : ℕ) (digits : List ℕ) (i value : ℕ) : Type 0 where
   pub digits_are : AllDigits radix (take i digits)
   pub value_is : digits_value radix (take i digits) ≡ value
@@ -39,7 +39,7 @@ digit_below radix [] i all below = absurd (omega (arith, below))
 digit_below radix (c ∷ cs) zero all below = all.0
 digit_below radix (c ∷ cs) (suc i) all below = digit_below radix cs i all.1 (omega (arith, below))
 
--- where a digit can't follow the first ones, the digits write no number
+-- if a digit can't follow the first ones, the digits spell no number
 pub writes_nothing : (radix : ℕ) (digits : List ℕ) (i value : ℕ) → 1 ≤ radix → i < length digits → WritesSoFar radix digits i value →
     ((n : ℕ) → ¬ AppendsDigit radix value (get_or digits i 0) n) → (n : ℕ) → ¬ WritesNumber radix digits n
 writes_nothing radix digits i value low below before not n all =

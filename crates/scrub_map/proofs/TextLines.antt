@@ -1,4 +1,4 @@
--- The first line of a text, and the lines behind it.
+-- The first line of a text, and the lines after it.
 use Rattle.std.proofs.Common.{◌≡◌, ◌<◌, ◌≤◌, ◌+◌, ◌-◌, ◌==◌, ℕ, not, List, [], ◌∷◌, length, take, drop, arith, rules, refl, sym, ◌∙◌, ap}
 use Rattle.std.specs.List.{position_or_len, slice_split}
 use Rattle.std.proofs.lemmas.List.Splits.{slice_split_first, slice_split_none, length-slice_split}
@@ -24,7 +24,7 @@ ended_line text end e below =
     ∙ part_kept (take end text) _ (omega (arith, length-slice_split (λ byte. byte == 10) (drop (end + 1) text)))
     ∙ ap (λ behind. take end text ∷ without_empty_end (slice_split (λ byte. byte == 10) behind)) (sym (take_rest text (end + 1)))
 
--- a last line that none ends
+-- a last line without a line feed
 pub open_line : (text : List ℕ) (end : ℕ) → end ≡ position_or_len (λ byte. byte == 10) text → length text ≤ end → 0 < length text →
     map_lines text ≡ text ∷ map_lines (take (length text - end) (drop end text))
 unfolding map_lines

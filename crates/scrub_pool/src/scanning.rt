@@ -1,4 +1,4 @@
-//! Scanning all planned extents by many workers and the caller. What one worker does is left to `worker`.
+//! Scanning all planned extents with workers and the caller. For what one worker does, see `worker`.
 
 ghost use Rattle.std.specs.Prelude.{◌≡◌, ◌+◌, ◌-◌, ◌<◌, ◌≤◌, ◌++◌, [], ◌∷◌, true, None, All, length, OnOk, IfOk, sum_by, vec_len};
 ghost use Rattle.std.specs.List.Sorted.{IsPermutation};
@@ -28,7 +28,7 @@ use std::sync::ledger::{Blank, Ledger};
 use std::sync::{Mutex, Wait};
 use std::thread::Threads;
 
-/// As many members as workers were asked for, each with a pass of its own.
+/// A member for each worker that was asked for, each with a pass of its own.
 fn new_crew<R: Wait>(
     rt: &R,
     alloc: Global,
@@ -53,7 +53,7 @@ fn new_crew<R: Wait>(
     Ok(crew)
 }
 
-/// Retires a worker that holds no extent: adds its results to those found, and gives the list of what it took.
+/// Retires a worker that holds no extent: appends its results to those found, and gives the list of what it took.
 fn take_over<'d, D: PageSource>(
     core: WorkerCore<'d, D>,
     found: &mut Vec<ExtentResult<'d, D>>,
@@ -71,7 +71,8 @@ fn take_over<'d, D: PageSource>(
     Ok(taken)
 }
 
-/// Takes in one member that ended: joins its pass, adds its results to those found, and gives the list of what it took.
+/// Takes in one member that has ended: joins its pass, appends its results to those found, and gives the list of what it
+/// took.
 fn take_in<'d, D: PageSource, R: Wait>(
     rt: &R,
     queue: &ExtentQueue,
@@ -92,7 +93,7 @@ fn take_in<'d, D: PageSource, R: Wait>(
     take_over(core, found)
 }
 
-/// Takes in all members that ended, in their order, and gives the lists of what they took.
+/// Takes in all members that have ended, in their order, and gives the lists of what they took.
 fn collect<'d, D: PageSource, R: Wait>(
     rt: &R,
     alloc: Global,
@@ -119,8 +120,8 @@ fn collect<'d, D: PageSource, R: Wait>(
     Ok(lists)
 }
 
-/// All work until no extent is left. Gives who took what, by the workers' numbers, the caller's last; what was found; and the
-/// total of the ledger in which it was counted.
+/// Scans with all workers until no extent is left. Gives the list of what each worker took, by the workers' numbers, the
+/// caller's last; the results; and the ledger's total.
 fn gather<'d, D: PageSource, L: Ledger + Send + Sync, G: Gate, R: Threads + Wait + Sync>(
     rt: &R,
     disk: &'d D,
@@ -161,10 +162,10 @@ fn gather<'d, D: PageSource, L: Ledger + Send + Sync, G: Gate, R: Threads + Wait
     Ok((lists, found, counted))
 }
 
-/// What one reader finds in the planned extents, scanned by this many workers (0 to 64) and the caller, each taking from this
-/// queue until none is left, and who took what. The caller takes with the first pass, as worker number `workers`; with no
-/// others no thread is started. The one fault is `OutOfMemory`, told once every worker that was started has ended. The pass is
-/// then still the first one of this queue, so that what was taken is told by the queue's rule; both are for dropping.
+/// What one reader finds in the planned extents, and who took what. They are scanned by this many workers (0 to 64) and the
+/// caller, each taking from this queue until none is left. The caller takes with the first pass, as worker number `workers`;
+/// without workers no thread is started. The only fault is `OutOfMemory`, returned once every worker that was started has
+/// ended. The pass is then still the first one of this queue, whose rule still says what was taken; drop both.
 pub fn scan_all<'d, D: PageSource, G: Gate, R: Threads + Wait + Sync>(
     rt: &R,
     alloc: Global,
@@ -181,7 +182,7 @@ pub fn scan_all<'d, D: PageSource, G: Gate, R: Threads + Wait + Sync>(
     ensures image { IfOk result (λ r. IsOfImage (λ s. D.image s) r.0 (D.image disk.now)) }
     ensures findings { IfOk result (λ r. AreAllFindings (D.image disk.now) plan.now r.0.extents) }
     ensures workers { IfOk result (λ r. length r.1.lists ≡ workers + 1) }
-    // After the fault too.
+    // Also after a fault.
     ensures kept { IsFirst queue.now plan.now.planned first.new }
     ensures first { OnOk result (IsFirstAlone queue.now plan.now.planned first.new) }
     ensures lists { IfOk result (λ r. r.1.lists ≡ first.new.joined ++ first.new.own ∷ []) }

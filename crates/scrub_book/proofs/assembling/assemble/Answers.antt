@@ -13,21 +13,21 @@ use Rattle.scrub_book.specs.Extents.{extents_of}
 use Rattle.scrub_book.proofs.Arrivals.{numbers_shown, one_more_came, next_planned, next_first, all_came, not_refused}
 use Rattle.scrub_book.proofs.assembling.assemble.Goals as goal
 
--- what arrived are the planned extents
+-- the results that arrived are of the planned extents
 each_of : {D : Type 0} {s : _} (planned : List ℕ) (rs : List (ExtentResult D s)) →
     IsPermutation (extents_of rs) planned → (f : ℕ → ℕ) →
     sum_by f (extent_numbers (map (λ (r : ExtentResult D s). scanned r) rs)) ≡ sum_by f planned
 each_of {D} {s} planned rs each f =
     ap (sum_by f) (numbers_shown rs) ∙ sym (sum_by-IsPermutation f (extents_of rs) planned each)
 
--- the next that comes
+-- the next result
 next_of : {D : Type 0} {s : _} (all : List Scanned) (came : List Scanned) (rs rest : List (ExtentResult D s)) (r : ExtentResult D s) →
     rs ≡ r ∷ rest →
     IsPermutation all (came ++ map (λ (x : ExtentResult D s). scanned x) rs) →
     IsPermutation all (came ++ scanned r ∷ map (λ (x : ExtentResult D s). scanned x) rest)
 next_of {D} {s} all came rs rest r is so_far = rw is at so_far
 
--- nothing more comes
+-- no more results
 none_of : {D : Type 0} {s : _} (all : List Scanned) (came : List Scanned) (rs : List (ExtentResult D s)) → rs ≡ [] →
     IsPermutation all (came ++ map (λ (x : ExtentResult D s). scanned x) rs) → IsPermutation all came
 none_of {D} {s} all came rs is so_far =
@@ -53,7 +53,7 @@ loop-found-preserved g c =
           c.in-Some.found _ _ c.in-Some.ensures.steps.0 inv.pointers;
     }
 
--- each that arrived is planned, and comes once
+-- each result that arrived is of a planned extent, and is added once
 pub unreachable-requires : goal.unreachable-requires
 unreachable-requires g c =
     let inv = c.loop-found.invariant in
@@ -67,7 +67,7 @@ unreachable-requires g c =
     (next_first c.args.book.plan.planned all each book.came _ (scanned c.in-Some.found) rising next)
     c.in-Err.ensures.refused
 
--- at the end each came
+-- at the end each was added
 pub unreachable-requires-in-Err-finish : goal.unreachable-requires-in-Err-finish
 unreachable-requires-in-Err-finish g c =
     let inv = c.loop-found.invariant in

@@ -14,13 +14,13 @@ returns-in_default-clause-refused g c = (
       (rw (c.planned.ensures.planned, c.extent.ensures) (subst (λ (b : BookValue g.row.D.Denot). Contains b.plan.planned c.args.found.extent) (sym c.self.view_is) there)),
 )
 
--- the place that was found, among the planned extents
+-- the slot that was found, among the planned extents
 among_planned : {ns planned : List ℕ} {e extent : ℕ} (i : ℕ) → (i < length ns) × (get_or ns i 0 ≡ e) → ns ≡ planned →
     e ≡ extent → (i < length planned) × (get_or planned i 0 ≡ extent)
 among_planned i found are is =
     (omega (arith, found.0, ap length are), sym (ap (λ (ns : List ℕ). get_or ns i 0) are) ∙ found.1 ∙ is)
 
--- there are as many places as planned extents
+-- there are as many slots as planned extents
 pub index-requires : goal.index-requires
 index-requires g c =
     omega (

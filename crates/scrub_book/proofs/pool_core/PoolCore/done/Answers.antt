@@ -7,7 +7,7 @@ use Rattle.scrub_book.specs.Member.{results_in, IsReady}
 use Rattle.scrub_book.proofs.Kept.{named_by, done_is, same_state, kept_step, kept_same}
 use Rattle.scrub_book.proofs.pool_core.PoolCore.done.Goals as goal
 
--- a member that lacked memory is as it was
+-- if memory ran out, the member is as it was
 pub invariant_of-self : goal.invariant_of-self
 invariant_of-self g c =
     let kept = c.self.invariant.0 in
@@ -21,7 +21,7 @@ invariant_of-self g c =
     } in
     (kept_same kept named c.done.new.self ready same.0, c.self.invariant.1)
 
--- what holds anyhow holds of a fault
+-- what holds anyway holds after a fault
 capacity : {T E P : Type 0} (r : Result T E) → P → OnErr r P
 capacity (Ok x) p = tt
 capacity (Err x) p = p

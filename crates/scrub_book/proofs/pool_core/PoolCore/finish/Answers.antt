@@ -19,7 +19,7 @@ assemble-requires-clause-pointers g c = λ κs h k d below.
     rw (get_or-map value rs k d (value d) below) at
     (c.self.invariant.0.pool.arrivals k (value d) (omega (arith, below, length-map rs value))).pointer_is
 
--- they are the planned extents, since they add up as these do
+-- the arrivals are the planned extents, since their sums are the same
 pub assemble-requires-clause-each : goal.assemble-requires-clause-each
 assemble-requires-clause-each g c = λ κs h.
     let x = c.self.inside in
