@@ -1,5 +1,5 @@
 -- What one more line says of the map.
-use Rattle.std.proofs.Common.{◌≡◌, ◌<◌, ◌≤◌, ◌+◌, ◌⊎◌, ℕ, Bool, true, false, not, List, [], ◌∷◌, ◌++◌, length, map, arith, refl, sym, ◌∙◌, ap, subst, inl, inr, append_assoc, length-append, Result, Ok, Err, IfOk}
+use Rattle.std.proofs.Common.{◌≡◌, ◌<◌, ◌≤◌, ◌+◌, ℕ, Bool, true, false, not, List, [], ◌∷◌, ◌++◌, length, map, arith, refl, sym, ◌∙◌, ap, subst, inl, inr, append_assoc, length-append, Result, Ok, Err, IfOk}
 use Rattle.std.specs.Prelude.{IfErr}
 use Rattle.std.specs.Prelude.{filter}
 use Rattle.std.proofs.lemmas.List.Elements.{filter-append}
@@ -10,7 +10,7 @@ use Rattle.scrub_map.specs.Fields.{line_fields}
 use Rattle.scrub_map.specs.Lines.{IsBlock, IsState, map_lines, says_nothing}
 use Rattle.scrub_map.specs.Map.{AreBlocksFrom, BeginsMap, IsFirstBadLine, IsMap, IsMapOf, statements}
 use Rattle.scrub_map.specs.Number.{IsNumber}
-use Rattle.scrub_map.specs.Reading.{AreSaid, BreaksRules, HasReadLines, ReadsMore, end_from}
+use Rattle.scrub_map.specs.Reading.{AreSaid, HasReadLines, ReadsMore, end_from}
 use Rattle.scrub_map.specs.Fault.{IfBadLine}
 use Rattle.scrub_map.specs.declared.reading.MapFault.{MapFault}
 use Rattle.scrub_map.specs.declared.reading.MapFault.TheVariants.{OutOfMemory, Line}
@@ -208,9 +208,6 @@ pub record HasReadUpTo (text rest : List ℕ) (number : ℕ) (r : Reading) : Typ
   pub room : number + length rest ≤ length text + 1
   pub read : HasReadLines lines r
 
-pub up_to_none : (text : List ℕ) (r : Reading) → HasReadLines [] r → HasReadUpTo text text 1 r
-up_to_none text r read = record { lines = []; parts = refl; place = refl; room = omega arith; read = read }
-
 pub up_to_more : (text rest line behind : List ℕ) (number : ℕ) (old new : Reading) → map_lines rest ≡ line ∷ map_lines behind → length behind < length rest →
     HasReadUpTo text rest number old → ReadsMore (line_fields line) old new → HasReadUpTo text behind (number + 1) new
 up_to_more text rest line behind number old new cut shorter before more = record {
@@ -220,22 +217,6 @@ up_to_more text rest line behind number old new cut shorter before more = record
   room = omega (arith, before.room, shorter);
   read = more before.lines line refl before.read;
 }
-
-pub breaks_here : (text rest line behind : List ℕ) (number : ℕ) (r : Reading) → map_lines rest ≡ line ∷ map_lines behind → HasReadUpTo text rest number r →
-    BreaksRules (line_fields line) r → IsFirstBadLine text number
-breaks_here text rest line behind number r cut before breaks = inl (record {
-  before = before.lines;
-  line = line;
-  behind = map_lines behind;
-  parts = before.parts ∙ ap (λ l. before.lines ++ l) cut;
-  place = before.place;
-  begins = begins r.has_state (statements before.lines) before.read.blocks before.read.said;
-  breaks = breaks before.lines line refl before.read;
-})
-  where
-    begins : (has : Bool) (said : List (List (List ℕ))) (blocks : List MapBlock) → AreSaid has said blocks → (said ≡ []) ⊎ ((bs : List MapBlock) × IsMapOf said bs)
-    begins true said blocks are = inr (blocks, are)
-    begins false said blocks are = inl are.0
 
 -- all lines were read
 all_parts : (text rest : List ℕ) (lines : List (List ℕ)) → length rest ≡ 0 → map_lines text ≡ lines ++ map_lines rest → map_lines text ≡ lines
@@ -268,9 +249,3 @@ pub no_map : (text rest : List ℕ) (number : ℕ) (r : Reading) (result : Resul
 no_map text rest number r (Ok map) e up bad = tt
 no_map text rest number r (Err OutOfMemory) e up bad = tt
 no_map text rest number r (Err (Line k)) e up bad = subst (IsFirstBadLine text) (sym bad.0) (lacks_state text rest number r e up bad.1)
-
--- and from the outcome of a line
-pub bad_line : (text rest line behind : List ℕ) (number : ℕ) (r : Reading) (fault : MapFault) → map_lines rest ≡ line ∷ map_lines behind → HasReadUpTo text rest number r →
-    IfBadLine fault (λ k. (k ≡ number) × BreaksRules (line_fields line) r) → IfBadLine fault (IsFirstBadLine text)
-bad_line text rest line behind number r OutOfMemory cut up bad = tt
-bad_line text rest line behind number r (Line k) cut up bad = subst (IsFirstBadLine text) (sym bad.0) (breaks_here text rest line behind number r cut up bad.1)
