@@ -8,7 +8,6 @@ use Rattle.std.proofs.lemmas.List.Elements.{All-append, All-set}
 use Rattle.scrub_disk.specs.Image.{Image}
 use Rattle.scrub_super.specs.Plan.{PlanValue, pointer_of}
 use Rattle.scrub_scan.specs.declared.extent_result.ExtentResult.{ExtentResult}
-use Rattle.scrub_scan.specs.Findings.{IsFindings}
 use Rattle.scrub_scan.specs.Scanned.{Scanned, scanned, result_image}
 use Rattle.scrub_scan.specs.AllFindings.{extent_numbers}
 use Rattle.scrub_book.specs.declared.event.Event.{Event}
@@ -132,11 +131,11 @@ module _ {D : Type 0} {s : _} where
 
     -- what is kept once a member was written
     kept_with : (v : ℕ) (n : Member D s) → IsReady image n →
-        (left : List ℕ) (after : List (ExtentResult D s)) (capacity : List ℕ) →
+        (left : List ℕ) (after : List (ExtentResult D s)) (listed : List ℕ) →
         IsPool image book.plan (state_of left (set ms v n) after) →
-        All (λ (r : ExtentResult D s). result_image r ≡ image) after → capacity ≡ extents_of after →
-        HoldsPool image book left (set ms v n) after capacity room
-    kept_with v n ready left after capacity pool images numbers_are = record {
+        All (λ (r : ExtentResult D s). result_image r ≡ image) after → listed ≡ extents_of after →
+        HoldsPool image book left (set ms v n) after listed room
+    kept_with v n ready left after listed pool images numbers_are = record {
       nothing = kept.nothing;
       geometry = kept.geometry;
       pool = pool;
@@ -158,12 +157,12 @@ module _ {D : Type 0} {s : _} where
           kept.images kept.numbers_are
 
       -- after an event with arrivals
-      pub kept_arrived : (after : List (ExtentResult D s)) (capacity : List ℕ) (more : List (ExtentResult D s)) →
+      pub kept_arrived : (after : List (ExtentResult D s)) (listed : List ℕ) (more : List (ExtentResult D s)) →
           IsStep image book.plan (state_of queue ms arrived) event (state_of queue (set ms (worker_of event) n) after) →
           All (λ (r : ExtentResult D s). result_image r ≡ image) more → after ≡ arrived ++ more →
-          capacity ≡ numbers ++ extents_of more → HoldsPool image book queue (set ms (worker_of event) n) after capacity room
-      kept_arrived after capacity more step images is are =
-          kept_with (worker_of event) n ready queue after capacity
+          listed ≡ numbers ++ extents_of more → HoldsPool image book queue (set ms (worker_of event) n) after listed room
+      kept_arrived after listed more step images is are =
+          kept_with (worker_of event) n ready queue after listed
           (step_keeps image book.plan (state_of queue ms arrived) event (state_of queue (set ms (worker_of event) n) after) named.may step kept.pool)
           (rw is (All-append (λ (r : ExtentResult D s). result_image r ≡ image) arrived more kept.images images))
           (are ∙ ap (λ (ns : List ℕ). ns ++ extents_of more) kept.numbers_are ∙ sym (map-append (λ (r : ExtentResult D s). (scanned r).extent) arrived more) ∙ sym (ap extents_of is))

@@ -1,5 +1,5 @@
 -- Slots for the results of planned extents, as they are filled.
-use Rattle.std.proofs.Common.{refl, ◌≡◌, ◌<◌, ◌≤◌, ℕ, List, [], ◌∷◌, Bool, true, false, not, length, get_or, set, map, replicate, position, arith, sym, ◌∙◌, ap, Some, None, Option, IfSome, IfNone, All, zero, suc, inl, inr, Result, Ok, Err}
+use Rattle.std.proofs.Common.{refl, ◌≡◌, ◌<◌, ◌≤◌, ℕ, List, [], ◌∷◌, Bool, true, false, not, length, get_or, set, map, replicate, position, arith, sym, ◌∙◌, ap, Some, None, Option, IfSome, IfNone, zero, suc, inl, inr, Result, Ok, Err}
 use Rattle.std.specs.List.{AllZip, Contains, position_or_len}
 use Rattle.std.specs.List.Sorted.{IsPermutation, IsStrictlyIncreasing, IsBinarySearchResult}
 use Rattle.std.specs.Option.{is_some}

@@ -15,7 +15,7 @@ use scrub_scan::{AllFindings, ExtentResult};
 /// and no other, all of the book's disk and under the write pointers of its plan. The book has no result yet. Takes no
 /// memory.
 pub fn assemble<'d, D: PageSource>(
-    book: Book<'d, D>,
+    mut book: Book<'d, D>,
     arrived: Vec<ExtentResult<'d, D>>,
 ) -> AllFindings<'d, D>
     requires nothing { book.came ≡ [] }
@@ -26,9 +26,6 @@ pub fn assemble<'d, D: PageSource>(
     ensures image { IsOfImage (λ s. D.image s) result (D.image book.entry.source) }
     ensures arrived { IsPermutation (map scanned arrived.entry.items) result.extents }
 {
-    // It tells that the planned extents rise.
-    let _ = book.plan().planned();
-    let mut book = book;
     for found in arrived {
         match book.add(found) {
             Ok(()) => (),

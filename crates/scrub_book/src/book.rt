@@ -29,6 +29,7 @@ pub struct Book<'d, D: PageSource> {
 }
 
 impl<'d, D: PageSource> Model for Book<'d, D> {
+    ghost use Rattle.std.specs.List.Sorted.{IsStrictlyIncreasing};
     ghost use Rattle.scrub_scan.specs.Slots.{AreSlots, scanned_in};
     ghost use Rattle.scrub_book.specs.Book.{BookValue};
 
@@ -36,7 +37,7 @@ impl<'d, D: PageSource> Model for Book<'d, D> {
 
     ghost view = { λ b. record { source = b.source.now; plan = b.plan; came = scanned_in b.slots.items } };
 
-    ghost invariant = { λ b. AreSlots (D.image b.source.now) b.plan b.slots.items };
+    ghost invariant = { λ b. AreSlots (D.image b.source.now) b.plan b.slots.items × IsStrictlyIncreasing b.plan.planned };
 }
 
 /// The place of an extent among rising numbers.
@@ -110,6 +111,8 @@ impl<'d, D: PageSource> Book<'d, D> {
         ensures added { OnOk result (IsAdded self.old (scanned found.entry) self.new) }
         ensures refused { IfErr result (IsAddRefused self.old found.entry) }
         ensures same { OnErr result (self.new ≡ self.old) }
+        // True of every value of the type.
+        ensures rising { IsStrictlyIncreasing self.old.plan.planned }
     {
         let Some(i) = place_of(self.plan.planned(), found.extent()) else {
             return Err(AddRefused::Stranger(found));
@@ -136,8 +139,6 @@ impl<'d, D: PageSource> Book<'d, D> {
         ensures image { IfOk result (λ all. IsOfImage (λ s. D.image s) all (D.image self.entry.source)) }
         ensures back { IfErr result (λ book. (book ≡ self.entry) × ¬ HasAll self.entry) }
     {
-        // It tells that the planned extents rise.
-        let _ = self.plan.planned();
         if first_empty(&self.slots).is_some() {
             return Err(self);
         }

@@ -1,11 +1,10 @@
-use Rattle.std.proofs.Common.{◌≡◌, ◌++◌, ◌∷◌, ◌∙◌, [], ℕ, List, All, Some, map, sum_by, ap, arith, append-nil, sym}
-use Rattle.std.specs.List.{Contains}
-use Rattle.std.specs.List.Sorted.{IsPermutation, IsStrictlyIncreasing}
+use Rattle.std.proofs.Common.{◌≡◌, ◌++◌, ◌∷◌, ◌∙◌, [], ℕ, List, Some, map, sum_by, ap, arith, append-nil, sym}
+use Rattle.std.specs.List.Sorted.{IsPermutation}
 use Rattle.std.specs.Vec.Iter.{into_iter_items}
 use Rattle.std.proofs.lemmas.List.{nil_from_length}
-use Rattle.std.proofs.lemmas.List.Elements.{All-rest}
+use Rattle.std.proofs.lemmas.List.Elements.{All-head, All-rest}
 use Rattle.std.proofs.lemmas.List.Sorted.{sum_by-IsPermutation}
-use Rattle.scrub_super.specs.Plan.{pointer_of, PlanValue}
+use Rattle.scrub_super.specs.Plan.{pointer_of}
 use Rattle.scrub_scan.specs.declared.extent_result.ExtentResult.{ExtentResult}
 use Rattle.scrub_scan.specs.Scanned.{Scanned, result_image, scanned}
 use Rattle.scrub_scan.specs.AllFindings.{extent_numbers}
@@ -32,6 +31,12 @@ none_of : {D : Type 0} {s : _} (all : List Scanned) (came : List Scanned) (rs : 
     IsPermutation all (came ++ map (λ (x : ExtentResult D s). scanned x) rs) → IsPermutation all came
 none_of {D} {s} all came rs is so_far =
     rw (← (append-nil came)) (rw is at so_far)
+
+pub add-requires-clause-pointer : goal.add-requires-clause-pointer
+add-requires-clause-pointer g c κs within = λ there.
+    let inv = c.loop-found.invariant in
+    rw inv.plan
+    (All-head (λ (r : ExtentResult g.row.D.Denot g.D.PageSource). pointer_of c.args.book.plan r.extent ≡ Some r.pointer) c.in-Some.found _ (rw c.in-Some.ensures.steps.0 at inv.pointers))
 
 pub loop-found-preserved : goal.loop-found-preserved
 loop-found-preserved g c =
@@ -61,7 +66,7 @@ unreachable-requires g c =
     let all = map (λ (r : ExtentResult g.row.D.Denot g.D.PageSource). scanned r) c.args.arrived.items in
     let each = each_of c.args.book.plan.planned c.args.arrived.items c.requires.each in
     let next = next_of all book.came _ _ c.in-Some.found c.in-Some.ensures.steps.0 inv.came in
-    let rising = rw c.plan.ensures at c.planned.ensures.extents.rising in
+    let rising = rw inv.plan at c.add.ensures.rising in
     not_refused book c.in-Some.found c.in-Err.field-0
     (rw inv.plan (next_planned c.args.book.plan.planned all each book.came _ (scanned c.in-Some.found) next))
     (next_first c.args.book.plan.planned all each book.came _ (scanned c.in-Some.found) rising next)

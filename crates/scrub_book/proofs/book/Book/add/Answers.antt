@@ -27,7 +27,7 @@ index-requires g c =
       arith,
       c.in-Some.ensures.found.0,
       ap length c.planned.ensures.planned,
-      place_count (g.D.PageSource.image c.self.inside.source.now) c.self.inside.plan c.self.inside.slots.items c.self.invariant,
+      place_count (g.D.PageSource.image c.self.inside.source.now) c.self.inside.plan c.self.inside.slots.items c.self.invariant.0,
     )
 
 pub index_mut-requires : goal.index_mut-requires
@@ -36,7 +36,7 @@ index_mut-requires g c =
       arith,
       c.in-Some.ensures.found.0,
       ap length c.planned.ensures.planned,
-      place_count (g.D.PageSource.image c.self.inside.source.now) c.self.inside.plan c.self.inside.slots.items c.self.invariant,
+      place_count (g.D.PageSource.image c.self.inside.source.now) c.self.inside.plan c.self.inside.slots.items c.self.invariant.0,
     )
 
 pub returns-then-is_some-clause-refused : goal.returns-then-is_some-clause-refused
@@ -46,17 +46,17 @@ returns-then-is_some-clause-refused g c =
     let at = among_planned c.in-Some.i c.in-Some.ensures.found c.planned.ensures.planned c.extent.ensures in
     let filled : is_some (get_or slots c.in-Some.i c.index.result.now) ≡ true = search rules in
     let second = subst (λ (b : BookValue g.row.D.Denot). Contains b.plan.planned c.args.found.extent × Contains (extent_numbers b.came) c.args.found.extent) c.self.view_is
-    (double_at (g.D.PageSource.image c.self.inside.source.now) plan slots c.self.invariant c.planned.ensures.extents.rising c.self.inside.source.now c.in-Some.i c.args.found at.0 at.1 c.index.result.now filled) in
+    (double_at (g.D.PageSource.image c.self.inside.source.now) plan slots c.self.invariant.0 c.planned.ensures.extents.rising c.self.inside.source.now c.in-Some.i c.args.found at.0 at.1 c.index.result.now filled) in
     (refl, second.0, second.1)
 
 pub invariant_of-self : goal.invariant_of-self
 invariant_of-self g c =
     let plan = c.self.inside.plan in
     let at = among_planned c.in-Some.i c.in-Some.ensures.found c.planned.ensures.planned c.extent.ensures in
-    kept_set (g.D.PageSource.image c.self.inside.source.now) plan c.self.inside.slots.items c.self.invariant
+    (kept_set (g.D.PageSource.image c.self.inside.source.now) plan c.self.inside.slots.items c.self.invariant.0
     c.planned.ensures.extents.rising c.self.inside.source.now c.in-Some.i c.args.found at.0 at.1
     (c.requires.image ∙ ap (λ (b : BookValue g.row.D.Denot). g.D.PageSource.image b.source) (sym c.self.view_is))
-    (subst (λ (b : BookValue g.row.D.Denot). Contains b.plan.planned c.args.found.extent → pointer_of b.plan c.args.found.extent ≡ Some c.args.found.pointer) (sym c.self.view_is) c.requires.pointer)
+    (subst (λ (b : BookValue g.row.D.Denot). Contains b.plan.planned c.args.found.extent → pointer_of b.plan c.args.found.extent ≡ Some c.args.found.pointer) (sym c.self.view_is) c.requires.pointer), c.self.invariant.1)
 
 pub returns-clause-added : goal.returns-clause-added
 returns-clause-added g c =
@@ -65,4 +65,4 @@ returns-clause-added g c =
     let at = among_planned c.in-Some.i c.in-Some.ensures.found c.planned.ensures.planned c.extent.ensures in
     let empty : is_some (get_or slots c.in-Some.i c.index.result.now) ≡ false = search rules in
     rw (← c.self.view_is)
-    (added_at (g.D.PageSource.image c.self.inside.source.now) plan slots c.self.invariant c.planned.ensures.extents.rising c.self.inside.source.now c.in-Some.i c.args.found at.0 at.1 c.index.result.now empty)
+    (added_at (g.D.PageSource.image c.self.inside.source.now) plan slots c.self.invariant.0 c.planned.ensures.extents.rising c.self.inside.source.now c.in-Some.i c.args.found at.0 at.1 c.index.result.now empty)
