@@ -126,7 +126,7 @@ pub fn put_sealed(
     Ok(locate(extent, offset, uuid, payload))
 }
 
-/// The payload of the run of one shard with at most 64 locators. No locator means that the shard was deleted.
+/// The payload of the run of one shard with at most 64 locators. Without locators it says that the shard was deleted.
 pub fn run_of(alloc: Global, id: ShardId, locators: &[Locator]) -> Result<Vec<u8>, Misfit>
     ensures { IfOk result (λ out. out.items ≡ run_bytes (record { id = id; locators = locators.now } ∷ [])) }
 {

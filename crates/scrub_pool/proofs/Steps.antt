@@ -1,6 +1,5 @@
 -- Each step of the shared queue keeps its rule.
 use Rattle.std.proofs.Common.{◌≡◌, ◌≢◌, ◌+◌, ◌-◌, ◌<◌, ◌≤◌, ◌==◌, ◌++◌, ◌∷◌, ◌∙◌, ℕ, zero, suc, List, [], All, true, false, length, set, get_or, sum_by, arith, refl, sym, ap, subst, append_assoc, length-append, ⊎_elim}
-use Rattle.std.specs.List.{Contains}
 use Rattle.std.specs.List.Sorted.{IsStrictlyIncreasing}
 use Rattle.std.proofs.lemmas.Bool.Decides.{nat_tests}
 use Rattle.std.proofs.lemmas.List.{get_or_default}

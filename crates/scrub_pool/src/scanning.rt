@@ -54,7 +54,7 @@ fn new_crew<R: Wait>(
 }
 
 /// Retires a worker that holds no extent: appends its results to those found, and gives the list of what it took.
-fn take_over<'d, D: PageSource>(
+fn retire_worker<'d, D: PageSource>(
     core: WorkerCore<'d, D>,
     found: &mut Vec<ExtentResult<'d, D>>,
 ) -> Result<Vec<u32>, OutOfMemory>
@@ -71,9 +71,8 @@ fn take_over<'d, D: PageSource>(
     Ok(taken)
 }
 
-/// Takes in one member that has ended: joins its pass, appends its results to those found, and gives the list of what it
-/// took.
-fn take_in<'d, D: PageSource, R: Wait>(
+/// Joins a member that has ended: joins its pass, appends its results to those found, and gives the list of what it took.
+fn join_member<'d, D: PageSource, R: Wait>(
     rt: &R,
     queue: &ExtentQueue,
     first: &mut TakePass,
@@ -90,11 +89,11 @@ fn take_in<'d, D: PageSource, R: Wait>(
 {
     let Member { pass, core } = member;
     queue.join(rt, first, pass);
-    take_over(core, found)
+    retire_worker(core, found)
 }
 
-/// Takes in all members that have ended, in their order, and gives the lists of what they took.
-fn collect<'d, D: PageSource, R: Wait>(
+/// Joins all members that have ended, in order, and gives the lists of what they took.
+fn join_members<'d, D: PageSource, R: Wait>(
     rt: &R,
     alloc: Global,
     queue: &ExtentQueue,
@@ -115,14 +114,14 @@ fn collect<'d, D: PageSource, R: Wait>(
 {
     let mut lists = Vec::new(alloc);
     for member in members {
-        lists.push(take_in(rt, queue, first, member, found)?)?;
+        lists.push(join_member(rt, queue, first, member, found)?)?;
     }
     Ok(lists)
 }
 
 /// Scans with all workers until no extent is left. Gives the list of what each worker took, by the workers' numbers, the
 /// caller's last; the results; and the ledger's total.
-fn gather<'d, D: PageSource, L: Ledger + Send + Sync, G: Gate, R: Threads + Wait + Sync>(
+fn scan_with_crew<'d, D: PageSource, L: Ledger + Send + Sync, G: Gate, R: Threads + Wait + Sync>(
     rt: &R,
     disk: &'d D,
     job: &Job<'_, G>,
@@ -154,18 +153,18 @@ fn gather<'d, D: PageSource, L: Ledger + Send + Sync, G: Gate, R: Threads + Wait
     };
     let (mut core, mut share) = (core, mine);
     let mut found = Vec::new(job.alloc);
-    let mut lists = collect(rt, job.alloc, job.queue, first, members, &mut found)?;
+    let mut lists = join_members(rt, job.alloc, job.queue, first, members, &mut found)?;
     take_until_empty(rt, disk, job, &tally, &mut core, &mut share, workers, first)?;
-    let own = take_over(core, &mut found)?;
+    let own = retire_worker(core, &mut found)?;
     lists.push(own)?;
     let counted = audit(tally, theirs, share);
     Ok((lists, found, counted))
 }
 
-/// What one reader finds in the planned extents, and who took what. They are scanned by this many workers (0 to 64) and the
-/// caller, each taking from this queue until none is left. The caller takes with the first pass, as worker number `workers`;
-/// without workers no thread is started. The only fault is `OutOfMemory`, returned once every worker that was started has
-/// ended. The pass is then still the first one of this queue, whose rule still says what was taken; drop both.
+/// What one reader finds in the planned extents, and who took what. The extents are scanned by this many workers (0 to 64)
+/// and the caller, each taking from this queue until none is left. The caller takes with the first pass, as worker number
+/// `workers`; without workers no thread is started. The only fault is `OutOfMemory`, returned once every worker that was
+/// started has ended. The pass is then still the first one of this queue, whose rule still says what was taken; drop both.
 pub fn scan_all<'d, D: PageSource, G: Gate, R: Threads + Wait + Sync>(
     rt: &R,
     alloc: Global,
@@ -197,7 +196,7 @@ pub fn scan_all<'d, D: PageSource, G: Gate, R: Threads + Wait + Sync>(
         queue,
         gate,
     };
-    let (lists, results, counted) = gather::<D, Brand, G, R>(
+    let (lists, results, counted) = scan_with_crew::<D, Brand, G, R>(
         rt, disk, &job, first, workers, blank,
     )?;
     Ok((assemble(book, results), Takings::new(lists, counted)))

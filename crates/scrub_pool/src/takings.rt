@@ -50,8 +50,7 @@ impl Takings {
         self.lists.len() as u32 - 1
     }
 
-    /// The extents that a worker took, rising. The caller's number is `workers()`. The list is empty if the worker took
-    /// none.
+    /// The extents that a worker took, rising; there may be none. The caller's number is `workers()`.
     pub fn taken_by(&self, worker: u32) -> &[u32]
         requires { worker < length self.now.lists }
         ensures { slice_get self.now.lists worker ≡ Some result.now }
