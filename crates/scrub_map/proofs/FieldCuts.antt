@@ -69,7 +69,7 @@ starts_inside (b ∷ text) some first = rw first (omega arith)
 pub first_field : (text : List ℕ) (k : ℕ) → k ≡ position_or_len is_field_blank text → 0 < length text → is_field_blank (get_or text 0 0) ≡ false →
     fields_of text ≡ take k text ∷ fields_of (drop k text)
 first_field text k e some first =
-    subst (λ n. fields_of text ≡ take n text ∷ fields_of (drop n text)) (sym e) (elim (cases_lt (position_or_len is_field_blank text) (length text)) [
+    rw e (elim (cases_lt (position_or_len is_field_blank text) (length text)) [
       | inl below ↦
           let cut : drop (position_or_len is_field_blank text) text ≡ get_or text (position_or_len is_field_blank text) 0 ∷ drop (position_or_len is_field_blank text + 1) text =
           rw add-one (drop-cons text (position_or_len is_field_blank text) 0 below) in

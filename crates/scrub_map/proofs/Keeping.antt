@@ -1,5 +1,5 @@
 -- One more block, and the gap before it.
-use Rattle.std.proofs.Common.{◌≡◌, ◌<◌, ◌≤◌, ◌+◌, ◌⊎◌, ℕ, true, false, List, [], ◌∷◌, ◌++◌, arith, sym, ◌∙◌, subst, inl, inr}
+use Rattle.std.proofs.Common.{◌≡◌, ◌<◌, ◌≤◌, ◌+◌, ◌⊎◌, ℕ, true, false, List, [], ◌∷◌, ◌++◌, arith, sym, ◌∙◌, inl, inr}
 use Rattle.std.specs.Prelude.{◌↔◌}
 use Rattle.std.proofs.lemmas.Bool.{cases_lt, false≢true}
 use Rattle.scrub_map.specs.declared.block.MapBlock.{MapBlock}
@@ -47,15 +47,15 @@ pub record GapsGrow (old new : List Gap) (from to : ℕ) : Type 0 where
 
 pub grow_one : (old new : List Gap) (gap : Gap) → new ≡ old ++ gap ∷ [] → GapsGrow old new gap.from gap.to
 grow_one old new gap e = record {
-  only = λ i has. elim (in_gaps_push old gap i (subst (λ gs. IsInGaps gs i) e has)) [ inl was ↦ inl was | inr here ↦ inr (here.low, here.high) ];
-  stay = λ i was. subst (λ gs. IsInGaps gs i) (sym e) (in_gaps_before old (gap ∷ []) i was);
-  grown = λ i low high. subst (λ gs. IsInGaps gs i) (sym e) (in_gaps_last old gap i (record { low = low; high = high }));
+  only = λ i has. elim (in_gaps_push old gap i (rw e at has)) [ inl was ↦ inl was | inr here ↦ inr (here.low, here.high) ];
+  stay = λ i was. rw e (in_gaps_before old (gap ∷ []) i was);
+  grown = λ i low high. rw e (in_gaps_last old gap i (record { low = low; high = high }));
 }
 
 pub grow_none : (old new : List Gap) (from to : ℕ) → new ≡ old → to ≤ from → GapsGrow old new from to
 grow_none old new from to e none = record {
-  only = λ i has. inl (subst (λ gs. IsInGaps gs i) e has);
-  stay = λ i was. subst (λ gs. IsInGaps gs i) (sym e) was;
+  only = λ i has. inl (rw e at has);
+  stay = λ i was. rw e was;
   grown = λ i low high. absurd (omega (arith, none, low, high));
 }
 

@@ -126,10 +126,10 @@ gaps_more gaps i size count gap before after below item m same marks = record {
       let inside : n < length before = omega (arith, within, m.one_each) in (
         λ marked. elim ((marks n inside).0 marked) [
           | inl old ↦ let hit = (m.marked n within).0 old in
-              record { place = hit.place; low = hit.low; high = hit.high; inside = subst (λ gs. IsInGaps gs hit.place) (sym cut) (in_gaps_before (take i gaps) (gap ∷ []) hit.place hit.inside) }
-          | inr new ↦ record { place = new.place; low = new.low; high = new.high; inside = subst (λ gs. IsInGaps gs new.place) (sym cut) (in_gaps_last (take i gaps) gap new.place new.inside) }
+              record { place = hit.place; low = hit.low; high = hit.high; inside = rw cut (in_gaps_before (take i gaps) (gap ∷ []) hit.place hit.inside) }
+          | inr new ↦ record { place = new.place; low = new.low; high = new.high; inside = rw cut (in_gaps_last (take i gaps) gap new.place new.inside) }
         ],
-        λ hit. (marks n inside).1 (elim (in_gaps_push (take i gaps) gap hit.place (subst (λ gs. IsInGaps gs hit.place) cut hit.inside)) [
+        λ hit. (marks n inside).1 (elim (in_gaps_push (take i gaps) gap hit.place (rw cut at hit.inside)) [
           | inl old ↦ inl ((m.marked n within).1 (record { place = hit.place; low = hit.low; high = hit.high; inside = old }))
           | inr new ↦ inr (record { place = hit.place; low = hit.low; high = hit.high; inside = new })
         ]),
@@ -149,11 +149,11 @@ lost_marked map gap i size count before after all from to small m same marks blo
       let end : n * size + size ≤ 2 ^ 63 = omega (arith, mul-le-mul_left size last, small) in (
         λ marked. elim ((marks n inside).0 marked) [
           | inl old ↦ let hit = (m.marked n within).0 old in
-              record { place = hit.place; low = hit.low; high = hit.high; lost = (keeps hit.place).0 (inl (subst (λ gs. IsInGaps gs hit.place) whole hit.inside)) }
+              record { place = hit.place; low = hit.low; high = hit.high; lost = (keeps hit.place).0 (inl (rw whole at hit.inside)) }
           | inr new ↦ record { place = new.place; low = new.low; high = new.high; lost = (keeps new.place).0 (inr (omega (arith, new.inside.low, from))) }
         ],
         λ lost. (marks n inside).1 (elim ((keeps lost.place).1 lost.lost) [
-          | inl gone ↦ inl ((m.marked n within).1 (record { place = lost.place; low = lost.low; high = lost.high; inside = subst (λ gs. IsInGaps gs lost.place) (sym whole) gone }))
+          | inl gone ↦ inl ((m.marked n within).1 (record { place = lost.place; low = lost.low; high = lost.high; inside = rw whole gone }))
           | inr behind ↦ inr (record { place = lost.place; low = lost.low; high = lost.high; inside = record { low = omega (arith, behind, from); high = omega (arith, lost.high, end, to) } })
         ]),
       );
@@ -165,7 +165,7 @@ pub gaps_more_in : {Z : Type 0} (v : Vec Bool Z) (gaps : List Gap) (i size sized
 gaps_more_in v gaps i size sized count gap now new below item se e same m marks =
     let whole : (with_items v new).items ≡ new = with_items_is v new (same ∙ ap length e ∙ sym v.ok.0) in
     subst (MarksGaps (take (i + 1) gaps) size count) (sym whole)
-    (gaps_more gaps i size count gap now new below item (subst (MarksGaps (take i gaps) size count) (sym e) m) same (subst (λ s. MarksGap gap s now new) se marks))
+    (gaps_more gaps i size count gap now new below item (subst (MarksGaps (take i gaps) size count) (sym e) m) same (rw se at marks))
 
 pub lost_marked_in : {Z : Type 0} (v : Vec Bool Z) (map : RescueMap) (gaps : List Gap) (gap : Gap) (i size sized count : ℕ) (now new : List Bool) → gaps ≡ map.gaps.items → length gaps ≤ i → gap.from ≡ map.end → gap.to ≡ 2 ^ 64 - 1 → sized ≡ size → size * count ≤ 2 ^ 63 →
     now ≡ v.items → length new ≡ length now → MarksGaps (take i gaps) size count v.items → MarksGap gap sized now new →
@@ -174,4 +174,4 @@ lost_marked_in v map gaps gap i size sized count now new g all from to se small 
     let whole : (with_items v new).items ≡ new = with_items_is v new (same ∙ ap length e ∙ sym v.ok.0) in
     subst (AreLostBlocks blocks size count) (sym whole)
     (lost_marked map gap i size count now new (omega (arith, all, ap length g)) from to small
-    (subst (λ gs. MarksGaps (take i gs) size count now) g (subst (MarksGaps (take i gaps) size count) (sym e) m)) same (subst (λ s. MarksGap gap s now new) se marks) blocks keeps)
+    (rw (← g) (subst (MarksGaps (take i gaps) size count) (sym e) m)) same (rw se at marks) blocks keeps)

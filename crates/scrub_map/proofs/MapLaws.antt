@@ -36,7 +36,7 @@ front_said (state ∷ said) more (inr is) =
 begins_front : (lines more : List (List ℕ)) → BeginsMap (lines ++ more) → BeginsMap lines
 begins_front lines more begins =
     front_said (statements lines) (statements more)
-    (subst (λ (s : List (List (List ℕ))). (s ≡ []) ⊎ ((blocks : List MapBlock) × IsMapOf s blocks)) (statements-append lines more) begins)
+    (rw (statements-append lines more) at begins)
 
 -- if all lines begin a map, none breaks a rule
 none_breaks : (lines : List (List ℕ)) (k : ℕ) → BeginsMap lines → ¬ BreaksAt lines k
@@ -46,7 +46,7 @@ none_breaks lines k begins at =
 
 pub no_bad_line : (text : List ℕ) (blocks : List MapBlock) (k : ℕ) → IsMap text blocks → ¬ IsFirstBadLine text k
 no_bad_line text blocks k is (inl at) = none_breaks (map_lines text) k (inr (blocks, is)) at
-no_bad_line text blocks k is (inr none) = subst (λ (s : List (List (List ℕ))). IsMapOf s blocks) none.0 is
+no_bad_line text blocks k is (inr none) = rw none.0 at is
 
 -- of two fronts of a list, the shorter one begins the longer one
 longer_front : (a : List (List ℕ)) (x : List ℕ) (behind b bs : List (List ℕ)) → a ++ (x ∷ behind) ≡ b ++ bs → length a < length b → (m : List (List ℕ)) × (b ≡ (a ++ x ∷ []) ++ m)

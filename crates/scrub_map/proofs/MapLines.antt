@@ -69,7 +69,7 @@ same_blocks from (fields ∷ said) [] b first second = absurd first
 same_blocks from (fields ∷ said) (x ∷ a) [] first second = absurd second
 same_blocks from (fields ∷ said) (x ∷ a) (y ∷ b) first second =
     let same : x ≡ y = same_block fields x y first.0 second.0 in
-    let rest : AreBlocksFrom (x.position + x.size) said b = subst (λ z. AreBlocksFrom (z.position + z.size) said b) (sym same) second.2 in
+    let rest : AreBlocksFrom (x.position + x.size) said b = rw same second.2 in
     ap (λ z. z ∷ a) same ∙ ap (λ c. y ∷ c) (same_blocks (x.position + x.size) said a b first.2 rest)
 
 -- one more block
@@ -114,13 +114,13 @@ map_breaks [] blocks fields next is e none all whole = absurd is
 map_breaks (state ∷ said) blocks fields next is e none all whole =
     let cut : Splits 0 said fields = blocks_split 0 said fields all whole.1 in
     let same : cut.blocks ≡ blocks = same_blocks 0 said cut.blocks blocks cut.are is.1 in
-    none cut.block cut.is (subst (λ n. n ≤ cut.block.position) (ap (end_from 0) same ∙ sym e) cut.behind)
+    none cut.block cut.is (rw (ap (end_from 0) same ∙ sym e) at cut.behind)
 
 -- one more line, which says nothing
 pub read_silent : (lines : List (List ℕ)) (line : List ℕ) (fields : List (List ℕ)) (r : Reading) → line_fields line ≡ fields → says_nothing fields ≡ true → HasReadLines lines r → HasReadLines (lines ++ line ∷ []) r
 read_silent lines line fields r e nothing read = record {
   blocks = read.blocks;
-  said = subst (λ s. AreSaid r.has_state s read.blocks) (sym (silent_more lines line fields e nothing)) read.said;
+  said = rw (silent_more lines line fields e nothing) read.said;
   keeps = read.keeps;
   end = read.end;
 }
@@ -141,7 +141,7 @@ read_state lines line fields old new e some first state after read =
     let said : statements (lines ++ line ∷ []) ≡ fields ∷ [] = said_more lines line fields e some ∙ ap (λ s. s ++ fields ∷ []) none.0 in
     subst (HasReadLines (lines ++ line ∷ [])) (sym after) (record {
       blocks = read.blocks;
-      said = subst (λ s. IsMapOf s read.blocks) (sym said) (state, subst (AreBlocksFrom 0 []) (sym none.1) tt);
+      said = rw said (state, subst (AreBlocksFrom 0 []) (sym none.1) tt);
       keeps = read.keeps;
       end = read.end;
     })
@@ -153,7 +153,7 @@ no_state lines line fields old e some first none read begins =
     let said : statements (lines ++ line ∷ []) ≡ fields ∷ [] = said_more lines line fields e some ∙ ap (λ s. s ++ fields ∷ []) empty.0 in
     elim begins [
       | inl nothing ↦ cons_not_nil fields (sym said ∙ nothing)
-      | inr is ↦ let whole : IsMapOf (fields ∷ []) is.0 = subst (λ s. IsMapOf s is.0) said is.1 in none whole.0
+      | inr is ↦ let whole : IsMapOf (fields ∷ []) is.0 = rw said at is.1 in none whole.0
     ]
   where
     cons_not_nil : (x : List (List ℕ)) → x ∷ [] ≡ [] → ⊥
@@ -166,11 +166,11 @@ pub read_block : (lines : List (List ℕ)) (line : List ℕ) (fields : List (Lis
 read_block lines line fields block old new e some has is behind still next keeps read =
     let before : IsMapOf (statements lines) read.blocks = map_said old.has_state (statements lines) read.blocks has read.said in
     let after : IsMapOf (statements (lines ++ line ∷ [])) (read.blocks ++ block ∷ []) =
-    subst (λ s. IsMapOf s (read.blocks ++ block ∷ [])) (sym (said_more lines line fields e some))
+    rw (said_more lines line fields e some)
     (map_push (statements lines) read.blocks fields block before is (omega (arith, read.end, behind))) in
     record {
       blocks = read.blocks ++ block ∷ [];
-      said = subst (λ b. AreSaid b (statements (lines ++ line ∷ [])) (read.blocks ++ block ∷ [])) (sym still) after;
+      said = rw still after;
       keeps = keeps read.blocks read.keeps;
       end = next ∙ sym (end_from-push 0 read.blocks block);
     }
@@ -182,7 +182,7 @@ no_block lines line fields old e some has none read begins =
     let said = said_more lines line fields e some in
     elim begins [
       | inl nothing ↦ push_not_nil (statements lines) fields (sym said ∙ nothing)
-      | inr is ↦ map_breaks (statements lines) read.blocks fields old.next before read.end none is.0 (subst (λ s. IsMapOf s is.0) said is.1)
+      | inr is ↦ map_breaks (statements lines) read.blocks fields old.next before read.end none is.0 (rw said at is.1)
     ]
   where
     push_not_nil : (xs : List (List (List ℕ))) (x : List (List ℕ)) → xs ++ x ∷ [] ≡ [] → ⊥
@@ -228,8 +228,8 @@ pub read_whole_map : (text rest : List ℕ) (number : ℕ) (r : Reading) (map : 
     (blocks : List MapBlock) × IsMap text blocks × KeepsBlocks map blocks
 read_whole_map text rest number r map e up has same = (
   up.read.blocks,
-  subst (λ lines. IsMapOf (statements lines) up.read.blocks) (sym (all_parts text rest up.lines e up.parts)) (map_said r.has_state (statements up.lines) up.read.blocks has up.read.said),
-  subst (λ m. KeepsBlocks m up.read.blocks) (sym same) up.read.keeps,
+  rw (all_parts text rest up.lines e up.parts) (map_said r.has_state (statements up.lines) up.read.blocks has up.read.said),
+  rw same up.read.keeps,
 )
 
 pub lacks_state : (text rest : List ℕ) (number : ℕ) (r : Reading) → length rest ≡ 0 → HasReadUpTo text rest number r → r.has_state ≡ false → IsFirstBadLine text number
