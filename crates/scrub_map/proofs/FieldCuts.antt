@@ -12,30 +12,41 @@ use Rattle.scrub_map.specs.Fields.{fields_of, is_field_blank}
 -- a blank in front changes no field
 fields_behind_blank : (b : ℕ) (text : List ℕ) → is_field_blank b ≡ true → fields_of (b ∷ text) ≡ fields_of text
 unfolding fields_of
-fields_behind_blank b text blank = ap (filter (λ part. nat_lt 0 (length part))) (slice_split-cons_yes is_field_blank b text blank)
+fields_behind_blank b text blank =
+    ap (filter (λ part. nat_lt 0 (length part))) (slice_split-cons_yes is_field_blank b text blank)
 
 -- what is left after the blanks in front: the same fields, and no blank in front
 pub record IsBehindBlanks (text rest : List ℕ) : Type 0 where
   pub fields : fields_of rest ≡ fields_of text
   pub first : 0 < length rest → is_field_blank (get_or rest 0 0) ≡ false
 
-behind_more : (b : ℕ) (text : List ℕ) (blank : Bool) → is_field_blank b ≡ blank → IsBehindBlanks text (drop (prefix_len is_field_blank text) text) →
+behind_more : (b : ℕ) (text : List ℕ) (blank : Bool) → is_field_blank b ≡ blank →
+    IsBehindBlanks text (drop (prefix_len is_field_blank text) text) →
     IsBehindBlanks (b ∷ text) (drop (cond (is_field_blank b) (1 + prefix_len is_field_blank text) 0) (b ∷ text))
 behind_more b text true e more =
     let step : 1 + prefix_len is_field_blank text ≡ suc (prefix_len is_field_blank text) = omega arith in
     let cut : drop (cond (is_field_blank b) (1 + prefix_len is_field_blank text) 0) (b ∷ text) ≡ drop (prefix_len is_field_blank text) text =
     ap (λ c. drop (cond c (1 + prefix_len is_field_blank text) 0) (b ∷ text)) e ∙ ap (λ n. drop n (b ∷ text)) step in
-    subst (IsBehindBlanks (b ∷ text)) (sym cut) (record { fields = more.fields ∙ sym (fields_behind_blank b text e); first = more.first })
+    subst (IsBehindBlanks (b ∷ text)) (sym cut) (record {
+      fields = more.fields ∙ sym (fields_behind_blank b text e);
+      first = more.first;
+    })
 behind_more b text false e more =
-    subst (IsBehindBlanks (b ∷ text)) (sym (ap (λ c. drop (cond c (1 + prefix_len is_field_blank text) 0) (b ∷ text)) e)) (record { fields = refl; first = λ _. e })
+    subst (IsBehindBlanks (b ∷ text)) (sym (ap (λ c. drop (cond c (1 + prefix_len is_field_blank text) 0) (b ∷ text)) e)) (record {
+      fields = refl;
+      first = λ _. e;
+    })
 
 pub behind_blanks : (text : List ℕ) → IsBehindBlanks text (drop (prefix_len is_field_blank text) text)
 behind_blanks [] = record { fields = refl; first = λ h. absurd (omega (arith, h)) }
 behind_blanks (b ∷ text) = behind_more b text (is_field_blank b) refl (behind_blanks text)
 
 -- a part that isn't empty is a field
-field_kept : (part : List ℕ) (parts : List (List ℕ)) → 0 < length part → filter (λ p. nat_lt 0 (length p)) (part ∷ parts) ≡ part ∷ filter (λ p. nat_lt 0 (length p)) parts
-field_kept part parts some = ap (λ b. cond b (part ∷ filter (λ p. nat_lt 0 (length p)) parts) (filter (λ p. nat_lt 0 (length p)) parts)) (lt-ltb 0 (length part) some)
+field_kept : (part : List ℕ) (parts : List (List ℕ)) → 0 < length part →
+    filter (λ p. nat_lt 0 (length p)) (part ∷ parts) ≡ part ∷ filter (λ p. nat_lt 0 (length p)) parts
+field_kept part parts some =
+    ap (λ b. cond b (part ∷ filter (λ p. nat_lt 0 (length p)) parts) (filter (λ p. nat_lt 0 (length p)) parts))
+    (lt-ltb 0 (length part) some)
 
 -- no text, no field
 pub no_fields : (text : List ℕ) → length text ≡ 0 → fields_of text ≡ []
@@ -53,7 +64,8 @@ last_field text whole some =
     ∙ field_kept text [] some
 
 -- and if one follows
-inner_field : (text : List ℕ) → position_or_len is_field_blank text < length text → 0 < position_or_len is_field_blank text →
+inner_field : (text : List ℕ) → position_or_len is_field_blank text < length text →
+    0 < position_or_len is_field_blank text →
     fields_of text ≡ take (position_or_len is_field_blank text) text ∷ fields_of (drop (position_or_len is_field_blank text + 1) text)
 unfolding fields_of
 inner_field text below some =
@@ -62,11 +74,13 @@ inner_field text below some =
     (omega (arith, length-take-le (position_or_len is_field_blank text) text (omega (arith, below)), some))
 
 -- a text that doesn't begin with a blank begins with a field
-starts_inside : (text : List ℕ) → 0 < length text → is_field_blank (get_or text 0 0) ≡ false → 0 < position_or_len is_field_blank text
+starts_inside : (text : List ℕ) → 0 < length text → is_field_blank (get_or text 0 0) ≡ false →
+    0 < position_or_len is_field_blank text
 starts_inside [] some first = absurd (omega (arith, some))
 starts_inside (b ∷ text) some first = rw first (omega arith)
 
-pub first_field : (text : List ℕ) (k : ℕ) → k ≡ position_or_len is_field_blank text → 0 < length text → is_field_blank (get_or text 0 0) ≡ false →
+pub first_field : (text : List ℕ) (k : ℕ) → k ≡ position_or_len is_field_blank text → 0 < length text →
+    is_field_blank (get_or text 0 0) ≡ false →
     fields_of text ≡ take k text ∷ fields_of (drop k text)
 first_field text k e some first =
     rw e (elim (cases_lt (position_or_len is_field_blank text) (length text)) [
@@ -80,7 +94,8 @@ first_field text k e some first =
           let none : drop (position_or_len is_field_blank text) text ≡ [] = drop_all _ text whole in
           last_field text whole some
           ∙ ap (λ part. part ∷ []) (sym (take_all (position_or_len is_field_blank text) text whole))
-          ∙ ap (λ more. take (position_or_len is_field_blank text) text ∷ more) (sym (ap fields_of none ∙ no_fields [] refl))
+          ∙ ap (λ more. take (position_or_len is_field_blank text) text ∷ more)
+          (sym (ap fields_of none ∙ no_fields [] refl))
     ])
 
 -- what an empty list is
@@ -91,16 +106,20 @@ pub filled_is : (xs : List ℕ) (b : Bool) → b ≡ eqb (length xs) 0 → b ≡
 filled_is xs b e t = let ne : length xs ≡ 0 → ⊥ = eqb-false (length xs) 0 (sym e ∙ t) in omega (arith, ne)
 
 -- the first field of a text after the blanks in front, and the bytes after it
-pub field_behind : (text rest : List ℕ) (n k : ℕ) → n ≡ prefix_len is_field_blank text → rest ≡ take (length text - n) (drop n text) → 0 < length rest →
+pub field_behind : (text rest : List ℕ) (n k : ℕ) → n ≡ prefix_len is_field_blank text →
+    rest ≡ take (length text - n) (drop n text) → 0 < length rest →
     k ≡ position_or_len is_field_blank rest → fields_of text ≡ take k rest ∷ fields_of (drop k rest)
 field_behind text rest n k e cut some place =
-    let same : drop (prefix_len is_field_blank text) text ≡ rest = ap (λ m. drop m text) (sym e) ∙ sym (take_rest text n) ∙ sym cut in
+    let same : drop (prefix_len is_field_blank text) text ≡ rest =
+    ap (λ m. drop m text) (sym e) ∙ sym (take_rest text n) ∙ sym cut in
     let behind : IsBehindBlanks text rest = subst (IsBehindBlanks text) same (behind_blanks text) in
     sym behind.fields ∙ first_field rest k place some (behind.first some)
 
 -- if nothing follows the blanks, there is no field
-pub nothing_behind : (text rest : List ℕ) (n : ℕ) → n ≡ prefix_len is_field_blank text → rest ≡ take (length text - n) (drop n text) → length rest ≡ 0 → fields_of text ≡ []
+pub nothing_behind : (text rest : List ℕ) (n : ℕ) → n ≡ prefix_len is_field_blank text →
+    rest ≡ take (length text - n) (drop n text) → length rest ≡ 0 → fields_of text ≡ []
 nothing_behind text rest n e cut none =
-    let same : drop (prefix_len is_field_blank text) text ≡ rest = ap (λ m. drop m text) (sym e) ∙ sym (take_rest text n) ∙ sym cut in
+    let same : drop (prefix_len is_field_blank text) text ≡ rest =
+    ap (λ m. drop m text) (sym e) ∙ sym (take_rest text n) ∙ sym cut in
     let behind : IsBehindBlanks text rest = subst (IsBehindBlanks text) same (behind_blanks text) in
     sym behind.fields ∙ no_fields rest none

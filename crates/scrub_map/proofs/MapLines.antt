@@ -26,19 +26,24 @@ statements-append lines more =
     ∙ filter-append (λ fields. not (says_nothing fields)) (map line_fields lines) (map line_fields more)
 
 -- a line that says nothing, and one that says something
-one_silent : (line : List ℕ) (fields : List (List ℕ)) → line_fields line ≡ fields → says_nothing fields ≡ true → statements (line ∷ []) ≡ []
+one_silent : (line : List ℕ) (fields : List (List ℕ)) → line_fields line ≡ fields → says_nothing fields ≡ true →
+    statements (line ∷ []) ≡ []
 unfolding statements
 one_silent line fields e nothing = rw (e, nothing) refl
 
-one_said : (line : List ℕ) (fields : List (List ℕ)) → line_fields line ≡ fields → says_nothing fields ≡ false → statements (line ∷ []) ≡ fields ∷ []
+one_said : (line : List ℕ) (fields : List (List ℕ)) → line_fields line ≡ fields → says_nothing fields ≡ false →
+    statements (line ∷ []) ≡ fields ∷ []
 unfolding statements
 one_said line fields e some = rw (e, some) refl
 
-pub silent_more : (lines : List (List ℕ)) (line : List ℕ) (fields : List (List ℕ)) → line_fields line ≡ fields → says_nothing fields ≡ true → statements (lines ++ line ∷ []) ≡ statements lines
+pub silent_more : (lines : List (List ℕ)) (line : List ℕ) (fields : List (List ℕ)) → line_fields line ≡ fields →
+    says_nothing fields ≡ true → statements (lines ++ line ∷ []) ≡ statements lines
 silent_more lines line fields e nothing =
-    statements-append lines (line ∷ []) ∙ ap (λ s. statements lines ++ s) (one_silent line fields e nothing) ∙ append-nil (statements lines)
+    statements-append lines (line ∷ []) ∙ ap (λ s. statements lines ++ s) (one_silent line fields e nothing)
+    ∙ append-nil (statements lines)
 
-pub said_more : (lines : List (List ℕ)) (line : List ℕ) (fields : List (List ℕ)) → line_fields line ≡ fields → says_nothing fields ≡ false → statements (lines ++ line ∷ []) ≡ statements lines ++ fields ∷ []
+pub said_more : (lines : List (List ℕ)) (line : List ℕ) (fields : List (List ℕ)) → line_fields line ≡ fields →
+    says_nothing fields ≡ false → statements (lines ++ line ∷ []) ≡ statements lines ++ fields ∷ []
 said_more lines line fields e some =
     statements-append lines (line ∷ []) ∙ ap (λ s. statements lines ++ s) (one_said line fields e some)
 
@@ -61,7 +66,8 @@ same_block (x ∷ y ∷ z ∷ []) a b first second =
 same_block (x ∷ y ∷ z ∷ w ∷ more) a b first second = absurd first
 
 -- statements are one list of blocks at most
-pub same_blocks : (from : ℕ) (said : List (List (List ℕ))) (a b : List MapBlock) → AreBlocksFrom from said a → AreBlocksFrom from said b → a ≡ b
+pub same_blocks : (from : ℕ) (said : List (List (List ℕ))) (a b : List MapBlock) → AreBlocksFrom from said a →
+    AreBlocksFrom from said b → a ≡ b
 same_blocks from [] [] [] first second = refl
 same_blocks from [] [] (y ∷ b) first second = absurd second
 same_blocks from [] (x ∷ a) b first second = absurd first
@@ -74,11 +80,13 @@ same_blocks from (fields ∷ said) (x ∷ a) (y ∷ b) first second =
 
 -- one more block
 blocks_push : (from : ℕ) (said : List (List (List ℕ))) (blocks : List MapBlock) (fields : List (List ℕ)) (block : MapBlock) →
-    AreBlocksFrom from said blocks → IsBlock fields block → end_from from blocks ≤ block.position → AreBlocksFrom from (said ++ fields ∷ []) (blocks ++ block ∷ [])
+    AreBlocksFrom from said blocks → IsBlock fields block → end_from from blocks ≤ block.position →
+    AreBlocksFrom from (said ++ fields ∷ []) (blocks ++ block ∷ [])
 blocks_push from [] [] fields block are is behind = (is, behind, tt)
 blocks_push from [] (x ∷ blocks) fields block are is behind = absurd are
 blocks_push from (s ∷ said) [] fields block are is behind = absurd are
-blocks_push from (s ∷ said) (x ∷ blocks) fields block are is behind = (are.0, are.1, blocks_push (x.position + x.size) said blocks fields block are.2 is behind)
+blocks_push from (s ∷ said) (x ∷ blocks) fields block are is behind =
+    (are.0, are.1, blocks_push (x.position + x.size) said blocks fields block are.2 is behind)
 
 -- and the blocks before it
 record Splits (from : ℕ) (said : List (List (List ℕ))) (fields : List (List ℕ)) : Type 0 where
@@ -88,7 +96,8 @@ record Splits (from : ℕ) (said : List (List (List ℕ))) (fields : List (List 
   is : IsBlock fields block
   behind : end_from from blocks ≤ block.position
 
-blocks_split : (from : ℕ) (said : List (List (List ℕ))) (fields : List (List ℕ)) (all : List MapBlock) → AreBlocksFrom from (said ++ fields ∷ []) all → Splits from said fields
+blocks_split : (from : ℕ) (said : List (List (List ℕ))) (fields : List (List ℕ)) (all : List MapBlock) →
+    AreBlocksFrom from (said ++ fields ∷ []) all → Splits from said fields
 blocks_split from [] fields [] are = absurd are
 blocks_split from [] fields (x ∷ []) are = record { blocks = []; block = x; are = tt; is = are.0; behind = are.1 }
 blocks_split from [] fields (x ∷ y ∷ more) are = absurd are.2
@@ -97,19 +106,24 @@ blocks_split from (s ∷ said) fields (x ∷ more) are =
     let rest : Splits (x.position + x.size) said fields = blocks_split (x.position + x.size) said fields more are.2 in
     record { blocks = x ∷ rest.blocks; block = rest.block; are = (are.0, are.1, rest.are); is = rest.is; behind = rest.behind }
 
-pub end_from-push : (from : ℕ) (blocks : List MapBlock) (block : MapBlock) → end_from from (blocks ++ block ∷ []) ≡ block.position + block.size
+pub end_from-push : (from : ℕ) (blocks : List MapBlock) (block : MapBlock) →
+    end_from from (blocks ++ block ∷ []) ≡ block.position + block.size
 end_from-push from [] block = refl
 end_from-push from (x ∷ blocks) block = end_from-push (x.position + x.size) blocks block
 
 -- a map with one more block
 pub map_push : (said : List (List (List ℕ))) (blocks : List MapBlock) (fields : List (List ℕ)) (block : MapBlock) →
-    IsMapOf said blocks → IsBlock fields block → end_from 0 blocks ≤ block.position → IsMapOf (said ++ fields ∷ []) (blocks ++ block ∷ [])
+    IsMapOf said blocks → IsBlock fields block → end_from 0 blocks ≤ block.position →
+    IsMapOf (said ++ fields ∷ []) (blocks ++ block ∷ [])
 map_push [] blocks fields block is one behind = absurd is
-map_push (state ∷ said) blocks fields block is one behind = (is.0, blocks_push 0 said blocks fields block is.1 one behind)
+map_push (state ∷ said) blocks fields block is one behind =
+    (is.0, blocks_push 0 said blocks fields block is.1 one behind)
 
 -- after a map whose last block ends at `next`, either a block from there on follows, or a rule is broken
-pub map_breaks : (said : List (List (List ℕ))) (blocks : List MapBlock) (fields : List (List ℕ)) (next : ℕ) → IsMapOf said blocks → next ≡ end_from 0 blocks →
-    ((block : MapBlock) → IsBlock fields block → next ≤ block.position → ⊥) → (all : List MapBlock) → ¬ IsMapOf (said ++ fields ∷ []) all
+pub map_breaks : (said : List (List (List ℕ))) (blocks : List MapBlock) (fields : List (List ℕ)) (next : ℕ) →
+    IsMapOf said blocks → next ≡ end_from 0 blocks →
+    ((block : MapBlock) → IsBlock fields block → next ≤ block.position → ⊥) → (all : List MapBlock) →
+    ¬ IsMapOf (said ++ fields ∷ []) all
 map_breaks [] blocks fields next is e none all whole = absurd is
 map_breaks (state ∷ said) blocks fields next is e none all whole =
     let cut : Splits 0 said fields = blocks_split 0 said fields all whole.1 in
@@ -117,7 +131,8 @@ map_breaks (state ∷ said) blocks fields next is e none all whole =
     none cut.block cut.is (rw (ap (end_from 0) same ∙ sym e) at cut.behind)
 
 -- one more line, which says nothing
-pub read_silent : (lines : List (List ℕ)) (line : List ℕ) (fields : List (List ℕ)) (r : Reading) → line_fields line ≡ fields → says_nothing fields ≡ true → HasReadLines lines r → HasReadLines (lines ++ line ∷ []) r
+pub read_silent : (lines : List (List ℕ)) (line : List ℕ) (fields : List (List ℕ)) (r : Reading) →
+    line_fields line ≡ fields → says_nothing fields ≡ true → HasReadLines lines r → HasReadLines (lines ++ line ∷ []) r
 read_silent lines line fields r e nothing read = record {
   blocks = read.blocks;
   said = rw (silent_more lines line fields e nothing) read.said;
@@ -126,19 +141,23 @@ read_silent lines line fields r e nothing read = record {
 }
 
 -- the state
-first_said : (has : Bool) (said : List (List (List ℕ))) (blocks : List MapBlock) → has ≡ false → AreSaid has said blocks → (said ≡ []) × (blocks ≡ [])
+first_said : (has : Bool) (said : List (List (List ℕ))) (blocks : List MapBlock) → has ≡ false →
+    AreSaid has said blocks → (said ≡ []) × (blocks ≡ [])
 first_said true said blocks e are = absurd (false≢true (sym e))
 first_said false said blocks e are = are
 
-map_said : (has : Bool) (said : List (List (List ℕ))) (blocks : List MapBlock) → has ≡ true → AreSaid has said blocks → IsMapOf said blocks
+map_said : (has : Bool) (said : List (List (List ℕ))) (blocks : List MapBlock) → has ≡ true → AreSaid has said blocks →
+    IsMapOf said blocks
 map_said true said blocks e are = are
 map_said false said blocks e are = absurd (false≢true e)
 
-pub read_state : (lines : List (List ℕ)) (line : List ℕ) (fields : List (List ℕ)) (old new : Reading) → line_fields line ≡ fields → says_nothing fields ≡ false → old.has_state ≡ false → IsState fields →
+pub read_state : (lines : List (List ℕ)) (line : List ℕ) (fields : List (List ℕ)) (old new : Reading) →
+    line_fields line ≡ fields → says_nothing fields ≡ false → old.has_state ≡ false → IsState fields →
     new ≡ record old { has_state = true } → HasReadLines lines old → HasReadLines (lines ++ line ∷ []) new
 read_state lines line fields old new e some first state after read =
     let none = first_said old.has_state (statements lines) read.blocks first read.said in
-    let said : statements (lines ++ line ∷ []) ≡ fields ∷ [] = said_more lines line fields e some ∙ ap (λ s. s ++ fields ∷ []) none.0 in
+    let said : statements (lines ++ line ∷ []) ≡ fields ∷ [] =
+    said_more lines line fields e some ∙ ap (λ s. s ++ fields ∷ []) none.0 in
     subst (HasReadLines (lines ++ line ∷ [])) (sym after) (record {
       blocks = read.blocks;
       said = rw said (state, subst (AreBlocksFrom 0 []) (sym none.1) tt);
@@ -146,11 +165,13 @@ read_state lines line fields old new e some first state after read =
       end = read.end;
     })
 
-pub no_state : (lines : List (List ℕ)) (line : List ℕ) (fields : List (List ℕ)) (old : Reading) → line_fields line ≡ fields → says_nothing fields ≡ false → old.has_state ≡ false → (¬ IsState fields) →
+pub no_state : (lines : List (List ℕ)) (line : List ℕ) (fields : List (List ℕ)) (old : Reading) →
+    line_fields line ≡ fields → says_nothing fields ≡ false → old.has_state ≡ false → (¬ IsState fields) →
     HasReadLines lines old → ¬ BeginsMap (lines ++ line ∷ [])
 no_state lines line fields old e some first none read begins =
     let empty = first_said old.has_state (statements lines) read.blocks first read.said in
-    let said : statements (lines ++ line ∷ []) ≡ fields ∷ [] = said_more lines line fields e some ∙ ap (λ s. s ++ fields ∷ []) empty.0 in
+    let said : statements (lines ++ line ∷ []) ≡ fields ∷ [] =
+    said_more lines line fields e some ∙ ap (λ s. s ++ fields ∷ []) empty.0 in
     elim begins [
       | inl nothing ↦ cons_not_nil fields (sym said ∙ nothing)
       | inr is ↦ let whole : IsMapOf (fields ∷ []) is.0 = rw said at is.1 in none whole.0
@@ -160,11 +181,14 @@ no_state lines line fields old e some first none read begins =
     cons_not_nil x same = cc
 
 -- a block
-pub read_block : (lines : List (List ℕ)) (line : List ℕ) (fields : List (List ℕ)) (block : MapBlock) (old new : Reading) → line_fields line ≡ fields → says_nothing fields ≡ false → old.has_state ≡ true →
+pub read_block : (lines : List (List ℕ)) (line : List ℕ) (fields : List (List ℕ)) (block : MapBlock) (old new : Reading) →
+    line_fields line ≡ fields → says_nothing fields ≡ false → old.has_state ≡ true →
     IsBlock fields block → old.next ≤ block.position → new.has_state ≡ true → new.next ≡ block.position + block.size →
-    ((blocks : List MapBlock) → KeepsBlocks old.map blocks → KeepsBlocks new.map (blocks ++ block ∷ [])) → HasReadLines lines old → HasReadLines (lines ++ line ∷ []) new
+    ((blocks : List MapBlock) → KeepsBlocks old.map blocks → KeepsBlocks new.map (blocks ++ block ∷ [])) →
+    HasReadLines lines old → HasReadLines (lines ++ line ∷ []) new
 read_block lines line fields block old new e some has is behind still next keeps read =
-    let before : IsMapOf (statements lines) read.blocks = map_said old.has_state (statements lines) read.blocks has read.said in
+    let before : IsMapOf (statements lines) read.blocks =
+    map_said old.has_state (statements lines) read.blocks has read.said in
     let after : IsMapOf (statements (lines ++ line ∷ [])) (read.blocks ++ block ∷ []) =
     rw (said_more lines line fields e some)
     (map_push (statements lines) read.blocks fields block before is (omega (arith, read.end, behind))) in
@@ -175,10 +199,13 @@ read_block lines line fields block old new e some has is behind still next keeps
       end = next ∙ sym (end_from-push 0 read.blocks block);
     }
 
-pub no_block : (lines : List (List ℕ)) (line : List ℕ) (fields : List (List ℕ)) (old : Reading) → line_fields line ≡ fields → says_nothing fields ≡ false → old.has_state ≡ true →
-    ((block : MapBlock) → IsBlock fields block → old.next ≤ block.position → ⊥) → HasReadLines lines old → ¬ BeginsMap (lines ++ line ∷ [])
+pub no_block : (lines : List (List ℕ)) (line : List ℕ) (fields : List (List ℕ)) (old : Reading) →
+    line_fields line ≡ fields → says_nothing fields ≡ false → old.has_state ≡ true →
+    ((block : MapBlock) → IsBlock fields block → old.next ≤ block.position → ⊥) → HasReadLines lines old →
+    ¬ BeginsMap (lines ++ line ∷ [])
 no_block lines line fields old e some has none read begins =
-    let before : IsMapOf (statements lines) read.blocks = map_said old.has_state (statements lines) read.blocks has read.said in
+    let before : IsMapOf (statements lines) read.blocks =
+    map_said old.has_state (statements lines) read.blocks has read.said in
     let said = said_more lines line fields e some in
     elim begins [
       | inl nothing ↦ push_not_nil (statements lines) fields (sym said ∙ nothing)
@@ -190,13 +217,16 @@ no_block lines line fields old e some has none read begins =
     push_not_nil (y ∷ xs) x same = cc
 
 -- a line with a block that begins before `next` isn't a block from there on
-pub other_block : (fields : List (List ℕ)) (block : MapBlock) (next : ℕ) → IsBlock fields block → block.position < next → (other : MapBlock) → IsBlock fields other → next ≤ other.position → ⊥
+pub other_block : (fields : List (List ℕ)) (block : MapBlock) (next : ℕ) → IsBlock fields block →
+    block.position < next → (other : MapBlock) → IsBlock fields other → next ≤ other.position → ⊥
 other_block fields block next is before other same behind =
-    let position : block.position ≡ other.position = ap (λ (b : MapBlock). b.position) (same_block fields block other is same) in
+    let position : block.position ≡ other.position =
+    ap (λ (b : MapBlock). b.position) (same_block fields block other is same) in
     omega (arith, position, before, behind)
 
 -- before the first line
-pub read_none : (map : RescueMap) → KeepsBlocks map [] → HasReadLines [] (record { has_state = false; next = 0; map = map })
+pub read_none : (map : RescueMap) → KeepsBlocks map [] →
+    HasReadLines [] (record { has_state = false; next = 0; map = map })
 unfolding statements
 read_none map keeps = record { blocks = []; said = (refl, refl); keeps = keeps; end = refl }
 
@@ -208,44 +238,55 @@ pub record HasReadUpTo (text rest : List ℕ) (number : ℕ) (r : Reading) : Typ
   pub room : number + length rest ≤ length text + 1
   pub read : HasReadLines lines r
 
-pub up_to_more : (text rest line behind : List ℕ) (number : ℕ) (old new : Reading) → map_lines rest ≡ line ∷ map_lines behind → length behind < length rest →
+pub up_to_more : (text rest line behind : List ℕ) (number : ℕ) (old new : Reading) →
+    map_lines rest ≡ line ∷ map_lines behind → length behind < length rest →
     HasReadUpTo text rest number old → ReadsMore (line_fields line) old new → HasReadUpTo text behind (number + 1) new
 up_to_more text rest line behind number old new cut shorter before more = record {
   lines = before.lines ++ line ∷ [];
-  parts = before.parts ∙ ap (λ l. before.lines ++ l) cut ∙ sym (append_assoc before.lines (line ∷ []) (map_lines behind));
+  parts =
+      before.parts ∙ ap (λ l. before.lines ++ l) cut ∙ sym (append_assoc before.lines (line ∷ []) (map_lines behind));
   place = omega (arith, before.place, length-append before.lines (line ∷ []));
   room = omega (arith, before.room, shorter);
   read = more before.lines line refl before.read;
 }
 
 -- all lines were read
-all_parts : (text rest : List ℕ) (lines : List (List ℕ)) → length rest ≡ 0 → map_lines text ≡ lines ++ map_lines rest → map_lines text ≡ lines
+all_parts : (text rest : List ℕ) (lines : List (List ℕ)) → length rest ≡ 0 → map_lines text ≡ lines ++ map_lines rest →
+    map_lines text ≡ lines
 unfolding map_lines
 all_parts text [] lines e parts = parts ∙ append-nil lines
 all_parts text (b ∷ rest) lines e parts = absurd (omega (arith, e))
 
-pub read_whole_map : (text rest : List ℕ) (number : ℕ) (r : Reading) (map : RescueMap) → length rest ≡ 0 → HasReadUpTo text rest number r → r.has_state ≡ true → map ≡ r.map →
+pub read_whole_map : (text rest : List ℕ) (number : ℕ) (r : Reading) (map : RescueMap) → length rest ≡ 0 →
+    HasReadUpTo text rest number r → r.has_state ≡ true → map ≡ r.map →
     (blocks : List MapBlock) × IsMap text blocks × KeepsBlocks map blocks
 read_whole_map text rest number r map e up has same = (
   up.read.blocks,
-  rw (all_parts text rest up.lines e up.parts) (map_said r.has_state (statements up.lines) up.read.blocks has up.read.said),
+  rw (all_parts text rest up.lines e up.parts)
+  (map_said r.has_state (statements up.lines) up.read.blocks has up.read.said),
   rw same up.read.keeps,
 )
 
-pub lacks_state : (text rest : List ℕ) (number : ℕ) (r : Reading) → length rest ≡ 0 → HasReadUpTo text rest number r → r.has_state ≡ false → IsFirstBadLine text number
+pub lacks_state : (text rest : List ℕ) (number : ℕ) (r : Reading) → length rest ≡ 0 → HasReadUpTo text rest number r →
+    r.has_state ≡ false → IsFirstBadLine text number
 lacks_state text rest number r e up has =
     let all : map_lines text ≡ up.lines = all_parts text rest up.lines e up.parts in
     let none = first_said r.has_state (statements up.lines) up.read.blocks has up.read.said in
     inr (ap statements all ∙ none.0, up.place ∙ ap (λ l. length l + 1) (sym all))
 
 -- the same, from the outcome at the end of the lines
-pub whole_map : (text rest : List ℕ) (number : ℕ) (r : Reading) (result : Result RescueMap MapFault) → length rest ≡ 0 → HasReadUpTo text rest number r →
-    IfOk result (λ map. (r.has_state ≡ true) × (map ≡ r.map)) → IfOk result (λ map. (blocks : List MapBlock) × IsMap text blocks × KeepsBlocks map blocks)
+pub whole_map : (text rest : List ℕ) (number : ℕ) (r : Reading) (result : Result RescueMap MapFault) → length rest ≡ 0 →
+    HasReadUpTo text rest number r →
+    IfOk result (λ map. (r.has_state ≡ true) × (map ≡ r.map)) →
+    IfOk result (λ map. (blocks : List MapBlock) × IsMap text blocks × KeepsBlocks map blocks)
 whole_map text rest number r (Ok map) e up ok = read_whole_map text rest number r map e up ok.0 ok.1
 whole_map text rest number r (Err fault) e up ok = tt
 
-pub no_map : (text rest : List ℕ) (number : ℕ) (r : Reading) (result : Result RescueMap MapFault) → length rest ≡ 0 → HasReadUpTo text rest number r →
-    IfErr result (λ fault. IfBadLine fault (λ k. (k ≡ number) × (r.has_state ≡ false))) → IfErr result (λ fault. IfBadLine fault (IsFirstBadLine text))
+pub no_map : (text rest : List ℕ) (number : ℕ) (r : Reading) (result : Result RescueMap MapFault) → length rest ≡ 0 →
+    HasReadUpTo text rest number r →
+    IfErr result (λ fault. IfBadLine fault (λ k. (k ≡ number) × (r.has_state ≡ false))) →
+    IfErr result (λ fault. IfBadLine fault (IsFirstBadLine text))
 no_map text rest number r (Ok map) e up bad = tt
 no_map text rest number r (Err OutOfMemory) e up bad = tt
-no_map text rest number r (Err (Line k)) e up bad = subst (IsFirstBadLine text) (sym bad.0) (lacks_state text rest number r e up bad.1)
+no_map text rest number r (Err (Line k)) e up bad =
+    subst (IsFirstBadLine text) (sym bad.0) (lacks_state text rest number r e up bad.1)

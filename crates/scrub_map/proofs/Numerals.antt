@@ -16,18 +16,22 @@ pub writes_more : (radix : ℕ) (digits : List ℕ) (i value n : ℕ) → i < le
     AppendsDigit radix value (get_or digits i 0) n → WritesSoFar radix digits (i + 1) n
 writes_more radix digits i value n below before more = record {
   digits_are = digits_more radix digits i below before.digits_are more.is_digit;
-  value_is = digits_value_more radix digits i below ∙ ap (λ v. v * radix + digit_value (get_or digits i 0)) before.value_is ∙ more.sum;
+  value_is =
+      digits_value_more radix digits i below ∙ ap (λ v. v * radix + digit_value (get_or digits i 0)) before.value_is
+      ∙ more.sum;
   small = more.small;
 }
 
 -- each digit of a numeral is one of its radix
-digit_below : (radix : ℕ) (digits : List ℕ) (i : ℕ) → AllDigits radix digits → i < length digits → digit_value (get_or digits i 0) < radix
+digit_below : (radix : ℕ) (digits : List ℕ) (i : ℕ) → AllDigits radix digits → i < length digits →
+    digit_value (get_or digits i 0) < radix
 digit_below radix [] i all below = absurd (omega (arith, below))
 digit_below radix (c ∷ cs) zero all below = all.0
 digit_below radix (c ∷ cs) (suc i) all below = digit_below radix cs i all.1 (omega (arith, below))
 
 -- if a digit can't follow the first ones, the digits spell no number
-pub writes_nothing : (radix : ℕ) (digits : List ℕ) (i value : ℕ) → 1 ≤ radix → i < length digits → WritesSoFar radix digits i value →
+pub writes_nothing : (radix : ℕ) (digits : List ℕ) (i value : ℕ) → 1 ≤ radix → i < length digits →
+    WritesSoFar radix digits i value →
     ((n : ℕ) → ¬ AppendsDigit radix value (get_or digits i 0) n) → (n : ℕ) → ¬ WritesNumber radix digits n
 writes_nothing radix digits i value low below before not n all =
     let first : digits_value radix (take (i + 1) digits) ≡ value * radix + digit_value (get_or digits i 0) =
