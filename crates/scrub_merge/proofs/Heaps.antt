@@ -109,7 +109,8 @@ popped {runs} {x} {items} {new} h p order = record {
   order = order;
   each = λ k d here. (others k d here, (rest k d here).1);
   all = λ k e among first.
-      let there : Contains (x ∷ new) (under_by k e) = Contains-permutation items (x ∷ new) (under_by k e) p (h.all k e tt first) in
+      let there : Contains (x ∷ new) (under_by k e) =
+      Contains-permutation items (x ∷ new) (under_by k e) p (h.all k e tt first) in
       elim (Contains-cases x new (under_by k e) there) [ inl is ↦ absurd (among (rw is)) | inr later ↦ later ];
   once = λ k. omega (arith, left_over k, h.once k);
 }

@@ -92,7 +92,8 @@ module _ (id : ShardId) {e : EntryValue} (own : e.id ≡ id) where
       place_past id run (place + 1) ≡ place_past id run place
   past_once run place rising at =
       rw (
-        has_not id (entry_at run (place + 1)) (λ f next same. not_below_itself id (rw (own, same) at (rises_at run place rising at next))),
+        has_not id (entry_at run (place + 1))
+        (λ f next same. not_below_itself id (rw (own, same) at (rises_at run place rising at next))),
         has_it (entry_at run place) at,
       )
 

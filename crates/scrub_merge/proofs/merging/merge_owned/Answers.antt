@@ -151,7 +151,8 @@ loop-least-preserved c = record {
 map : (c : In_default) → IsShardMap c.args.runs.items c.loop-least.bindings.items
 map c =
     let none : length (heap_items c.loop-least.heap) ≤ 0 = c.in_default.ensures.item.3 in
-    continues_end c.args.runs.items (ahead c.loop-least.runs.items c.loop-least.places.items) c.loop-least.bindings.items
+    continues_end c.args.runs.items (ahead c.loop-least.runs.items c.loop-least.places.items)
+    c.loop-least.bindings.items
     (none_first c.loop-least.invariant.heap (omega (arith, none))) c.loop-least.invariant.continues
 
 pub new-requires : goal.new-requires
