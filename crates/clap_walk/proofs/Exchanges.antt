@@ -299,8 +299,7 @@ module _ (s : Shape) (each : EachRule IsByName s.rules) where
         let back_on = turn_is (reacted c b (other_value ∷ []) h) idle position name value is a first.1 first.2 in
         let end : Walk = standing (reacted c b (other_value ∷ []) (reacted c a (value ∷ []) h)) idle position in
         let other_end : Walk = standing (reacted c a (value ∷ []) (reacted c b (other_value ∷ []) h)) idle position in
-        let like : LikeWalk end other_end =
-        (
+        let like : LikeWalk end other_end = (
           used a (value ∷ []) (used b (other_value ∷ []) rows),
           exchanged_same a b (value ∷ []) (other_value ∷ []) rows ab ba,
           refl,
@@ -317,8 +316,7 @@ module _ (s : Shape) (each : EachRule IsByName s.rules) where
         ∙ ap (λ (w : Walk). fold (walked c []) w after) goes_on in
         let other_ends : fold (walked c []) (standing h waiting position) other ≡ fold (walked c []) other_end after =
         ap (λ (w : Walk). fold (walked c []) (walked c [] w (option_word name value)) after) back
-        ∙ ap (λ (w : Walk). fold (walked c []) w after) back_on in
-        (
+        ∙ ap (λ (w : Walk). fold (walked c []) w after) back_on in (
           joined (turn_fault s [] (standing h waiting position) (option_word other_name other_value)) _ first_clean (rw back after_clean),
           rw ends (rw other_ends later.1),
         )
@@ -360,8 +358,7 @@ module _ (s : Shape) (each : EachRule IsByName s.rules) where
         ∙ ap (λ (x : Held). named id (settled c x).rows) (sym held)
         ∙ ap (named id) (sym (no_defaults c (settled c k).rows (each_default c each))) in
         let checked : check_fault s (finished c k) false ≡ [] =
-        sym (check_same (finished c h) (finished c k) helps same) ∙ checks.1 in
-        (
+        sym (check_same (finished c h) (finished c k) helps same) ∙ checks.1 in (
           joined (walk_fault s [] (walk_from nothing_held) (before ++ other)) _ both.0 (joined (settle_fault c again k) _ settled_k (joined (defaults_fault (settled c k).rows c) _ (default_clean c (settled c k).rows each) checked)),
           same,
         )

@@ -59,10 +59,13 @@ pub record MarksFrom (first behind number : ℕ) (before after : List Bool) : Ty
 pub marks_none : (first behind : ℕ) (before : List Bool) → MarksFrom first behind first before before
 marks_none first behind before = record {
   placed = inr refl;
-  marked = λ n below. (λ marked. inl marked, λ either. elim either [
-    | inl marked ↦ marked
-    | inr none ↦ absurd (omega (arith, none.0, none.1))
-  ]);
+  marked = λ n below. (
+    λ marked. inl marked,
+    λ either. elim either [
+      | inl marked ↦ marked
+      | inr none ↦ absurd (omega (arith, none.0, none.1))
+    ],
+  );
 }
 
 pub marks_more : (first behind number : ℕ) (before after : List Bool) → first ≤ number → number < behind →
@@ -72,8 +75,7 @@ marks_more first behind number before after low high below m = record {
   placed = inl (omega (arith, high));
   marked = λ n within. elim (cases_eq n number) [
     | inr ne ↦
-        let same : get_or (set after number true) n false ≡ get_or after n false = get_or-set_other after number n true false ne in
-        (
+        let same : get_or (set after number true) n false ≡ get_or after n false = get_or-set_other after number n true false ne in (
           λ marked. elim ((m.marked n within).0 (sym same ∙ marked)) [
             | inl old ↦ inl old
             | inr new ↦ inr (new.0, omega (arith, new.1))

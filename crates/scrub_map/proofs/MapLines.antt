@@ -263,7 +263,7 @@ pub read_whole_map : (text rest : List ℕ) (number : ℕ) (r : Reading) (map : 
 read_whole_map text rest number r map e up has same = (
   up.read.blocks,
   rw (all_parts text rest up.lines e up.parts)
-  (map_said r.has_state (statements up.lines) up.read.blocks has up.read.said),
+      (map_said r.has_state (statements up.lines) up.read.blocks has up.read.said),
   rw same up.read.keeps,
 )
 

@@ -93,7 +93,7 @@ module _ (id : ShardId) {e : EntryValue} (own : e.id ≡ id) where
   past_once run place rising at =
       rw (
         has_not id (entry_at run (place + 1))
-        (λ f next same. not_below_itself id (rw (own, same) at (rises_at run place rising at next))),
+            (λ f next same. not_below_itself id (rw (own, same) at (rises_at run place rising at next))),
         has_it (entry_at run place) at,
       )
 

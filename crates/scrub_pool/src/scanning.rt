@@ -147,7 +147,9 @@ fn scan_with_crew<'d, D: PageSource, L: Ledger + Send + Sync, G: Gate, R: Thread
     let (ledger, unclaimed) = blank.open::<L>();
     let tally = Mutex::new(Tally::new(ledger, unclaimed, parts));
     let crew = new_crew(rt, job.alloc, job.queue, first, workers)?;
-    let ((members, theirs), (core, mine)) = run_crew_and_worker(rt, disk, job, &tally, crew, workers, first);
+    let ((members, theirs), (core, mine)) = run_crew_and_worker(
+        rt, disk, job, &tally, crew, workers, first,
+    );
     let (Some(theirs), Some(mine)) = (theirs, mine) else {
         return Err(OutOfMemory);
     };

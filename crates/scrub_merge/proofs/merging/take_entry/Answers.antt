@@ -27,7 +27,7 @@ pub returns-in-None-clause-none : goal.returns-in-None-clause-none
 returns-in-None-clause-none c =
     rw (
       slice_get_read c.args.runs.now (length c.args.runs.now) c.args.number c.index-runs-number.result refl c.requires
-      c.index-runs-number.is,
+          c.index-runs-number.is,
       c.index-runs-number.is,
       c.in-None.is,
     )

@@ -52,11 +52,13 @@ returns-then-is_some-clause-refused g c =
 pub invariant_of-self : goal.invariant_of-self
 invariant_of-self g c =
     let plan = c.self.inside.plan in
-    let at = among_planned c.in-Some.i c.in-Some.ensures.found c.planned.ensures.planned c.extent.ensures in
-    (kept_set (g.D.PageSource.image c.self.inside.source.now) plan c.self.inside.slots.items c.self.invariant.0
-    c.planned.ensures.extents.rising c.self.inside.source.now c.in-Some.i c.args.found at.0 at.1
-    (c.requires.image ∙ ap (λ (b : BookValue g.row.D.Denot). g.D.PageSource.image b.source) (sym c.self.view_is))
-    (subst (λ (b : BookValue g.row.D.Denot). Contains b.plan.planned c.args.found.extent → pointer_of b.plan c.args.found.extent ≡ Some c.args.found.pointer) (sym c.self.view_is) c.requires.pointer), c.self.invariant.1)
+    let at = among_planned c.in-Some.i c.in-Some.ensures.found c.planned.ensures.planned c.extent.ensures in (
+      kept_set (g.D.PageSource.image c.self.inside.source.now) plan c.self.inside.slots.items c.self.invariant.0
+          c.planned.ensures.extents.rising c.self.inside.source.now c.in-Some.i c.args.found at.0 at.1
+          (c.requires.image ∙ ap (λ (b : BookValue g.row.D.Denot). g.D.PageSource.image b.source) (sym c.self.view_is))
+          (subst (λ (b : BookValue g.row.D.Denot). Contains b.plan.planned c.args.found.extent → pointer_of b.plan c.args.found.extent ≡ Some c.args.found.pointer) (sym c.self.view_is) c.requires.pointer),
+      c.self.invariant.1,
+    )
 
 pub returns-clause-added : goal.returns-clause-added
 returns-clause-added g c =
