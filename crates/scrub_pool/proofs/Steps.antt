@@ -120,7 +120,11 @@ takes port v alive x items views h at =
         );
         each =
             all_set (IsView h.pushed) views port w
-            (record { none_out = fits.none_out; nothing = λ none. absurd (omega (arith, none, alive)); knows = fits.knows })
+            (record {
+              none_out = fits.none_out;
+              nothing = λ none. absurd (omega (arith, none, alive));
+              knows = fits.knows;
+            })
             (λ j u differ there. h.each j u there);
       },
       record {

@@ -35,15 +35,18 @@ returns-clause-found g c =
     let image = g.D.PageSource.image c.args.disk.now in
     let plan = c.args.job.now.plan.now in
     let theirs =
-    c.in_ok-lists.ensures.results image plan (λ k d below. (c.run_crew_and_worker-members.ensures.members k d below).1.2) in
-    results_append image plan c.retire_worker.new.found.items c.join_members.new.found.items (results_of c.take_until_empty.new.core)
+    c.in_ok-lists.ensures.results image plan
+    (λ k d below. (c.run_crew_and_worker-members.ensures.members k d below).1.2) in
+    results_append image plan c.retire_worker.new.found.items c.join_members.new.found.items
+    (results_of c.take_until_empty.new.core)
     c.in_ok-own.ensures.found theirs c.in_ok-take_until_empty.ensures.working.2
 
 pub returns-clause-extents : goal.returns-clause-extents
 returns-clause-extents g c =
     let pass = c.take_until_empty.new.pass in
     let joined : pass.joined ≡ lists_in c.in_ok-lists.lists.items = search rules in
-    all_scanned pass c.retire_worker.new.found.items c.join_members.new.found.items (results_of c.take_until_empty.new.core)
+    all_scanned pass c.retire_worker.new.found.items c.join_members.new.found.items
+    (results_of c.take_until_empty.new.core)
     c.args.job.now.plan.now.planned c.in_ok-own.ensures.found
     (c.in_ok-lists.ensures.found ∙ ap one_list (sym joined))
     (c.in_ok-own.ensures.matched ∙ sym c.in_ok-take_until_empty.ensures.working.1) (search rules)
@@ -52,12 +55,14 @@ returns-clause-extents g c =
 pub returns-clause-counted : goal.returns-clause-counted
 returns-clause-counted g c =
     let core = c.take_until_empty.new.core in
-    let own : c.take_until_empty.new.share.amount ≡ length (results_of core) = c.in_ok-take_until_empty.ensures.counted in
+    let own : c.take_until_empty.new.share.amount ≡ length (results_of core) =
+    c.in_ok-take_until_empty.ensures.counted in
     let others : c.in-Some-Some.theirs.amount ≡ length c.join_members.new.found.items = search rules in
     omega (
       arith,
       c.audit-counted.ensures,
       own,
       others,
-      long_append c.retire_worker.new.found.items c.join_members.new.found.items (results_of core) c.in_ok-own.ensures.found,
+      long_append c.retire_worker.new.found.items c.join_members.new.found.items (results_of core)
+          c.in_ok-own.ensures.found,
     )
