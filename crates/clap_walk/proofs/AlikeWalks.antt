@@ -1,5 +1,5 @@
--- Walks of `clap` over the same words, from rows in which each name has the same: they go the same way, find the same faults,
--- and end with rows in which each name has the same.
+-- Walks of `clap` over the same arguments, starting with the same rows for each name: they go the same way, find the same
+-- faults, and end with the same rows for each name.
 use Rattle.std.proofs.Common.{◌≡◌, ◌∙◌, ℕ, zero, suc, Bool, true, false, List, [], ◌∷◌, Option, None, Some, refl, sym, ap, ap₂, length, drop}
 use Rattle.std.specs.Prelude.{fold, if◌then◌else◌, ◌&&◌, is_some, slice_get, encode_utf8}
 use Rattle.std.specs.Option.{option_map_or}
@@ -13,7 +13,7 @@ use Rattle.clap.specs.Faults.{bundle_step_fault, flag_word_fault, flags_fault, l
 use Rattle.clap_walk.specs.Rows.{AreSame}
 use Rattle.clap_walk.proofs.SameRows.{fault_same, used_same}
 
--- what is held, with other rows
+-- the state of a walk, with other rows
 abbrev pub with_rows : Held → List Row → Held
 with_rows h rows = record h { rows = rows }
 

@@ -1,5 +1,5 @@
--- Two neighbouring options of a command, exchanged: the walk finds no fault where it found none, and ends with rows in which
--- each name has the same.
+-- Exchanging two neighbouring options of a command: a walk without a fault still has none, and ends with the same rows for
+-- each name.
 use Rattle.std.proofs.Common.{◌≡◌, ◌≢◌, ◌⊎◌, ◌∙◌, inl, inr, ℕ, suc, Bool, true, false, List, [], ◌∷◌, ◌++◌, Option, None, Some, refl, sym, ap, ap₂, subst, not, codes, arith}
 use Rattle.std.specs.Prelude.{IfSome, fold, if◌then◌else◌, ◌&&◌, ◌||◌, is_some}
 use Rattle.std.specs.List.{All, list_any}
@@ -22,7 +22,7 @@ use Rattle.clap_walk.proofs.Values.{no_defaults}
 use Rattle.clap_walk.proofs.SameRows.{exchanged_same, fault_apart, given_same}
 use Rattle.clap_walk.proofs.AlikeWalks.{LikeWalk, settle_like, settled_like, walk_like, with_rows}
 
--- where there is no fault in two, there is none in both
+-- if two steps have no fault, both together have none
 pub joined : (first second : Kinds) → first ≡ [] → second ≡ [] → or_else first second ≡ []
 joined first second none nothing = rw none nothing
 
@@ -35,7 +35,7 @@ long_word name value is = rest name is ∙ ap Some (name_and_value-at name value
     rest [] is = refl
     rest (x ∷ xs) is = refl
 
--- the word is no `--`
+-- the word isn't `--`
 no_end_word : (name value : Text) → bytes_eq (option_word name value) (45 ∷ 45 ∷ []) ≡ false
 no_end_word [] value = refl
 no_end_word (x ∷ xs) value = refl
@@ -70,7 +70,7 @@ id_of_long (r ∷ rest) name a each found =
         a.id ≡ name
     go true has found later =
         let same : r ≡ a = cc in
-        subst (λ (x : Rule). x.id ≡ name) same (of_has (not (is_some r.index)) has)
+        rw same at (of_has (not (is_some r.index)) has)
     go false has found later = later found
 
 module _ (s : Shape) (each : EachRule IsByName s.rules) where
@@ -261,53 +261,71 @@ module _ (s : Shape) (each : EachRule IsByName s.rules) where
     abbrev other : List Text
     other = option_word other_name other_value ∷ (option_word name value ∷ after)
 
-    -- what is said of two walks
+    -- the two walks compared
     abbrev pub Exchanged : Walk → List Text → List Text → Type 0
     Exchanged w words others =
         (walk_fault s [] w others ≡ []) × LikeWalk (fold (walked c []) w words) (fold (walked c []) w others)
 
-    pair_exchanged : (h : Held) (waiting : Waiting) (position : ℕ) → walk_fault s [] (standing h waiting position) one ≡ [] → Exchanged (standing h waiting position) one other
+    pair_exchanged : (h : Held) (waiting : Waiting) (position : ℕ) →
+        walk_fault s [] (standing h waiting position) one ≡ [] → Exchanged (standing h waiting position) one other
     unfolding walk_fault
     pair_exchanged h waiting position clean =
         let turns = parts (turn_fault s [] (standing h waiting position) (option_word name value)) _ clean in
         let first = option_there h waiting position name value is turns.0 in
         let a = first.0 in
         let goes = turn_is h waiting position name value is a first.1 first.2 in
-        let onward = parts (turn_fault s [] (standing (reacted c a (value ∷ []) h) idle position) (option_word other_name other_value)) _ (subst (λ (w : Walk). walk_fault s [] w (option_word other_name other_value ∷ after) ≡ []) goes turns.1) in
+        let onward =
+        parts
+        (turn_fault s [] (standing (reacted c a (value ∷ []) h) idle position) (option_word other_name other_value)) _
+        (rw goes at turns.1) in
         let second = option_there (reacted c a (value ∷ []) h) idle position other_name other_value other_is onward.0 in
         let b = second.0 in
-        let goes_on = turn_is (reacted c a (value ∷ []) h) idle position other_name other_value other_is b second.1 second.2 in
-        let rest = subst (λ (w : Walk). walk_fault s [] w after ≡ []) goes_on onward.1 in
-        let ids : a.id ≢ b.id = λ same. apart (sym (id_of_long c name a each first.1) ∙ same ∙ id_of_long c other_name b each second.1) in
+        let goes_on =
+        turn_is (reacted c a (value ∷ []) h) idle position other_name other_value other_is b second.1 second.2 in
+        let rest = rw goes_on at onward.1 in
+        let ids : a.id ≢ b.id =
+        λ same. apart (sym (id_of_long c name a each first.1) ∙ same ∙ id_of_long c other_name b each second.1) in
         let ab = differ a.id b.id ids in
         let ba = differ b.id a.id (λ same. ids (sym same)) in
         let rows = settled_rows c h.pending h.rows in
         let settles = parts (settle_fault c again h) _ first.3 in
         let uses = second.3 in
         let b_first : react_fault c again b (other_value ∷ []) h ≡ [] =
-        joined (settle_fault c again h) (use_fault again b (other_value ∷ []) rows) settles.0 (sym (fault_apart again a b (value ∷ []) (other_value ∷ []) rows ab) ∙ uses) in
+        joined (settle_fault c again h) (use_fault again b (other_value ∷ []) rows) settles.0
+        (sym (fault_apart again a b (value ∷ []) (other_value ∷ []) rows ab) ∙ uses) in
         let then_a : react_fault c again a (value ∷ []) (reacted c b (other_value ∷ []) h) ≡ [] =
         fault_apart again b a (other_value ∷ []) (value ∷ []) rows ba ∙ settles.1 in
         let back = turn_is h waiting position other_name other_value other_is b second.1 second.2 in
         let back_on = turn_is (reacted c b (other_value ∷ []) h) idle position name value is a first.1 first.2 in
         let end : Walk = standing (reacted c b (other_value ∷ []) (reacted c a (value ∷ []) h)) idle position in
         let other_end : Walk = standing (reacted c a (value ∷ []) (reacted c b (other_value ∷ []) h)) idle position in
-        let like : LikeWalk end other_end =
-        (used a (value ∷ []) (used b (other_value ∷ []) rows), exchanged_same a b (value ∷ []) (other_value ∷ []) rows ab ba, refl) in
+        let like : LikeWalk end other_end = (
+          used a (value ∷ []) (used b (other_value ∷ []) rows),
+          exchanged_same a b (value ∷ []) (other_value ∷ []) rows ab ba,
+          refl,
+        ) in
         let later = walk_like s [] end other_end after like in
         let first_clean = turn_clean h waiting position other_name other_value other_is b second.1 second.2 b_first in
-        let second_clean = turn_clean (reacted c b (other_value ∷ []) h) idle position name value is a first.1 first.2 then_a in
+        let second_clean =
+        turn_clean (reacted c b (other_value ∷ []) h) idle position name value is a first.1 first.2 then_a in
         let after_clean : walk_fault s [] (standing (reacted c b (other_value ∷ []) h) idle position) (option_word name value ∷ after) ≡ [] =
-        joined (turn_fault s [] (standing (reacted c b (other_value ∷ []) h) idle position) (option_word name value)) _ second_clean (subst (λ (w : Walk). walk_fault s [] w after ≡ []) (sym back_on) (sym later.0 ∙ rest)) in
+        joined (turn_fault s [] (standing (reacted c b (other_value ∷ []) h) idle position) (option_word name value)) _
+        second_clean (rw back_on (sym later.0 ∙ rest)) in
         let ends : fold (walked c []) (standing h waiting position) one ≡ fold (walked c []) end after =
-        ap (λ (w : Walk). fold (walked c []) (walked c [] w (option_word other_name other_value)) after) goes ∙ ap (λ (w : Walk). fold (walked c []) w after) goes_on in
+        ap (λ (w : Walk). fold (walked c []) (walked c [] w (option_word other_name other_value)) after) goes
+        ∙ ap (λ (w : Walk). fold (walked c []) w after) goes_on in
         let other_ends : fold (walked c []) (standing h waiting position) other ≡ fold (walked c []) other_end after =
-        ap (λ (w : Walk). fold (walked c []) (walked c [] w (option_word name value)) after) back ∙ ap (λ (w : Walk). fold (walked c []) w after) back_on in
-        (joined (turn_fault s [] (standing h waiting position) (option_word other_name other_value)) _ first_clean (subst (λ (w : Walk). walk_fault s [] w (option_word name value ∷ after) ≡ []) (sym back) after_clean), subst (λ (w : Walk). LikeWalk w (fold (walked c []) (standing h waiting position) other)) (sym ends) (subst (λ (w : Walk). LikeWalk (fold (walked c []) end after) w) (sym other_ends) later.1))
+        ap (λ (w : Walk). fold (walked c []) (walked c [] w (option_word name value)) after) back
+        ∙ ap (λ (w : Walk). fold (walked c []) w after) back_on in (
+          joined (turn_fault s [] (standing h waiting position) (option_word other_name other_value)) _ first_clean (rw back after_clean),
+          rw ends (rw other_ends later.1),
+        )
 
     -- what comes before is the same
-    pub before_exchanged : (before : List Text) (h : Held) (waiting : Waiting) (position : ℕ) → All (λ word. word ≢ codes "--") before
-        → walk_fault s [] (standing h waiting position) (before ++ one) ≡ [] → Exchanged (standing h waiting position) (before ++ one) (before ++ other)
+    pub before_exchanged : (before : List Text) (h : Held) (waiting : Waiting) (position : ℕ) →
+        All (λ word. word ≢ codes "--") before
+        → walk_fault s [] (standing h waiting position) (before ++ one) ≡ [] → Exchanged (standing h waiting position)
+        (before ++ one) (before ++ other)
     unfolding walk_fault
     before_exchanged [] h waiting position no_end clean = pair_exchanged h waiting position clean
     before_exchanged (word ∷ before) h waiting position no_end clean =
@@ -320,7 +338,9 @@ module _ (s : Shape) (each : EachRule IsByName s.rules) where
 
     end_exchanged : (before : List Text) → All (λ word. word ≢ codes "--") before → s.arg_required_else_help ≡ false
         → level_fault s [] nothing_held (before ++ one) false [] ≡ []
-        → (level_fault s [] nothing_held (before ++ other) false [] ≡ []) × AreSame (finished c (walk c [] nothing_held (before ++ one)).held) (finished c (walk c [] nothing_held (before ++ other)).held)
+        → (level_fault s [] nothing_held (before ++ other) false [] ≡ []) × AreSame
+        (finished c (walk c [] nothing_held (before ++ one)).held)
+        (finished c (walk c [] nothing_held (before ++ other)).held)
     end_exchanged before no_end helps clean =
         let h = (walk c [] nothing_held (before ++ one)).held in
         let k = (walk c [] nothing_held (before ++ other)).held in
@@ -330,12 +350,18 @@ module _ (s : Shape) (each : EachRule IsByName s.rules) where
         let both = before_exchanged before nothing_held idle 1 no_end walks.0 in
         let like = both.1 in
         let held : k ≡ with_rows h like.0 = ap (λ (w : Walk). w.held) like.2 in
-        let settled_k : settle_fault c again k ≡ [] = ap (settle_fault c again) held ∙ sym (settle_like s h like.0 like.1) ∙ settles.0 in
+        let settled_k : settle_fault c again k ≡ [] =
+        ap (settle_fault c again) held ∙ sym (settle_like s h like.0 like.1) ∙ settles.0 in
         let same : AreSame (finished c h) (finished c k) = λ id.
-        ap (named id) (no_defaults c (settled c h).rows (each_default c each)) ∙ settled_like s h.pending h.rows like.0 like.1 id
-        ∙ ap (λ (x : Held). named id (settled c x).rows) (sym held) ∙ ap (named id) (sym (no_defaults c (settled c k).rows (each_default c each))) in
-        let checked : check_fault s (finished c k) false ≡ [] = sym (check_same (finished c h) (finished c k) helps same) ∙ checks.1 in
-        (joined (walk_fault s [] (walk_from nothing_held) (before ++ other)) _ both.0 (joined (settle_fault c again k) _ settled_k (joined (defaults_fault (settled c k).rows c) _ (default_clean c (settled c k).rows each) checked)), same)
+        ap (named id) (no_defaults c (settled c h).rows (each_default c each))
+        ∙ settled_like s h.pending h.rows like.0 like.1 id
+        ∙ ap (λ (x : Held). named id (settled c x).rows) (sym held)
+        ∙ ap (named id) (sym (no_defaults c (settled c k).rows (each_default c each))) in
+        let checked : check_fault s (finished c k) false ≡ [] =
+        sym (check_same (finished c h) (finished c k) helps same) ∙ checks.1 in (
+          joined (walk_fault s [] (walk_from nothing_held) (before ++ other)) _ both.0 (joined (settle_fault c again k) _ settled_k (joined (defaults_fault (settled c k).rows c) _ (default_clean c (settled c k).rows each) checked)),
+          same,
+        )
 
 -- the law
 pub end_alike : (s : Shape) (words others : List Text) → IsPlainTable s → AreNeighboursExchanged words others →

@@ -1,4 +1,4 @@
--- What is found of words without a fault: the arguments that are required, and the values of each.
+-- What is found in arguments without a fault: those that are required, and the values of each.
 use Rattle.std.proofs.Common.{◌≡◌, ◌⊎◌, ◌∙◌, ℕ, inl, inr, Bool, true, false, List, [], ◌∷◌, Option, None, Some, refl, sym, ap, subst, not}
 use Rattle.std.specs.Prelude.{IfSome, find, if◌then◌else◌, ◌||◌, option_and_then, pos, slice_get}
 use Rattle.std.specs.Str.{bytes_eq}
@@ -15,7 +15,7 @@ use Rattle.clap_walk.specs.Rules.{AreUsual, IsUsual}
 use Rattle.clap_walk.proofs.Walks.{parts, settled_keeps, walk_keeps}
 use Rattle.clap_walk.proofs.Values.{given_row, no_defaults, number_there, text_there, use_keeps}
 
--- the rows of a command's words without a fault
+-- the rows of a command's arguments without a fault
 pub rows_sound : (s : Shape) → AreUsual s.rules → (words : List Text) → AreClean s words
     → EachRow (IsSound s.rules) (finished s.rules (walk s.rules [] nothing_held words).held)
     × (check_fault s (finished s.rules (walk s.rules [] nothing_held words).held) false ≡ [])
@@ -33,7 +33,7 @@ rows_sound s usual words clean =
     let rows = settled_keeps s (EachRow (IsSound s.rules)) (IsUsual s.rules) usual.0 keeps end walked settles.0 in
     (subst (EachRow (IsSound s.rules)) (sym (no_defaults s.rules (settled s.rules end).rows usual.1)) rows, defaults.1)
 
--- where nothing that is required is missing
+-- if nothing required is missing
 abbrev pub is_lacking : List Row → List Text → Bool
 is_lacking rows [] = false
 is_lacking rows (name ∷ names) = not (is_given name rows) || is_lacking rows names
@@ -77,7 +77,7 @@ module _ (c : List Rule) (rows : List Row) (sound : EachRow (IsSound c) rows) (n
       let row = given_row _ name rows given (text_there c name a rows sound rule) in
       (row.2.0, ap (option_and_then (λ (r : Row). slice_get r.values 0)) row.1 ∙ row.2.1)
 
--- a rule by this name takes a whole number up to a greatest one, and one by that name takes a text
+-- the rule with this name takes a whole number up to a maximum, and the one with that name takes a text
 abbrev pub IsNumberRule : List Rule → ℕ → Text → Type 0
 IsNumberRule c most name =
     (a : Rule) × (arg_by_id c name ≡ Some a) × (a.parser ≡ Some (Signed (pos 0) (pos most))) × (a.ignore_case ≡ false)

@@ -1,5 +1,5 @@
--- Rows in which each name has the same, in whatever order the names stand: what a use of an argument makes of them, and what
--- is looked up in them.
+-- Rows that are the same for each name, in any order of names: what a use of an argument makes of them, and what is looked
+-- up in them.
 use Rattle.std.proofs.Common.{◌≡◌, ◌∙◌, ◌+◌, ◌&&◌, Bool, true, false, ℕ, List, [], ◌∷◌, ◌++◌, Option, None, Some, refl, sym, ap, subst, not, length}
 use Rattle.std.specs.Prelude.{option_and_then, option_map, slice_get, find, if◌then◌else◌, min, unwrap_or}
 use Rattle.std.specs.List.{filter, list_any}
@@ -64,7 +64,7 @@ pub given_same : (id : Text) (xs ys : List Row) → named id xs ≡ named id ys 
 given_same id xs ys same =
     ap (λ (o : Option Row). option_map_or (λ r. explicit_source r.source) o false) (found_same id xs ys same)
 
--- the row is not among those of another name
+-- the row isn't one of another name
 not_named : (id other : Text) (r : Row) → bytes_eq id other ≡ false → bytes_eq r.id id ≡ true →
     bytes_eq r.id other ≡ false
 not_named id other r differ is = ap (λ name. bytes_eq name other) ((bytes_eq-Decides r.id id).0 is) ∙ differ
@@ -110,7 +110,7 @@ module _ (id : Text) (change : Row → List Row) (missing : List Row) where
     others = λ other differ xs. at_other other differ (none other differ) (gone other differ) xs;
   }
 
--- one row of the name is no row of another
+-- a row of this name isn't one of another
 one_row : (id other : Text) (r : Row) → bytes_eq id other ≡ false → bytes_eq r.id id ≡ true → named other (r ∷ []) ≡ []
 one_row id other r differ is =
     let skipped : bytes_eq r.id other ≡ false = not_named id other r differ is in
@@ -214,7 +214,7 @@ exchanged_same a b vs ws rows ab ba id = go (bytes_eq a.id id) (bytes_eq b.id id
         second.others id y (used a vs rows) ∙ first.others id x rows ∙ sym (second.others id y rows)
         ∙ sym (first.others id x (used b ws rows))
 
--- the fault of a use is told by the rows of its name
+-- the rows of an argument's name decide the fault of a use
 pub fault_same : (again : Bool) (a : Rule) (values : List Text) (xs ys : List Row) → named a.id xs ≡ named a.id ys →
     use_fault again a values xs ≡ use_fault again a values ys
 fault_same again a values xs ys same =
@@ -243,7 +243,7 @@ fault_same again a values xs ys same =
     go HelpLong vs = refl
     go Version vs = refl
 
--- ... and so is not changed by a use of another name
+-- so a use of another name doesn't change it
 pub fault_apart : (again : Bool) (a b : Rule) (vs ws : List Text) (rows : List Row) → bytes_eq a.id b.id ≡ false →
     use_fault again b ws (used a vs rows) ≡ use_fault again b ws rows
 fault_apart again a b vs ws rows differ =

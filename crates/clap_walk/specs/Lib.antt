@@ -1,4 +1,4 @@
--- What the lemmas and the laws of this crate speak of.
+-- Definitions for the lemmas and laws of this crate.
 pub mod Rules
 pub mod Rows
 pub mod Exchanged

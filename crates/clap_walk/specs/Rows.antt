@@ -6,12 +6,12 @@ use Rattle.clap.specs.Words.{IsSignedIn, without_minus, one_of}
 use Rattle.clap.specs.Walk.{Row, Rule, Text, arg_by_id, reading_by}
 use Rattle.clap.specs.Faults.{values_fault}
 
--- each row of a list has this
+-- P holds of each row of a list
 abbrev pub EachRow : (Row → Type 0) → List Row → Type 0
 EachRow P [] = Unit {0}
 EachRow P (r ∷ rows) = P r × EachRow P rows
 
--- the row has values, and they passed the parser of the rule of its name, by which they are read
+-- the row has values, the parser of its rule accepted them, and they are read as that rule says
 abbrev pub IsSound : List Rule → Row → Type 0
 IsSound c r = (a : Rule) → arg_by_id c r.id ≡ Some a → (r.values ≢ []) × (values_fault a r.values ≡ []) × (r.reading ≡ reading_by a)
 
@@ -19,10 +19,10 @@ IsSound c r = (a : Rule) → arg_by_id c r.id ≡ Some a → (r.values ≢ []) �
 abbrev pub named : Text → List Row → List Row
 named id rows = filter (λ r. bytes_eq r.id id) rows
 
--- each name has the same rows
+-- each name has the same rows in both lists
 abbrev pub AreSame : List Row → List Row → Type 0
 AreSame xs ys = (id : Text) → named id xs ≡ named id ys
 
--- a value was found for the option, and its parser took it as a whole number up to a greatest one
+-- a value was found for the option, and its parser accepted it as a whole number from 0 to a maximum
 abbrev pub HasNumberTo : ℕ → List Row → Text → Type 0
 HasNumberTo most found name = (text : Text) × (one_of name found ≡ Some (without_minus text)) × IsSignedIn (pos 0) (pos most) text

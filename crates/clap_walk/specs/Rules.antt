@@ -4,20 +4,20 @@ use Rattle.clap.specs.Facts.{unwrap_or_range}
 use Rattle.clap.specs.Walk.{Rule, action_of, arg_by_id, most_values}
 use Rattle.clap.specs.declared.builder.action.ArgAction.TheVariants.{Set, Append, Help}
 
--- each rule of a list has this
+-- Q holds of each rule of a list
 abbrev pub EachRule : (Rule → Type 0) → List Rule → Type 0
 EachRule Q [] = Unit {0}
 EachRule Q (a ∷ rest) = Q a × EachRule Q rest
 
--- the rule is the one of its name; it asks for help, or takes one value at each use
+-- the rule is found by its name, and it asks for help or takes one value at each use
 abbrev pub IsUsual : List Rule → Rule → Type 0
 IsUsual c a = (arg_by_id c a.id ≡ Some a)
     × ((action_of a ≡ Help) ⊎ (((action_of a ≡ Set) ⊎ (action_of a ≡ Append)) × ((unwrap_or_range a.range).start_inclusive ≡ 1) × (most_values a ≡ 1)))
 
--- each rule is known by its own name alone
+-- the rule is known by its own name alone, takes no trailing arguments, and has no default
 abbrev pub IsByName : Rule → Type 0
 IsByName a = (a.aliases ≡ []) × ((a.long ≡ None) ⊎ (a.long ≡ Some a.id)) × (a.trailing_var_arg ≡ false) × (a.defaults ≡ [])
 
--- each rule is a usual one, and has no default
+-- each rule is usual and has no default
 abbrev pub AreUsual : List Rule → Type 0
 AreUsual rules = EachRule (IsUsual rules) rules × EachRule (λ a. a.defaults ≡ []) rules

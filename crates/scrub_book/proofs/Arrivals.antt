@@ -1,4 +1,4 @@
--- Results that come to a book one by one.
+-- Results that are added to a book one by one.
 use Rattle.std.proofs.Common.{true, ◌==◌, ◌≡◌, ◌≤◌, ◌+◌, ◌++◌, ◌∷◌, ℕ, List, [], All, get_or, map, sum_by, arith, refl, append_assoc}
 use Rattle.std.specs.List.{Contains}
 use Rattle.std.specs.List.Sorted.{IsPermutation, IsStrictlyIncreasing}
@@ -16,12 +16,12 @@ use Rattle.scrub_book.specs.Extents.{extents_of}
 use Rattle.scrub_book.specs.Book.{BookValue, IsAddRefused}
 use Rattle.scrub_book.proofs.Counts.{one_for, is_one, contained_counts, counted_contained, rising_once}
 
--- the numbers that results show are those of the extents that they are of
+-- the numbers of results are the extents that they are of
 pub numbers_shown : {D : Type 0} {s : _} (rs : List (ExtentResult D s)) →
     extent_numbers (map (λ (r : ExtentResult D s). scanned r) rs) ≡ extents_of rs
 numbers_shown {D} {s} rs = map-map (λ x. x.extent) (λ (r : ExtentResult D s). scanned r) rs
 
--- a sum over numbers is one over what has them
+-- a sum over numbers is a sum over what has them
 of_numbers : (f : ℕ → ℕ) (all : List Scanned) → sum_by f (extent_numbers all) ≡ sum_by (λ x. f x.extent) all
 of_numbers f [] = refl
 of_numbers f (one ∷ all) =
@@ -32,7 +32,7 @@ of_numbers f (one ∷ all) =
       of_numbers f all,
     )
 
--- one more came
+-- one more result was added
 pub one_more_came : (all came rest next : List Scanned) (one : Scanned) → IsPermutation all (came ++ one ∷ rest) →
     IsPermutation (one ∷ came) next → IsPermutation all (next ++ rest)
 one_more_came all came rest next one so_far more =
@@ -43,7 +43,7 @@ one_more_came all came rest next one so_far more =
 
 module _ (planned : List ℕ) (all : List Scanned)
     (each : (f : ℕ → ℕ) → sum_by f (extent_numbers all) ≡ sum_by f planned) where
-  -- how often an extent is planned is how often it came and comes
+  -- an extent is planned as often as it was added and is still to come
   parts : (came rest : List Scanned) (one : Scanned) → IsPermutation all (came ++ one ∷ rest) → (e : ℕ) →
       sum_by (one_for e) (extent_numbers came) + (one_for e one.extent + sum_by (λ (x : Scanned). one_for e x.extent) rest) ≡ sum_by (one_for e) planned
   parts came rest one so_far e =
@@ -63,13 +63,13 @@ module _ (planned : List ℕ) (all : List Scanned)
       let same : (one.extent == one.extent) ≡ true = grind (arith, nat_tests) in
       omega (arith, is_one one.extent one.extent same)
 
-  -- what comes next is planned
+  -- the next result is of a planned extent
   pub next_planned : (came rest : List Scanned) (one : Scanned) → IsPermutation all (came ++ one ∷ rest) →
       Contains planned one.extent
   next_planned came rest one so_far =
       counted_contained planned one.extent (omega (arith, parts came rest one so_far one.extent, own one))
 
-  -- and didn't come before
+  -- and of one that wasn't added before
   pub next_first : (came rest : List Scanned) (one : Scanned) → IsStrictlyIncreasing planned →
       IsPermutation all (came ++ one ∷ rest) → Contains (extent_numbers came) one.extent → ⊥
   next_first came rest one rising so_far there =
@@ -81,7 +81,7 @@ module _ (planned : List ℕ) (all : List Scanned)
         contained_counts (extent_numbers came) one.extent there,
       )
 
-  -- at the end each planned extent came
+  -- at the end each planned extent was added
   pub all_came : (came : List Scanned) → IsPermutation all came → All (Contains (extent_numbers came)) planned
   all_came came is k d below =
       let e = get_or planned k d in
@@ -89,7 +89,7 @@ module _ (planned : List ℕ) (all : List Scanned)
       counted_contained (extent_numbers came) e
       (omega (arith, there, each (one_for e), of_numbers (one_for e) all, of_numbers (one_for e) came, sum_by-IsPermutation (λ (x : Scanned). one_for e x.extent) all came is))
 
--- what is planned and didn't come isn't refused
+-- a result of a planned extent that wasn't added isn't refused
 pub not_refused : {D : Type 0} {s : _} (book : BookValue D) (r : ExtentResult D s) (why : AddRefused D s) →
     Contains book.plan.planned r.extent → (Contains (extent_numbers book.came) r.extent → ⊥) → IsAddRefused book r why →
     ⊥

@@ -25,7 +25,7 @@ is_empty : {X : Type 0} (xs : List X) → (length xs == 0) ≡ true → xs ≡ [
 is_empty xs is = let none : length xs ≡ 0 = grind (arith, nat_tests, is) in nil_from_length xs none
 
 module _ (image : Image) (plan : PlanValue) where
-  -- members that are through have nothing
+  -- members that are through hold nothing and have no results
   through_have : (f : ℕ → ℕ) (ms : List MemberValue) → All (IsMember image plan) ms →
       list_all (λ m. is_none m.held && m.has_retired) ms ≡ true → sum_by (λ m. sum_by f (having m)) ms ≡ 0
   through_have f [] are through = refl
@@ -70,7 +70,7 @@ module _ (image : Image) (plan : PlanValue) where
         (omega (arith, same (one_for e), contained_counts (extent_numbers p.arrivals) e (k, below, get_or_default (extent_numbers p.arrivals) k e d below)));
   }
 
-  -- what is assembled of arrivals that are what the image holds is what one reader finds
+  -- what is assembled from arrivals that are what the image holds is what one reader finds
   pub assembled : (p : PoolState) (all : List Scanned) → All (IsScanned image plan) p.arrivals → IsAssembly plan p all →
       AreAllFindings image plan all
   assembled p all are is = record {

@@ -1,4 +1,4 @@
--- How often a number stands in a list.
+-- How often a number is in a list.
 use Rattle.std.proofs.Common.{◌≡◌, ◌<◌, ◌≤◌, ◌==◌, ◌∷◌, ◌∙◌, ℕ, suc, List, [], Bool, true, false, length, get_or, cond, arith, refl, ap, sym, sum_by, remove}
 use Rattle.std.specs.List.{Contains, count_by}
 use Rattle.std.specs.List.Sorted.{IsPermutation, IsStrictlyIncreasing}
@@ -18,13 +18,13 @@ is_one e x same = ap (λ (b : Bool). let n : ℕ = cond b 1 0 in n) same
 is_zero : (e x : ℕ) → (x == e) ≡ false → one_for e x ≡ 0
 is_zero e x other = ap (λ (b : Bool). let n : ℕ = cond b 1 0 in n) other
 
--- once at least where it is contained
+-- at least once if it is contained
 pub contained_counts : (xs : List ℕ) (e : ℕ) → Contains xs e → 1 ≤ count_by (λ x. x == e) xs
 contained_counts xs e there =
     let same : (get_or xs there.0 e == e) ≡ true = grind (arith, nat_tests, there.2) in
     omega (arith, get_or-le-sum_by (one_for e) xs there.0 e there.1, is_one e (get_or xs there.0 e) same)
 
--- contained where it stands there
+-- contained if it is counted
 pub counted_contained : (xs : List ℕ) (e : ℕ) → 1 ≤ count_by (λ x. x == e) xs → Contains xs e
 counted_contained [] e some = absurd (omega (arith, some))
 counted_contained (x ∷ xs) e some = by (x == e) refl (counted_contained xs e)
@@ -35,7 +35,7 @@ counted_contained (x ∷ xs) e some = by (x == e) refl (counted_contained xs e)
         let rest = later (omega (arith, some, sum_by-cons (one_for e) x xs, is_zero e x is)) in
         (suc rest.0, omega (arith, rest.1), rest.2)
 
--- never where all are above it
+-- never if all are above it
 above : (xs : List ℕ) (e : ℕ) → ((k : ℕ) → k < length xs → e < get_or xs k 0) → count_by (λ x. x == e) xs ≡ 0
 above [] e more = refl
 above (x ∷ xs) e more =
@@ -63,16 +63,16 @@ once (x ∷ xs) e rise =
         omega (arith, sum_by-cons (one_for e) x xs, is_one e x is, none)
     by false is rest = omega (arith, sum_by-cons (one_for e) x xs, is_zero e x is, rest)
 
--- once at most where the numbers rise
+-- at most once if the numbers rise
 pub rising_once : (xs : List ℕ) (e : ℕ) → IsStrictlyIncreasing xs → count_by (λ x. x == e) xs ≤ 1
 rising_once xs e rising = once xs e (λ i j less below. AllPairs-from_increasing xs rising i j 0 less below)
 
--- 1 for each number adds up to how many there are
+-- 1 for each number adds up to the length
 pub ones : (xs : List ℕ) → sum_by (λ (x : ℕ). 1) xs ≡ length xs
 ones [] = refl
 ones (x ∷ xs) = omega (arith, sum_by-cons (λ (x : ℕ). 1) x xs, ones xs)
 
--- numbers that add up as others do, whatever is added up, are these in some order
+-- lists with the same sum of any function are permutations of each other
 pub permutation_of_sums : (xs ys : List ℕ) → ((f : ℕ → ℕ) → sum_by f xs ≡ sum_by f ys) → IsPermutation xs ys
 permutation_of_sums xs [] same = rw (nil_from_length xs (sym (ones xs) ∙ same (λ x. 1))) (IsPermutation-refl [])
 permutation_of_sums xs (y ∷ ys) same =

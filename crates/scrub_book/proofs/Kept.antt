@@ -8,7 +8,6 @@ use Rattle.std.proofs.lemmas.List.Elements.{All-append, All-set}
 use Rattle.scrub_disk.specs.Image.{Image}
 use Rattle.scrub_super.specs.Plan.{PlanValue, pointer_of}
 use Rattle.scrub_scan.specs.declared.extent_result.ExtentResult.{ExtentResult}
-use Rattle.scrub_scan.specs.Findings.{IsFindings}
 use Rattle.scrub_scan.specs.Scanned.{Scanned, scanned, result_image}
 use Rattle.scrub_scan.specs.AllFindings.{extent_numbers}
 use Rattle.scrub_book.specs.declared.event.Event.{Event}
@@ -33,7 +32,7 @@ names_one p event may = by (slice_get p.members (worker_of event)) refl may
     by (Some m) at none = slice_get_within p.members (worker_of event) m at
 
 module _ {D : Type 0} {s : _} where
-  -- the member that an event names which isn't refused: it is m, which stands in its place and is ready
+  -- the member m that an event names which isn't refused: it is in its place and ready
   pub record IsNamed (image : Image) (queue : List ℕ) (ms : List (Member D s)) (arrived : List (ExtentResult D s))
       (event : Event) (m : Member D s) : Type 0 where
     pub may : refusal (state_of queue ms arrived) event ≡ None
@@ -61,7 +60,7 @@ module _ {D : Type 0} {s : _} where
   value_results (Working core) = refl
   value_results (Through taken) = refl
 
-  -- what an event did, which wrote n in the place of member m
+  -- what an event did, which wrote n over member m
   module _ {image : Image} {queue : List ℕ} {ms : List (Member D s)} {arrived : List (ExtentResult D s)} {v : ℕ}
       {m : Member D s} where
     pub take_is : IsNamed image queue ms arrived (Take v) m → (e : ℕ) (rest : List ℕ) (n : Member D s) →
@@ -103,7 +102,7 @@ module _ {D : Type 0} {s : _} where
           (ap (map (λ (r : ExtentResult D s). scanned r)) came ∙ map-append (λ (r : ExtentResult D s). scanned r) arrived (results_in m) ∙ ap (λ (ys : List Scanned). map (λ (r : ExtentResult D s). scanned r) arrived ++ ys) (sym (value_results m)));
     }
 
-  -- a state in which a member was written as it was is the same
+  -- a state is the same after a member was written as it was
   pub same_state : {image : Image} {queue : List ℕ} {ms : List (Member D s)} {arrived : List (ExtentResult D s)} {event : Event} {m : Member D s} →
       IsNamed image queue ms arrived event m →
       (n : Member D s) → member_value n ≡ member_value m →
@@ -130,13 +129,13 @@ module _ {D : Type 0} {s : _} where
         ) in
         record { may = here; below = below; at = at; ready = subst (λ (x : Member D s). IsReady image x) (sym at) (kept.ready (worker_of event) m below) }
 
-    -- what is kept where a member was written
+    -- what is kept once a member was written
     kept_with : (v : ℕ) (n : Member D s) → IsReady image n →
-        (left : List ℕ) (after : List (ExtentResult D s)) (capacity : List ℕ) →
+        (left : List ℕ) (after : List (ExtentResult D s)) (listed : List ℕ) →
         IsPool image book.plan (state_of left (set ms v n) after) →
-        All (λ (r : ExtentResult D s). result_image r ≡ image) after → capacity ≡ extents_of after →
-        HoldsPool image book left (set ms v n) after capacity room
-    kept_with v n ready left after capacity pool images numbers_are = record {
+        All (λ (r : ExtentResult D s). result_image r ≡ image) after → listed ≡ extents_of after →
+        HoldsPool image book left (set ms v n) after listed room
+    kept_with v n ready left after listed pool images numbers_are = record {
       nothing = kept.nothing;
       geometry = kept.geometry;
       pool = pool;
@@ -148,7 +147,7 @@ module _ {D : Type 0} {s : _} where
 
     module _ {event : Event} {m : Member D s} (named : IsNamed image queue ms arrived event m) (n : Member D s)
         (ready : IsReady image n) where
-      -- after an event by which nothing arrived
+      -- after an event without arrivals
       pub kept_step : (left : List ℕ) →
           IsStep image book.plan (state_of queue ms arrived) event (state_of left (set ms (worker_of event) n) arrived) →
           HoldsPool image book left (set ms (worker_of event) n) arrived numbers room
@@ -157,18 +156,18 @@ module _ {D : Type 0} {s : _} where
           (step_keeps image book.plan (state_of queue ms arrived) event (state_of left (set ms (worker_of event) n) arrived) named.may step kept.pool)
           kept.images kept.numbers_are
 
-      -- after one by which results did
-      pub kept_arrived : (after : List (ExtentResult D s)) (capacity : List ℕ) (more : List (ExtentResult D s)) →
+      -- after an event with arrivals
+      pub kept_arrived : (after : List (ExtentResult D s)) (listed : List ℕ) (more : List (ExtentResult D s)) →
           IsStep image book.plan (state_of queue ms arrived) event (state_of queue (set ms (worker_of event) n) after) →
           All (λ (r : ExtentResult D s). result_image r ≡ image) more → after ≡ arrived ++ more →
-          capacity ≡ numbers ++ extents_of more → HoldsPool image book queue (set ms (worker_of event) n) after capacity room
-      kept_arrived after capacity more step images is are =
-          kept_with (worker_of event) n ready queue after capacity
+          listed ≡ numbers ++ extents_of more → HoldsPool image book queue (set ms (worker_of event) n) after listed room
+      kept_arrived after listed more step images is are =
+          kept_with (worker_of event) n ready queue after listed
           (step_keeps image book.plan (state_of queue ms arrived) event (state_of queue (set ms (worker_of event) n) after) named.may step kept.pool)
           (rw is (All-append (λ (r : ExtentResult D s). result_image r ≡ image) arrived more kept.images images))
           (are ∙ ap (λ (ns : List ℕ). ns ++ extents_of more) kept.numbers_are ∙ sym (map-append (λ (r : ExtentResult D s). (scanned r).extent) arrived more) ∙ sym (ap extents_of is))
 
-      -- where the member was written as it was
+      -- after a member was written as it was
       pub kept_same : member_value n ≡ member_value m →
           HoldsPool image book queue (set ms (worker_of event) n) arrived numbers room
       kept_same value =

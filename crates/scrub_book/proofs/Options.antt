@@ -3,7 +3,7 @@ use Rattle.std.proofs.Common.{◌≡◌, false, Option, Some, None, refl}
 use Rattle.std.specs.Option.{is_some}
 use Rattle.std.proofs.lemmas.Bool.{true≢false}
 
--- what isn't there is nothing
+-- an option that has nothing is None
 pub is_nothing : {X : Type 0} (o : Option X) → is_some o ≡ false → o ≡ None
 is_nothing None is = refl
 is_nothing (Some x) is = absurd (true≢false is)

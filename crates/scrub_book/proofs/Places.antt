@@ -1,5 +1,5 @@
--- Places for the results of planned extents, as they are filled.
-use Rattle.std.proofs.Common.{refl, ◌≡◌, ◌<◌, ◌≤◌, ℕ, List, [], ◌∷◌, Bool, true, false, not, length, get_or, set, map, replicate, position, arith, sym, ◌∙◌, ap, Some, None, Option, IfSome, IfNone, All, zero, suc, inl, inr, Result, Ok, Err}
+-- Slots for the results of planned extents, as they are filled.
+use Rattle.std.proofs.Common.{refl, ◌≡◌, ◌<◌, ◌≤◌, ℕ, List, [], ◌∷◌, Bool, true, false, not, length, get_or, set, map, replicate, position, arith, sym, ◌∙◌, ap, Some, None, Option, IfSome, IfNone, zero, suc, inl, inr, Result, Ok, Err}
 use Rattle.std.specs.List.{AllZip, Contains, position_or_len}
 use Rattle.std.specs.List.Sorted.{IsPermutation, IsStrictlyIncreasing, IsBinarySearchResult}
 use Rattle.std.specs.Option.{is_some}
@@ -23,7 +23,7 @@ use Rattle.scrub_scan.proofs.Slots.{all_found}
 use Rattle.scrub_book.specs.Book.{BookValue, IsAdded, IsLeastMissing, HasAll}
 use Rattle.scrub_book.proofs.Options.{is_nothing}
 
--- a number among rising ones stands at one place
+-- a number is in only one place among rising ones
 pub one_place : (es : List ℕ) → IsStrictlyIncreasing es → (i j : ℕ) → i < length es → j < length es →
     get_or es i 0 ≡ get_or es j 0 → i ≡ j
 one_place es rising i j below within same = elim (cases_eq i j) [
@@ -35,7 +35,7 @@ one_place es rising i j below within same = elim (cases_eq i j) [
   ]
 ]
 
--- rising numbers don't fall
+-- rising numbers never fall
 numbers_rise : (es : List ℕ) → IsStrictlyIncreasing es → (i j : ℕ) → i ≤ j → j < length es →
     get_or es i 0 ≤ get_or es j 0
 numbers_rise es rising i j le below = elim (cases_eq i j) [
@@ -43,7 +43,7 @@ numbers_rise es rising i j le below = elim (cases_eq i j) [
   | inr differ ↦ omega (arith, AllPairs-from_increasing es rising i j 0 (omega (arith, le, differ)) below)
 ]
 
--- a search among rising numbers that ends without a place: the number isn't there
+-- if a search among rising numbers finds no place, the number isn't there
 pub not_found : (es : List ℕ) (e : ℕ) (r : Result ℕ ℕ) → IsStrictlyIncreasing es →
     IsBinarySearchResult (λ y. nat_cmp y e) es r → IfNone (result_ok r) (¬ Contains es e)
 not_found es e (Ok i) rising is = tt
@@ -63,17 +63,17 @@ not_false : (b : Bool) → not b ≡ false → b ≡ true
 not_false true h = refl
 not_false false h = absurd (true≢false h)
 
--- one more in front
+-- what a list contains, it contains with one more in front
 contains_more : {X : Type 0} (x : X) (xs : List X) (y : X) → Contains xs y → Contains (x ∷ xs) y
 contains_more x xs y there = (suc there.0, omega (arith, there.1), there.2)
 
 module _ {X : Type 0} where
-  -- nothing stands in empty places
+  -- empty slots hold nothing
   pub held_none : (n : ℕ) → held_in {X = X} (replicate n None) ≡ []
   held_none zero = refl
   held_none (suc n) = held_none n
 
-  -- where an empty place is filled, that stands there besides what stood there
+  -- filling an empty slot adds its value to those held
   pub held_set : (slots : List (Option X)) (i : ℕ) (d : Option X) (x : X) → i < length slots →
       is_some (get_or slots i d) ≡ false → IsPermutation (x ∷ held_in slots) (held_in (set slots i (Some x)))
   held_set [] i d x below empty = absurd (omega (arith, below))
@@ -85,19 +85,19 @@ module _ {X : Type 0} where
       (IsPermutation-middle (x ∷ []) y (held_in slots))
       (IsPermutation-cons y (x ∷ held_in slots) (held_in (set slots i (Some x))) (held_set slots i d x (omega (arith, below)) empty))
 
-  -- no place before the end is empty
+  -- if no slot before the end is empty, all are full
   full_before : (slots : List (Option X)) → length slots ≤ position_or_len (λ slot. not (is_some slot)) slots →
       AreFull slots
   full_before [] past = refl
   full_before (None ∷ slots) past = absurd (omega (arith, past))
   full_before (Some x ∷ slots) past = full_before slots (omega (arith, past))
 
-  -- the first empty place, as the code looks for it
+  -- the first empty slot, as the code finds it
   pub first_empty_is : {xs slots : List (Option X)} {o : Option ℕ} → o ≡ position (λ slot. not (is_some slot)) xs →
       xs ≡ slots → position (λ slot. not (is_some slot)) slots ≡ o
   first_empty_is is same = ap (position (λ slot. not (is_some slot))) (sym same) ∙ sym is
 
-  -- where no empty place is found, each has something
+  -- if no empty slot is found, all are full
   pub none_empty : (slots : List (Option X)) → is_some (position (λ slot. not (is_some slot)) slots) ≡ false →
       AreFull slots
   none_empty slots none =
@@ -105,7 +105,7 @@ module _ {X : Type 0} where
       is_nothing (position (λ slot. not (is_some slot)) slots) none in
       full_before slots (grind (arith, common_steps, is))
 
-  -- the first empty place, and those before it
+  -- the first empty slot, and those before it
   pub first_empty_at : (slots : List (Option X)) (i : ℕ) (d : Option X) →
       position (λ slot. not (is_some slot)) slots ≡ Some i →
       (i < length slots) × (is_some (get_or slots i d) ≡ false) × ((k : ℕ) → k < i → is_some (get_or slots k d) ≡ true)
@@ -117,12 +117,12 @@ module _ {X : Type 0} where
       )
 
   module _ {A : Type 0} (R : A → X → Type 0) where
-    -- each place is empty, so that all that stands there is as it should be
+    -- empty slots break no relation
     pub zip_none : (es : List A) → AllZip (λ e slot. IfSome slot (R e)) es (replicate (length es) None)
     zip_none [] = tt
     zip_none (e ∷ es) = (tt, zip_none es)
 
-    -- and with what belongs there put into a place
+    -- nor do they once a slot is filled with what belongs there
     pub zip_set : (es : List A) (slots : List (Option X)) (i : ℕ) (d : A) (x : X) → i < length es →
         R (get_or es i d) x → AllZip (λ e slot. IfSome slot (R e)) es slots →
         AllZip (λ e slot. IfSome slot (R e)) es (set slots i (Some x))
@@ -132,7 +132,7 @@ module _ {X : Type 0} where
     zip_set (e ∷ es) (slot ∷ slots) (suc i) d x below is h = (h.0, zip_set es slots i d x (omega (arith, below)) is h.1)
 
     module _ (number : X → A) (gives : (a : A) (x : X) → R a x → number x ≡ a) where
-      -- what stands in a place has its number
+      -- the number of a filled slot is among the numbers of what is held
       pub number_came : (es : List A) (slots : List (Option X)) (i : ℕ) (d : A) (c : Option X) →
           AllZip (λ e slot. IfSome slot (R e)) es slots → i < length es → is_some (get_or slots i c) ≡ true →
           Contains (map number (held_in slots)) (get_or es i d)
@@ -146,7 +146,7 @@ module _ {X : Type 0} where
           contains_more (number x) (map number (held_in slots)) (get_or es i d)
           (number_came es slots i d c h.1 (omega (arith, below)) filled)
 
-      -- each number there is that of a place that has something
+      -- each number of what is held is that of a filled slot
       pub came_from : (es : List A) (slots : List (Option X)) (e d : A) (c : Option X) →
           AllZip (λ e slot. IfSome slot (R e)) es slots → Contains (map number (held_in slots)) e →
           (j : ℕ) × (j < length es) × (is_some (get_or slots j c) ≡ true) × (get_or es j d ≡ e)
@@ -161,7 +161,7 @@ module _ {X : Type 0} where
           let rest = came_from es slots e d c h.1 (k, omega (arith, within), is) in
           (suc rest.0, omega (arith, rest.1), rest.2, rest.3)
 
--- a plan with all that it plans is the same plan
+-- a plan restricted to all its planned extents is the same plan
 pub same_plan : (old new : PlanValue) → IsRestricted old old.planned new → new ≡ old
 same_plan old new h = λ i. record {
   geometry = h.geometry i;
@@ -172,7 +172,7 @@ same_plan old new h = λ i. record {
   has_superblock = h.has i;
 }
 
--- the book of these places
+-- the book with these slots
 abbrev pub book_of : {D : Type 0} {s : _} → D → PlanValue → List (Option (ExtentResult D s)) → BookValue D
 book_of source plan slots = record { source = source; plan = plan; came = scanned_in slots }
 
@@ -181,18 +181,18 @@ module _ {D : Type 0} {s : _} (image : Image) (plan : PlanValue) (slots : List (
   numbers : extent_numbers (scanned_in slots) ≡ map (λ (r : ExtentResult D s). r.extent) (held_in slots)
   numbers = map-map (λ f. f.extent) (λ (r : ExtentResult D s). scanned r) (held_in slots)
 
-  -- as many places as planned extents
+  -- as many slots as planned extents
   pub place_count : length slots ≡ length plan.planned
   place_count = AllZip-long _ plan.planned slots are
 
-  -- the extent of a filled place came
+  -- the extent of a filled slot has its result
   pub came_at : (i : ℕ) (d : Option (ExtentResult D s)) → i < length plan.planned → is_some (get_or slots i d) ≡ true →
       Contains (extent_numbers (scanned_in slots)) (get_or plan.planned i 0)
   came_at i d below filled =
       rw numbers
       (number_came (IsPlannedResult image plan) (λ (r : ExtentResult D s). r.extent) (λ e r h. h.extent_is) plan.planned slots i 0 d are below filled)
 
-  -- that of an empty place didn't
+  -- that of an empty slot has none
   pub absent_at : IsStrictlyIncreasing plan.planned → (i : ℕ) (d : Option (ExtentResult D s)) →
       i < length plan.planned → is_some (get_or slots i d) ≡ false →
       ¬ Contains (extent_numbers (scanned_in slots)) (get_or plan.planned i 0)
@@ -203,12 +203,12 @@ module _ {D : Type 0} {s : _} (image : Image) (plan : PlanValue) (slots : List (
       let same : from.0 ≡ i = one_place plan.planned rising from.0 i from.1 below from.3 in
       true≢false (sym from.2 ∙ ap (λ n. is_some (get_or slots n d)) same ∙ empty)
 
-  -- where each place has something, each planned extent came
+  -- if all slots are full, each planned extent has its result
   pub has_all : (source : D) → AreFull slots → HasAll (book_of source plan slots)
   has_all source full = rw (all_found image plan slots are full).extents (All-contains_itself plan.planned)
 
   module _ (rising : IsStrictlyIncreasing plan.planned) (source : D) where
-    -- with an empty place, not each did
+    -- with an empty slot, not each has
     pub not_all : is_some (position (λ slot. not (is_some slot)) slots) ≡ true → ¬ HasAll (book_of source plan slots)
     not_all some = λ all. by all (position (λ slot. not (is_some slot)) slots) refl some
       where
@@ -220,7 +220,7 @@ module _ {D : Type 0} {s : _} (image : Image) (plan : PlanValue) (slots : List (
             let below : i < length plan.planned = omega (arith, first.0, place_count) in
             absent_at rising i None below first.1 (all i 0 below)
 
-    -- the extent of the first empty place is the least that didn't come
+    -- the extent of the first empty slot is the least without a result
     pub least_at : (i : ℕ) → position (λ slot. not (is_some slot)) slots ≡ Some i →
         IsLeastMissing (book_of source plan slots) (get_or plan.planned i 0)
     least_at i is =
@@ -250,7 +250,7 @@ module _ {D : Type 0} {s : _} (image : Image) (plan : PlanValue) (slots : List (
       is_planned : Contains plan.planned r.extent
       is_planned = rw number at (Contains-get_or plan.planned i 0 below)
 
-      -- a result of a planned extent, of this image, belongs in that extent's place
+      -- a result of this image belongs in the slot of its planned extent
       pub kept_set : result_image r ≡ image →
           (Contains plan.planned r.extent → pointer_of plan r.extent ≡ Some r.pointer) →
           AreSlots image plan (set slots i (Some r))
@@ -261,7 +261,7 @@ module _ {D : Type 0} {s : _} (image : Image) (plan : PlanValue) (slots : List (
       }) are
 
       module _ (d : Option (ExtentResult D s)) where
-        -- in an empty place it is one more
+        -- in an empty slot it is one more result
         pub added_at : is_some (get_or slots i d) ≡ false →
             IsAdded (book_of source plan slots) (scanned r) (book_of source plan (set slots i (Some r)))
         added_at empty = record {
@@ -274,7 +274,7 @@ module _ {D : Type 0} {s : _} (image : Image) (plan : PlanValue) (slots : List (
               (held_in (set slots i (Some r))) (held_set slots i d r (omega (arith, below, place_count)) empty);
         }
 
-        -- in a filled one it is a second one
+        -- in a filled slot it is a second one
         pub double_at : is_some (get_or slots i d) ≡ true →
             Contains plan.planned r.extent × Contains (extent_numbers (scanned_in slots)) r.extent
         double_at filled = (is_planned, rw number at (came_at i d below filled))

@@ -17,13 +17,13 @@ use Rattle.scrub_book.specs.declared.event.StepRefused.TheVariants.{NoWorker}
 use Rattle.scrub_book.specs.Pool.{MemberValue, PoolState, idle, start, worker_of, member_refusal, refusal, IsScanned, IsTake, IsDone, IsRetire, IsStep, Leads, having, IsMember, IsPool}
 use Rattle.scrub_book.proofs.Options.{is_nothing}
 
--- a test that gives nothing is false, and neither does the rest give anything
+-- if the whole gives nothing, the test is false and the rest gives nothing
 gives_nothing : {X : Type 0} (b : Bool) (x : X) (rest : Option X) → (if b then Some x else rest) ≡ None →
     (b ≡ false) × (rest ≡ None)
 gives_nothing true x rest none = absurd (none-some x (sym none))
 gives_nothing false x rest none = (refl, none)
 
--- what is asked of the member itself
+-- an event of a member isn't refused if the event isn't refused
 asked : (p : PoolState) (event : Event) (m : MemberValue) → slice_get p.members (worker_of event) ≡ Some m →
     refusal p event ≡ None → member_refusal p.queue event m ≡ None
 asked p event m at may =
@@ -46,7 +46,7 @@ placed f ms v m n at =
     ap (λ x. sum_by f (having x)) (get_or_from_slice_get ms v m m at) in
     omega (arith, wrote, is)
 
--- what one of them has is no more than what all have
+-- what one member has is no more than what all have
 pub one_among : (f : ℕ → ℕ) (ms : List MemberValue) (v : ℕ) (m : MemberValue) → slice_get ms v ≡ Some m →
     sum_by f (having m) ≤ sum_by (λ x. sum_by f (having x)) ms
 one_among f ms v m at =
@@ -57,7 +57,7 @@ one_among f ms v m at =
 free_has : (f : ℕ → ℕ) (m : MemberValue) → m.held ≡ None → sum_by f (having m) ≡ sum_by f (extent_numbers m.results)
 free_has f m free = ap (λ (o : Option ℕ). sum_by f (option_to_list o ++ extent_numbers m.results)) free
 
--- one that holds an extent has it beside them
+-- a member that holds an extent has it besides its results
 busy_has : (f : ℕ → ℕ) (m : MemberValue) (e : ℕ) → m.held ≡ Some e →
     sum_by f (having m) ≡ f e + sum_by f (extent_numbers m.results)
 busy_has f m e held =
@@ -65,7 +65,7 @@ busy_has f m e held =
     ∙ sum_by-cons f e (extent_numbers m.results)
 
 module _ (image : Image) (plan : PlanValue) where
-  -- a member keeps what each keeps
+  -- one member has the facts of all
   member_of : (ms : List MemberValue) (v : ℕ) (m : MemberValue) → slice_get ms v ≡ Some m →
       All (IsMember image plan) ms → IsMember image plan m
   member_of ms v m at are = rw (get_or_from_slice_get ms v m m at) at (are v m (slice_get_within ms v m at))

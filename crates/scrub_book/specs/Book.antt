@@ -1,4 +1,4 @@
--- A book of the results of planned extents: what came so far.
+-- A book, which collects the results of planned extents.
 use Rattle.std.specs.Prelude.{◌≡◌, ◌<◌, ◌∷◌, ℕ, List, [], All, Contains}
 use Rattle.std.specs.List.Sorted.{IsPermutation}
 use Rattle.scrub_disk.specs.Image.{Image}
@@ -21,7 +21,7 @@ pub record IsNewBook {D : Type 0} (source : D) (plan : PlanValue) (book : BookVa
   pub plan_is : book.plan ≡ plan
   pub nothing : book.came ≡ []
 
--- the same book with one more result, of a planned extent that had none there
+-- the same book with one more result, of a planned extent that had none
 pub record IsAdded {D : Type 0} (old : BookValue D) (one : Scanned) (new : BookValue D) : Type 0 where
   pub planned : Contains old.plan.planned one.extent
   pub first : ¬ Contains (extent_numbers old.came) one.extent

@@ -1,4 +1,4 @@
--- Which extents results are of.
+-- The extents that results are of.
 use Rattle.std.specs.Prelude.{ℕ, List, map}
 use Rattle.scrub_scan.specs.Scanned.{scanned}
 use Rattle.scrub_scan.specs.declared.extent_result.ExtentResult.{ExtentResult}

@@ -16,7 +16,7 @@ module _ {D : Type 0} {s : _} where
   results_in (Working core) = results_of core
   results_in (Through taken) = []
 
-  -- the member of the machine that a member of the code is
+  -- a member of the code, as a member of the machine
   abbrev pub member_value : Member D s → MemberValue
   member_value (Working core) = record { held = held_by core; taken = taken_by core; results = map (λ (r : ExtentResult D s). scanned r) (results_of core); has_retired = false }
   member_value (Through taken) = record { held = None; taken = taken.items; results = []; has_retired = true }
@@ -26,7 +26,6 @@ module _ {D : Type 0} {s : _} where
   HasRoom (Working core) = 1 ≤ spare_of core
   HasRoom (Through taken) = Unit {0}
 
--- the state of the machine, of what the code keeps
 module _ {D : Type 0} {s : _} where
   -- the state of the machine, from what the code keeps
   abbrev pub state_of : List ℕ → List (Member D s) → List (ExtentResult D s) → PoolState

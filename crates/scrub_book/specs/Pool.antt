@@ -1,4 +1,4 @@
--- The pool of workers as a machine of one thread: its state, what events do to it, which are refused, and when it is
+-- The pool of workers as a machine without threads: its state, what events do to it, which are refused, and when it is
 -- complete.
 use Rattle.std.specs.Prelude.{◌≡◌, ◌⊎◌, ◌+◌, ◌==◌, ◌&&◌, ◌++◌, ◌∷◌, ℕ, List, [], Bool, true, false, Option, Some, None, All, Contains, if◌then◌else◌, is_none, length, replicate, set, slice_get, sum_by, count_by}
 use Rattle.std.specs.List.{list_all}
@@ -36,7 +36,7 @@ pub record PoolValue (D : Type 0) : Type 0 where
 abbrev pub idle : MemberValue
 idle = record { held = None; taken = []; results = []; has_retired = false }
 
--- the first state: so many members, and each planned extent in the queue
+-- the first state: this many members, and each planned extent in the queue
 abbrev pub start : PlanValue → ℕ → PoolState
 start plan workers = record { queue = plan.planned; members = replicate workers idle; arrivals = [] }
 
@@ -108,7 +108,7 @@ pub record IsRetire (old : PoolState) (v : ℕ) (new : PoolState) : Type 0 where
     arrivals = old.arrivals ++ member.results;
   }
 
--- what an event does that isn't refused
+-- what an event does if it isn't refused
 abbrev pub IsStep : Image → PlanValue → PoolState → Event → PoolState → Type 0
 IsStep image plan old (Take v) new = IsTake old v new
 IsStep image plan old (Done v) new = IsDone image plan old v new
@@ -136,12 +136,12 @@ pub record IsAssembly (plan : PlanValue) (p : PoolState) (all : List Scanned) : 
 abbrev pub having : MemberValue → List ℕ
 having m = option_to_list m.held ++ extent_numbers m.results
 
--- what a number for each extent adds up to over the queue, what the members have, and the arrivals
+-- what a number for each extent adds up to over the queue, the members and the arrivals
 abbrev pub total : (ℕ → ℕ) → PoolState → ℕ
 total f p = sum_by f p.queue + sum_by (λ m. sum_by f (having m)) p.members + sum_by f (extent_numbers p.arrivals)
 
--- queue, held extents, results and arrivals are together the planned extents, each as often: any number for each extent
--- adds up to the same over both
+-- queue, held extents, results and arrivals are together the planned extents, each as often: any number for each extent adds
+-- up to the same over both
 abbrev pub IsAccount : PlanValue → PoolState → Type 0
 IsAccount plan p = (f : ℕ → ℕ) → total f p ≡ sum_by f plan.planned
 

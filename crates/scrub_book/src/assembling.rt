@@ -1,4 +1,4 @@
-//! The findings of one reader, assembled of results that arrived in whatever order. `scrub_pool` says who scans.
+//! The findings of one reader, assembled from results that arrived in any order. For who scans, see `scrub_pool`.
 
 ghost use Rattle.std.specs.Prelude.{◌≡◌, [], All, Some, map};
 ghost use Rattle.std.specs.List.Sorted.{IsPermutation};
@@ -11,11 +11,11 @@ use crate::book::Book;
 use scrub_disk::PageSource;
 use scrub_scan::{AllFindings, ExtentResult};
 
-/// What one reader finds, of the results of a book's planned extents, which arrived in whatever order: each planned extent's
-/// once and no other, all of the book's disk and under the write pointers of its plan. Nothing came to the book yet. It takes
-/// no memory.
+/// What one reader finds, assembled from results that arrived in any order: one result for each planned extent of the book
+/// and no other, all of the book's disk and under the write pointers of its plan. The book has no result yet. Takes no
+/// memory.
 pub fn assemble<'d, D: PageSource>(
-    book: Book<'d, D>,
+    mut book: Book<'d, D>,
     arrived: Vec<ExtentResult<'d, D>>,
 ) -> AllFindings<'d, D>
     requires nothing { book.came ≡ [] }
@@ -26,9 +26,6 @@ pub fn assemble<'d, D: PageSource>(
     ensures image { IsOfImage (λ s. D.image s) result (D.image book.entry.source) }
     ensures arrived { IsPermutation (map scanned arrived.entry.items) result.extents }
 {
-    // It tells that the planned extents rise.
-    let _ = book.plan().planned();
-    let mut book = book;
     for found in arrived {
         match book.add(found) {
             Ok(()) => (),

@@ -1,4 +1,4 @@
-//! Collecting the results of planned extents, in whatever order they come. `scrub_pool` says who scans them.
+//! Collecting the results of planned extents, in any order. For who scans them, see `scrub_pool`.
 
 ghost use Rattle.std.specs.Prelude.{◌≡◌, ◌<◌, length, slice_index, replicate, position, not, Contains, IfOk, IfErr, IfSome, IfNone, OnOk, OnErr, Some, None};
 ghost use Rattle.std.specs.Option.{is_some};
@@ -11,16 +11,16 @@ use scrub_super::Plan;
 use std::alloc::Global;
 use std::marker::Model;
 
-/// Why a result wasn't added, with that result.
+/// Why a result wasn't added, and that result.
 #[derive(Drop)]
 pub enum AddRefused<'d, D: PageSource> {
     /// Its extent isn't planned.
     Stranger(ExtentResult<'d, D>),
-    /// A result of its extent is there already.
+    /// The book already has a result of its extent.
     Double(ExtentResult<'d, D>),
 }
 
-/// The results of the planned extents of a disk that came so far. It has a place for each planned extent.
+/// The results so far of the planned extents of a disk, with a slot for each planned extent.
 #[derive(Drop)]
 pub struct Book<'d, D: PageSource> {
     source: &'d D,
@@ -29,6 +29,7 @@ pub struct Book<'d, D: PageSource> {
 }
 
 impl<'d, D: PageSource> Model for Book<'d, D> {
+    ghost use Rattle.std.specs.List.Sorted.{IsStrictlyIncreasing};
     ghost use Rattle.scrub_scan.specs.Slots.{AreSlots, scanned_in};
     ghost use Rattle.scrub_book.specs.Book.{BookValue};
 
@@ -36,10 +37,10 @@ impl<'d, D: PageSource> Model for Book<'d, D> {
 
     ghost view = { λ b. record { source = b.source.now; plan = b.plan; came = scanned_in b.slots.items } };
 
-    ghost invariant = { λ b. AreSlots (D.image b.source.now) b.plan b.slots.items };
+    ghost invariant = { λ b. AreSlots (D.image b.source.now) b.plan b.slots.items × IsStrictlyIncreasing b.plan.planned };
 }
 
-/// Where an extent stands among rising numbers.
+/// The place of an extent among rising numbers.
 fn place_of(planned: &[u32], extent: u32) -> Option<usize>
     requires { IsStrictlyIncreasing planned.now }
     ensures found { IfSome result (λ i. (i < length planned.now) × (slice_index planned.now i ≡ extent)) }
@@ -48,7 +49,7 @@ fn place_of(planned: &[u32], extent: u32) -> Option<usize>
     planned.binary_search(&extent).ok()
 }
 
-/// As many places without a result.
+/// This many slots without a result.
 fn empty_slots<'d, D: PageSource>(
     alloc: Global,
     n: usize,
@@ -62,7 +63,7 @@ fn empty_slots<'d, D: PageSource>(
     Ok(slots)
 }
 
-/// The first place without a result.
+/// The first slot without a result.
 fn first_empty<D: PageSource>(slots: &[Option<ExtentResult<'_, D>>]) -> Option<usize>
     ensures { result ≡ position (λ slot. not (is_some slot)) slots.now }
 {
@@ -75,7 +76,7 @@ impl<'d, D: PageSource> Book<'d, D> {
     ghost use Rattle.scrub_scan.specs.AllFindings.{AreAllFindings, IsOfImage};
     ghost use Rattle.scrub_book.specs.Book.{IsNewBook, IsAdded, IsAddRefused, IsLeastMissing, HasAll, IsFinished};
 
-    /// A book for the planned extents of a disk, to which nothing came yet.
+    /// A book for the planned extents of a disk, without results yet.
     pub fn new(alloc: Global, disk: &'d D, plan: &Plan) -> Result<Book<'d, D>, OutOfMemory>
         ensures { IfOk result (IsNewBook disk.now plan.now) }
     {
@@ -95,21 +96,23 @@ impl<'d, D: PageSource> Book<'d, D> {
         self.source
     }
 
-    /// The plan that tells which extents it collects.
+    /// The plan whose extents it collects.
     pub(crate) fn plan(&self) -> &Plan
         ensures { result.now ≡ self.now.plan }
     {
         &self.plan
     }
 
-    /// Adds the result of a planned extent that didn't come yet. Refusals, in this order: `Stranger`, `Double`; each gives
-    /// the result back. It takes no memory.
+    /// Adds the result of a planned extent that has none yet. Refusals, in this order: `Stranger`, `Double`; each gives the
+    /// result back. Takes no memory.
     pub fn add(&mut self, found: ExtentResult<'d, D>) -> Result<(), AddRefused<'d, D>>
         requires image { result_image found ≡ D.image self.old.source }
         requires pointer { Contains self.old.plan.planned found.extent → pointer_of self.old.plan found.extent ≡ Some found.pointer }
         ensures added { OnOk result (IsAdded self.old (scanned found.entry) self.new) }
         ensures refused { IfErr result (IsAddRefused self.old found.entry) }
         ensures same { OnErr result (self.new ≡ self.old) }
+        // True of every value of the type.
+        ensures rising { IsStrictlyIncreasing self.old.plan.planned }
     {
         let Some(i) = place_of(self.plan.planned(), found.extent()) else {
             return Err(AddRefused::Stranger(found));
@@ -121,7 +124,7 @@ impl<'d, D: PageSource> Book<'d, D> {
         Ok(())
     }
 
-    /// The least planned extent that didn't come yet.
+    /// The least planned extent without a result.
     pub fn missing(&self) -> Option<u32>
         ensures none { IfNone result (HasAll self.now) }
         ensures least { IfSome result (IsLeastMissing self.now) }
@@ -130,14 +133,12 @@ impl<'d, D: PageSource> Book<'d, D> {
         Some(self.plan.planned()[i])
     }
 
-    /// What one reader finds, where each planned extent came; else the book comes back. It takes no memory.
+    /// What one reader finds, if each planned extent has its result; else gives the book back. Takes no memory.
     pub fn finish(self) -> Result<AllFindings<'d, D>, Book<'d, D>>
         ensures all { IfOk result (λ all. IsFinished (D.image self.entry.source) self.entry all.extents) }
         ensures image { IfOk result (λ all. IsOfImage (λ s. D.image s) all (D.image self.entry.source)) }
         ensures back { IfErr result (λ book. (book ≡ self.entry) × ¬ HasAll self.entry) }
     {
-        // It tells that the planned extents rise.
-        let _ = self.plan.planned();
         if first_empty(&self.slots).is_some() {
             return Err(self);
         }

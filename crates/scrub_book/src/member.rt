@@ -1,4 +1,4 @@
-//! A member of the pool: a worker, or what is kept of one that retired. Which extent it is given is left to `pool_core`.
+//! A member of the pool: a worker, or what is kept of one that retired. For which extent it takes, see `pool_core`.
 
 ghost use Rattle.std.specs.Prelude.{◌≡◌, ◌&&◌, ◌++◌, is_none, [], ◌∷◌, Some, None, true, false, OnOk, OnErr, IfOk, map};
 ghost use Rattle.scrub_scan.specs.Scanned.{scanned};
@@ -12,7 +12,7 @@ use scrub_scan::ExtentResult;
 use std::alloc::Global;
 use std::mem;
 
-/// A worker, or the extents that one took which has retired.
+/// A worker, or the extents that a retired worker took.
 #[derive(Drop)]
 pub(crate) enum Member<'d, D: PageSource> {
     Working(WorkerCore<'d, D>),
@@ -55,7 +55,7 @@ impl<'d, D: PageSource> Member<'d, D> {
         self.held().is_none() && self.has_retired()
     }
 
-    /// It takes an extent. It takes no memory.
+    /// Takes an extent, which it then holds. Takes no memory.
     pub(crate) fn took(&mut self, extent: u32)
         requires working { (member_value self.old).has_retired ≡ false }
         requires free { (member_value self.old).held ≡ None }
@@ -70,7 +70,7 @@ impl<'d, D: PageSource> Member<'d, D> {
         }
     }
 
-    /// It is done with the extent that it holds, and has room for another. Where it can't, all is as it was.
+    /// Finishes the extent that it holds, and makes room for another. If that fails, nothing changes.
     pub(crate) fn done(&mut self, found: ExtentResult<'d, D>) -> Result<(), OutOfMemory>
         requires held { (member_value self.old).held ≡ Some found.extent }
         ensures value { OnOk result (member_value self.new ≡ having_found (member_value self.old) (scanned found.entry)) }
@@ -88,7 +88,7 @@ impl<'d, D: PageSource> Member<'d, D> {
         }
     }
 
-    /// It retires, and hands on its results. It takes no memory.
+    /// Retires, and hands on its results. Takes no memory.
     pub(crate) fn retire(&mut self, alloc: Global) -> Vec<ExtentResult<'d, D>>
         requires working { (member_value self.old).has_retired ≡ false }
         requires free { (member_value self.old).held ≡ None }

@@ -1,5 +1,5 @@
-//! The pool of workers as a machine of one thread: who takes, is done and retires at what time is told to it event by
-//! event. The threads are in `scrub_pool`.
+//! The pool of workers as a machine without threads, driven by events: who takes an extent, finishes one or retires, and
+//! when. For the threads, see `scrub_pool`.
 
 ghost use Rattle.std.specs.Prelude.{◌≡◌, ◌+◌, ◌≤◌, ◌++◌, ◌&&◌, is_none, All, map, replicate, slice_get, vec_len, IfOk, IfErr, OnOk, OnErr, None, true, false, Some};
 ghost use Rattle.std.specs.List.{list_all};
@@ -25,8 +25,8 @@ use std::alloc::Global;
 use std::collections::VecDeque;
 use std::marker::Model;
 
-/// A pool of workers over the planned extents of a disk. What nobody took yet, what its members hold and found, and what
-/// arrived are together the planned extents, each once.
+/// A pool of workers over the planned extents of a disk. Each planned extent is in exactly one place: in the queue, held by
+/// a member, among a member's results, or among the arrivals.
 #[derive(Drop)]
 pub struct PoolCore<'d, D: PageSource> {
     alloc: Global,
@@ -46,12 +46,12 @@ impl<'d, D: PageSource> Model for PoolCore<'d, D> {
 
     ghost view = { λ p. pool_value p.book p.queue.items p.members.items p.arrived.items };
 
-    // What the code keeps of a pool, in its lists, with room for what comes.
+    // The facts of the machine, and room for each planned extent to arrive.
     ghost invariant = { λ p. HasPool (D.image p.book.source) p.book
         p.queue.items p.members.items p.arrived.items p.numbers.items (vec_capacity p.arrived) (vec_capacity p.numbers) };
 }
 
-/// So many members that did nothing yet.
+/// This many members, which did nothing yet.
 fn new_members<'d, D: PageSource>(
     alloc: Global,
     workers: u32,
@@ -104,7 +104,7 @@ fn are_through<D: PageSource>(members: &[Member<'_, D>]) -> bool
     members.iter().all(|member| member.is_through())
 }
 
-/// Results arrive, behind those that are there. There is room.
+/// Appends results to those that arrived. There is room for them.
 fn arrive<'d, D: PageSource>(
     arrived: &mut Vec<ExtentResult<'d, D>>,
     numbers: &mut Vec<u32>,
@@ -125,7 +125,7 @@ fn arrive<'d, D: PageSource>(
 impl<'d, D: PageSource> PoolCore<'d, D> {
     ghost use Rattle.scrub_book.specs.Pool.{refusal, is_complete, IsNewPool, IsStepOf, IsStepRefused, IsTake, IsDone, IsRetire, IsAssembly, IsPool};
 
-    /// A pool of this many workers, at most 65, over the planned extents of a disk. It makes every growth that taking,
+    /// A pool of this many workers, at most 65, over the planned extents of a disk. It reserves all memory that taking,
     /// retiring and finishing need.
     pub fn new(
         alloc: Global,
@@ -162,7 +162,7 @@ impl<'d, D: PageSource> PoolCore<'d, D> {
         }
     }
 
-    /// The queue's front goes to a member.
+    /// Gives the front of the queue to a member.
     fn take(&mut self, worker: u32)
         requires { refusal self.old.state (Event.Take worker) ≡ None }
         ensures same { (self.new.source ≡ self.old.source) × (self.new.plan ≡ self.old.plan) }
@@ -175,7 +175,7 @@ impl<'d, D: PageSource> PoolCore<'d, D> {
         members[worker as usize].took(extent);
     }
 
-    /// What the image holds in the extent that a member holds.
+    /// Scans the extent that a member holds.
     fn scan_held(&self, worker: u32) -> Result<ExtentResult<'d, D>, OutOfMemory>
         requires { refusal self.now.state (Event.Done worker) ≡ None }
         ensures image { IfOk result (λ r. result_image r ≡ D.image self.now.source) }
@@ -188,7 +188,7 @@ impl<'d, D: PageSource> PoolCore<'d, D> {
         scan_extent(self.alloc, self.book.source(), self.book.plan(), extent)
     }
 
-    /// A member is done with the extent that it holds, which is scanned. Where it can't be, all is as it was.
+    /// Scans the extent that a member holds, and finishes it. If that fails, nothing changes.
     fn done(&mut self, worker: u32) -> Result<(), OutOfMemory>
         requires { refusal self.old.state (Event.Done worker) ≡ None }
         ensures same { (self.new.source ≡ self.old.source) × (self.new.plan ≡ self.old.plan) }
@@ -217,8 +217,8 @@ impl<'d, D: PageSource> PoolCore<'d, D> {
         arrive(arrived, numbers, results);
     }
 
-    /// What an event does. Refusals, in this order: `NoWorker`, `Retired`, `Busy` (a member that holds an extent can't
-    /// take another or retire), `Idle` (one that holds none can't be done), `QueueEmpty`, and `OutOfMemory`, where a
+    /// Does what an event says. Refusals, in this order: `NoWorker`, `Retired`, `Busy` (a member that holds an extent can't
+    /// take another or retire), `Idle` (one that holds none can't be done), `QueueEmpty`, and `OutOfMemory`, only when a
     /// member is done. After a refusal the pool is as it was.
     pub fn step(&mut self, event: Event) -> Result<(), StepRefused>
         ensures taken { OnOk result (IsStepOf (D.image self.old.source) self.old event self.new) }
@@ -236,24 +236,24 @@ impl<'d, D: PageSource> PoolCore<'d, D> {
         Ok(())
     }
 
-    /// The numbers of the extents that arrived, in the order of their arrival.
+    /// The numbers of the extents that arrived, in order of arrival.
     pub fn arrivals(&self) -> &[u32]
         ensures numbers { result.now ≡ extent_numbers self.now.state.arrivals }
-        // Every value of the type is such.
+        // True of every value of the type.
         ensures account { IsPool (D.image self.now.source) self.now.plan self.now.state }
     {
         self.numbers.as_slice()
     }
 
-    /// Whether nothing is left to take, nothing is held, and all members have retired. A pool of no workers is so from the
-    /// start where no extent is planned, and else never.
+    /// Whether the queue is empty, no member holds an extent, and all members have retired. A pool without workers is
+    /// complete from the start if no extent is planned, and otherwise never.
     pub fn is_complete(&self) -> bool
         ensures { result ≡ is_complete self.now.state }
     {
         self.queue.is_empty() && are_through(&self.members)
     }
 
-    /// What one reader finds, assembled of the arrivals of a complete pool; else the pool comes back. It takes no memory.
+    /// What one reader finds, assembled from the arrivals of a complete pool; else gives the pool back. Takes no memory.
     pub fn finish(self) -> Result<AllFindings<'d, D>, PoolCore<'d, D>>
         ensures complete { IfOk result (λ all. is_complete self.entry.state ≡ true) }
         ensures assembly { IfOk result (λ all. IsAssembly self.entry.plan self.entry.state all.extents) }
@@ -269,8 +269,8 @@ impl<'d, D: PageSource> PoolCore<'d, D> {
     }
 }
 
-/// A law: whatever the schedule, a pool that is complete has each planned extent arrived once, and its assembly is what
-/// one reader finds.
+/// A law: whatever the schedule, in a complete pool each planned extent has arrived once, and its assembly is what one
+/// reader finds.
 pub fn one_answer_in_every_schedule()
     ensures { (image : Image) (plan : PlanValue) → ArePlanned plan.geometry.extents plan.planned → EveryScheduleFinds image plan }
 {}

@@ -1,4 +1,4 @@
-//! What a worker that holds no extent took and found. How it came to it is left to `worker_core`.
+//! What a retired worker took and found. For a worker at work, see `worker_core`.
 
 ghost use Rattle.std.specs.Prelude.{◌≡◌};
 ghost use Rattle.scrub_book.specs.Extents.{extents_of};
@@ -6,8 +6,7 @@ ghost use Rattle.scrub_book.specs.Extents.{extents_of};
 use scrub_disk::PageSource;
 use scrub_scan::ExtentResult;
 
-/// The extents that a worker took, and their results in the same order. The type keeps that these are the results of
-/// those extents, each once.
+/// The extents that a worker took, and their results in the same order, one for each extent.
 #[derive(Drop)]
 pub struct Retired<'d, D: PageSource> {
     taken: Vec<u32>,
@@ -18,7 +17,7 @@ pub struct Retired<'d, D: PageSource> {
 impl<'d, D: PageSource> Retired<'d, D> {
     ghost use Rattle.scrub_book.specs.Worker.{retired_taken, retired_results};
 
-    /// The extents taken and their results.
+    /// Made of the extents taken and their results.
     pub(crate) fn new(taken: Vec<u32>, results: Vec<ExtentResult<'d, D>>) -> Retired<'d, D>
         requires { taken.items ≡ extents_of results.items }
         ensures taken { retired_taken result ≡ taken.items }
@@ -30,7 +29,7 @@ impl<'d, D: PageSource> Retired<'d, D> {
     /// The numbers of the extents that the worker took, in the order in which it took them.
     pub fn taken(&self) -> &[u32]
         ensures taken { result.now ≡ retired_taken self.now }
-        // Every value of the type is such.
+        // True of every value of the type.
         ensures matched { result.now ≡ extents_of (retired_results self.now) }
     {
         self.taken.as_slice()
@@ -39,26 +38,26 @@ impl<'d, D: PageSource> Retired<'d, D> {
     /// The results of these extents, in that order.
     pub fn results(&self) -> &[ExtentResult<'d, D>]
         ensures results { result.now ≡ retired_results self.now }
-        // Every value of the type is such.
+        // True of every value of the type.
         ensures matched { extents_of result.now ≡ retired_taken self.now }
     {
         self.results.as_slice()
     }
 
-    /// The results of these extents by value, in that order. It takes no memory.
+    /// The results of these extents by value, in that order. Takes no memory.
     pub fn into_results(self) -> Vec<ExtentResult<'d, D>>
         ensures results { result.items ≡ retired_results self.entry }
-        // Every value of the type is such.
+        // True of every value of the type.
         ensures matched { extents_of result.items ≡ retired_taken self.entry }
     {
         self.into_parts().1
     }
 
-    /// The extents and their results by value, both in that order. It takes no memory.
+    /// The extents and their results by value, both in that order. Takes no memory.
     pub fn into_parts(self) -> (Vec<u32>, Vec<ExtentResult<'d, D>>)
         ensures taken { result.0.items ≡ retired_taken self.entry }
         ensures results { result.1.items ≡ retired_results self.entry }
-        // Every value of the type is such.
+        // True of every value of the type.
         ensures matched { result.0.items ≡ extents_of result.1.items }
     {
         let Retired { taken, results } = self;

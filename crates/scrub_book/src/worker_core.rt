@@ -1,5 +1,4 @@
-//! What one worker took and found so far. It takes extents from `PoolCore`, or from the queue of `scrub_pool`, and
-//! `scrub_scan` scans them.
+//! What one worker took and found so far. For the queue that it takes from, see `pool_core` here or `scrub_pool`.
 
 ghost use Rattle.std.specs.Prelude.{◌≡◌, ◌≢◌, ◌+◌, ◌≤◌, ◌++◌, [], ◌∷◌, length, vec_len, Some, None, OnOk, OnErr, IfOk, IfErr};
 ghost use Rattle.std.specs.Vec.{vec_capacity};
@@ -12,9 +11,8 @@ use scrub_disk::PageSource;
 use scrub_scan::ExtentResult;
 use std::alloc::Global;
 
-/// The extents that a worker took, and the results of those that it doesn't hold, in the same order. It holds an extent
-/// from when it took it until its result is there. Spare is the number of extents that it has room for, the held one
-/// among them.
+/// The extents that a worker took, and the results of those that it doesn't hold, in the same order. It holds an extent from
+/// taking it until its result is there. Spare is the number of extents that it has room for, including the held one.
 #[derive(Drop)]
 pub struct WorkerCore<'d, D: PageSource> {
     held: Option<u32>,
@@ -31,7 +29,7 @@ impl<'d, D: PageSource> WorkerCore<'d, D> {
     ghost use Rattle.scrub_scan.specs.Scanned.{scanned};
     ghost use Rattle.scrub_book.specs.Worker.{held_by, taken_by, results_of, spare_of, HasResults, retired_taken, retired_results};
 
-    /// A worker that took nothing and has no spare. It takes no memory.
+    /// A worker that took nothing and has no spare. Takes no memory.
     pub fn new(alloc: Global) -> WorkerCore<'d, D>
         ensures held { held_by result ≡ None }
         ensures taken { taken_by result ≡ [] }
@@ -49,13 +47,13 @@ impl<'d, D: PageSource> WorkerCore<'d, D> {
     /// The number of the extent that the worker holds.
     pub(crate) fn held(&self) -> Option<u32>
         ensures held { result ≡ held_by self.now }
-        // Every value of the type is such.
+        // True of every value of the type.
         ensures results { HasResults self.now }
     {
         self.held
     }
 
-    /// Makes spare at least `n`. Where it can't, all is as it was.
+    /// Makes spare at least `n` extents. If that fails, nothing changes.
     pub fn reserve(&mut self, n: usize) -> Result<(), OutOfMemory>
         ensures held { held_by self.new ≡ held_by self.old }
         ensures taken { taken_by self.new ≡ taken_by self.old }
@@ -79,7 +77,8 @@ impl<'d, D: PageSource> WorkerCore<'d, D> {
         Ok(())
     }
 
-    /// The worker took an extent, and holds it from now on. It held none, and its spare is at least 1. It takes no memory.
+    /// Records that the worker took an extent, which it then holds. It held none, and its spare is at least 1. Takes no
+    /// memory.
     pub fn took(&mut self, extent: u32)
         requires free { held_by self.old ≡ None }
         requires spare { 1 ≤ spare_of self.old }
@@ -93,8 +92,8 @@ impl<'d, D: PageSource> WorkerCore<'d, D> {
         *held = Some(extent);
     }
 
-    /// What the worker found in the extent that it holds. From now on it holds none, and its spare is one less. It takes
-    /// no memory.
+    /// Records what the worker found in the extent that it holds. Then it holds none, and its spare is one less. Takes no
+    /// memory.
     pub fn done(&mut self, found: ExtentResult<'d, D>)
         requires { held_by self.old ≡ Some (scanned found).extent }
         ensures held { held_by self.new ≡ None }
@@ -113,7 +112,7 @@ impl<'d, D: PageSource> WorkerCore<'d, D> {
         *spare -= 1;
     }
 
-    /// The extents that the worker took, and their results. A worker that holds an extent comes back as it is. It takes no
+    /// The extents that the worker took, and their results. A worker that holds an extent is given back as it is. Takes no
     /// memory.
     pub fn retire(self) -> Result<Retired<'d, D>, WorkerCore<'d, D>>
         ensures free { IfOk result (λ r. held_by self.entry ≡ None) }

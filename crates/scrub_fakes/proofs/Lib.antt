@@ -1,4 +1,4 @@
 -- Lemmas on what the builders put.
 pub mod Built
--- Which extents are among those that are planned.
+-- Which extents are planned.
 pub mod Planned

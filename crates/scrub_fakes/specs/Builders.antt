@@ -23,12 +23,12 @@ pub record IsLocatorOf (extent offset : ℕ) (uuid payload : List ℕ) (l : Loca
   pub uuid_is : l.uuid ≡ uuid
   pub digest : l.digest ≡ sha256 payload
 
--- the record of these contents is put on a page of extent 0, and has so many bytes
+-- the record of these contents is put on a page of extent 0, and has this many bytes
 pub record PutsRecord (old new : Image) (page : ℕ) (c : Contents) (size : ℕ) : Type 0 where
   pub put : Puts old new 0 (page * old.geometry.page) (record_bytes old.geometry c)
   pub size_is : size ≡ length (record_bytes old.geometry c)
 
--- the plan of a disk by the superblock that counts there
+-- the plan of a disk, by the superblock that counts there
 pub record IsPlanOfDisk (image : Image) (plan : PlanValue) : Type 0 where
   pub choice : Choice
   pub chosen : IsChoice image choice

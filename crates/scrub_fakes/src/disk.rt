@@ -23,10 +23,10 @@ use uuid::Uuid;
 /// Why a builder put nothing.
 #[derive(Debug, Clone, Copy, PartialEq, Eq, Error)]
 pub enum Misfit {
-    /// What was to be put doesn't fit the disk, or what it is to be.
+    /// It doesn't fit the disk, or isn't a valid record or run.
     #[error("it doesn't fit")]
     DoesNotFit,
-    /// There was no memory for it.
+    /// Out of memory.
     #[error("out of memory")]
     OutOfMemory,
 }
@@ -63,7 +63,7 @@ pub fn small_disk(alloc: Global) -> Result<MemDisk, OutOfMemory>
     MemDisk::blank(alloc, small_geometry())
 }
 
-/// Puts bytes into an extent from an offset on.
+/// Puts bytes into an extent, from an offset in bytes on.
 pub fn put(disk: &mut MemDisk, extent: u32, offset: u32, bytes: &[u8]) -> Result<(), Misfit>
     ensures { OnOk result (Puts (image_of disk.old) (image_of disk.new) extent offset bytes.now) }
 {
@@ -88,7 +88,7 @@ pub fn mark_bad(disk: &mut MemDisk, extent: u32, page: u32) -> Result<(), Misfit
     Ok(())
 }
 
-/// Puts the plain frame of a UUID and a payload into an extent, and tells its locator.
+/// Puts the plain frame of a UUID and a payload into an extent, and gives its locator.
 pub fn put_chunk(
     alloc: Global,
     disk: &mut MemDisk,
@@ -107,7 +107,7 @@ pub fn put_chunk(
     Ok(locate(extent, offset, uuid, payload))
 }
 
-/// Puts the sealed frame of a UUID and a payload into an extent, and tells its locator.
+/// Puts the sealed frame of a UUID and a payload into an extent, and gives its locator.
 pub fn put_sealed(
     alloc: Global,
     disk: &mut MemDisk,
@@ -126,7 +126,7 @@ pub fn put_sealed(
     Ok(locate(extent, offset, uuid, payload))
 }
 
-/// The payload of the run of one shard, 64 locators at most: without any it says that the shard was deleted.
+/// The payload of the run of one shard with at most 64 locators. Without locators it says that the shard was deleted.
 pub fn run_of(alloc: Global, id: ShardId, locators: &[Locator]) -> Result<Vec<u8>, Misfit>
     ensures { IfOk result (λ out. out.items ≡ run_bytes (record { id = id; locators = locators.now } ∷ [])) }
 {
@@ -137,7 +137,7 @@ pub fn run_of(alloc: Global, id: ShardId, locators: &[Locator]) -> Result<Vec<u8
     Ok(write_run(alloc, &[entry])?)
 }
 
-/// Whether a record for this geometry can tell these pointers and runs.
+/// Whether a record for this geometry can hold these pointers and runs.
 fn are_contents(geometry: Geometry, pointers: &[u32], runs: &[Locator]) -> bool
     ensures { IsTrue result → ArePointers geometry pointers.now × (length runs.now ≤ MAX_RUNS) }
 {
@@ -163,8 +163,8 @@ fn are_chunk_extents(extents: &[u32], end: u32) -> bool
     true
 }
 
-/// Puts the record of a superblock on a page of extent 0, and tells its length in bytes. It has a pointer for each extent but
-/// extent 0, none past the extent's end, 32 runs at most, and retires extents of the disk by rising numbers, if any.
+/// Puts the record of a superblock on a page of extent 0, and gives its length in bytes. It has a pointer for each extent
+/// but extent 0, none past the extent's end, at most 32 runs, and retires extents of the disk by rising numbers, if any.
 pub fn put_contents(
     alloc: Global,
     disk: &mut MemDisk,
@@ -186,8 +186,8 @@ pub fn put_contents(
     Ok(record.len())
 }
 
-/// Puts a superblock record on a page of extent 0, and tells its length in bytes. It has a pointer
-/// for each extent but extent 0, none past the extent's end, 32 runs at most, and lists no retired extents.
+/// Puts a superblock record on a page of extent 0, and gives its length in bytes. It has a pointer for each extent but
+/// extent 0, none past the extent's end, at most 32 runs, and no retired extents.
 pub fn put_record(
     alloc: Global,
     disk: &mut MemDisk,
@@ -207,7 +207,7 @@ pub fn put_record(
     put_contents(alloc, disk, page, &superblock)
 }
 
-/// Puts a superblock record of generation 1 on page 0 of extent 0, and tells its length in bytes.
+/// Puts a superblock record of generation 1 on page 0 of extent 0, and gives its length in bytes.
 pub fn put_superblock(
     alloc: Global,
     disk: &mut MemDisk,
@@ -220,7 +220,7 @@ pub fn put_superblock(
     put_record(alloc, disk, 0, 1, pointers, runs)
 }
 
-/// The plan of a disk, by the superblock that counts there, which has to retire no extent.
+/// The plan of a disk, by the superblock that counts there, which must not retire an extent.
 pub fn plan_of(alloc: Global, disk: &MemDisk) -> Result<Plan, Misfit>
     ensures plan { IfOk result (IsPlanOfDisk (image_of disk.now)) }
     ensures geometry { IfOk result (λ plan. plan.geometry ≡ (image_of disk.now).geometry) }

@@ -1,23 +1,23 @@
-//! A raw image over bytes that are lent to it.
+//! A raw image over borrowed bytes.
 
 ghost use Rattle.std.specs.Prelude.{◌≡◌, ◌≤◌, ◌<◌, ◌↔◌, Some, IsTrue};
 
 use scrub_disk::{RawFault, RawImage};
 
-/// A raw image of these bytes. One read gives so many at most, and some reads fail.
+/// A raw image of these bytes. A read gives a limited number of bytes, and some reads fail.
 #[derive(Drop)]
 pub struct RawBytes<'a> {
     /// All its bytes.
     pub bytes: &'a [u8],
-    /// How many bytes one read gives at most.
+    /// The maximum number of bytes that one read gives.
     pub most: usize,
-    /// From which read on they fail, counted from 0.
+    /// The first read that may fail, counted from 0.
     pub failing: u64,
-    /// How many reads fail.
+    /// The number of reads that fail.
     pub faults: u64,
-    /// How many reads were made.
+    /// The number of reads that were made.
     pub reads: u64,
-    /// How many of them failed.
+    /// The number of these that failed.
     pub failures: u64,
     pub ghost gives: { 1 ≤ most },
     pub ghost counted: { failures ≤ reads },
@@ -34,8 +34,8 @@ impl<'a> RawBytes<'a> {
         RawBytes::failing(bytes, usize::MAX, 0, 0)
     }
 
-    /// A raw image whose reads give `most` bytes at most, and of which `faults` fail, from that number on, counted
-    /// from 0.
+    /// A raw image whose reads give at most `most` bytes. From read number `failing` on, counted from 0, `faults` reads
+    /// fail.
     pub fn failing(bytes: &'a [u8], most: usize, failing: u64, faults: u64) -> RawBytes<'a>
         requires { 1 ≤ most }
         ensures bytes { result.bytes.now ≡ bytes.now }

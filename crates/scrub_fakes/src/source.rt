@@ -10,7 +10,7 @@ use std::alloc::Global;
 use std::sync::atomic::{AtomicU64, Ordering};
 
 /// A disk in memory as a page source that counts, for each extent, how often one of its pages was asked for. No clause
-/// says what is counted, since other threads may ask at any time.
+/// states the counts, since other threads may ask at any time.
 #[derive(Drop)]
 pub struct CountingSource<'a> {
     disk: &'a MemDisk,

@@ -6,19 +6,19 @@ use std::alloc::Global;
 use std::io;
 use std::io::{ErrorKind, Write};
 
-/// Takes three bytes a call at most, and none once it is full.
+/// Takes at most three bytes a call, and none once it is full.
 #[derive(Drop)]
 pub struct NarrowWriter {
     /// The bytes that it took.
     pub taken: Vec<u8>,
-    /// How many more it takes.
+    /// How many more bytes it takes.
     pub room: usize,
-    /// Whether a full writer answers an error, or else 0 bytes.
+    /// Whether a full writer returns an error; else it returns 0 bytes.
     pub fails: bool,
 }
 
 impl NarrowWriter {
-    /// A writer that takes so many bytes.
+    /// A writer that takes this many bytes.
     pub fn new(alloc: Global, room: usize, fails: bool) -> NarrowWriter
         ensures taken { result.taken.items ≡ [] }
         ensures room { result.room ≡ room }

@@ -13,19 +13,30 @@ use Rattle.scrub_map.specs.Kept.{KeepsBlocks}
 use Rattle.scrub_map.specs.Rescued.{AreLostBlocks}
 use Rattle.scrub_map.specs.Gaps.{IsHitBy, IsInGap, IsInGaps, MarksGap}
 
--- a gap hits each block from its first byte's to its last byte's
+-- a gap hits each block from that of its first byte to that of its last byte
 hit_between : (gap : Gap) (size n : ℕ) → 0 < size → gap.from / size ≤ n → n ≤ (gap.to - 1) / size → IsHitBy gap size n
 hit_between gap size n some low high =
     let first : gap.from < n * size + size = omega (arith, mul-le-mul_left size low) in
     let last : n * size ≤ gap.to - 1 = omega (arith, mul-le-mul_left size high) in
     let filled : gap.from < gap.to = gap.has_a_byte in
     elim (cases_lt gap.from (n * size)) [
-      | inl before ↦ record { place = n * size; low = omega arith; high = omega (arith, some); inside = record { low = omega (arith, before); high = omega (arith, last, filled) } }
-      | inr behind ↦ record { place = gap.from; low = behind; high = first; inside = record { low = omega arith; high = filled } }
+      | inl before ↦ record {
+        place = n * size;
+        low = omega arith;
+        high = omega (arith, some);
+        inside = record { low = omega (arith, before); high = omega (arith, last, filled) };
+      }
+      | inr behind ↦ record {
+        place = gap.from;
+        low = behind;
+        high = first;
+        inside = record { low = omega arith; high = filled };
+      }
     ]
 
--- and no other
-between_hit : (gap : Gap) (size n : ℕ) → 0 < size → IsHitBy gap size n → (gap.from / size ≤ n) × (n ≤ (gap.to - 1) / size)
+-- it hits no other block
+between_hit : (gap : Gap) (size n : ℕ) → 0 < size → IsHitBy gap size n →
+    (gap.from / size ≤ n) × (n ≤ (gap.to - 1) / size)
 between_hit gap size n some hit = (
   elim (cases_lt n (gap.from / size)) [
     | inl under ↦ let more : n + 1 ≤ gap.from / size = omega (arith, under) in
@@ -39,29 +50,44 @@ between_hit gap size n some hit = (
   ],
 )
 
--- a mark for each block from the first on that the loop has passed, and those of before
+-- each block that the loop has passed is marked, and other marks are as before
 pub record MarksFrom (first behind number : ℕ) (before after : List Bool) : Type 0 where
   pub placed : (number ≤ behind) ⊎ (number ≡ first)
-  pub marked : (n : ℕ) → n < length before → (get_or after n false ≡ true) ↔ ((get_or before n false ≡ true) ⊎ ((first ≤ n) × (n < number)))
+  pub marked : (n : ℕ) → n < length before →
+      (get_or after n false ≡ true) ↔ ((get_or before n false ≡ true) ⊎ ((first ≤ n) × (n < number)))
 
 pub marks_none : (first behind : ℕ) (before : List Bool) → MarksFrom first behind first before before
 marks_none first behind before = record {
   placed = inr refl;
-  marked = λ n below. (λ marked. inl marked, λ either. elim either [ inl marked ↦ marked | inr none ↦ absurd (omega (arith, none.0, none.1)) ]);
+  marked = λ n below. (
+    λ marked. inl marked,
+    λ either. elim either [
+      | inl marked ↦ marked
+      | inr none ↦ absurd (omega (arith, none.0, none.1))
+    ],
+  );
 }
 
-pub marks_more : (first behind number : ℕ) (before after : List Bool) → first ≤ number → number < behind → number < length after →
+pub marks_more : (first behind number : ℕ) (before after : List Bool) → first ≤ number → number < behind →
+    number < length after →
     MarksFrom first behind number before after → MarksFrom first behind (number + 1) before (set after number true)
 marks_more first behind number before after low high below m = record {
   placed = inl (omega (arith, high));
   marked = λ n within. elim (cases_eq n number) [
     | inr ne ↦
         let same : get_or (set after number true) n false ≡ get_or after n false = get_or-set_other after number n true false ne in (
-          λ marked. elim ((m.marked n within).0 (sym same ∙ marked)) [ inl old ↦ inl old | inr new ↦ inr (new.0, omega (arith, new.1)) ],
-          λ either. same ∙ (m.marked n within).1 (elim either [ inl old ↦ inl old | inr new ↦ inr (new.0, omega (arith, new.1, ne)) ]),
+          λ marked. elim ((m.marked n within).0 (sym same ∙ marked)) [
+            | inl old ↦ inl old
+            | inr new ↦ inr (new.0, omega (arith, new.1))
+          ],
+          λ either. same ∙ (m.marked n within).1 (elim either [
+            | inl old ↦ inl old
+            | inr new ↦ inr (new.0, omega (arith, new.1, ne))
+          ]),
         )
     | inl e ↦
-        let here : get_or (set after number true) n false ≡ true = ap (λ k. get_or (set after number true) k false) e ∙ get_or-set_same after number true false below in
+        let here : get_or (set after number true) n false ≡ true =
+        ap (λ k. get_or (set after number true) k false) e ∙ get_or-set_same after number true false below in
         (λ marked. inr (omega (arith, e, low), omega (arith, e)), λ either. here)
   ];
 }
@@ -79,7 +105,9 @@ marks_all gap size behind number before after some end high m n below = (
   ],
   λ either. (m.marked n below).1 (elim either [
     | inl old ↦ inl old
-    | inr hit ↦ let between = between_hit gap size n some hit in inr (between.0, omega (arith, between.1, below, high, end))
+    | inr hit ↦
+        let between = between_hit gap size n some hit in
+        inr (between.0, omega (arith, between.1, below, high, end))
   ]),
 )
 
@@ -95,12 +123,16 @@ pub record MarksGaps (gaps : List Gap) (size count : ℕ) (marks : List Bool) : 
   pub one_each : length marks ≡ count
   pub marked : (n : ℕ) → n < count → (get_or marks n false ≡ true) ↔ IsHitByAny gaps size n
 
--- a byte of one gap more
-pub in_gaps_push : (gaps : List Gap) (gap : Gap) (i : ℕ) → IsInGaps (gaps ++ gap ∷ []) i → IsInGaps gaps i ⊎ IsInGap gap i
+-- a byte of one more gap
+pub in_gaps_push : (gaps : List Gap) (gap : Gap) (i : ℕ) → IsInGaps (gaps ++ gap ∷ []) i →
+    IsInGaps gaps i ⊎ IsInGap gap i
 in_gaps_push [] gap i (inl here) = inr here
 in_gaps_push [] gap i (inr none) = absurd none
 in_gaps_push (first ∷ gaps) gap i (inl here) = inl (inl here)
-in_gaps_push (first ∷ gaps) gap i (inr more) = elim (in_gaps_push gaps gap i more) [ inl old ↦ inl (inr old) | inr new ↦ inr new ]
+in_gaps_push (first ∷ gaps) gap i (inr more) = elim (in_gaps_push gaps gap i more) [
+  | inl old ↦ inl (inr old)
+  | inr new ↦ inr new
+]
 
 pub in_gaps_before : (gaps more : List Gap) (i : ℕ) → IsInGaps gaps i → IsInGaps (gaps ++ more) i
 in_gaps_before [] more i none = absurd none
@@ -111,34 +143,49 @@ pub in_gaps_last : (gaps : List Gap) (gap : Gap) (i : ℕ) → IsInGap gap i →
 in_gaps_last [] gap i here = inl here
 in_gaps_last (first ∷ gaps) gap i here = inr (in_gaps_last gaps gap i here)
 
-pub gaps_none : (gaps : List Gap) (size count : ℕ) (marks : List Bool) → marks ≡ replicate count false → MarksGaps (take 0 gaps) size count marks
+pub gaps_none : (gaps : List Gap) (size count : ℕ) (marks : List Bool) → marks ≡ replicate count false →
+    MarksGaps (take 0 gaps) size count marks
 gaps_none gaps size count marks e = record {
   one_each = ap length e ∙ length-replicate count false;
-  marked = λ n below. (λ marked. absurd (false≢true (sym (ap (λ m. get_or m n false) e ∙ get_or-replicate count n false false below) ∙ marked)), λ hit. absurd hit.inside);
+  marked = λ n below. (
+    λ marked. absurd (false≢true (sym (ap (λ m. get_or m n false) e ∙ get_or-replicate count n false false below) ∙ marked)),
+    λ hit. absurd hit.inside,
+  );
 }
 
-pub gaps_more : (gaps : List Gap) (i size count : ℕ) (gap : Gap) (before after : List Bool) → i < length gaps → gap ≡ get_or gaps i gap →
-    MarksGaps (take i gaps) size count before → length after ≡ length before → MarksGap gap size before after → MarksGaps (take (i + 1) gaps) size count after
+pub gaps_more : (gaps : List Gap) (i size count : ℕ) (gap : Gap) (before after : List Bool) → i < length gaps →
+    gap ≡ get_or gaps i gap →
+    MarksGaps (take i gaps) size count before → length after ≡ length before → MarksGap gap size before after →
+    MarksGaps (take (i + 1) gaps) size count after
 gaps_more gaps i size count gap before after below item m same marks = record {
   one_each = same ∙ m.one_each;
   marked = λ n within.
-      let cut : take (i + 1) gaps ≡ take i gaps ++ gap ∷ [] = rw add-one (take-suc gaps i gap below ∙ ap (λ g. take i gaps ++ g ∷ []) (sym item)) in
+      let cut : take (i + 1) gaps ≡ take i gaps ++ gap ∷ [] =
+      rw add-one (take-suc gaps i gap below ∙ ap (λ g. take i gaps ++ g ∷ []) (sym item)) in
       let inside : n < length before = omega (arith, within, m.one_each) in (
         λ marked. elim ((marks n inside).0 marked) [
           | inl old ↦ let hit = (m.marked n within).0 old in
-              record { place = hit.place; low = hit.low; high = hit.high; inside = subst (λ gs. IsInGaps gs hit.place) (sym cut) (in_gaps_before (take i gaps) (gap ∷ []) hit.place hit.inside) }
-          | inr new ↦ record { place = new.place; low = new.low; high = new.high; inside = subst (λ gs. IsInGaps gs new.place) (sym cut) (in_gaps_last (take i gaps) gap new.place new.inside) }
+              record { place = hit.place; low = hit.low; high = hit.high; inside = rw cut (in_gaps_before (take i gaps) (gap ∷ []) hit.place hit.inside) }
+          | inr new ↦ record {
+            place = new.place;
+            low = new.low;
+            high = new.high;
+            inside = rw cut (in_gaps_last (take i gaps) gap new.place new.inside);
+          }
         ],
-        λ hit. (marks n inside).1 (elim (in_gaps_push (take i gaps) gap hit.place (subst (λ gs. IsInGaps gs hit.place) cut hit.inside)) [
-          | inl old ↦ inl ((m.marked n within).1 (record { place = hit.place; low = hit.low; high = hit.high; inside = old }))
+        λ hit. (marks n inside).1 (elim (in_gaps_push (take i gaps) gap hit.place (rw cut at hit.inside)) [
+          | inl old ↦
+              inl ((m.marked n within).1 (record { place = hit.place; low = hit.low; high = hit.high; inside = old }))
           | inr new ↦ inr (record { place = hit.place; low = hit.low; high = hit.high; inside = new })
         ]),
       );
 }
 
 -- the marks of all gaps and of the bytes from the end on are those of the lost blocks
-pub lost_marked : (map : RescueMap) (gap : Gap) (i size count : ℕ) (before after : List Bool) → length map.gaps.items ≤ i → gap.from ≡ map.end → gap.to ≡ 2 ^ 64 - 1 → size * count ≤ 2 ^ 63 →
-    MarksGaps (take i map.gaps.items) size count before → length after ≡ length before → MarksGap gap size before after →
+pub lost_marked : (map : RescueMap) (gap : Gap) (i size count : ℕ) (before after : List Bool) →
+    length map.gaps.items ≤ i → gap.from ≡ map.end → gap.to ≡ 2 ^ 64 - 1 → size * count ≤ 2 ^ 63 →
+    MarksGaps (take i map.gaps.items) size count before → length after ≡ length before →
+    MarksGap gap size before after →
     (blocks : List MapBlock) → KeepsBlocks map blocks → AreLostBlocks blocks size count after
 lost_marked map gap i size count before after all from to small m same marks blocks keeps = record {
   one_each = same ∙ m.one_each;
@@ -149,29 +196,45 @@ lost_marked map gap i size count before after all from to small m same marks blo
       let end : n * size + size ≤ 2 ^ 63 = omega (arith, mul-le-mul_left size last, small) in (
         λ marked. elim ((marks n inside).0 marked) [
           | inl old ↦ let hit = (m.marked n within).0 old in
-              record { place = hit.place; low = hit.low; high = hit.high; lost = (keeps hit.place).0 (inl (subst (λ gs. IsInGaps gs hit.place) whole hit.inside)) }
-          | inr new ↦ record { place = new.place; low = new.low; high = new.high; lost = (keeps new.place).0 (inr (omega (arith, new.inside.low, from))) }
+              record { place = hit.place; low = hit.low; high = hit.high; lost = (keeps hit.place).0 (inl (rw whole at hit.inside)) }
+          | inr new ↦ record {
+            place = new.place;
+            low = new.low;
+            high = new.high;
+            lost = (keeps new.place).0 (inr (omega (arith, new.inside.low, from)));
+          }
         ],
         λ lost. (marks n inside).1 (elim ((keeps lost.place).1 lost.lost) [
-          | inl gone ↦ inl ((m.marked n within).1 (record { place = lost.place; low = lost.low; high = lost.high; inside = subst (λ gs. IsInGaps gs lost.place) (sym whole) gone }))
-          | inr behind ↦ inr (record { place = lost.place; low = lost.low; high = lost.high; inside = record { low = omega (arith, behind, from); high = omega (arith, lost.high, end, to) } })
+          | inl gone ↦
+              inl
+              ((m.marked n within).1 (record { place = lost.place; low = lost.low; high = lost.high; inside = rw whole gone }))
+          | inr behind ↦ inr (record {
+            place = lost.place;
+            low = lost.low;
+            high = lost.high;
+            inside = record { low = omega (arith, behind, from); high = omega (arith, lost.high, end, to) };
+          })
         ]),
       );
 }
 
--- the same where the marks are written into a vector
-pub gaps_more_in : {Z : Type 0} (v : Vec Bool Z) (gaps : List Gap) (i size sized count : ℕ) (gap : Gap) (now new : List Bool) → i < length gaps → gap ≡ get_or gaps i gap → sized ≡ size →
-    now ≡ v.items → length new ≡ length now → MarksGaps (take i gaps) size count v.items → MarksGap gap sized now new → MarksGaps (take (i + 1) gaps) size count (with_items v new).items
+-- the same for marks in a vector
+pub gaps_more_in : {Z : Type 0} (v : Vec Bool Z) (gaps : List Gap) (i size sized count : ℕ) (gap : Gap) (now new : List Bool) →
+    i < length gaps → gap ≡ get_or gaps i gap → sized ≡ size →
+    now ≡ v.items → length new ≡ length now → MarksGaps (take i gaps) size count v.items → MarksGap gap sized now new →
+    MarksGaps (take (i + 1) gaps) size count (with_items v new).items
 gaps_more_in v gaps i size sized count gap now new below item se e same m marks =
     let whole : (with_items v new).items ≡ new = with_items_is v new (same ∙ ap length e ∙ sym v.ok.0) in
     subst (MarksGaps (take (i + 1) gaps) size count) (sym whole)
-    (gaps_more gaps i size count gap now new below item (subst (MarksGaps (take i gaps) size count) (sym e) m) same (subst (λ s. MarksGap gap s now new) se marks))
+    (gaps_more gaps i size count gap now new below item (subst (MarksGaps (take i gaps) size count) (sym e) m) same (rw se at marks))
 
-pub lost_marked_in : {Z : Type 0} (v : Vec Bool Z) (map : RescueMap) (gaps : List Gap) (gap : Gap) (i size sized count : ℕ) (now new : List Bool) → gaps ≡ map.gaps.items → length gaps ≤ i → gap.from ≡ map.end → gap.to ≡ 2 ^ 64 - 1 → sized ≡ size → size * count ≤ 2 ^ 63 →
+pub lost_marked_in : {Z : Type 0} (v : Vec Bool Z) (map : RescueMap) (gaps : List Gap) (gap : Gap) (i size sized count : ℕ) (now new : List Bool) →
+    gaps ≡ map.gaps.items → length gaps ≤ i → gap.from ≡ map.end → gap.to ≡ 2 ^ 64 - 1 → sized ≡ size →
+    size * count ≤ 2 ^ 63 →
     now ≡ v.items → length new ≡ length now → MarksGaps (take i gaps) size count v.items → MarksGap gap sized now new →
     (blocks : List MapBlock) → KeepsBlocks map blocks → AreLostBlocks blocks size count (with_items v new).items
 lost_marked_in v map gaps gap i size sized count now new g all from to se small e same m marks blocks keeps =
     let whole : (with_items v new).items ≡ new = with_items_is v new (same ∙ ap length e ∙ sym v.ok.0) in
     subst (AreLostBlocks blocks size count) (sym whole)
     (lost_marked map gap i size count now new (omega (arith, all, ap length g)) from to small
-    (subst (λ gs. MarksGaps (take i gs) size count now) g (subst (MarksGaps (take i gaps) size count) (sym e) m)) same (subst (λ s. MarksGap gap s now new) se marks) blocks keeps)
+    (rw (← g) (subst (MarksGaps (take i gaps) size count) (sym e) m)) same (rw se at marks) blocks keeps)

@@ -14,15 +14,19 @@ one_map text = of_said (statements (map_lines text))
     of_said [] a b first second = absurd first
     of_said (state ∷ said) a b first second = same_blocks 0 said a b first.1 second.1
 
--- the front of a map's blocks
-blocks_front : (from : ℕ) (said more : List (List (List ℕ))) (all : List MapBlock) → AreBlocksFrom from (said ++ more) all → (blocks : List MapBlock) × AreBlocksFrom from said blocks
+-- the first blocks of a map
+blocks_front : (from : ℕ) (said more : List (List (List ℕ))) (all : List MapBlock) →
+    AreBlocksFrom from (said ++ more) all → (blocks : List MapBlock) × AreBlocksFrom from said blocks
 blocks_front from [] more all are = ([], tt)
 blocks_front from (s ∷ said) more [] are = absurd are
 blocks_front from (s ∷ said) more (x ∷ all) are =
-    let rest : (blocks : List MapBlock) × AreBlocksFrom (x.position + x.size) said blocks = blocks_front (x.position + x.size) said more all are.2 in
+    let rest : (blocks : List MapBlock) × AreBlocksFrom (x.position + x.size) said blocks =
+    blocks_front (x.position + x.size) said more all are.2 in
     (x ∷ rest.0, (are.0, are.1, rest.1))
 
-front_said : (said more : List (List (List ℕ))) → (said ++ more ≡ []) ⊎ ((blocks : List MapBlock) × IsMapOf (said ++ more) blocks) → (said ≡ []) ⊎ ((blocks : List MapBlock) × IsMapOf said blocks)
+front_said : (said more : List (List (List ℕ))) →
+    (said ++ more ≡ []) ⊎ ((blocks : List MapBlock) × IsMapOf (said ++ more) blocks) →
+    (said ≡ []) ⊎ ((blocks : List MapBlock) × IsMapOf said blocks)
 front_said [] more begins = inl refl
 front_said (state ∷ said) more (inl none) = absurd (cons_not_nil state (said ++ more) none)
   where
@@ -32,13 +36,13 @@ front_said (state ∷ said) more (inr is) =
     let front : (blocks : List MapBlock) × AreBlocksFrom 0 said blocks = blocks_front 0 said more is.0 is.1.1 in
     inr (front.0, (is.1.0, front.1))
 
--- what begins a map begins with what begins one
+-- the front of what begins a map begins a map too
 begins_front : (lines more : List (List ℕ)) → BeginsMap (lines ++ more) → BeginsMap lines
 begins_front lines more begins =
     front_said (statements lines) (statements more)
-    (subst (λ (s : List (List (List ℕ))). (s ≡ []) ⊎ ((blocks : List MapBlock) × IsMapOf s blocks)) (statements-append lines more) begins)
+    (rw (statements-append lines more) at begins)
 
--- where all lines begin a map, none breaks a rule
+-- if all lines begin a map, none breaks a rule
 none_breaks : (lines : List (List ℕ)) (k : ℕ) → BeginsMap lines → ¬ BreaksAt lines k
 none_breaks lines k begins at =
     at.breaks (begins_front (at.before ++ at.line ∷ []) at.behind
@@ -46,17 +50,19 @@ none_breaks lines k begins at =
 
 pub no_bad_line : (text : List ℕ) (blocks : List MapBlock) (k : ℕ) → IsMap text blocks → ¬ IsFirstBadLine text k
 no_bad_line text blocks k is (inl at) = none_breaks (map_lines text) k (inr (blocks, is)) at
-no_bad_line text blocks k is (inr none) = subst (λ (s : List (List (List ℕ))). IsMapOf s blocks) none.0 is
+no_bad_line text blocks k is (inr none) = rw none.0 at is
 
--- of two fronts of a list the shorter one begins the longer one
-longer_front : (a : List (List ℕ)) (x : List ℕ) (behind b bs : List (List ℕ)) → a ++ (x ∷ behind) ≡ b ++ bs → length a < length b → (m : List (List ℕ)) × (b ≡ (a ++ x ∷ []) ++ m)
+-- of two fronts of a list, the shorter one begins the longer one
+longer_front : (a : List (List ℕ)) (x : List ℕ) (behind b bs : List (List ℕ)) → a ++ (x ∷ behind) ≡ b ++ bs →
+    length a < length b → (m : List (List ℕ)) × (b ≡ (a ++ x ∷ []) ++ m)
 longer_front a x behind [] bs e less = absurd (omega (arith, less))
 longer_front [] x behind (y ∷ b) bs e less = (b, same_first x y behind (b ++ bs) e b)
   where
     same_first : (x y : List ℕ) (xs cs : List (List ℕ)) → x ∷ xs ≡ y ∷ cs → (b : List (List ℕ)) → y ∷ b ≡ x ∷ b
     same_first x y xs cs e b = cc
 longer_front (z ∷ a) x behind (y ∷ b) bs e less =
-    let rest : (m : List (List ℕ)) × (b ≡ (a ++ x ∷ []) ++ m) = longer_front a x behind b bs (same_rest z y (a ++ (x ∷ behind)) (b ++ bs) e) (omega (arith, less)) in
+    let rest : (m : List (List ℕ)) × (b ≡ (a ++ x ∷ []) ++ m) =
+    longer_front a x behind b bs (same_rest z y (a ++ (x ∷ behind)) (b ++ bs) e) (omega (arith, less)) in
     (rest.0, same_both z y (a ++ (x ∷ behind)) (b ++ bs) e b ((a ++ x ∷ []) ++ rest.0) rest.1)
   where
     same_rest : (z y : List ℕ) (xs bs : List (List ℕ)) → z ∷ xs ≡ y ∷ bs → xs ≡ bs
@@ -65,9 +71,12 @@ longer_front (z ∷ a) x behind (y ∷ b) bs e less =
     same_both : (z y : List ℕ) (xs bs : List (List ℕ)) → z ∷ xs ≡ y ∷ bs → (c d : List (List ℕ)) → c ≡ d → y ∷ c ≡ z ∷ d
     same_both z y xs bs e c d same = cc
 
-not_before : (lines : List (List ℕ)) (j k : ℕ) (first : BreaksAt lines j) (second : BreaksAt lines k) → ¬ (length first.before < length second.before)
+not_before : (lines : List (List ℕ)) (j k : ℕ) (first : BreaksAt lines j) (second : BreaksAt lines k) →
+    ¬ (length first.before < length second.before)
 not_before lines j k first second less =
-    let cut = longer_front first.before first.line first.behind second.before (second.line ∷ second.behind) (sym first.parts ∙ second.parts) less in
+    let cut =
+    longer_front first.before first.line first.behind second.before (second.line ∷ second.behind)
+    (sym first.parts ∙ second.parts) less in
     first.breaks (begins_front (first.before ++ first.line ∷ []) cut.0 (subst BeginsMap cut.1 second.begins))
 
 pub one_bad_line : (text : List ℕ) (j k : ℕ) → IsFirstBadLine text j → IsFirstBadLine text k → j ≡ k
@@ -79,13 +88,14 @@ one_bad_line text j k (inl first) (inr none) = absurd (none_breaks (map_lines te
 one_bad_line text j k (inr none) (inl second) = absurd (none_breaks (map_lines text) k (inl none.0) second)
 one_bad_line text j k (inr none) (inr other) = none.1 ∙ sym other.1
 
--- blocks lack one list of marks
+-- blocks decide one list of marks
 same_truth : (a b : Bool) → (a ≡ true → b ≡ true) → (b ≡ true → a ≡ true) → a ≡ b
 same_truth true b to back = sym (to refl)
 same_truth false true to back = back refl
 same_truth false false to back = refl
 
-pub one_marking : (blocks : List MapBlock) (size count : ℕ) (a b : List Bool) → AreLostBlocks blocks size count a → AreLostBlocks blocks size count b → a ≡ b
+pub one_marking : (blocks : List MapBlock) (size count : ℕ) (a b : List Bool) → AreLostBlocks blocks size count a →
+    AreLostBlocks blocks size count b → a ≡ b
 one_marking blocks size count a b first second =
     same_lists a b (first.one_each ∙ sym second.one_each) (λ k d below.
     let within : k < count = omega (arith, below, first.one_each) in

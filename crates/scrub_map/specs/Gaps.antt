@@ -1,4 +1,4 @@
--- Gaps between the bytes that were rescued, and the blocks of a size that have a byte of one.
+-- Gaps between rescued bytes, and the blocks that have a byte of a gap.
 use Rattle.std.specs.Prelude.{◌≡◌, ◌≤◌, ◌<◌, ◌+◌, ◌*◌, ◌⊎◌, ◌↔◌, ℕ, Bool, true, false, List, [], ◌∷◌, length, slice_index_or}
 use Rattle.scrub_map.specs.declared.gap.Gap.{Gap}
 

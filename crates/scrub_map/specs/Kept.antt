@@ -5,11 +5,11 @@ use Rattle.scrub_map.specs.declared.map.RescueMap.{RescueMap}
 use Rattle.scrub_map.specs.Gaps.{IsInGaps}
 use Rattle.scrub_map.specs.Rescued.{IsCovered}
 
--- byte i is missing by what is kept of a map: a gap has it, or it is at or behind the end
+-- what is kept of a map lacks byte i: a gap has it, or it is at or after the end
 abbrev pub IsMissing : RescueMap → ℕ → Type 0
 IsMissing map i = IsInGaps map.gaps.items i ⊎ (map.end ≤ i)
 
--- what is kept of a map lacks just the bytes that these blocks don't cover
+-- what is kept of a map lacks exactly the bytes that these blocks don't cover
 abbrev pub KeepsBlocks : RescueMap → List MapBlock → Type 0
 KeepsBlocks map blocks = (i : ℕ) → IsMissing map i ↔ (¬ IsCovered blocks i)
 

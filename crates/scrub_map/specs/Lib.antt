@@ -6,6 +6,6 @@ pub mod Map
 pub mod Fault
 pub mod Rescued
 pub mod Kept
--- Steps of the code: gaps that are marked, and lines that are read.
+-- Steps of the code: marking gaps, and reading lines.
 pub mod Gaps
 pub mod Reading

@@ -8,14 +8,14 @@ use Rattle.scrub_map.specs.declared.block.MapBlock.{MapBlock}
 unfoldable pub statements : List (List ℕ) → List (List (List ℕ))
 statements lines = filter (λ fields. not (says_nothing fields)) (map line_fields lines)
 
--- these are blocks, the first at or behind byte `from`, and each other at or behind the end of the one before
+-- these are blocks, the first at or after byte `from`, and each other at or after the end of the one before
 abbrev pub AreBlocksFrom : ℕ → List (List (List ℕ)) → List MapBlock → Type 0
 AreBlocksFrom from [] [] = ⊤
 AreBlocksFrom from (fields ∷ more) (block ∷ blocks) =
     IsBlock fields block × (from ≤ block.position) × AreBlocksFrom (block.position + block.size) more blocks
 AreBlocksFrom from _ _ = ⊥
 
--- these lines are a map: a state, and these blocks behind it
+-- these lines are a map: a state, then these blocks
 abbrev pub IsMapOf : List (List (List ℕ)) → List MapBlock → Type 0
 IsMapOf [] blocks = ⊥
 IsMapOf (state ∷ more) blocks = IsState state × AreBlocksFrom 0 more blocks
@@ -28,7 +28,8 @@ IsMap text blocks = IsMapOf (statements (map_lines text)) blocks
 abbrev pub BeginsMap : List (List ℕ) → Type 0
 BeginsMap lines = (statements lines ≡ []) ⊎ ((blocks : List MapBlock) × IsMapOf (statements lines) blocks)
 
--- a map may begin with the lines before line k, and none begins with those up to it; the first line is line 1
+-- a map may begin with the lines before line k, and none begins with the lines up to and including it; lines are counted
+-- from 1
 pub record BreaksAt (lines : List (List ℕ)) (k : ℕ) : Type 0 where
   pub before : List (List ℕ)
   pub line : List ℕ

@@ -21,7 +21,7 @@ pub record AwaitsBlock (reading : Reading) : Type 0 where
   pub below : HasGapsBelowEnd reading.map
   pub ordered : reading.map.end ≤ reading.next
 
--- what is kept of a map, whether there was a state, and where the last block ends are those of these lines
+-- the map kept, whether there was a state, and where the last block ends are those of these lines
 pub record HasReadLines (lines : List (List ℕ)) (reading : Reading) : Type 0 where
   pub blocks : List MapBlock
   pub said : AreSaid reading.has_state (statements lines) blocks

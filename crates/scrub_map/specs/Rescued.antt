@@ -1,4 +1,4 @@
--- What blocks of a map cover, and which blocks of a size they lack.
+-- Which bytes the blocks of a map cover, and which blocks of a size they lack.
 use Rattle.std.specs.Prelude.{◌≡◌, ◌≤◌, ◌<◌, ◌+◌, ◌*◌, ◌⊎◌, ◌↔◌, ℕ, Bool, true, false, List, [], ◌∷◌, length, slice_index_or}
 use Rattle.scrub_map.specs.declared.block.MapBlock.{MapBlock}
 

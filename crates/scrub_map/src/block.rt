@@ -1,12 +1,12 @@
 //! A block of a map: a range of bytes, and whether they were rescued.
 
-/// A range of bytes that a line of a map speaks of.
+/// A range of bytes that a line of a map describes.
 #[derive(Debug, Clone, Copy, PartialEq, Eq)]
 pub struct MapBlock {
-    /// Where it begins, in bytes.
+    /// The position of its first byte, in bytes from the start of the disk.
     pub position: u64,
-    /// How many bytes it has. It may have none.
+    /// Its size in bytes, which may be 0.
     pub size: u64,
-    /// Whether its status is `+`: then all its bytes were read.
+    /// Whether its status is `+`, which means that all its bytes were read.
     pub is_rescued: bool,
 }

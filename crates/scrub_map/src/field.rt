@@ -4,7 +4,7 @@ ghost use Rattle.std.specs.Prelude.{◌≡◌, ◌≤◌, ◌<◌, [], ◌∷◌
 ghost use Rattle.std.specs.List.{position_or_len, prefix_len};
 ghost use Rattle.scrub_map.specs.Fields.{fields_of, is_field_blank, is_one_of};
 
-/// The first field of a text, and what is behind it. None where the text has no field.
+/// The first field of a text, and the bytes after it. None if the text has no field.
 pub(crate) fn next_field(text: &[u8]) -> Option<(&[u8], &[u8])>
     ensures { MatchOption result (fields_of text.now ≡ []) (λ cut. fields_of text.now ≡ cut.0.now ∷ fields_of cut.1.now) }
 {
@@ -15,7 +15,7 @@ pub(crate) fn next_field(text: &[u8]) -> Option<(&[u8], &[u8])>
     Some(text.split_at(field_length(text)))
 }
 
-/// How many blanks a text begins with.
+/// The number of blanks that a text begins with.
 fn blanks_before(text: &[u8]) -> usize
     ensures value { result ≡ prefix_len is_field_blank text.now }
     ensures within { result ≤ length text.now }
@@ -23,7 +23,7 @@ fn blanks_before(text: &[u8]) -> usize
     text.iter().take_while(|byte| is_blank(**byte)).count()
 }
 
-/// How many bytes precede the first blank.
+/// The number of bytes before the first blank.
 fn field_length(text: &[u8]) -> usize
     ensures value { result ≡ position_or_len is_field_blank text.now }
     ensures within { result ≤ length text.now }

@@ -2,7 +2,7 @@
 
 ghost use Rattle.std.specs.Prelude.{◌≡◌, ◌≤◌, ◌<◌, ◌+◌, ◌*◌, ◌^◌, length};
 
-/// Bytes that no block covers: those from one on, up to another that isn't among them.
+/// Bytes that no rescued block covers: from `from` up to but not including `to`.
 #[derive(Clone, Copy)]
 pub(crate) struct Gap {
     pub(crate) from: u64,
@@ -13,7 +13,7 @@ pub(crate) struct Gap {
 impl Gap {
     ghost use Rattle.scrub_map.specs.Gaps.{MarksGap};
 
-    /// Marks the blocks of a size, in bytes, that have a byte of the gap.
+    /// Marks each block of `size` bytes that has a byte of the gap.
     pub(crate) fn mark(self, marks: &mut [bool], size: u64)
         requires { 0 < size }
         ensures { MarksGap self size marks.old marks.new }

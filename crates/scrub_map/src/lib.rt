@@ -1,6 +1,5 @@
-//! The map of a rescue: what GNU ddrescue wrote down of a copy that it made of a disk. This crate reads such a map, and
-//! says which blocks of a size it lacks. It knows nothing of pages, frames or superblocks: what a lost block means is
-//! for the crates above to say.
+//! Map files of GNU ddrescue, which record what was copied from a disk. This crate reads a map and says which blocks it
+//! lacks. It knows nothing of pages, frames or superblocks.
 #![tactic(auto)]
 
 pub mod block;

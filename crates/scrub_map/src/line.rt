@@ -1,4 +1,4 @@
-//! The lines of a map, each by itself: a comment, the state, or a block.
+//! Single lines of a map: a comment, the state, or a block.
 
 ghost use Rattle.std.specs.Prelude.{◌≡◌, ◌≢◌, ◌≤◌, ◌<◌, ◌==◌, ◌∷◌, [], ℕ, length, MatchOption};
 ghost use Rattle.std.specs.Bool.{MatchBool};
@@ -12,13 +12,13 @@ use crate::block::MapBlock;
 use crate::field::{is_letter_of, next_field};
 use crate::number::{LIMIT, number, numeral};
 
-/// What a state may be: the letter of what ddrescue did when it wrote the map.
+/// The letters of a state: what ddrescue was doing when it wrote the map.
 const STATE_LETTERS: &[u8] = b"?*/-FG+";
 
-/// What the status of a block may be. Only `+` says that it was rescued.
+/// The letters of a block's status. Only `+` means that the block was rescued.
 const BLOCK_LETTERS: &[u8] = b"?*/-+";
 
-/// The first line of a text, and what is behind its line feed.
+/// The first line of a text, and the bytes after its line feed.
 pub(crate) fn next_line(text: &[u8]) -> (&[u8], &[u8])
     requires { 0 < length text.now }
     ensures lines { map_lines text.now ≡ result.0.now ∷ map_lines result.1.now }
@@ -32,7 +32,7 @@ pub(crate) fn next_line(text: &[u8]) -> (&[u8], &[u8])
     }
 }
 
-/// How many bytes precede the first line feed.
+/// The number of bytes before the first line feed.
 fn line_length(text: &[u8]) -> usize
     ensures value { result ≡ position_or_len (λ byte. byte == 10) text.now }
     ensures within { result ≤ length text.now }
@@ -40,7 +40,7 @@ fn line_length(text: &[u8]) -> usize
     text.iter().take_while(|byte| **byte != b'\n').count()
 }
 
-/// A line without the carriage return that may end it.
+/// A line without the carriage return at its end, if it has one.
 pub(crate) fn without_carriage_return(line: &[u8]) -> &[u8]
     ensures { result.now ≡ strip_carriage_return line.now }
 {
@@ -79,7 +79,7 @@ pub(crate) fn is_state(line: &[u8]) -> bool
     }
 }
 
-/// The block that a line describes. None where it describes none.
+/// The block that a line describes. None if it isn't a block.
 pub(crate) fn block_of(line: &[u8]) -> Option<MapBlock>
     ensures { MatchOption result ((block : MapBlock) → ¬ IsBlock (fields_of line.now) block) (IsBlock (fields_of line.now)) }
 {
@@ -96,7 +96,7 @@ pub(crate) fn block_of(line: &[u8]) -> Option<MapBlock>
     })
 }
 
-/// The fields of a line that has three.
+/// The three fields of a line. None if it has fewer or more.
 fn three_fields(line: &[u8]) -> Option<(&[u8], &[u8], &[u8])>
     ensures { MatchOption result (length (fields_of line.now) ≢ 3)
         (λ three. fields_of line.now ≡ three.0.now ∷ three.1.now ∷ three.2.now ∷ []) }

@@ -1,4 +1,4 @@
-//! What is kept of a map, and which blocks of a size it lacks. How its text is read is left to `reading`.
+//! What is kept of a map, and which blocks it lacks. For how its text is read, see `reading`.
 
 ghost use Rattle.std.specs.Prelude.{◌≡◌, ◌≤◌, ◌<◌, ◌+◌, ◌*◌, ◌^◌, List, length, IfOk, OnOk};
 
@@ -6,7 +6,7 @@ use crate::block::MapBlock;
 use crate::gap::Gap;
 use std::alloc::{AllocError as OutOfMemory, Global};
 
-/// What a map says was rescued, as the bytes that it lacks: gaps by rising place, and all bytes from the end on.
+/// A map, kept as the bytes that it lacks: gaps in rising order, and all bytes from `end` on.
 #[derive(Drop)]
 pub struct RescueMap {
     gaps: Vec<Gap>,
@@ -20,7 +20,7 @@ impl RescueMap {
     ghost use Rattle.scrub_map.specs.Kept.{HasGapsBelowEnd, KeepsBlocks};
     ghost use Rattle.scrub_map.specs.Rescued.{AreLostBlocks};
 
-    /// What a map without a block says: nothing was rescued.
+    /// A map without blocks: nothing was rescued.
     pub(crate) fn new(alloc: Global) -> RescueMap
         ensures kept { KeepsBlocks result [] }
         ensures below { HasGapsBelowEnd result }
@@ -32,7 +32,7 @@ impl RescueMap {
         }
     }
 
-    /// Adds a block that begins at or behind the end of each block before it.
+    /// Adds a block, which begins at or after the end of all blocks before it.
     pub(crate) fn add(&mut self, block: MapBlock) -> Result<(), OutOfMemory>
         requires ordered { self.old.end ≤ block.position }
         requires small { block.position + block.size < 2 ^ 63 }
@@ -55,9 +55,9 @@ impl RescueMap {
         Ok(())
     }
 
-    /// Says for each of the first blocks of a size, in bytes, whether it is lost: whether it has a byte that no block of
-    /// the map whose status is `+` covers. So a block behind the last one of the map is lost, and what the map says of
-    /// bytes behind the blocks asked for is passed over.
+    /// Says for each of the first `count` blocks of `size` bytes whether it is lost: whether it has a byte that no block of
+    /// the map with status `+` covers. A block after the end of the map is lost. Bytes after the last block asked for are
+    /// ignored.
     pub fn lost_blocks(
         &self,
         alloc: Global,

@@ -7,8 +7,8 @@ ghost use Rattle.scrub_map.specs.Number.{AppendsDigit, IsNumber, WritesNumber, i
 /// Each number of a map is below this, and so is the end of each block.
 pub(crate) const LIMIT: u64 = 1 << 63;
 
-/// The number that a text writes: decimal digits, hexadecimal ones behind `0x` or `0X`, or octal ones from a 0 on. It is
-/// at most 2^63 - 1.
+/// The number that a text spells: hexadecimal digits after `0x` or `0X`, octal digits if it begins with 0, else decimal
+/// digits. None if it is anything else, or above 2^63 - 1.
 #[tactic(auto, unfolding(crate::specs::Number::digits_of_number))]
 pub(crate) fn number(text: &[u8]) -> Option<u64>
     ensures { MatchOption result ((n : ℕ) → ¬ IsNumber text.now n) (IsNumber text.now) }
@@ -30,7 +30,7 @@ fn is_hexadecimal_text(text: &[u8]) -> bool
     text.len() >= 2 && text[0] == b'0' && (text[1] == b'x' || text[1] == b'X')
 }
 
-/// The radix of a number's digits.
+/// The radix of the digits of a number.
 #[tactic(auto, unfolding(crate::specs::Number::radix_of))]
 fn radix(text: &[u8]) -> u32
     ensures value { result ≡ radix_of text.now }
@@ -46,7 +46,7 @@ fn radix(text: &[u8]) -> u32
     }
 }
 
-/// The number that digits of a radix write, where the text is nothing else and the number is at most 2^63 - 1.
+/// The number that digits of this radix spell. None if there is no digit or anything else, or the number is above 2^63 - 1.
 pub(crate) fn numeral(radix: u32, digits: &[u8]) -> Option<u64>
     requires low { 2 ≤ radix }
     requires high { radix ≤ 16 }
@@ -62,7 +62,7 @@ pub(crate) fn numeral(radix: u32, digits: &[u8]) -> Option<u64>
     Some(value)
 }
 
-/// A number with one digit more behind it, where that is a digit of the radix and the number is at most 2^63 - 1.
+/// The value with one more digit appended. None if that isn't a digit of the radix, or the number is above 2^63 - 1.
 fn with_digit(value: u64, radix: u32, digit: u8) -> Option<u64>
     requires low { 2 ≤ radix }
     requires high { radix ≤ 16 }

@@ -1,4 +1,4 @@
-//! Reading the text of a map, line by line. What one line says is left to `line`, and what is kept of it to `map`.
+//! Reading the text of a map line by line. For what one line says see `line`, for what is kept of it see `map`.
 
 ghost use Rattle.std.specs.Prelude.{◌≡◌, ◌≤◌, ◌<◌, ◌+◌, [], ◌∷◌, ◌++◌, ℕ, Bool, List, IfErr, IfOk, OnOk, length, true, false};
 ghost use Rattle.scrub_map.specs.Map.{BeginsMap, IsFirstBadLine, IsMap};
@@ -15,11 +15,11 @@ use thiserror::Error;
 /// Why a text wasn't read as a map.
 #[derive(Debug, Clone, Copy, PartialEq, Eq, Error)]
 pub enum MapFault {
-    /// There was no memory for what is kept of the map.
+    /// Out of memory.
     #[error("out of memory")]
     OutOfMemory,
-    /// The first line that breaks a rule, where the first line of all is line 1. A map without a state breaks one at the
-    /// line behind its last.
+    /// The first line that breaks a rule, counted from 1. A text without a state breaks a rule at the line after its last
+    /// one.
     #[error("line {0}")]
     Line(u64),
 }
@@ -38,7 +38,7 @@ impl Reading {
     ghost use Rattle.scrub_map.specs.Lines.{says_nothing};
     ghost use Rattle.scrub_map.specs.Reading.{BreaksRules, HasReadLines, AwaitsBlock, ReadsMore};
 
-    /// Before the first line.
+    /// Nothing was read yet.
     fn new(alloc: Global) -> Reading
         ensures read { HasReadLines [] result }
         ensures ready { AwaitsBlock result }
@@ -50,7 +50,7 @@ impl Reading {
         }
     }
 
-    /// Reads the line of this number.
+    /// Reads the line with this number.
     fn add_line(&mut self, line: &[u8], number: u64) -> Result<(), MapFault>
         requires { AwaitsBlock self.old }
         ensures ready { OnOk result (AwaitsBlock self.new) }
@@ -67,7 +67,7 @@ impl Reading {
         self.add_state(line, number)
     }
 
-    /// Reads a line that says something where no line before it did: the state.
+    /// Reads the first line that is neither blank nor a comment: the state.
     fn add_state(&mut self, line: &[u8], number: u64) -> Result<(), MapFault>
         requires ready { AwaitsBlock self.old }
         requires said { says_nothing (fields_of line.now) ≡ false }
@@ -83,7 +83,7 @@ impl Reading {
         Ok(())
     }
 
-    /// Reads a line that says something behind the state: a block.
+    /// Reads a line after the state that is neither blank nor a comment: a block.
     fn add_block(&mut self, line: &[u8], number: u64) -> Result<(), MapFault>
         requires ready { AwaitsBlock self.old }
         requires said { says_nothing (fields_of line.now) ≡ false }
@@ -103,7 +103,7 @@ impl Reading {
         Ok(())
     }
 
-    /// What was read, where a line was a state. Else that line would be the one of this number.
+    /// The map that was read. If there was no state, the fault names this line, which is the one after the last.
     fn finish(self, number: u64) -> Result<RescueMap, MapFault>
         ensures read { IfOk result (λ map. (self.has_state ≡ true) × (map ≡ self.map)) }
         ensures bad { IfErr result (λ fault. IfBadLine fault (λ k. (k ≡ number) × (self.has_state ≡ false))) }
@@ -126,9 +126,9 @@ impl From<AllocError> for MapFault {
     }
 }
 
-/// Reads the map of a rescue that GNU ddrescue made. A line whose first character that isn't blank is `#` is a comment;
-/// blank lines are passed over. The first other line is the state, the others are blocks, each at or behind the end of
-/// the one before. The first line that breaks a rule is refused; memory may run out before it is reached.
+/// Reads a map that GNU ddrescue wrote. Blank lines, and comments whose first non-blank character is `#`, are skipped. The
+/// first other line is the state; the others are blocks, each at or after the end of the one before. The fault is the first
+/// line that breaks a rule, unless memory runs out before that line is reached.
 pub fn read_map(alloc: Global, text: &[u8]) -> Result<RescueMap, MapFault>
     ensures map { IfOk result (λ map. (blocks : List MapBlock) × IsMap text.now blocks × KeepsBlocks map blocks) }
     ensures line { IfErr result (λ fault. IfBadLine fault (IsFirstBadLine text.now)) }
@@ -145,18 +145,18 @@ pub fn read_map(alloc: Global, text: &[u8]) -> Result<RescueMap, MapFault>
     reading.finish(number)
 }
 
-/// A law: a text is a map of one list of blocks at most.
+/// A law: a text is a map of at most one list of blocks.
 pub fn one_list_of_blocks()
     ensures { (text : List ℕ) (a b : List MapBlock) → IsMap text a → IsMap text b → a ≡ b }
 {}
 
-/// A law: a map has no bad line, and any other text has one first bad line at most.
+/// A law: a map has no bad line, and any other text has at most one first bad line.
 pub fn one_first_bad_line()
     ensures none { (text : List ℕ) (blocks : List MapBlock) (k : ℕ) → IsMap text blocks → ¬ IsFirstBadLine text k }
     ensures one { (text : List ℕ) (j k : ℕ) → IsFirstBadLine text j → IsFirstBadLine text k → j ≡ k }
 {}
 
-/// A law: blocks of a map lack one list of blocks of a size.
+/// A law: the blocks of a map decide which blocks of a size are lost.
 pub fn one_list_of_lost_blocks()
     ensures { (blocks : List MapBlock) (size count : ℕ) (a b : List Bool) →
         AreLostBlocks blocks size count a → AreLostBlocks blocks size count b → a ≡ b }

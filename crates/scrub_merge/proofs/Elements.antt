@@ -3,7 +3,7 @@ use Rattle.std.proofs.Common.{◌⊎◌, ◌≡◌, ◌<◌, ℕ, zero, suc, Boo
 use Rattle.std.specs.Prelude.{filter}
 use Rattle.std.proofs.lemmas.Bool.{false≢true}
 
--- an element is the first one, or stands behind it
+-- an element is the first one, or comes after it
 pub Contains-cases : {X : Type 0} (x : X) (xs : List X) (q : X) → Contains (x ∷ xs) q → (x ≡ q) ⊎ Contains xs q
 Contains-cases x xs q (zero, here, is) = inl is
 Contains-cases x xs q (suc k, here, is) = inr (k, omega (arith, here), is)

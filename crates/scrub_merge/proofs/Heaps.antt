@@ -1,4 +1,4 @@
--- Heaps of what stands first in runs: one more is pushed, the first is taken out, and what the first tells.
+-- Heaps of the first entries of runs: one more is pushed, the first is taken out, and what the first says.
 use Rattle.std.proofs.Common.{◌≡◌, ◌+◌, ◌<◌, ◌⊎◌, ℕ, zero, suc, Bool, true, false, cond, Option, Some, None, List, [], ◌∷◌, length, get_or, All, Contains, arith, refl, sym, ◌∙◌, ap, subst, inl, inr}
 use Rattle.std.specs.Prelude.{IsPermutation, ◌==◌, Result, Ok, Err, OnOk}
 use Rattle.std.specs.BinaryHeap.{IsHeap, IsUpperBound, KeepsHeap}
@@ -25,12 +25,12 @@ use Rattle.scrub_merge.proofs.Left.{first_at}
 use Rattle.scrub_merge.proofs.Moves.{one_on, first_elsewhere, first_moved}
 use Rattle.scrub_merge.proofs.Identifiers.{id_cmp_total, same_id, not_less}
 
--- ---- what is of a run
+-- ---- what is of one run
 
 abbrev one_if : Bool → ℕ
 one_if t = cond t 1 0
 
--- one more is of the run of this number, if it is
+-- one more is counted for the run with this number, if it is of that run
 counted : (k : ℕ) (x : Under) (xs : List Under) → of_run k (x ∷ xs) ≡ one_if (x.number == k) + of_run k xs
 counted k x xs = sum_by-cons (λ (u : Under). one_if (u.number == k)) x xs
 
@@ -55,7 +55,7 @@ not_counted k (x ∷ xs) h (suc j) d here same =
 
 -- ---- one more is pushed
 
--- what stands first in one more run is pushed, if there is something
+-- the first entry of one more run is pushed, if there is one
 pub pushed : {runs : Runs} {Were Are : ℕ → Type 0} (number : ℕ) {items new : List Under} → IsHeapOver Were runs items →
     (Were number → ⊥) → ((k : ℕ) → Are k → (Were k) ⊎ (k ≡ number)) →
     ((k : ℕ) → Were k → Are k) → Are number →
@@ -109,7 +109,8 @@ popped {runs} {x} {items} {new} h p order = record {
   order = order;
   each = λ k d here. (others k d here, (rest k d here).1);
   all = λ k e among first.
-      let there : Contains (x ∷ new) (under_by k e) = Contains-permutation items (x ∷ new) (under_by k e) p (h.all k e tt first) in
+      let there : Contains (x ∷ new) (under_by k e) =
+      Contains-permutation items (x ∷ new) (under_by k e) p (h.all k e tt first) in
       elim (Contains-cases x new (under_by k e) there) [ inl is ↦ absurd (among (rw is)) | inr later ↦ later ];
   once = λ k. omega (arith, left_over k, h.once k);
 }
@@ -128,7 +129,7 @@ popped {runs} {x} {items} {new} h p order = record {
         not_counted x.number new
         (omega (arith, rw (eq-eqb x.number x.number refl) at (left_over x.number), h.once x.number))
 
--- the other runs alone count
+-- only the other runs count
 pub elsewhere : {runs after : Runs} (number : ℕ) {items : List Under} →
     ((k : ℕ) → (k ≡ number → ⊥) → first_of after k ≡ first_of runs k) → IsHeapBut number runs items →
     IsHeapBut number after items
@@ -139,9 +140,9 @@ elsewhere number {items} same h = record {
   once = h.once;
 }
 
--- ---- what the first tells
+-- ---- what the first says
 
--- what is in the heap stands first: an entry with its identifier
+-- what is in the heap is first in its run: an entry with its identifier
 pub in_heap : {runs : Runs} {items : List Under} (u : Under) → IsHeapOf runs items → Contains items u →
     (e : EntryValue) × (first_of runs u.number ≡ Some e) × (e.id ≡ u.id)
 in_heap {runs} {items} u h among =
@@ -152,7 +153,7 @@ in_heap {runs} {items} u h among =
     by None at same = cc
     by (Some e) at same = (e, at, ap (λ (v : Under). v.id) (same_Some (under_by u.number e) u same))
 
--- what is taken out stood first
+-- what is taken out was first in its run
 pub taken : {runs : Runs} {items new : List Under} {u : Under} → IsHeapOf runs items → IsPermutation items (u ∷ new) →
     (e : EntryValue) × (first_of runs u.number ≡ Some e) × (e.id ≡ u.id)
 taken {items = items} {new = new} {u = u} h p =
@@ -194,7 +195,7 @@ module _ {runs : Runs} {items : List Under} (u : Under) (h : IsHeapOf runs items
     newest = λ k e before at same. not_newer u (under_by k e) (above_all k e at) same before;
   }
 
--- where the first has another identifier than one that none is below, all have
+-- if the first has another identifier than one that none is below, all have
 pub others_all : (items : List Under) {id : ShardId} (u : Under) → Contains items u → IsUpperBound under_cmp u items →
     All (λ v. IsBelow v.id id → ⊥) items → is_eq (id_cmp u.id id) ≡ false →
     All (λ v. v.id ≡ id → ⊥) items
@@ -202,7 +203,7 @@ others_all items {id} u among bound least other k d here same =
     not_lesser u (get_or items k d) (All-from_recursion (λ w. is_lt (under_cmp u w) ≡ false) items bound k d here)
     (rw same (not_less u.id id other (All-contains (λ v. IsBelow v.id id → ⊥) items u least among)))
 
--- the first that is seen is the first that is taken out
+-- the first that peek sees is the one that pop takes out
 pub first_own : (items : List Under) {x u : Under} (id : ShardId) → 0 < length items → x ≡ get_or items 0 x →
     u ≡ get_or items 0 u → is_eq (id_cmp u.id id) ≡ true → x.id ≡ id
 first_own items {x} {u} id here is was tied = rw (is ∙ get_or_default items 0 x u here ∙ sym was) (same_id u.id id tied)
@@ -217,7 +218,7 @@ tied_by Less h = cc
 tied_by Equal h = refl
 tied_by Greater h = cc
 
--- where the heap is empty, nothing stands first
+-- if the heap is empty, no run has a first entry
 pub none_first : {runs : Runs} {items : List Under} → IsHeapOf runs items → length items ≡ 0 → AreEmpty runs
 none_first {runs} h none k = by (first_of runs k) refl
   where
@@ -225,7 +226,7 @@ none_first {runs} h none k = by (first_of runs k) refl
     by None at = refl
     by (Some e) at = absurd (omega (arith, (h.all k e tt at).1, none))
 
--- in the beginning the heap is empty
+-- at the start the heap is empty
 pub empty_heap : (runs : Runs) {items : List Under} → items ≡ [] → IsHeap under_cmp items →
     IsHeapOver (λ k. k < 0) runs items
 empty_heap runs is order = record {
@@ -235,7 +236,7 @@ empty_heap runs is order = record {
   once = λ k. rw is (omega arith);
 }
 
--- a heap over all that have a first entry is one of the runs
+-- a heap over all runs with a first entry is a heap of the runs
 pub over_all : {runs : Runs} {Are : ℕ → Type 0} {items : List Under} →
     ((k : ℕ) (e : EntryValue) → first_of runs k ≡ Some e → Are k) → IsHeapOver Are runs items → IsHeapOf runs items
 over_all all h = record {
@@ -245,7 +246,7 @@ over_all all h = record {
   once = h.once;
 }
 
--- a heap without what is of a run, and what stands under its cursor once that was moved on
+-- a heap without the entry of one run, then with the entry that its cursor moved on to
 pub pushed_on : (runs : Runs) (places : List ℕ) (number : ℕ) {run : Option (List EntryValue)} {items new : List Under} →
     length places ≡ length runs → number < length runs → run ≡ get_or runs number run →
     IsHeapBut number (ahead runs places) items →
@@ -258,7 +259,7 @@ pushed_on runs places number count here is h p keeps =
     (λ k other. tt) tt
     (rw (first_moved runs places number (get_or places number 0 + 1) count here is) p) keeps
 
--- the heap of the runs so far, and what stands first in the next one
+-- the heap of the runs so far, with the first entry of the next one
 pub pushed_next : (runs : Runs) (number : ℕ) (run : Option (List EntryValue)) {items new : List Under} →
     number < length runs → run ≡ get_or runs number run → IsHeapOver (λ k. k < number) runs items →
     IsPermutation (cons_option (option_map (under_by number) (entry_at run 0)) items) new →
@@ -271,7 +272,7 @@ pushed_next runs number run here is h p keeps =
     earlier k before =
         elim (cases_lt k number) [ inl h ↦ inl h | inr not_before ↦ inr (omega (arith, before, not_before)) ]
 
--- what two facts on a value give, if there is one
+-- what two facts about a value give, if there is one
 pub on_both : {T E P Q R : Type 0} (r : Result T E) → OnOk r P → OnOk r Q → (P → Q → R) → OnOk r R
 on_both (Ok x) p q gives = gives p q
 on_both (Err e) p q gives = tt

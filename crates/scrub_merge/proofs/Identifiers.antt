@@ -21,7 +21,7 @@ id_cmp_total = on_texts (λ s. s.0)
 pub id_cmp_exact : CmpEqualImpliesEq id_cmp
 id_cmp_exact a b h = λ i. record { 0 = exact_bytes a.0 b.0 h i }
 
--- two identifiers that a look-up doesn't tell apart are one
+-- two identifiers that compare as equal are equal
 pub same_id : (a b : ShardId) → is_eq (id_cmp a b) ≡ true → a ≡ b
 same_id a b h = tells_apart id_cmp_exact a b h
 
@@ -32,7 +32,7 @@ itself a = ap is_eq (tied_itself id_cmp_total a)
 pub not_below_itself : (a : ShardId) → IsBelow a a → ⊥
 not_below_itself a h = false≢true (ap is_eq (sym h) ∙ itself a)
 
--- of two identifiers that differ one is below the other
+-- of two different identifiers one is below the other
 pub not_less : (a b : ShardId) → is_eq (id_cmp a b) ≡ false → (IsBelow a b → ⊥) → IsBelow b a
 not_less a b differ not_below = id_cmp_total.antisymm b a ∙ ap ordering_reverse (greater (id_cmp a b) refl)
   where
@@ -41,7 +41,7 @@ not_less a b differ not_below = id_cmp_total.antisymm b a ∙ ap ordering_revers
     greater Equal h = absurd (false≢true (sym differ ∙ ap is_eq h))
     greater Greater h = refl
 
--- rising entries with one identifier are one
+-- in rising entries, two with the same identifier are the same
 pub same_entry : (entries : List EntryValue) {e f : EntryValue} → RisesById entries → Contains entries e →
     Contains entries f → e.id ≡ f.id → e ≡ f
 same_entry entries {e} {f} rising (i, hi, is) (j, hj, js) same = elim (cases_lt i j) [

@@ -1,5 +1,5 @@
--- What is left of runs behind their cursors, and what it binds: nothing where all is passed, and one identifier more where
--- every cursor that has the least one moves on.
+-- What is left of runs ahead of their cursors, and what it binds: nothing if all is passed, else one identifier more once
+-- every cursor at the least identifier moved on.
 use Rattle.std.proofs.Common.{◌≡◌, ◌+◌, ◌<◌, ◌≤◌, ◌↔◌, ℕ, zero, suc, Bool, true, false, cond, Option, Some, None, List, [], ◌∷◌, length, drop, map, get_or, Contains, arith, refl, ◌∙◌, ap}
 use Rattle.std.specs.Prelude.{slice_get, unwrap_or, replicate}
 use Rattle.std.specs.Option.{option_map}
@@ -13,14 +13,14 @@ use Rattle.scrub_merge.specs.Binding.{Runs, IsEntryOf, LostBefore}
 use Rattle.scrub_merge.specs.Cursors.{id_cmp, entry_at, has_id, ahead, place_past, places_past, first_of, AreRising}
 use Rattle.scrub_merge.proofs.Identifiers.{itself}
 
--- ---- what is left behind cursors
+-- ---- what is left ahead of cursors
 
 slice_get_drop : (place : ℕ) (entries : List EntryValue) → slice_get (drop place entries) 0 ≡ slice_get entries place
 slice_get_drop zero entries = refl
 slice_get_drop (suc place) [] = refl
 slice_get_drop (suc place) (e ∷ entries) = slice_get_drop place entries
 
--- the first of what is left stands under the cursor
+-- the first entry of what is left is under the cursor
 pub under_first : (run : Option (List EntryValue)) (place : ℕ) →
     entry_at (option_map (drop place) run) 0 ≡ entry_at run place
 under_first None place = refl
@@ -38,13 +38,13 @@ length-left [] places = refl
 length-left (run ∷ runs) [] = ap suc (length-left runs [])
 length-left (run ∷ runs) (place ∷ places) = ap suc (length-left runs places)
 
--- a run that has a first entry is one of them
+-- a run with a first entry is one of them
 pub first_within : (runs : Runs) (k : ℕ) (e : EntryValue) → first_of runs k ≡ Some e → k < length runs
 first_within [] k e h = cc
 first_within (run ∷ runs) zero e h = omega arith
 first_within (run ∷ runs) (suc k) e h = omega (arith, first_within runs k e h)
 
--- what stands first in a run of this number
+-- the first entry of the run with this number
 pub first_at : (runs : Runs) (number : ℕ) (run : Option (List EntryValue)) → number < length runs →
     run ≡ get_or runs number run → first_of runs number ≡ entry_at run 0
 first_at [] number run here is = absurd (omega (arith, here))
@@ -61,7 +61,7 @@ pub first_among : (entries : List EntryValue) (e : EntryValue) → slice_get ent
 first_among [] e h = cc
 first_among (x ∷ entries) e h = (zero, omega arith, cc)
 
--- what stands first in a run is an entry of it
+-- the first entry of a run is an entry of it
 pub first_entry : (runs : Runs) (k : ℕ) (e : EntryValue) → first_of runs k ≡ Some e → IsEntryOf runs k e
 first_entry [] k e h = cc
 first_entry (None ∷ runs) zero e h = cc
@@ -104,7 +104,7 @@ pub lost_left : (runs : Runs) (places : List ℕ) (n : ℕ) → LostBefore (ahea
 lost_left runs places n =
     (λ l. (l.0, l.1, (lost_at runs places l.0).0 l.2), λ l. (l.0, l.1, (lost_at runs places l.0).1 l.2))
 
--- in the beginning that is all
+-- at the start that is all
 pub left_all : (runs : Runs) (n : ℕ) → ahead runs (replicate n 0) ≡ runs
 left_all [] n = refl
 left_all (run ∷ runs) zero = λ i. run ∷ left_all runs zero i
@@ -116,7 +116,7 @@ left_all (run ∷ runs) (suc n) = λ i. whole run i ∷ left_all runs n i
 
 -- ---- cursors that move on
 
--- a run without its first entry, where that has an identifier
+-- a run without its first entry, if that has an identifier
 abbrev pub without : ShardId → List EntryValue → List EntryValue
 without id [] = []
 without id (e ∷ entries) = cond (is_eq (id_cmp e.id id)) entries (e ∷ entries)
@@ -157,7 +157,7 @@ length-behind id (run ∷ runs) (place ∷ places) = ap suc (length-behind id ru
 
 -- ---- fewer entries are left
 
--- how many entries runs have
+-- the number of entries of all runs
 abbrev pub entries_left : Runs → ℕ
 entries_left [] = 0
 entries_left (None ∷ runs) = entries_left runs

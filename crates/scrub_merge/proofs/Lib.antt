@@ -1,5 +1,5 @@
--- Lemmas on elements of lists, on identifiers, on newest bindings and the one map of them, on what is left of runs behind
--- their cursors, on what is bound as these move on, on one that moves on, and on heaps of what stands under them.
+-- Lemmas on elements of lists, identifiers, newest bindings and the shard map, what is left ahead of cursors, what is bound
+-- as they move on, the move of one cursor, and heaps of the entries under cursors.
 pub mod Elements
 pub mod Identifiers
 pub mod Maps

@@ -1,4 +1,4 @@
--- Newest bindings, and the shard map: an identifier has one, and runs have one.
+-- An identifier has one newest binding, and runs have one shard map.
 use Rattle.std.proofs.Common.{◌≡◌, ◌<◌, ◌+◌, ℕ, zero, suc, List, [], ◌∷◌, length, get_or, AllPairs, Contains, ◌↔◌, arith, refl, sym, ◌∙◌, ap, inl, inr}
 use Rattle.std.proofs.lemmas.Bool.{cases_lt, false≢true}
 use Rattle.std.proofs.lemmas.Bool.Decides.{same_from_decides}
@@ -23,7 +23,7 @@ use Rattle.scrub_merge.proofs.Identifiers.{id_cmp_total, itself, not_below_itsel
 abbrev pub entry_of : BindingValue → EntryValue
 entry_of b = record { id = b.id; locators = b.locators }
 
--- an identifier has one newest binding at most
+-- an identifier has at most one newest binding
 pub one_newest : {runs : Runs} {b c : BindingValue} → AreRising runs → IsNewestBinding runs b → IsNewestBinding runs c →
     b.id ≡ c.id → b ≡ c
 one_newest {runs} {b} {c} rise hb hc same =
@@ -74,7 +74,7 @@ none_found bindings id i b are search_ends (k, here, is) same = elim (cases_lt k
 abbrev Rise : List BindingValue → Type 0
 Rise xs = AllPairs (λ v w. IsBelow v.id w.id) xs
 
--- what stands behind a binding in rising order is above it
+-- what comes after a binding in rising order is above it
 above : (x : BindingValue) (xs : List BindingValue) (b : BindingValue) → Rise (x ∷ xs) → Contains xs b →
     IsBelow x.id b.id
 above x xs b rising (k, here, is) =
@@ -83,7 +83,7 @@ above x xs b rising (k, here, is) =
 tail_rises : (x : BindingValue) (xs : List BindingValue) → Rise (x ∷ xs) → Rise xs
 tail_rises x xs rising i j d order here = rising (suc i) (suc j) d (omega (arith, order)) (omega (arith, here))
 
--- two rising lists with the same bindings are one
+-- two rising lists with the same bindings are equal
 same_bindings : (xs ys : List BindingValue) → Rise xs → Rise ys → ((b : BindingValue) → Contains xs b ↔ Contains ys b) →
     xs ≡ ys
 same_bindings [] [] hx hy both = refl
@@ -112,7 +112,7 @@ same_bindings (x ∷ xs) (y ∷ ys) hx hy both =
       ]
     ]
 
--- a binding of one map is in each other
+-- a binding of one shard map is in every other
 in_map : {runs : Runs} (xs ys : List BindingValue) (b : BindingValue) → IsShardMap runs xs → IsShardMap runs ys →
     Contains xs b → Contains ys b
 in_map {runs} xs ys b hx hy c =

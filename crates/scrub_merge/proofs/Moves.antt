@@ -1,4 +1,4 @@
--- One cursor that moves on, past an identifier that no other is below.
+-- Moving one cursor past the least identifier.
 use Rattle.std.proofs.Common.{◌≡◌, ◌+◌, ◌<◌, ◌^◌, ℕ, zero, suc, Bool, true, false, Option, Some, None, IfSome, List, [], ◌∷◌, length, drop, get_or, slice_set, arith, refl, sym, ◌∙◌, ap, inl, inr}
 use Rattle.std.specs.Prelude.{slice_get, unwrap_or}
 use Rattle.std.specs.Option.{option_map}
@@ -19,7 +19,7 @@ use Rattle.scrub_merge.proofs.Left.{first_left, length-behind, under_first, entr
 pub rising_runs : (runs : Runs) → AreRuns runs → AreRising runs
 rising_runs runs h k entries is = (h k entries is).rising
 
--- the places with one cursor moved on
+-- the places after one cursor moved on
 abbrev pub one_on : List ℕ → ℕ → List ℕ
 one_on places number = slice_set places number (get_or places number 0 + 1)
 
@@ -28,13 +28,13 @@ module _ (runs : Runs) (places : List ℕ) (number place : ℕ) (count : length 
       first_of (ahead runs (slice_set places number place)) k ≡ entry_at (unwrap_or (slice_get runs k) None) (get_or (slice_set places number place) k 0)
   set_left k = first_left runs (slice_set places number place) k (length-set places number place ∙ count)
 
-  -- the other runs are left as they were
+  -- the other runs have the same entries ahead
   pub first_elsewhere : (k : ℕ) → (k ≡ number → ⊥) →
       first_of (ahead runs (slice_set places number place)) k ≡ first_of (ahead runs places) k
   first_elsewhere k other =
       rw (set_left k, first_left runs places k count, get_or-set_other places number k place 0 other)
 
-  -- what stands under the cursor then
+  -- the entry that is under the cursor then
   pub first_moved : {run : Option (List EntryValue)} → number < length runs → run ≡ get_or runs number run →
       first_of (ahead runs (slice_set places number place)) number ≡ entry_at run place
   first_moved {run} here is =
@@ -46,7 +46,7 @@ module _ (runs : Runs) (places : List ℕ) (number place : ℕ) (count : length 
 
 -- ---- one run
 
--- the entry behind another in a run that is read or lost has a greater identifier
+-- the entry after another in a run has a greater identifier
 rises_at : (run : Option (List EntryValue)) (place : ℕ) {e f : EntryValue} →
     ((entries : List EntryValue) → run ≡ Some entries → RisesById entries) →
     entry_at run place ≡ Some e → entry_at run (place + 1) ≡ Some f → IsBelow e.id f.id
@@ -55,7 +55,7 @@ rises_at (Some entries) place {e} {f} rising at next =
     rw (get_or_from_slice_get entries place e e at, get_or_from_slice_get entries (place + 1) f e next) at
     (rising entries refl place (place + 1) e (omega arith) (slice_get_within entries (place + 1) f next))
 
--- ---- the places behind an identifier
+-- ---- the places past an identifier
 
 has_not : (id : ShardId) (o : Option EntryValue) → ((f : EntryValue) → o ≡ Some f → f.id ≡ id → ⊥) → has_id id o ≡ false
 has_not id None other = refl
@@ -65,7 +65,7 @@ has_not id (Some f) other = by (is_eq (id_cmp f.id id)) refl
     by true same = absurd (other f refl (same_id f.id id same))
     by false same = refl
 
--- where no cursor has the identifier, they stand behind it
+-- if no cursor has the identifier, the places are already past it
 pub stand_behind : (id : ShardId) (runs : Runs) (places : List ℕ) → length places ≡ length runs →
     ((k : ℕ) (e : EntryValue) → first_of (ahead runs places) k ≡ Some e → e.id ≡ id → ⊥) →
     places_past id runs places ≡ places
@@ -77,7 +77,7 @@ stand_behind id (run ∷ runs) (place ∷ places) count none =
       stand_behind id runs places (omega (arith, count)) (λ k. none (suc k)),
     )
 
--- no identifier that stands first is below another
+-- no first identifier is below another
 abbrev pub AreNotBelow : ShardId → Runs → Type 0
 AreNotBelow id runs = (k : ℕ) (e : EntryValue) → first_of runs k ≡ Some e → IsBelow e.id id → ⊥
 
@@ -86,17 +86,18 @@ module _ (id : ShardId) {e : EntryValue} (own : e.id ≡ id) where
   has_it : (o : Option EntryValue) → o ≡ Some e → has_id id o ≡ true
   has_it o at = rw (at, own, itself id)
 
-  -- past an identifier a cursor moves on once
+  -- past an identifier, a cursor moves on once
   past_once : (run : Option (List EntryValue)) (place : ℕ) →
       ((entries : List EntryValue) → run ≡ Some entries → RisesById entries) → entry_at run place ≡ Some e →
       place_past id run (place + 1) ≡ place_past id run place
   past_once run place rising at =
       rw (
-        has_not id (entry_at run (place + 1)) (λ f next same. not_below_itself id (rw (own, same) at (rises_at run place rising at next))),
+        has_not id (entry_at run (place + 1))
+            (λ f next same. not_below_itself id (rw (own, same) at (rises_at run place rising at next))),
         has_it (entry_at run place) at,
       )
 
-  -- a cursor that has an identifier moved on: the places behind the identifier are the same
+  -- once a cursor with an identifier moved on, the places past the identifier are the same
   pub same_behind : (runs : Runs) (places : List ℕ) (number : ℕ) → length places ≡ length runs → AreRising runs →
       first_of (ahead runs places) number ≡ Some e →
       places_past id runs (one_on places number) ≡ places_past id runs places
@@ -108,7 +109,7 @@ module _ (id : ShardId) {e : EntryValue} (own : e.id ≡ id) where
   same_behind (run ∷ runs) (place ∷ places) (suc number) count rising at =
       λ i. place_past id run place ∷ same_behind runs places number (omega (arith, count)) (λ k. rising (suc k)) at i
 
-  -- a cursor that has the identifier stands one place further behind it
+  -- the place past the identifier of a cursor that has it is one further
   pub one_past : (runs : Runs) (places : List ℕ) (number : ℕ) → length places ≡ length runs →
       first_of (ahead runs places) number ≡ Some e →
       get_or (places_past id runs places) number 0 ≡ get_or places number 0 + 1
@@ -139,10 +140,10 @@ module _ (id : ShardId) {e : EntryValue} (own : e.id ≡ id) where
           (sym (under_first run (p + 1)) ∙ there)
       next (run ∷ rs) (p ∷ ps) (suc n) c r here there = next rs ps n (omega (arith, c)) (λ k. r (suc k)) here there
 
--- ---- an entry stands under a cursor
+-- ---- an entry is under a cursor
 
 module _ {e : EntryValue} where
-  -- fewer entries are left once it moved on
+  -- fewer entries are left once the cursor moved on
   pub fewer_one : (runs : Runs) (places : List ℕ) (number : ℕ) → length places ≡ length runs →
       first_of (ahead runs places) number ≡ Some e →
       entries_left (ahead runs (one_on places number)) < entries_left (ahead runs places)
@@ -176,7 +177,7 @@ module _ {e : EntryValue} where
 
 -- ---- runs so far
 
--- each run so far that isn't lost is one
+-- each run so far that isn't lost has the entries of a run
 abbrev pub AreRunsTo : ℕ → Runs → Type 0
 AreRunsTo number runs =
     (k : ℕ) (entries : List EntryValue) → k < number → slice_get runs k ≡ Some (Some entries) → AreEntries entries
@@ -193,7 +194,7 @@ runs_step runs number {run} here is one are k entries before at = elim (cases_lt
 
 -- ---- an entry that was taken
 
--- what is ahead of cursors is the same where a run changes behind its own
+-- what is ahead of cursors is the same if a run changes before its own cursor
 pub ahead_same : (runs : Runs) (places : List ℕ) (number : ℕ) (old new : Option (List EntryValue)) →
     length places ≡ length runs → old ≡ get_or runs number old →
     option_map (drop (get_or places number 0)) new ≡ option_map (drop (get_or places number 0)) old →
@@ -204,7 +205,7 @@ ahead_same (r ∷ runs) (place ∷ places) zero old new count is same = rw (same
 ahead_same (r ∷ runs) (place ∷ places) (suc number) old new count is same =
     λ i. option_map (drop place) r ∷ ahead_same runs places number old new (omega (arith, count)) is same i
 
--- so it is where an entry under a cursor with the identifier is taken, and all cursors that have that move on
+-- and also if an entry under a cursor with the identifier is taken, and all cursors with that identifier move on
 pub still_ahead : (runs new : Runs) (places : List ℕ) (id : ShardId) (number : ℕ) {place : ℕ} {e : EntryValue} →
     length places ≡ length runs → place ≡ get_or places number 0 →
     first_of (ahead runs places) number ≡ Some e → e.id ≡ id →
@@ -214,7 +215,7 @@ still_ahead runs new places id number count here at own same =
     same (places_past id runs places) (length-behind id runs places ∙ count)
     (omega (arith, here, one_past id own runs places number count at))
 
--- runs are still such where one of them changes into one
+-- runs are still runs if one of them changes into a run
 pub runs_set : (runs : Runs) (number : ℕ) (run : Option (List EntryValue)) → IfSome run AreEntries → AreRuns runs →
     AreRuns (slice_set runs number run)
 runs_set [] number run one are k entries at = are k entries at

@@ -1,5 +1,5 @@
--- What is bound, as every cursor that has the least identifier moves on: its newest binding is the first of the shard map
--- of what was left, and that of what is left then follows. Where nothing is left, nothing is bound.
+-- What is bound as every cursor at the least identifier moves on: its newest binding comes first in the shard map of what
+-- was left, followed by the shard map of what is left then. If nothing is left, nothing is bound.
 use Rattle.std.proofs.Common.{◌≡◌, ◌<◌, ◌⊎◌, ◌↔◌, ℕ, zero, suc, Bool, true, false, not, cond, IsTrue, Option, Some, None, List, [], ◌∷◌, ◌++◌, length, All, Contains, arith, refl, sym, ◌∙◌, ap, inl, inr}
 use Rattle.std.specs.Prelude.{filter, ◌==◌, slice_get}
 use Rattle.std.specs.Option.{option_map}
@@ -21,14 +21,14 @@ use Rattle.scrub_merge.proofs.Identifiers.{id_cmp_total, same_id, itself, not_be
 use Rattle.scrub_merge.proofs.Maps.{one_newest}
 use Rattle.scrub_merge.proofs.Left.{without, all_without, first_is, first_entry, rising_left, left_behind}
 
--- ---- one run without its first entry, where that has the least identifier
+-- ---- one run without its first entry, if that has the least identifier
 
 behind_first : (x : EntryValue) (xs : List EntryValue) (e : EntryValue) → RisesById (x ∷ xs) → Contains xs e →
     IsBelow x.id e.id
 behind_first x xs e rising (k, here, is) = rw is at (rising zero (suc k) e (omega arith) (omega (arith, here)))
 
 module _ (id : ShardId) where
-  -- no lesser identifier stands first
+  -- no lesser identifier is first
   abbrev IsNotPassed : List EntryValue → Type 0
   IsNotPassed entries = (e : EntryValue) → slice_get entries 0 ≡ Some e → IsBelow e.id id → ⊥
 
@@ -65,7 +65,7 @@ module _ (id : ShardId) where
             | inr later ↦ id_cmp_total.trans id x.id e.id first (behind_first x entries e rising later)
           ]
 
-  -- an identifier that is not passed and stands in a run stands first in it
+  -- an identifier that is in a run and isn't passed is first in it
   stands_first : (entries : List EntryValue) (e : EntryValue) → RisesById entries → IsNotPassed entries →
       Contains entries e → e.id ≡ id → slice_get entries 0 ≡ Some e
   stands_first [] e rising least c own = absurd (omega (arith, c.1))
@@ -89,7 +89,7 @@ module _ (runs : Runs) (id : ShardId) where
       slice_get (all_without id runs) k ≡ Some (option_map (without id) run)
   without_at k run is = rw (slice_get-map (option_map (without id)) runs k, is)
 
-  -- a run of what is left then is one of what was left
+  -- a run of what is left then is part of one of what was left
   was_at : (k : ℕ) (entries : List EntryValue) → slice_get (all_without id runs) k ≡ Some (Some entries) →
       (all : List EntryValue) × (slice_get runs k ≡ Some (Some all)) × (entries ≡ without id all)
   was_at k entries is = by (slice_get runs k) refl (rw (slice_get-map (option_map (without id)) runs k) at is)
@@ -132,7 +132,7 @@ module _ (runs : Runs) (id : ShardId) where
     doubt = (λ d. (lost_without b.run).1 (h.doubt.0 d), λ l. h.doubt.1 ((lost_without b.run).0 l));
   }
 
--- ---- newest bindings, where the identifiers rise and none is below this one
+-- ---- newest bindings, if the identifiers rise and none is below this one
 
 module _ {runs : Runs} {id : ShardId} (rising : AreRising runs) (least : IsLeast runs id) where
   not_passed : (k : ℕ) (entries : List EntryValue) → slice_get runs k ≡ Some (Some entries) → IsNotPassed id entries
@@ -143,7 +143,7 @@ module _ {runs : Runs} {id : ShardId} (rising : AreRising runs) (least : IsLeast
       let was = was_at runs id k at.entries at.is_read in
       above_without id was.0 e (rising k was.0 was.1) (not_passed k was.0 was.1) (rw was.2 at at.among)
 
-  -- the newest run in which the least identifier stands first has its newest binding
+  -- the newest run in which the least identifier is first has its newest binding
   pub newest_made : {number : ℕ} {doubtful : Bool} (w : IsFirstWith runs id number) →
       IsTrue doubtful ↔ LostBefore runs number →
       IsNewestBinding runs (record { id = w.entry.id; locators = w.entry.locators; run = number; doubtful = doubtful })
@@ -169,7 +169,7 @@ module _ {runs : Runs} {id : ShardId} (rising : AreRising runs) (least : IsLeast
 
   -- ---- the shard map
 
-  -- the shard map of what was left begins with the least identifier's newest binding, where that has a locator
+  -- the shard map of what was left begins with the newest binding of the least identifier, if that has a locator
   pub next_bound : {b : BindingValue} {later : List BindingValue} → IsNewestBinding runs b → b.id ≡ id →
       IsShardMap (all_without id runs) later → IsShardMap runs (filter has_locator (b ∷ []) ++ later)
   next_bound {b} {later} newest own map = by (has_locator b) refl
@@ -180,7 +180,7 @@ module _ {runs : Runs} {id : ShardId} (rising : AreRising runs) (least : IsLeast
       above : All (λ c. IsBelow b.id c.id) later
       above k d here = rw own (entry_above (map.newest k d here).entry)
 
-      -- another newest binding is one of what is left then
+      -- any other newest binding is one of what is left then
       among : {c : BindingValue} → IsNewestBinding runs c → 0 < length c.locators → (b ≡ c) ⊎ Contains later c
       among {c} h has = which (is_eq (id_cmp c.id id)) refl
         where
@@ -209,7 +209,7 @@ module _ {runs : Runs} {id : ShardId} (rising : AreRising runs) (least : IsLeast
             [ inl is ↦ absurd (no_length (length b.locators) hasn't (rw (← is) at some)) | inr c' ↦ c' ];
       }
 
--- where nothing is left, nothing is bound
+-- if nothing is left, nothing is bound
 pub none_bound : (runs : Runs) → AreEmpty runs → IsShardMap runs []
 none_bound runs empty = record {
   bindings_of_map = record {
@@ -226,7 +226,7 @@ none_bound runs empty = record {
     nothing [] c h = omega (arith, c.1)
     nothing (x ∷ entries) c h = none-some x (sym h)
 
--- the entry that stands first in the newest run with the least identifier binds it
+-- the first entry of the newest run with the least identifier binds it
 pub bound_made : {rest : Runs} {id : ShardId} {number : ℕ} {doubtful : Bool} {e : EntryValue} {old new : List BindingValue} →
     IsFirstWith rest id number → first_of rest number ≡ Some e → AreRising rest →
     IsLeast rest id → IsTrue doubtful ↔ LostBefore rest number →

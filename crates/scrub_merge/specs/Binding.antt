@@ -15,13 +15,13 @@ pub record BindingValue : Type 0 where
 abbrev pub Runs : Type 0
 Runs = List (Option (List EntryValue))
 
--- the run of this number is read, and has this entry
+-- the run with this number is read, and has this entry
 pub record IsEntryOf (runs : Runs) (number : ℕ) (e : EntryValue) : Type 0 where
   pub entries : List EntryValue
   pub is_read : slice_get runs number ≡ Some (Some entries)
   pub among : Contains entries e
 
--- a lost run comes before the run of this number, so it is newer
+-- a lost run comes before the run with this number, so it is newer
 abbrev pub LostBefore : Runs → ℕ → Type 0
 LostBefore runs number = (k : ℕ) × (k < number) × (slice_get runs k ≡ Some None)
 

@@ -1,4 +1,4 @@
--- Cursors over index runs, one for each: what they have not passed yet, what is under them, and how they move on.
+-- Cursors over index runs, one for each: what is ahead of them, what is under them, and how they move on.
 use Rattle.std.specs.Prelude.{◌≡◌, ◌+◌, ◌<◌, ◌≤◌, ◌++◌, ℕ, zero, suc, Bool, false, cond, Option, Some, None, List, [], ◌∷◌, All, Contains, length, drop, filter, not, ◌==◌, slice_get}
 use Rattle.std.specs.Option.{option_map}
 use Rattle.std.specs.BinaryHeap.{IsHeap}
@@ -22,7 +22,7 @@ id_cmp a b = slice_cmp nat_cmp a.0 b.0
 abbrev pub has_locator : BindingValue → Bool
 has_locator b = not (length b.locators == 0)
 
--- the entry at a place of a run, or None in a lost run and behind the last entry
+-- the entry at a place of a run, or None in a lost run and after the last entry
 abbrev pub entry_at : Option (List EntryValue) → ℕ → Option EntryValue
 entry_at None place = None
 entry_at (Some entries) place = slice_get entries place
@@ -38,23 +38,23 @@ ahead [] places = []
 ahead (run ∷ runs) [] = run ∷ ahead runs []
 ahead (run ∷ runs) (place ∷ places) = option_map (drop place) run ∷ ahead runs places
 
--- where the cursor of a run is after an identifier: one place further exactly if its entry has that
+-- where the cursor of a run is once it has passed an identifier: one place further exactly if its entry has that identifier
 abbrev pub place_past : ShardId → Option (List EntryValue) → ℕ → ℕ
 place_past id run place = cond (has_id id (entry_at run place)) (place + 1) place
 
--- where all cursors are after an identifier
+-- where all cursors are once they have passed an identifier
 abbrev pub places_past : ShardId → Runs → List ℕ → List ℕ
 places_past id [] places = places
 places_past id (run ∷ runs) [] = []
 places_past id (run ∷ runs) (place ∷ places) = place_past id run place ∷ places_past id runs places
 
--- the first entry of the run of this number, if it has one
+-- the first entry of the run with this number, if it has one
 abbrev pub first_of : Runs → ℕ → Option EntryValue
 first_of [] number = None
 first_of (run ∷ runs) zero = entry_at run 0
 first_of (run ∷ runs) (suc number) = first_of runs number
 
--- an identifier is first in a run, and no lesser one is
+-- an identifier is first in some run, and no lesser one is first in any run
 pub record IsLeast (runs : Runs) (id : ShardId) : Type 0 where
   pub number : ℕ
   pub entry : EntryValue
@@ -62,7 +62,7 @@ pub record IsLeast (runs : Runs) (id : ShardId) : Type 0 where
   pub own : entry.id ≡ id
   pub least : (k : ℕ) (e : EntryValue) → first_of runs k ≡ Some e → IsBelow e.id id → ⊥
 
--- the run of this number is the newest in which the identifier is first
+-- the run with this number is the newest in which the identifier is first
 pub record IsFirstWith (runs : Runs) (id : ShardId) (number : ℕ) : Type 0 where
   pub entry : EntryValue
   pub stands : first_of runs number ≡ Some entry
@@ -73,7 +73,7 @@ pub record IsFirstWith (runs : Runs) (id : ShardId) (number : ℕ) : Type 0 wher
 abbrev pub under_by : ℕ → EntryValue → Under
 under_by number e = record { id = e.id; number = number }
 
--- the order of the heap: the least identifier is the greatest, and of equal ones that of the newest run
+-- the order of the heap: the least identifier is the greatest, and among equal ones the newest run
 abbrev pub under_cmp : Under → Under → Ordering
 under_cmp = then_cmp (flip_args (on (λ u. u.id.0) (slice_cmp nat_cmp))) (flip_args (on (λ u. u.number) nat_cmp))
 
@@ -81,11 +81,11 @@ under_cmp = then_cmp (flip_args (on (λ u. u.id.0) (slice_cmp nat_cmp))) (flip_a
 pub under_cmp_total : IsTotalOrder under_cmp
 under_cmp_total = then_total (back_total (on_texts (λ u. u.id.0))) (back_total (on_total (λ u. u.number) nat_cmp_total))
 
--- the identifier is first in the run of its number
+-- the identifier is first in the run with its number
 abbrev pub StandsFirst : Runs → Under → Type 0
 StandsFirst runs u = option_map (under_by u.number) (first_of runs u.number) ≡ Some u
 
--- how many of these are of the run of this number
+-- how many of these are of the run with this number
 abbrev pub of_run : ℕ → List Under → ℕ
 of_run number items = count_by (λ u. u.number == number) items
 
@@ -112,7 +112,7 @@ AreEmpty runs = (k : ℕ) → first_of runs k ≡ None
 abbrev pub AreRising : Runs → Type 0
 AreRising runs = (k : ℕ) (entries : List EntryValue) → slice_get runs k ≡ Some (Some entries) → RisesById entries
 
--- any shard map of what is left gives, behind the bindings so far, the shard map of the runs
+-- any shard map of what is left, appended to the bindings so far, gives the shard map of the runs
 abbrev pub Continues : Runs → Runs → List BindingValue → Type 0
 Continues runs rest so_far = (later : List BindingValue) → IsShardMap rest later → IsShardMap runs (so_far ++ later)
 

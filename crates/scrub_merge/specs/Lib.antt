@@ -4,5 +4,5 @@ pub mod ShardMap
 -- Files of other crates that public clauses cite.
 pub use Rattle.scrub_run.specs.Entry
 pub use Rattle.scrub_run.specs.Run
--- Steps of the code: the cursors, as they move on.
+-- Steps of the code: moving the cursors on.
 pub mod Cursors

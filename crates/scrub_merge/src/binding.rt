@@ -1,4 +1,4 @@
-//! A binding of an identifier. Which of its bindings is the newest is left to `merging`.
+//! A binding of an identifier. For which binding is the newest, see `merging`.
 
 ghost use Rattle.std.specs.Prelude.{◌≡◌};
 ghost use Rattle.scrub_merge.specs.Binding.{BindingValue};
@@ -7,7 +7,7 @@ use scrub_frame::Locator;
 use scrub_run::{Entry, ShardId};
 use std::marker::Model;
 
-/// What one index run says of a shard.
+/// What one index run says about a shard.
 #[derive(Debug, Drop)]
 pub struct Binding {
     entry: Entry,
@@ -24,7 +24,7 @@ impl Model for Binding {
 }
 
 impl Binding {
-    /// The binding by an entry of the run of this number.
+    /// The binding made by an entry of the run with this number.
     pub(crate) fn new(entry: Entry, run: u32, doubtful: bool) -> Binding
         ensures { result ≡ record { id = entry.id; locators = entry.locators; run = run; doubtful = doubtful } }
     {
@@ -56,14 +56,14 @@ impl Binding {
         self.entry.locators()
     }
 
-    /// The number of the index run that says so, from 0, the newest.
+    /// The number of the index run that has this binding, from 0 for the newest.
     pub fn run(&self) -> u32
         ensures { result ≡ self.now.run }
     {
         self.run
     }
 
-    /// Whether a run before that one is lost, which may have said otherwise.
+    /// Whether a newer run is lost, which may have said otherwise.
     pub fn doubtful(&self) -> bool
         ensures { result ≡ self.now.doubtful }
     {

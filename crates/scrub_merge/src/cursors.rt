@@ -1,5 +1,5 @@
-//! Cursors over index runs, one for each run, by the place of the entry under it; what stands under them is in a heap. All
-//! that have the least identifier move on. What is bound by it is left to `merging`.
+//! Cursors over index runs: one for each run, with the entries under them in a heap. All cursors at the least identifier
+//! move on together. For what that identifier is bound to, see `merging`.
 
 ghost use Rattle.std.specs.Prelude.{◌≡◌, ◌+◌, ◌<◌, ◌^◌, ◌∷◌, All, Some, IfSome, IfNone, IfOk, OnOk, length, slice_index, slice_set, IsPermutation};
 ghost use Rattle.std.specs.List.{cons_option};
@@ -15,7 +15,7 @@ use scrub_run::{Entry, OutOfMemory, Run, ShardId};
 use std::alloc::Global;
 use std::collections::BinaryHeap;
 
-/// The entry under the cursor of a run: none where the run is lost, or was passed whole.
+/// The entry under the cursor of a run: none if the run is lost, or its cursor is past its end.
 pub(crate) fn entry_under(run: &Option<Run>, place: usize) -> Option<&Entry>
     ensures found { IfSome result (λ e. entry_at run.now place ≡ Some e.now) }
     ensures none { IfNone result (entry_at run.now place ≡ None) }
@@ -27,7 +27,7 @@ pub(crate) fn entry_under(run: &Option<Run>, place: usize) -> Option<&Entry>
     }
 }
 
-/// Puts what stands under the cursor of the run of this number into the heap, if there is something.
+/// Pushes the entry under the cursor of the run with this number, if there is one.
 fn push_under(
     heap: &mut BinaryHeap<Under>,
     run: &Option<Run>,
@@ -48,7 +48,7 @@ fn push_under(
     Ok(())
 }
 
-/// The heap of what stands first in the runs. Its room is taken once: it never has more than one of each run.
+/// The heap of the first entries of the runs. It reserves its room once: it never has more than one entry of each run.
 pub(crate) fn heap_of(alloc: Global, runs: &[Option<Run>]) -> Result<BinaryHeap<Under>, OutOfMemory>
     ensures heap { IfOk result (λ heap. IsHeapOf runs.now (heap_items heap)) }
     ensures runs { IfOk result (λ _. AreRuns runs.now) }
@@ -60,7 +60,7 @@ pub(crate) fn heap_of(alloc: Global, runs: &[Option<Run>]) -> Result<BinaryHeap<
     Ok(heap)
 }
 
-/// Takes the first out of the heap, if it has an identifier that nothing there is below.
+/// Takes the first out of the heap, if it has this identifier, which nothing in the heap is below.
 fn pop_with(heap: &mut BinaryHeap<Under>, id: ShardId) -> Option<Under>
     requires order { IsHeap under_cmp (heap_items heap.old) }
     requires least { All (λ u. ¬ IsBelow u.id id) (heap_items heap.old) }
@@ -77,7 +77,7 @@ fn pop_with(heap: &mut BinaryHeap<Under>, id: ShardId) -> Option<Under>
     heap.pop()
 }
 
-/// Moves on the cursor of the run of this number, of which the heap has nothing, and puts what it then stands on there.
+/// Moves on the cursor of the run with this number, which has no entry in the heap, and pushes the entry that it reaches.
 fn move_one(
     runs: &[Option<Run>],
     places: &mut [usize],
@@ -97,7 +97,7 @@ fn move_one(
     push_under(heap, &runs[number], number, place)
 }
 
-/// Moves on every cursor that has the least identifier.
+/// Moves on every cursor at the least identifier.
 pub(crate) fn move_on(
     runs: &[Option<Run>],
     places: &mut [usize],

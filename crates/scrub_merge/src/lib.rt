@@ -1,5 +1,5 @@
-//! Which binding of each shard counts, over a list of index runs: the newest one, and whether a lost run makes it
-//! doubtful. Which runs can be read, and what the locators are worth, is found by `scrub_check`.
+//! The shard map of a list of index runs: the newest binding of each shard, and whether a lost run makes it doubtful. For
+//! which runs can be read, and for the status of locators, see `scrub_check`.
 #![tactic(auto)]
 
 pub mod binding;

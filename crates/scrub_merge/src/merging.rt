@@ -1,6 +1,5 @@
-//! The newest binding of each identifier over a list of index runs, by one cursor for each run and a heap of what stands
-//! under them: the least identifier is bound by the newest run that has it, and every cursor that has it moves on. Which
-//! runs are lost is found by `read_runs` of `scrub_check`.
+//! Merging index runs into a shard map: the newest run that has the least identifier binds it, and every cursor at that
+//! identifier moves on. For which runs are lost, see `read_runs` of `scrub_check`.
 
 ghost use Rattle.std.specs.Prelude.{◌≡◌, List, ℕ, Some, None, ◌<◌, ◌≤◌, ◌^◌, ◌↔◌, IsTrue, IfNone, IfOk, IfSome, OnOk, length, slice_get, slice_index, unwrap_or};
 ghost use Rattle.scrub_merge.specs.Binding.{BindingValue, Runs, LostBefore};
@@ -14,7 +13,7 @@ use crate::under::Under;
 use scrub_run::{Entry, OutOfMemory, Run};
 use std::alloc::Global;
 
-/// Whether a run before the one of this number is lost.
+/// Whether a run newer than the one with this number is lost.
 fn is_doubtful(runs: &[Option<Run>], number: usize) -> bool
     requires { number ≤ length runs.now }
     ensures { IsTrue result ↔ LostBefore runs.now number }
@@ -22,7 +21,7 @@ fn is_doubtful(runs: &[Option<Run>], number: usize) -> bool
     runs[..number].iter().any(|run| run.is_none())
 }
 
-/// Hands out the entry at a place of the run of this number. It stays there without its locators.
+/// Hands out the entry at a place of the run with this number. The place keeps its identifier without locators.
 fn take_entry(alloc: Global, runs: &mut [Option<Run>], number: usize, place: usize) -> Option<Entry>
     requires { number < length runs.old }
     ensures found { IfSome result (λ e. entry_at (unwrap_or (slice_get runs.old number) None) place ≡ Some e) }
@@ -38,8 +37,8 @@ fn take_entry(alloc: Global, runs: &mut [Option<Run>], number: usize, place: usi
     }
 }
 
-/// Binds an identifier that was the least one, by the entry of the newest run that had it under its cursor, at this place:
-/// appends the binding, if it has a locator. It takes the entry over.
+/// Binds the identifier that was the least, by the entry at this place of the newest run that had it under its cursor. Takes
+/// the entry, and appends a binding if it has a locator.
 fn bind_newest(
     alloc: Global,
     runs: &mut [Option<Run>],
@@ -85,7 +84,7 @@ fn copies(alloc: Global, runs: &[Option<Run>]) -> Result<Vec<Option<Run>>, OutOf
 }
 
 /// The shard map of a list of runs, newest first; `None` is a run that could not be read. A shard whose newest binding has
-/// no locator was deleted, and isn't in the map. The runs are lent, so it is made of copies.
+/// no locator was deleted, and isn't in the map. The runs are borrowed, so the map is made of copies.
 pub fn merge(alloc: Global, runs: &[Option<Run>]) -> Result<ShardMap, OutOfMemory>
     requires { length runs.now < 2 ^ 32 }
     ensures { IfOk result (IsShardMap runs.now) }
@@ -93,7 +92,7 @@ pub fn merge(alloc: Global, runs: &[Option<Run>]) -> Result<ShardMap, OutOfMemor
     merge_owned(alloc, copies(alloc, runs)?)
 }
 
-/// The shard map of runs that are handed over, as `merge` makes it. It takes over the entries that it needs, and copies none.
+/// The shard map of owned runs, the same as that of `merge`. It moves the entries that it needs, and copies none.
 pub fn merge_owned(alloc: Global, mut runs: Vec<Option<Run>>) -> Result<ShardMap, OutOfMemory>
     requires { length runs.items < 2 ^ 32 }
     ensures { IfOk result (IsShardMap runs.items) }
@@ -109,7 +108,7 @@ pub fn merge_owned(alloc: Global, mut runs: Vec<Option<Run>>) -> Result<ShardMap
     Ok(ShardMap::new(bindings))
 }
 
-/// A law: runs have one shard map, so the report and the index that are made of it are told by the runs alone.
+/// A law: runs have one shard map, so the runs alone decide the report and the index.
 pub fn one_shard_map()
     ensures { (runs : Runs) (bindings others : List BindingValue) →
         AreRuns runs → IsShardMap runs bindings → IsShardMap runs others → bindings ≡ others }

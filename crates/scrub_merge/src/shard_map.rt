@@ -1,4 +1,4 @@
-//! The shard map. How it is made is left to `merging`.
+//! The shard map. For how it is made, see `merging`.
 
 ghost use Rattle.std.specs.Prelude.{◌≡◌, ◌<◌, List, IfSome, IfNone, Contains, length};
 ghost use Rattle.scrub_merge.specs.Binding.{BindingValue};
@@ -28,7 +28,7 @@ impl Model for ShardMap {
 impl ShardMap {
     ghost use Rattle.scrub_merge.specs.ShardMap.{AreBindings};
 
-    /// The map of bindings that rise.
+    /// The map of these bindings, which are in strictly rising order of identifier.
     pub(crate) fn new(bindings: Vec<Binding>) -> ShardMap
         requires { AreBindings bindings.items }
         ensures { result ≡ bindings.items }
@@ -36,7 +36,7 @@ impl ShardMap {
         ShardMap { bindings }
     }
 
-    /// The binding of an identifier. `None` where it was deleted last, or where no run that could be read has it. Takes no
+    /// The binding of an identifier. `None` if its newest binding says deleted, or if no readable run has it. Takes no
     /// memory.
     pub fn get(&self, id: &ShardId) -> Option<&Binding>
         ensures found { IfSome result (λ b. b.now.id ≡ id.now) }
@@ -56,7 +56,7 @@ impl ShardMap {
     /// All bindings, in strictly rising order of identifier.
     pub fn bindings(&self) -> &[Binding]
         ensures bindings { result.now ≡ self.now }
-        // Every value of the type is such.
+        // True of every value of the type.
         ensures rising { AreBindings self.now }
     {
         self.bindings.as_slice()

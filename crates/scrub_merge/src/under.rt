@@ -1,4 +1,4 @@
-//! What stands under a cursor, in the order of a heap. Which cursors there are is left to `cursors`.
+//! The entry under a cursor, in the order of the heap. For the cursors, see `cursors`.
 
 ghost use Rattle.std.specs.Prelude.{refl};
 ghost use Rattle.std.specs.Cmp.{eq_by_cmp_equiv, partial_equiv_from_equiv, partial_order_from_agreeing_total};
@@ -8,11 +8,11 @@ ghost use Rattle.scrub_merge.specs.Cursors.{under_cmp, under_cmp_total};
 use scrub_run::ShardId;
 use std::cmp::Ordering;
 
-/// The identifier of the entry under a cursor.
+/// The identifier of the entry under a cursor, and the run that has it.
 #[derive(Clone, Copy)]
 pub(crate) struct Under {
     pub id: ShardId,
-    /// The number of its run.
+    /// The number of the run, from 0 for the newest.
     pub number: usize,
 }
 
@@ -25,7 +25,7 @@ impl Ord for Under {
 
     ghost matches_eq = { λ x y. refl };
 
-    /// The greatest is what has the least identifier, and of equal ones that of the newest run.
+    /// The greatest has the least identifier and, among equal ones, the newest run: a heap gives its greatest first.
     fn cmp(&self, other: &Under) -> Ordering {
         other.id.cmp(&self.id).then(other.number.cmp(&self.number))
     }

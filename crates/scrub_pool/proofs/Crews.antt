@@ -10,17 +10,17 @@ use Rattle.scrub_book.specs.Worker.{held_by, results_of}
 use Rattle.scrub_pool.specs.declared.crew.Member.{Member}
 use Rattle.scrub_pool.specs.Working.{AreResults, AreDone}
 
--- one element more
+-- one more element
 pub one_longer : {X : Type 0} (xs ys : List X) (x : X) → ys ≡ xs ++ x ∷ [] → length ys ≡ length xs + 1
 one_longer xs ys x is =
     let long : length ys ≡ length (xs ++ x ∷ []) = ap (λ (l : List _). length l) is in
     omega (arith, long, length-append xs (x ∷ []))
 
--- a fact of a list and of one element more is one of both
+-- what holds of a list and of one more element holds of both together
 pub all_more : {X : Type 0} (P : X → Type 0) (xs ys : List X) (x : X) → ys ≡ xs ++ x ∷ [] → All P xs → P x → All P ys
 all_more P xs ys x is all one = All-same P ys (xs ++ x ∷ []) is (All-push P xs x all one)
 
--- a fact of all is one of the last one
+-- what holds of all holds of the last
 pub all_last : {X : Type 0} (P : X → Type 0) (xs ys : List X) (x : X) → ys ≡ xs ++ x ∷ [] → All P ys → P x
 all_last P xs ys x is all = go xs (All-same P (xs ++ x ∷ []) ys (sym is) all)
   where
@@ -28,7 +28,7 @@ all_last P xs ys x is all = go xs (All-same P (xs ++ x ∷ []) ys (sym is) all)
     go [] h = All-head P x [] h
     go (z ∷ zs) h = go zs (All-tail P z (zs ++ x ∷ []) h)
 
--- a crew with one member more counts for what both count
+-- a crew with one more member counts the sum of both
 pub counted_more : {D : Type 0} {s : _} (p q r a b t : ℕ) (xs ys : List (Member D s)) (m : Member D s) →
     ys ≡ xs ++ m ∷ [] → AreDone p a xs →
     (held_by m.core ≡ None) × (q ≡ 1) × (b ≡ length (results_of m.core)) → r ≡ p + q → t ≡ a + b → AreDone r t ys

@@ -1,4 +1,4 @@
--- Members that ended, joined one by one.
+-- Members that have ended, joined one by one.
 use Rattle.std.proofs.Common.{◌≡◌, Some, ◌+◌, ◌-◌, ◌++◌, ◌∷◌, ◌∙◌, ℕ, List, [], All, map, length, sum_by, arith, sym, ap, append_assoc, append-nil, length-append, Vec, Global}
 use Rattle.std.specs.List.Sorted.{IsPermutation, IsStrictlyIncreasing}
 use Rattle.std.proofs.lemmas.List.{map-append}
@@ -15,19 +15,19 @@ use Rattle.scrub_pool.specs.Passes.{PassValue, one_list, taken_in, HasTakenAll}
 use Rattle.scrub_pool.specs.Takings.{IsPartition}
 use Rattle.scrub_pool.specs.Working.{AreResults}
 
--- one list more
+-- one more list
 pub one_list_push : (lists : List (List ℕ)) (xs : List ℕ) → one_list (lists ++ xs ∷ []) ≡ one_list lists ++ xs
 one_list_push lists xs =
     flat_map-append (λ (l : List ℕ). l) lists (xs ∷ []) ∙ ap (λ l. one_list lists ++ l) (append-nil xs)
 
--- the items of one list more
+-- the items of one more list
 pub items_push : (lists more : List (Vec ℕ Global)) (v : Vec ℕ Global) (own : List ℕ) → more ≡ lists ++ v ∷ [] →
     v.items ≡ own → map (λ l. l.items) more ≡ map (λ l. l.items) lists ++ own ∷ []
 items_push lists more v own is has =
     ap (λ (ls : List (Vec ℕ Global)). map (λ l. l.items) ls) is ∙ map-append (λ l. l.items) lists (v ∷ [])
     ∙ ap (λ l. map (λ x. x.items) lists ++ l ∷ []) has
 
--- a pass into which n others were joined, with one more
+-- a pass with n others joined into it, and one more
 pub one_more_joined : (was f g : PassValue) (ls ms : List (List ℕ)) (n m : ℕ) (own : List ℕ) →
     f ≡ record was { joined = was.joined ++ ls; out = was.out - n } →
     g ≡ record f { joined = f.joined ++ own ∷ []; out = f.out - 1 } → ms ≡ ls ++ own ∷ [] → m ≡ n + 1 →
@@ -39,11 +39,11 @@ one_more_joined was f g ls ms n m own before after lists count =
     after ∙ ap (λ (p : PassValue). record p { joined = p.joined ++ own ∷ []; out = p.out - 1 }) before
     ∙ ap (λ (p : List (List ℕ) × ℕ). record was { joined = p.0; out = p.1 }) (λ i. (joined i, out i))
 
--- a sum over those still to come
+-- a sum over one and the rest
 pub sum_rest : {X : Type 0} (f : X → ℕ) (xs rest : List X) (x : X) → xs ≡ x ∷ rest → sum_by f xs ≡ f x + sum_by f rest
 sum_rest f xs rest x is = ap (λ (l : List _). sum_by f l) is ∙ sum_by-cons f x rest
 
--- a fact of all is one of the first
+-- what holds of all holds of the first
 pub all_first : {X : Type 0} (P : X → Type 0) (xs rest : List X) (x : X) → xs ≡ x ∷ rest → All P xs → P x
 all_first P xs rest x is all = All-head P x rest (rw is at all)
 
@@ -54,7 +54,7 @@ module _ {D : Type 0} {s : _} where
   extents_append all found more xs ys is first then =
       ap (λ (rs : List (ExtentResult D s)). extents_of rs) is ∙ map-append _ found more ∙ (λ i. first i ++ then i)
 
-  -- the results of those joined into the first pass and its own are of all planned extents
+  -- the results of the passes joined into the first, and its own, are of all planned extents
   pub all_scanned : (pass : PassValue) (all theirs mine : List (ExtentResult D s)) (planned : List ℕ) →
       all ≡ theirs ++ mine → extents_of theirs ≡ one_list pass.joined → extents_of mine ≡ pass.own →
       pass.planned ≡ planned → HasTakenAll pass → IsPermutation (extents_of all) planned
@@ -72,7 +72,7 @@ module _ {D : Type 0} {s : _} where
       let long : length rs ≡ 0 = ap (λ (l : List (ExtentResult D s)). length l) none in
       ((λ k d below. absurd (omega (arith, below, long))), λ k d below. absurd (omega (arith, below, long)))
 
-  -- results of an image are these together
+  -- results of an image, appended to each other, are results of it
   pub results_append : (image : Image) (plan : PlanValue) (all found more : List (ExtentResult D s)) →
       all ≡ found ++ more → AreResults image plan found → AreResults image plan more → AreResults image plan all
   results_append image plan all found more is first then = (
@@ -82,7 +82,7 @@ module _ {D : Type 0} {s : _} where
         (All-append (λ r. pointer_of plan r.extent ≡ Some r.pointer) found more first.1 then.1),
   )
 
--- the lists of all, the caller's last, are a partition of what all took
+-- the lists of all, the caller's last, are a partition if all was taken
 pub partition_of : (planned own : List ℕ) (joined lists : List (List ℕ)) → lists ≡ joined ++ own ∷ [] →
     IsStrictlyIncreasing own → All IsStrictlyIncreasing joined → IsPermutation (own ++ one_list joined) planned →
     IsPartition planned lists

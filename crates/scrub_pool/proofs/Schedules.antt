@@ -23,11 +23,11 @@ use Rattle.scrub_book.proofs.Counts.{one_for, contained_counts, counted_containe
 use Rattle.scrub_pool.specs.Passes.{one_list}
 use Rattle.scrub_pool.specs.Takings.{IsPartition, AreTakenFrom, AreTakenInSomeSchedule}
 
--- each number is below all behind it
+-- each number is below all after it
 abbrev Rise : List ℕ → Type 0
 Rise xs = AllPairs (λ x y. x < y) xs
 
--- the numbers behind the first rise too
+-- the numbers after the first rise too
 rest_rises : (x : ℕ) (xs : List ℕ) → Rise (x ∷ xs) → Rise xs
 rest_rises x xs rise i j d less within = rise (suc i) (suc j) d (omega (arith, less)) (omega (arith, within))
 
@@ -36,7 +36,7 @@ first_is_least : (x : ℕ) (xs : List ℕ) (y : ℕ) → Rise (x ∷ xs) → Con
 first_is_least x xs y rise (zero, within, is) = omega (arith, is)
 first_is_least x xs y rise (suc k, within, is) = omega (arith, is, rise 0 (suc k) y (omega arith) within)
 
--- rising numbers begin with the one among them that none of them is below
+-- rising numbers begin with their least
 least_is_first : (e : ℕ) (xs : List ℕ) → Rise xs → Contains xs e → ((x : ℕ) → Contains xs x → e ≤ x) →
     (rest : List ℕ) × (xs ≡ e ∷ rest)
 least_is_first e [] rise there least = absurd (omega (arith, there.1))
@@ -44,7 +44,7 @@ least_is_first e (x ∷ xs) rise there least =
     let same : x ≡ e = omega (arith, first_is_least x xs e rise there, least x (0, omega arith, refl)) in
     (xs, ap (λ n. n ∷ xs) same)
 
--- a sum that isn't 0 has a term that isn't
+-- a sum that isn't 0 has a term that isn't 0
 some_term : {X : Type 0} (f : X → ℕ) (xs : List X) (d : X) → 1 ≤ sum_by f xs →
     (k : ℕ) × (k < length xs) × (1 ≤ f (get_or xs k d))
 some_term f [] d some = absurd (omega (arith, some))
@@ -59,62 +59,62 @@ some_term f (x ∷ xs) d some = elim (cases_lt 0 (f x)) [
 not_empty : {X : Type 0} (x : X) (xs : List X) → (length (x ∷ xs) == 0) ≡ false
 not_empty x xs = grind (arith, nat_tests)
 
--- the element behind a list
+-- the element after a list
 get_behind : {X : Type 0} (xs ys : List X) (x : X) → slice_get (xs ++ x ∷ ys) (length xs) ≡ Some x
 get_behind [] ys x = refl
 get_behind (y ∷ xs) ys x = get_behind xs ys x
 
--- what was written into a place stands there
+-- what was written into a place is there
 get_written : {X : Type 0} (xs : List X) (i : ℕ) (x y : X) → slice_get xs i ≡ Some x → slice_get (set xs i y) i ≡ Some y
 get_written xs i x y at =
     let below = slice_get_within xs i x at in
     slice_get-get_or (set xs i y) i y (omega (arith, below, length-set xs i y))
     ∙ ap Some (get_or-set_same xs i y y below)
 
--- a member between two extents: those that it took, what it found, and those that it is to take
+-- a member between two extents: those that it took, what it found, and those that it will take
 record Turn : Type 0 where
   taken : List ℕ
   results : List Scanned
   coming : List ℕ
 
--- the member, which holds nothing and hasn't retired
+-- as a member, which holds nothing and hasn't retired
 abbrev member_of : Turn → MemberValue
 member_of t = record { held = None; taken = t.taken; results = t.results; has_retired = false }
 
 abbrev members_of : List Turn → List MemberValue
 members_of turns = map member_of turns
 
--- a member that holds nothing and has retired
+-- whether a member holds nothing and has retired
 abbrev has_left : MemberValue → Bool
 has_left m = is_none m.held && m.has_retired
 
--- all that it will have taken
+-- all that it took or will take
 abbrev due : Turn → List ℕ
 due t = t.taken ++ t.coming
 
--- it is yet to begin
+-- before it begins
 abbrev fresh : List ℕ → Turn
 fresh list = record { taken = []; results = []; coming = list }
 
--- it took one extent more, is done with it, and is to take the rest
+-- after it took one more extent and finished it, with the rest to take
 abbrev after : Turn → Scanned → List ℕ → Turn
 after t one rest = record { taken = t.taken ++ one.extent ∷ []; results = t.results ++ one ∷ []; coming = rest }
 
--- what a number for each extent adds up to over all that is to be taken
+-- what a number for each extent adds up to over all that will be taken
 abbrev total : (ℕ → ℕ) → List Turn → ℕ
 total f turns = sum_by (λ t. sum_by f t.coming) turns
 
 abbrev pool : List ℕ → List MemberValue → List Scanned → PoolState
 pool queue members arrivals = record { queue = queue; members = members; arrivals = arrivals }
 
--- the queue rises, what each member is to take rises, and that is together the queue
+-- the queue rises, what each member will take rises, and all of that is the queue
 record AreTurns (queue : List ℕ) (turns : List Turn) : Type 0 where
   queue_rises : Rise queue
   each_rises : All (λ t. Rise t.coming) turns
   whole : (f : ℕ → ℕ) → total f turns ≡ sum_by f queue
 
 module _ (e : ℕ) (queue : List ℕ) (turns : List Turn) (are : AreTurns (e ∷ queue) turns) where
-  -- what a member is to take stands in the queue
+  -- what a member will take is in the queue
   from_queue : (v : ℕ) → v < length turns → (x : ℕ) → Contains (get_or turns v (fresh [])).coming x →
       Contains (e ∷ queue) x
   from_queue v below x there =
@@ -122,7 +122,7 @@ module _ (e : ℕ) (queue : List ℕ) (turns : List Turn) (are : AreTurns (e ∷
       counted_contained (e ∷ queue) x
       (omega (arith, are.whole (one_for x), get_or-le-sum_by (λ t. sum_by (one_for x) t.coming) turns v (fresh []) below, contained_counts coming x there))
 
-  -- the queue's front is the next of some member
+  -- the queue's front is what some member takes next
   next_of_one : (v : ℕ) × (v < length turns) × (rest : List ℕ) × ((get_or turns v (fresh [])).coming ≡ e ∷ rest)
   next_of_one =
       let some =
@@ -135,7 +135,7 @@ module _ (e : ℕ) (queue : List ℕ) (turns : List Turn) (are : AreTurns (e ∷
       least_is_first e coming (are.each_rises some.0 (fresh []) some.1) (counted_contained coming e some.2) least in
       (some.0, some.1, front.0, front.1)
 
-  -- once that member took it, the rest of the queue is what the members are to take
+  -- once that member took it, the members will take the rest of the queue
   turns_go_on : (v : ℕ) (n : Turn) → v < length turns → (get_or turns v (fresh [])).coming ≡ e ∷ n.coming →
       AreTurns queue (set turns v n)
   turns_go_on v n below front = record {
@@ -155,7 +155,7 @@ module _ (e : ℕ) (queue : List ℕ) (turns : List Turn) (are : AreTurns (e ∷
         );
   }
 
--- where nothing is left to take, all took what they were to take
+-- if nothing is left to take, all took what they were to take
 all_took : (turns : List Turn) → total (λ x. 1) turns ≡ 0 → map (λ m. m.taken) (members_of turns) ≡ map due turns
 all_took [] none = refl
 all_took (t ∷ turns) none =
@@ -165,17 +165,17 @@ all_took (t ∷ turns) none =
     let rest = all_took turns (omega (arith, none, sums)) in
     λ i. first i ∷ rest i
 
--- who is yet to begin did nothing
+-- members that haven't begun did nothing
 all_idle : (lists : List (List ℕ)) → members_of (map fresh lists) ≡ replicate (length lists) idle
 all_idle [] = refl
 all_idle (list ∷ lists) = λ i. idle ∷ all_idle lists i
 
--- and is to take its list
+-- and each will take its list
 all_due : (lists : List (List ℕ)) → map due (map fresh lists) ≡ lists
 all_due [] = refl
 all_due (list ∷ lists) = λ i. list ∷ all_due lists i
 
--- so that all are to take the lists together
+-- so all together will take the lists
 all_together : (f : ℕ → ℕ) (lists : List (List ℕ)) → total f (map fresh lists) ≡ sum_by f (one_list lists)
 all_together f [] = refl
 all_together f (list ∷ lists) =
@@ -187,7 +187,7 @@ all_together f (list ∷ lists) =
     )
 
 module _ (image : Image) (plan : PlanValue) where
-  -- a member takes the queue's front and is done with it
+  -- a member takes the queue's front and finishes it
   takes_one : (one : Scanned) (queue rest : List ℕ) (members : List MemberValue) (arrived : List Scanned) (v : ℕ) (t : Turn) (lists : List (List ℕ)) →
       IsScanned image plan one → slice_get members v ≡ Some (member_of t) →
       AreTakenFrom image plan (pool queue (set members v (member_of (after t one rest))) arrived) lists →
@@ -269,7 +269,7 @@ module _ (image : Image) (plan : PlanValue) where
             ∙ map-append (λ x. x.taken) gone (through m ∷ rest) ∙ sym (map-append (λ x. x.taken) gone (m ∷ rest));
       }
 
-  -- the members take all that they are to take
+  -- the members take all that they will take
   all_taken : (found : List Scanned) (turns : List Turn) (arrived : List Scanned) → All (IsScanned image plan) found →
       AreTurns (extent_numbers found) turns →
       AreTakenFrom image plan (pool (extent_numbers found) (members_of turns) arrived) (map due turns)

@@ -1,6 +1,5 @@
 -- Each step of the shared queue keeps its rule.
 use Rattle.std.proofs.Common.{◌≡◌, ◌≢◌, ◌+◌, ◌-◌, ◌<◌, ◌≤◌, ◌==◌, ◌++◌, ◌∷◌, ◌∙◌, ℕ, zero, suc, List, [], All, true, false, length, set, get_or, sum_by, arith, refl, sym, ap, subst, append_assoc, length-append, ⊎_elim}
-use Rattle.std.specs.List.{Contains}
 use Rattle.std.specs.List.Sorted.{IsStrictlyIncreasing}
 use Rattle.std.proofs.lemmas.Bool.Decides.{nat_tests}
 use Rattle.std.proofs.lemmas.List.{get_or_default}
@@ -18,7 +17,7 @@ use Rattle.scrub_pool.specs.Account.{all_of, view_of, IsView, Accounts, IsTaken,
 use Rattle.scrub_pool.proofs.Rising.{below_next, rising_push}
 use Rattle.scrub_pool.proofs.Totals.{total_set, total_at, total_two, total_only}
 
--- a fact of each pass, after one changed
+-- what holds of each pass, after one changed
 all_set : (F : View → Type 0) (views : List View) (port : ℕ) (w : View) → F w →
     ((j : ℕ) (u : View) → j ≢ port → get_elem? views j ≡ some u → F u) → (j : ℕ) (u : View) →
     get_elem? (set views port w) j ≡ some u → F u
@@ -26,7 +25,7 @@ all_set F views port w mine others j u at =
     ⊎_elim (λ (x : (j ≡ port) × (w ≡ u)). subst F x.1 mine)
     (λ (x : (j ≢ port) × (get_elem? views j ≡ some u)). others j u x.0 x.1) (at_set views port j w u at)
 
--- with the first pass and none out, the others are joined
+-- if the first pass has none out, all others are joined
 alone : (items : List ℕ) (views : List View) (h : Accounts items views) (port : ℕ) (v : View) →
     get_elem? views port ≡ some v → v.firsts ≡ 1 → v.out ≡ 0 →
     (j : ℕ) (u : View) → j ≢ port → get_elem? views j ≡ some u → u.firsts + u.lives ≡ 0
@@ -121,7 +120,11 @@ takes port v alive x items views h at =
         );
         each =
             all_set (IsView h.pushed) views port w
-            (record { none_out = fits.none_out; nothing = λ none. absurd (omega (arith, none, alive)); knows = fits.knows })
+            (record {
+              none_out = fits.none_out;
+              nothing = λ none. absurd (omega (arith, none, alive));
+              knows = fits.knows;
+            })
             (λ j u differ there. h.each j u there);
       },
       record {

@@ -21,14 +21,14 @@ module _ (f : View → ℕ) where
       let is : f (get_or views port v) ≡ f v = ap f place.1 in
       omega (arith, is, sum_by-set f views port w v place.0)
 
-  -- one pass counts for no more than all
+  -- one pass counts no more than all
   pub total_at : (views : List View) (port : ℕ) (v : View) → get_elem? views port ≡ some v → f v ≤ sum_by f views
   total_at views port v at =
       let place = place_of views port v at in
       let is : f (get_or views port v) ≡ f v = ap f place.1 in
       omega (arith, is, get_or-le-sum_by f views port v place.0)
 
-  -- nor do two
+  -- nor do two passes
   pub total_two : (views : List View) (port other : ℕ) (v u : View) → other ≢ port → get_elem? views port ≡ some v →
       get_elem? views other ≡ some u → f v + f u ≤ sum_by f views
   total_two [] port other v u differ at there = absurd (some-ne-none v (sym at))
@@ -47,7 +47,7 @@ module _ (f : View → ℕ) where
   total_none (x ∷ xs) none =
       omega (arith, sum_by-cons f x xs, none 0 x refl, total_none xs (λ j u at. none (suc j) u at))
 
-  -- where the others count for nothing, one counts for all
+  -- if the others count nothing, one counts for all
   pub total_only : (views : List View) (port : ℕ) (v : View) → get_elem? views port ≡ some v →
       ((j : ℕ) (u : View) → j ≢ port → get_elem? views j ≡ some u → f u ≡ 0) → sum_by f views ≡ f v
   total_only [] port v at none = absurd (some-ne-none v (sym at))

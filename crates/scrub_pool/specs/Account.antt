@@ -1,5 +1,5 @@
--- The rule of the shared queue: what was pushed is some list and then the queue's content; what all passes took is together
--- that list, each extent once.
+-- The rule of the shared queue: what was pushed is some list followed by the queue's content; what all passes took is
+-- together that list, each extent once.
 use Rattle.std.specs.Prelude.{◌≡◌, ◌+◌, ◌<◌, ◌++◌, ◌∷◌, ℕ, List, [], All, Contains, length, sum_by}
 use Rattle.std.specs.List.Sorted.{IsPermutation, IsStrictlyIncreasing}
 use mathlib.Core.Option.{some}
@@ -21,8 +21,8 @@ pub record IsView (pushed : List ℕ) (v : View) : Type 0 where
   pub nothing : v.firsts + v.lives ≡ 0 → (v.own ≡ []) × (v.joined ≡ [])
   pub knows : 0 < v.firsts + v.lives → v.pushed ≡ pushed
 
--- the rule of the queue: what was pushed rises, and is some list and then the queue's content; all passes together took
--- just that list, each extent as often
+-- the rule of the queue: what was pushed rises, and is some list followed by the queue's content; all passes together took
+-- exactly that list, each extent as often
 pub record Accounts (items : List ℕ) (views : List View) : Type 0 where
   pub pushed : List ℕ
   pub before : List ℕ
@@ -39,6 +39,6 @@ pub record IsTaken (v : View) (x : ℕ) (w : View) : Type 0 where
   pub pushed : Contains v.pushed x
   pub above : All (λ y. y < x) (all_of v)
 
--- a pop gave nothing to the first pass with none out: it accounts for all that was pushed
+-- a pop by the first pass with none out gave nothing: the pass accounts for all that was pushed
 abbrev pub AreAllTaken : View → List ℕ → Type 0
 AreAllTaken v items = v.firsts ≡ 1 → v.out ≡ 0 → length items ≡ 0 → IsPermutation (all_of v) v.pushed

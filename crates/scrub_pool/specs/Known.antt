@@ -1,4 +1,4 @@
--- What is known by a pass of the queue that the code has.
+-- What is known about a pass that the code has.
 use Rattle.std.specs.Prelude.{◌≡◌, ◌+◌, ◌==◌, ℕ, [], All}
 use Rattle.std.specs.List.Sorted.{IsStrictlyIncreasing}
 use Rattle.crossbeam_queue.specs.Passes.{Pass}

@@ -1,11 +1,11 @@
--- What contracts see of the queue of extents and of a pass: which queue it is of, and who took which extents.
+-- What contracts see of the queue of extents and of a pass: which queue it is, and who took which extents.
 use Rattle.std.specs.Prelude.{◌≡◌, ◌<◌, ◌++◌, ◌∷◌, ℕ, List, [], Bool, true, false, All, Contains}
 use Rattle.std.specs.List.{flat_map}
 use Rattle.std.specs.List.Sorted.{IsPermutation}
 pub use Rattle.atomic_table.specs.Seated.{TableId}
 
--- a pass: its queue, the planned extents, whether it is the first, the extents that it took, the list that each pass took
--- that was joined into it, and how many passes are out, which were split from it and not joined back
+-- a pass: its queue, the planned extents, whether it is the first, the extents that it took, the list of each pass that was
+-- joined into it, and how many passes are out, which were split from it and not joined back
 pub record PassValue : Type 0 where
   pub queue : TableId
   pub planned : List ℕ
@@ -18,7 +18,7 @@ pub record PassValue : Type 0 where
 abbrev pub one_list : List (List ℕ) → List ℕ
 one_list lists = flat_map (λ xs. xs) lists
 
--- all that was taken by a pass and by those joined into it
+-- all that a pass and those joined into it took
 abbrev pub taken_in : PassValue → List ℕ
 taken_in p = p.own ++ one_list p.joined
 
@@ -30,7 +30,7 @@ new_pass queue planned = record { queue = queue; planned = planned; first = true
 abbrev pub split_pass : TableId → List ℕ → PassValue
 split_pass queue planned = record { queue = queue; planned = planned; first = false; own = []; joined = []; out = 0 }
 
--- the first pass of a queue over these planned extents, whatever it took and whichever passes are out
+-- the first pass of a queue over these planned extents, whatever it took and however many passes are out
 abbrev pub IsFirst : TableId → List ℕ → PassValue → Type 0
 IsFirst queue planned p = (p.queue ≡ queue) × (p.planned ≡ planned) × (p.first ≡ true)
 

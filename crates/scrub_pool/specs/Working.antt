@@ -1,4 +1,4 @@
--- Workers while they take and scan, and once they ended.
+-- Workers while they take and scan, and once they have ended.
 use Rattle.std.specs.Prelude.{◌≡◌, ◌++◌, ◌-◌, ℕ, List, [], false, None, Some, All, Vec, length, map, sum_by}
 use Rattle.scrub_disk.specs.Image.{Image}
 use Rattle.scrub_super.specs.Plan.{PlanValue, pointer_of}
@@ -14,7 +14,7 @@ use Rattle.scrub_pool.specs.declared.crew.NewMember.{NewMember}
 abbrev pub IsPassFor : TableId → List ℕ → PassValue → Type 0
 IsPassFor queue planned p = (p.queue ≡ queue) × (p.planned ≡ planned)
 
--- the pass is as it was, but for more that it may have taken
+-- the pass is unchanged, except that it may have taken more
 abbrev pub IsSamePart : PassValue → PassValue → Type 0
 IsSamePart old new = (new.first ≡ old.first) × (new.joined ≡ old.joined) × (new.out ≡ old.out)
 
@@ -52,7 +52,7 @@ module _ {D : Type 0} {s : _} where
   abbrev pub HaveResults : Image → PlanValue → List (Member D s) → Type 0
   HaveResults image plan members = All (λ m. AreResults image plan (results_of m.core)) members
 
-  -- these results are of any image and plan of which those of all workers are
+  -- these results are of each image and plan that the results of all workers are of
   abbrev pub AreFoundBy : List (Member D s) → List (ExtentResult D s) → Type 0
   AreFoundBy members results = (image : Image) (plan : PlanValue) → HaveResults image plan members → AreResults image plan results
 
@@ -60,7 +60,6 @@ module _ {D : Type 0} {s : _} where
   abbrev pub IsThrough : TableId → Member D s → Type 0
   IsThrough queue m = (m.pass.queue ≡ queue) × (m.pass.first ≡ false) × (m.pass.own ≡ taken_by m.core) × (held_by m.core ≡ None)
 
-  -- workers that didn't run out of memory: each has a part of the ledger, each result was counted, and none holds an
-  -- extent
+  -- workers that didn't run out of memory: each has a part of the ledger, each result was counted, and none holds an extent
   abbrev pub AreDone : ℕ → ℕ → List (Member D s) → Type 0
   AreDone parts amount members = (parts ≡ length members) × (amount ≡ sum_by (λ m. length (results_of m.core)) members) × All (λ m. held_by m.core ≡ None) members

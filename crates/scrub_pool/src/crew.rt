@@ -1,4 +1,4 @@
-//! The workers beside the caller, each on a thread of its own. What one worker does is left to `worker`.
+//! The workers besides the caller, each on a thread of its own. For what one worker does, see `worker`.
 
 ghost use Rattle.std.specs.Thread.{IsSync};
 ghost use Rattle.std.specs.Prelude.{◌≡◌, ◌+◌, ◌<◌, None, [], All, length, IfSome, vec_len};
@@ -17,22 +17,22 @@ use std::sync::ledger::{Ledger, Share};
 use std::sync::{Mutex, Wait};
 use std::thread::{Threads, join_mut};
 
-/// A worker that didn't begin: its number, and a pass by which nothing was taken.
+/// A worker that hasn't begun: its number, and a pass that took nothing.
 #[derive(Drop)]
 pub(crate) struct NewMember {
     pub(crate) number: u32,
     pub(crate) pass: TakePass,
 }
 
-/// A worker that ended: its pass, and what it took and found.
+/// A worker that has ended: its pass, and what it took and found.
 #[derive(Drop)]
 pub(crate) struct Member<'d, D: PageSource> {
     pub(crate) pass: TakePass,
     pub(crate) core: WorkerCore<'d, D>,
 }
 
-/// A crew, which begins on a new thread, and one more worker, on this one, work at the same time; where there is no crew, no
-/// thread is started. No share means that one of them lacked memory.
+/// Runs a crew, which begins on a new thread, and one more worker, on this thread, at the same time. An empty crew starts no
+/// thread. A missing share means that memory ran out.
 #[cycle(crew)]
 pub(crate) fn run_crew_and_worker<
     'd,
@@ -90,8 +90,8 @@ pub(crate) fn run_crew_and_worker<
     )
 }
 
-/// All members of a crew work at once: the last one on this thread, and those before it as a crew beside it, so that each has
-/// a thread of its own. No share means that one of them lacked memory.
+/// Runs all members of a crew at once: the last one on this thread, and those before it as a crew beside it, so that each
+/// has a thread of its own. A missing share means that memory ran out.
 #[cycle(crew)]
 fn run_crew<'d, D: PageSource, L: Ledger + Send + Sync, G: Gate, R: Threads + Wait + Sync>(
     rt: &R,

@@ -1,5 +1,4 @@
-//! The queue of the planned extents, and the passes of those that take from it. `scanning` says
-//! what is done with an extent.
+//! The queue of the planned extents, and the passes to take from it. For what is done with an extent, see `worker`.
 
 ghost use Rattle.std.specs.Prelude.{◌≡◌, ◌+◌, ◌-◌, ◌<◌, ◌≤◌, length, take, [], ◌∷◌, ◌++◌, true, false, All, IfOk, IfSome, IfNone, OnErr, Contains};
 ghost use Rattle.std.specs.List.Sorted.{IsStrictlyIncreasing};
@@ -15,7 +14,7 @@ use std::alloc::Global;
 use std::marker::Model;
 use std::sync::Wait;
 
-/// The planned extents that nobody has taken. Contracts see which queue it is.
+/// The planned extents that nobody has taken. Contracts see only which queue it is.
 #[derive(Drop)]
 pub struct ExtentQueue {
     queue: RuledQueue,
@@ -29,7 +28,7 @@ impl Model for ExtentQueue {
     ghost view = { λ q. q.queue.table.shared.table_id };
 }
 
-/// The right to take from a queue, and the account of what was taken by it.
+/// The right to take from a queue, and the account of what was taken with it.
 #[derive(Drop)]
 pub struct TakePass {
     pass: Pass<u32, View>,
@@ -49,7 +48,7 @@ impl Model for TakePass {
 impl ExtentQueue {
     ghost use Rattle.scrub_pool.specs.Passes.{new_pass, split_pass, IsTakenBy, HasTakenAll};
 
-    /// The planned extents, rising, and the first pass.
+    /// A queue of the planned extents, rising, and its first pass.
     pub fn new<R: Wait>(
         rt: &R,
         alloc: Global,
@@ -63,7 +62,8 @@ impl ExtentQueue {
         Ok((ExtentQueue { queue }, TakePass { pass }))
     }
 
-    /// A pass of this queue that took nothing, split from the first one, of which at most 64 are out.
+    /// Splits a pass that took nothing off the first one, which has at most 64 out before. The two unused parameters are
+    /// part of the public signature.
     pub fn split<R: Wait>(
         &self,
         _rt: &R,
@@ -81,7 +81,8 @@ impl ExtentQueue {
         Ok(TakePass { pass: other })
     }
 
-    /// Joins a pass back into the first one, from which it was split, with what was taken by it. It takes no memory.
+    /// Joins a pass back into the first one, from which it was split, with what was taken with it. The unused parameter is
+    /// part of the public signature. Takes no memory.
     pub fn join<R: Wait>(&self, _rt: &R, pass: &mut TakePass, other: TakePass)
         requires queue { pass.old.queue ≡ self.now }
         requires other_queue { other.queue ≡ self.now }
@@ -94,13 +95,13 @@ impl ExtentQueue {
     }
 
     /// Takes the next extent out of the queue, above all that this pass took. None means that the queue was empty at one
-    /// moment of the call. It takes no memory.
+    /// moment of the call. Takes no memory.
     pub fn take<R: Wait>(&self, rt: &R, pass: &mut TakePass) -> Option<u32>
         requires { pass.old.queue ≡ self.now }
         ensures taken { IfSome result (λ e. IsTakenBy pass.old e pass.new) }
         ensures none { IfNone result (pass.new ≡ pass.old) }
         ensures all { IfNone result (pass.old.first ≡ true → pass.old.out ≡ 0 → HasTakenAll pass.old) }
-        // Every value of the type is such.
+        // True of every value of the type.
         ensures rising { IsStrictlyIncreasing pass.new.own }
         ensures joined_rise { All IsStrictlyIncreasing pass.new.joined }
     {
@@ -108,7 +109,7 @@ impl ExtentQueue {
     }
 }
 
-/// Pushes the planned extents. Nobody else has a pass, so the queue has room for each.
+/// Pushes the planned extents. No other pass exists yet, so the queue has room for each.
 fn fill<R: Wait>(rt: &R, queue: &RuledQueue, pass: &mut Pass<u32, View>, extents: &[u32])
     requires room { length extents.now ≤ ruled_capacity queue.now }
     requires rising { IsStrictlyIncreasing extents.now }
@@ -122,7 +123,7 @@ fn fill<R: Wait>(rt: &R, queue: &RuledQueue, pass: &mut Pass<u32, View>, extents
     }
 }
 
-/// Pushes the planned extent of this number, behind those before it: at every moment what was pushed so far is a front of
+/// Pushes the planned extent with this number, after those before it. At every moment, what was pushed so far is a prefix of
 /// the planned extents.
 fn push_next<R: Wait>(
     rt: &R,

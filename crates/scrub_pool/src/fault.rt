@@ -1,11 +1,11 @@
-//! Why a scan by many workers has no answer.
+//! Why a scan by many workers fails.
 
 use crate::OutOfMemory;
 
-/// Why a scan has no answer.
+/// Why a scan fails.
 #[derive(Debug, Clone, Copy, PartialEq, Eq)]
 pub enum PoolFault {
-    /// A worker or the caller was refused a growth.
+    /// A worker or the caller ran out of memory.
     OutOfMemory,
 }
 

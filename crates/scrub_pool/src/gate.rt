@@ -1,11 +1,12 @@
-//! What workers tell while they scan.
+//! What workers report while they scan.
 
-/// Told of each extent when it was taken and when it was counted, so that somebody can watch the workers, or hold them up.
+/// Called for each extent when it was taken and when it was counted, so that the caller can watch the workers, or hold them
+/// up.
 pub trait Gate: Sync {
     /// A worker took an extent, which it hasn't scanned yet.
     fn passed(&self, worker: u32, extent: u32);
 
-    /// A worker moved 1 into the ledger, for an extent that it is done with. That move left this total.
+    /// A worker counted an extent that it finished, which left this total in the ledger.
     fn counted(&self, worker: u32, total: u64);
 }
 

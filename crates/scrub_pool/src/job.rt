@@ -1,11 +1,11 @@
-//! What all workers of a scan have in common. What one of them does with it is left to `worker`.
+//! What all workers of a scan share. For what one of them does with it, see `worker`.
 
 use crate::extent_queue::ExtentQueue;
 use crate::gate::Gate;
 use scrub_super::Plan;
 use std::alloc::Global;
 
-/// The allocator that all use, the plan, the queue of its planned extents, and who is told of each.
+/// The allocator, the plan, the queue of its planned extents, and the gate that is called for each.
 #[derive(Drop)]
 pub(crate) struct Job<'j, G: Gate> {
     pub alloc: Global,

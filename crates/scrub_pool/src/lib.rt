@@ -1,5 +1,5 @@
-//! Workers that scan the planned extents of a disk at the same time, each taking from one shared queue. What is decided
-//! without threads stands in `scrub_book`, and what follows from what was found in `scrub_report`.
+//! Workers that scan the planned extents of a disk at the same time, each taking from one shared queue. For what is decided
+//! without threads, see `scrub_book`.
 #![tactic(auto)]
 
 mod crew;

@@ -1,26 +1,27 @@
-//! What the shared queue keeps true at every moment, whatever the threads do. Who takes, and when, is left to `worker`.
+//! The rule that the shared queue keeps at every moment, whatever the threads do. For who takes and when, see `worker`.
 
 use crossbeam_queue::RuledArrayQueue;
 use crossbeam_queue::protocol::{Join, Lesson, Outcome, Protocol, Split};
 use std::collections::LinkedList;
 
-/// What a pass knows. It exists in proofs alone: no value of it is made.
+/// What a pass knows. Exists in proofs only: no value of it is made.
 pub struct View {
-    /// 1 in the first pass, and else 0.
+    /// 1 in the first pass, else 0.
     pub firsts: u64,
-    /// 1 in a pass that was split off and not joined, and else 0.
+    /// 1 in a pass that was split off and not joined, else 0.
     pub lives: u64,
-    /// How many passes were split from it and not joined back.
+    /// The number of passes that were split from it and not joined back.
     pub out: u64,
     /// The extents that were pushed so far.
     pub pushed: LinkedList<u32>,
     /// The extents that it took.
     pub own: LinkedList<u32>,
-    /// What the passes took that were joined into it.
+    /// What each pass that was joined into it took.
     pub joined: LinkedList<LinkedList<u32>>,
 }
 
-/// What was pushed is what was taken and then what the queue holds; what was taken was taken by one pass, once.
+/// What was pushed is what was taken, followed by what the queue holds; each extent that was taken was taken once, by one
+/// pass.
 pub struct Account;
 
 impl Protocol<u32, View> for Account {
@@ -32,7 +33,7 @@ impl Protocol<u32, View> for Account {
     ghost first = { view_of 1 0 0 [] [] [] };
 }
 
-/// An extent is pushed, before any other pass is there.
+/// An extent is pushed, before any other pass exists.
 pub struct Pushes;
 
 impl Outcome<u32, View> for Pushes {

@@ -1,4 +1,4 @@
-//! Scanning all planned extents by many workers and the caller. What one worker does is left to `worker`.
+//! Scanning all planned extents with workers and the caller. For what one worker does, see `worker`.
 
 ghost use Rattle.std.specs.Prelude.{◌≡◌, ◌+◌, ◌-◌, ◌<◌, ◌≤◌, ◌++◌, [], ◌∷◌, true, None, All, length, OnOk, IfOk, sum_by, vec_len};
 ghost use Rattle.std.specs.List.Sorted.{IsPermutation};
@@ -28,7 +28,7 @@ use std::sync::ledger::{Blank, Ledger};
 use std::sync::{Mutex, Wait};
 use std::thread::Threads;
 
-/// As many members as workers were asked for, each with a pass of its own.
+/// A member for each worker that was asked for, each with a pass of its own.
 fn new_crew<R: Wait>(
     rt: &R,
     alloc: Global,
@@ -53,8 +53,8 @@ fn new_crew<R: Wait>(
     Ok(crew)
 }
 
-/// Retires a worker that holds no extent: adds its results to those found, and gives the list of what it took.
-fn take_over<'d, D: PageSource>(
+/// Retires a worker that holds no extent: appends its results to those found, and gives the list of what it took.
+fn retire_worker<'d, D: PageSource>(
     core: WorkerCore<'d, D>,
     found: &mut Vec<ExtentResult<'d, D>>,
 ) -> Result<Vec<u32>, OutOfMemory>
@@ -71,8 +71,8 @@ fn take_over<'d, D: PageSource>(
     Ok(taken)
 }
 
-/// Takes in one member that ended: joins its pass, adds its results to those found, and gives the list of what it took.
-fn take_in<'d, D: PageSource, R: Wait>(
+/// Joins a member that has ended: joins its pass, appends its results to those found, and gives the list of what it took.
+fn join_member<'d, D: PageSource, R: Wait>(
     rt: &R,
     queue: &ExtentQueue,
     first: &mut TakePass,
@@ -89,11 +89,11 @@ fn take_in<'d, D: PageSource, R: Wait>(
 {
     let Member { pass, core } = member;
     queue.join(rt, first, pass);
-    take_over(core, found)
+    retire_worker(core, found)
 }
 
-/// Takes in all members that ended, in their order, and gives the lists of what they took.
-fn collect<'d, D: PageSource, R: Wait>(
+/// Joins all members that have ended, in order, and gives the lists of what they took.
+fn join_members<'d, D: PageSource, R: Wait>(
     rt: &R,
     alloc: Global,
     queue: &ExtentQueue,
@@ -114,14 +114,14 @@ fn collect<'d, D: PageSource, R: Wait>(
 {
     let mut lists = Vec::new(alloc);
     for member in members {
-        lists.push(take_in(rt, queue, first, member, found)?)?;
+        lists.push(join_member(rt, queue, first, member, found)?)?;
     }
     Ok(lists)
 }
 
-/// All work until no extent is left. Gives who took what, by the workers' numbers, the caller's last; what was found; and the
-/// total of the ledger in which it was counted.
-fn gather<'d, D: PageSource, L: Ledger + Send + Sync, G: Gate, R: Threads + Wait + Sync>(
+/// Scans with all workers until no extent is left. Gives the list of what each worker took, by the workers' numbers, the
+/// caller's last; the results; and the ledger's total.
+fn scan_with_crew<'d, D: PageSource, L: Ledger + Send + Sync, G: Gate, R: Threads + Wait + Sync>(
     rt: &R,
     disk: &'d D,
     job: &Job<'_, G>,
@@ -147,24 +147,26 @@ fn gather<'d, D: PageSource, L: Ledger + Send + Sync, G: Gate, R: Threads + Wait
     let (ledger, unclaimed) = blank.open::<L>();
     let tally = Mutex::new(Tally::new(ledger, unclaimed, parts));
     let crew = new_crew(rt, job.alloc, job.queue, first, workers)?;
-    let ((members, theirs), (core, mine)) = run_crew_and_worker(rt, disk, job, &tally, crew, workers, first);
+    let ((members, theirs), (core, mine)) = run_crew_and_worker(
+        rt, disk, job, &tally, crew, workers, first,
+    );
     let (Some(theirs), Some(mine)) = (theirs, mine) else {
         return Err(OutOfMemory);
     };
     let (mut core, mut share) = (core, mine);
     let mut found = Vec::new(job.alloc);
-    let mut lists = collect(rt, job.alloc, job.queue, first, members, &mut found)?;
+    let mut lists = join_members(rt, job.alloc, job.queue, first, members, &mut found)?;
     take_until_empty(rt, disk, job, &tally, &mut core, &mut share, workers, first)?;
-    let own = take_over(core, &mut found)?;
+    let own = retire_worker(core, &mut found)?;
     lists.push(own)?;
     let counted = audit(tally, theirs, share);
     Ok((lists, found, counted))
 }
 
-/// What one reader finds in the planned extents, scanned by this many workers (0 to 64) and the caller, each taking from this
-/// queue until none is left, and who took what. The caller takes with the first pass, as worker number `workers`; with no
-/// others no thread is started. The one fault is `OutOfMemory`, told once every worker that was started has ended. The pass is
-/// then still the first one of this queue, so that what was taken is told by the queue's rule; both are for dropping.
+/// What one reader finds in the planned extents, and who took what. The extents are scanned by this many workers (0 to 64)
+/// and the caller, each taking from this queue until none is left. The caller takes with the first pass, as worker number
+/// `workers`; without workers no thread is started. The only fault is `OutOfMemory`, returned once every worker that was
+/// started has ended. The pass is then still the first one of this queue, whose rule still says what was taken; drop both.
 pub fn scan_all<'d, D: PageSource, G: Gate, R: Threads + Wait + Sync>(
     rt: &R,
     alloc: Global,
@@ -181,7 +183,7 @@ pub fn scan_all<'d, D: PageSource, G: Gate, R: Threads + Wait + Sync>(
     ensures image { IfOk result (λ r. IsOfImage (λ s. D.image s) r.0 (D.image disk.now)) }
     ensures findings { IfOk result (λ r. AreAllFindings (D.image disk.now) plan.now r.0.extents) }
     ensures workers { IfOk result (λ r. length r.1.lists ≡ workers + 1) }
-    // After the fault too.
+    // Also after a fault.
     ensures kept { IsFirst queue.now plan.now.planned first.new }
     ensures first { OnOk result (IsFirstAlone queue.now plan.now.planned first.new) }
     ensures lists { IfOk result (λ r. r.1.lists ≡ first.new.joined ++ first.new.own ∷ []) }
@@ -196,7 +198,7 @@ pub fn scan_all<'d, D: PageSource, G: Gate, R: Threads + Wait + Sync>(
         queue,
         gate,
     };
-    let (lists, results, counted) = gather::<D, Brand, G, R>(
+    let (lists, results, counted) = scan_with_crew::<D, Brand, G, R>(
         rt, disk, &job, first, workers, blank,
     )?;
     Ok((assemble(book, results), Takings::new(lists, counted)))

@@ -1,4 +1,4 @@
-//! Who took which extents, and how many were counted. How it came to that is left to `worker`.
+//! Who took which extents, and how many were counted. For how they were taken, see `worker`.
 
 ghost use Rattle.std.specs.Prelude.{◌≡◌, ◌+◌, ◌<◌, ℕ, List, length, Some, slice_get};
 ghost use Rattle.std.specs.List.Sorted.{IsStrictlyIncreasing};
@@ -10,7 +10,7 @@ ghost use Rattle.scrub_pool.specs.Takings.{IsPartition, AreTakenInSomeSchedule};
 
 use std::marker::Model;
 
-/// For each worker the extents that it took, in that order, and the ledger's total.
+/// The extents that each worker took, in that order, and the ledger's total.
 #[derive(Drop)]
 pub struct Takings {
     // By the workers' numbers, the caller's last.
@@ -43,14 +43,14 @@ impl Takings {
         Takings { lists, counted }
     }
 
-    /// How many workers were asked for beside the caller.
+    /// The number of workers that were asked for besides the caller.
     pub fn workers(&self) -> u32
         ensures { result + 1 ≡ length self.now.lists }
     {
         self.lists.len() as u32 - 1
     }
 
-    /// The extents that a worker took, rising. The caller's number is `workers()`. A worker that was passed over took none.
+    /// The extents that a worker took, rising; there may be none. The caller's number is `workers()`.
     pub fn taken_by(&self, worker: u32) -> &[u32]
         requires { worker < length self.now.lists }
         ensures { slice_get self.now.lists worker ≡ Some result.now }
@@ -58,7 +58,7 @@ impl Takings {
         self.lists[worker as usize].as_slice()
     }
 
-    /// The ledger's total: how many extents were counted.
+    /// The ledger's total: the number of extents that were counted.
     pub fn counted(&self) -> u64
         ensures { result ≡ self.now.counted }
     {
@@ -67,7 +67,7 @@ impl Takings {
 }
 
 /// A law: lists that are a partition of the planned extents are what the members of a complete pool took, after some
-/// schedule. `all` shows that each planned extent has findings, so that it can be done.
+/// schedule. `all` shows that each planned extent has findings, so that a member can finish it.
 pub fn some_schedule_takes_so()
     ensures { (image : Image) (plan : PlanValue) (all : List Scanned) (lists : List (List ℕ)) →
         IsStrictlyIncreasing plan.planned → AreAllFindings image plan all → IsPartition plan.planned lists →

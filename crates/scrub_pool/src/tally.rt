@@ -1,11 +1,11 @@
-//! What all workers counted, under one lock. When something is counted is left to `worker`.
+//! What all workers counted, under one lock. For when they count, see `worker`.
 
 ghost use Rattle.std.specs.Prelude.{◌≡◌, ◌+◌, ◌<◌, IfSome, OnSome};
 
 use std::sync::ledger::{Book, Ledger, Share};
 use std::sync::{Mutex, Wait};
 
-/// The total, beside the ledger's book that says so, and the parts of the ledger that no worker has yet.
+/// The total, the ledger's book that vouches for it, and the parts of the ledger that no worker has yet.
 #[derive(Drop)]
 pub(crate) struct Tally<L: Ledger> {
     total: u64,
@@ -18,7 +18,7 @@ pub(crate) struct Tally<L: Ledger> {
 }
 
 impl<L: Ledger> Tally<L> {
-    /// A book in which nothing was counted, and so many parts.
+    /// A tally of nothing, with this many parts of the ledger.
     pub(crate) fn new(book: Book<L>, unclaimed: Share<L>, left: u64) -> Tally<L>
         requires total { book.total ≡ 0 }
         requires parts { unclaimed.parts ≡ left }
@@ -32,7 +32,7 @@ impl<L: Ledger> Tally<L> {
         }
     }
 
-    /// One part of the ledger, by which nothing was counted. None where no part is left.
+    /// One part of the ledger, with nothing counted. None if no part is left.
     fn claim(&mut self) -> Option<Share<L>>
         ensures one { IfSome result (λ s. s.parts ≡ 1) }
         ensures empty { IfSome result (λ s. s.amount ≡ 0) }
@@ -57,7 +57,7 @@ impl<L: Ledger> Tally<L> {
         self.unclaimed.empty()
     }
 
-    /// Moves 1 into the book, and tells the total that the move left. None where the total can't grow.
+    /// Counts 1, and gives the total after that. None if the total can't grow.
     fn count(&mut self, share: &mut Share<L>) -> Option<u64>
         requires { 0 < share.old.parts }
         ensures parts { share.new.parts ≡ share.old.parts }
@@ -72,7 +72,7 @@ impl<L: Ledger> Tally<L> {
         Some(next)
     }
 
-    /// The book's total, by the share that has every part: what was counted by it.
+    /// The book's total. The share has every part, so this is what was counted with it.
     pub(crate) fn last(&mut self, all: &mut Share<L>) -> u64
         requires { all.old.parts ≡ L.parts }
         ensures { result ≡ all.old.amount }
@@ -82,7 +82,7 @@ impl<L: Ledger> Tally<L> {
     }
 }
 
-/// One part of the ledger, for any thread.
+/// One part of the ledger. Any thread may ask.
 pub(crate) fn claim<L: Ledger, R: Wait>(rt: &R, tally: &Mutex<Tally<L>>) -> Option<Share<L>>
     ensures one { IfSome result (λ s. s.parts ≡ 1) }
     ensures empty { IfSome result (λ s. s.amount ≡ 0) }
@@ -90,7 +90,7 @@ pub(crate) fn claim<L: Ledger, R: Wait>(rt: &R, tally: &Mutex<Tally<L>>) -> Opti
     tally.lock(rt).claim()
 }
 
-/// No part of the ledger, for any thread.
+/// No part of the ledger. Any thread may ask.
 pub(crate) fn nothing<L: Ledger, R: Wait>(rt: &R, tally: &Mutex<Tally<L>>) -> Share<L>
     ensures none { result.parts ≡ 0 }
     ensures empty { result.amount ≡ 0 }
@@ -98,7 +98,7 @@ pub(crate) fn nothing<L: Ledger, R: Wait>(rt: &R, tally: &Mutex<Tally<L>>) -> Sh
     tally.lock(rt).nothing()
 }
 
-/// One move of 1, by any thread, and the total that it left.
+/// Counts 1, and gives the total after that. Any thread may do it.
 pub(crate) fn count<L: Ledger, R: Wait>(
     rt: &R,
     tally: &Mutex<Tally<L>>,
@@ -111,7 +111,7 @@ pub(crate) fn count<L: Ledger, R: Wait>(
     tally.lock(rt).count(share)
 }
 
-/// What was counted by both shares, once one of them has every part that the other has not.
+/// What was counted with both shares, which have every part between them.
 pub(crate) fn audit<L: Ledger>(tally: Mutex<Tally<L>>, theirs: Share<L>, mine: Share<L>) -> u64
     requires { mine.parts + theirs.parts ≡ L.parts }
     ensures { result ≡ mine.amount + theirs.amount }

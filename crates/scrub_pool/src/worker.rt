@@ -1,4 +1,4 @@
-//! One worker: it takes extents until none is left, scans each, and counts it. Which thread it runs on is left to `crew`.
+//! One worker: it takes extents until none is left, scans each, and counts it. For its thread, see `crew`.
 
 ghost use Rattle.std.specs.Prelude.{◌≡◌, ◌+◌, ◌<◌, true, None, [], All, length, OnOk, IfSome};
 ghost use Rattle.std.specs.List.Sorted.{IsStrictlyIncreasing};
@@ -17,7 +17,7 @@ use scrub_scan::scan_extent;
 use std::sync::ledger::{Ledger, Share};
 use std::sync::{Mutex, Wait};
 
-/// Takes extents until none is left, and scans and counts each. An Err is want of memory.
+/// Takes extents until none is left, and scans and counts each. An error means that memory ran out.
 pub(crate) fn take_until_empty<'d, D: PageSource, L: Ledger + Send + Sync, G: Gate, R: Wait>(
     rt: &R,
     disk: &'d D,
@@ -58,7 +58,7 @@ pub(crate) fn take_until_empty<'d, D: PageSource, L: Ledger + Send + Sync, G: Ga
     unreachable!()
 }
 
-/// Works with a core and a part of the ledger of its own. No share means that it lacked memory.
+/// Runs one worker, with a core and a part of the ledger of its own. A missing share means that memory ran out.
 pub(crate) fn run_worker<'d, D: PageSource, L: Ledger + Send + Sync, G: Gate, R: Wait>(
     rt: &R,
     disk: &'d D,

@@ -1,4 +1,4 @@
--- Bytes that begin with entries: which entries these are.
+-- Bytes that begin with entries: which entries they are.
 use Rattle.std.proofs.Common.{◌≡◌, ◌<◌, ◌≤◌, ◌+◌, ◌*◌, ℕ, List, [], ◌∷◌, ◌++◌, length, drop, get_or, All, arith, refl, sym, ◌∙◌, ap, append_assoc, length-append}
 use Rattle.std.specs.List.{flat_map}
 use Rattle.std.proofs.lemmas.List.{drop_at, flat_map_more, get_or_append_left, get_or_at}
@@ -17,7 +17,7 @@ same_value e f h k = λ i. record { id = record { 0 = h i }; locators = k i }
 entry_parts : (e : EntryValue) (r : List ℕ) → entry_bytes e ++ r ≡ e.id.0 ++ (length e.locators ∷ (flat_map locator_bytes e.locators ++ r))
 entry_parts e r = append_assoc e.id.0 (length e.locators ∷ flat_map locator_bytes e.locators) r
 
--- bytes begin with one entry at most
+-- bytes begin with at most one entry
 pub same_entry : (e f : EntryValue) (r s : List ℕ) → IsEntry e → IsEntry f → entry_bytes e ++ r ≡ entry_bytes f ++ s → (e ≡ f) × (r ≡ s)
 same_entry e f r s he hf same = (same_value e f ids.0 (same_locators e.locators f.locators he.each hf.each count spelled.0), spelled.1)
   where
@@ -38,7 +38,7 @@ pub record Continues (xs ys : List EntryValue) (rest : List ℕ) : Type 0 where
   pub whole : ys ≡ xs ++ more
   pub rest_is : rest ≡ flat_map entry_bytes more
 
--- where bytes are the entries ys, and begin with no more entries xs than these, ys begin with xs
+-- if bytes are the entries ys, and begin with no more entries xs than these, ys begin with xs
 pub continues : (xs ys : List EntryValue) (rest : List ℕ) → All IsEntry xs → All IsEntry ys → length xs ≤ length ys →
     flat_map entry_bytes xs ++ rest ≡ flat_map entry_bytes ys → Continues xs ys rest
 continues [] ys rest hx hy few e = record { more = ys; whole = refl; rest_is = e }
@@ -50,7 +50,7 @@ continues (x ∷ xs) (y ∷ ys) rest hx hy few e =
     let after : Continues xs ys rest = continues xs ys rest (All-tail IsEntry x xs hx) (All-tail IsEntry y ys hy) (omega (arith, few)) cut.1 in
     record { more = after.more; whole = ap (λ z. z ∷ ys) (sym cut.0) ∙ ap (λ zs. x ∷ zs) after.whole; rest_is = after.rest_is }
 
--- what stands where, in bytes that begin with an entry
+-- the parts of bytes that begin with an entry
 pub entry_stands : (x : List ℕ) (e : EntryValue) (r : List ℕ) → IsEntry e → x ≡ entry_bytes e ++ r → (get_or x 16 0 ≡ length e.locators) × (17 + 60 * length e.locators ≤ length x)
 entry_stands x e r h same = (ap (λ t. get_or t 16 0) parts ∙ get_or_at e.id.0 (length e.locators) (flat_map locator_bytes e.locators ++ r) 0 16 h.sixteen, long)
   where
@@ -67,7 +67,7 @@ entry_stands x e r h same = (ap (λ t. get_or t 16 0) parts ∙ get_or_at e.id.0
       h.sixteen,
     )
 
--- so much of the bytes was read: the entries xs, as many as n, with the rest to come
+-- the entries xs, n of them, were read, and the rest is to come
 pub record HasRead (x : List ℕ) (xs : List EntryValue) (rest : List ℕ) (n : ℕ) : Type 0 where
   pub count : length xs ≡ n
   pub each : All IsEntry xs
@@ -87,11 +87,11 @@ read_entry_more x xs rest first behind n e h he ht hr above = record {
       ∙ ap (λ t. t ++ behind) (flat_map_more entry_bytes [] xs e);
 }
 
--- where as many entries as n or more spell the bytes, they go on with what the rest is
+-- if n or more entries make up the bytes, the rest is those after the first n
 pub goes_on : (x : List ℕ) (xs ys : List EntryValue) (rest : List ℕ) (n : ℕ) → HasRead x xs rest n → All IsEntry ys → n ≤ length ys → x ≡ flat_map entry_bytes ys → Continues xs ys rest
 goes_on x xs ys rest n h hy few e = continues xs ys rest h.each hy (omega (arith, h.count, few)) (sym h.spelled ∙ e)
 
--- so where more entries are to come, the rest begins with one
+-- so if more entries are to come, the rest begins with one
 pub no_entry_more : (x : List ℕ) (xs ys : List EntryValue) (rest : List ℕ) (n : ℕ) → HasRead x xs rest n → All IsEntry ys → n < length ys → x ≡ flat_map entry_bytes ys →
     ((e : EntryValue) (r : List ℕ) → IsEntry e → rest ≡ entry_bytes e ++ r → ⊥) → ⊥
 no_entry_more x xs ys rest n h hy few e none = by go.more go.whole go.rest_is
@@ -105,7 +105,7 @@ no_entry_more x xs ys rest n h hy few e none = by go.more go.whole go.rest_is
         none m (flat_map entry_bytes more)
         (All-head IsEntry m more (rw (drop_at xs (m ∷ more) (length xs) refl) at (All-drop IsEntry (length xs) (xs ++ m ∷ more) (rw whole at hy)))) is
 
--- nor can the next entry be one that isn't above all before it
+-- and the next entry can't be one that isn't above all before it
 pub no_rise : (x : List ℕ) (xs ys : List EntryValue) (rest first behind : List ℕ) (n : ℕ) (e : EntryValue) → HasRead x xs rest n → All IsEntry ys → n < length ys → x ≡ flat_map entry_bytes ys →
     RisesById ys → IsEntry e → entry_bytes e ≡ first → first ++ behind ≡ rest → All (λ v. IsBelow v.id e.id) xs
 no_rise x xs ys rest first behind n e h hy few same rising he ht hr = by go.more go.whole go.rest_is
@@ -123,7 +123,7 @@ no_rise x xs ys rest first behind n e h hy few same rising he ht hr = by go.more
         let before : get_or ys k d ≡ get_or xs k d = ap (λ t. get_or t k d) whole ∙ get_or_append_left xs (m ∷ more) d k hk in
         rw (here, before) at pair
 
--- and where all entries were read nothing is left
+-- and once all entries were read, nothing is left
 pub nothing_left : (x : List ℕ) (xs ys : List EntryValue) (rest : List ℕ) (n : ℕ) → HasRead x xs rest n → All IsEntry ys → length ys ≡ n → x ≡ flat_map entry_bytes ys → length rest ≡ 0
 nothing_left x xs ys rest n h hy count e = by go.more go.whole go.rest_is
   where

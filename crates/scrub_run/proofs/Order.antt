@@ -10,7 +10,7 @@ use Rattle.scrub_run.specs.declared.shard_id.ShardId.{ShardId}
 use Rattle.scrub_run.specs.Entry.{EntryValue, IsBelow}
 use Rattle.scrub_run.specs.Run.{RisesById}
 
--- what `<` on two identifiers says
+-- what `<` on two identifiers means
 pub below_decided : (a b : ShardId) (answer : Bool) → answer ≡ is_some_and is_lt (slice_partial_cmp (λ x y. Some (nat_cmp x y)) a.0 b.0) → IsTrue answer ↔ IsBelow a b
 below_decided a b answer e = (λ h. less (slice_cmp nat_cmp a.0 b.0) (sym decided ∙ h), λ h. decided ∙ ap is_lt h)
   where
@@ -25,7 +25,7 @@ below_decided a b answer e = (λ h. less (slice_cmp nat_cmp a.0 b.0) (sym decide
 pub IsBelow-trans : (a b c : ShardId) → IsBelow a b → IsBelow b c → IsBelow a c
 IsBelow-trans a b c h k = nat_list_cmp_total.trans a.0 b.0 c.0 h k
 
--- what is above the last of entries that rise is above them all
+-- an identifier above the last of entries that rise is above them all
 pub above_all : (xs : List EntryValue) (last : EntryValue) (id : ShardId) → RisesById xs → last ≡ get_or xs (length xs - 1) last → IsBelow last.id id → All (λ e. IsBelow e.id id) xs
 above_all xs last id rising is below k d hk = elim (cases_lt k (length xs - 1)) [
   | inl before ↦ IsBelow-trans (get_or xs k d).id last.id id

@@ -1,4 +1,4 @@
--- What is read of a run's bytes, and that nothing else could be.
+-- What is read from the bytes of a run, and that nothing else could be.
 use Rattle.std.proofs.Common.{◌≡◌, ◌<◌, ◌≤◌, ◌-◌, ◌^◌, ℕ, List, [], ◌++◌, length, take, drop, get_or, All, arith, refl, sym, ◌∙◌, ap, length-append}
 use Rattle.std.specs.List.{flat_map}
 use Rattle.std.proofs.Math.Seq.{take-add}
@@ -12,7 +12,7 @@ use Rattle.scrub_run.specs.Run.{run_magic, run_body, IsRun}
 use Rattle.scrub_frame.proofs.Parts.{same_cut}
 use Rattle.scrub_run.proofs.Entries.{Continues, continues}
 
--- as many entries that are spelled alike are the same
+-- two lists of as many entries with the same bytes are the same
 same_entries : (xs ys : List EntryValue) → All IsEntry xs → All IsEntry ys → length xs ≡ length ys → flat_map entry_bytes xs ≡ flat_map entry_bytes ys → xs ≡ ys
 same_entries xs ys hx hy count e = sym (go.whole ∙ ap (λ t. xs ++ t) (nil_from_length go.more nothing) ∙ append-nil xs)
   where
@@ -22,15 +22,15 @@ same_entries xs ys hx hy count e = sym (go.whole ∙ ap (λ t. xs ++ t) (nil_fro
     nothing : length go.more ≡ 0
     nothing = omega (arith, count, ap length go.whole, length-append xs go.more)
 
--- what stands before its own digest is told by the whole
+-- the whole decides the part before the digest
 pub same_body : (a b : List ℕ) → a ++ sha256 a ≡ b ++ sha256 b → a ≡ b
 same_body a b e = (same_cut a b (sha256 a) (sha256 b) (omega (arith, ap length e, length-append a (sha256 a), length-append b (sha256 b), length-sha256 a, length-sha256 b)) e).0
 
--- a head tells the count, and what follows it
+-- a head decides the count, and what follows it
 pub same_head : (n m : ℕ) (x y : List ℕ) → run_magic ++ (big_bytes 4 n ++ x) ≡ run_magic ++ (big_bytes 4 m ++ y) → (big_bytes 4 n ≡ big_bytes 4 m) × (x ≡ y)
 same_head n m x y e = same_cut (big_bytes 4 n) (big_bytes 4 m) x y refl (ap (drop 4) e)
 
--- a payload is the run of one list of entries at most
+-- a payload is the run of at most one list of entries
 pub one_run_lem : (payload : List ℕ) (xs ys : List EntryValue) → IsRun payload xs → IsRun payload ys → xs ≡ ys
 one_run_lem payload xs ys hx hy =
     same_entries xs ys hx.entries_of_run.each hy.entries_of_run.each
@@ -40,7 +40,7 @@ one_run_lem payload xs ys hx hy =
     head = same_head (length xs) (length ys) (flat_map entry_bytes xs) (flat_map entry_bytes ys)
         (same_body (run_body xs) (run_body ys) (sym hx.spelled ∙ hy.spelled))
 
--- where a payload isn't something with its own digest behind it
+-- if a payload isn't something followed by its own digest
 pub body_cut : (x s a d : List ℕ) → a ≡ take (length x - 32) x → d ≡ drop (length x - 32) x → x ≡ s ++ sha256 s → (a ≡ s) × (d ≡ sha256 s)
 body_cut x s a d ha hd e = (
   ha ∙ ap (take (length x - 32)) e ∙ take_at s (sha256 s) (length x - 32) (sym before),
@@ -53,14 +53,14 @@ body_cut x s a d ha hd e = (
 pub no_body : (x s : List ℕ) → length x < 32 → x ≡ s ++ sha256 s → ⊥
 no_body x s short e = omega (arith, short, ap length e, length-append s (sha256 s), length-sha256 s)
 
--- the head that was read: the first four bytes, and the number that the next four spell
+-- the head that was read: the first four bytes, and the number in the next four
 pub head_read : (x first count : List ℕ) (n : ℕ) → ((i : ℕ) → get_or x i 0 < 256) → first ≡ take 4 x → first ≡ run_magic → count ≡ take 4 (drop 4 x) → 8 ≤ length x → n ≡ big_number 4 count →
     take 8 x ≡ run_magic ++ big_bytes 4 n
 head_read x first count n bytes hf hm hc long hn =
     take-add 4 4 x ∙ ap (λ t. t ++ take 4 (drop 4 x)) (sym hf ∙ hm)
     ∙ ap (λ t. run_magic ++ t) (sym (bytes-number_at x 4 n bytes long (hn ∙ ap (big_number 4) hc)))
 
--- what stands before the digest of a run
+-- the part of a run before its digest
 pub body_of_run : (payload body : List ℕ) (entries : List EntryValue) → payload ≡ body ++ sha256 body → IsRun payload entries → body ≡ run_body entries
 body_of_run payload body entries e h = same_body body (run_body entries) (sym e ∙ h.spelled)
 
@@ -70,6 +70,6 @@ count_of_run payload body entries n e h small head =
     bytes-injective (length entries) n h.entries_of_run.count small
     (ap (drop 4) (sym (ap (take 8) (body_of_run payload body entries e h)) ∙ head))
 
--- and its entries stand behind the head
+-- and its entries follow the head
 pub entries_of_body : (payload body : List ℕ) (entries : List EntryValue) → payload ≡ body ++ sha256 body → IsRun payload entries → drop 8 body ≡ flat_map entry_bytes entries
 entries_of_body payload body entries e h = ap (drop 8) (body_of_run payload body entries e h)

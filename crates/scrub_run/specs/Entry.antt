@@ -1,4 +1,4 @@
--- What an entry of an index run says, its bytes, and the order of identifiers.
+-- Entries of an index run, their bytes, and the order of identifiers.
 use Rattle.std.specs.Prelude.{◌≡◌, ◌≤◌, ℕ, List, ◌∷◌, ◌++◌, length, All}
 use Rattle.std.specs.Cmp.Lexicographic.{slice_cmp}
 use Rattle.std.specs.Ordering.{nat_cmp}
@@ -17,12 +17,12 @@ pub record EntryValue : Type 0 where
 abbrev pub entry_bytes : EntryValue → List ℕ
 entry_bytes e = e.id.0 ++ (length e.locators ∷ flat_map locator_bytes e.locators)
 
--- what an entry of a run can say: an identifier of sixteen bytes, and at most 64 locators
+-- an entry that a run can hold: an identifier of sixteen bytes, and at most 64 locators
 pub record IsEntry (e : EntryValue) : Type 0 where
   pub sixteen : length e.id.0 ≡ 16
   pub few : length e.locators ≤ 64
   pub each : All IsLocator e.locators
 
--- an identifier is less than another, compared byte by byte from the front on
+-- an identifier is less than another, compared byte by byte from the front
 abbrev pub IsBelow : ShardId → ShardId → Type 0
 IsBelow a b = slice_cmp nat_cmp a.0 b.0 ≡ Less

@@ -4,7 +4,7 @@ use Rattle.scrub_frame.specs.declared.locator.Locator.{Locator}
 use Rattle.scrub_run.specs.declared.locators.Locators.{Locators}
 use Rattle.scrub_run.specs.declared.locators.Locators.TheVariants.{One, Many}
 
--- as a list
+-- the locators of an entry as a list
 abbrev pub listed : Locators → List Locator
 listed (One l) = l ∷ []
 listed (Many ls) = ls.items

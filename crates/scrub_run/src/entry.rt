@@ -1,4 +1,4 @@
-//! An entry of an index run. How it stands in a payload is left to `reading` and `writing`.
+//! An entry of an index run. For its bytes, see `reading` and `writing`.
 
 ghost use Rattle.std.specs.Prelude.{◌≡◌, [], IfOk};
 ghost use Rattle.scrub_run.specs.Locators.{listed};
@@ -10,8 +10,8 @@ use std::alloc::Global;
 use std::marker::Model;
 use std::mem;
 
-/// A shard and the locators of its chunks, as one index run tells of it. An entry without locators says that the shard
-/// was deleted.
+/// A shard and the locators of its chunks, according to one index run. An entry without locators means that the shard was
+/// deleted.
 #[derive(Debug, Drop)]
 pub struct Entry {
     id: ShardId,
@@ -28,7 +28,8 @@ impl Model for Entry {
 }
 
 impl Entry {
-    /// An entry of what is handed in. Takes no memory. An entry of a run has at most 64 locators; more may be held here.
+    /// An entry made of its parts. Takes no memory. An entry of a run has at most 64 locators; an entry that is held here
+    /// may have more.
     pub fn new(id: ShardId, locators: Vec<Locator>) -> Entry
         ensures { result ≡ record { id = id; locators = locators.items } }
     {
@@ -52,21 +53,21 @@ impl Entry {
         self.id
     }
 
-    /// The locators of the shard's chunks in order: none where the shard was deleted.
+    /// The locators of the shard's chunks in order: none if the shard was deleted.
     pub fn locators(&self) -> &[Locator]
         ensures { result.now ≡ self.now.locators }
     {
         self.locators.as_slice()
     }
 
-    /// A copy of it.
+    /// A copy.
     pub(crate) fn copy(&self, alloc: Global) -> Result<Entry, OutOfMemory>
         ensures { IfOk result (λ e. e ≡ self.now) }
     {
         Ok(Entry::of(self.id, self.locators.copy(alloc)?))
     }
 
-    /// Hands out what it is, and has no locator from then on. Takes no memory.
+    /// Hands out the entry, and keeps its identifier without locators. Takes no memory.
     pub(crate) fn take(&mut self, alloc: Global) -> Entry
         ensures taken { result ≡ self.old }
         ensures emptied { self.new ≡ record { id = self.old.id; locators = [] } }

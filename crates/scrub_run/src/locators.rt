@@ -9,17 +9,17 @@ use scrub_frame::{LOCATOR_BYTES, Locator, OutOfMemory, read_locator, read_locato
 use std::alloc::Global;
 use std::slice;
 
-/// Some locators, in order.
+/// A list of locators.
 #[derive(Debug, Drop)]
 pub enum Locators {
-    /// This one alone.
+    /// Just this one.
     One(Locator),
-    /// As many as are listed.
+    /// Any number of them.
     Many(Vec<Locator>),
 }
 
 impl Locators {
-    /// The locators that the bytes are, as many as counted.
+    /// Reads `count` locators that fill these bytes, 60 bytes each.
     pub(crate) fn read(alloc: Global, bytes: &[u8], count: usize) -> Result<Locators, OutOfMemory>
         requires { length bytes.now ≡ 60 * count }
         ensures count { IfOk result (λ ls. length (listed ls) ≡ count) }
@@ -34,7 +34,7 @@ impl Locators {
         Ok(Locators::Many(read_locators(alloc, bytes, count)?))
     }
 
-    /// All of them.
+    /// All locators, in order.
     pub(crate) fn as_slice(&self) -> &[Locator]
         ensures { result.now ≡ listed self.now }
     {
@@ -44,7 +44,7 @@ impl Locators {
         }
     }
 
-    /// A copy of them.
+    /// A copy.
     pub(crate) fn copy(&self, alloc: Global) -> Result<Locators, OutOfMemory>
         ensures { IfOk result (λ ls. listed ls ≡ listed self.now) }
     {

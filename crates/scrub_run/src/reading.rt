@@ -1,4 +1,4 @@
-//! Index runs, read from payloads. `read_runs` of `scrub_check` says which payloads are read.
+//! Index runs, read from payloads. For which payloads are read, see `read_runs` of `scrub_check`.
 
 ghost use Rattle.std.specs.Prelude.{◌≡◌, ◌+◌, ◌*◌, ◌≤◌, ◌++◌, ◌↔◌, List, ℕ, All, IsTrue, IfOk, IfSome, IfNone, IsErrOf, length, take, slice_index};
 ghost use Rattle.std.specs.List.{flat_map};
@@ -17,19 +17,19 @@ use scrub_frame::{DIGEST_BYTES, LOCATOR_BYTES, digest_of};
 use std::alloc::Global;
 use thiserror::Error;
 
-/// What each run begins with: `RUN1`.
+/// The magic that each run begins with, `RUN1`.
 pub(crate) const MAGIC: [u8; 4] = [0x52, 0x55, 0x4E, 0x31];
 
-/// The most locators that an entry of a run has.
+/// The maximum number of locators in an entry of a run.
 const MAX_LOCATORS: usize = 64;
 
-/// The bytes of an entry without locators.
+/// The size in bytes of an entry without locators.
 pub(crate) const BARE_ENTRY_BYTES: usize = 17;
 
-/// Why no run was read.
+/// Why a run can't be read.
 #[derive(Debug, Clone, Copy, PartialEq, Eq, Error)]
 pub enum RunFault {
-    /// The entries could not be held.
+    /// Out of memory.
     #[error("out of memory")]
     OutOfMemory,
     /// The payload isn't a run.
@@ -37,7 +37,7 @@ pub enum RunFault {
     NotARun,
 }
 
-/// What the bytes are, if they are something with its own digest behind it.
+/// The payload without its last 32 bytes, if these are the digest of the rest.
 fn checked_body(payload: &[u8]) -> Option<&[u8]>
     ensures found { IfSome result (λ body. payload.now ≡ body.now ++ sha256 body.now) }
     ensures none { IfNone result ((body : List ℕ) → ¬ (payload.now ≡ body ++ sha256 body)) }
@@ -49,7 +49,7 @@ fn checked_body(payload: &[u8]) -> Option<&[u8]>
     Some(body)
 }
 
-/// The number of entries that a run's head claims. `None` where the bytes don't begin with such a head.
+/// The number of entries that a run's head claims. `None` if the bytes don't begin with such a head.
 fn claimed_count(body: &[u8]) -> Option<u32>
     ensures found { IfSome result (λ count. take 8 body.now ≡ run_magic ++ big_bytes 4 count) }
     ensures long { IfSome result (λ _. 8 ≤ length body.now) }
@@ -63,8 +63,8 @@ fn claimed_count(body: &[u8]) -> Option<u32>
     Some(BigEndian::read_u32(count))
 }
 
-/// The length in bytes of the entry that the bytes begin with, by the number of locators that it claims. `None` where
-/// they begin with no entry.
+/// The length in bytes of the entry that the bytes begin with, by the number of locators that it claims. `None` if they
+/// begin with no entry.
 fn entry_length(bytes: &[u8]) -> Option<usize>
     ensures found { IfSome result (λ n. n ≡ 17 + 60 * slice_index bytes.now 16) }
     ensures few { IfSome result (λ _. slice_index bytes.now 16 ≤ MAX_LOCATORS) }
@@ -79,7 +79,7 @@ fn entry_length(bytes: &[u8]) -> Option<usize>
     Some(needed)
 }
 
-/// The entry that the bytes are.
+/// Reads the entry that fills these bytes.
 fn read_entry(alloc: Global, bytes: &[u8]) -> Result<Entry, OutOfMemory>
     requires long { length bytes.now ≡ 17 + 60 * slice_index bytes.now 16 }
     requires few { slice_index bytes.now 16 ≤ MAX_LOCATORS }
@@ -92,7 +92,7 @@ fn read_entry(alloc: Global, bytes: &[u8]) -> Result<Entry, OutOfMemory>
     Ok(Entry::of(ShardId(id), locators))
 }
 
-/// Whether an identifier is above those of all entries, which rise: the last one decides.
+/// Whether an identifier is above those of all entries. They rise, so the last one decides.
 fn is_above_all(entries: &[Entry], id: ShardId) -> bool
     requires { RisesById entries.now }
     ensures { IsTrue result ↔ All (λ e. IsBelow e.id id) entries.now }
@@ -103,8 +103,8 @@ fn is_above_all(entries: &[Entry], id: ShardId) -> bool
     }
 }
 
-/// The entries that the bytes are, if they are as many entries in strictly rising order. The list grows with the entries
-/// that are found, whatever number was claimed.
+/// Reads `count` entries in strictly rising order that fill these bytes; `None` if the bytes are anything else. The list
+/// grows with the entries found, whatever number was claimed.
 fn read_entries(alloc: Global, bytes: &[u8], count: u32) -> Result<Option<Vec<Entry>>, OutOfMemory>
     ensures found { IfOk result (λ found. IfSome found (λ v. bytes.now ≡ flat_map entry_bytes v.items)) }
     ensures count { IfOk result (λ found. IfSome found (λ v. length v.items ≡ count)) }
@@ -133,9 +133,9 @@ fn read_entries(alloc: Global, bytes: &[u8], count: u32) -> Result<Option<Vec<En
     Ok(Some(entries))
 }
 
-/// The run that a payload is, whole. Its faults in their order: `OutOfMemory`, and `NotARun` where the payload isn't a run.
-/// The digest is looked at first, so what isn't a run seldom takes memory; what is taken grows with the payload's length,
-/// whatever numbers stand in it.
+/// Reads the run that fills a payload. Faults, in this order: `OutOfMemory`, and `NotARun` if the payload isn't a run. The
+/// digest is checked first, so a payload that isn't a run rarely takes memory. The memory taken grows with the length of the
+/// payload, whatever numbers are in it.
 pub fn read_run(alloc: Global, payload: &[u8]) -> Result<Run, RunFault>
     ensures ok { IfOk result (IsRun payload.now) }
     ensures not_a_run { IsErrOf result RunFault.NotARun → (entries : List EntryValue) → ¬ IsRun payload.now entries }

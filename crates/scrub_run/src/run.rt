@@ -1,5 +1,4 @@
-//! What an index run tells, and the law that a payload is one run at most. Reading and writing are left to `reading`
-//! and `writing`.
+//! The entries of an index run, and the law that a payload is at most one run. For its bytes, see `reading` and `writing`.
 
 ghost use Rattle.std.specs.Prelude.{◌≡◌, [], Some, None, List, ℕ, IfOk, IfSome, IfNone, slice_get, slice_set};
 
@@ -40,13 +39,13 @@ impl Run {
     /// The entries, in strictly rising order of identifier.
     pub fn entries(&self) -> &[Entry]
         ensures entries { result.now ≡ self.now }
-        // Every value of the type is such.
+        // True of every value of the type.
         ensures rising { AreEntries self.now }
     {
         self.entries.as_slice()
     }
 
-    /// A copy of it.
+    /// A copy.
     pub fn copy(&self, alloc: Global) -> Result<Run, OutOfMemory>
         ensures { IfOk result (λ r. r ≡ self.now) }
     {
@@ -57,14 +56,14 @@ impl Run {
         Ok(Run::new(entries))
     }
 
-    /// Hands out the entry at a place; `None` where none stands there. From then on the entry there has no locator. Takes no
-    /// memory.
+    /// Hands out the entry at a place, counted from 0; `None` if there is none. The place keeps its identifier without
+    /// locators. Takes no memory.
     pub fn take(&mut self, alloc: Global, place: usize) -> Option<Entry>
         ensures found { IfSome result (λ e. slice_get self.old place ≡ Some e) }
         ensures emptied { IfSome result (λ e. self.new ≡ slice_set self.old place (record { id = e.id; locators = [] })) }
         ensures none { IfNone result (slice_get self.old place ≡ None) }
         ensures same { IfNone result (self.new ≡ self.old) }
-        // Every value of the type is such.
+        // True of every value of the type.
         ensures entries { AreEntries self.new }
     {
         if place >= self.entries.len() {
@@ -77,7 +76,7 @@ impl Run {
 ghost use Rattle.scrub_run.specs.Entry.{EntryValue};
 ghost use Rattle.scrub_run.specs.Run.{IsRun};
 
-/// A law: a payload is the run of one list of entries at most. So the entries that are read are those that were written.
+/// A law: a payload is the run of at most one list of entries, so the entries that are read are those that were written.
 pub fn one_run()
     ensures { (payload : List ℕ) (entries others : List EntryValue) →
         IsRun payload entries → IsRun payload others → entries ≡ others }

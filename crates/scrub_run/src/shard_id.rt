@@ -1,8 +1,8 @@
-//! Identifiers of shards. What an identifier is bound to is left to `entry`.
+//! Identifiers of shards. For what an identifier is bound to, see `entry`.
 
 ghost use Rattle.std.specs.Prelude.{◌↔◌, IsTrue};
 
-/// The identifier of a shard: sixteen bytes, any values. Identifiers are ordered as bytes, the first byte first.
+/// The identifier of a shard: any sixteen bytes. Identifiers are ordered as bytes, the first byte first.
 #[derive(Debug, Clone, Copy, PartialEq, Eq, PartialOrd, Ord)]
 pub struct ShardId(pub [u8; 16]);
 

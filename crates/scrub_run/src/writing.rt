@@ -13,7 +13,7 @@ use scrub_frame::{LOCATOR_BYTES, append_locators, digest_of};
 use std::alloc::Global;
 use std::marker::Model;
 
-/// The bytes of a run beside those of its entries: magic, number of entries, digest.
+/// The size in bytes of a run without its entries: magic, number of entries, digest.
 const BARE_RUN_BYTES: usize = 40;
 
 /// The payload of an index run while it is written: its head, and the entries so far.
@@ -31,7 +31,7 @@ impl Model for RunWriter {
 }
 
 impl RunWriter {
-    /// The head of a run of this many entries. There is room for the whole run, where they have this many locators together.
+    /// Begins a run of this many entries. It has room for the whole run if they have this many locators together.
     pub fn new(alloc: Global, entries: u32, locators: usize) -> Result<RunWriter, OutOfMemory>
         requires { locators ≤ 64 * entries }
         ensures { IfOk result (λ w. w ≡ run_magic ++ big_bytes 4 entries) }
@@ -58,7 +58,7 @@ impl RunWriter {
         Ok(())
     }
 
-    /// The payload: what was written, and the digest of it.
+    /// The payload: what was written, and its digest.
     pub fn finish(self) -> Result<Vec<u8>, OutOfMemory>
         ensures { IfOk result (λ payload. payload.items ≡ self ++ sha256 self) }
     {
@@ -69,7 +69,7 @@ impl RunWriter {
     }
 }
 
-/// How many locators the entries have together.
+/// The number of locators of all entries together.
 fn locator_count(entries: &[Entry]) -> usize
     requires few { All (λ e. length e.locators ≤ 64) entries.now }
     requires count { length entries.now < 2 ^ 32 }
@@ -82,7 +82,7 @@ fn locator_count(entries: &[Entry]) -> usize
     count
 }
 
-/// The payload that is the run of these entries. It is read again as the same entries.
+/// The run of these entries, as a payload. Reading it gives the same entries.
 pub fn write_run(alloc: Global, entries: &[Entry]) -> Result<Vec<u8>, OutOfMemory>
     requires rising { RisesById entries.now }
     requires few { All (λ e. length e.locators ≤ 64) entries.now }

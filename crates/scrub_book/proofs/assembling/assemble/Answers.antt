@@ -1,11 +1,10 @@
-use Rattle.std.proofs.Common.{◌≡◌, ◌++◌, ◌∷◌, ◌∙◌, [], ℕ, List, All, Some, map, sum_by, ap, arith, append-nil, sym}
-use Rattle.std.specs.List.{Contains}
-use Rattle.std.specs.List.Sorted.{IsPermutation, IsStrictlyIncreasing}
+use Rattle.std.proofs.Common.{◌≡◌, ◌++◌, ◌∷◌, ◌∙◌, [], ℕ, List, Some, map, sum_by, ap, arith, append-nil, sym}
+use Rattle.std.specs.List.Sorted.{IsPermutation}
 use Rattle.std.specs.Vec.Iter.{into_iter_items}
 use Rattle.std.proofs.lemmas.List.{nil_from_length}
-use Rattle.std.proofs.lemmas.List.Elements.{All-rest}
+use Rattle.std.proofs.lemmas.List.Elements.{All-head, All-rest}
 use Rattle.std.proofs.lemmas.List.Sorted.{sum_by-IsPermutation}
-use Rattle.scrub_super.specs.Plan.{pointer_of, PlanValue}
+use Rattle.scrub_super.specs.Plan.{pointer_of}
 use Rattle.scrub_scan.specs.declared.extent_result.ExtentResult.{ExtentResult}
 use Rattle.scrub_scan.specs.Scanned.{Scanned, result_image, scanned}
 use Rattle.scrub_scan.specs.AllFindings.{extent_numbers}
@@ -13,25 +12,31 @@ use Rattle.scrub_book.specs.Extents.{extents_of}
 use Rattle.scrub_book.proofs.Arrivals.{numbers_shown, one_more_came, next_planned, next_first, all_came, not_refused}
 use Rattle.scrub_book.proofs.assembling.assemble.Goals as goal
 
--- what arrived are the planned extents
+-- the results that arrived are of the planned extents
 each_of : {D : Type 0} {s : _} (planned : List ℕ) (rs : List (ExtentResult D s)) →
     IsPermutation (extents_of rs) planned → (f : ℕ → ℕ) →
     sum_by f (extent_numbers (map (λ (r : ExtentResult D s). scanned r) rs)) ≡ sum_by f planned
 each_of {D} {s} planned rs each f =
     ap (sum_by f) (numbers_shown rs) ∙ sym (sum_by-IsPermutation f (extents_of rs) planned each)
 
--- the next that comes
+-- the next result
 next_of : {D : Type 0} {s : _} (all : List Scanned) (came : List Scanned) (rs rest : List (ExtentResult D s)) (r : ExtentResult D s) →
     rs ≡ r ∷ rest →
     IsPermutation all (came ++ map (λ (x : ExtentResult D s). scanned x) rs) →
     IsPermutation all (came ++ scanned r ∷ map (λ (x : ExtentResult D s). scanned x) rest)
 next_of {D} {s} all came rs rest r is so_far = rw is at so_far
 
--- nothing more comes
+-- no more results
 none_of : {D : Type 0} {s : _} (all : List Scanned) (came : List Scanned) (rs : List (ExtentResult D s)) → rs ≡ [] →
     IsPermutation all (came ++ map (λ (x : ExtentResult D s). scanned x) rs) → IsPermutation all came
 none_of {D} {s} all came rs is so_far =
     rw (← (append-nil came)) (rw is at so_far)
+
+pub add-requires-clause-pointer : goal.add-requires-clause-pointer
+add-requires-clause-pointer g c κs within = λ there.
+    let inv = c.loop-found.invariant in
+    rw inv.plan
+    (All-head (λ (r : ExtentResult g.row.D.Denot g.D.PageSource). pointer_of c.args.book.plan r.extent ≡ Some r.pointer) c.in-Some.found _ (rw c.in-Some.ensures.steps.0 at inv.pointers))
 
 pub loop-found-preserved : goal.loop-found-preserved
 loop-found-preserved g c =
@@ -53,7 +58,7 @@ loop-found-preserved g c =
           c.in-Some.found _ _ c.in-Some.ensures.steps.0 inv.pointers;
     }
 
--- each that arrived is planned, and comes once
+-- each result that arrived is of a planned extent, and is added once
 pub unreachable-requires : goal.unreachable-requires
 unreachable-requires g c =
     let inv = c.loop-found.invariant in
@@ -61,13 +66,13 @@ unreachable-requires g c =
     let all = map (λ (r : ExtentResult g.row.D.Denot g.D.PageSource). scanned r) c.args.arrived.items in
     let each = each_of c.args.book.plan.planned c.args.arrived.items c.requires.each in
     let next = next_of all book.came _ _ c.in-Some.found c.in-Some.ensures.steps.0 inv.came in
-    let rising = rw c.plan.ensures at c.planned.ensures.extents.rising in
+    let rising = rw inv.plan at c.add.ensures.rising in
     not_refused book c.in-Some.found c.in-Err.field-0
     (rw inv.plan (next_planned c.args.book.plan.planned all each book.came _ (scanned c.in-Some.found) next))
     (next_first c.args.book.plan.planned all each book.came _ (scanned c.in-Some.found) rising next)
     c.in-Err.ensures.refused
 
--- at the end each came
+-- at the end each was added
 pub unreachable-requires-in-Err-finish : goal.unreachable-requires-in-Err-finish
 unreachable-requires-in-Err-finish g c =
     let inv = c.loop-found.invariant in

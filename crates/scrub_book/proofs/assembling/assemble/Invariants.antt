@@ -6,7 +6,7 @@ use Rattle.scrub_scan.specs.declared.extent_result.ExtentResult.{ExtentResult}
 use Rattle.scrub_scan.specs.Scanned.{result_image, scanned}
 use Rattle.scrub_book.proofs.assembling.assemble.Given as goal
 
--- what came and what is still to come is what arrived
+-- what was added and what is still to come is what arrived
 abbrev pub invariant-loop-found : goal.invariant-loop-found
 invariant-loop-found g l = record {
   source : l.book.source ≡ l.fn.book.source;

@@ -4,7 +4,7 @@ use Rattle.std.specs.Vec.Iter.{into_iter_items, into_iter_len}
 use Rattle.scrub_book.specs.Extents.{extents_of}
 use Rattle.scrub_book.proofs.pool_core.arrive.Given as goal
 
--- what is there and what is still to come are together what they are to be, and there is room for it
+-- what has arrived, followed by what is still to come, is the final list, and there is room for it
 abbrev pub invariant-loop-found : goal.invariant-loop-found
 invariant-loop-found g l = record {
   arrived : l.arrived.items ++ into_iter_items l.found-iterator ≡ l.initial.arrived.items ++ l.fn.results.items;

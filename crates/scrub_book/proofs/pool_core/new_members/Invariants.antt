@@ -5,7 +5,7 @@ use Rattle.scrub_book.specs.Member.{member_value, IsReady}
 use Rattle.scrub_book.specs.Pool.{idle}
 use Rattle.scrub_book.proofs.pool_core.new_members.Given as goal
 
--- as many members so far as were counted, none of which did anything
+-- this many members so far, none of which did anything
 abbrev pub invariant-loop : goal.invariant-loop
 invariant-loop g l = record {
   values : map (λ (m : Member g.row.D.Denot g.D.PageSource). member_value m) l.members.items ≡ replicate l.counter idle;

@@ -1,4 +1,4 @@
--- The extents so far rise, each from 1 up to the next that may follow, which is `end` at most.
+-- The extents so far rise, each from 1 up to but not including `next`, which is at most `end`.
 use Rattle.std.proofs.Common.{◌<◌, ◌≤◌, ◌+◌, ℕ, get_or}
 use Rattle.scrub_fakes.proofs.disk.are_chunk_extents.Given as goal
 

@@ -1,11 +1,11 @@
--- The plan follows what was chosen on the disk, and has all extents but extent 0.
+-- The plan is that of the chosen superblock, and has all extents but extent 0.
 use Rattle.std.proofs.Common.{◌≡◌, ◌∙◌, ◌==◌, ℕ, [], true, sym, length, arith}
 use Rattle.std.proofs.lemmas.Bool.Decides.{nat_tests}
 use Rattle.std.proofs.lemmas.List.{nil_from_length}
 use Rattle.scrub_super.proofs.Plans.{all_kept}
 use Rattle.scrub_fakes.proofs.disk.plan_of.Goals as goal
 
--- what is empty has no elements
+-- an empty list has length 0
 is_none : (n : ℕ) → (n == 0) ≡ true → n ≡ 0
 is_none n empty = grind (arith, nat_tests, empty)
 

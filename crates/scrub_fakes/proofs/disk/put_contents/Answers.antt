@@ -1,4 +1,4 @@
--- The record was written to an empty list, and put where the page begins.
+-- The record was written to an empty list, and put at the start of the page.
 use Rattle.std.proofs.Common.{◌∙◌, refl}
 use Rattle.scrub_fakes.proofs.Built.{puts_record}
 use Rattle.scrub_fakes.proofs.disk.put_contents.Goals as goal

@@ -1,4 +1,4 @@
--- One more run, and all of them.
+-- One more run, and all runs.
 use Rattle.std.proofs.Common.{arith}
 use Rattle.std.proofs.lemmas.Option.{slice_get_within}
 use Rattle.scrub_merge.proofs.Left.{first_within}

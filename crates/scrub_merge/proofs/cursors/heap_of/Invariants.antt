@@ -1,4 +1,4 @@
--- What stands first in the runs so far is in the heap.
+-- The first entries of the runs so far are in the heap.
 use Rattle.std.proofs.Common.{◌≡◌, ◌<◌, ℕ, List, Some}
 use Rattle.std.specs.Prelude.{slice_get}
 use Rattle.std.specs.BinaryHeap.{heap_items}

@@ -1,4 +1,4 @@
--- What is taken out of the heap stands under its cursor, which moves on; where none is taken, none has the identifier.
+-- What is taken out of the heap is under its cursor, which moves on; if none is taken, none has the identifier.
 use Rattle.std.proofs.Common.{◌≡◌, List, ℕ, sym, ◌∙◌, arith}
 use Rattle.std.specs.BinaryHeap.{heap_items}
 use Rattle.std.proofs.lemmas.List.{length-set}

@@ -1,4 +1,4 @@
--- The cursors moved on come to the same places behind the identifier, and the heap goes with them; ever less is left.
+-- The places past the identifier stay the same while cursors move on, the heap follows, and less and less is left.
 use Rattle.std.proofs.Common.{◌≡◌, length}
 use Rattle.std.specs.BinaryHeap.{heap_items}
 use Rattle.scrub_merge.specs.Cursors.{ahead, places_past, IsHeapOf}

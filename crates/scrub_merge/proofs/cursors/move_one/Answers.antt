@@ -1,4 +1,4 @@
--- The heap has nothing of the run, and then what its cursor stands on.
+-- The heap has no entry of the run, and then the entry under its cursor.
 use Rattle.scrub_merge.proofs.Heaps.{pushed_on, on_both}
 use Rattle.scrub_merge.proofs.cursors.move_one.Goals as goal
 

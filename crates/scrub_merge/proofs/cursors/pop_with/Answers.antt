@@ -1,4 +1,4 @@
--- Where the first has another identifier, all have: none is below this one.
+-- If the first has another identifier, all have, since none is below this one.
 use Rattle.std.proofs.Common.{zero, true, false, ◌≡◌, sym}
 use Rattle.std.specs.BinaryHeap.{heap_items}
 use Rattle.std.specs.Ordering.{is_ne}

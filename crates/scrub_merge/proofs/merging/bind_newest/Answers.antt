@@ -1,4 +1,4 @@
--- The entry that was taken stood under the cursor of the newest run that had the least identifier, and binds it.
+-- The entry that was taken was under the cursor of the newest run with the least identifier, and binds it.
 use Rattle.std.proofs.Common.{◌≡◌, ◌↔◌, IsTrue, length, sym, ◌∙◌, false}
 use Rattle.std.specs.Prelude.{◌==◌}
 use Rattle.std.proofs.lemmas.Bool.{eqb-true, eqb-false}

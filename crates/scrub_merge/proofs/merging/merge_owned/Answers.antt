@@ -1,5 +1,5 @@
--- The cursors begin at all entries, move on by one identifier, and end where nothing is ahead. What is ahead of them stays
--- the same where the entry behind one is taken.
+-- The cursors begin at all entries, move on by one identifier, and end when nothing is ahead. What is ahead of them stays
+-- the same if an entry before one is taken.
 use Rattle.std.proofs.Common.{◌≡◌, ◌<◌, ◌≤◌, List, ℕ, zero, length, get_or, arith, refl, sym, ◌∙◌, ap}
 use Rattle.std.proofs.Math.Path.{ap₂}
 use Rattle.std.specs.BinaryHeap.{heap_items}
@@ -27,7 +27,7 @@ loop-least-init c =
       continues = rw (all, left_all c.args.runs.items c.len.result, c.new-bindings.ensures.items) (λ later map. map);
     }
 
--- what the first of the heap tells
+-- what the first of the heap says
 module _ (c : In-Some) where
   abbrev left : Runs
   left = ahead c.loop-least.runs.items c.loop-least.places.items
@@ -147,11 +147,12 @@ loop-least-preserved c = record {
       (rising_runs (runs c) c.loop-least.invariant.runs) (least (some c)) (bound c) c.loop-least.invariant.continues);
 }
 
--- where the heap has nothing, the bindings are the map
+-- if the heap is empty, the bindings are the map
 map : (c : In_default) → IsShardMap c.args.runs.items c.loop-least.bindings.items
 map c =
     let none : length (heap_items c.loop-least.heap) ≤ 0 = c.in_default.ensures.item.3 in
-    continues_end c.args.runs.items (ahead c.loop-least.runs.items c.loop-least.places.items) c.loop-least.bindings.items
+    continues_end c.args.runs.items (ahead c.loop-least.runs.items c.loop-least.places.items)
+    c.loop-least.bindings.items
     (none_first c.loop-least.invariant.heap (omega (arith, none))) c.loop-least.invariant.continues
 
 pub new-requires : goal.new-requires

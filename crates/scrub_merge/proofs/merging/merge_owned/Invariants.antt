@@ -1,5 +1,5 @@
--- Whatever is bound by what is ahead of the cursors, behind the bindings so far it is the shard map of the runs that were
--- handed in; what stands first in it is in the heap; and ever less is ahead.
+-- The bindings so far, followed by the shard map of what is ahead of the cursors, are the shard map of the runs that were
+-- handed in; the first entries ahead are in the heap; and less and less is ahead.
 use Rattle.std.proofs.Common.{◌≡◌, length}
 use Rattle.std.specs.BinaryHeap.{heap_items}
 use Rattle.scrub_merge.specs.Cursors.{ahead, Continues, IsHeapOf}

@@ -1,4 +1,4 @@
--- The run of that number changes behind the cursor alone.
+-- The run with that number changes only before its cursor.
 use Rattle.std.proofs.Common.{◌≡◌, ◌<◌, ℕ, Option, Some, None, IfSome, IfNone, List, [], slice_set, drop, length, refl, ap}
 use Rattle.std.proofs.lemmas.List.{drop-set-lt}
 use Rattle.std.proofs.lemmas.Option.{slice_get_read}
@@ -6,7 +6,7 @@ use Rattle.scrub_run.specs.Entry.{EntryValue}
 use Rattle.scrub_merge.proofs.Moves.{ahead_same, runs_set}
 use Rattle.scrub_merge.proofs.merging.take_entry.Goals as goal
 
--- behind the entry that was taken, if one was, a run is the same
+-- after the entry that was taken, if one was, a run is the same
 same_behind_taken : (taken : Option EntryValue) (old new : List EntryValue) {place n : ℕ} → place < n →
     IfSome taken (λ e. new ≡ slice_set old place (record { id = e.id; locators = [] })) →
     IfNone taken (new ≡ old) → drop n new ≡ drop n old
@@ -26,7 +26,8 @@ returns-in-Some-clause-ahead c = λ places count past.
 pub returns-in-None-clause-none : goal.returns-in-None-clause-none
 returns-in-None-clause-none c =
     rw (
-      slice_get_read c.args.runs.now (length c.args.runs.now) c.args.number c.index-runs-number.result refl c.requires c.index-runs-number.is,
+      slice_get_read c.args.runs.now (length c.args.runs.now) c.args.number c.index-runs-number.result refl c.requires
+          c.index-runs-number.is,
       c.index-runs-number.is,
       c.in-None.is,
     )

@@ -37,6 +37,7 @@ run_crew-returns-clause-whole g t c =
     let done : AreDone theirs.parts theirs.amount members = search rules in
     let one : (held_by member.core ≡ None) × (mine.parts ≡ 1) × (mine.amount ≡ length (results_of member.core)) =
     search rules in (
-      counted_more theirs.parts mine.parts c.merge.new.self.parts theirs.amount mine.amount c.merge.new.self.amount members c.push.new.self.items member is done one c.merge.ensures.parts c.merge.ensures.amount,
+      counted_more theirs.parts mine.parts c.merge.new.self.parts theirs.amount mine.amount c.merge.new.self.amount
+          members c.push.new.self.items member is done one c.merge.ensures.parts c.merge.ensures.amount,
       search rules,
     )

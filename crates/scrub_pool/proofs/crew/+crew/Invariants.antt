@@ -1,4 +1,4 @@
--- The crew beside one more worker is what is left of it.
+-- Each crew beside one more worker has one member less.
 use Rattle.std.proofs.Common.{◌+◌, ◌*◌, vec_len}
 use Rattle.scrub_pool.proofs.crew.+crew.Given as goal
 

@@ -1,4 +1,4 @@
-use Rattle.std.proofs.Common.{arith, ap, sym, get_or, All, ◌<◌}
+use Rattle.std.proofs.Common.{arith, ap, get_or}
 use Rattle.scrub_pool.proofs.Rising.{below_at}
 use Rattle.scrub_pool.proofs.Steps.{pushes, few}
 use Rattle.scrub_pool.proofs.extent_queue.push_next.Goals as goal

@@ -1,8 +1,7 @@
-use Rattle.std.proofs.Common.{◌≡◌, arith, sym, All, Some}
+use Rattle.std.proofs.Common.{arith}
 use Rattle.std.proofs.lemmas.List.{length-map}
 use Rattle.std.proofs.lemmas.List.Sorted.{length_permutation}
-use Rattle.scrub_super.specs.Plan.{pointer_of}
-use Rattle.scrub_scan.specs.Scanned.{result_image, scanned}
+use Rattle.scrub_scan.specs.Scanned.{scanned}
 use Rattle.scrub_book.specs.Extents.{extents_of}
 use Rattle.scrub_pool.proofs.scanning.scan_all.Goals as goal
 

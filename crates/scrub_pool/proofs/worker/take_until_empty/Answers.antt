@@ -9,7 +9,8 @@ returns-in_default-count-clause-working g c =
       search rules,
       search rules,
       results_push (g.D.PageSource.image c.args.disk.now) c.args.job.now.plan.now (results_of c.loop.core)
-          (results_of c.done.new.self) found.found c.in-Some-take.extent (search rules) (search rules) found.ensures.image
+          (results_of c.done.new.self) found.found c.in-Some-take.extent (search rules) (search rules)
+          found.ensures.image
           found.ensures.extent found.ensures.pointer,
     )
 

@@ -1,4 +1,4 @@
--- Where an entry stands, its number of locators and its length are as they claim.
+-- If the bytes begin with an entry, its number of locators and its length are as they claim.
 use Rattle.std.proofs.Common.{◌≡◌, length, arith, inl, inr, ◌∙◌}
 use Rattle.scrub_run.proofs.Entries.{entry_stands}
 use Rattle.scrub_run.proofs.reading.entry_length.Goals as goal

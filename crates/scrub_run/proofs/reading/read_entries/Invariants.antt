@@ -1,4 +1,4 @@
--- So many entries were read, and the rest is still to come.
+-- This many entries were read, and the rest is still to come.
 use Rattle.scrub_run.proofs.Entries.{HasRead}
 use Rattle.scrub_run.proofs.reading.read_entries.Given as goal
 

@@ -1,4 +1,4 @@
--- What `<` says, by the bytes.
+-- What `<` means, by the bytes.
 use Rattle.scrub_run.proofs.Order.{below_decided}
 use Rattle.scrub_run.proofs.shard_id.is_below.Goals as goal
 

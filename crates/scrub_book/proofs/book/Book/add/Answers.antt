@@ -14,20 +14,20 @@ returns-in_default-clause-refused g c = (
       (rw (c.planned.ensures.planned, c.extent.ensures) (subst (λ (b : BookValue g.row.D.Denot). Contains b.plan.planned c.args.found.extent) (sym c.self.view_is) there)),
 )
 
--- the place that was found, among the planned extents
+-- the slot that was found, among the planned extents
 among_planned : {ns planned : List ℕ} {e extent : ℕ} (i : ℕ) → (i < length ns) × (get_or ns i 0 ≡ e) → ns ≡ planned →
     e ≡ extent → (i < length planned) × (get_or planned i 0 ≡ extent)
 among_planned i found are is =
     (omega (arith, found.0, ap length are), sym (ap (λ (ns : List ℕ). get_or ns i 0) are) ∙ found.1 ∙ is)
 
--- there are as many places as planned extents
+-- there are as many slots as planned extents
 pub index-requires : goal.index-requires
 index-requires g c =
     omega (
       arith,
       c.in-Some.ensures.found.0,
       ap length c.planned.ensures.planned,
-      place_count (g.D.PageSource.image c.self.inside.source.now) c.self.inside.plan c.self.inside.slots.items c.self.invariant,
+      place_count (g.D.PageSource.image c.self.inside.source.now) c.self.inside.plan c.self.inside.slots.items c.self.invariant.0,
     )
 
 pub index_mut-requires : goal.index_mut-requires
@@ -36,7 +36,7 @@ index_mut-requires g c =
       arith,
       c.in-Some.ensures.found.0,
       ap length c.planned.ensures.planned,
-      place_count (g.D.PageSource.image c.self.inside.source.now) c.self.inside.plan c.self.inside.slots.items c.self.invariant,
+      place_count (g.D.PageSource.image c.self.inside.source.now) c.self.inside.plan c.self.inside.slots.items c.self.invariant.0,
     )
 
 pub returns-then-is_some-clause-refused : goal.returns-then-is_some-clause-refused
@@ -46,17 +46,19 @@ returns-then-is_some-clause-refused g c =
     let at = among_planned c.in-Some.i c.in-Some.ensures.found c.planned.ensures.planned c.extent.ensures in
     let filled : is_some (get_or slots c.in-Some.i c.index.result.now) ≡ true = search rules in
     let second = subst (λ (b : BookValue g.row.D.Denot). Contains b.plan.planned c.args.found.extent × Contains (extent_numbers b.came) c.args.found.extent) c.self.view_is
-    (double_at (g.D.PageSource.image c.self.inside.source.now) plan slots c.self.invariant c.planned.ensures.extents.rising c.self.inside.source.now c.in-Some.i c.args.found at.0 at.1 c.index.result.now filled) in
+    (double_at (g.D.PageSource.image c.self.inside.source.now) plan slots c.self.invariant.0 c.planned.ensures.extents.rising c.self.inside.source.now c.in-Some.i c.args.found at.0 at.1 c.index.result.now filled) in
     (refl, second.0, second.1)
 
 pub invariant_of-self : goal.invariant_of-self
 invariant_of-self g c =
     let plan = c.self.inside.plan in
-    let at = among_planned c.in-Some.i c.in-Some.ensures.found c.planned.ensures.planned c.extent.ensures in
-    kept_set (g.D.PageSource.image c.self.inside.source.now) plan c.self.inside.slots.items c.self.invariant
-    c.planned.ensures.extents.rising c.self.inside.source.now c.in-Some.i c.args.found at.0 at.1
-    (c.requires.image ∙ ap (λ (b : BookValue g.row.D.Denot). g.D.PageSource.image b.source) (sym c.self.view_is))
-    (subst (λ (b : BookValue g.row.D.Denot). Contains b.plan.planned c.args.found.extent → pointer_of b.plan c.args.found.extent ≡ Some c.args.found.pointer) (sym c.self.view_is) c.requires.pointer)
+    let at = among_planned c.in-Some.i c.in-Some.ensures.found c.planned.ensures.planned c.extent.ensures in (
+      kept_set (g.D.PageSource.image c.self.inside.source.now) plan c.self.inside.slots.items c.self.invariant.0
+          c.planned.ensures.extents.rising c.self.inside.source.now c.in-Some.i c.args.found at.0 at.1
+          (c.requires.image ∙ ap (λ (b : BookValue g.row.D.Denot). g.D.PageSource.image b.source) (sym c.self.view_is))
+          (subst (λ (b : BookValue g.row.D.Denot). Contains b.plan.planned c.args.found.extent → pointer_of b.plan c.args.found.extent ≡ Some c.args.found.pointer) (sym c.self.view_is) c.requires.pointer),
+      c.self.invariant.1,
+    )
 
 pub returns-clause-added : goal.returns-clause-added
 returns-clause-added g c =
@@ -65,4 +67,4 @@ returns-clause-added g c =
     let at = among_planned c.in-Some.i c.in-Some.ensures.found c.planned.ensures.planned c.extent.ensures in
     let empty : is_some (get_or slots c.in-Some.i c.index.result.now) ≡ false = search rules in
     rw (← c.self.view_is)
-    (added_at (g.D.PageSource.image c.self.inside.source.now) plan slots c.self.invariant c.planned.ensures.extents.rising c.self.inside.source.now c.in-Some.i c.args.found at.0 at.1 c.index.result.now empty)
+    (added_at (g.D.PageSource.image c.self.inside.source.now) plan slots c.self.invariant.0 c.planned.ensures.extents.rising c.self.inside.source.now c.in-Some.i c.args.found at.0 at.1 c.index.result.now empty)

@@ -11,7 +11,7 @@ returns-then-is_some-clause-back g c =
     let some = ap is_some (first_empty_is c.first_empty.ensures c.deref.ensures.value) ∙ sym c.is_some.ensures ∙ c.if-is_some.true in (
       refl,
       subst (λ (b : BookValue g.row.D.Denot). ¬ HasAll b) c.self.view_is
-          (not_all (g.D.PageSource.image c.self.inside.source.now) c.self.inside.plan slots c.self.invariant c.planned.ensures.extents.rising c.self.inside.source.now some),
+          (not_all (g.D.PageSource.image c.self.inside.source.now) c.self.inside.plan slots c.self.invariant.0 c.self.invariant.1 c.self.inside.source.now some),
     )
 
 pub from_slots-requires-clause-full : goal.from_slots-requires-clause-full
@@ -30,9 +30,9 @@ returns-clause-all g c =
     subst
     (λ (b : BookValue g.row.D.Denot). HasAll b × (c.from_slots.result.extents ≡ b.came) × AreAllFindings (g.D.PageSource.image b.source) b.plan c.from_slots.result.extents)
     c.self.view_is (
-      has_all image plan slots c.self.invariant c.self.inside.source.now (none_empty slots none),
+      has_all image plan slots c.self.invariant.0 c.self.inside.source.now (none_empty slots none),
       c.from_slots.ensures.extents,
-      c.from_slots.ensures.findings image c.self.invariant,
+      c.from_slots.ensures.findings image c.self.invariant.0,
     )
 
 pub returns-clause-image : goal.returns-clause-image
@@ -40,4 +40,4 @@ returns-clause-image g c =
     subst
     (λ (b : BookValue g.row.D.Denot). IsOfImage (λ s. g.D.PageSource.image s) c.from_slots.result (g.D.PageSource.image b.source))
     c.self.view_is
-    (c.from_slots.ensures.image (g.D.PageSource.image c.self.inside.source.now) c.self.invariant)
+    (c.from_slots.ensures.image (g.D.PageSource.image c.self.inside.source.now) c.self.invariant.0)

@@ -1,10 +1,8 @@
-use Rattle.std.proofs.Common.{refl, ◌≡◌, ◌∙◌, ℕ, List, Option, None, All, length, replicate, map, sym, ap}
-use Rattle.std.specs.List.{Contains}
+use Rattle.std.proofs.Common.{refl, ◌≡◌, ◌∙◌, ℕ, List, Option, None, length, replicate, map, ap}
 use Rattle.std.proofs.lemmas.List.Elements.{All-contains_itself}
-use Rattle.scrub_super.specs.Plan.{IsRestricted}
 use Rattle.scrub_scan.specs.declared.extent_result.ExtentResult.{ExtentResult}
 use Rattle.scrub_scan.specs.Scanned.{scanned}
-use Rattle.scrub_scan.specs.Slots.{IsPlannedResult, AreSlots, scanned_in}
+use Rattle.scrub_scan.specs.Slots.{IsPlannedResult, scanned_in}
 use Rattle.scrub_book.proofs.Places.{held_none, zip_none, same_plan}
 use Rattle.scrub_book.proofs.book.Book.new.Goals as goal
 
@@ -18,7 +16,7 @@ invariant_of-result g c =
     let slots : List (Option (ExtentResult g.row.D.Denot g.D.PageSource)) = c.in_ok-slots.slots.items in
     let are : slots ≡ replicate (length plan.planned) None =
     c.in_ok-slots.ensures ∙ ap (λ (ns : List ℕ). replicate (length ns) None) c.planned-2.ensures.planned in
-    rw are (zip_none (IsPlannedResult image plan) plan.planned)
+    (rw are (zip_none (IsPlannedResult image plan) plan.planned), c.planned-2.ensures.extents.rising)
 
 pub returns : goal.returns
 returns g c = record {

@@ -7,7 +7,7 @@ use Rattle.scrub_book.specs.Member.{results_in, IsReady}
 use Rattle.scrub_book.proofs.Kept.{named_by, done_is, same_state, kept_step, kept_same}
 use Rattle.scrub_book.proofs.pool_core.PoolCore.done.Goals as goal
 
--- a member that lacked memory is as it was
+-- if memory ran out, the member is as it was
 pub invariant_of-self : goal.invariant_of-self
 invariant_of-self g c =
     let kept = c.self.invariant.0 in
@@ -21,17 +21,17 @@ invariant_of-self g c =
     } in
     (kept_same kept named c.done.new.self ready same.0, c.self.invariant.1)
 
--- what holds anyhow holds of a fault
-capacity : {T E P : Type 0} (r : Result T E) → P → OnErr r P
-capacity (Ok x) p = tt
-capacity (Err x) p = p
+-- what holds anyway holds after a fault
+holds_after_fault : {T E P : Type 0} (r : Result T E) → P → OnErr r P
+holds_after_fault (Ok x) p = tt
+holds_after_fault (Err x) p = p
 
 pub returns-in_err-done-clause-back : goal.returns-in_err-done-clause-back
 returns-in_err-done-clause-back g c =
     let named =
     named_by c.self.invariant.0 (Done c.args.worker) c.index_mut.result.now _ (ap (λ v. v.state) c.self.view_is)
     c.requires c.index_mut.ensures.value in
-    capacity c.from_residual-in_err-done.result
+    holds_after_fault c.from_residual-in_err-done.result
     (same_state named c.done.new.self c.in_err-done.ensures.same.0 ∙ ap (λ v. v.state) c.self.view_is)
 
 pub invariant_of-self-2 : goal.invariant_of-self-2

@@ -1,9 +1,8 @@
-use Rattle.std.proofs.Common.{◌≡◌, ◌∙◌, Some, true, map, sum_by, get_or, ap, arith, sym}
+use Rattle.std.proofs.Common.{◌≡◌, ◌∙◌, true, map, sum_by, get_or, ap, arith, sym}
 use Rattle.std.proofs.lemmas.List.{get_or-map, get_or_default, length-map}
 use Rattle.std.proofs.lemmas.List.Sorted.{Contains-permutation, IsPermutation-sym}
-use Rattle.scrub_super.specs.Plan.{pointer_of}
 use Rattle.scrub_scan.specs.declared.extent_result.ExtentResult.{ExtentResult}
-use Rattle.scrub_scan.specs.Scanned.{Scanned, scanned}
+use Rattle.scrub_scan.specs.Scanned.{scanned}
 use Rattle.scrub_book.specs.Extents.{extents_of}
 use Rattle.scrub_book.specs.Member.{state_of}
 use Rattle.scrub_book.specs.Pool.{is_complete}
@@ -19,7 +18,7 @@ assemble-requires-clause-pointers g c = λ κs h k d below.
     rw (get_or-map value rs k d (value d) below) at
     (c.self.invariant.0.pool.arrivals k (value d) (omega (arith, below, length-map rs value))).pointer_is
 
--- they are the planned extents, since they add up as these do
+-- the arrivals are the planned extents, since their sums are the same
 pub assemble-requires-clause-each : goal.assemble-requires-clause-each
 assemble-requires-clause-each g c = λ κs h.
     let x = c.self.inside in

@@ -3,7 +3,7 @@ use Rattle.scrub_scan.specs.declared.extent_result.ExtentResult.{ExtentResult}
 use Rattle.scrub_scan.specs.Scanned.{Scanned, scanned}
 use Rattle.scrub_book.specs.Extents.{extents_of}
 use Rattle.scrub_book.specs.Member.{state_of}
-use Rattle.scrub_book.specs.Pool.{PoolState, MemberValue, idle, start, IsPool}
+use Rattle.scrub_book.specs.Pool.{PoolState, MemberValue, idle, start}
 use Rattle.scrub_book.proofs.Pools.{start_is}
 use Rattle.scrub_book.proofs.pool_core.PoolCore.new.Goals as goal
 

@@ -21,9 +21,9 @@ arrive-requires-clause-numbers g c = λ κs h.
     named_by kept (Retire c.args.worker) c.index_mut.result.now _ (ap (λ v. v.state) c.self.view_is) c.requires
     c.index_mut.ensures.value in
     let arrived = c.self.inside.arrived.items in
-    let capacity : length c.self.inside.numbers.items ≡ length arrived =
+    let as_many : length c.self.inside.numbers.items ≡ length arrived =
     ap length kept.numbers_are ∙ length-map arrived (λ (r : ExtentResult g.row.D.Denot g.D.PageSource). r.extent) in
-    omega (arith, room_for kept named, capacity, c.self.invariant.1, ap length c.retire-results.ensures.results.0)
+    omega (arith, room_for kept named, as_many, c.self.invariant.1, ap length c.retire-results.ensures.results.0)
 
 pub returns-clause-retired : goal.returns-clause-retired
 returns-clause-retired g c =
@@ -45,9 +45,9 @@ invariant_of-self g c =
       images = rw results.1 (λ k d low. absurd (omega (arith, low)));
     } in
     let after = rw results.0 at c.arrive.ensures.arrived in
-    let capacity = rw results.0 at c.arrive.ensures.numbers in
+    let listed = rw results.0 at c.arrive.ensures.numbers in
     let step = retire_is named c.arrive.new.arrived.items c.retire-results.new.self c.retire-results.ensures.value after in (
       rw c.arrive.ensures.room.0
-          (kept_arrived kept named c.retire-results.new.self ready c.arrive.new.arrived.items c.arrive.new.numbers.items (results_in c.index_mut.result.now) step named.ready.images after capacity),
+          (kept_arrived kept named c.retire-results.new.self ready c.arrive.new.arrived.items c.arrive.new.numbers.items (results_in c.index_mut.result.now) step named.ready.images after listed),
       omega (arith, c.self.invariant.1, c.arrive.ensures.room.1),
     )

@@ -1,8 +1,6 @@
 use Rattle.std.proofs.Common.{◌≡◌, ◌∙◌, ap, sym, slice_get, Some}
-use Rattle.std.specs.List.{Contains}
 use Rattle.std.proofs.lemmas.Option.{same_Some}
 use Rattle.std.proofs.lemmas.Result.{IfOk-weaker}
-use Rattle.scrub_super.specs.Plan.{PlanValue}
 use Rattle.scrub_book.specs.declared.event.Event.TheVariants.{Done}
 use Rattle.scrub_book.specs.Member.{member_value, state_of}
 use Rattle.scrub_book.specs.Pool.{MemberValue}

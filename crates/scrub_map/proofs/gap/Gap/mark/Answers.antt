@@ -6,7 +6,8 @@ pub loop-number-init : goal.loop-number-init
 loop-number-init c = marks_none _ _ _
 
 pub loop-number-preserved : goal.loop-number-preserved
-loop-number-preserved c = marks_more _ _ _ _ _ c.loop-number.auto.number c.loop-number-test.true (omega arith) c.loop-number.invariant
+loop-number-preserved c =
+    marks_more _ _ _ _ _ c.loop-number.auto.number c.loop-number-test.true (omega arith) c.loop-number.invariant
 
 pub returns : goal.returns
 returns c = marks_all _ _ _ _ _ _ c.requires c.min-behind.ensures c.loop-number-test.false c.loop-number.invariant

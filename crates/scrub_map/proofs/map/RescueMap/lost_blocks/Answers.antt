@@ -7,9 +7,11 @@ loop-gap-init c = gaps_none c.deref-gap-items.result.now _ _ _ (c.in_ok-marks.en
 
 pub loop-gap-preserved : goal.loop-gap-preserved
 loop-gap-preserved c =
-    gaps_more_in c.loop-gap.marks _ _ _ _ _ _ _ _ c.loop-gap-test.true c.gap-item.is c.from.ensures c.deref_mut.ensures.value c.mark.auto.marks c.loop-gap.invariant c.mark.ensures
+    gaps_more_in c.loop-gap.marks _ _ _ _ _ _ _ _ c.loop-gap-test.true c.gap-item.is c.from.ensures
+    c.deref_mut.ensures.value c.mark.auto.marks c.loop-gap.invariant c.mark.ensures
 
 pub returns : goal.returns
 returns c =
-    lost_marked_in c.loop-gap.marks c.args.self.now _ _ _ _ _ _ _ _ c.deref-gap-items.ensures.value c.loop-gap-test.false refl refl c.from-2.ensures c.requires.within
+    lost_marked_in c.loop-gap.marks c.args.self.now _ _ _ _ _ _ _ _ c.deref-gap-items.ensures.value
+    c.loop-gap-test.false refl refl c.from-2.ensures c.requires.within
     c.deref_mut-2.ensures.value c.mark-2.auto.marks c.loop-gap.invariant c.mark-2.ensures

@@ -6,7 +6,7 @@ use Rattle.scrub_book.specs.Extents.{extents_of}
 use Rattle.scrub_book.specs.Worker.{results_of}
 use Rattle.scrub_pool.specs.Passes.{one_list}
 use Rattle.scrub_pool.specs.Working.{AreResults, IsThrough}
-use Rattle.scrub_pool.proofs.scanning.collect.Given as goal
+use Rattle.scrub_pool.proofs.scanning.join_members.Given as goal
 
 -- the members so far are joined, and the others are still to come
 abbrev pub invariant-loop-member : goal.invariant-loop-member
