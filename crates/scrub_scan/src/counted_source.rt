@@ -55,7 +55,7 @@ impl<'d, D: PageSource> CountedSource<'d, D> {
     /// The disk's sizes.
     pub fn geometry(&self) -> Geometry
         ensures value { result ≡ (D.image self.now).geometry }
-        // The law of a source, for callers of this crate.
+        // The law of each source, for callers in this crate.
         ensures whole_pages { HasWholePages (D.image self.now) }
     {
         self.source.geometry()

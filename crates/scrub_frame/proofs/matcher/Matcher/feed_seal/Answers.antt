@@ -24,8 +24,7 @@ returns-clause-taken c = λ t h.
       short = omega arith;
       is = c.requires.claimed;
     } in
-    let start : payload_start (form_in m.head) ≡ payload_start c.args.claimed.now.form =
-    payload_start-in m.head c.args.claimed.now.form c.args.claimed.now.uuid c.args.claimed.now.length i in
+    let start : payload_start (form_in m.head) ≡ payload_start c.args.claimed.now.form = payload_start-in i in
     seal_part _ t c.args.piece.now c.args.from c.min-count.result h i.whole (omega arith) refl refl (omega arith) (omega arith)
     (omega (arith, start)) refl
     (c.put_part.ensures ∙ written c.args.piece.now m.seal (m.fed - 22) c.args.from c.min-count.result (omega arith))
