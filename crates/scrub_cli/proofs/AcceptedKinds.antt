@@ -1,4 +1,4 @@
--- Tests of words, and of their texts.
+-- A test of borrowed texts is one of their texts.
 use Rattle.std.proofs.Common.{◌≡◌, ◌&&◌, ◌||◌, List, [], ◌∷◌, refl, ap, Bool}
 use Rattle.std.specs.Borrow.{Bor}
 use Rattle.std.specs.List.{list_all, list_any}

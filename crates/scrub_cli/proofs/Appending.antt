@@ -21,7 +21,7 @@ pub front_then : (old mid new : Option (List ℕ)) (first second : List ℕ) →
 front_then old mid new first second before front =
     (length first + front.0, appends_twice old mid new first (take front.0 second) _ before front.1 (take-append-add first second front.0))
 
--- the same of a write that went well
+-- the same for the second part, if its write succeeded
 pub ok_then : {T E : Type 0} (r : Result T E) (old mid new : Option (List ℕ)) (first second : List ℕ) → Appends old mid first →
     OnOk r (Appends mid new second) → OnOk r (Appends old new (first ++ second))
 ok_then (Ok x) old mid new first second before now = appends_twice old mid new first second _ before now refl

@@ -13,7 +13,7 @@ use Rattle.scrub_cli.specs.Known.{KnownMaps, KnownRaw}
 use Rattle.scrub_cli.specs.Lines.{IsListing}
 use Rattle.scrub_cli.proofs.DiskAnswers.{of_disk_fault}
 
--- what is left where the sizes, the extent and the pointer are refused by none of the tests; an extent has `size` bytes
+-- what is known if the sizes, the extent and the pointer aren't refused; an extent has `size` bytes
 pub placed : (words : ItemsWords) (g : Sizes) (pointer size limit : ℕ) → HasSizes g words.image.page words.image.pages words.image.extents →
     words.extent < g.extents → pointer ≡ unwrap_or words.pointer size → size ≡ extent_bytes g → limit ≡ extent_bytes g → pointer ≤ limit →
     AreInDisk words g × (pointer ≡ given_pointer words g)

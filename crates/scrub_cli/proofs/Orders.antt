@@ -1,4 +1,4 @@
--- Two neighbouring options, exchanged: the words ask for the same.
+-- With two neighbouring options exchanged the arguments ask for the same.
 use Rattle.std.proofs.Common.{◌≡◌, ◌∙◌, inl, inr, ℕ, false, List, [], ◌∷◌, Option, None, Some, refl, sym, ap, ap₂, subst, codes, MatchOption}
 use Rattle.std.specs.Prelude.{fold, is_some}
 use Rattle.std.specs.Option.{option_map_or}
@@ -39,7 +39,7 @@ pair_rows {A} {B} a c b d same = sym (ap (λ (o : Option (A × B)). option_map_o
 abbrev some_pair : Text → List Row → Option (Text × List Row)
 some_pair name rows = Some (name, rows)
 
--- what is read by name is the same
+-- what is read by name from the same values is the same
 module _ (xs ys : List Row) (same : AreSame xs ys) where
   number_same : (id : Text) (n : ℕ) → IsNumberOf xs id n → IsNumberOf ys id n
   number_same id n read = (read.0, sym (one_same xs ys same id) ∙ read.1, read.2, read.3)
@@ -131,7 +131,7 @@ items_by_name = ((refl, inr refl, refl, refl), ((refl, inr refl, refl, refl), ((
 plain : {below : Shape} → EachRule IsByName below.rules → below.arg_required_else_help ≡ false → IsPlainTable below
 plain each empty = record { by_name = each; may_be_empty = empty }
 
--- the words of a command are left to it
+-- the walk over the arguments stops at the command, which gets the rest
 abbrev stopped : Text → List Text → Walk
 stopped command words = record (walk_from nothing_held) { stopped = Some (command, words) }
 

@@ -1,4 +1,4 @@
--- Pages that are marked because a map lacks a byte of them.
+-- Pages that are lost because a map lacks a byte of them.
 use Rattle.std.proofs.Common.{◌≡◌, ◌<◌, ◌*◌, ℕ, List, [], Bool, true, false, Option, None, Some, length, get_or, arith, refl}
 use Rattle.std.proofs.lemmas.Nat.{row_fits_turned}
 use Rattle.scrub_disk.specs.Image.{Image}
@@ -10,7 +10,7 @@ use Rattle.scrub_map.specs.Rescued.{AreLostBlocks}
 use Rattle.scrub_cli.specs.Rescue.{KeepsMap, LosesByMap, LosesMarked, LosesPages}
 use Rattle.scrub_cli.specs.SizesListed.{AreMarksOf}
 
--- marks that say which blocks of a page's size are lost
+-- marks for lost blocks of the size of a page make those pages unreadable
 pub loses_pages : (marks lost : List Bool) (blocks : List MapBlock) (before image : Image) (size count : ℕ) → marks ≡ lost → size ≡ before.geometry.page →
     count ≡ before.geometry.pages * before.geometry.extents → AreLostBlocks blocks size count lost → LosesMarked marks (length marks) before image →
     LosesPages blocks before image
@@ -35,12 +35,7 @@ pub loses_by_map : (map : RescueMap) (before image : Image) → ((blocks : List 
 loses_by_map map before image loses None keeps = absurd keeps
 loses_by_map map before image loses (Some blocks) keeps = loses blocks keeps
 
--- where no map is kept, none is lost
-pub loses_none : (image : Image) (blocks : Option (List MapBlock)) → KeepsMap None blocks → LosesByMap blocks image image
-loses_none image None keeps = refl
-loses_none image (Some blocks) keeps = absurd keeps
-
--- some blocks are kept by a map that is there
+-- a map keeps some blocks
 pub some_blocks : (map : RescueMap) (blocks : Option (List MapBlock)) → KeepsMap (Some map) blocks → (kept : List MapBlock) × KeepsBlocks map kept
 some_blocks map None keeps = absurd keeps
 some_blocks map (Some blocks) keeps = (blocks, keeps)
@@ -51,7 +46,7 @@ pub marks_by_map : (map : RescueMap) (marks : List Bool) → ((blocks : List Map
 marks_by_map map marks are None keeps = absurd keeps
 marks_by_map map marks are (Some blocks) keeps = are blocks keeps
 
--- where no map is kept, none is marked
+-- without a map no block is marked
 pub marks_none : (marks : List Bool) → marks ≡ [] → (blocks : Option (List MapBlock)) → KeepsMap None blocks → AreMarksOf blocks marks
 marks_none marks none None keeps = none
 marks_none marks none (Some blocks) keeps = absurd keeps

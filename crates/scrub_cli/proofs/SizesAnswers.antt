@@ -1,4 +1,4 @@
--- What `sizes` tells, and why it doesn't, from what its parts give.
+-- What `sizes` answers, and why it doesn't, from what its parts give.
 use Rattle.std.proofs.Common.{◌≡◌, ℕ, List, Bool, Option}
 use Rattle.scrub_cli.specs.declared.process.fault.Fault.{Fault}
 use Rattle.scrub_cli.specs.declared.process.fault.Fault.TheVariants.{NotUtf8, Help, Words, Geometry, Extent, Pointer, BadPage, NoMap, MapLine, NoImage, TooLong, Output, OutOfMemory}
@@ -23,7 +23,7 @@ map_fault_of_sizes maps words TooLong is = absurd is
 map_fault_of_sizes maps words (Output written) is = absurd is
 map_fault_of_sizes maps words OutOfMemory is = tt
 
--- what is told of the image that was opened is told of what is known of it
+-- a listing of the image that was opened is one of what is known of it
 pub listed_as_known : (known : KnownRaw) (bytes : Option (List ℕ)) (most : ℕ) (marks : List Bool) (text : List ℕ) (status : ℕ) →
     bytes ≡ known.bytes → most ≡ known.most_failures →
     AreSizesListed (record { bytes = bytes; most_failures = most }) marks text status → AreSizesListed known marks text status

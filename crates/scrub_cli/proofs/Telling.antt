@@ -39,7 +39,7 @@ module _ (what which : List ℕ) where
       let rest = front_then mid mid2 new what (which ++ 10 ∷ []) (subst (Appends mid mid2) is first) last in
       subst (AppendsFront old new) parts (front_then old mid new before _ name rest)
 
-  -- all of it, where the line feed was written too
+  -- the whole line, if the line feed was written too
   pub line_whole : {T E : Type 0} (r : Result T E) (old mid mid2 mid3 new : Option (List ℕ)) (a b : List ℕ) → a ≡ what → b ≡ which → Appends old mid before →
       Appends mid mid2 a → Appends mid2 mid3 b → OnOk r (Appends mid3 new (10 ∷ [])) → OnOk r (Appends old new (line (what ++ which)))
   line_whole r old mid mid2 mid3 new a b is also name first second ended =
@@ -63,7 +63,7 @@ module _ (what number which : List ℕ) where
       let rest = subst (λ u. AppendsFront mid new (u ++ (number ++ (which ++ 10 ∷ [])))) is (front_stays mid new a (number ++ (which ++ 10 ∷ [])) front) in
       subst (AppendsFront old new) number_parts (front_then old mid new before _ name rest)
 
-  -- the name, the first part, and a front of what stands behind it
+  -- the name, the first part, and a front of the rest
   behind_first : (old mid mid2 new : Option (List ℕ)) (a : List ℕ) → a ≡ what → Appends old mid before → Appends mid mid2 a →
       AppendsFront mid2 new (number ++ (which ++ 10 ∷ [])) → AppendsFront old new (line (what ++ number ++ which))
   behind_first old mid mid2 new a is name first rest =
@@ -89,7 +89,7 @@ module _ (what number which : List ℕ) where
       let last = front_then mid3 mid4 new which (10 ∷ []) (subst (Appends mid3 mid4) also second) front in
       behind_first old mid mid2 new a is name first (front_then mid2 mid3 new number _ digits last)
 
-  -- all of it, where the line feed was written too
+  -- the whole line, if the line feed was written too
   pub number_whole : {T E : Type 0} (r : Result T E) (old mid mid2 mid3 mid4 new : Option (List ℕ)) (a b : List ℕ) → a ≡ what → b ≡ which →
       Appends old mid before → Appends mid mid2 a → Appends mid2 mid3 number → Appends mid3 mid4 b → OnOk r (Appends mid4 new (10 ∷ [])) →
       OnOk r (Appends old new (line (what ++ number ++ which)))

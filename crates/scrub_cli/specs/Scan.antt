@@ -1,4 +1,4 @@
--- What the commands `scan`, `index`, `locators` and `reclaimable` answer of an image file, and why they don't.
+-- What the commands `scan`, `index`, `locators` and `reclaimable` answer for an image file, and why they don't.
 use Rattle.std.specs.Prelude.{◌≡◌, ℕ, List, Bool}
 use Rattle.scrub_disk.specs.declared.geometry.Geometry.{Geometry as Sizes}
 use Rattle.scrub_disk.specs.Faults.{HasSizes, IsFirstBroken}

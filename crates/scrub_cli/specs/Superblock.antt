@@ -1,4 +1,4 @@
--- What the command `superblocks` answers of an image file.
+-- What the command `superblocks` answers for an image file.
 use Rattle.std.specs.Prelude.{◌≡◌, ℕ, List, Bool}
 use Rattle.scrub_disk.specs.Image.{Image}
 use Rattle.scrub_report.specs.Superblocks.{AreSuperblockLines, AreCleanSuperblocks}

@@ -12,7 +12,7 @@ use scrub_disk::Geometry;
 use scrub_scan::tile;
 use std::alloc::Global;
 
-/// The items of the extent that the words name. Faults are found in the order of `Fault`.
+/// The items of the extent that the arguments name. Faults are checked in the order of `Fault`.
 pub fn items<'a, I: Images>(
     alloc: Global,
     words: &ItemsWords<'a>,

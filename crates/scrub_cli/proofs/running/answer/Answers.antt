@@ -1,4 +1,4 @@
--- What a request comes to is what the words that ask for it come to.
+-- The answer or the fault of a request is that of the arguments that ask for it.
 use Rattle.std.proofs.Common.{rules, map}
 use Rattle.scrub_cli.specs.Words.{AskFor}
 use Rattle.scrub_cli.specs.declared.words.Request.TheVariants.{Items, Scan, Index, Locators, Reclaimable, Superblocks, Sizes}

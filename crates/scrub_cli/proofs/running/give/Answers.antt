@@ -1,4 +1,4 @@
--- All of the answer was written, or the fault of the output is told.
+-- The whole answer was written, or the fault of the output is reported.
 use Rattle.std.proofs.Common.{◌<◌, inl, inr, length, refl, subst, take}
 use Rattle.std.specs.Io.KnownBytes.{Appends}
 use Rattle.std.proofs.KnownBytes.{Keeps-refl}

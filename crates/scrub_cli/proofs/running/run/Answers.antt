@@ -1,4 +1,4 @@
--- A fault is told, and nothing is written.
+-- A fault is reported, and nothing is written to the output.
 use Rattle.std.proofs.Common.{inr}
 use Rattle.std.proofs.KnownBytes.{Keeps-refl}
 use Rattle.scrub_cli.proofs.running.run.Goals as goal

@@ -1,4 +1,4 @@
--- What is read of the words of `sizes` is what was found.
+-- The arguments of `sizes` are those that were found.
 use Rattle.std.proofs.Common.{◌∙◌, codes}
 use Rattle.clap.specs.Words.{found_of}
 use Rattle.clap.proofs.WalkLemmas.{first_value-rows}

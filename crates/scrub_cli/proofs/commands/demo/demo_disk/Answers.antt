@@ -1,4 +1,4 @@
--- The sizes keep the limits, and each part was put where it belongs.
+-- The sizes keep the limits, and each part is where the definition has it.
 use Rattle.std.proofs.Common.{ap, refl, sym, ◌∙◌, lit≤}
 use Rattle.scrub_disk.specs.Memory.{image_of}
 use Rattle.scrub_cli.specs.Demo.{located}

@@ -1,4 +1,4 @@
--- One more word, which names a page.
+-- One more argument, which names a page.
 use Rattle.scrub_cli.proofs.NamedPages.{named_more}
 use Rattle.scrub_cli.proofs.commands.disk_image.bad_pages.Goals as goal
 

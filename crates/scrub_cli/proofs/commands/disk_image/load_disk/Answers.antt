@@ -9,7 +9,7 @@ use Rattle.scrub_cli.proofs.DiskAnswers.{bad_page_fault, load_fault, loaded_as_k
 use Rattle.scrub_cli.proofs.NamedPages.{named_in_range}
 use Rattle.scrub_cli.proofs.commands.disk_image.load_disk.Goals as goal
 
--- a word names no page
+-- an argument names no page
 pub returns-in_err-bad : goal.returns-in_err-bad
 returns-in_err-bad g c =
     let words = c.args.words.now in

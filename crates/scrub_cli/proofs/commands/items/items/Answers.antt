@@ -8,7 +8,7 @@ use Rattle.scrub_cli.specs.Lines.{lines_of, status_of_clean}
 use Rattle.scrub_cli.proofs.ItemsAnswers.{placed, pointer_fault, items_disk_fault, items_answer}
 use Rattle.scrub_cli.proofs.commands.items.items.Goals as goal
 
--- the pointer lies past the extent
+-- the pointer is past the end of the extent
 pub returns-then-pointer-extent_bytes : goal.returns-then-pointer-extent_bytes
 returns-then-pointer-extent_bytes g c =
     pointer_fault (g.I.Images.known c.args.images.now c.args.words.now.image.name.now) (g.I.Images.known_map c.args.images.now) c.args.words.now c.in_ok-geometry.geometry

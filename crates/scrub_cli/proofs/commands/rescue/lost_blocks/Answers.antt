@@ -1,4 +1,4 @@
--- The map that is there marks what it lacks, and where none is there nothing is marked.
+-- With a map the blocks that it lacks are marked, and without one none is.
 use Rattle.std.proofs.lemmas.Result.{IfOk-weaker}
 use Rattle.scrub_cli.proofs.Rescues.{marks_by_map, marks_none}
 use Rattle.scrub_cli.proofs.commands.rescue.lost_blocks.Goals as goal

@@ -1,4 +1,4 @@
--- What is kept is that of the text that was read.
+-- The map that is kept is that of the text that was read.
 use Rattle.std.proofs.Common.{Some, List, ℕ, subst}
 use Rattle.scrub_map.specs.Map.{IsMap}
 use Rattle.scrub_cli.proofs.commands.rescue.rescue_map.Goals as goal

@@ -1,4 +1,4 @@
--- The map that is there costs what it lacks, and where none is there nothing is lost.
+-- With a map the pages that it lacks are lost, and without one none is.
 use Rattle.std.proofs.lemmas.Result.{IfOk-weaker}
 use Rattle.scrub_disk.specs.Memory.{image_of}
 use Rattle.scrub_cli.proofs.Rescues.{loses_by_map, some_blocks}

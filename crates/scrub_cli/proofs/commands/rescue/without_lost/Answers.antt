@@ -1,4 +1,4 @@
--- One mark for each page was made, and each page that is marked is unreadable.
+-- There is one mark for each page, and each marked page is unreadable.
 use Rattle.std.proofs.Common.{◌∙◌, ap, ap₂, ◌*◌, length}
 use Rattle.scrub_disk.specs.Memory.{image_of}
 use Rattle.scrub_cli.proofs.Rescues.{loses_pages}

@@ -1,4 +1,4 @@
--- The disk that was loaded is told of.
+-- The answer is that of the disk that was loaded.
 use Rattle.scrub_disk.specs.Memory.{image_of}
 use Rattle.scrub_cli.proofs.commands.scan.scan.Goals as goal
 

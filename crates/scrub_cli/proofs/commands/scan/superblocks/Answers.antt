@@ -1,4 +1,4 @@
--- The disk that was loaded is told of.
+-- The lines are those of the disk that was loaded.
 use Rattle.scrub_disk.specs.Memory.{image_of}
 use Rattle.scrub_cli.proofs.commands.scan.superblocks.Goals as goal
 

@@ -1,4 +1,4 @@
--- The map wasn't read, there is no image of this name, or what it has of records is told.
+-- The map wasn't read, there is no image of this name, or the records of the image are listed.
 use Rattle.std.proofs.Common.{◌∙◌, ap, refl, subst, List, ℕ}
 use Rattle.std.proofs.lemmas.Result.{err_from_is_err_and}
 use Rattle.scrub_cli.specs.Known.{KnownRaw}

@@ -1,4 +1,4 @@
--- Each part was written whole but for the last that was begun.
+-- Each part was written whole, except perhaps the last that was begun.
 use Rattle.scrub_cli.proofs.Telling.{line_first, line_second, line_third, line_last, line_whole}
 use Rattle.scrub_cli.proofs.process.fault.write_line.Goals as goal
 

@@ -1,4 +1,4 @@
--- Each part was written whole but for the last that was begun.
+-- Each part was written whole, except perhaps the last that was begun.
 use Rattle.std.specs.Fmt.{decimal}
 use Rattle.scrub_cli.proofs.Telling.{number_first, number_second, number_third, number_fourth, number_last, number_whole}
 use Rattle.scrub_cli.proofs.process.fault.write_number.Goals as goal

@@ -1,4 +1,4 @@
--- The kind isn't among the words so far.
+-- The kind isn't among the texts so far.
 use Rattle.std.proofs.Common.{◌≡◌, drop}
 use Rattle.std.specs.List.{list_any}
 use Rattle.std.specs.Str.{bytes_eq}

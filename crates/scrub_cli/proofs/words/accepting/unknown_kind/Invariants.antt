@@ -1,4 +1,4 @@
--- The words so far are kinds.
+-- The texts so far are kinds.
 use Rattle.std.proofs.Common.{◌≡◌, drop}
 use Rattle.std.specs.List.{list_all}
 use Rattle.scrub_cli.specs.Accepting.{is_kind}

@@ -15,7 +15,7 @@ pub returns-in-Geometry-clause-whole : goal.returns-in-Geometry-clause-whole
 returns-in-Geometry-clause-whole g c =
     rw c.in-Geometry.is (subst (λ text. OnOk c.write_line-in-Geometry.result (Appends (g.E.Write.contents c.args.err.now) (g.E.Write.contents c.write_line-in-Geometry.new.err) text)) (sym c.limit.ensures) c.write_line-in-Geometry.ensures.whole)
 
--- nothing is behind the number of a line
+-- a line of the map ends with its number
 pub returns-in-MapLine-clause-front : goal.returns-in-MapLine-clause-front
 returns-in-MapLine-clause-front g c =
     rw c.in-MapLine.is (subst (λ text. AppendsFront (g.E.Write.contents c.args.err.now) (g.E.Write.contents c.write_number.new.err) (line text))
