@@ -59,7 +59,8 @@ pub record AreReadBefore (maps : KnownMaps) (words : ImageWords) (g : Sizes) : T
 
 -- the arguments name pages, but their map isn't read
 abbrev pub IsMapFaultBehind : KnownMaps → ImageWords → Sizes → Fault → Type 0
-IsMapFaultBehind maps words g fault = (pages : List (ℕ × ℕ)) × NamePages g words.bad_pages.items pages × IsMapFault maps words.map fault
+IsMapFaultBehind maps words g fault =
+    (pages : List (ℕ × ℕ)) × NamePages g words.bad_pages.items pages × IsMapFault maps words.map fault
 
 -- why no disk of these sizes is loaded: a page argument, then the map, then the image, each only if nothing before it
 -- failed; or memory ran out, anywhere

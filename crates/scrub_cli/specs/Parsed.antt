@@ -69,8 +69,8 @@ HasNeeds false false false false false found = ⊥
 -- the command is one of the program's, and has all that it needs
 abbrev pub IsWholeCommand : Text → List Row → Type 0
 IsWholeCommand name found =
-    HasNeeds (is_disk_command name) (bytes_eq name (codes "superblocks")) (bytes_eq name (codes "sizes")) (bytes_eq name (codes "items"))
-    (bytes_eq name (codes "demo")) found
+    HasNeeds (is_disk_command name) (bytes_eq name (codes "superblocks")) (bytes_eq name (codes "sizes"))
+    (bytes_eq name (codes "items")) (bytes_eq name (codes "demo")) found
 
 -- if a command was found, it is one of the program's, and has all that it needs
 abbrev pub IsWholeParse : Option (Text × List Row) → Type 0

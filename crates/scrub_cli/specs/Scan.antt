@@ -66,8 +66,8 @@ pub record IsScanAnswer (wanted : Wanted) (known : KnownRaw) (maps : KnownMaps) 
 
 -- the text is what is wanted of an image that was loaded so, and each of its planned extents is in one of the lists,
 -- once
-pub record AreTakingsOf (wanted : Wanted) (known : KnownRaw) (maps : KnownMaps) (words : ImageWords) (text : List ℕ) (status : ℕ)
-    (lists : List (List ℕ)) : Type 0 where
+pub record AreTakingsOf (wanted : Wanted) (known : KnownRaw) (maps : KnownMaps) (words : ImageWords) (text : List ℕ)
+    (status : ℕ) (lists : List (List ℕ)) : Type 0 where
   pub image : Image
   pub disk : IsDiskOf known maps words image
   pub answered : IsDiskAnswer wanted image text status
@@ -77,4 +77,5 @@ pub record AreTakingsOf (wanted : Wanted) (known : KnownRaw) (maps : KnownMaps) 
 abbrev pub IsScanFault : KnownRaw → KnownMaps → ImageWords → Fault → Type 0
 IsScanFault known maps words (Geometry fault) = IsFirstBroken words.page words.pages words.extents fault
 IsScanFault known maps words OutOfMemory = Unit {0}
-IsScanFault known maps words fault = (g : Sizes) × HasSizes g words.page words.pages words.extents × IsDiskFault known maps words g fault
+IsScanFault known maps words fault =
+    (g : Sizes) × HasSizes g words.page words.pages words.extents × IsDiskFault known maps words g fault

@@ -37,6 +37,7 @@ pub record IsSizesAnswer (known : KnownRaw) (maps : KnownMaps) (words : SizesWor
 abbrev pub IsSizesFault : KnownMaps → SizesWords → Fault → Type 0
 IsSizesFault maps words (NoMap name) = IsMapFault maps words.map (NoMap name)
 IsSizesFault maps words (MapLine k) = IsMapFault maps words.map (MapLine k)
-IsSizesFault maps words (NoImage name) = (blocks : Option (List MapBlock)) × AreBlocksOf maps words.map blocks × (name ≡ words.name)
+IsSizesFault maps words (NoImage name) =
+    (blocks : Option (List MapBlock)) × AreBlocksOf maps words.map blocks × (name ≡ words.name)
 IsSizesFault maps words OutOfMemory = Unit {0}
 IsSizesFault maps words fault = ⊥

@@ -93,7 +93,7 @@ fn give<O: Write, E: Write>(answer: &Answer, out: &mut O, err: &mut E) -> u8
 }
 
 /// Runs the command that the arguments name; the program's name isn't one of them. The answer is written to `out` once all of
-/// it is in memory. Help and faults are written to `err`; that `err` fails is ignored.
+/// it is in memory. Help and faults are written to `err`, whose own failures are ignored.
 ///
 /// The statuses: 0 clean, help or version; 1 findings; 2 invalid arguments or map; 3 the map or the image can't be opened, the
 /// image is too long, or the output failed; 4 out of memory.

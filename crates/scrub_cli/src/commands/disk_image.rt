@@ -53,7 +53,8 @@ pub fn load_disk<'a, I: Images>(
     images: &mut I,
 ) -> Result<MemDisk, Fault<'a>>
     ensures { MatchResult result
-        (λ disk. IsLoadedDisk (I.known images.old words.now.name.now) (I.known_map images.old) words.now geometry (image_of disk))
+        (λ disk. IsLoadedDisk (I.known images.old words.now.name.now) (I.known_map images.old) words.now geometry
+        (image_of disk))
         (IsDiskFault (I.known images.old words.now.name.now) (I.known_map images.old) words.now geometry) }
 {
     let bad = bad_pages(alloc, geometry, &words.bad_pages)?;

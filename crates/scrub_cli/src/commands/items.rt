@@ -19,7 +19,8 @@ pub fn items<'a, I: Images>(
     images: &mut I,
 ) -> Result<Answer, Fault<'a>>
     ensures { MatchResult result
-        (λ a. IsItemsAnswer (I.known images.old words.now.image.name.now) (I.known_map images.old) words.now a.text.items a.status)
+        (λ a. IsItemsAnswer (I.known images.old words.now.image.name.now) (I.known_map images.old) words.now
+        a.text.items a.status)
         (IsItemsFault (I.known images.old words.now.image.name.now) (I.known_map images.old) words.now) }
 {
     let image = &words.image;

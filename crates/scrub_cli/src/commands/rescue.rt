@@ -45,7 +45,8 @@ const BLOCK: u32 = 512;
 
 /// Whether the map lacks each of the first blocks of 512 bytes; empty without a map.
 pub fn lost_blocks(alloc: Global, map: &Option<RescueMap>) -> Result<Vec<bool>, OutOfMemory>
-    ensures { IfOk result (λ marks. (blocks : Option (List MapBlock)) → KeepsMap map.now blocks → AreMarksOf blocks marks.items) }
+    ensures { IfOk result (λ marks. (blocks : Option (List MapBlock)) → KeepsMap map.now blocks →
+        AreMarksOf blocks marks.items) }
 {
     match map {
         Some(map) => map.lost_blocks(alloc, BLOCK, BLOCKS),

@@ -61,7 +61,8 @@ pub fn superblocks<'a, I: Images>(
     images: &mut I,
 ) -> Result<Answer, Fault<'a>>
     ensures { MatchResult result
-        (λ a. IsSuperblocksAnswer (I.known images.old words.now.name.now) (I.known_map images.old) words.now a.text.items a.status)
+        (λ a. IsSuperblocksAnswer (I.known images.old words.now.name.now) (I.known_map images.old) words.now
+        a.text.items a.status)
         (IsScanFault (I.known images.old words.now.name.now) (I.known_map images.old) words.now) }
 {
     let disk = disk_of(alloc, words, images)?;

@@ -339,7 +339,13 @@ fn places_outside_the_disk_are_refused(rt: HostRuntime) -> Result<(), Fail> {
     ] {
         let words = format!(in rt.alloc(); "items --page 64 --pages 4 --extents 3 {words}")?;
         let expected = format!(in rt.alloc(); "shardscrub: {expected}\n")?;
-        check(&rt, rt.alloc(), &words, image(&[0; 768]), (2, "", &expected))?;
+        check(
+            &rt,
+            rt.alloc(),
+            &words,
+            image(&[0; 768]),
+            (2, "", &expected),
+        )?;
     }
     Ok(())
 }
@@ -474,7 +480,7 @@ fn the_version_goes_to_the_output(rt: HostRuntime) -> Result<(), Fail> {
 }
 
 #[test]
-fn help_is_reported_on_the_error_stream(rt: HostRuntime) -> Result<(), Fail> {
+fn help_is_printed_on_the_error_stream(rt: HostRuntime) -> Result<(), Fail> {
     for (words, beginning) in [
         ("--help", "Checks a raw image of a storage node's disk"),
         ("-h", "Checks a raw image of a storage node's disk"),

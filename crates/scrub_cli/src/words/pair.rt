@@ -8,7 +8,8 @@ pub fn bad_page(word: &str) -> Option<(u32, u32)>
     ensures pair { MatchOption result
         ((extent page : ℕ) → extent < 2 ^ 32 → page < 2 ^ 32 → ¬ IsPair word.now extent page)
         (λ pair. IsPair word.now pair.0 pair.1) }
-    ensures only { IfSome result (λ pair. (extent page : ℕ) → IsPair word.now extent page → (extent ≡ pair.0) × (page ≡ pair.1)) }
+    ensures only { IfSome result (λ pair. (extent page : ℕ) → IsPair word.now extent page →
+        (extent ≡ pair.0) × (page ≡ pair.1)) }
 {
     let (extent, page) = word.split_once(':')?;
     Some((decimal(extent)?, decimal(page)?))

@@ -189,7 +189,7 @@ fn the_superblocks_and_the_sizes_of_a_disk_with_one_shard(rt: HostRuntime) -> Re
 
 /// There is nothing to reclaim. A lost page of extent 0 is a doubt that can't be accepted.
 #[test]
-fn what_may_be_reclaimed_of_a_disk_with_one_shard(rt: HostRuntime) -> Result<(), Fail> {
+fn what_may_be_reclaimed_on_a_disk_with_one_shard(rt: HostRuntime) -> Result<(), Fail> {
     let (disk, _) = one_shard(rt.alloc())?;
     for (words, status, lines) in [
         ("", 0, ""),
@@ -261,7 +261,9 @@ fn check_narrow(
 }
 
 #[test]
-fn an_output_that_fails_is_reported_with_the_bytes_that_it_took(rt: HostRuntime) -> Result<(), Fail> {
+fn an_output_that_fails_is_reported_with_the_bytes_that_it_took(
+    rt: HostRuntime,
+) -> Result<(), Fail> {
     for room in 0..ONE_SHARD.len() {
         check_narrow(&rt, rt.alloc(), room, true)?;
         check_narrow(&rt, rt.alloc(), room, false)?;
@@ -309,7 +311,13 @@ fn the_first_of_several_faults_is_reported(rt: HostRuntime) -> Result<(), Fail> 
             "shardscrub: image too long\n",
         ),
     ] {
-        check(&rt, rt.alloc(), words, image(&[0; 769]), (status, "", expected))?;
+        check(
+            &rt,
+            rt.alloc(),
+            words,
+            image(&[0; 769]),
+            (status, "", expected),
+        )?;
     }
     Ok(())
 }
