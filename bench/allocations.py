@@ -1,8 +1,8 @@
-"""Runs a program under a library of C that counts or refuses its allocations, for `refuse.py`, `growths.py` and `costs.py`.
+"""Runs a program with a library that counts or refuses its allocations, for `refuse.py`, `growths.py` and `costs.py`.
 
-The library is made by `cc` and put before the C library. It refuses one allocation, by its number from 1 on, or that one and
-all later ones; or those of all threads but the first one, each after a tenth of a second. It counts the allocations of one
-size and the threads that are started.
+`cc` makes the library, which is put before the C library. It refuses one allocation, by its number from 1 on, or that one and
+all later ones; or those of all threads except the first one, each after a tenth of a second. It counts the allocations of one
+size, and the threads that are started.
 """
 import os
 import subprocess
@@ -76,7 +76,7 @@ __attribute__((destructor)) static void report(void) {
     dprintf(atoi(getenv("COUNTS")), "%ld %ld %ld", met, sized, threads);
 }
 
-/* A program with threads ends so, and then nothing is called at its end. */
+/* A program with threads ends by this call, which calls no destructors. */
 void _exit(int status) {
     report();
     syscall(SYS_exit_group, status);
@@ -86,7 +86,7 @@ void _exit(int status) {
 
 
 def made(folder):
-    """The library, made in this folder. Ends with status 2 where `cc` can't make it."""
+    """Makes the library in this folder, and returns its path. If `cc` can't make it, the script ends with status 2."""
     source, library = Path(folder, "allocations.c"), Path(folder, "allocations.so")
     source.write_text(LIBRARY)
     if subprocess.run(["cc", "-shared", "-fPIC", "-O1", "-o", library, source, "-ldl", "-pthread"]).returncode != 0:
@@ -95,16 +95,16 @@ def made(folder):
 
 
 class Counts(NamedTuple):
-    """How many allocations were met while one is to be refused, or were refused where those of all other threads are; how many
-    had the counted size; and how many threads were started."""
+    """The counts of a run. `met`: allocations while one was to be refused, or refused ones if those of all other threads
+    were. `sized`: allocations of the counted size. `threads`: threads that were started."""
     met: int
     sized: int
     threads: int
 
 
 def run(program, words, library, refused=0, counted=0, flags=(), processors=None):
-    """The status and both outputs of a run on these processors, and its counts. The counts are None where it took over a minute
-    or ended by a signal, and then so is the status of the former."""
+    """The status and both outputs of a run on these processors, and its counts. The counts are None if the run took over a
+    minute or ended by a signal. After a minute the status is None too."""
     reader, writer = os.pipe()
     given = dict(LD_PRELOAD=str(library), REFUSED=str(refused), COUNTED=str(counted), COUNTS=str(writer), **dict.fromkeys(flags, "1"))
     limit = (lambda: os.sched_setaffinity(0, processors)) if processors else None
@@ -121,8 +121,7 @@ def run(program, words, library, refused=0, counted=0, flags=(), processors=None
 
 
 def refusing(program, words, library, refused, all_later=False, all_others=False):
-    """The status and both outputs, and how many allocations were met, or were refused where those of all other threads are: none
-    where there are no counts."""
+    """The status and both outputs of a run, and `met` of its counts; 0 if there are no counts."""
     flags = ["ALL_LATER"] * all_later + ["ALL_OTHERS"] * all_others
     got, counts = run(program, words.split(), library, refused, flags=flags)
     return got, counts.met if counts else 0

@@ -1,18 +1,18 @@
 #!/usr/bin/env python3
-"""Counts what comments and documents claim about costs: allocations and threads of the built program. It measures no time.
+"""Checks what comments and documents claim about costs. It counts allocations and threads of the program; it measures no time.
 
 usage: bench/costs.py [PROGRAM]    (default: the program of ./shardscrub)
 
 A library put before the C library counts the threads that a run starts, and its allocations of one given size. Three
 claims are checked:
-- Merging the runs copies no list of locators: each list is allocated once, where its run is read.
-- The twins are found by a thread of their own, and so is the index made: a scan without workers starts two threads where
-  there is one run and nothing to look at, and a command that makes neither starts none.
-- Several threads look at places: where there are many, a run has at least as many threads as processors, with the main
-  one. It is run on one processor, on two, and so on.
+- Merging the runs copies no list of locators. Each list is allocated once, when its run is read.
+- One thread finds the twins, and another makes the index. So a scan without workers starts two threads if there is one run
+  and no place to look at. A command that needs neither twins nor index starts none.
+- Several threads look at places. If there are many places, a run has at least as many threads as processors, including the
+  main one. It is run on one processor, on two, and so on.
 
-Prints a line for each check that fails; the last line is 'N passed, M failed'. Exit status: 0 where all passed, 1 where
-one didn't, 2 where `cc` can't make the library.
+Prints a line for each check that fails; the last line is 'N passed, M failed'. Exit status: 0 if all passed, 1 if one failed,
+2 if `cc` can't make the library.
 """
 import os
 import sys
@@ -23,10 +23,10 @@ import allocations
 from disks import Disk, frame, locator, run, shard, uuid
 from program import default
 
-# The bytes of a locator in memory, and as many locators as no other list of the program has.
+# The bytes of a locator in memory, and a number of locators that no other list of the program has.
 LOCATOR_BYTES = 60
 LOCATORS = 61
-# For more processors than these rayon makes no more pieces.
+# With more processors than these rayon makes no more pieces.
 MOST_PROCESSORS = 32
 PAGE, PAGES = 4096, 64
 counts = {True: 0, False: 0}
@@ -41,7 +41,7 @@ def check(what, found, is_right, wanted):
 # Disks
 
 def disk_of(room, name, texts, runs):
-    """The words for a disk whose extents from 1 on begin with these bytes; its superblock names these runs."""
+    """The arguments for a disk whose extents from 1 on begin with these bytes. Its superblock names these runs."""
     disk = Disk(PAGES, len(texts) + 1, PAGE)
     for extent, text in enumerate(texts, 1):
         disk.put(extent, 0, text)
@@ -53,13 +53,13 @@ def disk_of(room, name, texts, runs):
 
 
 def run_frame(extent, number, entries):
-    """What an extent with a run alone begins with, and the run's locator."""
+    """The first bytes of an extent with only a run, and the run's locator."""
     name, payload = uuid(0x70 + number), run(*entries)
     return frame(name, payload), locator(extent, 0, name, payload)
 
 
 def two_runs(room, shards):
-    """Two runs of so many shards each, half of which are in both; each entry has the same locators."""
+    """Two runs of `shards` shards each. Half of the shards are in both runs. Each entry has the same locators."""
     named = [locator(1, 0, uuid(0x11), b"abc")] * LOCATORS
     newer, older = ([(shard(number), named) for number in range(first, first + shards)] for first in (0, shards // 2))
     (first, first_at), (second, second_at) = run_frame(2, 0, newer), run_frame(3, 1, older)
@@ -67,7 +67,7 @@ def two_runs(room, shards):
 
 
 def chunks(room, name, count, is_hidden):
-    """So many chunks, each of which a shard names, within the payload of another chunk or side by side."""
+    """`count` chunks, each named by a shard, inside the payload of another chunk or side by side."""
     names = [shard(number) for number in range(count)]
     parts = [frame(one, b"abc") for one in names]
     text = b"".join(parts)
@@ -81,8 +81,8 @@ def chunks(room, name, count, is_hidden):
 # Checks
 
 def counts_of(program, library, words, wanted, **more):
-    """How many allocations had the counted size, and how many threads were started, by a run that ends with this status; else
-    None of both."""
+    """How many allocations of a run had the counted size, and how many threads it started. Both are None unless the run ends
+    with this status."""
     (status, _, _), found = allocations.run(program, words, library, **more)
     return (found.sized, found.threads) if status == wanted and found else (None, None)
 

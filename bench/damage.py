@@ -1,16 +1,16 @@
 #!/usr/bin/env python3
-"""Damages each superblock of two small disks in every way that one bit or one page can, and looks at what `shardscrub
-reclaimable` then names. `./check` runs it.
+"""Damages the superblocks of two small disks, one bit or one page at a time, and checks what `shardscrub reclaimable` then
+names. `./check` runs it.
 
 usage: bench/damage.py [PROGRAM]    (default: the program of ./shardscrub)
 
-Each disk has two superblocks, of which the older one would let go an extent that holds the one chunk of a shard. On one disk
-both superblocks have the same write pointers, nothing is behind them, and each record has a page for itself. On the other
-one something is behind the pointers of either, and a record has several pages. Each bit of each superblock is flipped in
-turn, and then each page of extent 0 is named as unreadable in turn. What `reclaimable` names has to be a candidate of the
-undamaged disk, and its answer has to be that of reference.py: on either disk with nothing accepted, and on the one with
-tails also with `--accept tail`. Prints a line for each disk; the last line is 'N passed, M failed', where each run counts.
-Exit status: 0 where all passed, else 1.
+Each disk has two superblocks. The older one would give up an extent with the only chunk of a shard. On one disk both
+superblocks have the same write pointers, nothing is past them, and each record fits on a page. On the other disk each
+superblock has something past its pointers, and a record takes several pages. Each bit of each superblock is flipped in turn;
+then each page of extent 0 is unreadable in turn. `reclaimable` may name only candidates of the undamaged disk, and has to
+answer as reference.py does: with nothing accepted, and on the disk with tails also with `--accept tail`.
+
+Prints a line for each disk; the last line is 'N passed, M failed', which counts runs. Exit status: 0 if all passed, else 1.
 """
 import os
 import subprocess
@@ -25,13 +25,13 @@ from reference import Image, reclaimable, records_of, scrub
 
 PROGRAM = str(Path(sys.argv[1] if len(sys.argv) > 1 else program.default()).resolve())
 EXTENTS = 5
-# Each disk's bytes of a page and pages of an extent. The older superblock is on page 0, the newer one in the middle.
+# The bytes per page and pages per extent of each disk. The older superblock is on page 0, the newer one in the middle.
 PLAIN, WITH_TAILS = (256, 4), (64, 8)
 SECONDS = 60
 
 
 def made(tails):
-    """A disk. Its newer superblock lets extent 2 go; its older one extent 1, which has the chunk of shard 2."""
+    """A disk. Its newer superblock gives up extent 2. Its older one gives up extent 1, which has the only chunk of shard 2."""
     page, pages = WITH_TAILS if tails else PLAIN
     disk = Disk(pages, EXTENTS, page)
     only = disk.chunk(1, 0, uuid(0xB0), b"the one chunk of the second shard, which nothing else has")
@@ -51,13 +51,13 @@ def made(tails):
     return Image(bytes(disk.bytes), page, pages, EXTENTS)
 
 
-def changed(image, raw, bad=()):
-    """The disk with other bytes, and with unreadable pages."""
-    return Image(raw, image.page, image.pages, image.extents, bad)
+def changed(image, raw, unreadable=()):
+    """The disk with other bytes and with these unreadable pages."""
+    return Image(raw, image.page, image.pages, image.extents, unreadable)
 
 
 def harmed(image):
-    """Each disk that one flipped bit of a superblock makes, and each that one lost page of extent 0 does."""
+    """Yields the disk with each bit of a superblock flipped, then with each page of extent 0 unreadable."""
     for page, record in records_of(image).items():
         for bit in range(8 * record.length):
             flipped = bytearray(image.raw)
@@ -68,13 +68,13 @@ def harmed(image):
 
 
 def answer(image, accepted):
-    """The status and both outputs of `reclaimable`; None where it doesn't end."""
+    """The status and both outputs of `reclaimable`; None if it doesn't end."""
     with tempfile.NamedTemporaryFile() as file:
         file.write(image.raw)
         file.flush()
         words = [*geometry(image.page, image.pages, image.extents), "--workers", "0"]
         words += [word for kind in accepted for word in ("--accept", kind)] + [file.name]
-        words += [f"{extent}:{page}" for extent, page in sorted(image.bad)]
+        words += [f"{extent}:{page}" for extent, page in sorted(image.unreadable)]
         try:
             done = subprocess.run([PROGRAM, "reclaimable", *words], stdin=subprocess.DEVNULL, capture_output=True, timeout=SECONDS)
         except subprocess.TimeoutExpired:
@@ -97,17 +97,17 @@ def candidates(image):
 
 
 def is_safe(image, accepted, let_go):
-    """Whether the program names nothing but what may be let go, and says what the reference says."""
+    """Whether the program names only extents that may be given up, and answers as the reference does."""
     found = answer(image, accepted)
     return found is not None and named(found[1]) <= let_go and found == right(image, accepted)
 
 
 def check(what, image, accepted):
-    """Whether each run passed: that the disk tries something, and then of the whole disk and of each harmed one."""
+    """Whether each run passed: first whether the disk tests anything, then the whole disk, then each damaged one."""
     let_go = candidates(image)
     middle = image.size // 2
     alone = changed(image, image.raw[:middle] + bytes(middle) + image.raw[image.size:])
-    # Its newer superblock lets an extent go, and its older one alone another.
+    # The disk tests something if its newer superblock gives up an extent, and its older one alone another.
     results = [bool(let_go) and bool(candidates(alone) - let_go), answer(image, accepted) == right(image, accepted)]
     with ThreadPoolExecutor(os.cpu_count()) as pool:
         results += pool.map(lambda disk: is_safe(disk, accepted, let_go), harmed(image))

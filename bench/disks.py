@@ -1,6 +1,6 @@
-"""Writes locators, frames, index runs and superblocks by the layouts of docs/FORMAT.md, and disks of them.
+"""Writes locators, frames, index runs, superblocks and disks, as docs/FORMAT.md lays them out.
 
-It knows how bytes are laid out and nothing of how they are judged: reference.py does that, and shares no code with it.
+It knows only the layout of bytes. reference.py judges them, and the two share no code.
 """
 import os
 import random
@@ -12,7 +12,7 @@ MAGIC = b"\xc5\x5e"
 SEALED_MAGIC = b"\xc5\x5f"
 CLOSING_MARK = b"\x3a\xa3"
 DIGEST = 32
-# The bytes of a frame before its payload and behind it.
+# The bytes of a frame before and after its payload.
 HEAD, FOOT = 22, 16
 ROUND_PAYLOAD = HEAD + FOOT
 ROUND_SEALED = ROUND_PAYLOAD + DIGEST + len(CLOSING_MARK)
@@ -25,12 +25,12 @@ def be(size, number):
 
 
 def uuid(byte):
-    """The UUID of sixteen times this byte."""
+    """The UUID that has this byte sixteen times."""
     return be(1, byte) * 16
 
 
 def shard(number):
-    """The identifier of fifteen zero bytes and this one."""
+    """The identifier with this number."""
     return be(16, number)
 
 
@@ -39,7 +39,7 @@ def digest(text):
 
 
 def with_digest(body):
-    """The body with its digest behind it, as records and runs have it."""
+    """The body, followed by its digest, as in records and runs."""
     return body + digest(body)
 
 
@@ -64,13 +64,13 @@ def locator(extent, offset, name, payload):
 # Runs and superblocks
 
 def run(*entries):
-    """The payload of an index run, of pairs of an identifier and a list of locators, by rising identifier."""
+    """The payload of an index run. The entries are pairs of an identifier and a list of locators, by rising identifier."""
     text = (identifier + be(1, len(locators)) + b"".join(locators) for identifier, locators in entries)
     return with_digest(b"RUN1" + be(4, len(entries)) + b"".join(text))
 
 
 def record_head(page, pages, extents, runs, generation=1, retired=None):
-    """The first bytes of a record that says it has so many runs and, if it is one of the second kind, retired extents."""
+    """The first bytes of a record with these numbers of runs and, if it is of the second kind, of retired extents."""
     kind, count = (b"SSB1", b"") if retired is None else (b"SSB2", be(2, retired))
     return kind + struct.pack(">QIIIH", generation, page, pages, extents, runs) + count
 
@@ -80,15 +80,15 @@ def fields(numbers):
 
 
 def record(page, pages, extents, pointers, runs, generation=1, retired=None):
-    """A record with these write pointers and locators of runs, newest first. With retired extents, or an empty list of them, it
-    is one of the second kind."""
+    """A record with these write pointers and locators of runs, newest first. With a list of retired extents, even an empty one,
+    it is of the second kind."""
     listed = fields(pointers) + fields(retired or []) + b"".join(runs)
     count = None if retired is None else len(retired)
     return with_digest(record_head(page, pages, extents, len(runs), generation, count) + listed)
 
 
 def geometry(page, pages, extents):
-    """The options of a command that give the sizes of a disk."""
+    """The options with the sizes of a disk."""
     return ["--page", str(page), "--pages", str(pages), "--extents", str(extents)]
 
 
@@ -111,29 +111,29 @@ class Disk:
         self.bytes[place:place + len(text)] = text
 
     def chunk(self, extent, offset, name, payload, form=frame):
-        """Puts a chunk there, moves the write pointer behind it, and returns its locator."""
+        """Writes a chunk, moves the write pointer to its end, and returns its locator."""
         text = form(name, payload)
         self.put(extent, offset, text)
         self.pointers[extent - 1] = max(self.pointers[extent - 1], offset + len(text))
         return locator(extent, offset, name, payload)
 
     def superblock(self, page, generation, *runs, retired=None):
-        """Puts a record with the write pointers as they are, and the locators of the runs, newest first."""
+        """Writes a record with the current write pointers and the locators of the runs, newest first."""
         text = record(self.page, self.pages, self.extents, self.pointers, runs, generation, retired)
         self.put(0, page * self.page, text)
 
     def spoil(self, extent, offset):
-        """Changes one bit of the byte there."""
+        """Changes a bit of this byte."""
         self.bytes[extent * self.page * self.pages + offset] ^= 1
 
     def reset(self, extent):
-        """Moves the write pointer of the extent to its start. What was written there stays."""
+        """Moves the write pointer of the extent to 0. The bytes stay."""
         self.pointers[extent - 1] = 0
 
 
 class DiskFile:
-    """A disk that is written to a file from extent 1 on, one frame behind another, and extent 0 last. Names and payloads are
-    random, and the same each time."""
+    """A disk that is written to a file: frame after frame from extent 1 on, and extent 0 last. UUIDs and payloads are random,
+    and the same each time."""
 
     def __init__(self, file, page, pages, extents):
         self.file, self.page, self.pages, self.extents = file, page, pages, extents
@@ -149,11 +149,11 @@ class DiskFile:
         self.file.seek(len(self.pointers) * self.extent_bytes)
 
     def room(self):
-        """The longest payload that the extent still takes in a frame of either form; below 0 where it takes none."""
+        """The longest payload that still fits into the extent, in a frame of either form; below 0 if none fits."""
         return self.extent_bytes - self.offset - ROUND_SEALED
 
     def put(self, payload, sealed=False):
-        """Writes the payload's frame under a new UUID where the last one ended, and returns its locator."""
+        """Writes the payload in a frame with a new UUID after the last frame, and returns its locator."""
         name = self.chance.randbytes(16)
         text = sealed_frame(name, payload) if sealed else frame(name, payload)
         self.file.write(text)
@@ -176,9 +176,9 @@ class DiskFile:
         return locators
 
     def put_runs(self, locators, runs, most):
-        """Names the chunks, in shards of up to `most` of them from anywhere on the disk, under random identifiers.
+        """Names the chunks, in shards of up to `most` chunks from anywhere on the disk, with random identifiers.
 
-        Puts as many runs of like size, each into an extent of its own, and returns their locators and the number of shards.
+        Writes `runs` runs of similar size, each into its own extent. Returns their locators and the number of shards.
         """
         self.chance.shuffle(locators)
         shards = []
@@ -195,28 +195,29 @@ class DiskFile:
         return named, len(shards)
 
     def put_superblock(self, runs):
-        """Puts it on page 0. It is of generation 1, and the extents that nothing was written to have the pointer 0."""
+        """Writes a superblock of generation 1 on page 0. Extents without a chunk have the pointer 0."""
         pointers = self.pointers + [0] * (self.extents - 1 - len(self.pointers))
         text = record(self.page, self.pages, self.extents, pointers, runs)
         self.hashed += len(text) - DIGEST
         self.file.seek(0)
         self.file.write(text)
 
-    def made(self, bad=(), **right):
-        """What is known of the finished image: the words for it, what has to be hashed, and the right answer.
+    def made(self, unreadable=(), **right):
+        """What is known about the finished image: its arguments, how many bytes have to be hashed, and the right answer.
 
-        The answer is that of a clean disk of which each chunk is named, but for what is given.
+        The answer is that of a clean disk with all chunks named, except for the given counts.
         """
         self.file.truncate(self.extents * self.extent_bytes)
         lists = dict.fromkeys("broken candidates dangling doubtful hidden orphans shared twins".split(), 0)
         chunks = {"chunk": self.chunks - self.sealed_chunks, "sealed": self.sealed_chunks, "torn": 0, "noise": 0, "lost": 0}
         whole = {"status": 0, "clean": True, "shards": 0, "live": sum(self.pointers)}
-        return {"sizes": geometry(self.page, self.pages, self.extents), "bad": [f"{extent}:{page}" for extent, page in bad],
-                "hashed": self.hashed, "bytes": self.extents * self.extent_bytes, "right": lists | chunks | whole | right}
+        return {"sizes": geometry(self.page, self.pages, self.extents),
+                "unreadable": [f"{extent}:{page}" for extent, page in unreadable], "hashed": self.hashed,
+                "bytes": self.extents * self.extent_bytes, "right": lists | chunks | whole | right}
 
 
 def make_image(path, kind, *given):
-    """Makes such a disk there, and returns what is known of it."""
+    """Makes a disk of this kind in the file, and returns what is known about it."""
     with open(path, "w+b") as file:
         made = kind(file, *given)
         file.flush()

@@ -1,5 +1,5 @@
 #!/usr/bin/env python3
-"""Counts, for the table of docs/GATE.md, what each crate has, and writes the counts there.
+"""Counts the lines, functions, tests and edits of each crate, and writes the table of docs/GATE.md.
 
 usage: bench/gate.py [--print]      at the top of the repository
 
@@ -22,7 +22,7 @@ def texts(folder, end):
 
 
 def split(path, text, modules):
-    """The code of a file and its tests, given the modules that are for tests alone."""
+    """The code of a file and its tests. `modules` are the modules that are only for tests."""
     if modules.intersection([path.stem, *path.parts]):
         return "", text
     code, *tests = re.split(r"^(?=#\[cfg\(test\)\]\nmod \w+ \{)", text, maxsplit=1, flags=re.M)

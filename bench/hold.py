@@ -1,10 +1,11 @@
 #!/usr/bin/env python3
-"""Holds a program against reference.py on made-up disks: report, index, named locators, superblocks, what may be reclaimed,
-sizes and status of each, byte for byte; half of the disks have a map of GNU ddrescue, and some of these maps are refused.
+"""Compares a program with reference.py on made-up disks, byte for byte: report, index, named locators, superblocks, what may be
+reclaimed, sizes, and the status of each. Half of the disks have a map of GNU ddrescue, and some of these maps are refused.
 
-usage: hold.py PROGRAM [COUNT] [SEED]      PROGRAM '-' runs no program and only counts which findings the disks have
-Stops at the first difference, and leaves the image, its map and what was printed in the folder hold-difference of the
-system's folder for passing files.
+usage: hold.py PROGRAM [COUNT] [SEED]      PROGRAM '-' runs no program and only counts the findings of the disks
+
+Stops at the first difference. It leaves the image, its map and both outputs in the folder hold-difference, in the system's
+folder for temporary files.
 """
 import os
 import random
@@ -42,7 +43,8 @@ class Made:
         return u[:14] + MAGIC if c.random() < .1 else u
 
     def chunk(self, e, b, u=None):
-        """Appends where it fits; sometimes at a page bound, sometimes two bytes over one with a new chunk from there."""
+        """Appends a chunk if it fits; sometimes at a page boundary. Sometimes a chunk ends two bytes past a boundary, and a new
+        one begins at the boundary."""
         c, w = self.c, self.w[e - 1]
         u = u or self.uuid()
         if c.random() < .1:
@@ -122,15 +124,15 @@ class Made:
             g = c.randrange(self.n * self.e); self.raw[g * self.p:(g + 1) * self.p] = bytes(self.p)
         if c.random() < .1:
             at = c.randrange(len(self.raw) - 3); self.raw[at:at + 2] = MAGIC
-        bad = [(c.randrange(self.e), c.randrange(self.n)) for _ in range(c.choice([0, 0, 0, 0, 0, 1, 1, 2, 4]))]
+        unreadable = [(c.randrange(self.e), c.randrange(self.n)) for _ in range(c.choice([0, 0, 0, 0, 0, 1, 1, 2, 4]))]
         if c.random() < .1:
-            bad.append((0, c.randrange(self.n)))
+            unreadable.append((0, c.randrange(self.n)))
         if c.random() < .05:
             del self.raw[c.randrange(len(self.raw)):]
-        return bad
+        return unreadable
 
     def record(self, ws, retired, runs):
-        """A record whose number of extents, and of retired ones, is sometimes another than it has."""
+        """A record. Sometimes it gives a wrong number of extents or of retired extents."""
         c = self.c
         generation, e = c.choice([1, 2, 2, 2 ** 64 - 1]), self.e if c.random() < .97 else self.e + 1
         count = None
@@ -140,7 +142,8 @@ class Made:
         return with_digest(record_head(self.p, self.n, e, len(runs), generation, count) + listed)
 
     def harm_records(self):
-        """A bit of a record, letters of a kind or stray bytes on a page of extent 0, and a record of other sizes."""
+        """Sometimes flips a bit of a record, writes a kind's letters or stray bytes on a page of extent 0, or adds a record of
+        other sizes."""
         c = self.c
         if self.records and c.random() < .3:
             begin, size = c.choice(self.records)
@@ -156,7 +159,7 @@ class Made:
                 self.raw[at:at + len(t)] = t
 
     def map(self):
-        """The bytes of a map, most of whose blocks could be read."""
+        """The bytes of a map. Most of its blocks are readable."""
         c, end = self.c, len(self.raw)
         harm = c.choice([0, 0, .02, .1])
         lines, place = ["# Mapfile. Created by GNU ddrescue version 1.27"] * c.choice([0, 1, 3]), 0
@@ -180,10 +183,10 @@ PARTS = ("extent", "offset", "length", "uuid", "digest")
 SCANS = ("scan", "index", "locators")
 
 
-def right_answers(made, bad, text, accepted):
-    """For each line of words the right status, output and error stream; and what the disk is, where its map isn't refused."""
+def right_answers(made, unreadable, text, accepted):
+    """For each command the right status, output and error stream. Also report, clean and answers, unless the map is refused."""
     options = geometry(made.p, made.n, made.e)
-    pairs = [f"{e}:{g}" for e, g in bad]
+    pairs = [f"{e}:{g}" for e, g in unreadable]
     accept = [word for kind in accepted for word in ("--accept", kind)]
     lines = {**{command: [command, *options] for command in (*SCANS, "superblocks")},
              "reclaimable": ["reclaimable", *options, *accept], "sizes": ["sizes"]}
@@ -192,22 +195,22 @@ def right_answers(made, bad, text, accepted):
         try:
             blocks = read_map(text)
         except MapFault as fault:
-            told = (2, b"", f"shardscrub: map refused: line {fault}\n".encode())
-            return [(words, [] if command == "sizes" else pairs, told) for command, words in lines.items()], None
+            refusal = (2, b"", f"shardscrub: map refused: line {fault}\n".encode())
+            return [(words, [] if command == "sizes" else pairs, refusal) for command, words in lines.items()], None
         lost = [divmod(q, made.n) for q in lost_by_map(blocks, made.p, made.n * made.e)]
-    image = Image(raw, made.p, made.n, made.e, bad + lost)
+    image = Image(raw, made.p, made.n, made.e, unreadable + lost)
     report, index, clean, named = scrub(image)
     answers = {"scan": (report_text(report), clean), "index": (index, clean), "locators": (named.encode(), clean)}
     for command, (printed, good) in (("superblocks", superblocks(image)), ("reclaimable", reclaimable(image, accepted)),
                                      ("sizes", sizes(raw, blocks))):
         answers[command] = printed.encode(), good
-    held = [(words, [] if command == "sizes" else pairs, (0 if answers[command][1] else 1, answers[command][0], b""))
-            for command, words in lines.items()]
-    return held, (report, clean, answers)
+    right = [(words, [] if command == "sizes" else pairs, (0 if answers[command][1] else 1, answers[command][0], b""))
+             for command, words in lines.items()]
+    return right, (report, clean, answers)
 
 
 def count(seen, report, clean, answers):
-    """Adds up which findings the disk has."""
+    """Counts the findings of the disk."""
     for key in ("broken", "candidates", "dangling", "doubtful", "hidden", "orphans", "shared", "twins"):
         seen[key] += bool(report[key])
     seen.update({x["reason"] for x in report["dangling"]} | {"run " + x["state"] for x in report["runs"]})
@@ -219,7 +222,7 @@ def count(seen, report, clean, answers):
     seen["keep"] += any(x["keep"] for x in report["candidates"])
     seen["tail"] += any(e["tail"] for e in report["extents"])
     seen["no superblock"] += report["super"]["page"] is None
-    seen["bad in 0"] += bool(report["super"]["bad"])
+    seen["unreadable in 0"] += bool(report["super"]["bad"])
     words = {command: [line.split() for line in answers[command][0].decode().splitlines()] for command in
              ("superblocks", "reclaimable", "sizes")}
     seen.update({f"superblocks: {w[0]}" + (f" {w[-1]}" if w[0] == "record" else "") for w in words["superblocks"]})
@@ -232,26 +235,26 @@ def count(seen, report, clean, answers):
 
 def leave(made, text, right, printed):
     os.makedirs(DIFFERENCE, exist_ok=True)
-    for name, content in (("image", made.raw), ("map", text), ("right", right), ("told", printed)):
+    for name, content in (("image", made.raw), ("map", text), ("right", right), ("printed", printed)):
         if content is not None:
             with open(f"{DIFFERENCE}/{name}", "wb") as file:
                 file.write(content)
 
 
-def is_held(program, room, made, text, held):
-    """Whether the program says the same of this disk; what differs is printed and left behind."""
+def is_same(program, room, made, text, answers):
+    """Whether the program gives the right answers on this disk. A difference is printed and left in the folder."""
     for name, content in (("image", made.raw), ("map", text)):
         if content is not None:
             with open(f"{room}/{name}", "wb") as file:
                 file.write(content)
-    for words, pairs, right in held:
+    for words, pairs, right in answers:
         line = [*words, *(["--map", f"{room}/map"] if text is not None else []), f"{room}/image", *pairs]
         done = subprocess.run([program, *line], stdin=subprocess.DEVNULL, capture_output=True)
         if (done.returncode, done.stdout, done.stderr) != right:
             leave(made, text, right[1], done.stdout)
             print(f"{words[0]} differs: status {done.returncode}, right {right[0]}")
             print(f"error stream {done.stderr!r}, right {right[2]!r}")
-            print("words:", " ".join(line).replace(room, DIFFERENCE))
+            print("arguments:", " ".join(line).replace(room, DIFFERENCE))
             return False
     return True
 
@@ -263,16 +266,16 @@ def main():
         for turn in range(turns):
             c = random.Random(seed * 1_000_003 + turn)
             made = Made(c)
-            bad = made.make()
+            unreadable = made.make()
             text = made.map() if c.random() < .5 else None
             accepted = [kind for kind in ACCEPTABLE if c.random() < .5] if c.random() < .7 else []
-            held, disk = right_answers(made, bad, text, accepted)
+            answers, disk = right_answers(made, unreadable, text, accepted)
             seen["map"] += text is not None
             if disk is None:
                 seen["map refused"] += 1
             else:
                 count(seen, *disk)
-            if program != "-" and not is_held(program, room, made, text, held):
+            if program != "-" and not is_same(program, room, made, text, answers):
                 print(f"turn {turn}")
                 return 1
     print(f"{turns} disks, all the same" if program != "-" else f"{turns} disks", dict(sorted(seen.items())))

@@ -1,43 +1,41 @@
 #!/usr/bin/env python3
-"""Measures `shardscrub scan` on disks that are made to cost much, each beside one clean extent of the same size, and
-`shardscrub sizes` on files that are. It is no part of the gate.
+"""Measures `shardscrub scan` on disks that are made to cost much, each compared with a clean extent of the same size, and
+`shardscrub sizes` on such files. The gate doesn't run this.
 
 usage: bench/hostile.py [--turns COUNT] [--sizes] [PROGRAM]      (default: 3, the program of ./shardscrub)
 
 With --sizes only the files for `sizes` are measured.
 
-First one extent of 64 MiB, in pages of 1,024 bytes: the smallest that make an extent of that size, so that it has the most
-pages. Each of its 65,536 pages begins with a head that claims a chunk up to the write pointer. A scanner that hashed what
-each head claims would hash 2 TiB.
+The first disks have an extent of 64 MiB in pages of 1,024 bytes. Smaller pages can't make an extent of that size, so it has the
+most pages. Each of its 65,536 pages begins with a head that claims a chunk up to the write pointer. A scanner that hashed each
+claimed chunk would hash 2 TiB.
 
 no far end             the extent ends with the UUID of no head;
-one far end            it ends with the UUID that all heads have, so the first head's chunk stands, and takes all;
-a page before it lost  the same, and the page before the last can't be read, so no chunk before it stands;
-two pages lost         the same, and a page in the middle can't be read either.
+one far end            it ends with the UUID of all heads, so the first head's chunk is whole, and takes the whole extent;
+a page before it lost  the same, and the page before the last is unreadable, so no chunk before it is whole;
+two pages lost         the same, and a page in the middle is unreadable too.
 
-Then heads of sealed chunks, all with the UUID and closing mark that the extent ends with, and with digests that aren't
-their payloads'. Whether such a chunk stands is known once its payload is hashed, so each head costs a hashing of all that is
-behind it: that is the price of the form, and it grows with the square of the number of pages. So these extents have 2 and
-4 MiB alone, in pages of 4,096 bytes: an extent of 64 MiB would take 256 times as long as the one of 4 MiB.
+The next disks have heads of sealed chunks. All heads have the UUID at the end of the extent, which has a closing mark too, and
+all digests are wrong. Only hashing its payload shows whether such a chunk is whole. So for each head everything after it is
+hashed: that is the price of the sealed form. It grows with the square of the number of pages, so these extents have only 2 and
+4 MiB, in pages of 4,096 bytes. An extent of 64 MiB would take 256 times as long as one of 4 MiB.
 
-At last extents of 8 MiB in pages of 4,096 bytes, with a chunk of 4 MB in whose payload other chunks begin, which are no
-items: an index run names one of them 6,400 times, or 200 of them 32 times each. Each place costs a hashing.
+The last disks have extents of 8 MiB in pages of 4,096 bytes. In the payload of a chunk of 4 MB begin other chunks, which are no
+items. An index run names one of them 6,400 times, or 200 of them 32 times each. Each place is hashed.
 
-For `sizes`, files of 64 MiB, beside one with one superblock and zeros:
+The files for `sizes` have 64 MiB. One of them has a superblock and zeros, for comparison:
 
-forged records   the most bytes to be hashed. The head of a record stands wherever one may begin: at each multiple of 64 in
-                 the first 4 MiB, and then at each of 128, of 256, of 512 and of 1,024, since the page size grows with the
-                 extent. All fields are right, and no digest is. The letters of a head are neither a write pointer nor the
-                 number of an extent, so a record's pointers and retired extents end where the next head begins; its 32
-                 locators and its digest lie over the heads behind it. A record takes up to the next head and 1,952 bytes
-                 more: 196,573 records and 415 MiB.
-forged pointers  heads at the same places, each of which claims as many extents as its place allows, by powers of two. The
-                 first wrong pointer is the next head. Where the pointers end before it, the record has to be hashed.
+forged records   the most bytes to hash. The head of a record is wherever one may begin: at each multiple of 64 in the first
+                 4 MiB, and then of 128, 256, 512 and 1,024, since the page size grows with the extent. All fields are right,
+                 and all digests are wrong. The letters of a head are neither a write pointer nor the number of an extent, so
+                 the pointers and retired extents of a record end at the next head. Its 32 locators and its digest overlap
+                 the heads after it. A record reaches to the next head and 1,952 bytes more: 196,573 records and 415 MiB.
+forged pointers  heads at the same places. Each claims as many extents as its place allows, by powers of two. The first wrong
+                 pointer is the next head. If the pointers end before it, the record has to be hashed.
 
-The scans are by no worker beside the main thread, and images of one size go by turns. What is printed is a table of the
-least time that each took and of the most memory. To be hashed are the payloads of the chunks that stand, of those that an
-index run names, and of those that a sealed head claims. Exit status: 0 where all answers are right, 1 where one is wrong, 2
-where nothing can be measured.
+The scans have no workers, and images of one size run in turn. A table shows the least time and the most memory of each. The
+bytes to hash are the payloads of whole chunks, of those that an index run names, and of those that a sealed head claims. Exit
+status: 0 if all answers are right, 1 if one is wrong, 2 if nothing can be measured.
 """
 import argparse
 import os
@@ -61,7 +59,7 @@ PAGES = 1 << 16
 
 
 def clean(file, page, pages):
-    """Full of chunks of 64 KiB to 1 MiB, none of which is named: all of it may be reclaimed."""
+    """An extent full of chunks of 64 KiB to 1 MiB. None is named, so all of it may be reclaimed."""
     disk = DiskFile(file, page, pages, 2)
     disk.fill(1, LEAST_LARGE, MOST_LARGE)
     disk.put_superblock([])
@@ -69,9 +67,9 @@ def clean(file, page, pages):
 
 
 def plain_heads(file, page, pages, end, lost):
-    """Each page begins with a head that claims a chunk up to the write pointer, and the extent ends with these bytes.
+    """Each page begins with a head that claims a chunk up to the write pointer. The extent ends with the bytes `end`.
 
-    The filler isn't zero and has no magic. No lost page is the last.
+    The filler isn't zero and has no magic. The last page is never lost.
     """
     disk = DiskFile(file, page, pages, 2)
     disk.next_extent()
@@ -82,7 +80,7 @@ def plain_heads(file, page, pages, end, lost):
     disk.file.write(end)
     disk.pointers[-1] = disk.extent_bytes
     disk.put_superblock([])
-    # Where the far end is the heads', the first chunk that no lost page breaks off stands, and takes all that is behind it.
+    # If the far end is the heads', the first chunk without a lost page is whole, and takes all bytes after it.
     chunks = int(end == ALL_HEADS)
     before = max(lost, default=-1) + 1 if chunks else pages
     disk.hashed += chunks * (disk.extent_bytes - before * page - ROUND_PAYLOAD)
@@ -91,7 +89,7 @@ def plain_heads(file, page, pages, end, lost):
 
 
 def sealed_heads(file, page, pages):
-    """Each page begins with the head of a sealed chunk up to the write pointer, whose far end agrees, and no digest does."""
+    """Each page begins with the head of a sealed chunk up to the write pointer. Its far end is right, its digest is wrong."""
     disk = DiskFile(file, page, pages, 2)
     disk.next_extent()
     for number in range(pages):
@@ -107,7 +105,7 @@ def sealed_heads(file, page, pages):
 
 
 def hidden_places(file, page, pages, count, times):
-    """A chunk, in whose payload a chunk begins, in whose payload one begins, and so on. All but the first are named."""
+    """A chunk, with a chunk in its payload, with a chunk in that one's payload, and so on. All but the first are named."""
     disk = DiskFile(file, page, pages, 3)
     disk.next_extent()
     payload, locators = disk.chance.randbytes(4_000_000), []
@@ -123,7 +121,7 @@ def hidden_places(file, page, pages, count, times):
 
 
 def places():
-    """Where a record may begin, by rising offset, each with the least page size whose extents reach behind it."""
+    """Yields the rising offsets where a record may begin, each with the least page size whose extents reach past it."""
     page = 64
     for offset in range(0, FIRST, 64):
         while offset + RECORD_HEAD + MOST_RUN_BYTES + DIGEST > page * MOST_PAGES and page < KIB:
@@ -133,16 +131,16 @@ def places():
 
 
 def forged_records(file):
-    """Wherever a record may begin, the longest one whose fields are right. Returns how many bytes they make one hash."""
+    """Writes the longest record with right fields wherever one may begin. Returns how many bytes have to be hashed for them."""
     found = list(places())
     hashed = 0
-    for (offset, page), (behind, _) in zip(found, [*found[1:], (FIRST, None)]):
-        words = (behind - offset - RECORD_HEAD) // 4
-        least = behind + MOST_RUN_BYTES + DIGEST
+    for (offset, page), (after, _) in zip(found, [*found[1:], (FIRST, None)]):
+        words = (after - offset - RECORD_HEAD) // 4
+        least = after + MOST_RUN_BYTES + DIGEST
         pages = -(-least // page)
         if pages > MOST_PAGES:
             continue
-        # Half of the words are pointers and half are retired extents, so that no more extents are needed than there may be.
+        # Half of the words are pointers and half are retired extents. Only pointers would need too many extents.
         extents = min((words + 1) // 2, (1 << 32) // (page * pages) - 1) + 1
         retired = min(words - (extents - 1), extents - 1)
         file.seek(offset)
@@ -152,10 +150,10 @@ def forged_records(file):
 
 
 def forged_pointers(file):
-    """Wherever a record may begin, a head that claims as many extents as there may be. Returns what has to be hashed."""
+    """Writes a head with as many extents as possible wherever a record may begin. Returns how many bytes have to be hashed."""
     found = list(places())
     hashed = 0
-    for (offset, page), (behind, _) in zip(found, [*found[1:], (FIRST, None)]):
+    for (offset, page), (after, _) in zip(found, [*found[1:], (FIRST, None)]):
         extents = 1 << 15
         while extents > 2:
             least = offset + RECORD_HEAD + 4 * (extents - 1) + DIGEST
@@ -165,7 +163,7 @@ def forged_pointers(file):
             extents //= 2
         file.seek(offset)
         file.write(record_head(page, pages, extents, 0, retired=0))
-        if least - DIGEST <= behind and least <= FIRST:
+        if least - DIGEST <= after and least <= FIRST:
             hashed += least - DIGEST - offset
     return hashed
 
@@ -176,7 +174,7 @@ def one_record(file):
     return len(text) - DIGEST
 
 
-# The files for `sizes`, with what is right: status and output.
+# The files for `sizes`, each with the right status and output.
 FILES = (
     ("one record", one_record, (0, b"0 SSB2 1 1024 65536 2\n")),
     ("forged records", forged_records, (1, b"")),
@@ -185,7 +183,7 @@ FILES = (
 
 
 def make_file(path, kind):
-    """Makes such a file of 64 MiB there, and returns how many of its bytes have to be hashed."""
+    """Makes a file of 64 MiB of this kind, and returns how many of its bytes have to be hashed."""
     with open(path, "w+b") as file:
         file.truncate(FIRST)
         hashed = kind(file)
@@ -203,7 +201,7 @@ def compare_sizes(program, room, turns):
         for _ in range(turns):
             runs.append(measured([program, "sizes", path], answer))
             if (runs[-1].status, Path(answer).read_bytes()) != right:
-                print(f"{name}: no right answer, status {runs[-1].status}")
+                print(f"{name}: wrong answer, status {runs[-1].status}")
                 return False
             hashes.append(measured(["sha256sum", path], answer))
         seconds, processor, memory = taken(runs)
@@ -213,7 +211,7 @@ def compare_sizes(program, room, turns):
     return True
 
 
-# For each size of page and number of pages, what is measured beside a clean extent of that size.
+# For each page size and number of pages, the disks that are compared with a clean extent of that size.
 GROUPS = (
     (KIB, PAGES, {
         "no far end": (plain_heads, NO_HEAD, []),
@@ -239,12 +237,12 @@ def compare(program, room, page, pages, hostile, turns):
     runs, items = {name: [] for name in images}, {}
     for turn in range(turns):
         for name, (path, made) in images.items():
-            words = [program, "scan", "--workers", "0", *made["sizes"], path, *made["bad"]]
+            words = [program, "scan", "--workers", "0", *made["sizes"], path, *made["unreadable"]]
             runs[name].append(measured(words, f"{room}/answer"))
             if turn == 0:
                 items[name] = is_right(name, made, f"{room}/answer", runs[name][0].status)
             if items[name] is None or runs[name][-1].status != made["right"]["status"]:
-                print(f"{name}: no right answer, status {runs[name][-1].status}")
+                print(f"{name}: wrong answer, status {runs[name][-1].status}")
                 return False
     for name, (path, made) in images.items():
         seconds, processor, memory = taken(runs[name])
@@ -257,7 +255,7 @@ def compare(program, room, page, pages, hostile, turns):
 def main(words):
     parser = argparse.ArgumentParser(description="Measures `shardscrub` on disks and files that are made to cost much.")
     parser.add_argument("--turns", type=int, default=3, help="how often each is run")
-    parser.add_argument("--sizes", action="store_true", help="measure `sizes` alone")
+    parser.add_argument("--sizes", action="store_true", help="measure only `sizes`")
     parser.add_argument("program", nargs="?", type=Path)
     given = parser.parse_args(words)
     if given.turns < 1:

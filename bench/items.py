@@ -1,11 +1,11 @@
 #!/usr/bin/env python3
-"""Measures `shardscrub items` beside `sha256sum` on two images of 128 MiB. It is no part of the gate.
+"""Measures `shardscrub items` and `sha256sum` on two images of 128 MiB. The gate doesn't run this.
 
 usage: bench/items.py [PROGRAM]      (default: the program of ./shardscrub)
 
-Both read the same file by turns, five times each. The program hashes the payloads, which are at most half of the file,
-and sha256sum hashes all of it. Exit status: 0 where all is within what is wanted, 1 where something is beyond it or the
-program's answer is wrong, 2 where nothing can be measured.
+Both read the same file in turn, five times each. The program hashes the payloads, which are at most half of the file;
+sha256sum hashes the whole file. Exit status: 0 if time and memory are within the limits, 1 if one isn't or an answer is wrong,
+2 if nothing can be measured.
 """
 import os
 import random
@@ -29,7 +29,7 @@ MOST_MEMORY = 1.7
 
 
 def frames_end_to_end():
-    """Yields an extent full of frames of 65,536 bytes, of random payloads that are the same each time."""
+    """Yields an extent full of frames of 65,536 bytes. Their payloads are random, and the same each time."""
     chance = random.Random(1)
     for _ in range(EXTENT // FRAME):
         yield frame(chance.randbytes(16), chance.randbytes(FRAME - ROUND_PAYLOAD))
@@ -38,9 +38,9 @@ def frames_end_to_end():
 def heads_without_frames():
     """Yields the pages of an extent, each with a head that claims a frame up to the write pointer.
 
-    The extent's last 16 bytes are the UUID of no head, so no frame stands and every page is torn. A scanner that walked
-    or hashed what each head claims would read the extent 8,192 times over. The filler isn't zero, so that no part of a
-    page could pass for padding, and has no magic in it.
+    The extent's last 16 bytes are the UUID of no head, so there is no frame, and every page is torn. A scanner that read or
+    hashed what each head claims would read the extent 8,192 times. The filler isn't zero, so no part of a page looks like
+    padding, and it has no magic.
     """
     for page in range(PAGES):
         begun = head(page.to_bytes(16, "big"), EXTENT - page * PAGE - ROUND_PAYLOAD)
@@ -48,7 +48,7 @@ def heads_without_frames():
         yield begun + b"x" * (PAGE - len(begun) - len(end)) + end
 
 
-# What it holds, its pieces, the most of sha256sum's time that is wanted, and the right answer: status and items.
+# For each image: its name, its pieces, the limit as a share of sha256sum's time, and the right answer: status and items.
 CASES = (
     ("frames end to end", frames_end_to_end, 0.95, (0, {"chunk": EXTENT // FRAME})),
     ("heads without frames", heads_without_frames, 0.5, (1, {"torn": PAGES})),
@@ -56,7 +56,8 @@ CASES = (
 
 
 def write_image(path, pieces):
-    """Extent 0 is zero, extent 1 is the pieces. By pieces, since a child's peak memory counts what its parent had."""
+    """Writes zeros as extent 0 and the pieces as extent 1. The image is never whole in memory, since a child's peak memory
+    includes its parent's."""
     with open(path, "wb") as file:
         for _ in range(PAGES):
             file.write(bytes(PAGE))
@@ -68,7 +69,7 @@ def write_image(path, pieces):
 
 
 def compare(program, room, name, pieces, most_time, right):
-    """Prints one image's figures, and returns whether they are within what is wanted."""
+    """Prints the figures of an image, and returns whether they are within the limits."""
     image, answer = f"{room}/image", f"{room}/answer"
     write_image(image, pieces())
     ours, theirs, peak = [], [], 0
@@ -84,8 +85,8 @@ def compare(program, room, name, pieces, most_time, right):
         theirs.append(measured(["sha256sum", image], answer).seconds)
     our, their = statistics.median(ours), statistics.median(theirs)
     print(f"{name}: medians of {TURNS}: shardscrub {our:.3f} s, sha256sum {their:.3f} s")
-    print(f"    time   {our / their:.2f} of sha256sum's, wanted at most {most_time}")
-    print(f"    memory {peak / IMAGE:.2f} of the image's size, wanted at most {MOST_MEMORY}", flush=True)
+    print(f"    time   {our / their:.2f} of sha256sum's, at most {most_time} is right")
+    print(f"    memory {peak / IMAGE:.2f} of the image's size, at most {MOST_MEMORY} is right", flush=True)
     return our <= most_time * their and peak <= MOST_MEMORY * IMAGE
 
 

@@ -1,15 +1,15 @@
 #!/usr/bin/env python3
-"""Refuses each allocation of the program in turn, and looks at what it answers. `./check` runs it.
+"""Refuses each allocation of the program in turn, and checks the answers. `./check` runs it.
 
 usage: bench/refuse.py [PROGRAM]    (default: the program of ./shardscrub)
 
-For each line of words below the program is run with its first allocation refused, then with its second, and so on until
-a run meets no refusal; then the same with all later allocations refused too. Each run has to end with status 4, nothing
-on the output and the text for want of memory on the error stream, or with the right answer whole; and so only where later
-allocations aren't refused, since some refused requests are made once more. The run that meets no refusal has to end with
-the right answer. The refusals come of the library of C of `allocations.py`. Prints a line for each line of words and each of
-the two ways; the last line is 'N passed, M failed'. Exit status: 0 where each answer was such, 1 where one wasn't, 2 where
-`cc` can't make the library.
+For each command line below, the program runs with its first allocation refused, then with its second, and so on until a run
+meets no refusal. Then the same again, with all later allocations refused too. The run without a refusal has to give the right
+answer. Every other run has to end out of memory: with status 4, no output and the error message for it. If later allocations
+aren't refused, the whole right answer is right too, since some refused requests are repeated.
+
+The C library of `allocations.py` refuses. Prints a line for each command line and each of the two ways; the last line is
+'N passed, M failed'. Exit status: 0 if all passed, 1 if one failed, 2 if `cc` can't make the library.
 """
 import sys
 import tempfile
@@ -23,7 +23,7 @@ SMALL = "--page 64 --pages 4 --extents 3 examples/one-shard.img"
 SEVERAL = "--page 64 --pages 16 --extents 5 examples/several-findings.img 3:1"
 RECLAIMED = "--page 64 --pages 8 --extents 5 examples/reclaimed-before.img"
 RESCUED = "--page 512 --pages 4 --extents 4 --map examples/rescued.map examples/rescued.img"
-WORDS = [
+COMMAND_LINES = [
     "",
     f"scan {SMALL}",
     f"scan --workers 0 {SMALL}",
@@ -55,7 +55,7 @@ def main():
     passed = failed = 0
     with tempfile.TemporaryDirectory() as folder:
         library = made(folder)
-        for words in WORDS:
+        for words in COMMAND_LINES:
             whole, _ = refusing(program, words, library, 0)
             for all_later in [False, True]:
                 counts, refused = Counter(), 0

@@ -1,33 +1,33 @@
 #!/usr/bin/env python3
-"""Measures `shardscrub scan` beside `sha256sum` on several kinds of disk. It is no part of the gate.
+"""Measures `shardscrub scan` and `sha256sum` on several kinds of disk. The gate doesn't run this.
 
 usage: bench/scan.py [--mib SIZE] [--turns COUNT] [--workers N,..] [--only NAME]... [PROGRAM]...
            (default: 512, 3, 0,1,3, all disks, the program of ./shardscrub)
        bench/scan.py [--mib SIZE] --make FOLDER
-           makes the images alone, and prints the words for each
+           only makes the images, and prints the arguments for each
 
-The disks, each of SIZE MiB where nothing else is said; all payloads are random:
+The disks, each of SIZE MiB unless its line says otherwise. All payloads are random:
 
 large          payloads of 64 KiB to 1 MiB in extents of 4 MiB, a superblock, and four runs that name each chunk once;
 half-sealed    the same, and every second chunk is sealed;
 middle         the same with payloads of 500 to 4,000 bytes, and a run for each 64 MiB;
 small          payloads of 100 bytes in extents of 8 MiB, shards of one chunk with random identifiers, and as many runs as
-               it takes. The runs take 77 bytes for each chunk of 138, so 512 MiB have 2.4 million chunks;
-small-quarter  the same on a quarter of SIZE, to see how time grows;
-small-extents  65,536 extents of 4 pages of 64 bytes, full of chunks of which nobody knows, since there is no superblock;
-damage         payloads of 64 KiB to 1 MiB that fill pages of 64 KiB, no superblock, every tenth chunk spoilt in its last
-               byte, every 50th page named as unreadable;
-zeros          a disk that was never written to: all zero, without a superblock;
-unwritten      all zero but for a superblock, whose write pointers are all 0.
+               needed. The runs take 77 bytes for each chunk of 138, so 512 MiB have 2.4 million chunks;
+small-quarter  the same on a quarter of SIZE, to show how time grows;
+small-extents  65,536 extents of 4 pages of 64 bytes, full of chunks without an owner, since there is no superblock;
+damage         payloads of 64 KiB to 1 MiB that fill pages of 64 KiB, no superblock; every tenth chunk has a wrong last byte,
+               and every 50th page is unreadable;
+zeros          a disk that was never written: all zero, without a superblock;
+unwritten      all zero except for a superblock, whose write pointers are all 0.
 
-All programs read the same file by turns, and the scan with each of the numbers of workers. What is printed is a table of
-the least time that each took and of the most memory. sha256sum hashes the whole file, and its time is told for as many bytes
-as the scan has to hash: the payload of each chunk, and of the superblock and of each run once more the bytes that its own
-digest is for. Loading is `items` of an extent under the write pointer 0, which prints nothing.
+All programs read the same file in turn; the scan runs with each number of workers. A table shows the least time and the most
+memory of each. sha256sum hashes the whole file; its time is scaled to the bytes that the scan has to hash: the payload of each
+chunk, and once more the bytes under the own digest of the superblock and of each run. Loading is `items` of an extent with the
+write pointer 0, which prints nothing.
 
-What is wanted, and not owed: of sha256sum's time for each hashed byte at most 1.2 on large chunks, and on small ones 2 by no
-workers and less by 3; zeros at the speed of loading; beside the image at most 400 bytes an item. Exit status: 0 where all
-answers are right, 1 where one is wrong, 2 where nothing can be measured.
+The goals, which are no promises: per hashed byte at most 1.2 of sha256sum's time on large chunks; on small ones 2 without
+workers and less with 3; zeros at the speed of loading; at most 400 bytes an item besides the image. Exit status: 0 if all
+answers are right, 1 if one is wrong, 2 if nothing can be measured.
 """
 import argparse
 import os
@@ -46,7 +46,7 @@ ENTRY = 17 + 60  # bytes that a shard of one chunk takes in a run
 
 
 def named(file, mib, extent_mib, runs, least, most, shard=8, half_sealed=False):
-    """A clean disk full of chunks, each of which is named once."""
+    """A clean disk full of chunks. Each chunk is named once."""
     disk = DiskFile(file, 4 * KIB, extent_mib * MIB // (4 * KIB), mib // extent_mib)
     locators = disk.fill(disk.extents - 1 - runs, least, most, half_sealed)
     listed, shards = disk.put_runs(locators, runs, shard)
@@ -86,8 +86,8 @@ def small_extents(file, _):
 
 def damage(file, mib):
     disk = DiskFile(file, 64 * KIB, 64, mib // 4)
-    bad = [divmod(page, disk.pages) for page in range(49, disk.pages * disk.extents, 50)]
-    standing, hashed = 0, 0
+    unreadable = [divmod(page, disk.pages) for page in range(49, disk.pages * disk.extents, 50)]
+    whole, hashed = 0, 0
     for extent in range(1, disk.extents):
         disk.next_extent()
         while pages := (disk.extent_bytes - disk.offset) // disk.page:
@@ -100,14 +100,14 @@ def damage(file, mib):
                 last = disk.file.read(1)[0]
                 disk.file.seek(-1, os.SEEK_CUR)
                 disk.file.write(bytes([last ^ 1]))
-            touched = any(e == extent and begun <= page * disk.page < disk.offset for e, page in bad)
+            touched = any(e == extent and begun <= page * disk.page < disk.offset for e, page in unreadable)
             if not (spoilt or touched):
-                standing += 1
+                whole += 1
                 hashed += size - ROUND_PAYLOAD
     disk.hashed = hashed
-    lost = sum(extent > 0 for extent, _ in bad)
-    made = disk.made(bad, status=1, clean=False, chunk=standing, orphans=standing, live=0, lost=lost)
-    # What a chunk that doesn't stand leaves behind its first page is as its random bytes happen to be.
+    lost = sum(extent > 0 for extent, _ in unreadable)
+    made = disk.made(unreadable, status=1, clean=False, chunk=whole, orphans=whole, live=0, lost=lost)
+    # The items after the first page of a broken chunk depend on its random bytes.
     del made["right"]["torn"], made["right"]["noise"]
     return made
 
@@ -131,7 +131,7 @@ def name_of(kind):
 
 
 def compare(programs, room, kind, mib, turns, workers):
-    """Prints one image's rows of the table, and returns whether all answers are right."""
+    """Prints the rows of an image, and returns whether all answers are right."""
     name, image, answer = name_of(kind), f"{room}/image", f"{room}/answer"
     made = apart(make_image, image, kind, mib)
     scans, loads, hashes, items = {(p, n): [] for p in programs for n in workers}, [], [], 0
@@ -139,11 +139,11 @@ def compare(programs, room, kind, mib, turns, workers):
         hashes.append(measured(["sha256sum", image], answer))
         loads.append(measured([programs[0], "items", *made["sizes"], "--extent", "1", "--pointer", "0", image], answer))
         for (program, n), runs in scans.items():
-            runs.append(measured([program, "scan", "--workers", str(n), *made["sizes"], image, *made["bad"]], answer))
+            runs.append(measured([program, "scan", "--workers", str(n), *made["sizes"], image, *made["unreadable"]], answer))
             if turn == 0:
-                items = is_right(f"{name}, {program} by {n} workers", made, answer, runs[0].status)
+                items = is_right(f"{name}, {program} with {n} workers", made, answer, runs[0].status)
             if items is None or runs[-1].status != made["right"]["status"]:
-                print(f"{name}: no right answer of {program} by {n} workers, status {runs[-1].status}")
+                print(f"{name}: wrong answer of {program} with {n} workers, status {runs[-1].status}")
                 return False
     theirs = taken(hashes)[0] * made["hashed"] / made["bytes"]
     for (program, n), runs in scans.items():
@@ -156,7 +156,7 @@ def compare(programs, room, kind, mib, turns, workers):
 
 
 def numbers(word):
-    """The numbers of workers that a word lists."""
+    """The numbers of workers in an argument."""
     found = [int(part) for part in word.split(",")]
     if any(not 0 <= n <= 64 for n in found) or len(set(found)) < len(found):
         raise ValueError
@@ -164,12 +164,12 @@ def numbers(word):
 
 
 def main(words):
-    parser = argparse.ArgumentParser(description="Measures `shardscrub scan` beside `sha256sum`.")
+    parser = argparse.ArgumentParser(description="Measures `shardscrub scan` and `sha256sum`.")
     parser.add_argument("--mib", type=int, default=512, help="size of the images: a multiple of 32 from 128 to 704")
     parser.add_argument("--turns", type=int, default=3, help="how often each program runs")
     parser.add_argument("--workers", type=numbers, default=[0, 1, 3], metavar="N,..", help="how many workers: each 0 to 64")
-    parser.add_argument("--only", action="append", choices=[name_of(kind) for kind in DISKS], help="this disk, and no other")
-    parser.add_argument("--make", metavar="FOLDER", help="make the images there, and measure nothing")
+    parser.add_argument("--only", action="append", choices=[name_of(kind) for kind in DISKS], help="only this disk")
+    parser.add_argument("--make", metavar="FOLDER", help="make the images in this folder, and measure nothing")
     parser.add_argument("program", nargs="*", type=Path)
     given = parser.parse_args(words)
     if not 128 <= given.mib <= 704 or given.mib % 32 or given.turns < 1:
@@ -179,7 +179,7 @@ def main(words):
         for kind in disks:
             path = f"{given.make}/{name_of(kind)}.img"
             made = apart(make_image, path, kind, given.mib)
-            print(" ".join(["scan", *made["sizes"], path, *made["bad"]]), flush=True)
+            print(" ".join(["scan", *made["sizes"], path, *made["unreadable"]]), flush=True)
         return 0
     programs = [program.resolve() for program in given.program or [default()]]
     if not can_measure(programs, ["sha256sum"]):

@@ -1,13 +1,12 @@
 #!/usr/bin/env python3
-"""Looks at what the built program does with the system: files of all kinds, block devices, maps, words, both streams, the
-calls that it makes, and the threads that it starts. `./check` runs it.
+"""Checks what the built program does with the system: files of all kinds, block devices, maps, arguments, both streams, system
+calls and threads. `./check` runs it.
 
 usage: bench/system.py [PROGRAM]    (default: the program of ./shardscrub)
 
-No contract can say what a file gives or what a stream takes, so each check here is of something that a proof can't see.
-Answers on images are those of reference.py. What needs `strace`, or a loop device, is left out where there is none, and a line
-says so. Prints a line for each check that fails; the last line is 'N passed, M failed'. Exit status: 0 where all passed,
-else 1.
+No contract can say what a file gives or what a stream takes, so no proof can replace these checks. Answers on images have to be
+those of reference.py. Checks that need `strace` or a loop device are left out if there is none, and a line says so. Prints a
+line for each check that fails; the last line is 'N passed, M failed'. Exit status: 0 if all passed, else 1.
 """
 import os
 import random
@@ -36,7 +35,7 @@ counts = {True: 0, False: 0}
 
 
 def answer(*words, **more):
-    """The status and both outputs of a run; None where it doesn't end."""
+    """The status and both outputs of a run; None if it doesn't end."""
     given = {"stdin": subprocess.DEVNULL, "capture_output": True, "timeout": SECONDS, **more}
     try:
         run = subprocess.run([PROGRAM, *words], **given)
@@ -52,7 +51,7 @@ def check(what, found, wanted):
 
 
 def written(room, name, parts, size):
-    """A sparse file of so many bytes, with parts at their places."""
+    """A sparse file of `size` bytes, with parts at their places."""
     path = os.path.join(room, name)
     with open(path, "wb") as file:
         file.truncate(size)
@@ -63,7 +62,7 @@ def written(room, name, parts, size):
 
 
 def items_of(raw, p, n, e, extent, pointer):
-    """The status of `items`, and its lines, by the reference."""
+    """The answer of `items` by the reference."""
     items = tile(Image(raw, p, n, e, []), extent, pointer)
     unclean = any(item[0] in ("torn", "noise", "lost") for item in items)
     return int(unclean), "".join(item_line(item) + "\n" for item in items).encode(), b""
@@ -75,33 +74,33 @@ def listed(lines, good):
 
 
 def sizes_of(path, blocks=None):
-    """The answer of `sizes` by the reference, which needs no more than the first 64 MiB."""
+    """The answer of `sizes` by the reference. It needs only the first 64 MiB."""
     with open(path, "rb") as file:
         return listed(*reference.sizes(file.read(1 << 26), blocks))
 
 
 def check_scan(what, path, p, n, e, workers=(0, 1, 3, 64)):
-    """Compares all answers on a disk with those of the reference, those of scans by several numbers of workers."""
+    """Compares all answers on a disk with those of the reference. Scans run with several numbers of workers."""
     image = Image(Path(path).read_bytes(), p, n, e, [])
     report, index, clean, lines = scrub(image)
     status = 0 if clean else 1
     right = listed(*reclaimable(image, ["tail"]))
     for number in workers:
         found = answer("reclaimable", "--accept", "tail", *geometry(p, n, e), "--workers", str(number), path)
-        check(f"{what}, what may be reclaimed, by {number} workers", found, right)
+        check(f"{what}, what may be reclaimed, with {number} workers", found, right)
     check(f"{what}, superblocks", answer("superblocks", *geometry(p, n, e), path), listed(*superblocks(image)))
     check(f"{what}, sizes", answer("sizes", path), sizes_of(path))
     for number in workers:
         found = answer("scan", *geometry(p, n, e), "--workers", str(number), path)
-        check(f"{what}, scan by {number} workers", found, (status, report_text(report), b""))
+        check(f"{what}, scan with {number} workers", found, (status, report_text(report), b""))
     check(f"{what}, index", answer("index", *geometry(p, n, e), path), (status, index, b""))
     check(f"{what}, locators", answer("locators", *geometry(p, n, e), path), (status, lines.encode(), b""))
 
 
-# What a file gives
+# What the program reads from a file
 
 def large_pages(room):
-    """Pages of 65,536 bytes, 4 MiB, and a chunk near the end: nothing is read from the front in its place."""
+    """Pages of 65,536 bytes, 4 MiB, and a chunk near the end. It is read from its place, not from the front."""
     p, n, e = 65536, 16, 4
     payload = random.Random(1).randbytes(70_000)
     chunk = frame(uuid(0x33), payload)
@@ -114,41 +113,41 @@ def large_pages(room):
 
 
 def four_gibibytes(room):
-    """The largest disk: its last extent is read from its place, and a byte behind it is met at 2^32."""
+    """The largest disk. Its last extent is read from its place, and a byte at 2^32 makes the image too long."""
     p, n, e = 65536, 1024, 64
     chunk = frame(uuid(0x44), b"abc")
     path = written(room, "largest", [((e - 1) * p * n, chunk)], p * n * e)
     words = ["items", *geometry(p, n, e), "--extent", str(e - 1), "--pointer", "41", path]
     check("the last extent of 4 GiB", answer(*words), (0, b"chunk 0 41 44444444-4444-4444-4444-444444444444 3\n", b""))
     os.truncate(path, p * n * e + 1)
-    check("a byte behind 4 GiB", answer(*words), (3, b"", b"shardscrub: image too long\n"))
+    check("a byte past 4 GiB", answer(*words), (3, b"", b"shardscrub: image too long\n"))
     os.remove(path)
 
 
 def failing_reads():
-    """A file that opens and whose reads fail: what can't be read is lost, and never zeros."""
+    """A file that opens, but its reads fail. Its bytes are lost, never zeros."""
     words = ["items", *SMALL, "--extent", "1", "/proc/self/mem"]
     lines = b"lost 0 64\nlost 64 128\nlost 128 192\nlost 192 256\n"
     check("reads that fail", answer(*words), (1, lines, b""))
-    status, out, told = answer("sizes", "/proc/self/mem")
-    check("reads that fail, sizes", (status, out[:7], told), (1, b"lost 0 ", b""))
+    status, out, error = answer("sizes", "/proc/self/mem")
+    check("reads that fail, sizes", (status, out[:7], error), (1, b"lost 0 ", b""))
 
 
 def no_disks(room):
-    """What is neither a regular file nor a block device isn't opened."""
+    """Anything except a regular file or a block device isn't opened."""
     pipe = os.path.join(room, "pipe")
     os.mkfifo(pipe)
     for name in [room, "/dev/null", pipe, os.path.join(room, "nothing")]:
-        told = f"shardscrub: image cannot be opened: {name}\n".encode()
-        check(f"{name} isn't opened", answer("scan", *SMALL, name), (3, b"", told))
-        check(f"{name} isn't opened by sizes", answer("sizes", name), (3, b"", told))
+        error = f"shardscrub: image cannot be opened: {name}\n".encode()
+        check(f"{name} isn't opened", answer("scan", *SMALL, name), (3, b"", error))
+        check(f"{name} isn't opened by sizes", answer("sizes", name), (3, b"", error))
     link = os.path.join(room, "link")
     os.symlink(ONE_SHARD, link)
     check("a link to a file is opened", answer("scan", *SMALL, link), answer("scan", *SMALL, ONE_SHARD))
 
 
 def cut_short():
-    """The example of one shard, cut to 668 bytes: the run is lost with its last pages."""
+    """The example of one shard, cut to 668 bytes. The run is lost with its last pages."""
     with tempfile.NamedTemporaryFile() as file:
         file.write(Path(ONE_SHARD).read_bytes()[:668])
         file.flush()
@@ -156,7 +155,7 @@ def cut_short():
 
 
 def lengths_for_sizes(room):
-    """Files of all lengths: a record that ends with the file, one that the file's end cuts, none, and the last place."""
+    """Files of many lengths: with a whole record at the end, with a record cut short, without a record, and above 4 GiB."""
     small = record(64, 4, 3, [0, 0], [])
     for size in (0, 1, 63, 64, len(small) - 1, len(small), len(small) + 1, 511, 512, 513):
         path = written(room, "length", [(0, small[:size])], size)
@@ -167,9 +166,9 @@ def lengths_for_sizes(room):
     last = (1 << 26) - 1024
     path = written(room, "long", [(0, largest), (last, largest), (1 << 26, largest)], (1 << 32) + 1)
     check("sizes of a file above 4 GiB", answer("sizes", path), sizes_of(path))
-    # What was found is not the file's size: a mark behind the end says nothing.
+    # The record at 64 MiB isn't found: sizes looks only at the bytes before it.
     lines = f"0 SSB1 1 1024 65536 64\n{last} SSB1 1 1024 65536 64\n".encode()
-    check("sizes of a file above 4 GiB, told", answer("sizes", path), (0, lines, b""))
+    check("sizes of a file above 4 GiB, lines", answer("sizes", path), (0, lines, b""))
     os.remove(path)
 
 
@@ -185,11 +184,11 @@ def given_map(room, text):
 
 
 def maps(room):
-    """A map does what pairs do, in whatever form its lines end; and what isn't a map isn't one."""
+    """A map gives the same answers as pairs, however its lines end."""
     text = b"# a comment\xff\n\n0x0 ?\n0 0x80 +\n0x80 64 -\n0300 576 +\n"
     pairs = ["0:2"]
     for name, form in [("a map", text), ("carriage returns", text.replace(b"\n", b"\r\n")), ("no line feed", text[:-1]),
-                       ("tabs", text.replace(b" ", b"\t ")), ("no block behind", text + b"768 0 -\n99999999 1 *\n")]:
+                       ("tabs", text.replace(b" ", b"\t ")), ("blocks past the end", text + b"768 0 -\n99999999 1 *\n")]:
         path = given_map(room, form)
         for command in COMMANDS:
             right = answer(*command, *SMALL, ONE_SHARD, *pairs)
@@ -205,20 +204,20 @@ def maps(room):
 
 
 def no_maps(room):
-    """What is neither a regular file nor a block device is no map, and neither is one of which a read fails."""
+    """Anything except a regular file or a block device is no map. A file with a failing read is no map either."""
     pipe = os.path.join(room, "pipe-for-map")
     os.mkfifo(pipe)
     for name in [room, "/dev/null", pipe, os.path.join(room, "no-map"), "/proc/self/mem"]:
-        told = (3, b"", f"shardscrub: map cannot be opened: {name}\n".encode())
+        refusal = (3, b"", f"shardscrub: map cannot be opened: {name}\n".encode())
         for command in COMMANDS:
-            check(f"{name} is no map, {command[0]}", answer(*command, *SMALL, "--map", name, "/nothing/here"), told)
-        check(f"{name} is no map, sizes", answer("sizes", "--map", name, "/nothing/here"), told)
+            check(f"{name} is no map, {command[0]}", answer(*command, *SMALL, "--map", name, "/nothing/here"), refusal)
+        check(f"{name} is no map, sizes", answer("sizes", "--map", name, "/nothing/here"), refusal)
     pair = (2, b"", b"shardscrub: bad page refused: 3:0\n")
     check("a pair before the map", answer("scan", *SMALL, "--map", room, ONE_SHARD, "3:0"), pair)
 
 
 def refused_maps(room):
-    """The first line that breaks the rules, by its number, before the image is opened."""
+    """The refusal has the number of the first wrong line, and comes before the image is opened."""
     state = b"0 ?\n"
     for text, line in [
         (b"", 1), (b"\n", 2), (b"# a", 2), (b"# a\n\n", 3), (b"0\n", 1), (b"0 x\n", 1), (b"0 + 1 2\n", 1), (b"0 + 0x1\n", 1),
@@ -229,13 +228,13 @@ def refused_maps(room):
         (state + b"0 99999999999999999999999999 +\n", 2), (state + b"0 1 +\n\n0 1 +\n", 4), (state + b"0,1 +\n", 2),
     ]:
         path = given_map(room, text)
-        told = (2, b"", f"shardscrub: map refused: line {line}\n".encode())
-        check(f"refused map {text!r}", answer("scan", *SMALL, "--map", path, "/nothing/here"), told)
-        check(f"refused map {text!r}, sizes", answer("sizes", "--map", path, "/nothing/here"), told)
+        refusal = (2, b"", f"shardscrub: map refused: line {line}\n".encode())
+        check(f"refused map {text!r}", answer("scan", *SMALL, "--map", path, "/nothing/here"), refusal)
+        check(f"refused map {text!r}, sizes", answer("sizes", "--map", path, "/nothing/here"), refusal)
 
 
 def long_maps(room):
-    """A million lines are read in seconds, and the last of them may be the one that is refused."""
+    """A map of a million lines is read in seconds, even if its last line is refused."""
     lines = [b"0x00000000     ?"] + [b"0x%08X  0x00000200  +" % (512 * i) for i in range(1_000_000 - 1)]
     for name, last, right in [
         ("good", lines[-1], answer("scan", *SMALL, ONE_SHARD)),
@@ -250,7 +249,7 @@ def long_maps(room):
 # Large sizes
 
 def many_items(room):
-    """65,536 items in an extent: an answer of a MiB and more."""
+    """65,536 items in an extent: an answer of over a MiB."""
     p, n, e = 64, 65536, 2
     path = written(room, "items", [(p * n + 64 * i, b"\x01") for i in range(0, n, 3)], p * n * e)
     raw = Path(path).read_bytes()
@@ -258,7 +257,7 @@ def many_items(room):
 
 
 def many_extents(room):
-    """The most extents that there are, of one page, most of them half garbage: so many candidates."""
+    """The most extents, of one page each; and 3,000 extents that are all candidates."""
     p, n, e = 64, 1, 65536
     chunk = frame(uuid(0x55), b"abc")
     parts = [(x * p, chunk) for x in range(1, e)]
@@ -271,7 +270,7 @@ def many_extents(room):
 
 
 def many_shards(room):
-    """50,000 shards, of one chunk each, in one run; each thousandth chunk is damaged."""
+    """50,000 shards of one chunk each, in one run. Every thousandth chunk is damaged."""
     p, n, e = 4096, 2048, 3
     c = random.Random(2)
     parts, entries, place = [], [], 0
@@ -288,10 +287,10 @@ def many_shards(room):
     check_scan("50,000 shards", path, p, n, e, (0, 3, 64))
 
 
-# Words and streams
+# Arguments and streams
 
 def words(room):
-    """Words come as they were typed, all of them, and a name of any bytes but those that aren't UTF-8."""
+    """The program gets all arguments as they were typed, and names in UTF-8 of any kind."""
     pairs = [f"{x}:{g}" for x in range(3) for g in range(4)]
     report, _, _, _ = scrub(Image(Path(ONE_SHARD).read_bytes(), 64, 4, 3, [(x, g) for x in range(3) for g in range(4)]))
     check("twelve pairs", answer("scan", *SMALL, ONE_SHARD, *pairs), (1, report_text(report), b""))
@@ -301,13 +300,13 @@ def words(room):
         Path(path).write_bytes(Path(ONE_SHARD).read_bytes())
         check(f"an image named {name[:20]}", answer("scan", *SMALL, path), right)
     refused = (2, b"", b"shardscrub: a word is not UTF-8\n")
-    check("a word that isn't UTF-8", answer("scan", *SMALL, os.fsencode(room) + b"/\xff"), refused)
-    check("no words", answer(), answer("demo"))
+    check("an argument that isn't UTF-8", answer("scan", *SMALL, os.fsencode(room) + b"/\xff"), refused)
+    check("no arguments", answer(), answer("demo"))
     check("the demo", answer(), right)
 
 
 def refusals():
-    """Each refusal has its status and its text, whole, and nothing on the output."""
+    """Each refusal has its status, its whole text and no output."""
     for words, status, text in [
         (["items", *geometry(60, 4, 3), "--extent", "1", "x"], 2, "geometry refused: PageSize"),
         (["scan", *geometry(64, 0, 3), "x"], 2, "geometry refused: Pages"),
@@ -333,15 +332,15 @@ def refusals():
         (["sizes", ONE_SHARD, "0:1"], b"0:1"),
         (["sizes"], b"IMAGE"),
     ]:
-        status, out, told = answer(*words)
-        check(f"refused words: {' '.join(words)}", (status, out, part in told and len(told) > 16), (2, b"", True))
+        status, out, error = answer(*words)
+        check(f"refused arguments: {' '.join(words)}", (status, out, part in error and len(error) > 16), (2, b"", True))
     for words in [["--help"]] + [[name, "--help"] for name in ("scan", "index", "items", "superblocks", "reclaimable", "sizes")]:
-        status, out, told = answer(*words)
-        check(f"help: {' '.join(words)}", (status, out, len(told) > 500 and told.endswith(b"\n")), (0, b"", True))
+        status, out, error = answer(*words)
+        check(f"help: {' '.join(words)}", (status, out, len(error) > 500 and error.endswith(b"\n")), (0, b"", True))
 
 
 def failing_output():
-    """An output that takes nothing, and one whose reader is gone."""
+    """An output that takes nothing, and an output without a reader."""
     with open("/dev/full", "wb") as full:
         run = answer("scan", *SMALL, ONE_SHARD, capture_output=False, stdout=full, stderr=subprocess.PIPE)
     check("an output that is full", run, (3, None, b"shardscrub: output failed after 0 bytes\n"))
@@ -349,11 +348,11 @@ def failing_output():
     os.close(reader)
     run = answer("scan", *SMALL, ONE_SHARD, capture_output=False, stdout=writer, stderr=subprocess.PIPE)
     os.close(writer)
-    check("an output whose reader is gone", run, (3, None, b"shardscrub: output failed after 0 bytes\n"))
+    check("an output without a reader", run, (3, None, b"shardscrub: output failed after 0 bytes\n"))
 
 
 def short_output(room):
-    """An output that takes so many bytes of a report and then fails, for each number below the report's length."""
+    """An output that fails after each number of bytes below the report's length."""
     _, report, _ = answer("scan", *SMALL, ONE_SHARD)
     path = os.path.join(room, "short")
 
@@ -364,10 +363,10 @@ def short_output(room):
     ends = []
     for size in range(len(report)):
         with open(path, "wb") as out:
-            status, _, told = answer("scan", *SMALL, ONE_SHARD, capture_output=False, stdout=out, stderr=subprocess.PIPE,
-                                     preexec_fn=lambda: limit(size))
+            status, _, error = answer("scan", *SMALL, ONE_SHARD, capture_output=False, stdout=out, stderr=subprocess.PIPE,
+                                      preexec_fn=lambda: limit(size))
         text = f"shardscrub: output failed after {size} bytes\n".encode()
-        ends.append((status, told, Path(path).read_bytes()) == (3, text, report[:size]))
+        ends.append((status, error, Path(path).read_bytes()) == (3, text, report[:size]))
     check("an output that fails after each number of bytes", (len(ends) > 500, ends.count(False)), (True, 0))
 
 
@@ -378,8 +377,8 @@ SEVERAL_IMAGE = TOP / "examples/several-findings.img"
 ON_IMAGE = (["scan", *SEVERAL], ["index", *SEVERAL], ["locators", *SEVERAL], ["superblocks", *SEVERAL],
             ["reclaimable", *SEVERAL], ["items", *SEVERAL, "--extent", "3"], ["sizes"])
 
-# Calls that change nothing outside of the process and can't be made to: on its own memory, threads and signals, on the clock,
-# and such as read. Those whose arguments decide are in changes_nothing_by.
+# Calls that change nothing outside of the process, whatever their arguments: on its own memory, threads and signals, on the
+# clock, and calls that read. changes_nothing_by has the calls whose arguments decide.
 HARMLESS = set("""
     access arch_prctl brk clock_gettime clock_nanosleep close exit exit_group faccessat faccessat2 fstat futex getcpu getpid
     getrandom gettid lseek madvise mprotect mremap munmap nanosleep newfstatat poll pread64 read readlink readlinkat rseq
@@ -389,7 +388,7 @@ HARMLESS = set("""
 
 
 def no_tracing(room):
-    """Why no run can be traced here; None where it can."""
+    """Why no run can be traced here; None if runs can be traced."""
     try:
         run = subprocess.run(["strace", "-f", "-o", os.path.join(room, "probe"), "true"], stdin=subprocess.DEVNULL,
                              capture_output=True, timeout=SECONDS)
@@ -399,10 +398,10 @@ def no_tracing(room):
 
 
 def traced(room, *words, **more):
-    """The answer of a run, and the calls of all its threads, each with its name, its arguments and what it gave.
+    """The answer of a run, and the calls of all its threads, each with its name, its arguments and its result.
 
-    With -ff each thread has a file of its own, in which no call of another thread cuts a line in two. Buffers aren't
-    shown, and names of files always are.
+    With -ff each thread has its own file, so no call of another thread cuts a line in two. File names are shown, buffers
+    aren't.
     """
     given = {"stdin": subprocess.DEVNULL, "capture_output": True, "timeout": SECONDS, **more}
     with tempfile.TemporaryDirectory(dir=room) as folder:
@@ -420,7 +419,7 @@ def traced(room, *words, **more):
 
 
 def changes_nothing_by(call):
-    """Whether nothing outside of the process is changed by this call. A call that isn't known here may change something."""
+    """Whether this call changes nothing outside of the process. An unknown call may change something."""
     name, arguments, _ = call
     words = set(re.findall(r"\w+", re.sub(r'"(?:[^"\\]|\\.)*"', "", arguments)))
     if name in ("open", "openat"):
@@ -438,35 +437,35 @@ def changes_nothing_by(call):
 
 
 def suspects(calls):
-    """The calls that may change something. The first program that is started is the traced one, by strace."""
+    """The calls that may change something. The first execve is strace's own, which starts the program."""
     starts = [call for call in calls if call[0] == "execve"]
     return starts[1:] + [call for call in calls if call[0] != "execve" and not changes_nothing_by(call)]
 
 
 def opened(calls):
-    """The names of the files that were opened in the folder of the run: those of the C library all begin with a slash."""
+    """The names of the files that were opened in the folder of the run. All files of the C library begin with a slash."""
     names = [re.findall(r'"((?:[^"\\]|\\.)*)"', given) for name, given, _ in calls if name in ("open", "openat")]
     return [name for quoted in names for name in quoted if not name.startswith("/")]
 
 
 def state(folder):
-    """The bytes of each file, and all that the system says of it but when it was last read; and of the folder."""
+    """The bytes of each file in the folder, and what the system knows of files and folder, except when they were last read."""
     paths = [folder, *sorted(Path(folder).iterdir())]
-    said = [os.stat(path) for path in paths]
-    kept = [(x.st_mode, x.st_ino, x.st_nlink, x.st_uid, x.st_size, x.st_mtime_ns, x.st_ctime_ns) for x in said]
+    stats = [os.stat(path) for path in paths]
+    kept = [(x.st_mode, x.st_ino, x.st_nlink, x.st_uid, x.st_size, x.st_mtime_ns, x.st_ctime_ns) for x in stats]
     return list(zip(map(str, paths), kept, [b""] + [path.read_bytes() for path in paths[1:]]))
 
 
 def few_writes(room):
-    """A long answer goes out in few writes."""
+    """An answer is written in few calls."""
     _, calls = traced(room, "scan", *SMALL, ONE_SHARD)
     check("writes of a report", sum(name in ("write", "writev") and given.startswith("1, ") for name, given, _ in calls), 1)
 
 
 def changes_nothing(room):
-    """Each command on an image, with a map and without one, with an answer, a refusal and an output that fails: files are
-    opened for reading alone, and of those in the folder only the named ones; nothing is written but to the streams 1 and 2; no
-    other call is made that may change something; and image, map and folder are afterwards what they were."""
+    """Traces each command on an image, with and without a map, with an answer, a refusal and an output that fails. Files are
+    opened only for reading, and in the image's folder only the named ones. Only the streams 1 and 2 are written. No other call
+    may change anything. Image, map and folder are the same afterwards."""
     kept = os.path.join(room, "kept")
     os.mkdir(kept)
     raw = SEVERAL_IMAGE.read_bytes()
@@ -496,20 +495,20 @@ def changes_nothing(room):
 
 
 def started(room, *words):
-    """How many threads a run starts, the main thread aside."""
+    """How many threads a run starts, without the main thread."""
     _, calls = traced(room, *words)
     return sum(name in ("clone", "clone3") and gave.isdigit() for name, _, gave in calls)
 
 
 def threads(room):
-    """`--workers N` starts N threads, and what doesn't scan the disk starts none. Counted are all threads of a run: `scan` and
-    `index` start two more, which find the twins and make the index. The disk has no superblock and so no runs and no
-    locators, which other threads would read and check."""
+    """`--workers N` starts N threads, and a command that doesn't scan the disk starts none. All threads of a run are counted,
+    so `scan` and `index` start two more, which find the twins and make the index. The disk has no superblock, so there are no
+    runs and locators for other threads to check."""
     disk = [*SMALL, str(TOP / "examples/no-superblock.img")]
     for command, others in [("scan", 2), ("index", 2), ("locators", 0), ("reclaimable", 0)]:
         for number in (0, 1, 3, 64):
             found = started(room, command, "--workers", str(number), *disk)
-            check(f"threads of {command} by {number} workers", found, number + others)
+            check(f"threads of {command} with {number} workers", found, number + others)
         check(f"threads of {command}", started(room, command, *disk), 1 + others)
     for words in (["items", "--extent", "1", *disk], ["superblocks", *disk], ["sizes", disk[-1]]):
         check(f"threads of {words[0]}", started(room, *words), 0)
@@ -517,23 +516,23 @@ def threads(room):
 
 
 def loop_device(path):
-    """A block device with the bytes of this file, which may be written to; or why there is none."""
+    """A writable block device with the bytes of this file, and None; or None, and why there is no device."""
     try:
         run = subprocess.run(["losetup", "--find", "--show", path], stdin=subprocess.DEVNULL, capture_output=True, timeout=SECONDS)
     except FileNotFoundError:
         return None, "not found: losetup"
-    told = run.stderr.decode(errors="replace").strip()
-    return (run.stdout.decode().strip(), None) if run.returncode == 0 else (None, f"no loop device can be made: {told}")
+    error = run.stderr.decode(errors="replace").strip()
+    return (run.stdout.decode().strip(), None) if run.returncode == 0 else (None, f"no loop device can be made: {error}")
 
 
 def on_device(room, kept, image, device, is_traced):
-    """What each command answers of a block device is what it answers of the file, and neither is changed."""
-    def held():
-        said = os.stat(device)
+    """Each command answers on a block device as on the file, and changes neither."""
+    def current():
+        stats = os.stat(device)
         with open(device, "rb") as file:
-            return file.read(), said.st_mtime_ns, said.st_ctime_ns, state(kept)
+            return file.read(), stats.st_mtime_ns, stats.st_ctime_ns, state(kept)
 
-    before = held()
+    before = current()
     short, long = geometry(64, 16, 4), geometry(64, 16, 6)
     others = [["scan", *short], ["scan", *long], ["items", *long, "--extent", "5"]]
     for words in [*ON_IMAGE, *others, ["scan", *SEVERAL, "--map", os.path.join(kept, "map")]]:
@@ -542,11 +541,11 @@ def on_device(room, kept, image, device, is_traced):
         if is_traced:
             found, calls = traced(room, *words, device)
             check(f"{' '.join(words)} of a block device, calls that may change something", (found, suspects(calls)), (right, []))
-    check("a block device before and after", held() == before, True)
+    check("a block device before and after", current() == before, True)
 
 
 def block_devices(room, is_traced):
-    """A block device is read as an image, and one as a map. Each is a loop device over a file, taken off again in any case."""
+    """Reads a block device as an image, and another as a map. Both are loop devices over files, and always removed again."""
     kept = os.path.join(room, "beneath")
     os.mkdir(kept)
     image = os.path.join(kept, "image")
@@ -559,7 +558,7 @@ def block_devices(room, is_traced):
         for path in (image, map_file):
             device, why = loop_device(path)
             if device is None:
-                print(f"left out, block devices, since {why}", flush=True)
+                print(f"left out: block devices ({why})", flush=True)
                 return
             devices.append(device)
         on_device(room, kept, image, devices[0], is_traced)
@@ -596,7 +595,7 @@ def main():
             changes_nothing(room)
             threads(room)
         else:
-            print(f"left out, what the program asks of the system, since {why}", flush=True)
+            print(f"left out: system calls and threads ({why})", flush=True)
         block_devices(room, why is None)
     print(f"{counts[True]} passed, {counts[False]} failed")
     sys.exit(counts[False] > 0)

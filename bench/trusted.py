@@ -1,25 +1,25 @@
 #!/usr/bin/env python3
-"""Writes the two pages that are made from the spec files. docs/TRUSTED.md lists the spec files on which the contract of the whole
-scrub rests, in reading order, and what the contracts of the two listings and of the whole program add to them.
+"""Writes the two pages that are made from the spec files. docs/TRUSTED.md lists the spec files on which the contract of the
+whole scrub rests, in reading order, and what three more contracts add: those of the two listings and of the whole program.
 docs/DEFINITIONS.md lists each public definition, with the comment above it as its sentence.
 
 usage: bench/trusted.py             writes both pages
        bench/trusted.py --check     reports whether both pages are as they would be written
 
-For TRUSTED it begins at the words of the contract of `scrub` in crates/scrub_report, follows each to its definition by the imports
-of its file, and goes on with the words of that definition. It follows a type of the code that a definition names too, with what
-contracts see of it. It lists what it reached file by file, and apart from that what else is in these files. Names from outside this
-repository are listed by their modules, and followed no further. It reads the other contracts in the same way, and lists of each only
-what the ones before it don't rest on.
+TRUSTED begins at the words of the contract of `scrub` in crates/scrub_report. This script follows each word to its definition,
+by the imports of its file, and goes on with the words of that definition. If a definition names a type of the code, it follows
+the part of the type that contracts see. The page lists the reached definitions by files, and then the other definitions of
+these files. Names from outside this repository are listed by modules, and not followed. The other contracts are read in the
+same way; the page lists only what each adds to those before it.
 
-DEFINITIONS keeps its head, up to the line that MADE gives; what follows is made. Files come in the order of each crate's Lib.antt.
+DEFINITIONS keeps its head, up to the line MADE; this script writes the rest. Files come in the order of each crate's Lib.antt.
 Each definition needs a comment of one sentence directly above it.
 
-It reads text and checks nothing else: the prover checks that each name means what its import says. It also follows a word that a
-definition binds, if the file has or imports that name, so it may list more than is needed, and never less.
+This script only reads text. The prover checks that each name means what its import says. A word that a definition binds is
+followed too, if the file has or imports that name. So the page may list too much, but never too little.
 
-With --check the last line is 'N passed, M failed': one for each row of a spec file in TRUSTED, one for each spec file in DEFINITIONS,
-and one for each page. Exit status: 0 if nothing failed, else 1.
+With --check the last line is 'N passed, M failed': one for each row of a spec file in TRUSTED, one for each spec file in
+DEFINITIONS, and one for each page. Exit status: 0 if nothing failed, else 1.
 """
 import re
 import sys
@@ -28,7 +28,7 @@ from pathlib import Path
 TOP = Path(__file__).resolve().parent.parent
 PAGE = TOP / "docs/TRUSTED.md"
 DEFINITIONS = TOP / "docs/DEFINITIONS.md"
-# The function whose contract is the headline: its crate, the file that has it, and its name. Then the others, each with what it is.
+# The function whose contract is the headline: its crate, its file, and its name. Then the others, each with what it is.
 HEADLINE = ("scrub_report", "answer", "scrub")
 OTHERS = [
     (("scrub_report", "listing", "list_locators"), "`locators` is made of it"),
@@ -36,7 +36,7 @@ OTHERS = [
     (("scrub_cli", "main", "run_process"), "the program, from the arguments of its process to both streams and the status"),
 ]
 
-# The line that ends the head of DEFINITIONS, which is kept.
+# The line that ends the head of DEFINITIONS. The head is kept.
 MADE = "<!-- From here on bench/trusted.py made this page. -->"
 # Public standards: the words by which a comment names one, and what it is for.
 STANDARDS = [
@@ -66,7 +66,7 @@ def without_comments(text, mark):
 
 
 class Imports:
-    """The names that a text imports: each with its module and its name there."""
+    """The imported names of a text, each with its module and its name in that module."""
 
     def __init__(self, text):
         self.names = {}
@@ -77,14 +77,14 @@ class Imports:
 
 
 def words_of(text):
-    """The words that a text says as names of its own scope: no field after a dot, and none that is given in a record."""
+    """The words of a text that are names of its own scope. Fields after a dot or in a record aren't."""
     text = re.sub(r'"[^"]*"', "", text)
     text = re.sub(rf"\.(?:{WORD}|\d+)", "", text)
     return re.findall(WORD, re.sub(rf"(?<=[{{;(])\s*{WORD} =(?!=)", "", text))
 
 
 class Spec:
-    """A file of definitions: its imports, its definitions by name, in their order, and its first sentence."""
+    """A file of definitions: its imports, its definitions by name, in the order of the file, and its first sentence."""
 
     def __init__(self, path):
         self.path = path
@@ -113,7 +113,7 @@ class Spec:
                 self.definitions[name] += line + "\n"
 
     def comments(self):
-        """The comment above each definition, on one line, and whether the definition is public; in the order of the file."""
+        """For each definition the comment above it, on one line, and whether it is public; in the order of the file."""
         lines = self.text.splitlines()
         found = {}
         for name, text in self.definitions.items():
@@ -126,25 +126,25 @@ class Spec:
         return found
 
     def reached(self, name):
-        """What the definition says: names of this file, and imported ones by module and name there."""
+        """The names in the definition: those of this file, and the imported ones by module and name in that module."""
         return resolved(self.definitions[name], self.imports, self.definitions)
 
 
 def resolved(text, imports, own):
-    """The names of a text: those of its own file, and those that are imported."""
-    said = dict.fromkeys(words_of(text))
-    here = [word for word in said if word in own]
-    there = [imports.names[word] for word in said if word in imports.names and word not in own]
+    """The names in a text: those of its own file, and the imported ones."""
+    words = dict.fromkeys(words_of(text))
+    here = [word for word in words if word in own]
+    there = [imports.names[word] for word in words if word in imports.names and word not in own]
     for name, place in imports.names.items():
         parts = [part for part in name.split("◌") if part]
-        signs = all(part in said if re.match(WORD, part) else f" {part} " in text for part in parts)
+        signs = all(part in words if re.match(WORD, part) else f" {part} " in text for part in parts)
         if ("◌" in name or not re.match(WORD, name)) and parts and signs:
             there.append(place)
     return here, there
 
 
 def braces(text, start):
-    """The text from a place on up to the end of the block that begins there, or of the line where none does."""
+    """The text from a place to the end of the block that begins there, or to the end of the line if none begins."""
     opening, end = text.find("{", start), text.find(";", start)
     if opening < 0 or 0 <= end < opening:
         return text[start:end + 1]
@@ -162,7 +162,7 @@ def type_words(text):
 
 
 class Code:
-    """A file of code, as far as contracts see its types."""
+    """A file of code. Of its types only what contracts see is read."""
 
     def __init__(self, path):
         self.path = path
@@ -176,7 +176,7 @@ class Code:
         found = re.search(rf"(?m)^pub(?:\(crate\))? (?:struct|enum|trait) {name}\b", self.text)
         text = re.sub(r"#\[[^\]]*\]", "", braces(self.text, found.start()))
         model = re.search(rf"(?m)^impl(?:<[^{{]*>)? Model for {name}\b", self.text)
-        # Where contracts see a model, they don't see the fields that it is drawn from.
+        # If a type has a model, contracts see only the model, and not the fields.
         return text if model is None else braces(self.text, model.start())
 
     def reached(self, name):
@@ -193,7 +193,7 @@ class Code:
 
 
 class Reader:
-    """What was reached: definitions by their files, types of the code by theirs, and names from outside."""
+    """The reached definitions and types of the code, both by files, and the reached names from outside."""
 
     def __init__(self):
         self.specs = {}
@@ -215,7 +215,7 @@ class Reader:
         return self.specs[path]
 
     def follow(self, place, upper):
-        """Goes on with an imported name, which `upper` says: a spec file, or none for the contract."""
+        """Follows an imported name. `upper` is the spec file that names it, or None for the contract."""
         module, name = place
         parts = module.split(".")
         if parts[0] != "Rattle" or parts[1] not in CRATES:
@@ -247,7 +247,7 @@ class Reader:
             self.faults.append(f"no file of {crate} has the type {name}")
             return
         seen = self.types.setdefault(path, {})
-        # What a type leads to has to be read before each file that names the type.
+        # Each file that names the type rests on what the type leads to.
         if upper in seen.setdefault(name, set()):
             return
         seen[name].add(upper)
@@ -260,7 +260,7 @@ class Reader:
                 self.follow_type(owner, other, upper)
 
     def owner(self, path, crate, name):
-        """The crate of ours that has a type which a file names; none where it is none of ours."""
+        """The crate of this repository that has a type named in a file; None if no crate has it."""
         for module, names, one in RUST_USE.findall(self.codes[path].text):
             if name in [other.strip() for other in (names or one).split(",")]:
                 first = module.split("::")[0]
@@ -272,7 +272,7 @@ class Reader:
         return crate if (crate, name) in self.type_files else None
 
     def order(self):
-        """The files, each behind those that it rests on, lowest crate first."""
+        """The files, each after those that it rests on, lowest crate first."""
         rank = {crate: place for place, crate in enumerate(CRATES)}
         files = sorted(self.definitions, key=lambda path: (rank[path.relative_to(TOP / "crates").parts[0]], path.name))
         done = []
@@ -290,7 +290,7 @@ class Reader:
 
 
 def read(headline):
-    """What a contract rests on."""
+    """Reads what a contract rests on."""
     reader = Reader()
     crate, file, function = headline
     path = TOP / "crates" / crate / "src" / f"{file}.rt"
@@ -306,7 +306,7 @@ def read(headline):
 
 
 def read_all():
-    """What the headline rests on, and each of the others."""
+    """Reads what the headline rests on, and each of the others."""
     return [read(headline) for headline in [HEADLINE, *(other for other, _ in OTHERS)]]
 
 
@@ -323,7 +323,7 @@ def linked(path):
 
 
 def needed(reader, path):
-    """The definitions of a file that a contract rests on, in their order."""
+    """The definitions of a file that a contract rests on, in the order of the file."""
     return [name for name in reader.specs[path].definitions if name in reader.definitions[path]]
 
 
@@ -334,7 +334,7 @@ def types_of(reader):
 
 
 def beside(reader, before, headline, what):
-    """The section of a contract other than the headline: what it rests on, and the contracts before it don't."""
+    """The section of another contract: what it rests on and the contracts before it don't."""
     files = reader.order()
     count = sum(len(needed(reader, path)) for path in files)
     known = {(path, name) for other in before for path in other.definitions for name in other.definitions[path]}
@@ -412,7 +412,7 @@ def page_of(readers):
 
 
 def sections_of(crate, faults):
-    """The spec files of a crate in the order of its Lib.antt: the comment above some of them, and these files."""
+    """The spec files of a crate in the order of its Lib.antt: pairs of a comment and the files below it."""
     folder = TOP / "crates" / crate / "specs"
     sections = []
     lib = folder / "Lib.antt"
@@ -431,7 +431,7 @@ def one_sentence(comment):
 
 
 def block_of(spec, faults):
-    """The lines of a file: its name, its first sentence, and a line for each public definition."""
+    """The lines about a file: its name, its first sentence, and a line for each public definition."""
     if not spec.head:
         faults.append(f"crates/{short(spec.path)} doesn't begin with a comment")
     out = [f"### [`{spec.path.stem}`](../crates/{short(spec.path)})", "", spec.sentence, ""]
@@ -444,7 +444,7 @@ def block_of(spec, faults):
 
 
 def standards_of(specs):
-    """The table of public standards: of each the files whose comments name it."""
+    """The table of public standards, each with the files whose comments name it."""
     out = ["## Public standards", "", "Comments name these.", "", "| Standard | What for | Files |", "|---|---|---|"]
     for words, what in STANDARDS:
         files = [spec for spec in specs if words in " ".join([spec.head, *(comment for comment, _ in spec.comments().values())])]
@@ -453,7 +453,7 @@ def standards_of(specs):
 
 
 def definitions_page():
-    """The made part of DEFINITIONS: its lines, the block of each file, and what is wrong with the comments."""
+    """The written part of DEFINITIONS: its lines, the block of each file, and the faults of the comments."""
     faults, blocks, crates_out, specs = [], [], [], []
     for crate in CRATES:
         sections = sections_of(crate, faults)
@@ -472,14 +472,14 @@ def definitions_page():
 
 
 def head_of_definitions():
-    """What is written by hand: all before the line that MADE gives."""
+    """The text before the line MADE, which is written by hand, and whether the line is there."""
     text = DEFINITIONS.read_text(encoding="utf-8")
     head, made, _ = text.partition(MADE)
     return head, made != ""
 
 
 def check_definitions(faults):
-    """Compares DEFINITIONS with the comments: how many files and pages are right, and how many aren't."""
+    """Compares DEFINITIONS with the comments. Returns how many files and pages are right, and how many aren't."""
     lines, blocks, found = definitions_page()
     head, has_line = head_of_definitions()
     faults += found if has_line else [*found, f"docs/DEFINITIONS.md hasn't the line {MADE}"]

@@ -1,19 +1,20 @@
 #!/usr/bin/env python3
-"""Tests view/report.html in headless Chromium. It is no part of the gate.
+"""Tests view/report.html in headless Chromium. The gate doesn't run this.
 
 usage: bench/view.py [CHROMIUM]      (default: the first of chromium, chromium-browser, google-chrome that is found)
 
 The picture must never look better than the disk. So this opens the disks of picture.py, alone and with each choice of the
-outputs of superblocks, locators and reclaimable, and compares each count, the verdict with its computed colour, the
-headline, the cells of the overview by their pixels, and that nothing on the screen is green unless the verdict is sound.
-It does the same with the reports of examples/README.md and of disks that hold.py makes up. It hovers over items and follows
-each link; it tries the ways to open a file, what can't be opened, outputs that don't fit, rows of disks without a report,
-and made-up reports of 100,000 items and of 65,536 extents, with the times that they take. At last it opens wrong pages, made
-by changing one place of the page, and each has to be seen as wrong. Where ./shardscrub is built, its outputs have to be
-those that the disks of picture.py are opened with.
+outputs of superblocks, locators and reclaimable. It compares each count, the verdict with its computed colour, the headline,
+and the pixels of the overview. Nothing on the screen may be green unless the verdict is sound. The same is done with the
+reports of examples/README.md and with disks that hold.py makes up.
 
-Screenshots go into a new folder of the system's folder for temporary files. Ends with 'N passed, M failed'. Exit status: 0
-if all passed, 1 if something failed, 2 if Chromium isn't found or doesn't start.
+It also hovers over items and follows links. It tries each way to open a file, files that can't be opened, outputs that don't
+fit, and rows of disks without a report. It measures how long reports of 100,000 items and of 65,536 extents take. Last, it
+opens wrong pages, made by changing one place of the page, and has to find each of them wrong. If the program is built here,
+it has to print the outputs that the disks of picture.py are opened with.
+
+Screenshots go into a new folder of the system's folder for temporary files. The last line is 'N passed, M failed'. Exit
+status: 0 if all passed, 1 if something failed, 2 if Chromium isn't found or doesn't start.
 """
 import base64
 import fcntl
@@ -43,22 +44,22 @@ PAGE = TOP / "view/report.html"
 BROWSERS = ("chromium", "chromium-browser", "google-chrome")
 ITEMS = 100_000
 MADE_UP = 100
-# Whether ./shardscrub would run without a build.
+# This file exists if the program was built here.
 BUILT = TOP / "crates/scrub_cli/out/shardscrub.built"
-# The most that a draw may take, and from the text of that report to its picture, in milliseconds.
+# The longest times that are right, in milliseconds: for a draw, and from a report's text to its picture.
 MOST_DRAW, MOST_OPENING = 250, 5000
 
 
 class Browser:
-    """Chromium without a window, spoken to over its two pipes, by the protocol of its developer tools."""
+    """Chromium without a window. Two pipes carry the protocol of its developer tools."""
 
     def __init__(self, program, room):
-        # Chromium reads from 3 and writes to 4. The ends are moved out of their way first.
+        # Chromium reads from 3 and writes to 4. First move the pipes' ends away from these numbers.
         theirs_in, ours_out = map(self.moved, os.pipe())
         ours_in, theirs_out = map(self.moved, os.pipe())
         words = [program, "--headless=new", "--remote-debugging-pipe", "--window-size=1400,900", "--hide-scrollbars",
                  "--no-first-run", "--disable-gpu", "--disable-dev-shm-usage", f"--user-data-dir={room}"]
-        # Its sandbox can't be set up by the superuser.
+        # The superuser can't set up Chromium's sandbox.
         if os.geteuid() == 0:
             words.append("--no-sandbox")
 
@@ -93,7 +94,7 @@ class Browser:
         return json.loads(text)
 
     def call(self, method, **params):
-        """Calls a method, and keeps what the page complains of meanwhile."""
+        """Calls a method, and keeps the errors that the page reports meanwhile."""
         self.last += 1
         message = {"id": self.last, "method": method, "params": params}
         if self.session:
@@ -116,41 +117,41 @@ class Browser:
         return answer["result"].get("value")
 
     def open(self, address):
-        """Opens an address anew, so that nothing of the page before is left."""
+        """Opens an address, without anything left of the page before."""
         self.call("Page.navigate", url="about:blank")
         self.call("Page.navigate", url=address)
         while self.value("document.readyState === 'complete' && 'pointOf' in window") is not True:
             time.sleep(.02)
 
-    def told(self, state=None):
-        """What the page tells that it drew, once it tells anything."""
+    def shown(self, state=None):
+        """The numbers that the page shows. Waits until it shows any, in this state if one is given."""
         for _ in range(600):
-            told = json.loads(self.value("document.getElementById('told')?.textContent ?? '{}'"))
-            if told.get("state") and state in (None, told["state"]):
+            shown = json.loads(self.value("document.getElementById('shown')?.textContent ?? '{}'"))
+            if shown.get("state") and state in (None, shown["state"]):
                 self.settle()
-                return told
+                return shown
             time.sleep(.05)
         return {}
 
     def forget(self):
-        """Empties what the page reports, so that what it reports next is waited for."""
-        self.value("document.getElementById('told').textContent = '{}'")
+        """Removes the numbers, so that `shown` waits for the next ones."""
+        self.value("document.getElementById('shown').textContent = '{}'")
 
     def settle(self):
-        """Waits for what is drawn with the next frame."""
+        """Waits until the next frame is drawn."""
         self.value("new Promise(done => requestAnimationFrame(() => requestAnimationFrame(done)))")
 
     def text(self, name):
         return self.value(f"document.getElementById('{name}').innerText")
 
     def hovered(self, extent, byte):
-        """What the page tells of a byte under the mouse."""
+        """What the page says about a byte under the mouse."""
         x, y = (self.value(f"pointOf({extent}, {byte}).{axis}") for axis in "xy")
         self.call("Input.dispatchMouseEvent", type="mouseMoved", x=x, y=y)
         return self.value("document.getElementById('tip').hidden") is False and self.text("tip")
 
     def colours(self, extent, byte, until, down):
-        """The colours of up to 12 pixels beside each other, so far below the middle of an extent's bar."""
+        """The colours of up to 12 neighbouring pixels, `down` pixels below the middle of an extent's bar."""
         return self.value(f"""(() => {{
             const bars = document.getElementById('bars'), box = bars.getBoundingClientRect(), ratio = devicePixelRatio;
             const from = pointOf({extent}, {byte}), to = pointOf({extent}, {until});
@@ -185,7 +186,7 @@ class Browser:
 
 
 def example_reports():
-    """The reports of examples/README.md by the words that gave them, each once."""
+    """The reports of examples/README.md by their arguments, each once."""
     reports, command = {}, None
     for line in (TOP / "examples/README.md").read_text(encoding="utf-8").splitlines():
         if line.startswith("$ "):
@@ -196,7 +197,7 @@ def example_reports():
 
 
 def written(report):
-    """A report as one line, as scan prints it."""
+    """A report as scan prints it, on one line."""
     return json.dumps(report, sort_keys=True, separators=(",", ":")) + "\n"
 
 
@@ -206,18 +207,18 @@ def live_chunks(report):
 
 
 def disk_of(command):
-    """The disk of an example, by the words that gave its report; None for the demo's, which has no file."""
+    """The disk of an example, by the arguments of its report; None for the demo, which has no file."""
     words = command.split()
     if "examples/" not in command:
         return None
     page, pages, extents = (int(words[words.index(name) + 1]) for name in ("--page", "--pages", "--extents"))
     file = next(index for index, word in enumerate(words) if word.startswith("examples/"))
-    bad = [tuple(map(int, pair.split(":"))) for pair in words[file + 1:]]
-    return Pictured(Image((TOP / words[file]).read_bytes(), page, pages, extents, bad))
+    unreadable = [tuple(map(int, pair.split(":"))) for pair in words[file + 1:]]
+    return Pictured(Image((TOP / words[file]).read_bytes(), page, pages, extents, unreadable))
 
 
 def fitting_locators(report):
-    """Locators as they may be on a disk with this report: the report names no owner of a sound one, so they are made up."""
+    """Locators that a disk with this report may have. A report names no owners of sound locators, so these are made up."""
     shared = {(place["extent"], place["offset"]): place["count"] for place in report["shared"]}
     lines = [f"{one['owner']} {one['extent']} {one['offset']} {one['length']} {one['uuid']} {one.get('reason', 'hidden')}"
              for one in report["dangling"] + report["hidden"]]
@@ -230,11 +231,11 @@ def fitting_locators(report):
 
 
 def made_up_report(items):
-    """A report of 1,001 extents of 4 MiB: the first has half of the items, one is retired, one has a tail, one is empty,
-    and the others share the rest. Most chunks are live; the rest are orphans, twins and damage of each kind."""
+    """A report of 1,001 extents of 4 MiB. The first one has half of the items, one is retired, one has a tail, one is empty,
+    and the others share the remaining items. Most chunks are live; there are orphans, twins and each kind of damage."""
     chance = random.Random(3)
     page, pages, extents = 4096, 1024, 1001
-    told, orphans, twins, candidates, dangling, hidden = [], [], [], [], [], []
+    reported, orphans, twins, candidates, dangling, hidden = [], [], [], [], [], []
     twin = "77777777-7777-7777-7777-777777777777"
     for extent in range(1, extents):
         if extent == 500:
@@ -264,9 +265,9 @@ def made_up_report(items):
         if 0 < 2 * live <= place and extent % 50 == 0:
             candidates.append({"extent": extent, "free": place - live, "keep": keep})
         lost = [line.split() for line in lines if line.startswith("lost")]
-        bad = {number for _, start, stop in lost for number in range(int(start) // page, -(-int(stop) // page))}
-        told.append({"bad": sorted(bad), "extent": extent, "items": lines, "live": live, "pointer": place,
-                     "tail": 3 if at is not None else 0, "tail_at": at})
+        unreadable = {number for _, start, stop in lost for number in range(int(start) // page, -(-int(stop) // page))}
+        reported.append({"bad": sorted(unreadable), "extent": extent, "items": lines, "live": live, "pointer": place,
+                         "tail": 3 if at is not None else 0, "tail_at": at})
         owner = f"shard {extent:032x}"
         where = {"extent": extent, "length": 10, "offset": 5, "owner": owner, "uuid": twin}
         dangling += [where | {"reason": "no_frame"}] if extent % 100 == 7 else []
@@ -274,7 +275,7 @@ def made_up_report(items):
     candidates.sort(key=lambda place: (-place["free"], place["extent"]))
     return {
         "broken": [one["owner"].split()[1] for one in dangling], "candidates": candidates, "clean": False,
-        "dangling": dangling, "doubtful": [], "extents": told,
+        "dangling": dangling, "doubtful": [], "extents": reported,
         "geometry": {"extents": extents, "page": page, "pages": pages}, "hidden": hidden, "orphans": orphans,
         "retired": [500], "runs": [{"entries": extents, "extent": 1, "offset": 0, "state": "read"}], "shards": extents,
         "shared": [],
@@ -286,7 +287,7 @@ class Test:
     def __init__(self, browser, site, room, shots):
         self.browser, self.site, self.room, self.shots = browser, site, room, shots
         self.passed = self.failed = 0
-        # The page that is opened, and whether failures are printed: both change for wrong pages.
+        # The page to open, and whether failures are printed. Both change for wrong pages.
         self.page, self.is_loud = "report.html", True
 
     def check(self, what, is_right, found=""):
@@ -302,7 +303,7 @@ class Test:
         return self.room / name
 
     def open(self, report, outputs, name="disk"):
-        """Opens a report with those outputs that aren't None, and gives what the page reports."""
+        """Opens a report with the outputs that aren't None, and returns the numbers that the page shows."""
         self.put(f"{name}.json", written(report))
         files = [f"{name}.json"]
         for output in OUTPUTS:
@@ -310,40 +311,40 @@ class Test:
                 self.put(f"{name}.{output}", outputs[output])
                 files.append(f"{name}.{output}")
         self.browser.open(f"{self.site}/{self.page}?{'&'.join(files)}")
-        return self.browser.told()
+        return self.browser.shown()
 
-    def check_counts(self, what, told, right):
-        differing = {key: (told.get(key), right[key]) for key in right if told.get(key) != right[key]}
+    def check_counts(self, what, shown, right):
+        differing = {key: (shown.get(key), right[key]) for key in right if shown.get(key) != right[key]}
         self.check(f"{what}: the page counts what the report has", not differing, differing)
 
     def check_silence(self, what):
-        self.check(f"{what}: nothing went wrong in the page", not self.browser.errors, self.browser.errors)
+        self.check(f"{what}: the page had no error", not self.browser.errors, self.browser.errors)
         self.browser.errors.clear()
 
-    def check_picture(self, what, told, report, outputs):
-        """Compares all that the page shows of a disk with what picture.py makes of its report and its outputs."""
-        self.check_counts(what, told, picture.told_of(report, outputs))
+    def check_picture(self, what, shown, report, outputs):
+        """Compares what the page shows of a disk with what picture.py computes from the report and the outputs."""
+        self.check_counts(what, shown, picture.expected_of(report, outputs))
         right = picture.verdict(report, outputs)
-        self.check_verdict(what, told, right)
+        self.check_verdict(what, shown, right)
         texts = self.browser.value("[...document.querySelectorAll('#headline div')].map((box) => "
                                    "[...box.children].map((one) => one.textContent).filter(Boolean))")
         self.check(f"{what}: the headline has its sizes", texts == picture.headline_lines(report, outputs),
                    (texts, picture.headline_lines(report, outputs)))
         links = self.browser.value("[...document.querySelectorAll('#wrong a')].map((link) => link.getAttribute('href'))")
         places = [f"#{extent}:{offset}" for extent, offset in picture.linked_places(report, outputs)]
-        self.check(f"{what}: the links of what is wrong are its places", links == places, (links, places))
-        self.check_overview(what, told, report, outputs)
+        self.check(f"{what}: the findings link to their places", links == places, (links, places))
+        self.check_overview(what, shown, report, outputs)
         self.check_gain(what, report, outputs)
-        self.check_doubts(what, told, report, outputs)
+        self.check_doubts(what, shown, report, outputs)
         self.check_labels(what, report, outputs)
         self.check_first_screen(what, report, outputs)
 
-    def check_verdict(self, what, told, right):
-        """The verdict's class, its computed colour, its words, and the rule that only a sound one has any green."""
-        shown = told.get("verdict", {})
+    def check_verdict(self, what, shown, right):
+        """Checks the verdict's class, computed colour and words, and that nothing is green unless it is sound."""
+        verdict = shown.get("verdict", {})
         colour = self.browser.value("getComputedStyle(document.getElementById('verdict')).color")
         self.check(f"{what}: the verdict is {right}, in its colour",
-                   shown.get("is") == right and colour == picture.COLOURS[right], (shown, colour))
+                   verdict.get("is") == right and colour == picture.COLOURS[right], (verdict, colour))
         word = self.browser.text("verdict-word")
         begins = {"wrong": "✖ Wrong", "doubt": "? In doubt", "sound": "✔ Sound"}[right]
         self.check(f"{what}: the verdict's word is '{begins}'", word.startswith(begins), word)
@@ -351,12 +352,12 @@ class Test:
         self.check(f"{what}: green is seen if and only if the verdict is sound", (green > 20) == (right == "sound"), green)
         self.check(f"{what}: no green at all unless it is sound", right == "sound" or green == 0, green)
 
-    def check_doubts(self, what, told, report, outputs):
-        """The banner, the list of doubts and the tile have one count, and each doubt its sentences, its link and no green."""
-        right = picture.verdict_word(report, outputs)
-        self.check(f"{what}: the banner's first line", self.browser.text("verdict-word") == right, (told["verdict"]["word"], right))
+    def check_doubts(self, what, shown, report, outputs):
+        """Checks that banner, list and tile count the same doubts, and that each doubt has its sentences and its link."""
+        right, verdict = picture.verdict_word(report, outputs), shown["verdict"]
+        self.check(f"{what}: the banner's first line", self.browser.text("verdict-word") == right, (verdict["word"], right))
         parts = picture.banner_parts(report)
-        self.check(f"{what}: the banner says {parts}", all(part in told["verdict"]["text"] for part in parts), told["verdict"]["text"])
+        self.check(f"{what}: the banner says {parts}", all(part in verdict["text"] for part in parts), verdict["text"])
         title = f"What is in doubt ({picture.doubts_text(report, outputs) or 0})"
         self.check(f"{what}: the title of the doubts", self.browser.text("doubts-title") == title, self.browser.text("doubts-title"))
         listed = self.browser.value("[...document.querySelectorAll('#doubts .note.doubt li')].map((one) => "
@@ -364,7 +365,8 @@ class Test:
         right = [[text, place and f"#{place[0]}:{place[1]}"] for text, place in picture.shown_doubts(report, outputs)]
         self.check(f"{what}: the list of doubts", listed == right, (listed, right))
         ticks = self.browser.value("document.body.innerText.includes('✔')")
-        self.check(f"{what}: there is a tick only where the verdict is sound", ticks == (picture.verdict(report, outputs) == "sound"))
+        is_sound = picture.verdict(report, outputs) == "sound"
+        self.check(f"{what}: there is a tick only if the verdict is sound", ticks == is_sound)
 
     def check_labels(self, what, report, outputs):
         shown = self.browser.value("Object.fromEntries(disk.report.extents.map(({extent}) => [extent, labelOf(disk.rows[extent])]))")
@@ -373,20 +375,20 @@ class Test:
         self.check(f"{what}: the words beside the bars", len(shown) == len(right) and not differing, differing[:5])
 
     def check_first_screen(self, what, report, outputs):
-        """The first extent with a finding or a tail is in sight. Where it is on the first screen, nothing is scrolled."""
+        """Checks that the first extent with a finding or a tail is in sight, and that nothing is scrolled without need."""
         first = picture.first_in_need(report, outputs)
         top, height, row = self.browser.value("(({scrollTop, clientHeight}) => [scrollTop, clientHeight, ROW])(document.getElementById('scroll'))")
         is_right = top == 0 if (first + 1) * row <= height else top <= first * row and (first + 1) * row <= top + height
         self.check(f"{what}: extent {first} is in sight", is_right, (top, height, row))
 
     def in_sight(self):
-        """Scrolls to the top, and gives how many extents, from 0 on, have their bars in sight then."""
+        """Scrolls to the top, and returns how many extents, from 0 on, then have their bars in sight."""
         self.browser.value("document.getElementById('scroll').scrollTop = 0")
         self.browser.settle()
         return self.browser.value("Math.floor(document.getElementById('scroll').clientHeight / ROW)")
 
     def green_pixels(self):
-        """How many pixels of the screen are greener than they are red or blue."""
+        """The number of pixels on the screen that are more green than red and than blue."""
         shot = self.browser.call("Page.captureScreenshot", format="png")["data"]
         return self.browser.value(f"""(async () => {{
             const image = await createImageBitmap(await (await fetch('data:image/png;base64,{shot}')).blob());
@@ -400,13 +402,13 @@ class Test:
             return green;
         }})()""")
 
-    def check_overview(self, what, told, report, outputs):
-        """Looks at a pixel of each cell of the overview: it has the colour of the worst of its extents."""
-        grid, names = told["overview"], list(picture.CLASSES)
+    def check_overview(self, what, shown, report, outputs):
+        """Checks a pixel of each cell of the overview. It has the colour of the cell's worst extent."""
+        grid, names = shown["overview"], list(picture.CLASSES)
         of_extents = [names.index(name) for name in picture.classes(report, outputs)]
         each = grid["perCell"]
         right = [list(picture.CLASSES.values())[min(of_extents[first:first + each])] for first in range(0, len(of_extents), each)]
-        # Signs are in the middle of a cell, and a line round it.
+        # A sign is in the middle of a cell, and a line around the cell.
         seen = self.browser.value(f"""(() => {{
             const canvas = document.getElementById('overview'), ratio = devicePixelRatio;
             const pixels = canvas.getContext('2d').getImageData(0, 0, canvas.width, canvas.height).data, colours = [];
@@ -426,7 +428,7 @@ class Test:
         self.check(f"{what}: the whole overview is on one screen, in cells of 2 pixels or more", fits and grid["cell"] >= 2, grid)
 
     def check_gain(self, what, report, outputs):
-        """What the page says of the extents to gain: never a permission that reclaimable didn't give."""
+        """Checks what the page says about the extents to gain. It gives no permission unless reclaimable did."""
         state, text = picture.gain_state(outputs), self.browser.text("candidates").replace(",", "")
         short_size = lambda count: picture.short_size(count).replace(",", "")
         notes = self.browser.value("[...document.querySelectorAll('#candidates .note')].map((one) => one.className)")
@@ -454,20 +456,20 @@ class Test:
             self.check(f"{what}: what reclaimable names is listed", all(part in text for part in parts), (parts, text))
 
     def check_hovering(self, what, report, most, owners=None):
-        """Hovers over the middle of items that are wide enough, of extents in sight. Each has to be shown by its line."""
+        """Hovers over the middle of items that are in sight and wide enough. Each has to show its line."""
         in_sight = self.in_sight()
         size = report["geometry"]["page"] * report["geometry"]["pages"]
         items = [(extent, words) for extent, words in joined(report)
                  if extent < in_sight and (int(words[2]) - int(words[1])) * 600 > size]
         for extent, words in items[:most]:
-            told = self.browser.hovered(extent, (int(words[1]) + int(words[2])) / 2)
-            right = " ".join(words) in str(told)
+            shown = self.browser.hovered(extent, (int(words[1]) + int(words[2])) / 2)
+            right = " ".join(words) in str(shown)
             if owners and right and (extent, words[1]) in owners:
-                right = all(owner in told for owner in owners[extent, words[1]])
-            self.check(f"{what}: hovering over {words[:3]} of extent {extent} shows it", right, told)
+                right = all(owner in shown for owner in owners[extent, words[1]])
+            self.check(f"{what}: hovering over {words[:3]} of extent {extent} shows it", right, shown)
 
     def check_colours(self, what, report):
-        """Looks at the pixels of items that are wide enough, of extents in sight."""
+        """Checks the pixels of items that are in sight and wide enough."""
         in_sight = self.in_sight()
         size = report["geometry"]["page"] * report["geometry"]["pages"]
         fills = self.browser.value("Object.fromEntries(KINDS.filter(Boolean).map(({name, fill}) => [name, fill]))")
@@ -486,22 +488,22 @@ class Test:
                                self.browser.value(colour) in seen, seen)
 
     def check_marks(self, what, report):
-        """Hovers over the places of hidden and dangling locators and of tails, of extents in sight."""
+        """Hovers over the hidden chunks, the places of dangling locators and the tails that are in sight."""
         in_sight = self.in_sight()
         size = report["geometry"]["page"] * report["geometry"]["pages"]
         for locator in report["hidden"] + report["dangling"]:
             if 0 < locator["extent"] < min(in_sight, report["geometry"]["extents"]) and locator["offset"] < size:
-                told = self.browser.hovered(locator["extent"], locator["offset"] + .5)
+                shown = self.browser.hovered(locator["extent"], locator["offset"] + .5)
                 right = [locator["owner"], locator["uuid"], locator.get("reason", "hidden: a whole chunk")]
-                self.check(f"{what}: hovering shows {right}", all(part in str(told) for part in right), told)
-        for told in report["extents"]:
-            if told["tail"] and told["extent"] < in_sight:
-                seen = self.browser.hovered(told["extent"], told["tail_at"] + .5)
-                self.check(f"{what}: hovering shows the tail of extent {told['extent']}",
-                           f"the first at {told['tail_at']:,}" in str(seen), seen)
+                self.check(f"{what}: hovering shows {right}", all(part in str(shown) for part in right), shown)
+        for reported in report["extents"]:
+            if reported["tail"] and reported["extent"] < in_sight:
+                shown = self.browser.hovered(reported["extent"], reported["tail_at"] + .5)
+                self.check(f"{what}: hovering shows the tail of extent {reported['extent']}",
+                           f"the first at {reported['tail_at']:,}" in str(shown), shown)
 
     def check_without_superblock(self, what, report):
-        """Nothing is called live, written or an orphan where no superblock is known, and no write pointer is drawn."""
+        """Checks that without a superblock nothing is called live, written or an orphan, and no write pointer is drawn."""
         if picture.has_superblock(report):
             return
         legend = self.browser.text("legend").lower()
@@ -510,14 +512,14 @@ class Test:
         pointers = self.browser.value("disk.rows.filter((row) => row.pointer !== null).length")
         self.check(f"{what}: no write pointer is drawn", pointers == 0, pointers)
         in_sight = self.in_sight()
-        told = next((told for told in report["extents"] if told["items"] and told["extent"] < in_sight), None)
-        if told:
-            seen = str(self.browser.hovered(told["extent"], 1))
+        first = next((one["extent"] for one in report["extents"] if one["items"] and one["extent"] < in_sight), None)
+        if first:
+            shown = str(self.browser.hovered(first, 1))
             self.check(f"{what}: hovering calls nothing live, written or an orphan",
-                       not re.search(r"live|written|orphan|named by", seen), seen)
+                       not re.search(r"live|written|orphan|named by", shown), shown)
 
     def check_links(self, what):
-        """Follows the links of what is wrong, of candidates and of retired extents, a hundred at most."""
+        """Follows the links to findings, doubts, candidates and retired extents, a hundred at most."""
         for index in range(min(100, self.browser.value("document.querySelectorAll('aside a').length"))):
             link = f"document.querySelectorAll('aside a')[{index}]"
             place = self.browser.value(f"{link}.click(), {link}.getAttribute('href')")
@@ -543,8 +545,8 @@ class Test:
             is_great = disk.report["geometry"]["extents"] > 1000
             for outputs in ({}, disk.outputs) if is_great else self.choices(disk.outputs):
                 what = f"the disk {name} with {', '.join(outputs) or 'its report alone'}"
-                told = self.open(disk.report, outputs, name)
-                self.check_picture(what, told, disk.report, outputs)
+                shown = self.open(disk.report, outputs, name)
+                self.check_picture(what, shown, disk.report, outputs)
                 self.check_without_superblock(what, disk.report)
                 self.browser.call("Input.dispatchMouseEvent", type="mouseMoved", x=1, y=1)
                 if len(outputs) in (0, len(OUTPUTS)):
@@ -557,8 +559,8 @@ class Test:
             self.check_silence(name)
 
     def check_overview_clicks(self, what, disk):
-        """A click on a cell leads to the first of its worst extents."""
-        grid = self.browser.told()["overview"]
+        """Checks that a click on a cell leads to the first of its worst extents."""
+        grid = self.browser.shown()["overview"]
         box = self.browser.value("(({left, top}) => ({left, top}))(document.getElementById('overview').getBoundingClientRect())")
         names = list(picture.CLASSES)
         of_extents = [names.index(name) for name in picture.classes(disk.report, disk.outputs)]
@@ -573,7 +575,7 @@ class Test:
             self.check(f"{what}: a click on cell {cell} leads to extent {right}", re.match(rf"extent {right}\b", here), here)
 
     def check_program(self, what, disk):
-        """Whether the built program prints what this disk is opened with."""
+        """Checks that the built program prints what this disk is opened with."""
         if not BUILT.exists():
             return
         image = self.room / "image"
@@ -581,7 +583,7 @@ class Test:
         sizes = [str(word) for name, key in (("--page", "page"), ("--pages", "pages"), ("--extents", "extents"))
                  for word in (name, disk.report["geometry"][key])]
         for command, right in {"scan": written(disk.report), **disk.outputs}.items():
-            done = subprocess.run([TOP / "shardscrub", command, *sizes, image, *(f"{e}:{g}" for e, g in disk.bad)],
+            done = subprocess.run([TOP / "shardscrub", command, *sizes, image, *(f"{e}:{g}" for e, g in disk.unreadable)],
                                   capture_output=True, encoding="utf-8", stdin=subprocess.DEVNULL)
             self.check(f"{what}: {command} prints what the page is opened with", done.stdout == right, done.stderr)
 
@@ -589,15 +591,15 @@ class Test:
         name, disk = f"{number:02}", disk_of(command)
         outputs = {"locators": "".join(line + "\n" for line in fitting_locators(report))} if disk is None else disk.outputs
         self.check(f"{command}: the report is that of the image", disk is None or disk.report == report)
-        told = self.open(report, {}, name)
-        self.check_picture(command, told, report, {})
+        shown = self.open(report, {}, name)
+        self.check_picture(command, shown, report, {})
         self.check_hovering(command, report, 40)
         self.check_colours(command, report)
         self.check_marks(command, report)
         self.check_without_superblock(command, report)
         self.check_links(command)
-        told = self.open(report, outputs, name)
-        self.check_picture(f"{command}, with outputs", told, report, outputs)
+        shown = self.open(report, outputs, name)
+        self.check_picture(f"{command}, with outputs", shown, report, outputs)
         owners = {}
         for line in outputs["locators"].splitlines():
             words = line.split(" ")
@@ -607,41 +609,42 @@ class Test:
         self.check_silence(command)
 
     def ways_to_open(self, report):
-        """The page as a file of the system, which may read no other file by itself."""
+        """Opens the page as a file of the system. Then it can't read other files by itself."""
         browser = self.browser
         outputs = {"locators": "".join(line + "\n" for line in fitting_locators(report))}
-        alone, both = picture.told_of(report, {}), picture.told_of(report, outputs)
+        alone, both = picture.expected_of(report, {}), picture.expected_of(report, outputs)
         json_file, locators = self.put("01.json", written(report)), self.put("01.locators", outputs["locators"])
         for way, put in (("the file picker", browser.choose_files), ("drag and drop", browser.drop_files)):
             browser.open(PAGE.as_uri())
             self.check(f"by {way}: the commands are shown before anything is open",
                        "shardscrub superblocks --page P" in browser.text("empty"))
             put(json_file)
-            self.check_counts(f"by {way}", browser.told(), alone)
+            self.check_counts(f"by {way}", browser.shown(), alone)
             browser.forget()
             put(locators)
-            self.check_counts(f"locators by {way} later", browser.told(), both)
+            self.check_counts(f"locators by {way} later", browser.shown(), both)
             browser.open(PAGE.as_uri())
             put(locators, json_file)
-            self.check_counts(f"both by {way}", browser.told(), both)
+            self.check_counts(f"both by {way}", browser.shown(), both)
             browser.open(PAGE.as_uri())
             put(locators)
-            self.check(f"locators alone by {way}: the report is asked for", "Open the report" in browser.told()["fault"])
+            self.check(f"locators alone by {way}: the report is asked for", "Open the report" in browser.shown()["fault"])
             put(json_file)
-            self.check_counts(f"the report by {way} later", browser.told("drawn"), both)
+            self.check_counts(f"the report by {way} later", browser.shown("drawn"), both)
             browser.forget()
             put(json_file)
-            self.check_counts(f"the report once more by {way}: the outputs of the one before are closed", browser.told(), alone)
+            self.check_counts(f"the report once more by {way}: the earlier outputs are closed", browser.shown(), alone)
         self.check_silence("the ways to open")
 
     def what_cannot_be_opened(self, report):
         browser = self.browser
         cases = (
             ("a list", "wrong.json", "[1]\n", "it isn't a report"),
-            ("half a report", "wrong.json", written(report)[:200], "it isn't JSON, or not all of it"),
+            ("half a report", "wrong.json", written(report)[:200], "it isn't JSON, or it is cut short"),
             ("a report without a key", "wrong.json", written({key: report[key] for key in report if key != "twins"}), "no key twins"),
             ("an unknown item", "wrong.json", written(report).replace('"chunk ', '"lump ', 1), "isn't understood"),
-            ("an extent that is left out", "wrong.json", written(report | {"extents": report["extents"][1:]}), "nothing of extent 1"),
+            ("an extent that is left out", "wrong.json", written(report | {"extents": report["extents"][1:]}),
+             "the report lacks extent 1"),
             ("a line between two reports", "wrong.json", written(report) + "image too long\n" + written(report), "line 2"),
             ("a word of a locator that is left out", "wrong.txt", "run 0 2 0 117 sound\n", "line 1 isn't a line of locators"),
             ("an unknown state", "wrong.txt", "record 0 SSB1 1 new\n", "line 1 isn't a line of superblocks"),
@@ -654,31 +657,31 @@ class Test:
         for what, name, text, right in cases:
             self.put(name, text)
             browser.open(f"{self.site}/report.html?{name}")
-            fault = browser.told().get("fault") or ""
+            fault = browser.shown().get("fault") or ""
             self.check(f"{what} is refused", right in fault and browser.text("fault") == fault.strip(), fault)
             self.check(f"{what}: no picture is shown", browser.value("document.querySelector('main').hidden"
                                                                     " && document.getElementById('answer').hidden"))
         browser.open(f"{self.site}/report.html?no-such.json")
-        self.check("a path without a file is refused", "404" in browser.told()["fault"])
+        self.check("a path without a file is refused", "404" in browser.shown()["fault"])
         browser.open(PAGE.as_uri() + "?no-such.json")
-        self.check("a file of the system isn't read by itself, and the page says so", "Choose the report above" in browser.told()["fault"])
+        self.check("a file of the system isn't read by itself, and the page says so",
+                   "Choose the report above" in browser.shown()["fault"])
         self.put("right.json", written(report))
         self.put("one.superblocks", "")
         self.put("two.superblocks", "")
         browser.open(f"{self.site}/report.html?right.json&one.superblocks&two.superblocks")
-        self.check("two outputs of one command are refused", "second output of superblocks" in browser.told()["fault"])
-        told = self.open(report | {"clean": not report["clean"]}, {})
-        self.check("a report that contradicts itself is never sound", "contradicts itself" in told["fault"]
-                   and told["verdict"]["is"] == ("wrong" if report["clean"] else "doubt"), told)
+        self.check("two outputs of one command are refused", "second output of superblocks" in browser.shown()["fault"])
+        shown = self.open(report | {"clean": not report["clean"]}, {})
+        self.check("a report that contradicts itself is never sound", "contradicts itself" in shown["fault"]
+                   and shown["verdict"]["is"] == ("wrong" if report["clean"] else "doubt"), shown)
         browser.forget()
         browser.choose_files(self.put("half.json", written(report)[:100]))
-        self.check("what is refused later leaves the picture, with the fault above", "JSON" in browser.told()["fault"]
+        self.check("a file that is refused later leaves the picture, with the fault above", "JSON" in browser.shown()["fault"]
                    and not browser.value("document.querySelector('main').hidden"))
         self.check_silence("what can't be opened")
 
     def outputs_that_do_not_fit(self):
-        """All outputs, with each line of one of them left out, given twice, and with each of its words changed: none of these may
-        fit, and with none of these the disk may look sound. That damaged pages are left out shows by the other outputs alone."""
+        """Opens all outputs with a line left out, given twice, or with a changed word. None of these may fit or look sound."""
         browser = self.browser
         for name in ("in-order", "flipped-bit", "tail", "no-superblock", "hidden"):
             disk = picture.looked_at(name)
@@ -691,20 +694,21 @@ class Test:
                         files = [{"name": f"x.{one}", "text": right} for one, right in (disk.outputs | {output: other}).items()]
                         asked = (f"(openTexts({json.dumps(files)}), "
                                  "(({misfits, fault, verdict}) => ({misfits, fault, is: verdict?.is}))"
-                                 "(JSON.parse(document.getElementById('told').textContent)))")
-                        told = browser.value(asked)
-                        is_seen = told.get("misfits") or "isn't a line" in (told["fault"] or "")
-                        self.check(f"{name}: {instead} in place of '{line}' doesn't fit", is_seen and told.get("is") != "sound", told)
+                                 "(JSON.parse(document.getElementById('shown').textContent)))")
+                        shown = browser.value(asked)
+                        is_seen = shown.get("misfits") or "isn't a line" in (shown["fault"] or "")
+                        self.check(f"{name}: {instead} instead of '{line}' doesn't fit",
+                                   is_seen and shown.get("is") != "sound", shown)
                         browser.value("outputs = {}, openRow(0)")
         disk = picture.looked_at("in-order")
-        told = self.open(disk.report, disk.outputs | {"superblocks": "record 0 SSB1 40 counts\n"})
-        self.check("a superblock of another generation: no verdict is sound", told["verdict"]["is"] == "doubt"
-                   and "superblocks doesn't fit" in browser.text("fault"), told)
+        shown = self.open(disk.report, disk.outputs | {"superblocks": "record 0 SSB1 40 counts\n"})
+        self.check("a superblock of another generation: no verdict is sound", shown["verdict"]["is"] == "doubt"
+                   and "superblocks doesn't fit" in browser.text("fault"), shown)
         self.check("outputs of another disk: they are named", "doesn't fit" in browser.text("opened"))
         self.check_silence("outputs that don't fit")
 
     def rows_of_disks(self, reports):
-        """A file with a row for each disk. Some have no report, and are wrong."""
+        """Opens a file with a row for each disk. A row without a report is wrong."""
         browser = self.browser
         rows = [{"disk": name, "status": 0 if report["clean"] else 1, "text": "", **report} for name, report in reports.items()]
         unanswered = [{"disk": "too-long", "status": 3, "text": "shardscrub: image too long"},
@@ -713,7 +717,7 @@ class Test:
         rows += unanswered[1:]
         self.put("disks.jsonl", "".join(map(written, rows)))
         browser.open(f"{self.site}/report.html?disks.jsonl")
-        told = browser.told()
+        browser.shown()
         listed = browser.value("[...document.getElementById('disks').options].map((one) => one.textContent)")
         self.check("each row is in the chooser", len(listed) == len(rows) and all(
             one.startswith(row["disk"] + ": ") for one, row in zip(listed, rows)), listed)
@@ -721,15 +725,15 @@ class Test:
             what = f"row {index}, {row['disk']}"
             browser.value(f"(choice => {{ choice.value = {index}; choice.dispatchEvent(new Event('change')); }})"
                           "(document.getElementById('disks'))")
-            told = browser.told()
+            shown = browser.shown()
             self.check(f"{what}: its name is shown", browser.text("name") == f"{row['disk']} (disks.jsonl)", browser.text("name"))
             if "super" in row:
-                self.check_counts(what, told, picture.told_of(row, {}))
-                self.check_verdict(what, told, picture.verdict(row, {}))
+                self.check_counts(what, shown, picture.expected_of(row, {}))
+                self.check_verdict(what, shown, picture.verdict(row, {}))
                 self.check(f"{what}: it isn't called wrong in the chooser unless it is",
                            listed[index].endswith(": wrong") == (not row["clean"]), listed[index])
             else:
-                self.check_verdict(what, told, "wrong")
+                self.check_verdict(what, shown, "wrong")
                 text = browser.text("verdict")
                 self.check(f"{what}: its status and its text are shown, and no picture", f"status {row['status']}" in text
                            and row["text"] in text and browser.value("document.querySelector('main').hidden"), text)
@@ -739,22 +743,23 @@ class Test:
         wrong = {"disk": "x", "status": 1 if rows[0]["clean"] else 0, **reports[rows[0]["disk"]]}
         self.put("row.jsonl", written(wrong))
         browser.open(f"{self.site}/report.html?row.jsonl")
-        self.check("a status that isn't the report's is a contradiction", "contradicts itself" in (browser.told()["fault"] or ""))
+        self.check("a status that isn't the report's is a contradiction",
+                   "contradicts itself" in (browser.shown()["fault"] or ""))
         self.check_silence("rows of disks")
 
     def made_up_disks(self):
         disks = {}
         for turn in range(MADE_UP):
             made = Made(random.Random(turn))
-            bad = made.make()
-            disks[f"made-up disk {turn}"] = Pictured(Image(bytes(made.raw), made.p, made.n, made.e, bad),
+            unreadable = made.make()
+            disks[f"made-up disk {turn}"] = Pictured(Image(bytes(made.raw), made.p, made.n, made.e, unreadable),
                                                      picture.ACCEPTABLE[:turn % 5])
         seen = Counter()
         for turn, (name, disk) in enumerate(disks.items()):
             outputs = list(self.choices(disk.outputs))[turn % 8]
-            told = self.open(disk.report, outputs)
+            shown = self.open(disk.report, outputs)
             seen[picture.verdict(disk.report, outputs)] += 1
-            self.check_picture(f"{name} with {', '.join(outputs)}", told, disk.report, outputs)
+            self.check_picture(f"{name} with {', '.join(outputs)}", shown, disk.report, outputs)
             if turn % 10 == 0:
                 self.check_hovering(name, disk.report, 20)
                 self.check_colours(name, disk.report)
@@ -768,7 +773,7 @@ class Test:
         browser = self.browser
         self.put("01.json", written(next(iter(example_reports().values()))))
         browser.open(f"{self.site}/report.html?01.json")
-        browser.told()
+        browser.shown()
         here = lambda: browser.text("here").split("\n")[0]
         browser.value("document.getElementById('scroll').focus()")
 
@@ -795,14 +800,14 @@ class Test:
         self.check("zooming in and out shows whole extents", browser.text("range") == whole, browser.text("range"))
         self.put("tail.json", written(picture.looked_at("tail").report))
         browser.open(f"{self.site}/report.html?tail.json#2:0")
-        browser.told()
+        browser.shown()
         top = browser.value("document.getElementById('scroll').scrollTop")
         self.check("an address that names a place leads there, not to the first finding", top == 0 and here().startswith("extent 2:"),
                    (top, here()))
         self.check_silence("keys and buttons")
 
-    def check_times(self, what, told, lines):
-        took = told["milliseconds"]
+    def check_times(self, what, shown, lines):
+        took = shown["milliseconds"]
         print(f"{what}, {lines:,} lines of outputs: prepared in {took['prepared']:.0f} ms, listed in {took['listed']:.0f}, "
               f"drawn in {took['drawn']:.0f}", flush=True)
         self.check(f"{what}: opened soon enough", sum(took.values()) <= MOST_OPENING, took)
@@ -820,60 +825,61 @@ class Test:
         lines = fitting_locators(report)
         what = f"{len(items_of(report)):,} items in {report['geometry']['extents']:,} extents"
         for outputs in ({}, {"locators": "".join(line + "\n" for line in lines)}):
-            told = self.open(report, outputs, "many")
-            self.check_picture(what, told, report, outputs)
-            self.check_times(what, told, sum(map(len, outputs.values())) and len(lines))
+            shown = self.open(report, outputs, "many")
+            self.check_picture(what, shown, report, outputs)
+            self.check_times(what, shown, sum(map(len, outputs.values())) and len(lines))
         self.check_drawing("many items", ("whole extents", "draw();"), ("a sixteenth of them", "view = {from: 3e5, span: 65536}; draw();"),
                            ("a page", "view = {from: 3e5, span: 4096}; draw();"), ("the overview", "drawOverview();"),
-                           ("what lies under the mouse, 1,000 times", "for (let x = 160; x < 1160; x++) "
+                           ("what is under the mouse, 1,000 times", "for (let x = 160; x < 1160; x++) "
                             "pixelAt(600, 600) && describe(disk.rows[1], x * 800, x * 800 + 900, 9);"))
         browser.value("show(0, disk.size)")
         self.check_links(what)
         for name, place in (("many-items", ""), ("many-items-end", "#999:4000000")):
             browser.open(f"{self.site}/report.html?many.json&many.locators{place}")
-            browser.told()
+            browser.shown()
             browser.screenshot(self.shots / f"{name}.png")
         self.check_silence("many items")
 
     def many_extents(self):
-        """65,536 extents: a real disk, which has no superblock, and a made-up report with one. Also in a small window, where
-        several extents share a cell."""
+        """Opens 65,536 extents: a real disk, which has no superblock, and a made-up report with one. In a small window several
+        extents share a cell."""
         disk, (report, outputs) = picture.looked_at("most-extents"), picture.most_rows()
         for what, report, outputs in (("65,536 extents without a superblock", disk.report, disk.outputs),
                                       ("65,536 extents with a superblock, made up", report, outputs)):
-            told = self.open(report, outputs, "extents")
-            self.check_picture(what, told, report, outputs)
-            self.check(f"{what}: a cell for each extent", told["overview"]["perCell"] == 1, told["overview"])
-            self.check_times(what, told, sum(len(text.splitlines()) for text in outputs.values()))
+            shown = self.open(report, outputs, "extents")
+            self.check_picture(what, shown, report, outputs)
+            self.check(f"{what}: a cell for each extent", shown["overview"]["perCell"] == 1, shown["overview"])
+            self.check_times(what, shown, sum(len(text.splitlines()) for text in outputs.values()))
             self.check_drawing(what, ("the bars", "draw();"), ("the overview", "drawOverview();"))
         self.browser.screenshot(self.shots / "extents-made-up.png")
         self.browser.call("Emulation.setDeviceMetricsOverride", width=1000, height=600, deviceScaleFactor=1, mobile=False)
-        told = self.open(report, outputs, "extents")
-        self.check_overview(f"{what}, in a small window", told, report, outputs)
-        self.check(f"{what}, in a small window: several extents share a cell", told["overview"]["perCell"] > 1, told["overview"])
+        shown = self.open(report, outputs, "extents")
+        self.check_overview(f"{what}, in a small window", shown, report, outputs)
+        self.check(f"{what}, in a small window: several extents share a cell", shown["overview"]["perCell"] > 1,
+                   shown["overview"])
         self.browser.screenshot(self.shots / "extents-small-window.png")
         self.browser.call("Emulation.clearDeviceMetricsOverride")
         self.check_silence("many extents")
 
     def wrong_pages(self):
-        """Pages with one place changed, so that they look better than the disk or count wrongly: each has to be seen here."""
+        """Opens pages with a changed place, which look better than the disk or count wrongly. The checks have to find each."""
         text = PAGE.read_text(encoding="utf-8")
         passed, failed = self.passed, self.failed
         unseen = []
         self.page, self.is_loud = "wrong.html", False
         for what, old, new, name in WRONG_PAGES:
             if text.count(old) != 1:
-                unseen.append(f"{what}: its place is there {text.count(old)} times")
+                unseen.append(f"{what}: the page has its place {text.count(old)} times")
                 continue
             self.put("wrong.html", text.replace(old, new))
             self.failed = 0
             disk = picture.looked_at(name)
             for outputs in ({}, disk.outputs):
-                told = self.open(disk.report, outputs, name)
-                if told.get("state") != "drawn":
-                    unseen.append(f"{what}: nothing is drawn, so nothing is shown")
+                shown = self.open(disk.report, outputs, name)
+                if shown.get("state") != "drawn":
+                    unseen.append(f"{what}: nothing is drawn")
                     break
-                self.check_picture(what, told, disk.report, outputs)
+                self.check_picture(what, shown, disk.report, outputs)
                 self.check_without_superblock(what, disk.report)
             if self.failed == 0:
                 unseen.append(f"{what}: not seen")
@@ -885,7 +891,7 @@ class Test:
 
 
 def changed(line):
-    """The line with one of its words changed, for each word that may be; a locator's and a move's owner isn't in a report."""
+    """The line with one changed word, for each word that can be compared. A report has no owner of a locator or of a move."""
     words = line.split(" ")
     kept = 2 if words[0] in ("run", "shard") else 1
     for index in range(kept, len(words)):
@@ -902,43 +908,43 @@ def changed(line):
             yield " ".join([*words[:index], other, *words[index + 1:]])
 
 
-# Wrong pages: what is wrong, the place in the page, what stands there then, and the disk that shows it.
+# Wrong pages: what is wrong, the text of the place, the text that replaces it, and the disk that shows it.
 WRONG_PAGES = (
-    ("the verdict takes no notice of tails", "if (tails) areDoubts.push", "if (false) areDoubts.push", "tail"),
+    ("the verdict ignores tails", "if (tails) areDoubts.push", "if (false) areDoubts.push", "tail"),
     ("the verdict needs no superblocks", "if (!areDoubts.length && isRead && isWhole) {", "if (!tails && isRead) {", "in-order"),
     ("a damaged superblock is no finding", "disk.damagedPages.map(({word, page: number}) => ofPage(0, number, `: ${word}`)), false);",
      "[], false);", "flipped-bit"),
     ("without a superblock chunks are live", "if (!hasSuperblock) kind = CHUNK;", "if (!hasSuperblock) kind = LIVE;", "no-superblock"),
-    ("without a superblock the end of an extent is a write pointer", "pointer: hasSuperblock ? told.pointer : null", "pointer: told.pointer",
-     "no-superblock"),
+    ("without a superblock the end of an extent is a write pointer", "pointer: hasSuperblock ? reported.pointer : null",
+     "pointer: reported.pointer", "no-superblock"),
     ("unreadable pages are counted as items too", 'group("Torn", ofKind(TORN));', 'group("Torn", ofKind(TORN)); group("Lost", ofKind(LOST));',
      "hidden"),
     ("noise isn't joined", "last.stop === item.start) last.stop", "last.stop === -1) last.stop", "hidden"),
     ("a broken shard is as many findings as it has dangling locators", "return [...dangling].map(([owner, locators]) => {",
      "return [...dangling].flatMap(([owner, locators]) => locators.map((one) => [owner, [one]])).map(([owner, locators]) => {", "hidden"),
     ("broken shards come last", 'group("Broken shards", brokenShards(disk));\n', "", "hidden"),
-    ("an unread page behind a pointer is left out", "BAD_PAGE,\n    Math.max(number * page, told.pointer)", "PAD,\n    Math.max(number * page, told.pointer)",
-     "hidden"),
-    ("unread pages of the headline leave out extent 0", "const badPages = (isChosen", "disk.rows[0].badPages = NONE; const badPages = (isChosen",
-     "lost-superblock"),
+    ("an unreadable page past a pointer is left out", "UNREADABLE,\n    Math.max(number * page, reported.pointer)",
+     "PAD,\n    Math.max(number * page, reported.pointer)", "hidden"),
+    ("unreadable pages of the headline leave out extent 0", "const unreadablePages = (isChosen",
+     "disk.rows[0].unreadable = NONE; const unreadablePages = (isChosen", "lost-superblock"),
     ("a chunk with a changed payload is an orphan", "places.wrongDigests.has(key) ? DAMAGED : ORPHAN", "ORPHAN", "hidden"),
     ("candidates look like a permission", 'return [note("doubt", "Candidates', 'return [note("sound", "Candidates', "in-order"),
-    ("doubts of reclaimable are taken for an answer", 'openDoubts ? "barred" : "clear"', '"clear"', "flipped-bit"),
-    ("an extent with a tail looks well in the overview", "if (row.tail || (row.extent === 0", "if ((row.extent === 0", "tail"),
-    ("extent 0 looks well without superblocks", "row.extent === 0 && (disk.superblocks === null || !isFit(disk))",
+    ("doubts of reclaimable count as an answer", 'openDoubts ? "barred" : "clear"', '"clear"', "flipped-bit"),
+    ("an extent with a tail looks right in the overview", "if (row.tail || (row.extent === 0", "if ((row.extent === 0", "tail"),
+    ("extent 0 looks right without superblocks", "row.extent === 0 && (disk.superblocks === null || !isFit(disk))",
      "row.extent === 0 && !isFit(disk)", "in-order"),
     ("a doubt that is a finding too isn't in the list of doubts", "const lines = disk.doubts.filter((line) => line.kind === kind);",
      'const lines = disk.doubts.filter((line) => line.kind === kind && kind !== "superblock-damaged");', "flipped-bit"),
-    ("the tile offers what a doubt bars", 'const gain = headline.openDoubts ? ["nothing now"', 'const gain = headline.openDoubts ? [shortSize(headline.gain)',
-     "flipped-bit"),
+    ("the tile offers space that a doubt bars", 'const gain = headline.openDoubts ? ["nothing now"',
+     'const gain = headline.openDoubts ? [shortSize(headline.gain)', "flipped-bit"),
     ("candidates aren't barred beside their bars", '"barred candidate" : "candidate"', '"candidate" : "candidate"', "tail"),
     ("hidden chunks aren't beside their bar", 'if (hidden) live.push(many(hidden, "hidden chunk"));', "", "hidden"),
-    ("damage has no hidden chunks in it", "damagedHidden: sum(rows.map(damagedBytesInHidden))", "damagedHidden: 0", "hidden"),
+    ("no damage is in hidden chunks", "damagedHidden: sum(rows.map(damagedBytesInHidden))", "damagedHidden: 0", "hidden"),
     ("bytes of two hidden chunks are counted twice", "const from = Math.max(seen, offset)", "const from = Math.max(0, offset)", "hidden-twice"),
     ("without a superblock a damaged page may be accepted", "const isLast = disk.hasSuperblock ?", "const isLast = true ?", "no-superblock"),
     ("the first extent in doubt isn't brought into sight", "if (!isSame) scrollToFirst();", "", "tail"),
     ("an open file has a tick", "`open: scan, ${file}`", "`✔ scan, ${file}`", "tail"),
-    ("what is wrong looks well in the overview", "if (row.isWrong) return CLASS_OF.wrong;", "", "hidden"),
+    ("a finding looks right in the overview", "if (row.isWrong) return CLASS_OF.wrong;", "", "hidden"),
     ("hidden chunks are green", 'HIDDEN = "#7f3b08"', 'HIDDEN = "#009e73"', "hidden"),
     ("lost shards are called damaged", 'counts.readable ? "damaged" : "lost"', '"damaged"', "hidden"),
     ("sizes of the headline are off by ten", "bytes * 10 / unit) / 10", "bytes * 100 / unit) / 10", "hidden"),

@@ -1,13 +1,13 @@
 #!/usr/bin/env python3
-"""Holds view/summary.jq and view/changes.jq against the reports that they are made of. Needs jq.
+"""Compares what view/summary.jq and view/changes.jq print with the reports. Needs jq.
 
 usage: bench/views.py
 
-The reports are those of each image of examples/, with the arguments that examples/README.md runs it with, those of two
-made-up disks of 300 extents at several times of their lives, and those of small disks of hold.py. Each line that is printed
-is compared with one that is made here: sums of the report's items where the filters take the report's own sums, the
-unreadable pages by the lost items, and the doubts by the lines of `reclaimable`. Each finding and each change has to come up
-in some report. Ends with 'N passed, M failed', and with status 0 where all passed, else with 1.
+The reports are of three kinds of disks: each image of examples/, with the arguments of examples/README.md; two made-up disks
+of 300 extents, at several times; and small disks of hold.py. Each printed line is compared with a line that is computed here
+in another way: sums come from the items of the report, unreadable pages from the lost items, and doubts from the lines of
+`reclaimable`. Each finding and each change has to occur in some report. The last line is 'N passed, M failed'. Exit status:
+0 if all passed, else 1.
 """
 import functools
 import json
@@ -31,21 +31,21 @@ TOP = Path(__file__).resolve().parent.parent
 SUMMARY, CHANGES = TOP / "view/summary.jq", TOP / "view/changes.jq"
 SMALL_DISKS = 200
 SMALL_PAIRS = 40
-# Numbers of this size and above aren't exact in floating point.
+# From this number on, floating point isn't exact.
 INEXACT = 2 ** 53
 
 
 class Scanned(NamedTuple):
-    """A report, and the words of each doubt of `reclaimable` behind `doubt`."""
+    """A report, and the words of each doubt of `reclaimable`, without `doubt` itself."""
     name: str
     report: dict
     doubts: list
 
 
-# What the reports are of
+# The disks and their reports
 
 def shardscrub(*words):
-    """What the program prints, or nothing where it refuses its arguments or the image."""
+    """What the program prints; nothing if it refuses its arguments or the image."""
     done = subprocess.run([TOP / "shardscrub", *map(str, words)], cwd=TOP, stdin=subprocess.DEVNULL, capture_output=True)
     if done.returncode in (2, 3):
         return ""
@@ -54,21 +54,21 @@ def shardscrub(*words):
     return done.stdout.decode()
 
 
-def known(doubts):
-    """Without those that aren't in a report."""
+def in_report(doubts):
+    """The doubts that a report shows."""
     return [words for words in doubts if words[0] not in ("superblock-damaged", "superblock-stray")]
 
 
 def scanned(name, arguments, report):
-    """A report that scan printed, and what `reclaimable` says of the same disk."""
+    """A report that scan printed, with the doubts of `reclaimable` for the same disk."""
     lines = [line.split() for line in shardscrub("reclaimable", *arguments).splitlines()]
-    return Scanned(name, json.loads(report), known([words[1:] for words in lines if words[0] == "doubt"]))
+    return Scanned(name, json.loads(report), in_report([words[1:] for words in lines if words[0] == "doubt"]))
 
 
 def example_reports():
-    """Of each image of examples/, by the arguments with which examples/README.md has it looked at, each once.
+    """The reports of each image of examples/, with the arguments of examples/README.md, each once.
 
-    An image of which that page asks only the sizes is looked at with these.
+    If that page asks only for the sizes of an image, the report has these sizes.
     """
     page = (TOP / "examples/README.md").read_text(encoding="utf-8")
     found = {}
@@ -86,9 +86,9 @@ def example_reports():
 
 
 class Grown:
-    """A made-up disk of 300 extents of 80 pages of 64 bytes, whose reports are taken at several times of its life.
+    """A made-up disk of 300 extents of 80 pages of 64 bytes, for reports at several times.
 
-    Extents 1 to 270 have chunks, of which each ninth is nearly all garbage; extents 281 to 298 have an index run each.
+    Extents 1 to 270 have chunks; every ninth of them is nearly all garbage. Extents 281 to 298 have an index run each.
     """
     PAGES, EXTENTS = 80, 300
 
@@ -102,7 +102,7 @@ class Grown:
         self.runs = [self.index_run(281 + k, self.shards[k::18]) for k in range(18)]
 
     def named(self):
-        """A new UUID; each twentieth is one of four, and so some chunks have twins."""
+        """A new UUID. Every twentieth is one of four, so some chunks have twins."""
         return uuid(self.random.randrange(0xF0, 0xF4)) if self.random.random() < .05 else self.random.randbytes(16)
 
     def fill(self, extent):
@@ -118,7 +118,7 @@ class Grown:
                 offset += -offset % self.disk.page
 
     def bound_chunks(self):
-        """Pairs of an identifier and one to five chunks; now and then one that another shard has too."""
+        """Pairs of an identifier and one to five chunks. Every fortieth shard has one more, which another shard has too."""
         free, shards = self.chunks[:], []
         self.random.shuffle(free)
         for number in range(1, 250):
@@ -132,22 +132,22 @@ class Grown:
         return self.disk.chunk(extent, 0, self.named(), run(*sorted(shards)))
 
     def collide(self, extent):
-        """Behind what an extent has: a chunk whose end a crash lost, a new one over it, and the new one's locator."""
+        """Adds a chunk whose end a crash lost, and a new chunk over its end. Returns the new chunk's locator."""
         begin = self.disk.pointers[extent - 1]
         bound = begin + 38 + -(begin + 38) % self.disk.page
         self.disk.chunk(extent, begin, bytes(14) + MAGIC, b"x" * (bound + 2 - 38 - begin))
         return self.disk.chunk(extent, bound, uuid(extent % 256), b"abc")
 
 
-def report_of(folder, name, disk, bad=()):
+def report_of(folder, name, disk, unreadable=()):
     image = folder / "image"
     image.write_bytes(disk.bytes)
-    arguments = [*disk.geometry(), image, *(f"{extent}:{page}" for extent, page in bad)]
+    arguments = [*disk.geometry(), image, *(f"{extent}:{page}" for extent, page in unreadable)]
     return scanned(name, arguments, shardscrub("scan", *arguments))
 
 
 def damaged_lives(folder):
-    """A disk, with damage that leaves no doubt to a report, without that again, and with two extents retired."""
+    """A disk; with damage that raises no doubt in a report; repaired; with two retired extents; without its newest run."""
     grown = Grown(1)
     disk, runs = grown.disk, grown.runs
     hidden = [grown.collide(extent) for extent in (7, 14, 21, 28, 35, 42)]
@@ -157,9 +157,9 @@ def damaged_lives(folder):
     kept = bytes(disk.bytes)
     for extent in range(50, 80, 4):
         disk.spoil(extent, grown.random.randrange(1500))
-    bad = [(100, 3), (100, 4), (100, 5), (110, 0), (111, 7), (111, 9), (120, 20), (121, 1)]
-    yield report_of(folder, "the first disk, damaged", disk, bad)
-    yield report_of(folder, "the first disk, with other pages that can't be read", disk, bad[2:] + [(130, 11), (200, 0)])
+    unreadable = [(100, 3), (100, 4), (100, 5), (110, 0), (111, 7), (111, 9), (120, 20), (121, 1)]
+    yield report_of(folder, "the first disk, damaged", disk, unreadable)
+    yield report_of(folder, "the first disk, with other unreadable pages", disk, unreadable[2:] + [(130, 11), (200, 0)])
     disk.bytes[:] = kept
     disk.superblock(40, 4, *runs, retired=[60, 100])
     yield report_of(folder, "the first disk, with retired extents", disk, [(101, 1), (110, 0)])
@@ -168,7 +168,7 @@ def damaged_lives(folder):
 
 
 def doubtful_lives(folder):
-    """A disk with each doubt, some of which go away again."""
+    """A disk with each doubt. Some of them go away again."""
     grown = Grown(2)
     disk, runs = grown.disk, grown.runs
     disk.superblock(0, 2 ** 53, *runs)
@@ -182,10 +182,10 @@ def doubtful_lives(folder):
     disk.put(10, 4000, b"later still")
     disk.put(20, disk.pointers[19] + 20, bytes(5))
     disk.put(281, 60, b"?")
-    behind = [(30, 75), (30, 76), (31, 79), (276, 0), (276, 1), (276, 3), (277, 9)]
+    past = [(30, 75), (30, 76), (31, 79), (276, 0), (276, 1), (276, 3), (277, 9)]
     across = [(extent, disk.pointers[extent - 1] // 64) for extent in (32, 33, 34)]
     below = [(extent, 2) for extent in (285, 40, 41)]
-    yield report_of(folder, "the second disk, with each doubt but two", disk, behind + across + below)
+    yield report_of(folder, "the second disk, with each doubt but two", disk, past + across + below)
     disk.spoil(282, 60)
     disk.superblock(40, 2 ** 53, *runs[:9])
     extent_0 = [(0, page) for page in (70, 72, 74, 76, 77, 79)]
@@ -202,7 +202,7 @@ def doubtful_lives(folder):
 
 
 def unowned_disks(folder):
-    """Clean disks of so many chunks that nobody names and so many empty index runs, round nine of ten chunks and ten of them."""
+    """Clean disks of orphans and empty index runs, on both sides of two limits: ten chunks, and nine of ten orphans."""
     for orphans, runs in ((9, 1), (8, 1), (9, 2), (9, 0), (10, 0), (18, 2)):
         disk = Disk(24, 4)
         for k in range(orphans):
@@ -212,25 +212,25 @@ def unowned_disks(folder):
 
 
 def small_disks():
-    """Reports of hold.py's disks by the slow reference; half of them once more, with a bit flipped and a page lost."""
+    """Reports of hold.py's disks by the slow reference. Some of them get a second report, with flipped bits and a lost page."""
     disks, pairs = [], []
     for seed in range(SMALL_DISKS):
         choice = random.Random(seed)
         made = Made(choice)
-        bad = made.make()
-        disks.append(by_reference(f"small disk {seed}", made, bad))
+        unreadable = made.make()
+        disks.append(by_reference(f"small disk {seed}", made, unreadable))
         if len(pairs) < SMALL_PAIRS and disks[-1].report["super"]["page"] is not None and seed % 2:
             for _ in range(3):
                 made.raw[choice.randrange(len(made.raw))] ^= 1 << choice.randrange(8)
             lost = (choice.randrange(made.e), choice.randrange(made.n))
-            pairs.append((disks[-1], by_reference(f"small disk {seed}, later", made, [*bad[1:], lost])))
+            pairs.append((disks[-1], by_reference(f"small disk {seed}, later", made, [*unreadable[1:], lost])))
     return disks, pairs
 
 
-def by_reference(name, made, bad):
-    image = Image(bytes(made.raw), made.p, made.n, made.e, bad)
+def by_reference(name, made, unreadable):
+    image = Image(bytes(made.raw), made.p, made.n, made.e, unreadable)
     report = json.loads(json.dumps(scrub(image)[0]))
-    return Scanned(name, report, known([list(map(str, words)) for words in doubts_of(image, report)]))
+    return Scanned(name, report, in_report([list(map(str, words)) for words in doubts_of(image, report)]))
 
 
 # How numbers and lists are written
@@ -258,7 +258,7 @@ def listed(texts, rest="other"):
 
 
 def with_total(total, texts, rest):
-    """The one text, or how much they are together and the first four."""
+    """The text if there is one; else the total and the first four."""
     if len(texts) == 1:
         return texts[0]
     more = [f"and {counted(len(texts) - 4, rest)}"] if len(texts) > 4 else []
@@ -266,7 +266,7 @@ def with_total(total, texts, rest):
 
 
 def ranges(pairs):
-    """Pages as texts, neighbours of one extent together."""
+    """Pages as texts, with ranges of neighbours."""
     texts, left = [], set(pairs)
     for extent, page in sorted(left):
         if (extent, page - 1) not in left:
@@ -277,7 +277,7 @@ def ranges(pairs):
     return texts
 
 
-def bad_pages(report):
+def unreadable_pages(report):
     pages = {(extent["extent"], page) for extent in report["extents"] for page in extent["bad"]}
     return pages | {(0, page) for page in report["super"]["bad"]}
 
@@ -290,33 +290,33 @@ def items_of(report):
             yield extent["extent"], kind, int(start), int(stop) - int(start)
 
 
-# What a summary has to be
+# The expected summary
 
 def sides(report):
-    """The unreadable pages that lie below the pointer of their extent, across it, and behind it."""
+    """The unreadable pages below the pointer of their extent, across it, and past it."""
     lost = {(extent, start // report["geometry"]["page"]): length
             for extent, kind, start, length in items_of(report) if kind == "lost"}
-    where = defaultdict(list)
-    for place in bad_pages(report):
+    pages = defaultdict(list)
+    for place in unreadable_pages(report):
         if place[0] > 0:
             length = lost.get(place)
-            where["behind" if length is None else "below" if length == report["geometry"]["page"] else "across"].append(place)
-    return where
+            pages["past" if length is None else "below" if length == report["geometry"]["page"] else "across"].append(place)
+    return pages
 
 
 def unreadable_text(report, has_superblock):
-    bad, where = bad_pages(report), sides(report)
-    lists = {"extent 0": [place for place in bad if place[0] == 0]}
+    unreadable, by_side = unreadable_pages(report), sides(report)
+    lists = {"extent 0": [place for place in unreadable if place[0] == 0]}
     if has_superblock:
-        lists |= {"below a write pointer": where["below"], "across one": where["across"], "behind one": where["behind"]}
+        lists |= {"below a write pointer": by_side["below"], "across one": by_side["across"], "past one": by_side["past"]}
     else:
-        lists["others"] = [place for place in bad if place[0] > 0]
+        lists["others"] = [place for place in unreadable if place[0] > 0]
     texts = (f"{name}: {first_ones(ranges(places), 'other range') or 'none'}" for name, places in lists.items())
-    return counted(len(bad), "page") + (": " + "; ".join(texts) if bad else "")
+    return counted(len(unreadable), "page") + (": " + "; ".join(texts) if unreadable else "")
 
 
 def doubt_lines(report, doubts):
-    """The lines of the doubts, from those of `reclaimable`."""
+    """The lines of the doubts, computed from the lines of `reclaimable`."""
     by_kind = defaultdict(list)
     for kind, *words in doubts:
         by_kind[kind].append(words)
@@ -347,7 +347,7 @@ def findings(report, doubts):
     several = Counter(kind for kind, *_ in doubts)
     found = ["no superblock"] * several["no-superblock"] + ["a tie of superblocks"] * several["tie"]
     shared, of_extent_0 = len(report["shared"]), several["superblock-lost"]
-    others = len(bad_pages(report)) - of_extent_0
+    others = len(unreadable_pages(report)) - of_extent_0
     chunks, orphans = kinds["chunk"] + kinds["sealed"], len(report["orphans"])
     is_nearly_all = chunks >= 10 and Fraction(orphans, chunks) >= Fraction(9, 10) and not several["no-superblock"]
     for number, text in ((of_extent_0, counted(of_extent_0, "unreadable page") + " of extent 0, which may have held "
@@ -379,7 +379,7 @@ def verdict(report, doubts):
 
 
 def summary_of(report, doubts):
-    """The lines of a summary, by the report and the doubts of `reclaimable`."""
+    """The lines of the summary, computed from the report and the doubts of `reclaimable`."""
     has_superblock = not any(kind == "no-superblock" for kind, *_ in doubts)
     unknown = "unknown, without a superblock"
     geometry, top = report["geometry"], report["super"]
@@ -399,7 +399,7 @@ def summary_of(report, doubts):
         return f"{counted(sums[key][0], 'chunk')}, {size(sums[key][1])}"
 
     generation = top["generation"] or 0
-    told = str(generation) if generation < INEXACT else "of 2^53 or more, whose digits superblocks has"
+    generation_text = str(generation) if generation < INEXACT else "of 2^53 or more (superblocks prints its digits)"
     lost = sum(kind == "run-lost" for kind, *_ in doubts)
     broken = sorted({locator["owner"].removeprefix("shard ") for locator in report["dangling"] if "shard" in locator["owner"]})
     reasons = Counter(locator["reason"] for locator in report["dangling"] if "shard" in locator["owner"])
@@ -425,7 +425,7 @@ def summary_of(report, doubts):
         "sizes": f"{geometry['extents']} extents of {counted(geometry['pages'], 'page')} of {geometry['page']} bytes, "
                  + size(geometry["extents"] * geometry["pages"] * geometry["page"])
                  + (f"; {len(report['retired'])} retired{listed(report['retired'])}" if has_superblock else ""),
-        "superblock": f"generation {told}, on page {top['page']}; {counted(top['records'], 'record')}; "
+        "superblock": f"generation {generation_text}, on page {top['page']}; {counted(top['records'], 'record')}; "
                       "is that generation the last in the node's log?" if has_superblock
                       else "none of these sizes: run sizes and superblocks",
         "index runs": f"{len(report['runs'])} named, {len(report['runs']) - lost} read, {lost} lost",
@@ -451,7 +451,7 @@ def summary_of(report, doubts):
     return [verdict(report, doubts), *lines[:-1], *doubt_lines(report, doubts), lines[-1]]
 
 
-# What the changes between two reports have to be
+# The expected changes between two reports
 
 def places(report):
     found = sorted({(hidden["extent"], hidden["offset"], hidden["uuid"]) for hidden in report["hidden"]})
@@ -463,7 +463,7 @@ def tails_of(report):
 
 
 def lost_runs(report):
-    """Of the runs that are lost, the text of each by its number and place."""
+    """The texts of the lost runs, by their number and place."""
     lost = [(k, f"extent {run['extent']} at {run['offset']}", run["state"])
             for k, run in enumerate(report["runs"]) if run["entries"] is None]
     return {(k, place): f"run {k} {state} in {place}" for k, place, state in lost}
@@ -475,7 +475,7 @@ def named_runs(report):
 
 @functools.cache
 def jq_rounds():
-    """Whether jq takes two neighbours for the same number. Newer ones don't."""
+    """Whether jq takes two neighbouring numbers for the same. Newer versions don't."""
     return json.loads(subprocess.run(["jq", "-n", f"{INEXACT} == {INEXACT + 1}"], capture_output=True, check=True).stdout)
 
 
@@ -502,17 +502,17 @@ def generation_line(old, new):
         return line
     if contents(old) != contents(new):
         return (line + (". THE SAME" if now < INEXACT else ". PERHAPS THE SAME")
-                + ", AND THE SUPERBLOCK SAYS OTHER THINGS: find out who wrote it, and reclaim nothing until then")
-    return line + ("" if now < INEXACT else ". jq can't tell whether these are the same: superblocks has the digits")
+                + ", BUT THE SUPERBLOCK HAS CHANGED: find out who wrote it, and reclaim nothing until then")
+    return line + ("" if now < INEXACT else ". jq can't say whether these are the same: superblocks prints all digits")
 
 
 def page_changes(old, new):
-    bad_before, bad_now = bad_pages(old), bad_pages(new)
-    seen_before, seen_now = ({0} | {e["extent"] for e in report["extents"]} for report in (old, new))
-    lists = {"newly unreadable": {place for place in bad_now - bad_before if place[0] in seen_before},
-             "unreadable, in extents that were retired before": {place for place in bad_now if place[0] not in seen_before},
-             "readable again (was the map given, and the same pages?)":
-                 {place for place in bad_before - bad_now if place[0] in seen_now}}
+    before, now = unreadable_pages(old), unreadable_pages(new)
+    read_before, read_now = ({0} | {e["extent"] for e in report["extents"]} for report in (old, new))
+    lists = {"newly unreadable": {place for place in now - before if place[0] in read_before},
+             "unreadable, in extents that were retired before": {place for place in now if place[0] not in read_before},
+             "readable again (did you pass the map and the same pages?)":
+                 {place for place in before - now if place[0] in read_now}}
     return [f"{name}: {counted(len(pages), 'page')}{listed(ranges(pages), 'other range')}"
             for name, pages in lists.items() if pages]
 
@@ -526,7 +526,7 @@ def list_changes(old, new):
     were = {place for _, place in lost_before}
     no_longer = were - {place for _, place in lost_now}
     tails_before, tails_now = tails_of(old), tails_of(new)
-    looked_at = {e["extent"] for e in new["extents"]}
+    read = {e["extent"] for e in new["extents"]}
     moved = [f"{text} -> {tails_now[extent].split(' ', 2)[2]}" for extent, text in tails_before.items()
              if extent in tails_now and tails_now[extent] != text]
 
@@ -549,8 +549,8 @@ def list_changes(old, new):
             ("new", "tail", [text for extent, text in tails_now.items() if extent not in tails_before]),
             ("changed", "tail", moved),
             ("gone (below the write pointer now, zero, or unreadable)", "tail",
-             [text for extent, text in tails_before.items() if extent not in tails_now and extent in looked_at]),
-            ("newly retired, so not looked at", "extent", besides(new["retired"], old["retired"])),
+             [text for extent, text in tails_before.items() if extent not in tails_now and extent in read]),
+            ("newly retired, so not read", "extent", besides(new["retired"], old["retired"])),
             ("no longer retired", "extent", besides(old["retired"], new["retired"]))):
         if texts:
             lines.append(f"{name}: {counted(len(texts), noun)}{listed(texts)}")
@@ -558,7 +558,7 @@ def list_changes(old, new):
 
 
 def count_changes(old, new):
-    """The lines of numbers, by name."""
+    """The lines of numbers that changed."""
     sums = []
     for report in (old, new):
         orphans = {(orphan["extent"], orphan["offset"]) for orphan in report["orphans"]}
@@ -572,13 +572,13 @@ def count_changes(old, new):
 
 
 def changes_of(old, new):
-    """The lines of the changes: the first, the second and the last in this order, and the others in some order."""
+    """The lines of the changes. The first two and the last two are in their places, the others in any order."""
     word = {True: "clean", False: "NOT CLEAN"}
     lines = page_changes(old, new)
     if old["super"]["tie"] != new["super"]["tie"]:
         lines.append(f"tie of superblocks: {str(old['super']['tie']).lower()} -> {str(new['super']['tie']).lower()}")
     if None in (old["super"]["page"], new["super"]["page"]):
-        lines.append("not compared, without a superblock in both: shards, chunks, index runs, tails, retired extents")
+        lines.append("not compared, because a report has no superblock: shards, chunks, index runs, tails, retired extents")
     else:
         lines += list_changes(old, new) + count_changes(old, new)
     before, now = (report | {"super": {key: as_jq_reads(value) for key, value in report["super"].items()}}
@@ -597,7 +597,7 @@ def changes_of(old, new):
 passed = failed = 0
 
 
-def tell(good, text):
+def check(good, text):
     global passed, failed
     passed, failed = passed + bool(good), failed + (not good)
     if not good:
@@ -609,29 +609,29 @@ def jq(words, view, text="", files=()):
     return done.returncode, done.stdout.decode(), done.stderr.decode()
 
 
-def hold(name, printed, wanted):
+def compare(name, printed, wanted):
     wrong = [f"  printed {line!r}" for line in printed if line not in wanted]
     wrong += [f"  wanted  {line!r}" for line in wanted if line not in printed]
-    tell(printed == wanted, "\n".join([name, *(wrong or ["  the lines are in another order"])]))
+    check(printed == wanted, "\n".join([name, *(wrong or ["  the lines are in another order"])]))
 
 
-def hold_summaries(reports):
-    """Each report in a file of many, with a name, and the first one alone. Returns the lines of all summaries."""
+def check_summaries(reports):
+    """Summarizes all reports in one file, with names, and the first one alone. Returns the lines of all summaries."""
     rows = "".join(json.dumps({"disk": one.name, "status": 0, "text": ""} | one.report) + "\n" for one in reports)
     status, printed, error = jq(["-r"], SUMMARY, rows)
-    tell((status, error) == (0, ""), f"summaries: status {status}, {error}")
+    check((status, error) == (0, ""), f"summaries: status {status}, {error}")
     summaries = re.split(r"\n(?! )", printed.removesuffix("\n"))
-    tell(len(summaries) == len(reports), f"{len(summaries)} summaries of {len(reports)} reports")
+    check(len(summaries) == len(reports), f"{len(summaries)} summaries of {len(reports)} reports")
     all_wanted = [summary_of(one.report, one.doubts) for one in reports]
     for one, summary, wanted in zip(reports, summaries, all_wanted):
-        hold(f"summary of {one.name}", summary.split("\n"), [f"{one.name}: {wanted[0]}", *wanted[1:]])
+        compare(f"summary of {one.name}", summary.split("\n"), [f"{one.name}: {wanted[0]}", *wanted[1:]])
     alone = jq(["-r"], SUMMARY, json.dumps(reports[0].report))
-    tell(alone == (0, "\n".join(all_wanted[0]) + "\n", ""), f"a summary without a name: {alone}")
+    check(alone == (0, "\n".join(all_wanted[0]) + "\n", ""), f"a summary without a name: {alone}")
     return [line for lines in all_wanted for line in lines]
 
 
-def hold_changes(pairs, folder):
-    """What changed between the reports of each pair. Returns the lines of all."""
+def check_changes(pairs, folder):
+    """Compares the reports of each pair. Returns the lines of all pairs."""
     files = {}
     for one in {id(one): one for pair in pairs for one in pair}.values():
         files[id(one)] = folder / f"{len(files)}.json"
@@ -641,27 +641,27 @@ def hold_changes(pairs, folder):
     all_wanted = []
     for (old, new), (status, printed, error) in zip(pairs, answers):
         name = f"changes from {old.name} to {new.name}"
-        tell((status, error) == (0, ""), f"{name}: status {status}, {error}")
+        check((status, error) == (0, ""), f"{name}: status {status}, {error}")
         lines, wanted = printed.splitlines(), changes_of(old.report, new.report)
         all_wanted += wanted
-        # The order of the lines between the second and the last but one is left to the filter.
-        hold(name, lines[:2] + sorted(lines[2:-2]) + lines[-2:], wanted[:2] + sorted(wanted[2:-2]) + wanted[-2:])
+        # Between the first two and the last two lines, the filter may choose the order.
+        compare(name, lines[:2] + sorted(lines[2:-2]) + lines[-2:], wanted[:2] + sorted(wanted[2:-2]) + wanted[-2:])
     return all_wanted
 
 
-# What has to come up in some summary, and in the changes between some two reports.
+# Texts that have to occur in some summary, and in the changes between some two reports.
 IN_SUMMARIES = ("NOTHING WRONG IN THIS REPORT; ", " tail; superblocks not checked", " chunks have no owner; superblocks not checked",
                 "NOT CLEAN: ", "NOT CLEAN, AND IN DOUBT: ", "no superblock", "a tie of", " page of extent 0, which may have held one",
                 " pages of extent 0, which may have held a newer superblock", " lost run", " broken shard", " hidden chunk",
                 " with several owners, ", ", 1 unreadable page", " other unreadable page", " torn item", " noise item",
                 "known, though 1 whole chunk is ", " whole chunks are ", "is that generation stale?", " bad locator: ",
                 " is claimed by ", " are claimed by ", "by its locators, ", "by their locators, ", "; others: none",
-                "pointer: none", "across one: none", "behind one: none", "    no-superblock: ", "    tie: ",
+                "pointer: none", "across one: none", "past one: none", "    no-superblock: ", "    tie: ",
                 "    superblock-lost: page ", " pages of extent 0: ", "    run-lost: ", "    tail: extent ", "; and 3 others",
                 "    tail-lost: extent ", ", pages ", "; and 1 other range", "compare that generation", "of 2^53 or more", "KiB", "MiB",
                 " other range", "owner unknown")
 IN_CHANGES = ("clean, as before", "clean, was NOT CLEAN", "NOT CLEAN, as before", "NOT CLEAN, was clean", "there again",
-              "NO SUPERBLOCK", "SMALLER", ". THE SAME", "PERHAPS THE SAME", "jq can't tell", "nothing changed", "differ in: ",
+              "NO SUPERBLOCK", "SMALLER", ". THE SAME", "PERHAPS THE SAME", "jq can't say", "nothing changed", "differ in: ",
               "not compared", "tie of superblocks: ", "shards known: ", "  live: ", "chunks that nobody names: ",
               "chunks with several owners: ", "torn items: ", "noise items: ", "newly unreadable: ", "retired before: ",
               "same pages?): ", "newly broken: ", "that is read): ", "newly doubtful: ", "no longer doubtful: ", "newly lost: ",
@@ -669,39 +669,40 @@ IN_CHANGES = ("clean, as before", "clean, was NOT CLEAN", "NOT CLEAN, as before"
               "or unreadable): ", "newly retired, ", "no longer retired: ", " other range")
 
 
-def hold_coverage(lines, parts):
-    """None of the comparisons was of nothing."""
+def check_coverage(lines, parts):
+    """Checks that each of these parts was compared."""
     for part in parts:
-        tell(any(part in line for line in lines), f"nothing has {part!r}")
+        check(any(part in line for line in lines), f"nothing has {part!r}")
 
 
 def is_refusal(status, printed, error, text):
     return (status, printed) == (5, "") and error.count("\n") == 1 and text in error
 
 
-def hold_refusals(reports):
-    """What isn't a report, or isn't two of one disk, is refused with one line and status 5, and nothing is printed."""
+def check_refusals(reports):
+    """Checks that anything except a report, or two of one disk, is refused with one line, status 5 and no output."""
     report = reports[0].report
     row = {"disk": "sda\n", "status": 3, "text": "shardscrub: image cannot be opened: sda\n"}
     answer = jq(["-r"], SUMMARY, json.dumps(row))
     wanted = (0, "sda : NOT ANSWERED, status 3: shardscrub: image cannot be opened: sda \n", "")
-    tell(answer == wanted, f"a row without a report: {answer}")
+    check(answer == wanted, f"a row without a report: {answer}")
     less = {key: report[key] for key in report if key != "twins"}
     for what in (less, row | less, row | {"lines": []}, {"disk": "sda"}, [report], 3, None):
         status, printed, error = jq(["-r"], SUMMARY, json.dumps(what))
-        tell(is_refusal(status, printed, error, "not a report of shardscrub scan"), f"summary of {str(what)[:60]}: {status} {error}")
+        is_right = is_refusal(status, printed, error, "not a report of shardscrub scan")
+        check(is_right, f"summary of {str(what)[:60]}: {status} {error}")
 
     other = next(one.report for one in reports if one.report["geometry"] != report["geometry"])
     for words, given, text in ((["-nr"], [report], "two reports are needed"),
                                (["-nr"], [report, report, report], "two reports are needed"),
                                (["-r"], [report, report], "two reports are needed"),
                                (["-nr"], [], "two reports are needed"),
-                               (["-nr"], [report, other], "the reports have other sizes"),
+                               (["-nr"], [report, other], "the reports have different sizes"),
                                (["-nr"], [report, less], "not a report of shardscrub scan"),
                                (["-nr"], [row, report], "not a report of shardscrub scan"),
                                (["-nr"], [report | {"disk": "a"}, report | {"disk": "b"}], "the reports are of two disks")):
         status, printed, error = jq(words, CHANGES, "".join(map(json.dumps, given)))
-        tell(is_refusal(status, printed, error, text), f"changes, {text}: {status} {printed} {error}")
+        check(is_refusal(status, printed, error, text), f"changes, {text}: {status} {printed} {error}")
 
 
 def main():
@@ -709,7 +710,7 @@ def main():
         folder = Path(room)
         examples = example_reports()
         images = {path.name for path in (TOP / "examples").glob("*.img")}
-        tell(all(any(image in one.name for one in examples) for image in images), "not every image of examples/ is held")
+        check(all(any(image in one.name for one in examples) for image in images), "an image of examples/ has no report")
         first, second = list(damaged_lives(folder)), list(doubtful_lives(folder))
         disks, pairs = small_disks()
         for lives in (first, second):
@@ -718,9 +719,9 @@ def main():
         for old in examples:
             pairs += [(old, new) for new in examples if new.report["geometry"] == old.report["geometry"]][:2]
         reports = examples + first + second + list(unowned_disks(folder)) + disks
-        hold_coverage(hold_summaries(reports), IN_SUMMARIES)
-        hold_coverage(hold_changes(pairs, folder), IN_CHANGES)
-        hold_refusals(reports)
+        check_coverage(check_summaries(reports), IN_SUMMARIES)
+        check_coverage(check_changes(pairs, folder), IN_CHANGES)
+        check_refusals(reports)
     print(f"{passed} passed, {failed} failed")
     return 1 if failed else 0
 

@@ -1,25 +1,25 @@
 #!/usr/bin/env python3
-"""Measures `shardscrub scan` by several numbers of workers, and looks whether all of them answer the same. It is no part of
-the gate.
+"""Measures `shardscrub scan` with several numbers of workers, and checks that all answers are the same. The gate doesn't run
+this.
 
 usage: bench/workers.py [--mib SIZE] [--turns COUNT] [--runs COUNT] [PROGRAM]
        (default: 512, 3, 2000, the program of ./shardscrub)
 
-Disks of SIZE MiB, each scanned by 0, 1, 3 and 64 workers beside the main thread, by turns:
+Disks of SIZE MiB, each scanned by 0, 1, 3 and 64 workers beside the main thread, in turn:
 
 large         payloads of 64 KiB to 1 MiB in extents of 4 MiB, as in bench/scan.py;
-long extents  the same in extents of 64 MiB, to see whether a worker takes memory for an extent;
-one page      extents of one page of 64 KiB, to see what a worker takes for pages: extent 0 is read whole before a worker
-              starts, so that less than an extent isn't seen in the peak;
-one full      extents of 4 MiB, one of them full of payloads of 100 bytes, and the others empty.
+long extents  the same in extents of 64 MiB, to show whether a worker takes memory for an extent;
+one page      extents of one page of 64 KiB, to show how much a worker takes for pages. Extent 0 is read whole before a worker
+              starts, so the peak doesn't show less than an extent;
+one full      extents of 4 MiB. One of them is full of payloads of 100 bytes, and the others are empty.
 
-Each is also loaded alone, by `items` of an extent under the write pointer 0, which prints nothing, since the main thread
-loads the image before a worker starts: what is above that time is what the workers share, and checking and printing. What is
-printed is a table of the least time that each took and of the most memory, as it is and as what it is above none's for each
-worker. The answer to each is compared with that of 0 workers, byte for byte.
-Then examples/several-findings.img, which has every kind of item, is scanned by 7 workers as often as RUNS says, and each
-answer compared with that of 0 workers. Exit status: 0 where all answers are the same, 1 where one differs, 2 where nothing
-can be measured.
+The main thread loads the image before a worker starts. So loading is measured alone too, by `items` of an extent with the write
+pointer 0, which prints nothing. The time above loading is the work of the workers, checking and printing. A table shows the
+least time and the most memory of each, and how much more memory each worker takes than a scan without workers. Each answer is
+compared with that of 0 workers, byte for byte.
+
+Then 7 workers scan examples/several-findings.img, which has every kind of item, RUNS times. Each answer is compared with that
+of 0 workers. Exit status: 0 if all answers are the same, 1 if one differs, 2 if nothing can be measured.
 """
 import argparse
 import sys
@@ -61,7 +61,7 @@ def text_of(path):
 
 
 def compare(program, room, kind, mib, turns):
-    """Prints the rows of one disk, and returns whether all answers are the same."""
+    """Prints the rows of a disk, and returns whether all answers are the same."""
     name, image, answer = kind.__name__.replace("_", " "), f"{room}/image", f"{room}/answer"
     made = apart(make_image, image, kind, mib)
     runs, loads, right = {n: [] for n in WORKERS}, [], None
@@ -69,10 +69,10 @@ def compare(program, room, kind, mib, turns):
         loads.append(measured([program, "items", *made["sizes"], "--extent", "1", "--pointer", "0", image], answer))
         for workers in WORKERS:
             runs[workers].append(measured([program, "scan", "--workers", str(workers), *made["sizes"], image], answer))
-            told = (runs[workers][-1].status, text_of(answer))
-            right = right or told
-            if told[0] not in (0, 1) or told != right:
-                print(f"{name}: another answer by {workers} workers")
+            found = (runs[workers][-1].status, text_of(answer))
+            right = right or found
+            if found[0] not in (0, 1) or found != right:
+                print(f"{name}: another answer with {workers} workers")
                 return False
     load, none = taken(loads)[0], taken(runs[0])
     for workers in WORKERS:
@@ -84,23 +84,23 @@ def compare(program, room, kind, mib, turns):
 
 
 def repeat(program, room, runs):
-    """Whether this many runs by 7 workers answer as one by none."""
+    """Whether this many runs with 7 workers give the same answer as a run without workers."""
     example = Path(__file__).resolve().parent.parent / "examples/several-findings.img"
     words = ["--page", "64", "--pages", "16", "--extents", "5", str(example), "3:1"]
     answer, right = f"{room}/answer", None
     for workers in ["0"] + ["7"] * runs:
         status = measured([program, "scan", "--workers", workers, *words], answer).status
-        told = (status, text_of(answer))
-        right = right or told
-        if told != right or status != 1:
-            print(f"another answer by {workers} workers")
+        found = (status, text_of(answer))
+        right = right or found
+        if found != right or status != 1:
+            print(f"another answer with {workers} workers")
             return False
-    print(f"{runs} runs by 7 workers answered as one by none did")
+    print(f"{runs} runs with 7 workers gave the same answer as a run without workers")
     return True
 
 
 def main(words):
-    parser = argparse.ArgumentParser(description="Measures `shardscrub scan` by several numbers of workers.")
+    parser = argparse.ArgumentParser(description="Measures `shardscrub scan` with several numbers of workers.")
     parser.add_argument("--mib", type=int, default=512, help="size of the images: a multiple of 64 from 192 to 704")
     parser.add_argument("--turns", type=int, default=3, help="how often each is run")
     parser.add_argument("--runs", type=int, default=2000, help="how often the small disk is scanned by 7 workers")

@@ -1,9 +1,9 @@
 #!/usr/bin/env python3
-"""Makes the images of this folder by the layouts of docs/FORMAT.md, and two maps of GNU ddrescue.
+"""Makes the images of this folder, with the layouts of docs/FORMAT.md, and two maps of GNU ddrescue.
 
 usage: examples/images.py [FOLDER]      (default: this folder)
 
-It knows how bytes are laid out and nothing of how they are judged: what the program says of each image is in README.md.
+It knows only the layout of bytes. README.md has what the program prints for each image.
 """
 import sys
 from pathlib import Path
@@ -27,23 +27,23 @@ def one_shard():
 
 
 def no_superblock():
-    """The disk with one shard, with one bit of the record's generation changed."""
+    """The disk with one shard. One bit of the record's generation is changed."""
     disk = one_shard()
     disk.spoil(0, 11)
     return disk
 
 
 def tie():
-    """The disk with one shard, and another superblock of the same generation, which names no run."""
+    """The disk with one shard. Another superblock of the same generation names no run."""
     disk = one_shard()
     disk.superblock(2, 1)
     return disk
 
 
 def collision():
-    """A chunk of 66 bytes, whose last two a crash lost, and a new one that was written from the page bound on.
+    """A chunk of 66 bytes, and a new one at the page boundary. A crash lost the last two bytes of the first.
 
-    The UUID of the first ends with the two bytes of the magic, with which the second begins.
+    The UUID of the first ends with the two bytes of the magic. The second begins with the same two bytes.
     """
     disk = Disk(4, 3)
     disk.chunk(1, 0, b"\x33" * 14 + MAGIC, b"x" * 28)
@@ -53,7 +53,7 @@ def collision():
 
 
 def closed_collision():
-    """The same with a sealed chunk of 130 bytes as the first: what the crash lost is its closing mark."""
+    """The same, but the first is a sealed chunk of 130 bytes. The crash lost its closing mark."""
     disk = Disk(4, 3)
     disk.chunk(1, 0, b"\x33" * 14 + MAGIC, b"x" * 58, sealed_frame)
     chunk = disk.chunk(1, 128, uuid(0x11), b"abc")
@@ -62,7 +62,7 @@ def closed_collision():
 
 
 def lost_run():
-    """The newer of two runs, which deletes shard 1 and tells nothing else, is damaged in one bit."""
+    """The newer of two runs has a flipped bit. It only deletes shard 1."""
     disk = Disk(4, 4)
     chunk = disk.chunk(1, 0, uuid(0x11), b"abc")
     older = disk.chunk(3, 0, uuid(0x33), run((shard(1), [chunk])))
@@ -73,7 +73,7 @@ def lost_run():
 
 
 def retired_extent():
-    """The disk with one shard, and a third extent that is retired: a chunk without its end, and bytes that are no chunk."""
+    """The disk with one shard, and a retired third extent. It has a chunk without its end, and bytes that are no chunk."""
     disk = Disk(4, 4)
     chunk = disk.chunk(1, 0, uuid(0x11), b"abc")
     index_run = disk.chunk(2, 0, uuid(0x22), run((shard(1), [chunk])))
@@ -93,7 +93,7 @@ def twins():
 
 
 def several_findings():
-    """Four shards: one written anew, one on page 1 of extent 3, one that lost its end in a crash, and one deleted."""
+    """Four shards: one rewritten, one on page 1 of extent 3, one that lost its end in a crash, and one deleted."""
     disk = Disk(16, 5)
     before = disk.chunk(1, 0, uuid(0xA0), b"the first shard, before it was written anew" * 2)
     page_1 = disk.chunk(3, 58, uuid(0xB0), b"the second shard" * 6)
@@ -112,7 +112,7 @@ def several_findings():
 def later_shard(disk, begin):
     """One shard and a superblock; then a run that binds a second shard, at this byte of extent 3. Returns both runs.
 
-    The one chunk of the second shard was written to extent 1 before that superblock. The run was written behind it.
+    The only chunk of the second shard was written to extent 1 before that superblock. The run was written after it.
     """
     disk.chunk(1, 0, uuid(0xA0), b"the first shard, before it was written anew")
     only = disk.chunk(1, 81, uuid(0xB0), b"the second shard")
@@ -123,14 +123,14 @@ def later_shard(disk, begin):
 
 
 def later_run():
-    """The run of the second shard was written, and no superblock names it yet."""
+    """The run of the second shard was written, but no superblock names it yet."""
     disk = Disk(8, 4)
     later_shard(disk, 192)
     return disk
 
 
 def flipped_bit():
-    """A newer superblock on page 4 names that run, and one bit of it is changed: the last one of its first write pointer."""
+    """A newer superblock on page 4 names that run. The last bit of its first write pointer is flipped."""
     disk = Disk(8, 4)
     disk.superblock(4, 2, *later_shard(disk, 192))
     disk.spoil(0, 4 * PAGE + 29)
@@ -138,18 +138,18 @@ def flipped_bit():
 
 
 def failing():
-    """The same disk before anything is harmed, with pages of 512 bytes."""
+    """The same disk before any damage, with pages of 512 bytes."""
     disk = Disk(4, 4, 512)
     disk.superblock(2, 2, *later_shard(disk, 512))
     return disk
 
 
-# The sectors of that disk that its drive doesn't read: the page of the newer superblock, and that of the later run.
+# The sectors that the drive of that disk can't read: the page of the newer superblock, and that of the later run.
 UNREADABLE = (2, 13)
 
 
 def rescued():
-    """What GNU ddrescue copies of that disk: zeros where it couldn't read."""
+    """The copy that GNU ddrescue makes of that disk. It has zeros instead of the sectors that couldn't be read."""
     disk = failing()
     for sector in UNREADABLE:
         disk.bytes[512 * sector:512 * (sector + 1)] = bytes(512)
@@ -157,7 +157,7 @@ def rescued():
 
 
 def formatted_twice():
-    """The disk with one shard, which was formatted once more with other sizes; of the new format only page 1 was written."""
+    """The disk with one shard, formatted again with other sizes. Of the new format only page 1 was written."""
     disk = Disk(3, 2, 128)
     disk.bytes[:] = one_shard().bytes
     disk.superblock(1, 1)
@@ -165,7 +165,7 @@ def formatted_twice():
 
 
 def letters():
-    """The payload of a chunk is the letters that a superblock begins with, a hundred times."""
+    """The payload of a chunk has the letters with which a superblock begins, a hundred times."""
     disk = Disk(8, 3)
     chunk = disk.chunk(1, 0, uuid(0x11), b"--" + b"SSB1" * 100)
     disk.superblock(0, 1, disk.chunk(2, 0, uuid(0x22), run((shard(1), [chunk]))))
@@ -173,9 +173,9 @@ def letters():
 
 
 def reclaimed_before():
-    """Extent 1 was reset once and written again in part. Of extents 2, 3 and 4 something may be reclaimed.
+    """Extent 1 was reset and then partly written again. Parts of extents 2, 3 and 4 may be reclaimed.
 
-    Two shards name the chunk that is to be kept in extent 2, and the superblock that in extent 4, which is an index run.
+    Two chunks have to be kept. Two shards name the one in extent 2. The one in extent 4 is an index run of the superblock.
     """
     disk = Disk(8, 5)
     disk.chunk(1, 0, uuid(0xA0), b"what was here before the extent was reset, " * 5)
@@ -192,7 +192,7 @@ def reclaimed_before():
 
 
 def blocks(*lines):
-    """A map of GNU ddrescue: lines with positions and sizes in sectors of 512 bytes, and the status of each."""
+    """The blocks of a map of GNU ddrescue, from positions and sizes in sectors of 512 bytes and the status of each."""
     return "".join(f"0x{512 * place:08X}  0x{512 * size:08X}  {status}\n" for place, size, status in lines)
 
 
@@ -200,12 +200,12 @@ READ_AND_NOT = blocks((0, 2, "+"), (2, 1, "-"), (3, 10, "+"), (13, 1, "-"), (14,
 
 
 def failing_map():
-    """Which sectors of the failing disk can be read: for the test mode of GNU ddrescue."""
+    """The readable sectors of the failing disk, for the test mode of GNU ddrescue."""
     return "# The sectors that can be read (+), and those that can't (-)\n0x00000000     ?\n" + READ_AND_NOT
 
 
 def rescued_map():
-    """What GNU ddrescue writes beside its copy of the failing disk, without the lines that have its words and times."""
+    """The map that GNU ddrescue writes for its copy of the failing disk, without the lines of its command and times."""
     return ("# Mapfile. Created by GNU ddrescue version 1.27\n"
             "# Finished\n"
             "# current_pos  current_status  current_pass\n"

@@ -2,9 +2,9 @@
 #
 #   jq -nrf view/changes.jq OLD.json NEW.json
 #
-# First whether the disk is clean and which generation counts, then a line for each thing that changed, then the bytes to
-# gain. Anything but two reports of one disk's sizes ends jq with status 5. A row of a file of many reports will do too.
-# docs/READING.md shows an example, and says what each line can't know.
+# The first line says whether the disk is clean, the second which generation counts, and the last how many bytes you can gain.
+# Between them is a line for each thing that changed. Anything except two reports with the same sizes ends jq with status 5. A
+# row of a file of many reports is a report too. docs/READING.md has an example, and says what two reports don't show.
 
 def report_keys:
     ["broken", "candidates", "clean", "dangling", "doubtful", "extents", "geometry", "hidden", "orphans", "retired",
@@ -17,36 +17,36 @@ def counted($noun): "\(.) \($noun)" + if . == 1 then "" else "s" end;
 
 def tenths($unit): (. * 10 / $unit + 0.5 | floor) | "\(. / 10 | floor).\(. % 10)";
 
-# So many bytes: exactly, and from 1 KiB on also rounded to a tenth of a larger unit.
+# A number of bytes: exactly, and from 1 KiB on also rounded to a tenth of a larger unit.
 def size:
     counted("byte")
     + if . < 1024 then "" elif . < 1048576 then " (\(tenths(1024)) KiB)" else " (\(tenths(1048576)) MiB)" end;
 
-# The first four texts of a list, behind a colon, and how many more there are. Nothing for an empty list.
+# A colon, the first four texts of a list, and how many more there are. Nothing for an empty list.
 def listed($rest):
     if length == 0 then ""
     elif length <= 4 then ": " + join(", ")
     else ": " + (.[:4] | join(", ")) + " and \(length - 4 | counted($rest))"
     end;
 
-# Rising page numbers as pairs of the first and the last, one for each range of neighbours.
+# Rising page numbers as ranges of neighbours: pairs of the first and the last page.
 def page_ranges:
     reduce .[] as $page ([];
         if length > 0 and .[-1][1] == $page - 1 then .[-1][1] = $page else . + [[$page, $page]] end);
 
-# The pages of an extent as "3:1" or "3:4-6", one text for each range of neighbours.
+# The pages of an extent as texts, one for each range of neighbours: "3:1" or "3:4-6".
 def page_texts($extent):
     [page_ranges[] | "\($extent):\(.[0])" + if .[0] == .[1] then "" else "-\(.[1])" end];
 
-# A text of others, which may have line feeds and escapes.
+# A text from outside, without its line feeds and control characters.
 def on_one_line: explode | map(if . < 32 or (. >= 127 and . < 160) then 32 else . end) | implode;
 
-# Those of a list of texts or numbers that the other list hasn't.
+# The texts or numbers of a list that aren't in the other list.
 def without($others):
     (reduce $others[] as $other ({}; .["\($other)"] = true)) as $is_other
     | map(select($is_other["\(.)"] | not));
 
-# The lines: a text for each thing that changed, and none for the others.
+# The lines: a text for each thing that changed.
 
 def change($name; $before; $now): if $before == $now then empty else "\($name): \($before) -> \($now)" end;
 
@@ -61,26 +61,26 @@ def page_list($name; $extents):
           + ([$extents[] | .extent as $extent | .pages | page_texts($extent)[]] | listed("other range"))
       end;
 
-# The extents that a report looked at, by number: all but the retired ones.
-def looked_at: reduce ({extent: 0, bad: .super.bad}, .extents[]) as $extent ({}; .["\($extent.extent)"] = $extent);
+# The extents that a scan read, by number: all except the retired ones.
+def extents_read: reduce ({extent: 0, bad: .super.bad}, .extents[]) as $extent ({}; .["\($extent.extent)"] = $extent);
 
-# By extent the pages that one report has as unreadable and the other, which looked at the extent too, as readable.
-def unreadable_besides($other):
-    ($other | looked_at) as $looked_at
-    | [({extent: 0, bad: .super.bad}, .extents[]) | $looked_at["\(.extent)"] as $there | select($there)
+# By extent, the pages that are unreadable in this report and readable in the other. The other scan read the extent too.
+def unreadable_only_here($other):
+    ($other | extents_read) as $read
+    | [({extent: 0, bad: .super.bad}, .extents[]) | $read["\(.extent)"] as $there | select($there)
        | {extent, pages: (.bad | without($there.bad))}];
 
-# By extent the unreadable pages of the extents that the other report didn't look at.
+# By extent, the unreadable pages of the extents that the other scan didn't read.
 def unreadable_elsewhere($other):
-    ($other | looked_at) as $looked_at
-    | [.extents[] | select($looked_at["\(.extent)"] | not) | {extent, pages: .bad}];
+    ($other | extents_read) as $read
+    | [.extents[] | select($read["\(.extent)"] | not) | {extent, pages: .bad}];
 
-# jq keeps numbers as floating point, which rounds from 2^53 on: then a difference is sure, and sameness isn't.
+# jq keeps numbers as floating point, which rounds from 2^53 on. Then different numbers differ, but equal ones may differ too.
 def is_exact: . == null or . < 9007199254740992;
 
 def generation_text: if . == null then "none" elif is_exact then tostring else "2^53 or more" end;
 
-# What the superblock says, as far as a report shows it.
+# The part of the superblock that a report shows.
 def record: [[.extents[] | [.extent, .pointer]], .retired, [.runs[] | [.extent, .offset]]];
 
 def generation_line($old; $new):
@@ -95,9 +95,9 @@ def generation_line($old; $new):
       elif $now > $before then ""
       elif ($old | record) != ($new | record) then
           ". " + (if $now | is_exact then "THE SAME" else "PERHAPS THE SAME" end)
-          + ", AND THE SUPERBLOCK SAYS OTHER THINGS: find out who wrote it, and reclaim nothing until then"
+          + ", BUT THE SUPERBLOCK HAS CHANGED: find out who wrote it, and reclaim nothing until then"
       elif $now | is_exact then ""
-      else ". jq can't tell whether these are the same: superblocks has the digits"
+      else ". jq can't say whether these are the same: superblocks prints all digits"
       end;
 
 def shard_lines($old; $new):
@@ -111,7 +111,8 @@ def shard_lines($old; $new):
 
 def place: "extent \(.extent) at \(.offset)";
 
-def lost_runs: [.runs | to_entries[] | select(.value.state != "read") | {place: (.value | place), state: .value.state, run: .key}];
+def lost_runs:
+    [.runs | to_entries[] | select(.value.state != "read") | {place: (.value | place), state: .value.state, run: .key}];
 
 def run_lines($old; $new):
     ([$old | lost_runs[].place] | unique) as $lost_before
@@ -126,8 +127,8 @@ def run_lines($old; $new):
 def tail_text: "extent \(.extent) from \(.tail_at) (\(.tail))";
 
 def tail_lines($old; $new):
-    ($old | looked_at) as $before
-    | ($new | looked_at) as $now
+    ($old | extents_read) as $before
+    | ($new | extents_read) as $now
     | list("new"; "tail"; [$new.extents[] | select(.tail > 0 and ($before["\(.extent)"].tail // 0) == 0) | tail_text]),
       list("changed"; "tail";
            [$new.extents[] | $before["\(.extent)"] as $was
@@ -147,12 +148,12 @@ def chunk_lines($old; $new):
     change("chunks with several owners"; $old.shared | length; $new.shared | length);
 
 def page_lines($old; $new):
-    page_list("newly unreadable"; $new | unreadable_besides($old)),
+    page_list("newly unreadable"; $new | unreadable_only_here($old)),
     page_list("unreadable, in extents that were retired before"; $new | unreadable_elsewhere($old)),
-    page_list("readable again (was the map given, and the same pages?)"; $old | unreadable_besides($new));
+    page_list("readable again (did you pass the map and the same pages?)"; $old | unreadable_only_here($new));
 
 def retired_lines($old; $new):
-    list("newly retired, so not looked at"; "extent"; $new.retired | without($old.retired) | map(tostring)),
+    list("newly retired, so not read"; "extent"; $new.retired | without($old.retired) | map(tostring)),
     list("no longer retired"; "extent"; $old.retired | without($new.retired) | map(tostring));
 
 def items_of_kind($kind): [.extents[].items[] | select(startswith($kind))] | length;
@@ -165,7 +166,7 @@ def lines($old; $new):
     change("tie of superblocks"; $old.super.tie; $new.super.tie),
     page_lines($old; $new),
     if $old.super.page == null or $new.super.page == null then
-        "not compared, without a superblock in both: shards, chunks, index runs, tails, retired extents"
+        "not compared, because a report has no superblock: shards, chunks, index runs, tails, retired extents"
     else
         change("shards known"; $old.shards; $new.shards),
         shard_lines($old; $new), run_lines($old; $new), chunk_lines($old; $new), tail_lines($old; $new),
@@ -189,7 +190,7 @@ def is_report: type == "object" and report_keys - keys == [];
 [inputs] as $reports
 | if $reports | length != 2 then error("two reports are needed: jq -nrf view/changes.jq OLD.json NEW.json")
   elif any($reports[]; is_report | not) then error("not a report of shardscrub scan")
-  elif $reports[0].geometry != $reports[1].geometry then error("the reports have other sizes: they aren't of one disk")
+  elif $reports[0].geometry != $reports[1].geometry then error("the reports have different sizes: they aren't of one disk")
   elif all($reports[]; has("disk")) and $reports[0].disk != $reports[1].disk then error("the reports are of two disks")
   else changes($reports[0]; $reports[1])
   end

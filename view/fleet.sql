@@ -1,4 +1,4 @@
--- Reads the rows that view/row prints, those of scan and those of reclaimable, into the tables of a new database:
+-- Reads the rows of view/row, both of scan and of reclaimable, into the tables of a new database:
 --
 --   cat scan.jsonl reclaimable.jsonl | sqlite3 fleet.db '.read view/fleet.sql'
 --
@@ -6,21 +6,21 @@
 .bail on
 BEGIN;
 
--- Each line is one value: no line has the byte 037, since JSON escapes it.
+-- Each line is one value. The separator, byte 037, is in no line, because JSON escapes it.
 CREATE TEMP TABLE input (line TEXT);
 .mode ascii
 .separator "\037" "\n"
 .import /dev/stdin input
 
--- What scan said. The last four are NULL if the disk wasn't answered.
+-- The rows of scan. The last four columns are NULL if scan gave no answer.
 CREATE TABLE disks (
     disk TEXT PRIMARY KEY NOT NULL,
     status INTEGER NOT NULL,
     text TEXT NOT NULL,
-    generation TEXT,        -- SQLite would round one above 2^63 - 1; 'null' without a superblock
+    generation TEXT,        -- text, since SQLite would round a number above 2^63 - 1; 'null' without a superblock
     broken INTEGER,         -- shards
     unreadable INTEGER,     -- pages
-    candidates INTEGER,     -- bytes that the candidates would free: no permission to reset one
+    candidates INTEGER,     -- bytes that the candidates would free; this is no permission to reset one
     CHECK (status < 2 AND broken IS NOT NULL OR status >= 2 AND broken IS NULL)
 );
 INSERT INTO disks
@@ -28,7 +28,8 @@ SELECT
     line ->> 'disk', line ->> 'status', line ->> 'text',
     line -> '$.super.generation',
     json_array_length(line, '$.broken'),
-    json_array_length(line, '$.super.bad') + (SELECT total(json_array_length(value, '$.bad')) FROM json_each(line, '$.extents')),
+    json_array_length(line, '$.super.bad')
+        + (SELECT total(json_array_length(value, '$.bad')) FROM json_each(line, '$.extents')),
     iif(line -> 'candidates' IS NULL, NULL, (SELECT total(value ->> 'free') FROM json_each(line, '$.candidates')))
 FROM input WHERE json_type(line, '$.lines') IS NULL;
 
@@ -36,7 +37,7 @@ CREATE TABLE broken (disk TEXT NOT NULL, shard TEXT NOT NULL);
 INSERT INTO broken
 SELECT line ->> 'disk', value FROM input, json_each(line, '$.broken');
 
--- What reclaimable said. The gain is in bytes. It is 0 if there is a doubt, and NULL if the disk wasn't answered.
+-- The rows of reclaimable. The gain is in bytes. It is 0 if there is a doubt, and NULL if reclaimable gave no answer.
 CREATE TABLE reclaimable (
     disk TEXT PRIMARY KEY NOT NULL,
     status INTEGER NOT NULL,
@@ -51,7 +52,7 @@ SELECT
         (SELECT total(value ->> 2) FROM json_each(line, '$.lines') WHERE value ->> 0 = 'reclaim'))
 FROM input WHERE json_type(line, '$.lines') IS NOT NULL;
 
--- The doubts of reclaimable, and each disk that it didn't answer.
+-- The doubts of reclaimable, and a line for each disk without an answer of it.
 CREATE TABLE doubts (disk TEXT NOT NULL, kind TEXT NOT NULL, words TEXT NOT NULL);
 INSERT INTO doubts
 SELECT line ->> 'disk', value ->> 1, (SELECT coalesce(group_concat(value, ' '), '') FROM json_each(doubt.value) WHERE key > 1)

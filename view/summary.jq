@@ -1,10 +1,10 @@
-# Prints a report as a dozen lines for a person, always in this order, so that two summaries can be compared with diff:
+# Prints a report as a dozen lines for a person. The order is always the same, so diff can compare two summaries:
 #
 #   ./shardscrub scan .. | jq -rf view/summary.jq
 #
-# A file of many reports gives one summary for each. A row of such a file may also have "disk", the disk's name; a row that
-# has no report says with "status" and "text" why. Input that is neither ends jq with status 5.
-# A summary is no permission to reset an extent: ask `reclaimable`. docs/READING.md shows a summary, and what is not in it.
+# A file of many reports gives a summary for each. A row of such a file may have "disk", the disk's name. A row without a report
+# gives the reason as "status" and "text". Any other input ends jq with status 5.
+# A summary is no permission to reset an extent: ask `reclaimable`. docs/READING.md has an example.
 
 def report_keys:
     ["broken", "candidates", "clean", "dangling", "doubtful", "extents", "geometry", "hidden", "orphans", "retired",
@@ -17,7 +17,7 @@ def counted($noun): "\(.) \($noun)" + if . == 1 then "" else "s" end;
 
 def tenths($unit): (. * 10 / $unit + 0.5 | floor) | "\(. / 10 | floor).\(. % 10)";
 
-# So many bytes: exactly, and from 1 KiB on also rounded to a tenth of a larger unit.
+# A number of bytes: exactly, and from 1 KiB on also rounded to a tenth of a larger unit.
 def size:
     counted("byte")
     + if . < 1024 then "" elif . < 1048576 then " (\(tenths(1024)) KiB)" else " (\(tenths(1048576)) MiB)" end;
@@ -26,14 +26,14 @@ def size:
 def first_ones($rest):
     (.[:4] | join(", ")) + if length <= 4 then "" else " and \(length - 4 | counted($rest))" end;
 
-# The same behind a colon. Nothing for an empty list.
+# The same after a colon. Nothing for an empty list.
 def listed($rest): if length == 0 then "" else ": " + first_ones($rest) end;
 
-# As first_ones, for texts that have commas.
+# Like first_ones, for texts with commas.
 def listed_apart($rest):
     (if length > 4 then .[:4] + ["and \(length - 4 | counted($rest))"] else . end) | join("; ");
 
-# Rising page numbers as pairs of the first and the last, one for each range of neighbours.
+# Rising page numbers as ranges of neighbours: pairs of the first and the last page.
 def page_ranges:
     reduce .[] as $page ([];
         if length > 0 and .[-1][1] == $page - 1 then .[-1][1] = $page else . + [[$page, $page]] end);
@@ -41,20 +41,20 @@ def page_ranges:
 # "4" or "4-6".
 def range_text: "\(.[0])" + if .[0] == .[1] then "" else "-\(.[1])" end;
 
-# The pages of an extent as "3:1" or "3:4-6", one text for each range of neighbours.
+# The pages of an extent as texts, one for each range of neighbours: "3:1" or "3:4-6".
 def page_texts($extent): [page_ranges[] | "\($extent):\(range_text)"];
 
 def ranges_or_none: if . == [] then "none" else first_ones("other range") end;
 
 # jq keeps numbers as floating point, which rounds from 2^53 on.
-def generation_text: if . < 9007199254740992 then tostring else "of 2^53 or more, whose digits superblocks has" end;
+def generation_text: if . < 9007199254740992 then tostring else "of 2^53 or more (superblocks prints its digits)" end;
 
 def generation_name: if . < 9007199254740992 then "generation \(.)" else "that generation" end;
 
-# A text of others, which may have line feeds and escapes.
+# A text from outside, without its line feeds and control characters.
 def on_one_line: explode | map(if . < 32 or (. >= 127 and . < 160) then 32 else . end) | implode;
 
-# How many items of each kind an extent has, and how many bytes they take.
+# The number of items of each kind in an extent, and their bytes.
 def items_by_kind:
     reduce (.items[] | split(" ")) as [$kind, $start, $stop]
         ({}; .[$kind] = {count: (.[$kind].count + 1), bytes: (.[$kind].bytes + ($stop | tonumber) - ($start | tonumber))});
@@ -62,7 +62,7 @@ def items_by_kind:
 def chunk_count: total(.[].kinds | .chunk.count, .sealed.count);
 def chunk_bytes: total(.[].kinds | .chunk.bytes, .sealed.bytes);
 
-# The doubts that a report knows, by kind, as `reclaimable` orders them: how many lines it prints of each, and a text.
+# The doubts that a report shows, by kind, in the order of `reclaimable`: the number of its lines of that kind, and a text.
 def doubts:
     .geometry.page as $page_size
     | [.runs | to_entries[] | select(.value.state != "read")] as $lost_runs
@@ -93,10 +93,11 @@ def doubts:
       ]
     | map(select(.lines > 0));
 
-# Whether so many chunks without an owner are nearly all of so many whole chunks.
+# Whether this many chunks without an owner are nearly all of $count whole chunks.
 def nearly_all($count): $count >= 10 and . * 10 >= $count * 9;
 
-# What is wrong or in doubt, each thing once: an unreadable page is no lost item here, and a lost run no locator that dangles.
+# What is wrong or in doubt, each thing once. So an unreadable page isn't also a lost item, and a lost run isn't also a dangling
+# locator.
 def findings($extents):
     ($extents | chunk_count) as $chunks
     | [
@@ -105,7 +106,8 @@ def findings($extents):
         (.super | select(.bad != []) | (.bad | length | counted("unreadable page")) + " of extent 0, which may have held "
          + if .page == null then "one" else "a newer superblock" end),
         ([.runs[] | select(.state != "read")] | length | select(. > 0) | counted("lost run")),
-        (select(.super.page != null) | .orphans | length | select(nearly_all($chunks)) | "\(.) of \($chunks) chunks have no owner"),
+        (select(.super.page != null) | .orphans | length | select(nearly_all($chunks))
+         | "\(.) of \($chunks) chunks have no owner"),
         (.broken | length | select(. > 0) | counted("broken shard")),
         (.hidden | unique_by([.extent, .offset]) | length | select(. > 0) | counted("hidden chunk")),
         (.shared | length | select(. > 0) | counted("chunk") + " with several owners"),
@@ -140,7 +142,7 @@ def runs_text:
     ([.runs[] | select(.state == "read")] | length) as $read
     | "\(.runs | length) named, \($read) read, \((.runs | length) - $read) lost";
 
-# A new disk has no shard either, but each whole chunk on it is an index run that the superblock names.
+# A new disk has no shard either, but then each whole chunk is an index run that the superblock names, and none is an orphan.
 def shards_text($extents):
     if .shards == 0 and .orphans != [] then
         ($extents | chunk_count) as $count
@@ -149,7 +151,7 @@ def shards_text($extents):
     else "\(.shards) known, \(.broken | length) broken, \(.doubtful | length) doubtful"
     end;
 
-# Each broken shard by name, and what is wrong with the locators for which they are.
+# The broken shards by name, and what is wrong with their locators.
 def broken_text:
     [.dangling[] | select(.owner | startswith("shard ")) | .reason] as $reasons
     | "\(.broken | length) of \(.shards | counted("shard"))\(.broken | listed("other"))"
@@ -163,7 +165,7 @@ def live_text($extents):
     "\(($extents | chunk_count) - (.orphans | length) | counted("chunk")), \(total(.extents[].live) | size); "
     + "\(.shared | length) with several owners";
 
-# The whole chunks without an owner at which a locator points that names another chunk there: it may mean this one.
+# The number of orphans at which a locator of another UUID, length or digest points. The locator may mean this chunk.
 def claimed_count:
     (reduce (.dangling[] | select(.reason | IN("wrong_uuid", "wrong_length", "wrong_digest"))) as {$extent, $offset}
         ({}; .["\($extent) \($offset)"] = true)) as $is_claimed
@@ -195,15 +197,15 @@ def hidden_text:
         + ([$hidden[] | "extent \(.extent) at byte \(.offset)"] | listed("other"))
       end;
 
-# Without the lost items, whose pages are among the unreadable ones.
+# Without lost items: their pages are in the line of unreadable pages.
 def other_items_text($extents):
     [("torn", "noise", "pad") | . as $kind
      | "\(total($extents[].kinds[$kind].count)) \($kind), \(total($extents[].kinds[$kind].bytes) | size)"]
     | join("; ");
 
-# The side of a write pointer on which an unreadable page lies.
+# The side of the write pointer on which an unreadable page is.
 def side($pointer; $page_size):
-    . * $page_size | if . >= $pointer then "behind" elif . + $page_size > $pointer then "across" else "below" end;
+    . * $page_size | if . >= $pointer then "past" elif . + $page_size > $pointer then "across" else "below" end;
 
 def unreadable_text:
     .geometry.page as $page_size
@@ -214,10 +216,10 @@ def unreadable_text:
     | ((.super.bad | length) + total(.extents[].bad | length)) as $count
     | ($count | counted("page"))
     + if $count == 0 then ""
-      elif .super.page == null then ": extent 0: \($of_extent_0); others: \(pages_on(["below", "across", "behind"]))"
+      elif .super.page == null then ": extent 0: \($of_extent_0); others: \(pages_on(["below", "across", "past"]))"
       else
         ": extent 0: \($of_extent_0); below a write pointer: \(pages_on(["below"])); across one: \(pages_on(["across"])); "
-        + "behind one: \(pages_on(["behind"]))"
+        + "past one: \(pages_on(["past"]))"
       end;
 
 def candidates_text($doubts):

@@ -38,7 +38,7 @@ same_choice g (Some c) p q x y = (x.retired ∙ sym y.retired, x.pointers ∙ sy
 
 pub one_plan : (choice : Choice) (p q : PlanValue) → IsPlanOf choice p → IsPlanOf choice q → p ≡ q
 one_plan choice p q x y =
-    let verdict = same_choice choice.geometry choice.superblock p q x.by y.by in
+    let known = same_choice choice.geometry choice.superblock p q x.by y.by in
     same_plan p q (x.geometry ∙ sym y.geometry) (x.all ∙ ap (extents_in_use choice.geometry.extents) known.0 ∙ sym y.all) known.0 known.1 known.2 known.3
 
 -- ---- one reader
