@@ -71,17 +71,20 @@ of_disk_fault Holds known maps words g bad unopened line none long memory TooLon
 of_disk_fault Holds known maps words g bad unopened line none long memory (Output written) is = absurd is
 of_disk_fault Holds known maps words g bad unopened line none long memory OutOfMemory is = memory
 
-pub load_fault : (known : KnownRaw) (maps : KnownMaps) (was : Option (List ℕ)) (words : ImageWords) (g : Sizes) (fault : LoadFault) →
+pub load_fault : (known : KnownRaw) (maps : KnownMaps) (was : Option (List ℕ)) (words : ImageWords) (g : Sizes)
+    (fault : LoadFault) →
     AreReadBefore maps words g → was ≡ known.bytes →
-    (fault ≡ too_long → IfSome was (λ bytes. disk_bytes g < length bytes)) → IsDiskFault known maps words g (fault_of_load fault)
+    (fault ≡ too_long → IfSome was (λ bytes. disk_bytes g < length bytes)) →
+    IsDiskFault known maps words g (fault_of_load fault)
 load_fault known maps was words g no_memory_to_load before same longer = tt
 load_fault known maps was words g too_long before same longer =
-    (before, subst (λ r. IfSome r (λ bytes. disk_bytes g < length bytes)) same (longer (λ i. too_long)))
+    (before, rw same at (longer (λ i. too_long)))
 
 -- no more reads failed while loading than may fail of the image
-pub loaded_as_known : (known : KnownRaw) (was : Option (List ℕ)) (g : Sizes) (pages : List (ℕ × ℕ)) (image : Image) (before after most most_before : ℕ) →
+pub loaded_as_known : (known : KnownRaw) (was : Option (List ℕ)) (g : Sizes) (pages : List (ℕ × ℕ)) (image : Image)
+    (before after most most_before : ℕ) →
     was ≡ known.bytes → most_before ≡ known.most_failures → most ≡ most_before → after ≤ most →
     IsLoadedWith was (after - before) g pages image → IsLoadedWith known.bytes known.most_failures g pages image
 loaded_as_known known was g pages image before after most most_before same bound kept within loaded =
     let few : after - before ≤ known.most_failures = omega (arith, bound, kept, within) in
-    subst (λ r. IsLoadedWith r known.most_failures g pages image) same (loaded_with_more was (after - before) known.most_failures g pages image few loaded)
+    rw same at (loaded_with_more was (after - before) known.most_failures g pages image few loaded)

@@ -12,5 +12,6 @@ use Rattle.scrub_cli.proofs.DiskAnswers.{of_disk_fault}
 pub scan_disk_fault : (known : KnownRaw) (maps : KnownMaps) (words : ImageWords) (g : Sizes) (fault : Fault) →
     HasSizes g words.page words.pages words.extents → IsDiskFault known maps words g fault → IsScanFault known maps words fault
 scan_disk_fault known maps words g fault sizes =
-    of_disk_fault (IsScanFault known maps words) known maps words g (λ word is. (g, sizes, is)) (λ name is. (g, sizes, is)) (λ k is. (g, sizes, is))
+    of_disk_fault (IsScanFault known maps words) known maps words g (λ word is. (g, sizes, is)) (λ name is. (g, sizes, is))
+    (λ k is. (g, sizes, is))
     (λ name is. (g, sizes, is)) (λ is. (g, sizes, is)) tt fault

@@ -8,7 +8,8 @@ use Rattle.scrub_cli.specs.Rescue.{IsMapFault}
 use Rattle.scrub_cli.specs.SizesListed.{AreSizesListed, IsSizesFault}
 
 -- a fault of the map is one of `sizes`
-pub map_fault_of_sizes : (maps : KnownMaps) (words : SizesWords) (fault : Fault) → IsMapFault maps words.map fault → IsSizesFault maps words fault
+pub map_fault_of_sizes : (maps : KnownMaps) (words : SizesWords) (fault : Fault) → IsMapFault maps words.map fault →
+    IsSizesFault maps words fault
 map_fault_of_sizes maps words NotUtf8 is = absurd is
 map_fault_of_sizes maps words (Help text) is = absurd is
 map_fault_of_sizes maps words (Words text) is = absurd is

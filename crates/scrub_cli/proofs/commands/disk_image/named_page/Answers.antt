@@ -20,6 +20,7 @@ returns-else-extent-geometry c at named =
     let in_extents = named.in_extents in
     let in_pages = named.in_pages in
     elim c.else-extent-geometry.branch [
-      | else-extent-geometry-via-then-extent-geometry+else-page-geometry w ↦ omega (arith, one.1, in_pages, w.if-page-geometry.false)
+      | else-extent-geometry-via-then-extent-geometry+else-page-geometry w ↦
+          omega (arith, one.1, in_pages, w.if-page-geometry.false)
       | else-extent-geometry-via-else-extent-geometry w ↦ omega (arith, one.0, in_extents, w.if-extent-geometry.false)
     ]

@@ -8,6 +8,10 @@ returns-clause-map g c =
     let read = c.in_ok-read_map.ensures.map in
     record {
       blocks = Some read.0;
-      are = rw c.in-Some.is (record { text = c.in-Ok.text.items; known = c.in-Ok.ensures.known; read = subst (λ (text : List ℕ). IsMap text read.0) c.deref.ensures.value read.1 });
+      are = rw c.in-Some.is (record {
+        text = c.in-Ok.text.items;
+        known = c.in-Ok.ensures.known;
+        read = subst (λ (text : List ℕ). IsMap text read.0) c.deref.ensures.value read.1;
+      });
       keeps = read.2;
     }

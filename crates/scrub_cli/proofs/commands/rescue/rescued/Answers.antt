@@ -9,4 +9,7 @@ without_lost-requires c = let kept = rw c.in-Some.is at c.requires in some_block
 
 pub returns-in-Some : goal.returns-in-Some
 returns-in-Some c =
-    rw c.in-Some.is (IfOk-weaker c.without_lost.result _ _ (λ r loses blocks keeps. loses_by_map c.in-Some.map (image_of c.args.disk) (image_of r) loses blocks keeps) c.without_lost.ensures)
+    rw c.in-Some.is
+    (IfOk-weaker c.without_lost.result _ _
+    (λ r loses blocks keeps. loses_by_map c.in-Some.map (image_of c.args.disk) (image_of r) loses blocks keeps)
+    c.without_lost.ensures)

@@ -3,4 +3,8 @@ use Rattle.scrub_disk.specs.Memory.{image_of}
 use Rattle.scrub_cli.proofs.commands.scan.superblocks.Goals as goal
 
 pub returns : goal.returns
-returns g c = record { image = image_of c.in_ok-disk.disk; disk = c.in_ok-disk.ensures; answered = c.in_ok-superblock_listing.ensures }
+returns g c = record {
+  image = image_of c.in_ok-disk.disk;
+  disk = c.in_ok-disk.ensures;
+  answered = c.in_ok-superblock_listing.ensures;
+}

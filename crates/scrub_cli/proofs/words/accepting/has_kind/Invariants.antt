@@ -5,4 +5,6 @@ use Rattle.std.specs.Str.{bytes_eq}
 use Rattle.scrub_cli.proofs.words.accepting.has_kind.Given as goal
 
 abbrev pub invariant-loop-word : goal.invariant-loop-word
-invariant-loop-word l = list_any (λ word. bytes_eq word.now l.fn.kind) (drop l.word-index l.words) ≡ list_any (λ word. bytes_eq word.now l.fn.kind) l.words
+invariant-loop-word l =
+    list_any (λ word. bytes_eq word.now l.fn.kind) (drop l.word-index l.words)
+    ≡ list_any (λ word. bytes_eq word.now l.fn.kind) l.words

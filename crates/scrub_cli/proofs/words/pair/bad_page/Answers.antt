@@ -7,7 +7,10 @@ use Rattle.scrub_cli.proofs.words.pair.bad_page.Goals as goal
 pub returns-in_err-extent : goal.returns-in_err-extent
 returns-in_err-extent c =
     let word = c.args.word.now in
-    rw c.from_residual.ensures (record { pair = λ m n _ _ is_pair. pair_parts word None m n c.in_err-extent.ensures.cases is_pair; only = tt })
+    rw c.from_residual.ensures (record {
+      pair = λ m n _ _ is_pair. pair_parts word None m n c.in_err-extent.ensures.cases is_pair;
+      only = tt;
+    })
 
 -- before the first colon there is no number
 pub returns-in_err-decimal : goal.returns-in_err-decimal
