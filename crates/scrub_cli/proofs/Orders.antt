@@ -1,5 +1,5 @@
 -- With two neighbouring options exchanged the arguments ask for the same.
-use Rattle.std.proofs.Common.{◌≡◌, ◌∙◌, inl, inr, ℕ, false, List, [], ◌∷◌, Option, None, Some, refl, sym, ap, ap₂, subst, codes, MatchOption}
+use Rattle.std.proofs.Common.{◌≡◌, ◌∙◌, inl, inr, ℕ, false, List, [], ◌∷◌, Option, None, Some, refl, sym, ap, ap₂, codes, MatchOption}
 use Rattle.std.specs.Prelude.{fold, is_some}
 use Rattle.std.specs.Option.{option_map_or}
 use Rattle.clap.specs.Words.{Row, Text, built, fault_of, one_of, subcommand_of}
@@ -23,7 +23,6 @@ use Rattle.scrub_cli.specs.declared.words.ReclaimWords.{ReclaimWords}
 use Rattle.scrub_cli.specs.declared.words.SizesWords.{SizesWords}
 use Rattle.scrub_cli.specs.declared.words.Request.{Request}
 use Rattle.scrub_cli.specs.declared.words.Request.TheVariants.{Demo, Items, Scan, Index, Locators, Reclaimable, Superblocks, Sizes, Version}
-use Rattle.scrub_cli.specs.Accepting.{AreAccepted}
 use Rattle.scrub_cli.specs.CommandLine.{shardscrub_app}
 use Rattle.scrub_cli.specs.Order.{AreExchanged, HasOptions}
 use Rattle.scrub_cli.specs.Words.{AreImageWords, AreItemsWords, AreReclaimWords, AreScanWords, AreSizesWords, IsAskedBy, IsNumberOf, IsWorkersOf, NameCommand}

@@ -1,6 +1,5 @@
 -- The whole answer was written, or the fault of the output is reported.
-use Rattle.std.proofs.Common.{◌<◌, inl, inr, length, refl, subst, take}
-use Rattle.std.specs.Io.KnownBytes.{Appends}
+use Rattle.std.proofs.Common.{inl, inr, refl}
 use Rattle.std.proofs.KnownBytes.{Keeps-refl}
 use Rattle.scrub_cli.proofs.running.give.Goals as goal
 

@@ -1,9 +1,8 @@
 -- Each way out of `load_disk`, in the order of the code.
-use Rattle.std.proofs.Common.{◌-◌, ◌∙◌, ap, refl, subst, Err, List}
+use Rattle.std.proofs.Common.{◌-◌, ◌∙◌, ap, refl, Err, List}
 use Rattle.std.proofs.lemmas.Result.{err_from_is_err_and}
 use Rattle.scrub_disk.specs.Memory.{image_of}
-use Rattle.scrub_disk.specs.Raw.{IsLoadedWith}
-use Rattle.scrub_cli.specs.DiskImage.{AreReadBefore, IsBadPageFault, NamePages}
+use Rattle.scrub_cli.specs.DiskImage.{AreReadBefore}
 use Rattle.scrub_cli.specs.Known.{KnownRaw}
 use Rattle.scrub_cli.proofs.DiskAnswers.{bad_page_fault, load_fault, loaded_as_known, map_fault}
 use Rattle.scrub_cli.proofs.NamedPages.{named_in_range}

@@ -1,5 +1,5 @@
 -- The limit's name is that of the fault.
-use Rattle.std.proofs.Common.{OnOk, ◌++◌, codes, subst, sym}
+use Rattle.std.proofs.Common.{OnOk, ◌++◌, codes, subst}
 use Rattle.std.proofs.lemmas.List.{append-nil}
 use Rattle.std.specs.Fmt.{decimal}
 use Rattle.std.specs.Io.KnownBytes.{Appends}
