@@ -1,4 +1,4 @@
--- Tests of words, and of their texts.
+-- A test of borrowed texts is one of their texts.
 use Rattle.std.proofs.Common.{◌≡◌, ◌&&◌, ◌||◌, List, [], ◌∷◌, refl, ap, Bool}
 use Rattle.std.specs.Borrow.{Bor}
 use Rattle.std.specs.List.{list_all, list_any}
@@ -11,6 +11,7 @@ pub all_of_texts : (words : List (Bor Text)) → list_all is_kind (texts words) 
 all_of_texts [] = refl
 all_of_texts (word ∷ words) = ap (λ (b : Bool). is_kind word.now && b) (all_of_texts words)
 
-pub any_of_texts : (kind : Text) (words : List (Bor Text)) → list_any (λ word. bytes_eq word.now kind) words ≡ has_kind kind (texts words)
+pub any_of_texts : (kind : Text) (words : List (Bor Text)) →
+    list_any (λ word. bytes_eq word.now kind) words ≡ has_kind kind (texts words)
 any_of_texts kind [] = refl
 any_of_texts kind (word ∷ words) = ap (λ (b : Bool). bytes_eq word.now kind || b) (any_of_texts kind words)

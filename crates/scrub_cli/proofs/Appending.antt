@@ -7,21 +7,25 @@ use Rattle.scrub_report.proofs.Appending.{appends_twice}
 use Rattle.scrub_report.specs.Output.{AppendsFront}
 
 -- a front of the first part is one of both
-pub front_stays : (old new : Option (List ℕ)) (first second : List ℕ) → AppendsFront old new first → AppendsFront old new (first ++ second)
+pub front_stays : (old new : Option (List ℕ)) (first second : List ℕ) → AppendsFront old new first →
+    AppendsFront old new (first ++ second)
 front_stays old new first second front =
     let part = take front.0 first in
     let rest = drop front.0 first ++ second in
-    let parted : first ++ second ≡ part ++ rest = ap (λ u. u ++ second) (sym (take-append-drop front.0 first)) ∙ append_assoc part (drop front.0 first) second in
+    let parted : first ++ second ≡ part ++ rest =
+    ap (λ u. u ++ second) (sym (take-append-drop front.0 first)) ∙ append_assoc part (drop front.0 first) second in
     let same : take (length part) (first ++ second) ≡ part = ap (take (length part)) parted ∙ take-append_seam part rest in
     (length part, subst (Appends old new) (sym same) front.1)
 
 -- the first part, and then a front of the second
 pub front_then : (old mid new : Option (List ℕ)) (first second : List ℕ) → Appends old mid first → AppendsFront mid new second →
     AppendsFront old new (first ++ second)
-front_then old mid new first second before front =
-    (length first + front.0, appends_twice old mid new first (take front.0 second) _ before front.1 (take-append-add first second front.0))
+front_then old mid new first second before front = (
+  length first + front.0,
+  appends_twice old mid new first (take front.0 second) _ before front.1 (take-append-add first second front.0),
+)
 
--- the same of a write that went well
+-- the same for the second part, if its write succeeded
 pub ok_then : {T E : Type 0} (r : Result T E) (old mid new : Option (List ℕ)) (first second : List ℕ) → Appends old mid first →
     OnOk r (Appends mid new second) → OnOk r (Appends old new (first ++ second))
 ok_then (Ok x) old mid new first second before now = appends_twice old mid new first second _ before now refl

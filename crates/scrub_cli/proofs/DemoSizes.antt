@@ -1,5 +1,5 @@
 -- How many bytes the parts of the demo's disk have.
-use Rattle.std.proofs.Common.{◌≡◌, ◌∙◌, ℕ, List, [], ◌∷◌, ◌++◌, All, None, length, arith, refl, ap, subst, length-append}
+use Rattle.std.proofs.Common.{◌≡◌, ◌∙◌, ℕ, List, [], ◌∷◌, ◌++◌, None, length, arith, refl, ap, length-append}
 use Rattle.std.specs.List.{flat_map}
 use Rattle.std.proofs.lemmas.List.Elements.{All-head}
 use Rattle.byteorder.specs.Endian.{big_bytes}
@@ -7,7 +7,7 @@ use Rattle.sha2.specs.Sha256.{sha256}
 use Rattle.sha2.proofs.Facts256.{length-sha256}
 use Rattle.scrub_disk.specs.declared.geometry.Geometry.{Geometry}
 use Rattle.scrub_frame.specs.declared.locator.Locator.{Locator}
-use Rattle.scrub_frame.specs.Locator.{locator_bytes, IsLocator}
+use Rattle.scrub_frame.specs.Locator.{locator_bytes}
 use Rattle.scrub_frame.proofs.Locators.{length-locators}
 use Rattle.scrub_frame.proofs.Parts.{length-flat_map_of}
 use Rattle.scrub_run.specs.Entry.{EntryValue, entry_bytes, IsEntry}
@@ -18,28 +18,51 @@ use Rattle.scrub_super.specs.Record.{record_body, record_bytes, AreContents}
 -- a run of one shard with one chunk
 pub run_size : (e : EntryValue) (payload : List ℕ) → length e.locators ≡ 1 → IsRun payload (e ∷ []) → length payload ≡ 117
 run_size e payload one is =
-    omega (arith, ap length is.spelled, length-append (run_body (e ∷ [])) (sha256 (run_body (e ∷ []))), length-sha256 (run_body (e ∷ [])), body)
+    omega (
+      arith,
+      ap length is.spelled,
+      length-append (run_body (e ∷ [])) (sha256 (run_body (e ∷ []))),
+      length-sha256 (run_body (e ∷ [])),
+      body,
+    )
   where
     entry : IsEntry e
     entry = All-head IsEntry e [] is.entries_of_run.each
 
     spelled : length (flat_map entry_bytes (e ∷ [])) ≡ 77
-    spelled = omega (arith, length-append (entry_bytes e) [], length-append e.id.0 (length e.locators ∷ flat_map locator_bytes e.locators), length-locators e.locators entry.each, entry.sixteen, one)
+    spelled =
+        omega (
+          arith,
+          length-append (entry_bytes e) [],
+          length-append e.id.0 (length e.locators ∷ flat_map locator_bytes e.locators),
+          length-locators e.locators entry.each,
+          entry.sixteen,
+          one,
+        )
 
     body : length (run_body (e ∷ [])) ≡ 85
     body = omega (arith, spelled)
 
 -- a record of two pointers and one run, which lists no retired extents
-pub record_size : (g : Geometry) (n : ℕ) (ps : List ℕ) (rs : List Locator) (c : Contents) (bytes before : List ℕ) → c ≡ record { generation = n; pointers = ps; retired = None; runs = rs } →
+pub record_size : (g : Geometry) (n : ℕ) (ps : List ℕ) (rs : List Locator) (c : Contents) (bytes before : List ℕ) →
+    c ≡ record { generation = n; pointers = ps; retired = None; runs = rs } →
     bytes ≡ before ++ record_bytes g c → before ≡ [] → length ps ≡ 2 → length rs ≡ 1 → AreContents g c → length bytes ≡ 126
 record_size g n ps rs c bytes before same written none two one is =
-    omega (arith, ap length written, length-append before (record_bytes g c), ap length none, length-append (record_body g c) (sha256 (record_body g c)), length-sha256 (record_body g c), body)
+    omega (
+      arith,
+      ap length written,
+      length-append before (record_bytes g c),
+      ap length none,
+      length-append (record_body g c) (sha256 (record_body g c)),
+      length-sha256 (record_body g c),
+      body,
+    )
   where
     pointers : length (flat_map (big_bytes 4) ps) ≡ 8
     pointers = omega (arith, length-flat_map_of (big_bytes 4) 4 ps (λ k d hk. refl), two)
 
     runs : length (flat_map locator_bytes rs) ≡ 60
-    runs = omega (arith, length-locators rs (subst (λ (x : Contents). All IsLocator x.runs) same is.runs.each), one)
+    runs = omega (arith, length-locators rs (rw same at is.runs.each), one)
 
     parts : length (record_body g (record { generation = n; pointers = ps; retired = None; runs = rs })) ≡ 94
     parts = omega (arith, length-append (flat_map (big_bytes 4) ps) (flat_map locator_bytes rs), pointers, runs)

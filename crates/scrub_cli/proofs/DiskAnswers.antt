@@ -1,5 +1,5 @@
--- What an image file comes to, from what its parts give.
-use Rattle.std.proofs.Common.{◌≡◌, arith, ◌<◌, ◌≤◌, ◌-◌, ℕ, List, length, Option, subst, IfSome}
+-- Why no disk is loaded from an image file, or what is, from what the parts of `load_disk` give.
+use Rattle.std.proofs.Common.{◌≡◌, arith, ◌<◌, ◌≤◌, ◌-◌, ℕ, List, length, Option, IfSome}
 use Rattle.std.specs.Borrow.{Bor}
 use Rattle.scrub_disk.specs.declared.geometry.Geometry.{Geometry as Sizes}
 use Rattle.scrub_disk.specs.declared.loading.LoadFault.{LoadFault}
@@ -15,7 +15,7 @@ use Rattle.scrub_cli.specs.Fault.{fault_of_load}
 use Rattle.scrub_cli.specs.Known.{KnownMaps, KnownRaw}
 use Rattle.scrub_cli.specs.Rescue.{IsMapFault}
 
--- a word that names no page is a fault of the image
+-- an argument that names no page is a fault of loading
 pub bad_page_fault : (known : KnownRaw) (maps : KnownMaps) (words : ImageWords) (g : Sizes) (fault : Fault) →
     IsBadPageFault g words.bad_pages.items fault → IsDiskFault known maps words g fault
 bad_page_fault known maps words g (BadPage word) first = first
@@ -32,7 +32,7 @@ bad_page_fault known maps words g (NoImage name) first = absurd first
 bad_page_fault known maps words g TooLong first = absurd first
 bad_page_fault known maps words g (Output written) first = absurd first
 
--- and so is a map that isn't read
+-- a map that isn't read is one
 pub map_fault : (known : KnownRaw) (maps : KnownMaps) (words : ImageWords) (g : Sizes) (pages : List (ℕ × ℕ)) (fault : Fault) →
     NamePages g words.bad_pages.items pages → IsMapFault maps words.map fault → IsDiskFault known maps words g fault
 map_fault known maps words g pages (NoMap name) named why = (pages, named, why)
@@ -49,7 +49,7 @@ map_fault known maps words g pages (NoImage name) named why = absurd why
 map_fault known maps words g pages TooLong named why = absurd why
 map_fault known maps words g pages (Output written) named why = absurd why
 
--- what holds of each fault that an image may have holds of the one that it has
+-- what holds for each fault that loading may have holds for the one that it has
 pub of_disk_fault : (Holds : Fault → Type 0) (known : KnownRaw) (maps : KnownMaps) (words : ImageWords) (g : Sizes) →
     ((word : Bor (List ℕ)) → IsDiskFault known maps words g (BadPage word) → Holds (BadPage word)) →
     ((name : Bor (List ℕ)) → IsDiskFault known maps words g (NoMap name) → Holds (NoMap name)) →
@@ -71,17 +71,20 @@ of_disk_fault Holds known maps words g bad unopened line none long memory TooLon
 of_disk_fault Holds known maps words g bad unopened line none long memory (Output written) is = absurd is
 of_disk_fault Holds known maps words g bad unopened line none long memory OutOfMemory is = memory
 
-pub load_fault : (known : KnownRaw) (maps : KnownMaps) (was : Option (List ℕ)) (words : ImageWords) (g : Sizes) (fault : LoadFault) →
+pub load_fault : (known : KnownRaw) (maps : KnownMaps) (was : Option (List ℕ)) (words : ImageWords) (g : Sizes)
+    (fault : LoadFault) →
     AreReadBefore maps words g → was ≡ known.bytes →
-    (fault ≡ too_long → IfSome was (λ bytes. disk_bytes g < length bytes)) → IsDiskFault known maps words g (fault_of_load fault)
+    (fault ≡ too_long → IfSome was (λ bytes. disk_bytes g < length bytes)) →
+    IsDiskFault known maps words g (fault_of_load fault)
 load_fault known maps was words g no_memory_to_load before same longer = tt
 load_fault known maps was words g too_long before same longer =
-    (before, subst (λ r. IfSome r (λ bytes. disk_bytes g < length bytes)) same (longer (λ i. too_long)))
+    (before, rw same at (longer (λ i. too_long)))
 
--- what was loaded while no more reads failed than the image's bound lets fail
-pub loaded_as_known : (known : KnownRaw) (was : Option (List ℕ)) (g : Sizes) (pages : List (ℕ × ℕ)) (image : Image) (before after most most_before : ℕ) →
+-- no more reads failed while loading than may fail of the image
+pub loaded_as_known : (known : KnownRaw) (was : Option (List ℕ)) (g : Sizes) (pages : List (ℕ × ℕ)) (image : Image)
+    (before after most most_before : ℕ) →
     was ≡ known.bytes → most_before ≡ known.most_failures → most ≡ most_before → after ≤ most →
     IsLoadedWith was (after - before) g pages image → IsLoadedWith known.bytes known.most_failures g pages image
 loaded_as_known known was g pages image before after most most_before same bound kept within loaded =
     let few : after - before ≤ known.most_failures = omega (arith, bound, kept, within) in
-    subst (λ r. IsLoadedWith r known.most_failures g pages image) same (loaded_with_more was (after - before) known.most_failures g pages image few loaded)
+    rw same at (loaded_with_more was (after - before) known.most_failures g pages image few loaded)

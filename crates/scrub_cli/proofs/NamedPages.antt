@@ -1,4 +1,4 @@
--- Words that name pages of a disk.
+-- Arguments that name pages of a disk.
 use Rattle.std.proofs.Common.{◌≡◌, ◌<◌, ◌+◌, ℕ, List, [], ◌∷◌, ◌++◌, length, take, get_or, All}
 use Rattle.std.specs.Borrow.{Bor}
 use Rattle.std.proofs.lemmas.List.Elements.{All-nil, All-cons}
@@ -6,17 +6,20 @@ use Rattle.scrub_disk.specs.declared.geometry.Geometry.{Geometry}
 use Rattle.scrub_disk.proofs.Zips.{AllZip-take_more}
 use Rattle.scrub_cli.specs.DiskImage.{NamesPage, NamePages}
 
--- one more word, and the page that it names
-pub named_more : (g : Geometry) (words : List (Bor (List ℕ))) (pages more : List (ℕ × ℕ)) (i : ℕ) (d : Bor (List ℕ)) (at : ℕ × ℕ) →
+-- one more argument, and the page that it names
+pub named_more : (g : Geometry) (words : List (Bor (List ℕ))) (pages more : List (ℕ × ℕ)) (i : ℕ) (d : Bor (List ℕ))
+    (at : ℕ × ℕ) →
     i < length words → NamePages g (take i words) pages → NamesPage g (get_or words i d).now at →
     more ≡ pages ++ at ∷ [] → NamePages g (take (i + 1) words) more
-named_more g words pages more i d at below named next grown = AllZip-take_more (λ word at. NamesPage g word.now at) words pages more i d at below named next grown
+named_more g words pages more i d at below named next grown =
+    AllZip-take_more (λ word at. NamesPage g word.now at) words pages more i d at below named next grown
 
--- each page that is named lies on the disk
+-- each named page is on the disk
 pub named_in_range : (g : Geometry) (words : List (Bor (List ℕ))) (pages : List (ℕ × ℕ)) → NamePages g words pages →
     All (λ (at : ℕ × ℕ). (at.0 < g.extents) × (at.1 < g.pages)) pages
 named_in_range g [] [] named = All-nil (λ (at : ℕ × ℕ). (at.0 < g.extents) × (at.1 < g.pages))
 named_in_range g [] (at ∷ pages) named = absurd named
 named_in_range g (word ∷ words) [] named = absurd named
 named_in_range g (word ∷ words) (at ∷ pages) named =
-    All-cons (λ (at : ℕ × ℕ). (at.0 < g.extents) × (at.1 < g.pages)) at pages (named.0.in_extents, named.0.in_pages) (named_in_range g words pages named.1)
+    All-cons (λ (at : ℕ × ℕ). (at.0 < g.extents) × (at.1 < g.pages)) at pages (named.0.in_extents, named.0.in_pages)
+    (named_in_range g words pages named.1)

@@ -1,5 +1,5 @@
--- Two neighbouring options, exchanged: the words ask for the same.
-use Rattle.std.proofs.Common.{◌≡◌, ◌∙◌, inl, inr, ℕ, false, List, [], ◌∷◌, Option, None, Some, refl, sym, ap, ap₂, subst, codes, MatchOption}
+-- With two neighbouring options exchanged the arguments ask for the same.
+use Rattle.std.proofs.Common.{◌≡◌, ◌∙◌, inl, inr, ℕ, false, List, [], ◌∷◌, Option, None, Some, refl, sym, ap, ap₂, codes, MatchOption}
 use Rattle.std.specs.Prelude.{fold, is_some}
 use Rattle.std.specs.Option.{option_map_or}
 use Rattle.clap.specs.Words.{Row, Text, built, fault_of, one_of, subcommand_of}
@@ -23,7 +23,6 @@ use Rattle.scrub_cli.specs.declared.words.ReclaimWords.{ReclaimWords}
 use Rattle.scrub_cli.specs.declared.words.SizesWords.{SizesWords}
 use Rattle.scrub_cli.specs.declared.words.Request.{Request}
 use Rattle.scrub_cli.specs.declared.words.Request.TheVariants.{Demo, Items, Scan, Index, Locators, Reclaimable, Superblocks, Sizes, Version}
-use Rattle.scrub_cli.specs.Accepting.{AreAccepted}
 use Rattle.scrub_cli.specs.CommandLine.{shardscrub_app}
 use Rattle.scrub_cli.specs.Order.{AreExchanged, HasOptions}
 use Rattle.scrub_cli.specs.Words.{AreImageWords, AreItemsWords, AreReclaimWords, AreScanWords, AreSizesWords, IsAskedBy, IsNumberOf, IsWorkersOf, NameCommand}
@@ -39,7 +38,7 @@ pair_rows {A} {B} a c b d same = sym (ap (λ (o : Option (A × B)). option_map_o
 abbrev some_pair : Text → List Row → Option (Text × List Row)
 some_pair name rows = Some (name, rows)
 
--- what is read by name is the same
+-- what is read by name from the same values is the same
 module _ (xs ys : List Row) (same : AreSame xs ys) where
   number_same : (id : Text) (n : ℕ) → IsNumberOf xs id n → IsNumberOf ys id n
   number_same id n read = (read.0, sym (one_same xs ys same id) ∙ read.1, read.2, read.3)
@@ -67,11 +66,14 @@ module _ (xs ys : List Row) (same : AreSame xs ys) where
   reclaim_same : (words : ReclaimWords) → AreReclaimWords xs words → AreReclaimWords ys words
   reclaim_same words read = record {
     scan = scan_same words.scan read.scan;
-    accepted = subst (λ (kinds : List Text). AreAccepted kinds words.accepted) (all_same xs ys same (codes "accept")) read.accepted;
+    accepted = rw (all_same xs ys same (codes "accept")) at read.accepted;
   }
 
   sizes_same : (words : SizesWords) → AreSizesWords xs words → AreSizesWords ys words
-  sizes_same words read = record { name = sym (first_same xs ys same (codes "image")) ∙ read.name; map_name = read.map_name ∙ first_same xs ys same (codes "map") }
+  sizes_same words read = record {
+    name = sym (first_same xs ys same (codes "image")) ∙ read.name;
+    map_name = read.map_name ∙ first_same xs ys same (codes "map");
+  }
 
   items_same : (words : ItemsWords) → AreItemsWords xs words → AreItemsWords ys words
   items_same words read = record {
@@ -80,7 +82,8 @@ module _ (xs ys : List Row) (same : AreSame xs ys) where
     pointer = go words.pointer read.pointer;
   }
     where
-      go : (o : Option ℕ) → MatchOption o (one_of (codes "pointer") xs ≡ None) (IsNumberOf xs (codes "pointer")) → MatchOption o (one_of (codes "pointer") ys ≡ None) (IsNumberOf ys (codes "pointer"))
+      go : (o : Option ℕ) → MatchOption o (one_of (codes "pointer") xs ≡ None) (IsNumberOf xs (codes "pointer")) →
+          MatchOption o (one_of (codes "pointer") ys ≡ None) (IsNumberOf ys (codes "pointer"))
       go None none = sym (one_same xs ys same (codes "pointer")) ∙ none
       go (Some n) read = number_same (codes "pointer") n read
 
@@ -91,34 +94,82 @@ module _ (xs ys : List Row) (same : AreSame xs ys) where
   pub asked_same : (name : Text) (request : Request) → IsAskedBy (Some (name, xs)) request → IsAskedBy (Some (name, ys)) request
   asked_same name Demo (inl none) = cc
   asked_same name Demo (inr named) = inr (ys, renamed name (codes "demo") named.0 named.1)
-  asked_same name (Items words) asked =
-      (ys, renamed name (codes "items") asked.0 asked.1, items_same words (subst (λ (rows : List Row). AreItemsWords rows words) (pair_rows name (codes "items") xs asked.0 asked.1) asked.2))
-  asked_same name (Scan words) asked =
-      (ys, renamed name (codes "scan") asked.0 asked.1, scan_same words (subst (λ (rows : List Row). AreScanWords rows words) (pair_rows name (codes "scan") xs asked.0 asked.1) asked.2))
-  asked_same name (Index words) asked =
-      (ys, renamed name (codes "index") asked.0 asked.1, scan_same words (subst (λ (rows : List Row). AreScanWords rows words) (pair_rows name (codes "index") xs asked.0 asked.1) asked.2))
-  asked_same name (Reclaimable words) asked =
-      (ys, renamed name (codes "reclaimable") asked.0 asked.1, reclaim_same words (subst (λ (rows : List Row). AreReclaimWords rows words) (pair_rows name (codes "reclaimable") xs asked.0 asked.1) asked.2))
-  asked_same name (Superblocks words) asked =
-      (ys, renamed name (codes "superblocks") asked.0 asked.1, image_same words (subst (λ (rows : List Row). AreImageWords rows words) (pair_rows name (codes "superblocks") xs asked.0 asked.1) asked.2))
-  asked_same name (Sizes words) asked =
-      (ys, renamed name (codes "sizes") asked.0 asked.1, sizes_same words (subst (λ (rows : List Row). AreSizesWords rows words) (pair_rows name (codes "sizes") xs asked.0 asked.1) asked.2))
-  asked_same name (Locators words) asked =
-      (ys, renamed name (codes "locators") asked.0 asked.1, scan_same words (subst (λ (rows : List Row). AreScanWords rows words) (pair_rows name (codes "locators") xs asked.0 asked.1) asked.2))
+  asked_same name (Items words) asked = (
+    ys,
+    renamed name (codes "items") asked.0 asked.1,
+    items_same words (rw (pair_rows name (codes "items") xs asked.0 asked.1) at asked.2),
+  )
+  asked_same name (Scan words) asked = (
+    ys,
+    renamed name (codes "scan") asked.0 asked.1,
+    scan_same words (rw (pair_rows name (codes "scan") xs asked.0 asked.1) at asked.2),
+  )
+  asked_same name (Index words) asked = (
+    ys,
+    renamed name (codes "index") asked.0 asked.1,
+    scan_same words (rw (pair_rows name (codes "index") xs asked.0 asked.1) at asked.2),
+  )
+  asked_same name (Reclaimable words) asked = (
+    ys,
+    renamed name (codes "reclaimable") asked.0 asked.1,
+    reclaim_same words (rw (pair_rows name (codes "reclaimable") xs asked.0 asked.1) at asked.2),
+  )
+  asked_same name (Superblocks words) asked = (
+    ys,
+    renamed name (codes "superblocks") asked.0 asked.1,
+    image_same words (rw (pair_rows name (codes "superblocks") xs asked.0 asked.1) at asked.2),
+  )
+  asked_same name (Sizes words) asked = (
+    ys,
+    renamed name (codes "sizes") asked.0 asked.1,
+    sizes_same words (rw (pair_rows name (codes "sizes") xs asked.0 asked.1) at asked.2),
+  )
+  asked_same name (Locators words) asked = (
+    ys,
+    renamed name (codes "locators") asked.0 asked.1,
+    scan_same words (rw (pair_rows name (codes "locators") xs asked.0 asked.1) at asked.2),
+  )
   asked_same name Version asked = absurd asked
 
 -- the commands as `clap` builds them are known by their names
 disk_by_name : (name : Text) → EachRule IsByName (disk name).rules
 unfolding clap_on_literals
-disk_by_name name = ((refl, inr refl, refl, refl), ((refl, inr refl, refl, refl), ((refl, inr refl, refl, refl), ((refl, inr refl, refl, refl), ((refl, inr refl, refl, refl), ((refl, inl refl, refl, refl), ((refl, inl refl, refl, refl), ((refl, inr refl, refl, refl), tt))))))))
+disk_by_name name = (
+  (refl, inr refl, refl, refl),
+  ((refl, inr refl, refl, refl),
+  ((refl, inr refl, refl, refl),
+  ((refl, inr refl, refl, refl),
+  ((refl, inr refl, refl, refl),
+  ((refl, inl refl, refl, refl),
+  ((refl, inl refl, refl, refl),
+  ((refl, inr refl, refl, refl), tt))))))),
+)
 
 reclaimable_by_name : EachRule IsByName built_reclaimable.rules
 unfolding clap_on_literals
-reclaimable_by_name = ((refl, inr refl, refl, refl), ((refl, inr refl, refl, refl), ((refl, inr refl, refl, refl), ((refl, inr refl, refl, refl), ((refl, inr refl, refl, refl), ((refl, inr refl, refl, refl), ((refl, inl refl, refl, refl), ((refl, inl refl, refl, refl), ((refl, inr refl, refl, refl), tt)))))))))
+reclaimable_by_name = (
+  (refl, inr refl, refl, refl),
+  ((refl, inr refl, refl, refl),
+  ((refl, inr refl, refl, refl),
+  ((refl, inr refl, refl, refl),
+  ((refl, inr refl, refl, refl),
+  ((refl, inr refl, refl, refl),
+  ((refl, inl refl, refl, refl),
+  ((refl, inl refl, refl, refl),
+  ((refl, inr refl, refl, refl), tt)))))))),
+)
 
 superblocks_by_name : EachRule IsByName built_superblocks.rules
 unfolding clap_on_literals
-superblocks_by_name = ((refl, inr refl, refl, refl), ((refl, inr refl, refl, refl), ((refl, inr refl, refl, refl), ((refl, inr refl, refl, refl), ((refl, inl refl, refl, refl), ((refl, inl refl, refl, refl), ((refl, inr refl, refl, refl), tt)))))))
+superblocks_by_name = (
+  (refl, inr refl, refl, refl),
+  ((refl, inr refl, refl, refl),
+  ((refl, inr refl, refl, refl),
+  ((refl, inr refl, refl, refl),
+  ((refl, inl refl, refl, refl),
+  ((refl, inl refl, refl, refl),
+  ((refl, inr refl, refl, refl), tt)))))),
+)
 
 sizes_by_name : EachRule IsByName built_sizes.rules
 unfolding clap_on_literals
@@ -126,12 +177,22 @@ sizes_by_name = ((refl, inr refl, refl, refl), ((refl, inl refl, refl, refl), ((
 
 items_by_name : EachRule IsByName built_items.rules
 unfolding clap_on_literals
-items_by_name = ((refl, inr refl, refl, refl), ((refl, inr refl, refl, refl), ((refl, inr refl, refl, refl), ((refl, inr refl, refl, refl), ((refl, inr refl, refl, refl), ((refl, inr refl, refl, refl), ((refl, inl refl, refl, refl), ((refl, inl refl, refl, refl), ((refl, inr refl, refl, refl), tt)))))))))
+items_by_name = (
+  (refl, inr refl, refl, refl),
+  ((refl, inr refl, refl, refl),
+  ((refl, inr refl, refl, refl),
+  ((refl, inr refl, refl, refl),
+  ((refl, inr refl, refl, refl),
+  ((refl, inr refl, refl, refl),
+  ((refl, inl refl, refl, refl),
+  ((refl, inl refl, refl, refl),
+  ((refl, inr refl, refl, refl), tt)))))))),
+)
 
 plain : {below : Shape} → EachRule IsByName below.rules → below.arg_required_else_help ≡ false → IsPlainTable below
 plain each empty = record { by_name = each; may_be_empty = empty }
 
--- the words of a command are left to it
+-- the walk over the arguments stops at the command, which gets the rest
 abbrev stopped : Text → List Text → Walk
 stopped command words = record (walk_from nothing_held) { stopped = Some (command, words) }
 
@@ -144,7 +205,8 @@ after_walk walks w =
 record Enters (command : Text) (below : Shape) : Type 0 where
   first : walked (built shardscrub_app).top.rules (names_of (built shardscrub_app)) (walk_from nothing_held) command ≡ stopped command []
   clean : turn_fault (built shardscrub_app).top (names_of (built shardscrub_app)) (walk_from nothing_held) command ≡ []
-  faults : (words : List Text) → after_walk [] (stopped command words) ≡ or_else (level_fault below [] nothing_held words false []) []
+  faults : (words : List Text) →
+      after_walk [] (stopped command words) ≡ or_else (level_fault below [] nothing_held words false []) []
   rows : (words : List Text) → entered (built shardscrub_app) (Some (command, words)) ≡ Some (rows_at below words)
 
 enters_scan : Enters (codes "scan") (disk (codes "scan"))
@@ -179,16 +241,20 @@ module _ (command : Text) (below : Shape) (enters : Enters command below) where
   abbrev top : Shape
   top = (built shardscrub_app).top
 
-  ends : (words : List Text) → fold (walked top.rules (names_of (built shardscrub_app))) (walk_from nothing_held) (command ∷ words) ≡ stopped command words
+  ends : (words : List Text) →
+      fold (walked top.rules (names_of (built shardscrub_app))) (walk_from nothing_held) (command ∷ words) ≡ stopped command words
   ends words = ap (λ (w : Walk). fold (walked top.rules (names_of (built shardscrub_app))) w words) enters.first
       ∙ sym (walk_stopped top.rules (names_of (built shardscrub_app)) (walk_from nothing_held) command [] words)
 
   walks : (words : List Text) → walk_fault top (names_of (built shardscrub_app)) (walk_from nothing_held) (command ∷ words) ≡ []
   unfolding walk_fault
-  walks words = joined (turn_fault top (names_of (built shardscrub_app)) (walk_from nothing_held) command) _ enters.clean (ap (λ (w : Walk). walk_fault top (names_of (built shardscrub_app)) w words) enters.first
+  walks words =
+      joined (turn_fault top (names_of (built shardscrub_app)) (walk_from nothing_held) command) _ enters.clean
+      (ap (λ (w : Walk). walk_fault top (names_of (built shardscrub_app)) w words) enters.first
       ∙ stopped_fault top (names_of (built shardscrub_app)) (walk_from nothing_held) (command, []) words)
 
-  fault_is : (words : List Text) → fault_of shardscrub_app (command ∷ words) ≡ or_else (level_fault below [] nothing_held words false []) []
+  fault_is : (words : List Text) →
+      fault_of shardscrub_app (command ∷ words) ≡ or_else (level_fault below [] nothing_held words false []) []
   fault_is words = ap₂ after_walk (walks words) (ends words) ∙ enters.faults words
 
   rows_are : (words : List Text) → subcommand_of shardscrub_app (command ∷ words) ≡ Some (rows_at below words)
@@ -199,24 +265,38 @@ module _ (command : Text) (below : Shape) (enters : Enters command below) where
   exchanged plain words others x named request asked =
       let words_are : words ≡ command ∷ x.behind = x.one ∙ ap (λ (c : Text). c ∷ x.behind) named in
       let others_are : others ≡ command ∷ x.others_behind = x.other ∙ ap (λ (c : Text). c ∷ x.others_behind) named in
-      let was : NameCommand (command ∷ x.behind) request = subst (λ (ws : List Text). NameCommand ws request) words_are asked in
+      let was : NameCommand (command ∷ x.behind) request = rw words_are at asked in
       let clean = (parts (level_fault below [] nothing_held x.behind false []) [] (sym (fault_is x.behind) ∙ was.0)).0 in
       let end = end_alike below x.behind x.others_behind plain x.exchanged clean in
-      let faults : fault_of shardscrub_app (command ∷ x.others_behind) ≡ [] = fault_is x.others_behind ∙ joined (level_fault below [] nothing_held x.others_behind false []) [] end.clean refl in
-      let asks : IsAskedBy (Some (rows_at below x.behind)) request = subst (λ (met : Option (Text × List Row)). IsAskedBy met request) (rows_are x.behind) was.1 in
+      let faults : fault_of shardscrub_app (command ∷ x.others_behind) ≡ [] =
+      fault_is x.others_behind ∙ joined (level_fault below [] nothing_held x.others_behind false []) [] end.clean refl in
+      let asks : IsAskedBy (Some (rows_at below x.behind)) request = rw (rows_are x.behind) at was.1 in
       let still = asked_same _ _ end.same below.name request asks in
-      subst (λ (ws : List Text). NameCommand ws request) (sym others_are)
-      (faults, subst (λ (met : Option (Text × List Row)). IsAskedBy met request) (sym (rows_are x.others_behind)) still)
+      rw others_are
+      (faults, rw (rows_are x.others_behind) still)
 
 -- the law
-pub order_is_free : (words others : List Text) (request : Request) → AreExchanged words others → NameCommand words request → NameCommand others request
+pub order_is_free : (words others : List Text) (request : Request) → AreExchanged words others → NameCommand words request →
+    NameCommand others request
 order_is_free words others request x asked = go x.options
   where
     go : HasOptions x.command → NameCommand others request
-    go (inl scan) = exchanged (codes "scan") (disk (codes "scan")) enters_scan (plain (disk_by_name (codes "scan")) refl) words others x scan request asked
-    go (inr (inl index)) = exchanged (codes "index") (disk (codes "index")) enters_index (plain (disk_by_name (codes "index")) refl) words others x index request asked
-    go (inr (inr (inl locators))) = exchanged (codes "locators") (disk (codes "locators")) enters_locators (plain (disk_by_name (codes "locators")) refl) words others x locators request asked
-    go (inr (inr (inr (inl reclaimable)))) = exchanged (codes "reclaimable") built_reclaimable enters_reclaimable (plain reclaimable_by_name refl) words others x reclaimable request asked
-    go (inr (inr (inr (inr (inl superblocks))))) = exchanged (codes "superblocks") built_superblocks enters_superblocks (plain superblocks_by_name refl) words others x superblocks request asked
-    go (inr (inr (inr (inr (inr (inl sizes)))))) = exchanged (codes "sizes") built_sizes enters_sizes (plain sizes_by_name refl) words others x sizes request asked
-    go (inr (inr (inr (inr (inr (inr items)))))) = exchanged (codes "items") built_items enters_items (plain items_by_name refl) words others x items request asked
+    go (inl scan) =
+        exchanged (codes "scan") (disk (codes "scan")) enters_scan (plain (disk_by_name (codes "scan")) refl) words others x
+        scan request asked
+    go (inr (inl index)) =
+        exchanged (codes "index") (disk (codes "index")) enters_index (plain (disk_by_name (codes "index")) refl) words others x
+        index request asked
+    go (inr (inr (inl locators))) =
+        exchanged (codes "locators") (disk (codes "locators")) enters_locators (plain (disk_by_name (codes "locators")) refl)
+        words others x locators request asked
+    go (inr (inr (inr (inl reclaimable)))) =
+        exchanged (codes "reclaimable") built_reclaimable enters_reclaimable (plain reclaimable_by_name refl) words others x
+        reclaimable request asked
+    go (inr (inr (inr (inr (inl superblocks))))) =
+        exchanged (codes "superblocks") built_superblocks enters_superblocks (plain superblocks_by_name refl) words others x
+        superblocks request asked
+    go (inr (inr (inr (inr (inr (inl sizes)))))) =
+        exchanged (codes "sizes") built_sizes enters_sizes (plain sizes_by_name refl) words others x sizes request asked
+    go (inr (inr (inr (inr (inr (inr items)))))) =
+        exchanged (codes "items") built_items enters_items (plain items_by_name refl) words others x items request asked

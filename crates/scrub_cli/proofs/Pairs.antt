@@ -1,4 +1,4 @@
--- A word is a pair in one way at most: its numbers stand around its first colon.
+-- A text is a pair in at most one way: its numbers are around its first colon.
 use Rattle.std.proofs.Common.{◌≡◌, ℕ, List, length, get_or, ◌<◌, ◌≢◌, Option, None, Some, Bor, MatchOption, arith}
 use Rattle.std.proofs.lemmas.Str.Parse.{IsNumeralModel, numerals_by_value, tells_digits, not_in_digits}
 use Rattle.std.proofs.lemmas.Str.Pattern.{IsSplitOnceResult, split_after}
@@ -13,7 +13,7 @@ decimal_digits = numerals_by_value (AllDigits 10) tells_digits
 colon_apart : ¬ (IsInRange 48 57 58)
 colon_apart h = omega (arith, h)
 
--- where a word is a pair, the parts around its first colon are its numbers
+-- the parts of a pair around its first colon are its numbers
 pub pair_parts : (word : List ℕ) (r : Option (Bor (List ℕ) × Bor (List ℕ))) (m n : ℕ) →
     IsSplitOnceResult 58 word r → IsPair word m n →
     MatchOption r ⊥ (λ x. IsDecimal x.0.now m × IsDecimal x.1.now n)

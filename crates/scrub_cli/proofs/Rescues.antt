@@ -1,4 +1,4 @@
--- Pages that are marked because a map lacks a byte of them.
+-- Pages that are lost because a map lacks a byte of them.
 use Rattle.std.proofs.Common.{◌≡◌, ◌<◌, ◌*◌, ℕ, List, [], Bool, true, false, Option, None, Some, length, get_or, arith, refl}
 use Rattle.std.proofs.lemmas.Nat.{row_fits_turned}
 use Rattle.scrub_disk.specs.Image.{Image}
@@ -10,17 +10,22 @@ use Rattle.scrub_map.specs.Rescued.{AreLostBlocks}
 use Rattle.scrub_cli.specs.Rescue.{KeepsMap, LosesByMap, LosesMarked, LosesPages}
 use Rattle.scrub_cli.specs.SizesListed.{AreMarksOf}
 
--- marks that say which blocks of a page's size are lost
-pub loses_pages : (marks lost : List Bool) (blocks : List MapBlock) (before image : Image) (size count : ℕ) → marks ≡ lost → size ≡ before.geometry.page →
-    count ≡ before.geometry.pages * before.geometry.extents → AreLostBlocks blocks size count lost → LosesMarked marks (length marks) before image →
+-- marks for lost blocks of the size of a page make those pages unreadable
+pub loses_pages : (marks lost : List Bool) (blocks : List MapBlock) (before image : Image) (size count : ℕ) → marks ≡ lost →
+    size ≡ before.geometry.page →
+    count ≡ before.geometry.pages * before.geometry.extents → AreLostBlocks blocks size count lost →
+    LosesMarked marks (length marks) before image →
     LosesPages blocks before image
 loses_pages marks lost blocks before image size count same size_is count_is are marked =
     let known : AreLostBlocks blocks before.geometry.page count marks = rw (same, ← size_is) are in
     let number_below : (e q : ℕ) → e < before.geometry.extents → q < before.geometry.pages → page_number before.geometry e q < length marks =
-    λ e q es qs. omega (arith, row_fits_turned e before.geometry.pages before.geometry.pages before.geometry.extents es (omega arith), known.one_each, count_is) in
+    λ e q es qs. omega
+    (arith, row_fits_turned e before.geometry.pages before.geometry.pages before.geometry.extents es (omega arith), known.one_each, count_is) in
     record {
       geometry = marked.geometry;
-      lost = λ e q es qs is. marked.lost e q es qs (number_below e q es qs) ((known.lost (page_number before.geometry e q) (omega (arith, number_below e q es qs, known.one_each))).1 is);
+      lost = λ e q es qs is.
+          marked.lost e q es qs (number_below e q es qs)
+          ((known.lost (page_number before.geometry e q) (omega (arith, number_below e q es qs, known.one_each))).1 is);
       kept = λ e q es qs is_not. marked.kept e q es qs (λ below. unmarked (get_or marks (page_number before.geometry e q) false)
           (λ is. is_not ((known.lost (page_number before.geometry e q) (omega (arith, below, known.one_each))).0 is)));
     }
@@ -30,28 +35,27 @@ loses_pages marks lost blocks before image size count same size_is count_is are 
     unmarked false is_not = refl
 
 -- the pages that are lost by a map
-pub loses_by_map : (map : RescueMap) (before image : Image) → ((blocks : List MapBlock) → KeepsBlocks map blocks → LosesPages blocks before image) →
+pub loses_by_map : (map : RescueMap) (before image : Image) →
+    ((blocks : List MapBlock) → KeepsBlocks map blocks → LosesPages blocks before image) →
     (blocks : Option (List MapBlock)) → KeepsMap (Some map) blocks → LosesByMap blocks before image
 loses_by_map map before image loses None keeps = absurd keeps
 loses_by_map map before image loses (Some blocks) keeps = loses blocks keeps
 
--- where no map is kept, none is lost
-pub loses_none : (image : Image) (blocks : Option (List MapBlock)) → KeepsMap None blocks → LosesByMap blocks image image
-loses_none image None keeps = refl
-loses_none image (Some blocks) keeps = absurd keeps
-
--- some blocks are kept by a map that is there
-pub some_blocks : (map : RescueMap) (blocks : Option (List MapBlock)) → KeepsMap (Some map) blocks → (kept : List MapBlock) × KeepsBlocks map kept
+-- a map keeps some blocks
+pub some_blocks : (map : RescueMap) (blocks : Option (List MapBlock)) → KeepsMap (Some map) blocks →
+    (kept : List MapBlock) × KeepsBlocks map kept
 some_blocks map None keeps = absurd keeps
 some_blocks map (Some blocks) keeps = (blocks, keeps)
 
 -- the blocks of 512 bytes that are lost by a map
-pub marks_by_map : (map : RescueMap) (marks : List Bool) → ((blocks : List MapBlock) → KeepsBlocks map blocks → AreLostBlocks blocks 512 131072 marks) →
+pub marks_by_map : (map : RescueMap) (marks : List Bool) →
+    ((blocks : List MapBlock) → KeepsBlocks map blocks → AreLostBlocks blocks 512 131072 marks) →
     (blocks : Option (List MapBlock)) → KeepsMap (Some map) blocks → AreMarksOf blocks marks
 marks_by_map map marks are None keeps = absurd keeps
 marks_by_map map marks are (Some blocks) keeps = are blocks keeps
 
--- where no map is kept, none is marked
-pub marks_none : (marks : List Bool) → marks ≡ [] → (blocks : Option (List MapBlock)) → KeepsMap None blocks → AreMarksOf blocks marks
+-- without a map no block is marked
+pub marks_none : (marks : List Bool) → marks ≡ [] → (blocks : Option (List MapBlock)) → KeepsMap None blocks →
+    AreMarksOf blocks marks
 marks_none marks none None keeps = none
 marks_none marks none (Some blocks) keeps = absurd keeps

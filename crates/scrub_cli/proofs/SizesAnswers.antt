@@ -1,4 +1,4 @@
--- What `sizes` tells, and why it doesn't, from what its parts give.
+-- What `sizes` answers, and why it doesn't, from what its parts give.
 use Rattle.std.proofs.Common.{◌≡◌, ℕ, List, Bool, Option}
 use Rattle.scrub_cli.specs.declared.process.fault.Fault.{Fault}
 use Rattle.scrub_cli.specs.declared.process.fault.Fault.TheVariants.{NotUtf8, Help, Words, Geometry, Extent, Pointer, BadPage, NoMap, MapLine, NoImage, TooLong, Output, OutOfMemory}
@@ -8,7 +8,8 @@ use Rattle.scrub_cli.specs.Rescue.{IsMapFault}
 use Rattle.scrub_cli.specs.SizesListed.{AreSizesListed, IsSizesFault}
 
 -- a fault of the map is one of `sizes`
-pub map_fault_of_sizes : (maps : KnownMaps) (words : SizesWords) (fault : Fault) → IsMapFault maps words.map fault → IsSizesFault maps words fault
+pub map_fault_of_sizes : (maps : KnownMaps) (words : SizesWords) (fault : Fault) → IsMapFault maps words.map fault →
+    IsSizesFault maps words fault
 map_fault_of_sizes maps words NotUtf8 is = absurd is
 map_fault_of_sizes maps words (Help text) is = absurd is
 map_fault_of_sizes maps words (Words text) is = absurd is
@@ -23,7 +24,7 @@ map_fault_of_sizes maps words TooLong is = absurd is
 map_fault_of_sizes maps words (Output written) is = absurd is
 map_fault_of_sizes maps words OutOfMemory is = tt
 
--- what is told of the image that was opened is told of what is known of it
+-- a listing of the image that was opened is one of what is known of it
 pub listed_as_known : (known : KnownRaw) (bytes : Option (List ℕ)) (most : ℕ) (marks : List Bool) (text : List ℕ) (status : ℕ) →
     bytes ≡ known.bytes → most ≡ known.most_failures →
     AreSizesListed (record { bytes = bytes; most_failures = most }) marks text status → AreSizesListed known marks text status

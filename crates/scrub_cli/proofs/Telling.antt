@@ -20,80 +20,96 @@ module _ (what which : List ℕ) where
   pub line_second : (old mid new : Option (List ℕ)) (a : List ℕ) → a ≡ what → Appends old mid before → AppendsFront mid new a →
       AppendsFront old new (line (what ++ which))
   line_second old mid new a is name front =
-      let rest = subst (λ u. AppendsFront mid new (u ++ (which ++ 10 ∷ []))) is (front_stays mid new a (which ++ 10 ∷ []) front) in
+      let rest = rw is at (front_stays mid new a (which ++ 10 ∷ []) front) in
       subst (AppendsFront old new) parts (front_then old mid new before _ name rest)
 
   -- the name, the first part, and a front of the second
-  pub line_third : (old mid mid2 new : Option (List ℕ)) (a b : List ℕ) → a ≡ what → b ≡ which → Appends old mid before → Appends mid mid2 a →
+  pub line_third : (old mid mid2 new : Option (List ℕ)) (a b : List ℕ) → a ≡ what → b ≡ which → Appends old mid before →
+      Appends mid mid2 a →
       AppendsFront mid2 new b → AppendsFront old new (line (what ++ which))
   line_third old mid mid2 new a b is also name first front =
-      let last = subst (λ u. AppendsFront mid2 new (u ++ 10 ∷ [])) also (front_stays mid2 new b (10 ∷ []) front) in
+      let last = rw also at (front_stays mid2 new b (10 ∷ []) front) in
       let rest = front_then mid mid2 new what (which ++ 10 ∷ []) (subst (Appends mid mid2) is first) last in
       subst (AppendsFront old new) parts (front_then old mid new before _ name rest)
 
   -- all parts, and the line feed or nothing
-  pub line_last : (old mid mid2 mid3 new : Option (List ℕ)) (a b : List ℕ) → a ≡ what → b ≡ which → Appends old mid before → Appends mid mid2 a →
+  pub line_last : (old mid mid2 mid3 new : Option (List ℕ)) (a b : List ℕ) → a ≡ what → b ≡ which → Appends old mid before →
+      Appends mid mid2 a →
       Appends mid2 mid3 b → AppendsFront mid3 new (10 ∷ []) → AppendsFront old new (line (what ++ which))
   line_last old mid mid2 mid3 new a b is also name first second front =
       let last = front_then mid2 mid3 new which (10 ∷ []) (subst (Appends mid2 mid3) also second) front in
       let rest = front_then mid mid2 new what (which ++ 10 ∷ []) (subst (Appends mid mid2) is first) last in
       subst (AppendsFront old new) parts (front_then old mid new before _ name rest)
 
-  -- all of it, where the line feed was written too
-  pub line_whole : {T E : Type 0} (r : Result T E) (old mid mid2 mid3 new : Option (List ℕ)) (a b : List ℕ) → a ≡ what → b ≡ which → Appends old mid before →
-      Appends mid mid2 a → Appends mid2 mid3 b → OnOk r (Appends mid3 new (10 ∷ [])) → OnOk r (Appends old new (line (what ++ which)))
+  -- the whole line, if the line feed was written too
+  pub line_whole : {T E : Type 0} (r : Result T E) (old mid mid2 mid3 new : Option (List ℕ)) (a b : List ℕ) → a ≡ what →
+      b ≡ which → Appends old mid before →
+      Appends mid mid2 a → Appends mid2 mid3 b → OnOk r (Appends mid3 new (10 ∷ [])) →
+      OnOk r (Appends old new (line (what ++ which)))
   line_whole r old mid mid2 mid3 new a b is also name first second ended =
       let last = ok_then r mid2 mid3 new which (10 ∷ []) (subst (Appends mid2 mid3) also second) ended in
       let rest = ok_then r mid mid2 new what (which ++ 10 ∷ []) (subst (Appends mid mid2) is first) last in
-      subst (λ u. OnOk r (Appends old new u)) parts (ok_then r old mid new before _ name rest)
+      rw parts at (ok_then r old mid new before _ name rest)
 
 -- a line with a number between its two parts
 module _ (what number which : List ℕ) where
   number_parts : before ++ (what ++ (number ++ (which ++ 10 ∷ []))) ≡ line (what ++ number ++ which)
-  number_parts = ap (λ u. before ++ u) (sym (append_assoc what number (which ++ 10 ∷ [])) ∙ sym (append_assoc (what ++ number) which (10 ∷ [])))
+  number_parts =
+      ap (λ u. before ++ u)
+      (sym (append_assoc what number (which ++ 10 ∷ [])) ∙ sym (append_assoc (what ++ number) which (10 ∷ [])))
 
   -- a front of the program's name
-  pub number_first : (old new : Option (List ℕ)) → AppendsFront old new before → AppendsFront old new (line (what ++ number ++ which))
+  pub number_first : (old new : Option (List ℕ)) → AppendsFront old new before →
+      AppendsFront old new (line (what ++ number ++ which))
   number_first old new front = subst (AppendsFront old new) number_parts (front_stays old new before _ front)
 
   -- the name, and a front of the first part
-  pub number_second : (old mid new : Option (List ℕ)) (a : List ℕ) → a ≡ what → Appends old mid before → AppendsFront mid new a →
+  pub number_second : (old mid new : Option (List ℕ)) (a : List ℕ) → a ≡ what → Appends old mid before →
+      AppendsFront mid new a →
       AppendsFront old new (line (what ++ number ++ which))
   number_second old mid new a is name front =
-      let rest = subst (λ u. AppendsFront mid new (u ++ (number ++ (which ++ 10 ∷ [])))) is (front_stays mid new a (number ++ (which ++ 10 ∷ [])) front) in
+      let rest = rw is at (front_stays mid new a (number ++ (which ++ 10 ∷ [])) front) in
       subst (AppendsFront old new) number_parts (front_then old mid new before _ name rest)
 
-  -- the name, the first part, and a front of what stands behind it
+  -- the name, the first part, and a front of the rest
   behind_first : (old mid mid2 new : Option (List ℕ)) (a : List ℕ) → a ≡ what → Appends old mid before → Appends mid mid2 a →
       AppendsFront mid2 new (number ++ (which ++ 10 ∷ [])) → AppendsFront old new (line (what ++ number ++ which))
   behind_first old mid mid2 new a is name first rest =
-      subst (AppendsFront old new) number_parts (front_then old mid new before _ name (front_then mid mid2 new what _ (subst (Appends mid mid2) is first) rest))
+      subst (AppendsFront old new) number_parts
+      (front_then old mid new before _ name (front_then mid mid2 new what _ (subst (Appends mid mid2) is first) rest))
 
   -- the name, the first part, and a front of the number
-  pub number_third : (old mid mid2 new : Option (List ℕ)) (a : List ℕ) → a ≡ what → Appends old mid before → Appends mid mid2 a →
+  pub number_third : (old mid mid2 new : Option (List ℕ)) (a : List ℕ) → a ≡ what → Appends old mid before →
+      Appends mid mid2 a →
       AppendsFront mid2 new number → AppendsFront old new (line (what ++ number ++ which))
   number_third old mid mid2 new a is name first front =
       behind_first old mid mid2 new a is name first (front_stays mid2 new number (which ++ 10 ∷ []) front)
 
   -- the name, the first part, the number, and a front of the second part
-  pub number_fourth : (old mid mid2 mid3 new : Option (List ℕ)) (a b : List ℕ) → a ≡ what → b ≡ which → Appends old mid before → Appends mid mid2 a →
+  pub number_fourth : (old mid mid2 mid3 new : Option (List ℕ)) (a b : List ℕ) → a ≡ what → b ≡ which → Appends old mid before →
+      Appends mid mid2 a →
       Appends mid2 mid3 number → AppendsFront mid3 new b → AppendsFront old new (line (what ++ number ++ which))
   number_fourth old mid mid2 mid3 new a b is also name first digits front =
-      let last = subst (λ u. AppendsFront mid3 new (u ++ 10 ∷ [])) also (front_stays mid3 new b (10 ∷ []) front) in
+      let last = rw also at (front_stays mid3 new b (10 ∷ []) front) in
       behind_first old mid mid2 new a is name first (front_then mid2 mid3 new number _ digits last)
 
   -- all parts, and the line feed or nothing
-  pub number_last : (old mid mid2 mid3 mid4 new : Option (List ℕ)) (a b : List ℕ) → a ≡ what → b ≡ which → Appends old mid before → Appends mid mid2 a →
-      Appends mid2 mid3 number → Appends mid3 mid4 b → AppendsFront mid4 new (10 ∷ []) → AppendsFront old new (line (what ++ number ++ which))
+  pub number_last : (old mid mid2 mid3 mid4 new : Option (List ℕ)) (a b : List ℕ) → a ≡ what → b ≡ which →
+      Appends old mid before → Appends mid mid2 a →
+      Appends mid2 mid3 number → Appends mid3 mid4 b → AppendsFront mid4 new (10 ∷ []) →
+      AppendsFront old new (line (what ++ number ++ which))
   number_last old mid mid2 mid3 mid4 new a b is also name first digits second front =
       let last = front_then mid3 mid4 new which (10 ∷ []) (subst (Appends mid3 mid4) also second) front in
       behind_first old mid mid2 new a is name first (front_then mid2 mid3 new number _ digits last)
 
-  -- all of it, where the line feed was written too
-  pub number_whole : {T E : Type 0} (r : Result T E) (old mid mid2 mid3 mid4 new : Option (List ℕ)) (a b : List ℕ) → a ≡ what → b ≡ which →
-      Appends old mid before → Appends mid mid2 a → Appends mid2 mid3 number → Appends mid3 mid4 b → OnOk r (Appends mid4 new (10 ∷ [])) →
+  -- the whole line, if the line feed was written too
+  pub number_whole : {T E : Type 0} (r : Result T E) (old mid mid2 mid3 mid4 new : Option (List ℕ)) (a b : List ℕ) → a ≡ what →
+      b ≡ which →
+      Appends old mid before → Appends mid mid2 a → Appends mid2 mid3 number → Appends mid3 mid4 b →
+      OnOk r (Appends mid4 new (10 ∷ [])) →
       OnOk r (Appends old new (line (what ++ number ++ which)))
   number_whole r old mid mid2 mid3 mid4 new a b is also name first digits second ended =
       let last = ok_then r mid3 mid4 new which (10 ∷ []) (subst (Appends mid3 mid4) also second) ended in
-      let rest = ok_then r mid mid2 new what _ (subst (Appends mid mid2) is first) (ok_then r mid2 mid3 new number _ digits last) in
-      subst (λ u. OnOk r (Appends old new u)) number_parts (ok_then r old mid new before _ name rest)
+      let rest =
+      ok_then r mid mid2 new what _ (subst (Appends mid mid2) is first) (ok_then r mid2 mid3 new number _ digits last) in
+      rw number_parts at (ok_then r old mid new before _ name rest)

@@ -1,4 +1,4 @@
--- What the arguments on an image file come to: the pages that they name, the image that is loaded without what its map
+-- The disk that the arguments name: the pages that they give as unreadable, the image that is loaded, without what its map
 -- lacks, and why none is.
 use Rattle.std.specs.Prelude.{◌≡◌, ◌<◌, ℕ, List, length, take, slice_index_or, Option, IfSome}
 use Rattle.std.specs.Borrow.{Bor}
@@ -39,8 +39,8 @@ IsBadPageFault g words (BadPage word) = IsFirstBadPage g words word
 IsBadPageFault g words OutOfMemory = Unit {0}
 IsBadPageFault g words fault = ⊥
 
--- an image of these sizes, loaded from this raw image, with the pages unreadable that the arguments name, and then
--- those that the map lacks, if one is named
+-- an image of these sizes, loaded from this raw image, with the pages unreadable that the arguments name and, if a map is
+-- named, those with a byte that it lacks
 pub record IsLoadedDisk (known : KnownRaw) (maps : KnownMaps) (words : ImageWords) (g : Sizes) (image : Image) : Type 0 where
   pub unreadable : List (ℕ × ℕ)
   pub named : NamePages g words.bad_pages.items unreadable
@@ -59,7 +59,8 @@ pub record AreReadBefore (maps : KnownMaps) (words : ImageWords) (g : Sizes) : T
 
 -- the arguments name pages, but their map isn't read
 abbrev pub IsMapFaultBehind : KnownMaps → ImageWords → Sizes → Fault → Type 0
-IsMapFaultBehind maps words g fault = (pages : List (ℕ × ℕ)) × NamePages g words.bad_pages.items pages × IsMapFault maps words.map fault
+IsMapFaultBehind maps words g fault =
+    (pages : List (ℕ × ℕ)) × NamePages g words.bad_pages.items pages × IsMapFault maps words.map fault
 
 -- why no disk of these sizes is loaded: a page argument, then the map, then the image, each only if nothing before it
 -- failed; or memory ran out, anywhere

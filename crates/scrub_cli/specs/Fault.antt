@@ -1,4 +1,4 @@
--- Which fault of the program a fault of a call is; the status of each, and its text.
+-- The program's fault for the fault of a call; the status and the text of each.
 use Rattle.std.specs.Prelude.{◌≡◌, ◌++◌, ◌∷◌, [], ℕ, List, codes}
 use Rattle.std.specs.Fmt.{decimal}
 use Rattle.scrub_disk.specs.declared.geometry.GeometryFault.TheVariants.{PageSize, Pages, Extents, ExtentBytes, TotalBytes}
@@ -29,8 +29,8 @@ fault_of_words (help text) = Help text
 fault_of_words (Refused text) = Words text
 fault_of_words no_memory_to_read = OutOfMemory
 
--- the status of a fault: 2 for arguments and for the text of a map, 3 for files and streams, 4 if memory ran out, 0 for
--- help
+-- the status of a fault: 0 for help, 2 for arguments and the text of a map, 3 for files and the output, 4 if memory ran
+-- out
 abbrev pub status_of : Fault → ℕ
 status_of NotUtf8 = 2
 status_of (Help text) = 0

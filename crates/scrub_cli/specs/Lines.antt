@@ -7,7 +7,7 @@ use Rattle.scrub_scan.specs.Extent.{Extent}
 use Rattle.scrub_scan.specs.Line.{line_of}
 use Rattle.scrub_scan.specs.Tiling.{IsTiling}
 
--- the line of each item, with a line feed behind each
+-- the line of each item, each with a line feed
 abbrev pub lines_of : List Item → List ℕ
 lines_of [] = []
 lines_of (item ∷ items) = line_of item ++ 10 ∷ lines_of items

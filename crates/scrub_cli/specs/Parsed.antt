@@ -1,4 +1,4 @@
--- What a parse of the arguments leaves to be read, and what an error of `clap` comes to.
+-- What `clap` finds in valid arguments, and what an error of `clap` comes to.
 use Rattle.std.specs.Prelude.{◌≡◌, ◌≢◌, ◌⊎◌, ◌||◌, Bool, true, false, List, Option, None, Some, codes, IfSome}
 use Rattle.std.specs.Str.{bytes_eq}
 use Rattle.clap.specs.Words.{Row, Text, first_of, one_of}
@@ -10,8 +10,8 @@ use Rattle.scrub_cli.specs.declared.words.Request.TheVariants.{Version}
 use Rattle.scrub_cli.specs.declared.words.WordsFault.{WordsFault}
 use Rattle.scrub_cli.specs.declared.words.WordsFault.TheVariants.{Refused, Help, OutOfMemory}
 
--- help comes only of a question for help, a refusal of neither help, the version nor lack of memory, and running out of
--- memory of any error, as its text takes memory
+-- help comes only of a request for help; a refusal only of an error that is no request for help or the version and no
+-- lack of memory; and `OutOfMemory` of any error, as its text takes memory
 abbrev pub ComesOf : WordsFault → ErrorKind → Type 0
 ComesOf (Refused text) kind = (kind ≢ DisplayHelp) × (kind ≢ DisplayVersion) × (kind ≢ no_memory)
 ComesOf (Help text) kind = kind ≡ DisplayHelp
@@ -57,7 +57,7 @@ is_disk_command name =
     bytes_eq name (codes "scan") || (bytes_eq name (codes "index")
     || (bytes_eq name (codes "locators") || bytes_eq name (codes "reclaimable")))
 
--- what a command needs, by the first of these that it is: one on the whole disk, on superblocks, on sizes, on items, and the demo
+-- what a command needs, by the first of these that it is: one on the whole disk, `superblocks`, `sizes`, `items`, `demo`
 abbrev pub HasNeeds : (disk superblocks sizes items demo : Bool) → List Row → Type 0
 HasNeeds true superblocks sizes items demo found = HasScan found
 HasNeeds false true sizes items demo found = HasImage found
@@ -69,8 +69,8 @@ HasNeeds false false false false false found = ⊥
 -- the command is one of the program's, and has all that it needs
 abbrev pub IsWholeCommand : Text → List Row → Type 0
 IsWholeCommand name found =
-    HasNeeds (is_disk_command name) (bytes_eq name (codes "superblocks")) (bytes_eq name (codes "sizes")) (bytes_eq name (codes "items"))
-    (bytes_eq name (codes "demo")) found
+    HasNeeds (is_disk_command name) (bytes_eq name (codes "superblocks")) (bytes_eq name (codes "sizes"))
+    (bytes_eq name (codes "items")) (bytes_eq name (codes "demo")) found
 
 -- if a command was found, it is one of the program's, and has all that it needs
 abbrev pub IsWholeParse : Option (Text × List Row) → Type 0

@@ -12,11 +12,11 @@ use Rattle.scrub_cli.specs.declared.process.fault.Fault.{Fault}
 use Rattle.scrub_cli.specs.declared.process.fault.Fault.TheVariants.{NoMap, MapLine, OutOfMemory}
 use Rattle.scrub_cli.specs.Known.{KnownMaps}
 
--- the text is that of a map of which this is known: this one, or any if nothing is
+-- the map may have this text: it is the known text, or nothing is known of it
 abbrev pub IsTextOf : Option (List ℕ) → List ℕ → Type 0
 IsTextOf known text = IfSome known (λ bytes. text ≡ bytes)
 
--- the blocks of a map of which this is known
+-- the blocks of a map whose text is this one, if it is known
 pub record HasBlocks (known_text : Option (List ℕ)) (blocks : List MapBlock) : Type 0 where
   pub text : List ℕ
   pub known : IsTextOf known_text text
@@ -51,7 +51,7 @@ IsMapFault maps named (MapLine k) =
 IsMapFault maps named OutOfMemory = Unit {0}
 IsMapFault maps named fault = ⊥
 
--- each page is unreadable that has a byte which wasn't rescued, and each other page is as it was
+-- each page with a byte that wasn't rescued is unreadable, and each other page is as it was
 pub record LosesPages (blocks : List MapBlock) (before image : Image) : Type 0 where
   pub geometry : image.geometry ≡ before.geometry
   pub lost : (e q : ℕ) → e < before.geometry.extents → q < before.geometry.pages →
@@ -59,12 +59,13 @@ pub record LosesPages (blocks : List MapBlock) (before image : Image) : Type 0 w
   pub kept : (e q : ℕ) → e < before.geometry.extents → q < before.geometry.pages →
       ¬ IsLostBlock blocks before.geometry.page (page_number before.geometry e q) → image.page e q ≡ before.page e q
 
--- the map makes unreadable each page that has a byte which wasn't rescued, and without a map the image is as it was
+-- with a map each page with a byte that wasn't rescued is unreadable, and each other page is as it was; without one the
+-- image is as it was
 abbrev pub LosesByMap : Option (List MapBlock) → Image → Image → Type 0
 LosesByMap None before image = image ≡ before
 LosesByMap (Some blocks) before image = LosesPages blocks before image
 
--- of the first pages by their numbers each marked one is unreadable, and each other page is as it was
+-- each marked page among the first pages, by number, is unreadable, and each other page is as it was
 pub record LosesMarked (marks : List Bool) (count : ℕ) (before image : Image) : Type 0 where
   pub geometry : image.geometry ≡ before.geometry
   pub lost : (e q : ℕ) → e < before.geometry.extents → q < before.geometry.pages → page_number before.geometry e q < count →

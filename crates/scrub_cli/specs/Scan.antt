@@ -1,4 +1,4 @@
--- What the commands `scan`, `index`, `locators` and `reclaimable` answer of an image file, and why they don't.
+-- What the commands `scan`, `index`, `locators` and `reclaimable` answer for an image file, and why they don't.
 use Rattle.std.specs.Prelude.{◌≡◌, ℕ, List, Bool}
 use Rattle.scrub_disk.specs.declared.geometry.Geometry.{Geometry as Sizes}
 use Rattle.scrub_disk.specs.Faults.{HasSizes, IsFirstBroken}
@@ -66,8 +66,8 @@ pub record IsScanAnswer (wanted : Wanted) (known : KnownRaw) (maps : KnownMaps) 
 
 -- the text is what is wanted of an image that was loaded so, and each of its planned extents is in one of the lists,
 -- once
-pub record AreTakingsOf (wanted : Wanted) (known : KnownRaw) (maps : KnownMaps) (words : ImageWords) (text : List ℕ) (status : ℕ)
-    (lists : List (List ℕ)) : Type 0 where
+pub record AreTakingsOf (wanted : Wanted) (known : KnownRaw) (maps : KnownMaps) (words : ImageWords) (text : List ℕ)
+    (status : ℕ) (lists : List (List ℕ)) : Type 0 where
   pub image : Image
   pub disk : IsDiskOf known maps words image
   pub answered : IsDiskAnswer wanted image text status
@@ -77,4 +77,5 @@ pub record AreTakingsOf (wanted : Wanted) (known : KnownRaw) (maps : KnownMaps) 
 abbrev pub IsScanFault : KnownRaw → KnownMaps → ImageWords → Fault → Type 0
 IsScanFault known maps words (Geometry fault) = IsFirstBroken words.page words.pages words.extents fault
 IsScanFault known maps words OutOfMemory = Unit {0}
-IsScanFault known maps words fault = (g : Sizes) × HasSizes g words.page words.pages words.extents × IsDiskFault known maps words g fault
+IsScanFault known maps words fault =
+    (g : Sizes) × HasSizes g words.page words.pages words.extents × IsDiskFault known maps words g fault

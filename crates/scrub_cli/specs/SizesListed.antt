@@ -1,4 +1,4 @@
--- What the command `sizes` answers of an image file, and why it doesn't.
+-- What the command `sizes` answers for an image file, and why it doesn't.
 use Rattle.std.specs.Prelude.{◌≡◌, ◌≤◌, ℕ, List, [], Bool, Option, None, Some, IfSome}
 use Rattle.scrub_map.specs.declared.block.MapBlock.{MapBlock}
 use Rattle.scrub_map.specs.Rescued.{AreLostBlocks}
@@ -16,8 +16,7 @@ abbrev pub AreMarksOf : Option (List MapBlock) → List Bool → Type 0
 AreMarksOf None marks = marks ≡ []
 AreMarksOf (Some blocks) marks = AreLostBlocks blocks 512 131072 marks
 
--- the listing of a raw image of which this is known, some blocks of which are marked as lost, and status 0 if it is
--- clean
+-- the listing of a raw image of which this is known, with the marked blocks lost, and status 0 if it is clean, else 1
 pub record AreSizesListed (known : KnownRaw) (marks : List Bool) (text : List ℕ) (status : ℕ) : Type 0 where
   pub failures : ℕ
   pub few : failures ≤ known.most_failures
@@ -33,11 +32,12 @@ pub record IsSizesAnswer (known : KnownRaw) (maps : KnownMaps) (words : SizesWor
   pub marked : AreMarksOf blocks marks
   pub listed : AreSizesListed known marks text status
 
--- why `sizes` gives no listing: a fault of the map, or the image can't be opened, only if the map was read, or memory
+-- why `sizes` gives no listing: a fault of the map, an image that can't be opened (only if the map was read), or memory
 -- ran out; no image is too long
 abbrev pub IsSizesFault : KnownMaps → SizesWords → Fault → Type 0
 IsSizesFault maps words (NoMap name) = IsMapFault maps words.map (NoMap name)
 IsSizesFault maps words (MapLine k) = IsMapFault maps words.map (MapLine k)
-IsSizesFault maps words (NoImage name) = (blocks : Option (List MapBlock)) × AreBlocksOf maps words.map blocks × (name ≡ words.name)
+IsSizesFault maps words (NoImage name) =
+    (blocks : Option (List MapBlock)) × AreBlocksOf maps words.map blocks × (name ≡ words.name)
 IsSizesFault maps words OutOfMemory = Unit {0}
 IsSizesFault maps words fault = ⊥

@@ -1,4 +1,4 @@
--- What the command `superblocks` answers of an image file.
+-- What the command `superblocks` answers for an image file.
 use Rattle.std.specs.Prelude.{◌≡◌, ℕ, List, Bool}
 use Rattle.scrub_disk.specs.Image.{Image}
 use Rattle.scrub_report.specs.Superblocks.{AreSuperblockLines, AreCleanSuperblocks}
@@ -15,7 +15,8 @@ pub record AreSuperblocksListed (image : Image) (text : List ℕ) (status : ℕ)
   pub ended : status ≡ status_of_clean is_clean
 
 -- the answer of `superblocks`, for an image of the sizes that are given, loaded from this raw image
-pub record IsSuperblocksAnswer (known : KnownRaw) (maps : KnownMaps) (words : ImageWords) (text : List ℕ) (status : ℕ) : Type 0 where
+pub record IsSuperblocksAnswer (known : KnownRaw) (maps : KnownMaps) (words : ImageWords) (text : List ℕ)
+    (status : ℕ) : Type 0 where
   pub image : Image
   pub disk : IsDiskOf known maps words image
   pub answered : AreSuperblocksListed image text status

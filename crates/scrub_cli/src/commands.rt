@@ -1,4 +1,5 @@
-//! The commands: what each one reads, and the answer that it gives.
+//! The commands, with the answer of each, and what they share: `disk_image` loads the disk in an image file, `rescue` reads
+//! the map of a rescue, and `answer` makes the answers.
 
 pub(crate) mod answer;
 pub(crate) mod demo;

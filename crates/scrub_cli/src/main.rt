@@ -1,5 +1,5 @@
-//! The program `shardscrub`: words in, bytes and a status out. What it does stands in `run`; here the words, the files
-//! and the streams of the system are handed to it.
+//! The program `shardscrub`: arguments in, bytes and a status out. `run` does the work; here it gets the arguments, the
+//! files and the streams of the system.
 #![tactic(auto)]
 
 ghost use Rattle.std.specs.Prelude.{◌≡◌, ◌⊎◌, IfErr, MatchResult, drop, map};
@@ -28,7 +28,7 @@ fn main(rt: HostRuntime) -> ExitCode {
     run_process(&rt, process_words(&rt), &mut out, &mut err)
 }
 
-/// All words of the process, of which the first is the program's name. The contract of `args` doesn't say which words it gives.
+/// All arguments of the process; the first is the program's name. The contract of `args` doesn't say which ones it gives.
 fn process_words<R: Env + AllocGlobal>(rt: &R) -> Result<Vec<String>, Fault<'static>>
     ensures { IfErr result (λ fault. (fault ≡ Fault.NotUtf8) ⊎ (fault ≡ Fault.OutOfMemory)) }
 {
@@ -39,7 +39,7 @@ fn process_words<R: Env + AllocGlobal>(rt: &R) -> Result<Vec<String>, Fault<'sta
     }
 }
 
-/// The words that follow the program's name.
+/// The arguments after the program's name.
 fn behind_name(words: &[String]) -> &[String]
     ensures { result.now ≡ drop 1 words.now }
 {
@@ -49,7 +49,7 @@ fn behind_name(words: &[String]) -> &[String]
     }
 }
 
-/// Runs the program on the words of a process, or tells why there are none.
+/// Runs the program on the arguments of a process, or reports why they couldn't be read.
 fn run_process<R: Files<File = File> + AllocGlobal + Threads + Wait + Sync, O: Write, E: Write>(
     rt: &R,
     words: Result<Vec<String>, Fault<'static>>,
@@ -69,7 +69,7 @@ fn run_process<R: Files<File = File> + AllocGlobal + Threads + Wait + Sync, O: W
     ExitCode::from(status)
 }
 
-/// Runs the program on the files of the system.
+/// Runs the program on these arguments and the files of the system.
 fn run_words<R: Files<File = File> + AllocGlobal + Threads + Wait + Sync, O: Write, E: Write>(
     rt: &R,
     words: &[String],

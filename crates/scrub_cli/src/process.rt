@@ -1,4 +1,4 @@
-//! What a process has: files and images by name, the map of a rescue, and the faults that end a run with their lines and statuses.
+//! What a run needs of its process: images and maps by name, and for each fault its line on the error stream and its status.
 
 pub(crate) mod decimal;
 #[cfg(test)]

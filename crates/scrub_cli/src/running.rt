@@ -1,4 +1,4 @@
-//! A run of the program: words in, an answer and a status out.
+//! A whole run: it parses the arguments, makes the answer, writes it and returns the status.
 
 ghost use Rattle.std.specs.Prelude.{◌≤◌, IfOk, MatchResult};
 ghost use Rattle.scrub_cli.specs.Answer.{IsAnswerOfRun, IsFault, RunWrites, WritesAnswer};
@@ -8,11 +8,11 @@ ghost use Rattle.scrub_cli.specs.Words.{texts};
 
 use crate::commands::answer::{Answer, Wanted, version};
 use crate::commands::demo::demo;
-use crate::process::fault::Fault;
-use crate::process::images::Images;
 use crate::commands::items::items;
 use crate::commands::scan::{scan, superblocks};
 use crate::commands::sizes::sizes;
+use crate::process::fault::Fault;
+use crate::process::images::Images;
 use crate::words::{Request, ScanWords, read_words};
 use scrub_report::{ScrubFault, write_out};
 use std::alloc::Global;
@@ -20,7 +20,7 @@ use std::io::Write;
 use std::sync::Wait;
 use std::thread::Threads;
 
-/// The answer of `demo`. Who took which extents is dropped.
+/// The answer of `demo`, without the takings, which are for contracts alone.
 fn demo_answer<R: Threads + Wait + Sync>(rt: &R, alloc: Global) -> Result<Answer, ScrubFault>
     ensures { IfOk result (λ a. IsDemoAnswer a.text.items a.status) }
 {
@@ -28,7 +28,7 @@ fn demo_answer<R: Threads + Wait + Sync>(rt: &R, alloc: Global) -> Result<Answer
     Ok(answer)
 }
 
-/// The answer of a command that scans a disk. Who took which extents is dropped.
+/// The answer of a command that scans a disk, without the takings, which are for contracts alone.
 fn scan_answer<'a, R: Threads + Wait + Sync, I: Images>(
     rt: &R,
     alloc: Global,
@@ -46,7 +46,7 @@ fn scan_answer<'a, R: Threads + Wait + Sync, I: Images>(
     Ok(answer)
 }
 
-/// The answer of the command that the words name, whole and in memory.
+/// The whole answer of the command that the arguments name.
 fn answer<'a, R: Threads + Wait + Sync, I: Images>(
     rt: &R,
     alloc: Global,
@@ -78,7 +78,7 @@ fn answer<'a, R: Threads + Wait + Sync, I: Images>(
     }
 }
 
-/// Writes an answer, and gives the status of the run.
+/// Writes the answer, and returns the status of the run.
 fn give<O: Write, E: Write>(answer: &Answer, out: &mut O, err: &mut E) -> u8
     ensures { WritesAnswer answer.now.text.items answer.now.status result
         (O.contents out.old, O.contents out.new) (E.contents err.old, E.contents err.new) }
@@ -92,10 +92,11 @@ fn give<O: Write, E: Write>(answer: &Answer, out: &mut O, err: &mut E) -> u8
     }
 }
 
-/// Runs the command that the words name, which follow the program's name. The answer goes to `out`, once all of it stands
-/// in memory, and whatever else is to be said goes to `err`, whose faults are ignored.
+/// Runs the command that the arguments name; the program's name isn't one of them. The answer is written to `out` once all of
+/// it is in memory. Help and faults are written to `err`, whose own failures are ignored.
 ///
-/// The statuses: 0 clean, or help; 1 findings; 2 words refused; 3 file fault; 4 want of memory.
+/// The statuses: 0 clean, help or version; 1 findings; 2 invalid arguments or map; 3 the map or the image can't be opened, the
+/// image is too long, or the output failed; 4 out of memory.
 pub fn run<R: Threads + Wait + Sync, I: Images, O: Write, E: Write>(
     rt: &R,
     alloc: Global,

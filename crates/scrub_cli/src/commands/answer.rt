@@ -1,6 +1,5 @@
-//! What a command answers: the lines of an extent, the report, the index or the named locators of a disk, what may be
-//! reclaimed of it, or what a disk or an image has of superblocks, and the status that it ends with. How the disk came to be
-//! read is left to the commands, and where the answer goes to the run.
+//! The answer of a command: its text and its status, for one extent, a whole disk or a raw image. For loading the disk see
+//! `disk_image`, and for writing the answer `running`.
 
 ghost use Rattle.std.specs.Prelude.{◌≡◌, ◌+◌, ◌≤◌, ◌<◌, ◌^◌, IfOk, length};
 ghost use Rattle.std.specs.List.{list_all};
@@ -34,7 +33,7 @@ pub struct Answer {
 }
 
 impl Answer {
-    /// The answer with this text.
+    /// The answer with this text, and the status 0 if it is clean, else 1.
     fn new(text: Vec<u8>, is_clean: bool) -> Answer
         ensures text { result.text.items ≡ text.items }
         ensures status { result.status ≡ status_of_clean is_clean }
@@ -44,16 +43,16 @@ impl Answer {
     }
 }
 
-/// What is wanted of a whole disk.
+/// What a command on the whole disk prints.
 #[derive(Debug, Clone, Copy)]
 pub enum Wanted {
-    /// What was found on it.
+    /// The report.
     Report,
-    /// The index that is recovered from it.
+    /// The index that can be recovered.
     Index,
-    /// Its named locators, and what they are worth.
+    /// The named locators, each with its status.
     Locators,
-    /// What may be reclaimed of it, where these kinds of doubts are accepted.
+    /// What may be reclaimed, with these kinds of doubts accepted.
     Reclaimable(Accepted),
 }
 
@@ -80,7 +79,7 @@ fn lines(alloc: Global, items: &[Item]) -> Result<Vec<u8>, OutOfMemory>
     Ok(text)
 }
 
-/// The lines of the items of an extent. It is clean where no item is torn, noise or lost.
+/// The lines of the items of an extent. The status is 0 if no item is torn, noise or lost, else 1.
 pub fn listing(alloc: Global, items: &[Item]) -> Result<Answer, OutOfMemory>
     ensures text { IfOk result (λ a. a.text.items ≡ lines_of items.now) }
     ensures status { IfOk result (λ a. a.status ≡ status_of_clean (list_all is_clean_item items.now)) }
@@ -89,7 +88,7 @@ pub fn listing(alloc: Global, items: &[Item]) -> Result<Answer, OutOfMemory>
     Ok(Answer::new(text, are_clean_items(items)))
 }
 
-/// The lines of a disk's superblocks.
+/// The lines of the superblocks of a disk.
 pub fn superblock_listing<D: PageSource>(alloc: Global, disk: &D) -> Result<Answer, OutOfMemory>
     ensures { IfOk result (λ a. AreSuperblocksListed (D.image disk.now) a.text.items a.status) }
 {
@@ -97,7 +96,7 @@ pub fn superblock_listing<D: PageSource>(alloc: Global, disk: &D) -> Result<Answ
     Ok(Answer::new(listing.text, listing.is_clean))
 }
 
-/// The lines of the superblock records of a raw image, some blocks of which are marked as lost.
+/// The lines of the superblock records of a raw image, whose lost blocks are marked.
 pub fn sizes_listing<R: RawImage>(
     alloc: Global,
     raw: &mut R,
@@ -111,7 +110,9 @@ pub fn sizes_listing<R: RawImage>(
     Ok(Answer::new(listing.text, listing.is_clean))
 }
 
-/// What is wanted of a disk that this many workers scan beside the caller, with its status, and who took which extents.
+/// What is wanted of a disk, with its status, and the extents that each worker took. This many workers scan the disk beside
+/// the caller. The takings are for contracts alone: they show how many workers there were, and that each extent was scanned
+/// once.
 pub fn disk_answer<R: Threads + Wait + Sync, D: PageSource>(
     rt: &R,
     alloc: Global,

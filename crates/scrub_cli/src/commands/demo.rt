@@ -25,7 +25,7 @@ use uuid::Uuid;
 const PAYLOAD: &[u8; 3] = b"abc";
 /// The demo's shard.
 const SHARD: ShardId = ShardId([0, 0, 0, 0, 0, 0, 0, 0, 0, 0, 0, 0, 0, 0, 0, 1]);
-/// The ends of the frames in extents 1 and 2, in bytes.
+/// The write pointers of extents 1 and 2, in bytes. Each is the end of the frame in its extent.
 const POINTERS: [u32; 2] = [41, 155];
 
 /// How many workers scan the demo's disk beside the caller.
@@ -89,7 +89,7 @@ fn demo_disk(alloc: Global) -> Result<MemDisk, OutOfMemory>
     Ok(disk)
 }
 
-/// The report of the demo's disk, which two workers scan beside the caller, and who took which extents.
+/// The report of the demo's disk, and the extents that each worker took. Two workers scan the disk beside the caller.
 pub fn demo<R: Threads + Wait + Sync>(
     rt: &R,
     alloc: Global,

@@ -1,19 +1,19 @@
-//! The disk in an image file, as every command on one reads it. Its sizes, and what is told of it, are left to the commands,
-//! and the map of a rescue to `rescue`.
+//! Loading the disk in an image file, with the unreadable pages that the arguments name. The commands check the sizes; for
+//! the map of a rescue see `rescue`.
 
 ghost use Rattle.std.specs.Prelude.{ℕ, MatchOption, MatchResult};
 ghost use Rattle.scrub_disk.specs.Memory.{image_of};
 ghost use Rattle.scrub_cli.specs.DiskImage.{NamesPage, NamePages, IsBadPageFault, IsLoadedDisk, IsDiskFault};
 
+use crate::commands::rescue::{rescue_map, rescued};
 use crate::process::fault::Fault;
 use crate::process::images::Images;
-use crate::words::pair::bad_page;
-use crate::commands::rescue::{rescue_map, rescued};
 use crate::words::ImageWords;
+use crate::words::pair::bad_page;
 use scrub_disk::{Geometry, MemDisk, load};
 use std::alloc::Global;
 
-/// The page of the disk that a word names.
+/// The page of the disk that the argument names, if it names one.
 fn named_page(geometry: Geometry, word: &str) -> Option<(u32, u32)>
     ensures { MatchOption result ((at : ℕ × ℕ) → ¬ NamesPage geometry word.now at) (NamesPage geometry word.now) }
 {
@@ -25,7 +25,7 @@ fn named_page(geometry: Geometry, word: &str) -> Option<(u32, u32)>
     }
 }
 
-/// The pages that words name as unreadable. Where a word names none, the first such is the fault.
+/// The pages that the arguments name. The fault is the first argument that names no page of the disk.
 fn bad_pages<'a>(
     alloc: Global,
     geometry: Geometry,
@@ -43,9 +43,9 @@ fn bad_pages<'a>(
     Ok(pages)
 }
 
-/// The disk of these sizes that the words name. Its faults in their order: the first word for an unreadable page that names
-/// none, a map that can't be opened, the map's first line that breaks the rules, an image that can't be opened, and one
-/// that is too long.
+/// The disk of these sizes that the arguments name. Faults, in this order: the first argument for an unreadable page that
+/// names none, a map that can't be opened, the map's first line that breaks the rules, an image that can't be opened, and an
+/// image that is too long.
 pub fn load_disk<'a, I: Images>(
     alloc: Global,
     geometry: Geometry,
@@ -53,7 +53,8 @@ pub fn load_disk<'a, I: Images>(
     images: &mut I,
 ) -> Result<MemDisk, Fault<'a>>
     ensures { MatchResult result
-        (λ disk. IsLoadedDisk (I.known images.old words.now.name.now) (I.known_map images.old) words.now geometry (image_of disk))
+        (λ disk. IsLoadedDisk (I.known images.old words.now.name.now) (I.known_map images.old) words.now geometry
+        (image_of disk))
         (IsDiskFault (I.known images.old words.now.name.now) (I.known_map images.old) words.now geometry) }
 {
     let bad = bad_pages(alloc, geometry, &words.bad_pages)?;

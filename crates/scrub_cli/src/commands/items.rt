@@ -12,14 +12,15 @@ use scrub_disk::Geometry;
 use scrub_scan::tile;
 use std::alloc::Global;
 
-/// The items of the extent that the words name. Faults are found in the order of `Fault`.
+/// The items of the extent that the arguments name. Faults are checked in the order of `Fault`.
 pub fn items<'a, I: Images>(
     alloc: Global,
     words: &ItemsWords<'a>,
     images: &mut I,
 ) -> Result<Answer, Fault<'a>>
     ensures { MatchResult result
-        (λ a. IsItemsAnswer (I.known images.old words.now.image.name.now) (I.known_map images.old) words.now a.text.items a.status)
+        (λ a. IsItemsAnswer (I.known images.old words.now.image.name.now) (I.known_map images.old) words.now
+        a.text.items a.status)
         (IsItemsFault (I.known images.old words.now.image.name.now) (I.known_map images.old) words.now) }
 {
     let image = &words.image;

@@ -1,5 +1,5 @@
-//! The map of the rescue that made an image: it is opened and read, and the pages that it lacks are made unreadable. What
-//! its lines say is for `scrub_map`.
+//! The map of the rescue that made an image: reading it, and making the pages that it lacks unreadable. For its lines see
+//! `scrub_map`.
 
 ghost use Rattle.std.specs.Prelude.{◌≡◌, ◌*◌, IfOk, List, MatchResult, Option, length};
 ghost use Rattle.scrub_disk.specs.Memory.{image_of};
@@ -14,8 +14,8 @@ use scrub_disk::{MemDisk, OutOfMemory, PageSource};
 use scrub_map::{RescueMap, read_map};
 use std::alloc::Global;
 
-/// The map of a name, where one is given. Its faults in their order: it can't be opened, and its first line that breaks
-/// the rules.
+/// The map of this name, if one is given. Faults, in this order: it can't be opened, and its first line that breaks the
+/// rules.
 pub fn rescue_map<'a, I: Images>(
     alloc: Global,
     name: Option<&'a str>,
@@ -40,12 +40,13 @@ pub fn rescue_map<'a, I: Images>(
 /// How many blocks of `BLOCK` bytes begin in the first 67,108,864 bytes.
 const BLOCKS: usize = 1 << 17;
 
-/// The bytes of a block that is lost as a whole where sizes aren't known.
+/// Bytes of a block, which is lost as a whole if the sizes of the disk aren't known.
 const BLOCK: u32 = 512;
 
-/// A mark for each of the first blocks of 512 bytes, whether the map lacks it; none where there is no map.
+/// Whether the map lacks each of the first blocks of 512 bytes; empty without a map.
 pub fn lost_blocks(alloc: Global, map: &Option<RescueMap>) -> Result<Vec<bool>, OutOfMemory>
-    ensures { IfOk result (λ marks. (blocks : Option (List MapBlock)) → KeepsMap map.now blocks → AreMarksOf blocks marks.items) }
+    ensures { IfOk result (λ marks. (blocks : Option (List MapBlock)) → KeepsMap map.now blocks →
+        AreMarksOf blocks marks.items) }
 {
     match map {
         Some(map) => map.lost_blocks(alloc, BLOCK, BLOCKS),
@@ -53,7 +54,7 @@ pub fn lost_blocks(alloc: Global, map: &Option<RescueMap>) -> Result<Vec<bool>, 
     }
 }
 
-/// A disk without the pages that the map lacks, where there is a map.
+/// The disk without the pages that the map lacks, if there is a map.
 pub fn rescued(
     alloc: Global,
     disk: MemDisk,
@@ -69,7 +70,7 @@ pub fn rescued(
     }
 }
 
-/// A disk whose pages are unreadable of which the map lacks a byte.
+/// The disk, with each page unreadable that has a byte which the map lacks.
 fn without_lost(alloc: Global, mut disk: MemDisk, map: &RescueMap) -> Result<MemDisk, OutOfMemory>
     requires { (blocks : List MapBlock) × KeepsBlocks map.now blocks }
     ensures { IfOk result (λ r. (blocks : List MapBlock) → KeepsBlocks map.now blocks →
@@ -82,7 +83,7 @@ fn without_lost(alloc: Global, mut disk: MemDisk, map: &RescueMap) -> Result<Mem
     Ok(disk)
 }
 
-/// Makes each page unreadable whose number among all pages of the disk is marked.
+/// Makes the marked pages unreadable. The marks are by the number of a page among all pages of the disk.
 fn mark_pages(disk: &mut MemDisk, lost: &[bool])
     requires { length lost.now ≡ (image_of disk.old).geometry.pages * (image_of disk.old).geometry.extents }
     ensures { LosesMarked lost.now (length lost.now) (image_of disk.old) (image_of disk.new) }

@@ -17,7 +17,7 @@ use std::alloc::Global;
 use std::sync::Wait;
 use std::thread::Threads;
 
-/// The disk that the words name, of the sizes that they give. Faults are found in the order of `Fault`.
+/// The disk that the arguments name, with the sizes that they give. Faults are checked in the order of `Fault`.
 fn disk_of<'a, I: Images>(
     alloc: Global,
     words: &ImageWords<'a>,
@@ -31,8 +31,8 @@ fn disk_of<'a, I: Images>(
     load_disk(alloc, geometry, words, images)
 }
 
-/// What is wanted of the disk that the words name, which as many workers scan as they say, and who took which extents. Faults
-/// are found in the order of `Fault`.
+/// What is wanted of the disk that the arguments name, and the extents that each worker took. Faults are checked in the order
+/// of `Fault`.
 pub fn scan<'a, R: Threads + Wait + Sync, I: Images>(
     rt: &R,
     alloc: Global,
@@ -54,14 +54,15 @@ pub fn scan<'a, R: Threads + Wait + Sync, I: Images>(
     Ok(disk_answer(rt, alloc, &disk, words.workers, wanted)?)
 }
 
-/// What the disk that the words name has of superblocks. Faults are found in the order of `Fault`.
+/// The lines of the superblocks of the disk that the arguments name. Faults are checked in the order of `Fault`.
 pub fn superblocks<'a, I: Images>(
     alloc: Global,
     words: &ImageWords<'a>,
     images: &mut I,
 ) -> Result<Answer, Fault<'a>>
     ensures { MatchResult result
-        (λ a. IsSuperblocksAnswer (I.known images.old words.now.name.now) (I.known_map images.old) words.now a.text.items a.status)
+        (λ a. IsSuperblocksAnswer (I.known images.old words.now.name.now) (I.known_map images.old) words.now
+        a.text.items a.status)
         (IsScanFault (I.known images.old words.now.name.now) (I.known_map images.old) words.now) }
 {
     let disk = disk_of(alloc, words, images)?;

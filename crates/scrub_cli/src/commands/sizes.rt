@@ -4,14 +4,14 @@ ghost use Rattle.std.specs.Prelude.{◌≡◌, IfOk, MatchResult};
 ghost use Rattle.scrub_cli.specs.SizesListed.{IsSizesAnswer, IsSizesFault};
 
 use crate::commands::answer::{Answer, sizes_listing};
+use crate::commands::rescue::{lost_blocks, rescue_map};
 use crate::process::fault::Fault;
 use crate::process::images::Images;
-use crate::commands::rescue::{lost_blocks, rescue_map};
 use crate::words::SizesWords;
 use std::alloc::Global;
 
-/// The records of the image that the words name, each with the sizes that it has itself, and the bytes that are lost. Faults
-/// are found in the order of `Fault`.
+/// The superblock records of the image that the arguments name, each with its own sizes, and the lost bytes. Faults are
+/// checked in the order of `Fault`.
 pub fn sizes<'a, I: Images>(
     alloc: Global,
     words: &SizesWords<'a>,

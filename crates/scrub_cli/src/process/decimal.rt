@@ -1,4 +1,4 @@
-//! Writing numbers with no memory of their own. Writing bytes is left to `scrub_report`.
+//! Writing numbers without allocating. For writing bytes see `write_out` of `scrub_report`.
 
 ghost use Rattle.std.specs.Prelude.{OnOk};
 ghost use Rattle.std.specs.Fmt.{decimal};
@@ -8,7 +8,7 @@ ghost use Rattle.scrub_report.specs.Output.{AppendsFront};
 use scrub_report::{WriteFault, write_out};
 use std::io::Write;
 
-/// Writes a number in decimal. No memory is taken.
+/// Writes the number in decimal, without allocating.
 pub fn write_decimal<W: Write>(writer: &mut W, number: usize) -> Result<(), WriteFault>
     ensures whole { OnOk result (Appends (W.contents writer.old) (W.contents writer.new) (decimal number)) }
     ensures front { AppendsFront (W.contents writer.old) (W.contents writer.new) (decimal number) }

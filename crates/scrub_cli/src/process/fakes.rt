@@ -1,4 +1,4 @@
-//! For the tests: raw images and maps by name, over bytes.
+//! For the tests: a raw image and a map by name, in memory.
 
 ghost use Rattle.std.specs.Prelude.{◌≤◌, Some};
 
@@ -12,11 +12,11 @@ pub struct OneImage<'a> {
     pub bytes: &'a [u8],
     /// The text of the map.
     pub map: &'a [u8],
-    /// How many bytes one read gives at most.
+    /// The most bytes that one read gives.
     pub most: usize,
-    /// The first read that fails, counted from 0, where any may fail.
+    /// The first read that fails, counted from 0, if any fails.
     pub failing: u64,
-    /// How many reads fail, one behind the other.
+    /// How many reads fail, one after another.
     pub faults: u64,
     pub ghost gives: { 1 ≤ most },
 }

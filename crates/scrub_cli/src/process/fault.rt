@@ -1,4 +1,4 @@
-//! Why a run ends without an answer: for each reason its status and its line on the error stream, in one place.
+//! Why a run ends without a whole answer: the status and the line on the error stream for each reason, in one place.
 
 ghost use Rattle.std.specs.Prelude.{◌≡◌, ◌++◌, OnOk, codes};
 ghost use Rattle.std.specs.Fmt.{decimal};
@@ -7,43 +7,42 @@ ghost use Rattle.scrub_cli.specs.declared.process.fault.Fault.TheVariants.{Geome
 ghost use Rattle.scrub_cli.specs.Fault.{line, text_of};
 ghost use Rattle.scrub_report.specs.Output.{AppendsFront};
 
-use crate::words::WordsFault;
 use crate::process::decimal::write_decimal;
+use crate::words::WordsFault;
 use scrub_disk::{GeometryFault, LoadFault, OutOfMemory};
 use scrub_map::MapFault;
 use scrub_report::{ScrubFault, WriteFault, write_out};
 use std::alloc::AllocFailed;
 use std::io::Write;
 
-/// Why a run ends without a whole answer, in the order in which the reasons are found. Want of memory comes wherever a
-/// growth is refused.
+/// Why a run ends without a whole answer, in the order of the checks. Memory may run out at any point.
 #[derive(Drop)]
 pub enum Fault<'a> {
-    /// A word isn't UTF-8.
+    /// An argument isn't UTF-8.
     NotUtf8,
-    /// The words ask for help: the text is the help.
+    /// The arguments ask for help; the text is the help.
     Help(String),
-    /// `clap` refuses the words: the text says why.
+    /// The arguments are refused; the text says why.
     Words(String),
-    /// The sizes are no geometry.
+    /// The sizes are refused; this is the first limit that they break.
     Geometry(GeometryFault),
-    /// The extent isn't one of the disk's.
+    /// The disk has no such extent.
     Extent,
-    /// The write pointer lies past the extent.
+    /// The write pointer is past the end of the extent.
     Pointer,
-    /// The word isn't a pair of an extent and a page of it.
+    /// This argument isn't `EXTENT:PAGE`, or the disk has no such page.
     BadPage(&'a str),
-    /// No map of this name can be opened, or a read of it failed.
+    /// The map of this name can't be opened, or a read of it failed.
     NoMap(&'a str),
-    /// This line of the map breaks its rules, counted from 1: the first such.
+    /// The first line of the map that breaks the rules, counted from 1.
     MapLine(u64),
-    /// No image of this name can be opened.
+    /// The image of this name can't be opened.
     NoImage(&'a str),
-    /// There is a byte behind the image's last page.
+    /// The image has a byte after the disk's last page.
     TooLong,
-    /// The output failed after so many bytes.
+    /// The output failed after this many bytes.
     Output { written: usize },
-    /// A growth was refused.
+    /// Memory ran out.
     OutOfMemory,
 }
 
@@ -125,7 +124,7 @@ impl Fault<'_> {
     ghost use Rattle.scrub_cli.specs.Fault.{status_of, text_of, IsReported};
     ghost use Rattle.scrub_report.specs.Output.{AppendsFront};
 
-    /// The status that the program ends with.
+    /// The exit status.
     pub fn status(&self) -> u8
         ensures { result ≡ status_of self.now }
     {
@@ -143,8 +142,8 @@ impl Fault<'_> {
         }
     }
 
-    /// Writes what happened to the error stream, up to its line feed or to the first failure of the stream, and says whether
-    /// the stream took all of it. It takes no memory.
+    /// Writes the fault's text to the error stream, up to the first failure of the stream, which is the error. It doesn't
+    /// allocate.
     fn tell<E: Write>(&self, err: &mut E) -> Result<(), WriteFault>
         ensures front { AppendsFront (E.contents err.old) (E.contents err.new) (text_of self.now) }
         ensures whole { OnOk result (Appends (E.contents err.old) (E.contents err.new) (text_of self.now)) }
@@ -170,8 +169,8 @@ impl Fault<'_> {
         }
     }
 
-    /// Tells it on the error stream, and gives the status that the program ends with. That the error stream failed can't be
-    /// told to anyone.
+    /// Reports the fault on the error stream, and returns the exit status. If the error stream fails, there is nowhere left to
+    /// report that.
     pub fn end<E: Write>(&self, err: &mut E) -> u8
         ensures { IsReported self.now result (E.contents err.old, E.contents err.new) }
     {
@@ -180,7 +179,7 @@ impl Fault<'_> {
     }
 }
 
-/// The limit that sizes break, by its name, with which the line ends.
+/// The name of the limit that the sizes break, as it ends the line.
 fn limit(fault: GeometryFault) -> &'static str
     ensures { text_of (Geometry fault) ≡ line (codes "geometry refused: " ++ result.now) }
 {
@@ -193,7 +192,7 @@ fn limit(fault: GeometryFault) -> &'static str
     }
 }
 
-/// Writes a line in two parts, behind the program's name.
+/// Writes a line: the program's name, then two parts.
 fn write_line<E: Write>(err: &mut E, what: &str, which: &str) -> Result<(), WriteFault>
     ensures front { AppendsFront (E.contents err.old) (E.contents err.new) (line (what.now ++ which.now)) }
     ensures whole { OnOk result (Appends (E.contents err.old) (E.contents err.new) (line (what.now ++ which.now))) }
@@ -204,7 +203,7 @@ fn write_line<E: Write>(err: &mut E, what: &str, which: &str) -> Result<(), Writ
     write_out(err, b"\n")
 }
 
-/// Writes a line with a number between its two parts, behind the program's name.
+/// Writes a line: the program's name, then a number between two parts.
 fn write_number<E: Write>(
     err: &mut E,
     before: &str,

@@ -1,5 +1,5 @@
-//! Raw images and maps in files of the system. No contract says what a file holds: all that is known of an image is how
-//! often it was read, and how often that failed.
+//! Raw images and maps in files of the system. Contracts don't say what a file holds, only how often an image was read and
+//! how often that failed.
 
 ghost use Rattle.std.specs.Prelude.{◌↔◌, ◌⊎◌, ◌≤◌, ◌^◌, IsTrue, None};
 ghost use Rattle.scrub_cli.specs.FileKind.{IsBlockDevice, IsRegularFile};
@@ -12,7 +12,7 @@ use std::fs::{File, Files, metadata};
 use std::io::{ErrorKind, Read};
 use std::os::unix::fs::{FileExt, MetadataExt};
 
-/// A file that is read as a raw image.
+/// A file that is read as a raw image. The counts are for contracts alone; no code reads them.
 #[derive(Drop)]
 pub struct FileImage {
     file: File,
@@ -47,15 +47,15 @@ impl RawImage for FileImage {
     }
 }
 
-/// The bits of a file's mode that say of which kind it is, as `stat` of POSIX has them, and two of the kinds.
+/// The bits of a file's mode that say its kind, and two of the kinds, as in `inode(7)` of Linux.
 const KIND_BITS: u32 = 0o170000;
 
 const REGULAR_FILE: u32 = 0o100000;
 
 const BLOCK_DEVICE: u32 = 0o060000;
 
-/// Whether a file of this mode is opened. Nothing but a regular file and a block device can be read whole, so nothing else
-/// is: not a directory, of which every read fails, and not a pipe, which would be waited for until somebody writes to it.
+/// Whether a file of this mode is opened. Only regular files and block devices can be read whole: every read of a directory
+/// fails, and opening a pipe waits until someone writes to it.
 fn is_opened(mode: u32) -> bool
     ensures { IsTrue result ↔ (IsRegularFile mode ⊎ IsBlockDevice mode) }
 {
@@ -63,7 +63,7 @@ fn is_opened(mode: u32) -> bool
     kind == REGULAR_FILE || kind == BLOCK_DEVICE
 }
 
-/// The regular file or the block device of this path. A link is followed.
+/// The regular file or block device at this path. Links are followed.
 fn open_readable<R: Files<File = File>>(runtime: &R, name: &str) -> Option<File> {
     let mode = metadata(runtime, name).ok()?.mode();
     if !is_opened(mode) {
@@ -115,7 +115,7 @@ mod tests {
     /// The numbers are those of `inode(7)` of Linux: the kind, then the permissions, also with the set-user-ID, set-group-ID
     /// and sticky bits.
     #[test]
-    fn of_all_kinds_of_files_two_are_opened(rt: HostRuntime) {
+    fn only_regular_files_and_block_devices_are_opened(rt: HostRuntime) {
         for (mode, wanted) in [
             (0o100644, true),
             (0o100000, true),
@@ -136,9 +136,7 @@ mod tests {
     }
 
     #[test]
-    fn neither_a_folder_nor_a_device_without_blocks_nor_a_name_without_a_file_is_an_image_or_a_map(
-        rt: HostRuntime,
-    ) {
+    fn folders_character_devices_and_missing_files_are_not_opened(rt: HostRuntime) {
         let mut files = NamedFiles { runtime: &rt };
         for name in [".", "/dev/null", "no-such-folder/disk.img", ""] {
             assert!(rt; files.image(name).is_none(), "{name}");

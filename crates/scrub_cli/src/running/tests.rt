@@ -1,5 +1,5 @@
-//! Whole runs: words and raw bytes in, and out come lines or the text of a refusal, and a status. What is expected
-//! stands in the descriptions of the format and of the program.
+//! Whole runs: arguments and raw bytes in, lines or the text of a refusal and a status out. For what is expected see
+//! docs/FORMAT.md, docs/REPORT.md and docs/shardscrub.1.
 
 use crate::process::fakes::OneImage;
 use crate::process::fault::Fault;
@@ -28,12 +28,12 @@ const ABC_FRAME: [u8; 41] = [
 
 const ABC_LINE: &str = "chunk 0 41 11111111-1111-1111-1111-111111111111 3\n";
 
-/// The items of extent 1 of a disk with three extents of four pages of 64 bytes, up to byte 41 of it.
+/// The arguments that list extent 1 up to byte 41, on a disk with three extents of four pages of 64 bytes.
 const ITEMS_BELOW_41: &str =
     "items --page 64 --pages 4 --extents 3 --extent 1 --pointer 41 disk.img";
 
-/// The bytes of a disk of 768 bytes in three extents, all zeros but for the frames of these payloads, each at a place of
-/// the disk. Extent 1 begins at 256, extent 2 at 512.
+/// A disk of 768 bytes in three extents: zeros, and the frame of each payload at its byte of the disk. Extent 1 begins at
+/// 256, extent 2 at 512.
 fn disk_with(
     rt: &impl Abort,
     alloc: Global,
@@ -48,14 +48,14 @@ fn disk_with(
     Ok(disk)
 }
 
-/// Writes bytes to a place of a disk.
+/// Writes bytes to a disk, from this byte of it on.
 fn put(rt: &impl Abort, disk: &mut [u8; 768], place: u16, bytes: &[u8]) {
     let place = place as usize;
     assert!(rt; place <= 768 && bytes.len() <= 768 - place);
     disk[place..place + bytes.len()].copy_from_slice(bytes);
 }
 
-/// These bytes under the name `disk.img`, read without a fault, and a map of no text under `disk.map`.
+/// These bytes under the name `disk.img`, read without a fault, and an empty map under `disk.map`.
 fn image(bytes: &[u8]) -> OneImage<'_> {
     with_map(bytes, b"")
 }
@@ -71,7 +71,7 @@ fn with_map<'a>(bytes: &'a [u8], map: &'a [u8]) -> OneImage<'a> {
     }
 }
 
-/// Runs words that are parted by blanks, and compares all that comes of it.
+/// Runs arguments that are separated by blanks, and compares the status, the output and the error stream.
 fn check(
     rt: &(impl Abort + Threads + Wait + Sync),
     alloc: Global,
@@ -87,7 +87,7 @@ fn check(
     Ok(())
 }
 
-/// Runs words on a disk with these frames, and compares the status and the lines.
+/// Runs arguments on a disk with these frames, and compares the status and the lines.
 fn check_lines(
     rt: &(impl Abort + Threads + Wait + Sync),
     alloc: Global,
@@ -114,9 +114,9 @@ fn the_example_has_one_chunk_below_byte_41(rt: HostRuntime) -> Result<(), Fail> 
     )
 }
 
-/// Options in any order, before and behind the image, with a blank or an equals sign before their values.
+/// Options in any order, before and after the image, with a blank or an equals sign before their values.
 #[test]
-fn the_order_of_options_is_of_no_account(rt: HostRuntime) -> Result<(), Fail> {
+fn the_order_of_options_does_not_matter(rt: HostRuntime) -> Result<(), Fail> {
     let disk = disk_with(&rt, rt.alloc(), &[(256, ONES, b"abc")])?;
     for words in [
         "items --pointer 41 --extent 1 --extents 3 --pages 4 --page 64 disk.img",
@@ -223,7 +223,7 @@ fn damage_between_frames_hides_the_one_before_the_page_bound(rt: HostRuntime) ->
 }
 
 #[test]
-fn pages_behind_the_end_of_a_short_image_are_lost(rt: HostRuntime) -> Result<(), Fail> {
+fn pages_after_the_end_of_a_short_image_are_lost(rt: HostRuntime) -> Result<(), Fail> {
     let disk = disk_with(&rt, rt.alloc(), &[(512, [0x22; 16], &[0x78; 117])])?;
     let words = "items --page 64 --pages 4 --extents 3 --extent 2 --pointer 155 disk.img";
     let lines = "torn 0 64\nnoise 64 128\nlost 128 155\n";
@@ -257,7 +257,7 @@ fn a_page_whose_read_fails_is_lost(rt: HostRuntime) -> Result<(), Fail> {
 
 /// Extent 1 begins at byte 256, and its first page ends at 320.
 #[test]
-fn a_page_that_the_map_lacks_a_byte_of_is_lost(rt: HostRuntime) -> Result<(), Fail> {
+fn a_page_with_a_byte_that_the_map_lacks_is_lost(rt: HostRuntime) -> Result<(), Fail> {
     let disk = disk_with(&rt, rt.alloc(), &[(256, ONES, b"abc")])?;
     let words =
         "items --page 64 --pages 4 --extents 3 --extent 1 --pointer 41 --map disk.map disk.img";
@@ -308,7 +308,7 @@ fn the_first_line_of_a_map_that_breaks_a_rule_is_reported(rt: HostRuntime) -> Re
 }
 
 #[test]
-fn sizes_that_are_no_geometry_are_refused(rt: HostRuntime) -> Result<(), Fail> {
+fn sizes_out_of_the_limits_are_refused(rt: HostRuntime) -> Result<(), Fail> {
     for (page, pages, extents, fault) in [
         (60, 4, 3, "PageSize"),
         (96, 4, 3, "PageSize"),
@@ -339,14 +339,20 @@ fn places_outside_the_disk_are_refused(rt: HostRuntime) -> Result<(), Fail> {
     ] {
         let words = format!(in rt.alloc(); "items --page 64 --pages 4 --extents 3 {words}")?;
         let expected = format!(in rt.alloc(); "shardscrub: {expected}\n")?;
-        check(&rt, rt.alloc(), &words, image(&[0; 768]), (2, "", &expected))?;
+        check(
+            &rt,
+            rt.alloc(),
+            &words,
+            image(&[0; 768]),
+            (2, "", &expected),
+        )?;
     }
     Ok(())
 }
 
-/// Each line of words has all the faults that the lines below it have.
+/// Each case also has the faults of all cases below it.
 #[test]
-fn of_several_faults_the_first_is_reported(rt: HostRuntime) -> Result<(), Fail> {
+fn the_first_of_several_faults_is_reported(rt: HostRuntime) -> Result<(), Fail> {
     for (words, status, expected) in [
         (
             "--page 60 --extent 3 --pointer 257 other.img 1:4",
@@ -424,7 +430,7 @@ fn a_fault_of_the_error_stream_is_ignored(rt: HostRuntime) -> Result<(), Fail> {
     Ok(())
 }
 
-/// The words come to this status and a text on the error stream alone, which begins like this.
+/// Runs arguments, and compares the status and the beginning of the text on the error stream; the output stays empty.
 fn check_text(
     rt: &(impl Abort + Threads + Wait + Sync),
     alloc: Global,
@@ -441,7 +447,7 @@ fn check_text(
 }
 
 #[test]
-fn words_that_are_no_command_are_refused(rt: HostRuntime) -> Result<(), Fail> {
+fn invalid_arguments_are_refused(rt: HostRuntime) -> Result<(), Fail> {
     for words in [
         "repair",
         "demo 1",
@@ -474,7 +480,7 @@ fn the_version_goes_to_the_output(rt: HostRuntime) -> Result<(), Fail> {
 }
 
 #[test]
-fn help_is_reported_on_the_error_stream(rt: HostRuntime) -> Result<(), Fail> {
+fn help_is_printed_on_the_error_stream(rt: HostRuntime) -> Result<(), Fail> {
     for (words, beginning) in [
         ("--help", "Checks a raw image of a storage node's disk"),
         ("-h", "Checks a raw image of a storage node's disk"),
@@ -495,7 +501,7 @@ fn help_is_reported_on_the_error_stream(rt: HostRuntime) -> Result<(), Fail> {
     Ok(())
 }
 
-/// Eight pages are named; an extent has 130 items, on a disk whose name has 72 bytes.
+/// Eight pages are given as unreadable; then an extent has 130 items, and the name of its image 72 bytes.
 #[test]
 fn many_pages_many_items_and_a_long_name(rt: HostRuntime) -> Result<(), Fail> {
     let words =
@@ -512,9 +518,9 @@ fn many_pages_many_items_and_a_long_name(rt: HostRuntime) -> Result<(), Fail> {
     check(&rt, rt.alloc(), words, image(&[0; 16640]), (0, &lines, ""))
 }
 
-/// The status and the text of each fault that takes no words.
+/// The two faults that no arguments lead to.
 #[test]
-fn want_of_memory_has_a_status_and_a_text(rt: HostRuntime) -> Result<(), Fail> {
+fn out_of_memory_and_not_utf8_have_a_status_and_a_text(rt: HostRuntime) -> Result<(), Fail> {
     let mut err = Vec::new(rt.alloc());
     assert_eq!(rt; Fault::OutOfMemory.end(&mut err), 4);
     assert_eq!(rt; Fault::NotUtf8.end(&mut err), 2);
@@ -526,7 +532,7 @@ fn want_of_memory_has_a_status_and_a_text(rt: HostRuntime) -> Result<(), Fail> {
 /// The name of a file with a map.
 const MAP_FILE: &str = "scrub_cli_test_of_a_map.map";
 
-/// A run in the way of the system has its map from a file too.
+/// A run on the files of the system reads its map from a file.
 #[test]
 fn a_file_is_read_as_a_map(rt: HostRuntime) -> Result<(), Fail> {
     fs::write(&rt, MAP_FILE, b"0 +\n0 1 x\n")?;
@@ -540,10 +546,11 @@ fn a_file_is_read_as_a_map(rt: HostRuntime) -> Result<(), Fail> {
     check_process(&rt, &words, (3, "", &expected))
 }
 
-/// The name of a file. It has more than 64 bytes, as no clause says that a long name is opened whole.
+/// The name of an image file. It has more than 64 bytes, as no clause says that a long name is passed on whole.
 const FILE: &str = "scrub_cli_test_of_an_image_file_whose_name_has_more_than_sixty_four_bytes.img";
 
-/// Runs the program on words of a process, the first of which is its name, and compares all that comes of it.
+/// Runs the program on the arguments of a process, of which the first is its name, and compares the status, the output and
+/// the error stream.
 fn check_process<R: Files<File = File> + AllocGlobal + Abort + Threads + Wait + Sync>(
     rt: &R,
     words: &str,
@@ -562,7 +569,7 @@ fn check_process<R: Files<File = File> + AllocGlobal + Abort + Threads + Wait + 
     Ok(())
 }
 
-/// Lists the items of an extent of a file with these bytes, and compares all that comes of it.
+/// Lists the items of an extent of a file with these bytes, and compares the status, the output and the error stream.
 fn check_file<R: Files<File = File> + AllocGlobal + Abort + Threads + Wait + Sync>(
     rt: &R,
     bytes: &[u8],

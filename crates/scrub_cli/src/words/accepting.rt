@@ -1,4 +1,4 @@
-//! The kinds of doubts that words accept.
+//! The kinds of doubts that `--accept` may name.
 
 ghost use Rattle.std.specs.Prelude.{◌≡◌, MatchOption, false, true};
 ghost use Rattle.std.specs.List.{list_all, list_any};
@@ -16,14 +16,14 @@ const TAIL: &str = "tail";
 
 const TAIL_LOST: &str = "tail-lost";
 
-/// Whether a word is a kind of doubts that may be accepted.
+/// Whether the text is a kind of doubts that can be accepted.
 fn is_kind(word: &str) -> bool
     ensures { result ≡ is_kind word.now }
 {
     word == DAMAGED || word == STRAY || word == TAIL || word == TAIL_LOST
 }
 
-/// The first word that is no kind.
+/// The first text that is no such kind.
 pub fn unknown_kind<'a>(words: &[&'a str]) -> Option<&'a str>
     ensures { MatchOption result (list_all (λ word. is_kind word.now) words.now ≡ true)
         (λ _. list_all (λ word. is_kind word.now) words.now ≡ false) }
@@ -36,7 +36,7 @@ pub fn unknown_kind<'a>(words: &[&'a str]) -> Option<&'a str>
     None
 }
 
-/// Whether a kind is among the words.
+/// Whether the kind is among these texts.
 fn has_kind(words: &[&str], kind: &str) -> bool
     ensures { result ≡ list_any (λ word. bytes_eq word.now kind.now) words.now }
 {
@@ -48,7 +48,7 @@ fn has_kind(words: &[&str], kind: &str) -> bool
     false
 }
 
-/// The kinds that these words accept, each of which is one.
+/// The kinds of doubts that these texts accept.
 pub fn accepted(words: &[&str]) -> Accepted
     requires { list_all (λ word. is_kind word.now) words.now ≡ true }
     ensures { AreAccepted (texts words.now) result }

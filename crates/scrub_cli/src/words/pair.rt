@@ -1,21 +1,21 @@
-//! The words that name unreadable pages. Whether an extent and a page lie on the disk is for the
-//! geometry to say.
+//! The arguments `EXTENT:PAGE`, which name unreadable pages. Whether the disk has such a page is checked in `disk_image`.
 ghost use Rattle.std.specs.Prelude.{◌≡◌, ◌^◌, ◌<◌, ℕ, MatchOption, IfSome};
 ghost use Rattle.scrub_cli.specs.Pair.{IsDecimal, IsPair};
 
-/// Reads `EXTENT:PAGE`: an extent's number, a colon, a page's number, both in decimal digits alone
-/// and at most 4,294,967,295. Leading zeros count for nothing; a sign or a blank is refused.
+/// Parses `EXTENT:PAGE`: two numbers in decimal digits, each at most 4,294,967,295, with a colon between them. Leading zeros
+/// are ignored; a sign or a blank is refused.
 pub fn bad_page(word: &str) -> Option<(u32, u32)>
     ensures pair { MatchOption result
         ((extent page : ℕ) → extent < 2 ^ 32 → page < 2 ^ 32 → ¬ IsPair word.now extent page)
         (λ pair. IsPair word.now pair.0 pair.1) }
-    ensures only { IfSome result (λ pair. (extent page : ℕ) → IsPair word.now extent page → (extent ≡ pair.0) × (page ≡ pair.1)) }
+    ensures only { IfSome result (λ pair. (extent page : ℕ) → IsPair word.now extent page →
+        (extent ≡ pair.0) × (page ≡ pair.1)) }
 {
     let (extent, page) = word.split_once(':')?;
     Some((decimal(extent)?, decimal(page)?))
 }
 
-/// The number that decimal digits write, where the text is nothing else and the number fits.
+/// The number that the text writes, if the text is decimal digits alone and the number fits.
 fn decimal(text: &str) -> Option<u32>
     ensures { MatchOption result ((n : ℕ) → n < 2 ^ 32 → ¬ IsDecimal text.now n) (IsDecimal text.now) }
 {
@@ -30,13 +30,13 @@ mod tests {
     use super::bad_page;
 
     #[test]
-    fn pairs_that_read(rt: HostRuntime) {
+    fn valid_pairs_are_parsed(rt: HostRuntime) {
         assert_eq!(rt; bad_page("1:4"), Some((1, 4)));
         assert_eq!(rt; bad_page("007:4294967295"), Some((7, 4294967295)));
     }
 
     #[test]
-    fn words_that_are_no_pair(rt: HostRuntime) {
+    fn invalid_pairs_are_refused(rt: HostRuntime) {
         for word in [
             "",
             ":",

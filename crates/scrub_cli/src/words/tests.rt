@@ -1,17 +1,17 @@
-//! Which words ask for what, what is refused, and that the help has what its reader looks for.
+//! Which arguments ask for what, which are refused, and what the help contains.
 
 use crate::words::{ImageWords, Request, WordsFault, read_words};
 use std::process::Abort;
 use std::test::Fail;
 
-/// The words of the disk that the tests name, which each command on an image has.
+/// The sizes, the name and the unreadable pages that the tests give to each command on an image.
 fn check_image(rt: &impl Abort, image: &ImageWords<'_>) {
     assert_eq!(rt; (image.page, image.pages, image.extents), (64, 4, 3));
     assert_eq!(rt; image.name, "disk.img");
     assert_eq!(rt; image.bad_pages.as_slice(), ["1:3", "x", "2:0"].as_slice());
 }
 
-/// The text with which words that are parted by blanks are refused.
+/// The text with which these arguments, separated by blanks, are refused.
 fn refusal<R: AllocGlobal + Abort>(rt: &R, words: &str) -> Result<String, Fail> {
     let split: Vec<&str> = words.split_whitespace().collect(rt.alloc())?;
     match read_words(rt.alloc(), &split) {
@@ -20,7 +20,7 @@ fn refusal<R: AllocGlobal + Abort>(rt: &R, words: &str) -> Result<String, Fail> 
     }
 }
 
-/// The help that such words ask for has all these parts.
+/// The help that these arguments ask for has all these parts.
 fn check_help<R: AllocGlobal + Abort>(rt: &R, words: &str, parts: &[&str]) -> Result<(), Fail> {
     let split: Vec<&str> = words.split_whitespace().collect(rt.alloc())?;
     match read_words(rt.alloc(), &split) {
@@ -35,7 +35,7 @@ fn check_help<R: AllocGlobal + Abort>(rt: &R, words: &str, parts: &[&str]) -> Re
 }
 
 #[test]
-fn no_words_and_the_word_demo_ask_for_the_demo(rt: HostRuntime) -> Result<(), Fail> {
+fn demo_and_no_arguments_ask_for_the_demo(rt: HostRuntime) -> Result<(), Fail> {
     assert!(rt; matches!(read_words(rt.alloc(), &[])?, Request::Demo));
     assert!(rt; matches!(read_words(rt.alloc(), &["demo"])?, Request::Demo));
     Ok(())
@@ -67,7 +67,7 @@ fn items_with_all_options(rt: HostRuntime) -> Result<(), Fail> {
 }
 
 #[test]
-fn scan_and_index_and_locators_with_their_words(rt: HostRuntime) -> Result<(), Fail> {
+fn scan_index_and_locators_with_their_arguments(rt: HostRuntime) -> Result<(), Fail> {
     let words = "scan --page 64 --pages 4 --extents 3 disk.img 1:3 x 2:0";
     let split: Vec<&str> = words.split_whitespace().collect(rt.alloc())?;
     let Request::Scan(scan) = read_words(rt.alloc(), &split)? else {
@@ -93,7 +93,7 @@ fn scan_and_index_and_locators_with_their_words(rt: HostRuntime) -> Result<(), F
 }
 
 #[test]
-fn superblocks_and_reclaimable_and_sizes_with_their_words(rt: HostRuntime) -> Result<(), Fail> {
+fn superblocks_reclaimable_and_sizes_with_their_arguments(rt: HostRuntime) -> Result<(), Fail> {
     let words = "superblocks --page 64 --map disk.map --pages 4 --extents 3 disk.img 1:3 x 2:0";
     let split: Vec<&str> = words.split_whitespace().collect(rt.alloc())?;
     let Request::Superblocks(image) = read_words(rt.alloc(), &split)? else {

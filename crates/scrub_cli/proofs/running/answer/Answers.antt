@@ -1,4 +1,4 @@
--- What a request comes to is what the words that ask for it come to.
+-- The answer or the fault of a request is that of the arguments that ask for it.
 use Rattle.std.proofs.Common.{rules, map}
 use Rattle.scrub_cli.specs.Words.{AskFor}
 use Rattle.scrub_cli.specs.declared.words.Request.TheVariants.{Items, Scan, Index, Locators, Reclaimable, Superblocks, Sizes}
@@ -8,55 +8,67 @@ use Rattle.scrub_cli.proofs.running.answer.Goals as goal
 
 pub returns-in-Items : goal.returns-in-Items
 returns-in-Items g c =
-    answered (g.I.Images.known c.args.images.now) (g.I.Images.known_map c.args.images.now) (map (λ word. word.now) c.args.words.now) (Items c.in-Items.words) c.items.result
+    answered (g.I.Images.known c.args.images.now) (g.I.Images.known_map c.args.images.now)
+    (map (λ word. word.now) c.args.words.now) (Items c.in-Items.words) c.items.result
     (rw c.in-Items.is at c.in_ok-read_words.ensures) c.items.ensures
 
 pub scan_answer-requires : goal.scan_answer-requires
 scan_answer-requires g c =
-    let asked : AskFor (map (λ word. word.now) c.args.words.now) (Scan c.in-Scan.words) = rw c.in-Scan.is at c.in_ok-read_words.ensures in
+    let asked : AskFor (map (λ word. word.now) c.args.words.now) (Scan c.in-Scan.words) =
+    rw c.in-Scan.is at c.in_ok-read_words.ensures in
     (search rules, few_workers asked.1.0 c.in-Scan.words.workers asked.1.2.workers)
 
 pub scan_answer-requires-in-Index : goal.scan_answer-requires-in-Index
 scan_answer-requires-in-Index g c =
-    let asked : AskFor (map (λ word. word.now) c.args.words.now) (Index c.in-Index.words) = rw c.in-Index.is at c.in_ok-read_words.ensures in
+    let asked : AskFor (map (λ word. word.now) c.args.words.now) (Index c.in-Index.words) =
+    rw c.in-Index.is at c.in_ok-read_words.ensures in
     (search rules, few_workers asked.1.0 c.in-Index.words.workers asked.1.2.workers)
 
 pub scan_answer-requires-in-Locators : goal.scan_answer-requires-in-Locators
 scan_answer-requires-in-Locators g c =
-    let asked : AskFor (map (λ word. word.now) c.args.words.now) (Locators c.in-Locators.words) = rw c.in-Locators.is at c.in_ok-read_words.ensures in
+    let asked : AskFor (map (λ word. word.now) c.args.words.now) (Locators c.in-Locators.words) =
+    rw c.in-Locators.is at c.in_ok-read_words.ensures in
     (search rules, few_workers asked.1.0 c.in-Locators.words.workers asked.1.2.workers)
 
 pub returns-in-Scan : goal.returns-in-Scan
 returns-in-Scan g c =
-    answered (g.I.Images.known c.args.images.now) (g.I.Images.known_map c.args.images.now) (map (λ word. word.now) c.args.words.now) (Scan c.in-Scan.words) c.scan_answer.result
+    answered (g.I.Images.known c.args.images.now) (g.I.Images.known_map c.args.images.now)
+    (map (λ word. word.now) c.args.words.now) (Scan c.in-Scan.words) c.scan_answer.result
     (rw c.in-Scan.is at c.in_ok-read_words.ensures) c.scan_answer.ensures
 
 pub returns-in-Index : goal.returns-in-Index
 returns-in-Index g c =
-    answered (g.I.Images.known c.args.images.now) (g.I.Images.known_map c.args.images.now) (map (λ word. word.now) c.args.words.now) (Index c.in-Index.words) c.scan_answer-in-Index.result
+    answered (g.I.Images.known c.args.images.now) (g.I.Images.known_map c.args.images.now)
+    (map (λ word. word.now) c.args.words.now) (Index c.in-Index.words) c.scan_answer-in-Index.result
     (rw c.in-Index.is at c.in_ok-read_words.ensures) c.scan_answer-in-Index.ensures
 
 pub returns-in-Locators : goal.returns-in-Locators
 returns-in-Locators g c =
-    answered (g.I.Images.known c.args.images.now) (g.I.Images.known_map c.args.images.now) (map (λ word. word.now) c.args.words.now) (Locators c.in-Locators.words) c.scan_answer-in-Locators.result
+    answered (g.I.Images.known c.args.images.now) (g.I.Images.known_map c.args.images.now)
+    (map (λ word. word.now) c.args.words.now) (Locators c.in-Locators.words) c.scan_answer-in-Locators.result
     (rw c.in-Locators.is at c.in_ok-read_words.ensures) c.scan_answer-in-Locators.ensures
 
 pub returns-in-Superblocks : goal.returns-in-Superblocks
 returns-in-Superblocks g c =
-    answered (g.I.Images.known c.args.images.now) (g.I.Images.known_map c.args.images.now) (map (λ word. word.now) c.args.words.now) (Superblocks c.in-Superblocks.words) c.superblocks.result
+    answered (g.I.Images.known c.args.images.now) (g.I.Images.known_map c.args.images.now)
+    (map (λ word. word.now) c.args.words.now) (Superblocks c.in-Superblocks.words) c.superblocks.result
     (rw c.in-Superblocks.is at c.in_ok-read_words.ensures) c.superblocks.ensures
 
 pub returns-in-Sizes : goal.returns-in-Sizes
 returns-in-Sizes g c =
-    answered (g.I.Images.known c.args.images.now) (g.I.Images.known_map c.args.images.now) (map (λ word. word.now) c.args.words.now) (Sizes c.in-Sizes.words) c.sizes.result
+    answered (g.I.Images.known c.args.images.now) (g.I.Images.known_map c.args.images.now)
+    (map (λ word. word.now) c.args.words.now) (Sizes c.in-Sizes.words) c.sizes.result
     (rw c.in-Sizes.is at c.in_ok-read_words.ensures) c.sizes.ensures
 
 pub scan_answer-requires-in-Reclaimable : goal.scan_answer-requires-in-Reclaimable
 scan_answer-requires-in-Reclaimable g c =
-    let asked : AskFor (map (λ word. word.now) c.args.words.now) (Reclaimable c.in-Reclaimable.words) = rw c.in-Reclaimable.is at c.in_ok-read_words.ensures in
+    let asked : AskFor (map (λ word. word.now) c.args.words.now) (Reclaimable c.in-Reclaimable.words) =
+    rw c.in-Reclaimable.is at c.in_ok-read_words.ensures in
     (search rules, few_workers asked.1.0 c.in-Reclaimable.words.scan.workers asked.1.2.scan.workers)
 
 pub returns-in-Reclaimable : goal.returns-in-Reclaimable
 returns-in-Reclaimable g c =
-    answered (g.I.Images.known c.args.images.now) (g.I.Images.known_map c.args.images.now) (map (λ word. word.now) c.args.words.now) (Reclaimable c.in-Reclaimable.words)
-    c.scan_answer-in-Reclaimable.result (rw c.in-Reclaimable.is at c.in_ok-read_words.ensures) c.scan_answer-in-Reclaimable.ensures
+    answered (g.I.Images.known c.args.images.now) (g.I.Images.known_map c.args.images.now)
+    (map (λ word. word.now) c.args.words.now) (Reclaimable c.in-Reclaimable.words)
+    c.scan_answer-in-Reclaimable.result (rw c.in-Reclaimable.is at c.in_ok-read_words.ensures)
+    c.scan_answer-in-Reclaimable.ensures

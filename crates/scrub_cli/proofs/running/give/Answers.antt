@@ -1,20 +1,19 @@
--- All of the answer was written, or the fault of the output is told.
-use Rattle.std.proofs.Common.{◌<◌, inl, inr, length, refl, subst, take}
-use Rattle.std.specs.Io.KnownBytes.{Appends}
+-- The whole answer was written, or the fault of the output is reported.
+use Rattle.std.proofs.Common.{inl, inr, refl}
 use Rattle.std.proofs.KnownBytes.{Keeps-refl}
 use Rattle.scrub_cli.proofs.running.give.Goals as goal
 
 pub returns-in-Ok : goal.returns-in-Ok
 returns-in-Ok g c = inl (record {
   status = refl;
-  whole = subst (λ l. Appends (g.O.Write.contents c.args.out.now) (g.O.Write.contents c.write_out.new.writer) l) c.deref.ensures.value c.in-Ok.ensures.whole;
+  whole = rw c.deref.ensures.value at c.in-Ok.ensures.whole;
   silent = Keeps-refl (g.E.Write.contents c.args.err.now);
 })
 
 pub returns-in-Err : goal.returns-in-Err
 returns-in-Err g c = inr (record {
   count = c.in-Err.fault.written;
-  short = subst (λ l. c.in-Err.fault.written < length l) c.deref.ensures.value c.in-Err.ensures.short;
-  part = subst (λ l. Appends (g.O.Write.contents c.args.out.now) (g.O.Write.contents c.write_out.new.writer) (take c.in-Err.fault.written l)) c.deref.ensures.value c.in-Err.ensures.part;
+  short = rw c.deref.ensures.value at c.in-Err.ensures.short;
+  part = rw c.deref.ensures.value at c.in-Err.ensures.part;
   reported = c.end.ensures;
 })

@@ -1,4 +1,4 @@
--- A name that is there is read.
+-- The name that was found is read.
 use Rattle.std.proofs.Common.{◌≡◌, ◌∙◌, None, sym, codes}
 use Rattle.clap.specs.Words.{found_of, rows_of, first_of}
 use Rattle.clap.proofs.WalkLemmas.{first_value-rows}

@@ -13,8 +13,10 @@ pub returns-in-Some : goal.returns-in-Some
 returns-in-Some c =
     let f = found_of c.args.matches.now in
     let kinds = c.unwrap_or_default-kinds in
-    let are : texts kinds.result.now ≡ kinds_of (rows_of f) = texts_or_none c.get_strs.result kinds.result _ (c.get_strs.ensures ∙ raw_values-rows f (codes "accept")) kinds.ensures in
-    let unknown : list_all is_kind (kinds_of (rows_of f)) ≡ false = ap (list_all is_kind) (sym are) ∙ (all_of_texts kinds.result.now ∙ c.in-Some.ensures) in
+    let are : texts kinds.result.now ≡ kinds_of (rows_of f) =
+    texts_or_none c.get_strs.result kinds.result _ (c.get_strs.ensures ∙ raw_values-rows f (codes "accept")) kinds.ensures in
+    let unknown : list_all is_kind (kinds_of (rows_of f)) ≡ false =
+    ap (list_all is_kind) (sym are) ∙ (all_of_texts kinds.result.now ∙ c.in-Some.ensures) in
     refusal_fault (rows_of f) c.refused_kind.result unknown c.refused_kind.ensures
 
 pub accepted-requires : goal.accepted-requires
@@ -24,5 +26,9 @@ pub returns : goal.returns
 returns c =
     let f = found_of c.args.matches.now in
     let kinds = c.unwrap_or_default-kinds in
-    let are : texts kinds.result.now ≡ kinds_of (rows_of f) = texts_or_none c.get_strs.result kinds.result _ (c.get_strs.ensures ∙ raw_values-rows f (codes "accept")) kinds.ensures in
-    record { scan = c.in_ok-scan_words.ensures; accepted = subst (λ (words : List Text). AreAccepted words c.accepted.result) are c.accepted.ensures }
+    let are : texts kinds.result.now ≡ kinds_of (rows_of f) =
+    texts_or_none c.get_strs.result kinds.result _ (c.get_strs.ensures ∙ raw_values-rows f (codes "accept")) kinds.ensures in
+    record {
+      scan = c.in_ok-scan_words.ensures;
+      accepted = subst (λ (words : List Text). AreAccepted words c.accepted.result) are c.accepted.ensures;
+    }

@@ -1,4 +1,4 @@
-//! The scan of a file of no bytes: how often it is read, and the report of a disk on which no page is readable.
+//! The scan of an empty file: how often it is read, and the report of a disk on which no page is readable.
 
 ghost use Rattle.std.specs.Prelude.{[], Some, None};
 
@@ -11,7 +11,7 @@ use std::alloc::Global;
 use std::sync::atomic::{AtomicU64, Ordering};
 use std::test::Fail;
 
-/// The raw image of no bytes. Its reads are counted where the test sees them.
+/// An empty raw image, which counts its reads for the test.
 #[derive(Drop)]
 struct NoBytes<'a> {
     raw: RawBytes<'a>,
@@ -37,7 +37,7 @@ impl RawImage for NoBytes<'_> {
     }
 }
 
-/// That image under each name, and no map.
+/// The empty image under each name, and no map.
 #[derive(Drop)]
 struct EmptyFile<'a> {
     reads: &'a AtomicU64,
@@ -63,10 +63,10 @@ impl<'a> Images for EmptyFile<'a> {
     }
 }
 
-/// Each of the 12 pages is asked for once, and what is behind them once. The report is that of a disk of zeros, except that
-/// all items are lost and all pages unreadable.
+/// Each of the 12 pages is read once, and the byte after them once. The report is that of a disk of zeros, except that all
+/// items are lost and all pages unreadable.
 #[test]
-fn a_file_of_no_bytes_is_a_disk_of_lost_pages(rt: HostRuntime) -> Result<(), Fail> {
+fn an_empty_file_is_a_disk_of_lost_pages(rt: HostRuntime) -> Result<(), Fail> {
     let alloc = rt.alloc();
     let lost = ZEROS
         .replace(alloc, "pad", "lost")?

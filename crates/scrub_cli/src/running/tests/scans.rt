@@ -1,5 +1,5 @@
-//! Whole runs of the commands on a disk and of the demo: the published reports byte for byte, the index and the named
-//! locators beside them, and what is told where a page is lost, the output fails or the words are wrong.
+//! Whole runs of the commands on a disk and of `demo`: the published reports byte for byte, the index and the listings, and
+//! what is reported if a page is lost, the output fails or the arguments are wrong.
 
 use super::{check, image, with_map};
 use crate::running::run;
@@ -17,7 +17,7 @@ use std::sync::Wait;
 use std::test::Fail;
 use std::thread::Threads;
 
-/// The words of a command on a disk with three extents of four pages of 64 bytes.
+/// The arguments of the commands on a disk with three extents of four pages of 64 bytes.
 const SCAN: &str = "scan --page 64 --pages 4 --extents 3 disk.img";
 
 const INDEX: &str = "index --page 64 --pages 4 --extents 3 disk.img";
@@ -26,7 +26,7 @@ const LOCATORS: &str = "locators --page 64 --pages 4 --extents 3 disk.img";
 
 const SUPERBLOCKS: &str = "superblocks --page 64 --pages 4 --extents 3 disk.img";
 
-/// The line of the run of the disk with one shard, and that of the shard.
+/// The locators of the disk with one shard: the line of the run and that of the shard.
 const TWO_LINES: &str =
     "run 0 2 0 117 22222222-2222-2222-2222-222222222222 sound\nshard 00000000000000000000000000000001 1 0 3 11111111-1111-1111-1111-111111111111 sound\n";
 
@@ -44,8 +44,8 @@ fn raw_bytes(alloc: Global, disk: &MemDisk) -> Result<Vec<u8>, Fail> {
     Ok(raw)
 }
 
-/// The bytes of a disk of three extents with these frames in extent 1, the payload of a run in a chunk at the start of
-/// extent 2, and the superblock of both.
+/// The bytes of a disk of three extents: these frames in extent 1, a chunk with the payload of a run at the start of extent
+/// 2, and a superblock with these write pointers, which names the run.
 fn disk_with_run(
     alloc: Global,
     frames: &[(u32, [u8; 16], &[u8])],
@@ -68,7 +68,7 @@ fn one_shard(alloc: Global) -> Result<(Vec<u8>, Vec<u8>), Fail> {
     Ok((disk, payload))
 }
 
-/// The payload of the run of two shards that both name the chunk at 41 of extent 1.
+/// The payload of a run of two shards, which both name the chunk at byte 41 of extent 1.
 fn run_of_two(alloc: Global) -> Result<Vec<u8>, Fail> {
     let mut run = Vec::from_slice(alloc, b"RUN1")?;
     run.extend_from_slice(&[0, 0, 0, 2])?;
@@ -114,9 +114,8 @@ fn a_disk_with_one_shard_is_clean(rt: HostRuntime) -> Result<(), Fail> {
     check_index(&rt, rt.alloc(), &disk, (0, &payload))
 }
 
-/// However many workers scan the disk, the report is the same.
 #[test]
-fn the_number_of_workers_is_of_no_account(rt: HostRuntime) -> Result<(), Fail> {
+fn the_number_of_workers_does_not_matter(rt: HostRuntime) -> Result<(), Fail> {
     let (disk, _) = one_shard(rt.alloc())?;
     for words in [
         "scan --workers 0 --page 64 --pages 4 --extents 3 disk.img",
@@ -142,7 +141,7 @@ fn the_locators_of_a_disk_with_one_shard(rt: HostRuntime) -> Result<(), Fail> {
     Ok(())
 }
 
-/// A locator that dangles is listed with its reason. What only a lost run tells isn't.
+/// A locator that dangles is listed with its reason. What only a lost run had isn't listed.
 #[test]
 fn the_locators_of_a_disk_with_an_unreadable_page(rt: HostRuntime) -> Result<(), Fail> {
     let (disk, _) = one_shard(rt.alloc())?;
@@ -188,9 +187,9 @@ fn the_superblocks_and_the_sizes_of_a_disk_with_one_shard(rt: HostRuntime) -> Re
     check(&rt, rt.alloc(), words, with_map(&disk, map), (1, lines, ""))
 }
 
-/// Nothing may be gained, and a lost page is a doubt that can't be accepted.
+/// There is nothing to reclaim. A lost page of extent 0 is a doubt that can't be accepted.
 #[test]
-fn what_may_be_reclaimed_of_a_disk_with_one_shard(rt: HostRuntime) -> Result<(), Fail> {
+fn what_may_be_reclaimed_on_a_disk_with_one_shard(rt: HostRuntime) -> Result<(), Fail> {
     let (disk, _) = one_shard(rt.alloc())?;
     for (words, status, lines) in [
         ("", 0, ""),
@@ -219,7 +218,7 @@ fn a_disk_of_zeros_has_findings(rt: HostRuntime) -> Result<(), Fail> {
 
 /// The index keeps the shard whose chunk is hidden.
 #[test]
-fn a_chunk_that_was_stepped_past_is_hidden(rt: HostRuntime) -> Result<(), Fail> {
+fn a_chunk_at_which_no_item_begins_is_hidden(rt: HostRuntime) -> Result<(), Fail> {
     let payload = run_of(rt.alloc(), SHARD, &[abc_at(1, 64)])?;
     let frames = [
         (0, ENDS_IN_MAGIC, [0x78; 28].as_slice()),
@@ -245,7 +244,7 @@ fn twins_and_a_shared_place_are_reported(rt: HostRuntime) -> Result<(), Fail> {
     check_index(&rt, rt.alloc(), &disk, (1, &payload))
 }
 
-/// The output takes so many bytes of the report of the demo, and fails or takes none.
+/// The output takes this many bytes of the demo's report, and then fails or takes no more.
 fn check_narrow(
     rt: &(impl Abort + Threads + Wait + Sync),
     alloc: Global,
@@ -262,7 +261,9 @@ fn check_narrow(
 }
 
 #[test]
-fn an_output_that_fails_is_reported_with_the_bytes_that_it_took(rt: HostRuntime) -> Result<(), Fail> {
+fn an_output_that_fails_is_reported_with_the_bytes_that_it_took(
+    rt: HostRuntime,
+) -> Result<(), Fail> {
     for room in 0..ONE_SHARD.len() {
         check_narrow(&rt, rt.alloc(), room, true)?;
         check_narrow(&rt, rt.alloc(), room, false)?;
@@ -271,7 +272,7 @@ fn an_output_that_fails_is_reported_with_the_bytes_that_it_took(rt: HostRuntime)
 }
 
 #[test]
-fn an_output_with_room_for_the_last_byte_is_whole(rt: HostRuntime) -> Result<(), Fail> {
+fn an_output_with_just_enough_room_gets_the_whole_answer(rt: HostRuntime) -> Result<(), Fail> {
     let mut out = NarrowWriter::new(rt.alloc(), ONE_SHARD.len(), true);
     let mut err = Vec::new(rt.alloc());
     let status = run(&rt, rt.alloc(), &[], &mut image(&[]), &mut out, &mut err);
@@ -280,9 +281,9 @@ fn an_output_with_room_for_the_last_byte_is_whole(rt: HostRuntime) -> Result<(),
     Ok(())
 }
 
-/// Each line of words has all the faults that the lines below it have.
+/// Each case also has the faults of all cases below it.
 #[test]
-fn of_several_faults_the_first_is_reported(rt: HostRuntime) -> Result<(), Fail> {
+fn the_first_of_several_faults_is_reported(rt: HostRuntime) -> Result<(), Fail> {
     for (words, status, expected) in [
         (
             "scan --page 60 --pages 4 --extents 3 other.img 1:x 3:0",
@@ -310,7 +311,13 @@ fn of_several_faults_the_first_is_reported(rt: HostRuntime) -> Result<(), Fail> 
             "shardscrub: image too long\n",
         ),
     ] {
-        check(&rt, rt.alloc(), words, image(&[0; 769]), (status, "", expected))?;
+        check(
+            &rt,
+            rt.alloc(),
+            words,
+            image(&[0; 769]),
+            (status, "", expected),
+        )?;
     }
     Ok(())
 }

@@ -1,4 +1,4 @@
--- No more reads failed than may.
+-- No more reads failed than may fail.
 use Rattle.std.proofs.Common.{arith, ◌-◌}
 use Rattle.scrub_cli.proofs.commands.answer.sizes_listing.Goals as goal
 

@@ -5,4 +5,6 @@ use Rattle.scrub_cli.proofs.commands.demo.demo.Goals as goal
 
 pub returns-clause-answer : goal.returns-clause-answer
 returns-clause-answer g c =
-    IfOk-weaker c.disk_answer.result _ _ (λ r answer. record { image = image_of c.in_ok-disk.disk; disk = c.in_ok-disk.ensures; answer = answer }) c.disk_answer.ensures.answer
+    IfOk-weaker c.disk_answer.result _ _
+    (λ r answer. record { image = image_of c.in_ok-disk.disk; disk = c.in_ok-disk.ensures; answer = answer })
+    c.disk_answer.ensures.answer

@@ -5,5 +5,7 @@ use Rattle.scrub_cli.proofs.commands.demo.record_of.Goals as goal
 
 pub returns-clause-size : goal.returns-clause-size
 returns-clause-size c =
-    record_size c.args.geometry _ _ _ c.new-superblock.result c.write_record.new.out.items c.new-bytes.result.items c.new-superblock.ensures c.in_ok-write_record.ensures.ok c.new-bytes.ensures.items
-    (ap length c.in_ok-pointers.ensures.items) (ap length c.in_ok-from_slice.ensures.items) (c.in_ok-write_record.ensures.read_again []).contents
+    record_size c.args.geometry _ _ _ c.new-superblock.result c.write_record.new.out.items c.new-bytes.result.items
+    c.new-superblock.ensures c.in_ok-write_record.ensures.ok c.new-bytes.ensures.items
+    (ap length c.in_ok-pointers.ensures.items) (ap length c.in_ok-from_slice.ensures.items)
+    (c.in_ok-write_record.ensures.read_again []).contents

@@ -1,39 +1,44 @@
 -- Each way out of `load_disk`, in the order of the code.
-use Rattle.std.proofs.Common.{◌-◌, ◌∙◌, ap, refl, subst, Err, List}
+use Rattle.std.proofs.Common.{◌-◌, ◌∙◌, ap, refl, Err, List}
 use Rattle.std.proofs.lemmas.Result.{err_from_is_err_and}
 use Rattle.scrub_disk.specs.Memory.{image_of}
-use Rattle.scrub_disk.specs.Raw.{IsLoadedWith}
-use Rattle.scrub_cli.specs.DiskImage.{AreReadBefore, IsBadPageFault, NamePages}
+use Rattle.scrub_cli.specs.DiskImage.{AreReadBefore}
 use Rattle.scrub_cli.specs.Known.{KnownRaw}
 use Rattle.scrub_cli.proofs.DiskAnswers.{bad_page_fault, load_fault, loaded_as_known, map_fault}
 use Rattle.scrub_cli.proofs.NamedPages.{named_in_range}
 use Rattle.scrub_cli.proofs.commands.disk_image.load_disk.Goals as goal
 
--- a word names no page
+-- an argument names no page
 pub returns-in_err-bad : goal.returns-in_err-bad
 returns-in_err-bad g c =
     let words = c.args.words.now in
     let disk = c.args.geometry in
     let p = err_from_is_err_and c.from_residual.result c.from_residual.ensures.1 in
     let fault = c.in_err-bad.field-0.0 in
-    rw (p.1, p.2) (bad_page_fault (g.I.Images.known c.args.images.now words.name.now) (g.I.Images.known_map c.args.images.now) words disk fault
-    (subst (λ l. IsBadPageFault disk l fault) c.deref.ensures.value c.in_err-bad.ensures))
+    rw (p.1, p.2)
+    (bad_page_fault (g.I.Images.known c.args.images.now words.name.now) (g.I.Images.known_map c.args.images.now)
+    words disk fault
+    (rw c.deref.ensures.value at c.in_err-bad.ensures))
 
 -- the map wasn't read
 pub returns-in_err-map : goal.returns-in_err-map
 returns-in_err-map g c =
     let words = c.args.words.now in
     let disk = c.args.geometry in
-    let named = subst (λ l. NamePages disk l c.in_ok-bad.bad.items) c.deref.ensures.value c.in_ok-bad.ensures in
+    let named = rw c.deref.ensures.value at c.in_ok-bad.ensures in
     let p = err_from_is_err_and c.from_residual-in_err-map.result c.from_residual-in_err-map.ensures.1 in
-    rw (p.1, p.2) (map_fault (g.I.Images.known c.args.images.now words.name.now) (g.I.Images.known_map c.args.images.now) words disk c.in_ok-bad.bad.items
+    rw (p.1, p.2)
+    (map_fault (g.I.Images.known c.args.images.now words.name.now) (g.I.Images.known_map c.args.images.now) words disk
+    c.in_ok-bad.bad.items
     c.in_err-map.field-0.0 named c.in_err-map.ensures.map)
 
 -- there is no image of this name
 pub returns-in_default : goal.returns-in_default
 returns-in_default g c =
-    let named = subst (λ l. NamePages c.args.geometry l c.in_ok-bad.bad.items) c.deref.ensures.value c.in_ok-bad.ensures in
-    (record { pages = c.in_ok-bad.bad.items; named = named; blocks = c.in_ok-map.ensures.map.blocks; mapped = c.in_ok-map.ensures.map.are }, refl)
+    let named = rw c.deref.ensures.value at c.in_ok-bad.ensures in (
+      record { pages = c.in_ok-bad.bad.items; named = named; blocks = c.in_ok-map.ensures.map.blocks; mapped = c.in_ok-map.ensures.map.are },
+      refl,
+    )
 
 pub load-requires-clause-in_range : goal.load-requires-clause-in_range
 load-requires-clause-in_range g c =
@@ -44,13 +49,15 @@ pub returns-in_err-disk : goal.returns-in_err-disk
 returns-in_err-disk g c =
     let words = c.args.words.now in
     let disk = c.args.geometry in
-    let named = subst (λ l. NamePages disk l c.in_ok-bad.bad.items) c.deref.ensures.value c.in_ok-bad.ensures in
+    let named = rw c.deref.ensures.value at c.in_ok-bad.ensures in
     let before : AreReadBefore (g.I.Images.known_map c.args.images.now) words disk =
     record { pages = c.in_ok-bad.bad.items; named = named; blocks = c.in_ok-map.ensures.map.blocks; mapped = c.in_ok-map.ensures.map.are } in
     let p = err_from_is_err_and c.from_residual-in_err-disk.result c.from_residual-in_err-disk.ensures.1 in
     let fault = c.in_err-disk.field-0.0 in
     let same = ap (λ (k : List _ → KnownRaw). (k words.name.now).bytes) c.rescue_map.ensures.same_images in
-    rw (p.1, p.2) (load_fault (g.I.Images.known c.args.images.now words.name.now) (g.I.Images.known_map c.args.images.now) _ words disk fault before
+    rw (p.1, p.2)
+    (load_fault (g.I.Images.known c.args.images.now words.name.now) (g.I.Images.known_map c.args.images.now) _ words disk
+    fault before
     (c.in-Some.ensures.known ∙ same) (λ e. c.in_err-disk.ensures.too_long (ap Err e)))
 
 pub returns : goal.returns
@@ -58,12 +65,11 @@ returns g c =
     let words = c.args.words.now in
     let disk = c.args.geometry in
     let pages = c.in_ok-bad.bad.items in
-    let named = subst (λ l. NamePages disk l pages) c.deref.ensures.value c.in_ok-bad.ensures in
+    let named = rw c.deref.ensures.value at c.in_ok-bad.ensures in
     let image = image_of c.in_ok-disk.disk in
     let known = g.I.Images.known c.args.images.now words.name.now in
     let raw = c.load.new.raw in
-    let loaded = subst (λ l. IsLoadedWith (g.I.Image.RawImage.bytes c.in-Some.raw) (g.I.Image.RawImage.failures raw - g.I.Image.RawImage.failures c.in-Some.raw) disk l image)
-    c.deref-2.ensures.value c.in_ok-disk.ensures.loaded in
+    let loaded = rw c.deref-2.ensures.value at c.in_ok-disk.ensures.loaded in
     let image_bytes = ap (λ (k : List _ → KnownRaw). (k words.name.now).bytes) c.rescue_map.ensures.same_images in
     let bound = ap (λ (k : List _ → KnownRaw). (k words.name.now).most_failures) c.rescue_map.ensures.same_images in
     let as_known = loaded_as_known known _ disk pages image _ _ _ _ (c.in-Some.ensures.known ∙ image_bytes) (c.in-Some.ensures.bounded ∙ bound) c.in_ok-disk.ensures.same_bound

@@ -1,4 +1,4 @@
--- So far each page that is marked is unreadable.
+-- So far each marked page is unreadable.
 use Rattle.scrub_disk.specs.Memory.{image_of}
 use Rattle.scrub_cli.specs.Rescue.{LosesMarked}
 use Rattle.scrub_cli.proofs.commands.rescue.mark_pages.Given as goal

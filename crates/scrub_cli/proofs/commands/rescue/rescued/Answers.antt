@@ -1,4 +1,4 @@
--- The map that is there costs what it lacks, and where none is there nothing is lost.
+-- With a map the pages that it lacks are lost, and without one none is.
 use Rattle.std.proofs.lemmas.Result.{IfOk-weaker}
 use Rattle.scrub_disk.specs.Memory.{image_of}
 use Rattle.scrub_cli.proofs.Rescues.{loses_by_map, some_blocks}
@@ -9,4 +9,7 @@ without_lost-requires c = let kept = rw c.in-Some.is at c.requires in some_block
 
 pub returns-in-Some : goal.returns-in-Some
 returns-in-Some c =
-    rw c.in-Some.is (IfOk-weaker c.without_lost.result _ _ (λ r loses blocks keeps. loses_by_map c.in-Some.map (image_of c.args.disk) (image_of r) loses blocks keeps) c.without_lost.ensures)
+    rw c.in-Some.is
+    (IfOk-weaker c.without_lost.result _ _
+    (λ r loses blocks keeps. loses_by_map c.in-Some.map (image_of c.args.disk) (image_of r) loses blocks keeps)
+    c.without_lost.ensures)

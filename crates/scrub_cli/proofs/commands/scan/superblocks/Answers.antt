@@ -1,6 +1,10 @@
--- The disk that was loaded is told of.
+-- The lines are those of the disk that was loaded.
 use Rattle.scrub_disk.specs.Memory.{image_of}
 use Rattle.scrub_cli.proofs.commands.scan.superblocks.Goals as goal
 
 pub returns : goal.returns
-returns g c = record { image = image_of c.in_ok-disk.disk; disk = c.in_ok-disk.ensures; answered = c.in_ok-superblock_listing.ensures }
+returns g c = record {
+  image = image_of c.in_ok-disk.disk;
+  disk = c.in_ok-disk.ensures;
+  answered = c.in_ok-superblock_listing.ensures;
+}

@@ -1,4 +1,4 @@
--- The map wasn't read, there is no image of this name, or what it has of records is told.
+-- The map wasn't read, there is no image of this name, or the records of the image are listed.
 use Rattle.std.proofs.Common.{◌∙◌, ap, refl, subst, List, ℕ}
 use Rattle.std.proofs.lemmas.Result.{err_from_is_err_and}
 use Rattle.scrub_cli.specs.Known.{KnownRaw}
@@ -9,7 +9,8 @@ use Rattle.scrub_cli.proofs.commands.sizes.sizes.Goals as goal
 pub returns-in_err-map : goal.returns-in_err-map
 returns-in_err-map g c =
     let p = err_from_is_err_and c.from_residual.result c.from_residual.ensures.1 in
-    rw (p.1, p.2) (map_fault_of_sizes (g.I.Images.known_map c.args.images.now) c.args.words.now c.in_err-map.field-0.0 c.in_err-map.ensures.map)
+    rw (p.1, p.2)
+    (map_fault_of_sizes (g.I.Images.known_map c.args.images.now) c.args.words.now c.in_err-map.field-0.0 c.in_err-map.ensures.map)
 
 pub returns-in_default : goal.returns-in_default
 returns-in_default g c = (c.in_ok-map.ensures.map.blocks, c.in_ok-map.ensures.map.are, refl)
@@ -25,7 +26,11 @@ returns g c =
       mapped = map.are;
       marks = c.in_ok-marked.marked.items;
       marked = c.in_ok-marked.ensures map.blocks map.keeps;
-      listed = subst (λ marks. AreSizesListed known marks c.in_ok-sizes_listing.field-0.text.items c.in_ok-sizes_listing.field-0.status) c.deref.ensures.value
-          (listed_as_known known _ _ _ _ _ (c.in-Some.ensures.known ∙ ap (λ k. k.bytes) same) (c.in-Some.ensures.bounded ∙ ap (λ k. k.most_failures) same)
+      listed =
+          subst
+          (λ marks. AreSizesListed known marks c.in_ok-sizes_listing.field-0.text.items c.in_ok-sizes_listing.field-0.status)
+          c.deref.ensures.value
+          (listed_as_known known _ _ _ _ _ (c.in-Some.ensures.known ∙ ap (λ k. k.bytes) same)
+          (c.in-Some.ensures.bounded ∙ ap (λ k. k.most_failures) same)
           c.in_ok-sizes_listing.ensures);
     }

@@ -12,7 +12,8 @@ returns-then-number-lt10-clause-front g t c = rw (decimal_digit c.args.number c.
 
 pub returns-in_err-write_decimal-clause-front : goal.returns-in_err-write_decimal-clause-front
 returns-in_err-write_decimal-clause-front g t c =
-    rw (decimal_step c.args.number (omega (arith, c.if-number-lt10.false)) c.ranges.number.fits) (front_stays _ _ _ _ c.write_decimal.ensures.front)
+    rw (decimal_step c.args.number (omega (arith, c.if-number-lt10.false)) c.ranges.number.fits)
+    (front_stays _ _ _ _ c.write_decimal.ensures.front)
 
 pub returns-clause-whole : goal.returns-clause-whole
 returns-clause-whole g t c =

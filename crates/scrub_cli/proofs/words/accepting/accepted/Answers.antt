@@ -1,4 +1,4 @@
--- Each kind is looked for among the texts of the words.
+-- Each kind is looked for among the texts.
 use Rattle.std.proofs.Common.{◌∙◌, codes}
 use Rattle.scrub_cli.proofs.AcceptedKinds.{all_of_texts, any_of_texts}
 use Rattle.scrub_cli.proofs.words.accepting.accepted.Goals as goal

@@ -15,11 +15,24 @@ returns c =
     let sizes = c.in_ok-sizes_command.ensures in
     let items = c.in_ok-items_command.ensures in
     let demo = c.demo_command.ensures in
-    let one = c.in_ok-subcommand.ensures.shape (no_globals _ _ _ _ (ap (λ s. s.is_plain) scan)) ∙ ap₂ with_subcommand c.in_ok-bare_program.ensures scan in
-    let two = c.in_ok-subcommand-2.ensures.shape (no_globals _ _ _ _ (ap (λ s. s.is_plain) index)) ∙ ap₂ with_subcommand one index in
-    let three = c.in_ok-subcommand-3.ensures.shape (no_globals _ _ _ _ (ap (λ s. s.is_plain) locators)) ∙ ap₂ with_subcommand two locators in
-    let four = c.in_ok-subcommand-4.ensures.shape (no_globals _ _ _ _ (ap (λ s. s.is_plain) reclaimable)) ∙ ap₂ with_subcommand three reclaimable in
-    let five = c.in_ok-subcommand-5.ensures.shape (no_globals _ _ _ _ (ap (λ s. s.is_plain) superblocks)) ∙ ap₂ with_subcommand four superblocks in
-    let six = c.in_ok-subcommand-6.ensures.shape (no_globals _ _ _ _ (ap (λ s. s.is_plain) sizes)) ∙ ap₂ with_subcommand five sizes in
-    let seven = c.in_ok-subcommand-7.ensures.shape (no_globals _ _ _ _ (ap (λ s. s.is_plain) items)) ∙ ap₂ with_subcommand six items in
-    IfOk-weaker c.subcommand-8.result _ _ (λ r added. added.shape (no_globals _ _ _ _ (ap (λ s. s.is_plain) demo)) ∙ ap₂ with_subcommand seven demo) c.subcommand-8.ensures
+    let one =
+    c.in_ok-subcommand.ensures.shape (no_globals _ _ _ _ (ap (λ s. s.is_plain) scan))
+    ∙ ap₂ with_subcommand c.in_ok-bare_program.ensures scan in
+    let two =
+    c.in_ok-subcommand-2.ensures.shape (no_globals _ _ _ _ (ap (λ s. s.is_plain) index)) ∙ ap₂ with_subcommand one index in
+    let three =
+    c.in_ok-subcommand-3.ensures.shape (no_globals _ _ _ _ (ap (λ s. s.is_plain) locators))
+    ∙ ap₂ with_subcommand two locators in
+    let four =
+    c.in_ok-subcommand-4.ensures.shape (no_globals _ _ _ _ (ap (λ s. s.is_plain) reclaimable))
+    ∙ ap₂ with_subcommand three reclaimable in
+    let five =
+    c.in_ok-subcommand-5.ensures.shape (no_globals _ _ _ _ (ap (λ s. s.is_plain) superblocks))
+    ∙ ap₂ with_subcommand four superblocks in
+    let six =
+    c.in_ok-subcommand-6.ensures.shape (no_globals _ _ _ _ (ap (λ s. s.is_plain) sizes)) ∙ ap₂ with_subcommand five sizes in
+    let seven =
+    c.in_ok-subcommand-7.ensures.shape (no_globals _ _ _ _ (ap (λ s. s.is_plain) items)) ∙ ap₂ with_subcommand six items in
+    IfOk-weaker c.subcommand-8.result _ _
+    (λ r added. added.shape (no_globals _ _ _ _ (ap (λ s. s.is_plain) demo)) ∙ ap₂ with_subcommand seven demo)
+    c.subcommand-8.ensures

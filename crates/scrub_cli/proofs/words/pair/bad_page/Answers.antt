@@ -1,4 +1,4 @@
--- A pair has a colon, with a number on both sides of the first one.
+-- A pair has a colon, and a number on both sides of the first one.
 use Rattle.std.proofs.Common.{None, Some, sym, ◌∙◌}
 use Rattle.scrub_cli.proofs.Pairs.{pair_parts}
 use Rattle.scrub_cli.proofs.words.pair.bad_page.Goals as goal
@@ -7,9 +7,12 @@ use Rattle.scrub_cli.proofs.words.pair.bad_page.Goals as goal
 pub returns-in_err-extent : goal.returns-in_err-extent
 returns-in_err-extent c =
     let word = c.args.word.now in
-    rw c.from_residual.ensures (record { pair = λ m n _ _ is_pair. pair_parts word None m n c.in_err-extent.ensures.cases is_pair; only = tt })
+    rw c.from_residual.ensures (record {
+      pair = λ m n _ _ is_pair. pair_parts word None m n c.in_err-extent.ensures.cases is_pair;
+      only = tt;
+    })
 
--- what stands before the first colon is no number
+-- before the first colon there is no number
 pub returns-in_err-decimal : goal.returns-in_err-decimal
 returns-in_err-decimal c =
     let word = c.args.word.now in
@@ -20,7 +23,7 @@ returns-in_err-decimal c =
       only = tt;
     })
 
--- what stands behind it is none
+-- after it there is none
 pub returns-in_err-decimal-2 : goal.returns-in_err-decimal-2
 returns-in_err-decimal-2 c =
     let word = c.args.word.now in
@@ -31,7 +34,7 @@ returns-in_err-decimal-2 c =
       only = tt;
     })
 
--- numbers that stand around the first colon are those that were read
+-- the numbers around the first colon are those that were read
 pub returns-clause-only : goal.returns-clause-only
 returns-clause-only c extent page is_pair =
     let parts = Some (c.in_ok-extent.extent, c.in_ok-extent.page) in
