@@ -1,4 +1,4 @@
--- Shards of which a locator dangles, found among the owners of the dangling ones.
+-- Shards with a dangling locator, found among the owners of the dangling ones.
 use Rattle.std.proofs.Common.{◌≡◌, ◌&&◌, ◌||◌, Bool, true, false, None, List, [], ◌∷◌, get_or, suc, arith, refl, sym, ◌∙◌, ap, subst, if◌then◌else◌}
 use Rattle.std.specs.Ordering.{eq_by_cmp}
 use Rattle.std.specs.Str.{bytes_eq}
@@ -29,7 +29,7 @@ sorted_by_id (id ∷ ids) rising = (
   sorted_by_id ids (λ i j d lt within. rising (suc i) (suc j) d (omega (arith, lt)) (omega (arith, within))),
 )
 
--- identifiers are equal exactly where their order doesn't tell them apart
+-- identifiers are equal exactly if their order makes them equal
 pub id_ties : (a b : ShardId) → bytes_eq a.0 b.0 ≡ eq_by_cmp id_cmp a b
 id_ties a b = sym (is_eq-slice_cmp a.0 b.0)
 
@@ -51,7 +51,7 @@ one_owner id false (Shard other) rest = by (bytes_eq other.0 id.0)
     by false = refl
 one_owner id false (Run k) rest = refl
 
--- a shard is broken exactly where it is among the owners of dangling locators
+-- a shard is broken exactly if it is among the owners of dangling locators
 broken_is : (checked : List Checked) (id : ShardId) → list_any (is_id id) (filter_map broken_owner checked) ≡ is_broken checked id
 broken_is [] id = refl
 broken_is (c ∷ cs) id = one_owner id (is_dangling c.status) c.owner (filter_map broken_owner cs) ∙ ap (λ b. (is_owned_by id c.owner && is_dangling c.status) || b) (broken_is cs id)

@@ -10,7 +10,7 @@ use Rattle.scrub_check.specs.declared.sources.named.Named.{Named}
 use Rattle.scrub_check.specs.declared.statuses.checked.Checked.{Checked}
 use Rattle.scrub_check.specs.Status.{HasStatusIn}
 use Rattle.scrub_check.specs.declared.statuses.status.Status.{Status}
-use Rattle.scrub_check.specs.Looks.{IsOpen}
+use Rattle.scrub_check.specs.Asked.{IsOpen}
 use Rattle.scrub_check.specs.Checked.{IsChecked, AreChecked, IsKnownBefore}
 use Rattle.scrub_check.specs.Runs.{ReadRunsValue, HasRunStateIn, AreReadRuns, AreRunStates}
 
@@ -34,19 +34,19 @@ zipped_at R (x ∷ xs) (y ∷ ys) (suc i) d e below h = zipped_at R xs ys i d e 
 pub states_read : (image : Image) (plan : PlanValue) (r : ReadRunsValue) → AreReadRuns image plan r → AreRunStates image plan r.states
 states_read image plan r read k l s below under = zipped_at (HasRunStateIn image plan) plan.runs r.states k l s below read.states
 
--- what is told of one
+-- what is known of one
 pub known_at : (image : Image) (plan : PlanValue) (names : List Named) (tells : List (Option Status)) (i : ℕ) (n : Named) (t : Option Status) → i < length names → n ≡ get_or names i n → t ≡ get_or tells i t →
     AllZip (IsKnownBefore image plan) names tells → IsKnownBefore image plan n t
 known_at image plan names tells i n t below name_is tell_is known =
     subst (λ (m : Named). IsKnownBefore image plan m t) (sym name_is)
     (subst (λ (u : Option Status). IsKnownBefore image plan (get_or names i n) u) (sym tell_is) (zipped_at (IsKnownBefore image plan) names tells i n t below known))
 
--- nothing is told of it
+-- nothing is known of it
 left_open : (image : Image) (plan : PlanValue) (n : Named) (t : Option Status) → is_some t ≡ false → IsKnownBefore image plan n t → IsOpen image plan n.locator
 left_open image plan n None none known = known
 left_open image plan n (Some s) none known = absurd (let z : ⊥ = cc in z)
 
--- one more of which nothing is told
+-- one more of which nothing is known
 pub left_more : (names : List Named) (tells : List (Option Status)) (i : ℕ) (n : Named) (t : Option Status) (ls more : List Locator) → i < length names → n ≡ get_or names i n → t ≡ get_or tells i t → is_some t ≡ false →
     more ≡ ls ++ n.locator ∷ [] → ((image : Image) (plan : PlanValue) → AllZip (IsKnownBefore image plan) names tells → All (IsOpen image plan) ls) →
     (image : Image) (plan : PlanValue) → AllZip (IsKnownBefore image plan) names tells → All (IsOpen image plan) more

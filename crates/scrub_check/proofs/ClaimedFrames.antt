@@ -1,4 +1,4 @@
--- What a frame that is claimed at a locator's place tells of the locator.
+-- What a frame that is claimed at a locator's place says of the locator.
 use Rattle.std.proofs.Common.{◌≡◌, ◌+◌, ℕ, List, Option, Some, None, IfSome, IfNone, MatchOption, arith, sym, ◌∙◌, ap, subst}
 use Rattle.std.proofs.lemmas.Option.{same_Some}
 use Rattle.scrub_disk.specs.Image.{Image}
@@ -15,11 +15,11 @@ use Rattle.scrub_check.specs.declared.lists.sound_starts.Start.{Start}
 use Rattle.scrub_check.specs.declared.statuses.status.Status.{Status}
 use Rattle.scrub_check.specs.declared.statuses.status.Status.TheVariants.{OutOfRange, Retired, PastPointer, Unreadable, NoFrame, WrongUuid, WrongLength, WrongDigest, Hidden, Sound}
 use Rattle.scrub_check.specs.Judged.{IsOther, IsStatusByClaim}
-use Rattle.scrub_check.specs.Looks.{start_named_by, IsOpen, IsReadableClaim, IsClaimSeen, AreReadableClaims}
+use Rattle.scrub_check.specs.Asked.{start_named_by, IsOpen, IsReadableClaim, IsClaimSeen, AreReadableClaims}
 use Rattle.scrub_check.specs.Status.{CanStand, FindsFrame, HasStatus, HasStatusIn}
 use Rattle.scrub_check.proofs.Judged.{status_under}
 
--- another plain frame stands there
+-- another plain frame is there
 other_frame : (image : Image) (w : ℕ) (l : Locator) (h : Head) (s : Status) → CanStand image w l → HasPlainFrame (extent_of image l.extent w) l.offset h → IsOther l h.uuid h.length s → HasStatus image w l s
 other_frame image w l h WrongUuid can f other = (h.uuid, (f.payload, record { can = can; form = Plain; frame = f.frame }, other))
 other_frame image w l h WrongLength can f other =
@@ -40,7 +40,7 @@ by_claim image w l (Some h) known s can claim by is =
     let other = subst (λ (t : Option Status). MatchOption t (h.form ≡ Plain → (h.uuid ≡ l.uuid) × (h.length ≡ l.length)) (λ status. (h.form ≡ Plain) × IsOther l h.uuid h.length status)) is by in
     other_frame image w l h s can (plain_frame (extent_of image l.extent w) l.offset h claim.claimed other.0 claim.readable) other.1
 
--- so what is told by what is claimed is the status
+-- so the status by the claim is the status
 pub judged_by_claim : (image : Image) (plan : PlanValue) (l : Locator) (found : Option Head) (known : Option Status) (s : Status) → IsOpen image plan l → IsClaimSeen image plan (start_named_by l) found →
     IsStatusByClaim l found known → known ≡ Some s → HasStatusIn image plan l s
 judged_by_claim image plan l found known s left seen by is =

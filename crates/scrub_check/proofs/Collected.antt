@@ -1,6 +1,6 @@
--- What many threads collect, where each piece is there.
-use Rattle.std.proofs.Common.{◌≡◌, List, [], ◌∷◌, map, Option, Some, None, IfSome, Result, Ok, Err, IfOk, MatchResult, sym, subst, All}
-use Rattle.std.specs.List.{AllZip, Contains, filter_map}
+-- What many threads collect, if each piece is there.
+use Rattle.std.proofs.Common.{◌≡◌, List, [], ◌∷◌, map, Result, Ok, Err, IfOk, MatchResult, sym, subst, All}
+use Rattle.std.specs.List.{AllZip, Contains}
 use Rattle.std.proofs.lemmas.List.Elements.{All-nil, All-cons}
 
 zipped : (X T E : Type 0) (R : X → T → Type 0) (xs : List X) (ys : List T) → AllZip (λ (x : X) (r : Result T E). IfOk r (R x)) xs (map Ok ys) → AllZip R xs ys
@@ -22,11 +22,3 @@ all_zipped P [] [] h = All-nil P
 all_zipped P [] (y ∷ ys) h = absurd h
 all_zipped P (x ∷ xs) [] h = absurd h
 all_zipped P (x ∷ xs) (y ∷ ys) h = All-cons P y ys h.0 (all_zipped P xs ys h.1)
-
--- and of each one that is there
-pub all_there : {X T : Type 0} (P : T → Type 0) (xs : List X) (os : List (Option T)) → AllZip (λ x o. IfSome o P) xs os → All P (filter_map (λ o. o) os)
-all_there P [] [] h = All-nil P
-all_there P [] (o ∷ os) h = absurd h
-all_there P (x ∷ xs) [] h = absurd h
-all_there P (x ∷ xs) (None ∷ os) h = all_there P xs os h.1
-all_there P (x ∷ xs) (Some y ∷ os) h = All-cons P y (filter_map (λ o. o) os) h.0 (all_there P xs os h.1)

@@ -1,4 +1,4 @@
--- How many elements pass a test, and how often one stands in a sorted list.
+-- How many elements pass a test, and how often one occurs in a sorted list.
 use Rattle.std.proofs.Common.{◌≡◌, ◌<◌, ◌≤◌, ◌+◌, ◌-◌, ℕ, zero, suc, Bool, true, false, cond, List, [], ◌∷◌, length, get_or, map, arith, refl, sym, ◌∙◌, ap, inl, inr, nat_lt, Ordering, Less, Equal, Greater, is_eq, is_lt, is_le, ◌||◌}
 use Rattle.std.specs.Ordering.{ordering_index}
 use Rattle.std.specs.Cmp.{IsTotalOrder}
@@ -44,7 +44,7 @@ any_one : {X : Type 0} (p : X → Bool) (x : X) (xs : List X) (b : Bool) → p x
 any_one p x xs true e rest = ap (λ b. b || list_any p xs) e ∙ sym (ap (λ n. nat_lt 0 n) (count_in p x xs e) ∙ lt-ltb 0 (1 + count_by p xs) (omega arith))
 any_one p x xs false e rest = ap (λ b. b || list_any p xs) e ∙ rest ∙ sym (ap (λ n. nat_lt 0 n) (count_out p x xs e))
 
--- an element passes exactly where more than none do
+-- an element passes exactly if more than none do
 pub any_counts : {X : Type 0} (p : X → Bool) (xs : List X) → list_any p xs ≡ nat_lt 0 (count_by p xs)
 any_counts p [] = refl
 any_counts p (x ∷ xs) = any_one p x xs (p x) refl (any_counts p xs)
@@ -116,7 +116,7 @@ below_through R xs x below through lows highs inside = elim (cases_lt through be
   | inr more ↦ more
 ]
 
--- what lies between is how often the element stands there
+-- what lies between is how often the element occurs
 pub counted_between : {X : Type 0} (R : X → X → Ordering) (xs : List X) (x : X) (below through : ℕ) → BelowAt R xs x below → ThroughAt R xs x through → below ≤ through → through ≤ length xs →
     count_by (λ y. is_eq (R y x)) xs ≡ through - below
 counted_between R xs x below through lows highs le inside =

@@ -1,4 +1,4 @@
--- What is told of the extents so far, and of one more.
+-- What is known of the extents so far, and of one more.
 use Rattle.std.proofs.Common.{◌≡◌, ◌+◌, ◌++◌, [], ◌∷◌, ℕ, List, Some, slice_get, take, sym, ◌∙◌, ap}
 use Rattle.std.specs.List.{filter_map}
 use Rattle.std.proofs.lemmas.List.{append-nil}

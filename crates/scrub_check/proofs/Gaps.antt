@@ -13,7 +13,7 @@ none_is : {A : Type 0} (o : Option A) → is_none o ≡ true → o ≡ None
 none_is None e = refl
 none_is (Some x) e = absurd (let no_such : ⊥ = cc in no_such)
 
--- one of the bytes from `start` up to `end` can't be read exactly where one of their pages can't
+-- one of the bytes from `start` up to `end` can't be read exactly if one of their pages can't
 pub gap_pages : (image : Image) (e start size page first last : ℕ) → HasWholePages image → e < image.geometry.extents → start + size ≤ extent_bytes image.geometry → 0 < size →
     page ≡ image.geometry.page → first ≡ start / page → last ≡ (start + size - 1) / page →
     LiesBetween (unreadable_pages image e) first last → HasGap (byte image e) start size

@@ -1,4 +1,4 @@
--- What a locator is worth, from what was found at its place.
+-- The status of a locator, from what was found at its place.
 use Rattle.std.proofs.Common.{◌≡◌, ◌<◌, ℕ, List, map, length, get_or, slice_index, Bool, false, Option, Some, None, MatchBool, MatchOption, IfSome, IfNone, inl, inr, arith, refl, sym, ◌∙◌, ap, subst}
 use Rattle.std.specs.List.{Contains}
 use Rattle.std.proofs.lemmas.List.{get_or-map}
@@ -18,7 +18,7 @@ use Rattle.scrub_check.specs.declared.statuses.status.Status.TheVariants.{OutOfR
 use Rattle.scrub_check.specs.Status.{CanStand, FindsFrame, NamesChunk, HasStatus, HasStatusInRetired, HasStatusInUse, HasStatusIn, is_retired}
 use Rattle.scrub_check.specs.Chunks.{frame_of_item}
 use Rattle.scrub_check.specs.Judged.{IsOther, IsMismatch, Agrees, IsJudged}
-use Rattle.scrub_check.specs.Looks.{IsFoundAt, IsOpen, IsSeenAt, IsStatusByItems}
+use Rattle.scrub_check.specs.Asked.{IsFoundAt, IsOpen, IsSeenAt, IsStatusByItems}
 use Rattle.scrub_check.proofs.Starts.{begins, begins_among}
 
 -- what a clause says of the value that there is
@@ -29,7 +29,7 @@ at_some P o x is h = subst (λ r. IfSome r P) is h
 pub at_none : {A : Type 0} (P : Type 0) (o : Option A) → o ≡ None → IfNone o P → P
 at_none P o is h = subst (λ r. IfNone r P) is h
 
--- the frame that was found stands at the locator's place
+-- the frame that was found is at the locator's place
 finds : (image : Image) (w : ℕ) (l : Locator) (s : Standing) (u : List ℕ) → CanStand image w l → (h : IsStandingAt image w l.extent l.offset s) → s.uuid ≡ u → FindsFrame image w l u h.payload
 finds image w l s u can h uuid = record {
   can = can;
@@ -60,7 +60,7 @@ other_is_mismatch l s NoFrame other = absurd other
 other_is_mismatch l s Hidden other = absurd other
 other_is_mismatch l s Sound other = absurd other
 
--- what isn't the chunk that it names is told by the first reason
+-- a frame that isn't the named chunk gives the status of the first reason
 mismatched : (image : Image) (w : ℕ) (l : Locator) (s : Standing) (status : Status) → CanStand image w l → IsStandingAt image w l.extent l.offset s → IsMismatch l s status → HasStatus image w l status
 mismatched image w l s WrongUuid can h m = (s.uuid, (h.payload, finds image w l s s.uuid can h (λ i. s.uuid), m))
 mismatched image w l s WrongLength can h m = (h.payload, finds image w l s l.uuid can h m.0, λ e. m.1 (h.frame.length ∙ e))
@@ -73,18 +73,18 @@ mismatched image w l s NoFrame can h m = absurd m
 mismatched image w l s Hidden can h m = absurd m
 mismatched image w l s Sound can h m = absurd m
 
--- what was found at the locator's place: a frame that stands there, or none, and then none stands there
+-- what was found at the locator's place: the frame there, or that none is there
 abbrev pub IsFoundThere : Image → ℕ → Locator → Option Standing → Type 0
 IsFoundThere image w l found = IsFoundAt image w l.extent l.offset found
 
--- it tells the status, where the chunk that the locator names has the status that is given for it
+-- it decides the status, if the chunk that the locator names has the status that is given for it
 judged_status : (image : Image) (w : ℕ) (l : Locator) (found : Option Standing) (agreeing status : Status) → CanStand image w l → IsFoundThere image w l found →
     (NamesChunk image w l → HasStatus image w l agreeing) → IsJudged l found agreeing status → HasStatus image w l status
 judged_status image w l None agreeing status can none chunk judged = subst (λ (s : Status). HasStatus image w l s) (sym judged) (can, none)
 judged_status image w l (Some s) agreeing status can there chunk (inl mismatch) = mismatched image w l s status can there mismatch
 judged_status image w l (Some s) agreeing status can there chunk (inr judged) = subst (λ (t : Status). HasStatus image w l t) (sym judged.1) (chunk (names_chunk image w l s can there judged.0))
 
--- what an item that begins there tells
+-- an item that begins there says what is there
 item_there : (image : Image) (w : ℕ) (l : Locator) (item : Item) → IsItem (extent_of image l.extent w) item → start_of item ≡ l.offset → IsFoundThere image w l (frame_of_item l.extent item)
 item_there image w l (Chunk f start stop u n digest) h at =
     let chunk : IsChunk (extent_of image l.extent w) start f stop n u digest h.fits.1.0 = h.fits.1.1 in
@@ -98,7 +98,7 @@ item_there image w l (Lost start stop) h at = subst (λ (p : ℕ). NoFrameAt (ex
 abbrev pub StartsAt : List Item → ℕ → ℕ → Type 0
 StartsAt items p i = (i < length items) × (slice_index (map start_of items) i ≡ p)
 
--- so the i-th item, where it begins there, tells the status
+-- so the i-th item decides the status if it begins there
 pub judged_by_item : (image : Image) (w : ℕ) (l : Locator) (items : List Item) (i : ℕ) (item : Item) (status : Status) → CanStand image w l → IsTiling (extent_of image l.extent w) items →
     StartsAt items l.offset i → item ≡ get_or items i item → IsJudged l (frame_of_item l.extent item) Sound status → HasStatus image w l status
 judged_by_item image w l items i item status can tiled at is judged =
@@ -107,7 +107,7 @@ judged_by_item image w l items i item status can tiled at is judged =
     let start : start_of item ≡ l.offset = ap start_of is ∙ sym (get_or-map start_of items i item 0 at.0) ∙ at.1 in
     judged_status image w l (frame_of_item l.extent item) Sound status can (item_there image w l item fits start) (λ chunk. (chunk, begins x items i l.offset tiled at.0 at.1)) judged
 
--- and there being none that begins there, that the place is left to be looked at
+-- and if none begins there, the place has to be read
 pub none_begins : (image : Image) (w : ℕ) (l : Locator) (items : List Item) → IsTiling (extent_of image l.extent w) items → ¬ Contains (map start_of items) l.offset → IsStatusByItems image w l None
 none_begins image w l items tiled apart b = apart (begins_among (extent_of image l.extent w) items l.offset (omega (arith, image.geometry.page_size.least)) tiled b)
 
@@ -117,15 +117,15 @@ status_under image plan w l s in_use at h =
     subst (λ (b : Bool). MatchBool b (HasStatusInRetired image l s) (HasStatusInUse image plan l s)) (sym in_use)
     (subst (λ (o : Option ℕ). MatchOption o (s ≡ OutOfRange) (λ v. HasStatus image v l s)) (sym at) h)
 
--- what items tell under the pointer of an extent, by a plan
+-- what items decide under the pointer of an extent, by a plan
 pub status_in_plan : (image : Image) (plan : PlanValue) (w : ℕ) (l : Locator) (known : Option Status) → is_retired plan l.extent ≡ false → pointer_of plan l.extent ≡ Some w → CanStand image w l → IsStatusByItems image w l known →
     IfSome known (HasStatusIn image plan l) × IfNone known (IsOpen image plan l)
 status_in_plan image plan w l None in_use at can h = (tt, record { in_use = in_use; pointer = w; is = at; can = can; apart = h })
 status_in_plan image plan w l (Some s) in_use at can h = (status_under image plan w l s in_use at h, tt)
 
--- and what a look tells of a locator that was left
-pub judged_by_look : (image : Image) (plan : PlanValue) (l : Locator) (found : Option Standing) (status : Status) → IsOpen image plan l → IsSeenAt image plan (record { extent = l.extent; offset = l.offset }) found →
+-- the frame that was read decides the status of a locator that was left
+pub judged_by_frame : (image : Image) (plan : PlanValue) (l : Locator) (found : Option Standing) (status : Status) → IsOpen image plan l → IsSeenAt image plan (record { extent = l.extent; offset = l.offset }) found →
     IsJudged l found Hidden status → HasStatusIn image plan l status
-judged_by_look image plan l found status left seen judged =
+judged_by_frame image plan l found status left seen judged =
     status_under image plan left.pointer l status left.in_use left.is
     (judged_status image left.pointer l found Hidden status left.can (seen left.pointer left.is) (λ chunk. (chunk, left.apart)) judged)

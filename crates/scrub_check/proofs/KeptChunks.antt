@@ -30,7 +30,7 @@ use Rattle.scrub_check.specs.Kept.{IsKept, AreSafe}
 use Rattle.scrub_check.proofs.Starts.{begins_among}
 use Rattle.scrub_check.proofs.RunStates.{named_in_use}
 
--- the item where a frame stands is a chunk
+-- the item at a frame is a chunk
 chunk_at : (x : Extent) (i : Item) (f : Form) (u b : List ℕ) → Fits x (start_of i) i → FrameAt x (start_of i) f u b → is_chunk i ≡ true
 chunk_at x (Chunk g start stop v n digest) f u b fits frame = refl
 chunk_at x (Pad start stop) f u b fits frame = absurd (fits.1 f u b frame)
@@ -38,7 +38,7 @@ chunk_at x (Torn start stop) f u b fits frame = absurd (fits.1 f u b frame)
 chunk_at x (Noise start stop) f u b fits frame = absurd (fits.1 f u b frame)
 chunk_at x (Lost start stop) f u b fits frame = absurd (fits.1 f u b frame)
 
--- so where a sound locator points to it, it is among the live ones
+-- so it is live if a sound locator points to it
 live_there : (x : Extent) (checked : List Checked) (e p : ℕ) (f : Form) (u b : List ℕ) (items : List Item) → All (IsItem x) items → FrameAt x p f u b → has_sound_at checked e p ≡ true →
     Contains (map start_of items) p → Contains (map start_of (filter (is_live checked e) items)) p
 live_there x checked e p f u b [] each frame named (i, below, is) = absurd (omega (arith, below))

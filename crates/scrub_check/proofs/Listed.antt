@@ -1,4 +1,4 @@
--- Lists that tell one thing of each locator, as they grow.
+-- Lists that say one thing of each locator, as they grow.
 use Rattle.std.proofs.Common.{◌≡◌, ◌<◌, ◌≤◌, ◌+◌, ℕ, List, [], ◌∷◌, ◌++◌, Option, length, map, take, get_or, arith, sym, ◌∙◌, subst}
 use Rattle.std.specs.List.{AllZip}
 use Rattle.std.proofs.lemmas.List.{take_all}
@@ -12,7 +12,7 @@ use Rattle.scrub_merge.specs.Binding.{Runs}
 use Rattle.scrub_check.specs.declared.sources.runs.RunState.{RunState}
 use Rattle.scrub_check.specs.Runs.{IsRunIn, HasRunStateIn, AreCounted}
 
--- what is told of the locators so far
+-- what is said of the locators so far
 pub record AreWalkedOf (image : Image) (plan : PlanValue) (locators : List Locator) (read : Runs) (known : List RunState) : Type 0 where
   pub runs : AllZip (IsRunIn image plan) locators read
   pub states : AllZip (HasRunStateIn image plan) locators known
@@ -26,7 +26,7 @@ walked_more image plan locators runs more_runs states more_states i d run state 
   states = AllZip-take_more (HasRunStateIn image plan) locators states more_states i d state below known.states has state_grown;
 }
 
--- in the end all are told of
+-- in the end something is said of each
 pub all_states : (image : Image) (plan : PlanValue) (locators : List Locator) (i : ℕ) (runs : Runs) (states : List RunState) → length locators ≤ i → locators ≡ plan.runs →
     AreWalkedOf image plan (take i locators) runs states → AreWalkedOf image plan plan.runs runs states
 all_states image plan locators i runs states end is known = subst (λ (ls : List Locator). AreWalkedOf image plan ls runs states) (take_all i locators end ∙ is) known

@@ -39,7 +39,7 @@ same_head o c d cs ds s t (inl e) k = sym e
 same_head o c d cs ds s t (inr h) (inl e) = e
 same_head {R = R} o c d cs ds s t (inr h) (inr k) = absurd (one_way o c d (head_below R c d cs s k) (head_below R d c ds t h))
 
--- what stands behind a head stands behind the other
+-- what follows a head follows the other
 behind : {X : Type 0} {R : X → X → Ordering} (o : IsTotalOrder R) (c d e : X) (cs ds : List X) → IsStrictlySortedBy R (c ∷ cs) → c ≡ d → Contains cs e → (d ≡ e) ⊎ Contains ds e → Contains ds e
 behind o c d e cs ds s same there (inr h) = h
 behind {X} {R} o c d e cs ds s same there (inl is) =

@@ -12,7 +12,7 @@ use Rattle.scrub_check.specs.declared.statuses.status.Status.TheVariants.{OutOfR
 use Rattle.scrub_check.specs.Status.{InRange, BelowPointer, HasUnreadableByte, CanStand, FindsFrame, NamesChunk, BeginsAt, HasStatus, HasStatusInRetired, HasStatusInUse, HasStatusIn, is_retired, ExactlyOne}
 use Rattle.scrub_check.proofs.RunStates.{unnamed}
 
--- a frame of the locator's UUID, of either form, stands there
+-- a frame of the locator's UUID, of either form, is there
 abbrev HasUuid : Image → ℕ → Locator → Type 0
 HasUuid image w l = (f : Form) × ((b : List ℕ) × FrameAt (extent_of image l.extent w) l.offset f l.uuid b)
 

@@ -32,7 +32,7 @@ in_extent image e place x there = by (nat_lt place (extent_bytes image.geometry)
     by true less h = grind (arith, nat_tests)
     by false less h = absurd (none-some x h)
 
--- so a frame that stands under whichever pointer stands in the extent
+-- so a frame under any pointer is in the extent
 within : (image : Image) (e w p : ℕ) (f : Form) (u b : List ℕ) → FrameAt (extent_of image e w) p f u b → FrameAt (extent_of image e (extent_bytes image.geometry)) p f u b
 within image e w p f u b h =
     let long : length (frame f u b) ≡ frame_overhead f + length b = length-frame f u b h.has_frame.sixteen in
@@ -58,11 +58,11 @@ has_payload image w l n = record {
 pub one_payload : (image : Image) (l : Locator) (a b : List ℕ) → HasPayloadThere image l a → HasPayloadThere image l b → a ≡ b
 one_payload image l a b h k = (one_frame_at (extent_of image l.extent (extent_bytes image.geometry)) l.offset h.form l.uuid a k.form l.uuid b h.has.frame.frame k.has.frame.frame).2
 
--- so where the payload that is read is no run, the chunk holds none
+-- so if the payload that is read is no run, the chunk has none
 pub holds_none : (image : Image) (l : Locator) (b c : List ℕ) → HasPayloadThere image l b → c ≡ b → ((entries : List EntryValue) → ¬ IsRun c entries) → (entries : List EntryValue) → ¬ HoldsRun image l entries
 holds_none image l b c has is none entries h = none entries (subst (λ (p : List ℕ). IsRun p entries) (one_payload image l h.payload b h.has has ∙ sym is) h.run)
 
--- what is told of a chunk that stands is the run of its locator, and what became of it
+-- the run of a locator whose chunk is there, and its state
 known : (image : Image) (w : ℕ) (l : Locator) (run : Option (List EntryValue)) (state : RunState) → NamesChunk image w l → IsStateOf image l run state → IsRunOf image w l run × HasRunState image w l state
 known image w l (Some entries) Read n h = (is, (entries, is))
   where
@@ -90,7 +90,7 @@ named_under image None l s (inl e) h = absurd (let f : ⊥ = cc in f)
 named_under image None l s (inr e) h = absurd (let f : ⊥ = cc in f)
 named_under image (Some w) l s is h = record { pointer = w; is = refl; names = named image w l s is h }
 
--- so it stands
+-- so it is there
 pub stands_there : (image : Image) (plan : PlanValue) (l : Locator) (s : Status) → (s ≡ Sound) ⊎ (s ≡ Hidden) → HasStatusIn image plan l s → StandsThere image l
 stands_there image plan l s is h =
     let n : NamedUnder image (pointer_of plan l.extent) l = named_under image (pointer_of plan l.extent) l s is (named_in_use image plan l s is h).1 in

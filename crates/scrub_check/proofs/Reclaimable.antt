@@ -1,4 +1,4 @@
--- Which extents may be reclaimed: what the sorted verdicts say of an extent, and that candidates stand in a strict order.
+-- Which extents may be reclaimed: what the sorted verdicts say of an extent, and that candidates are in a strict order.
 use Rattle.std.proofs.Common.{◌≡◌, ◌<◌, ◌≤◌, ◌+◌, ◌==◌, ◌≢◌, ◌&&◌, ◌||◌, ℕ, suc, Bool, true, false, not, cond, List, [], ◌∷◌, length, get_or, map, arith, refl, sym, ◌∙◌, ap, subst, Result, Ok, Err, is_ok, Ordering, Less, Equal, Greater, nat_cmp, is_eq, is_lt, inl, inr, if◌then◌else◌}
 use Rattle.std.specs.Ordering.{ordering_then, ordering_reverse}
 use Rattle.std.specs.Cmp.{IsTotalOrder, nat_cmp_total}
@@ -40,7 +40,7 @@ found_number xs n (Err i) sorted within result =
       | inr more ↦ sym (same_number (get_or xs k d) n) ∙ ap is_eq (point.1 k d more below)
     ]))
 
--- each locator to an extent is sound exactly where no other one names it
+-- each locator to an extent is sound exactly if no other one names it
 named_by_sound : (checked : List Checked) (e : ℕ) →
     list_all (λ c. not (c.locator.extent == e) || is_sound c.status) checked ≡ not (list_any (λ x. x == e) (map (λ c. c.locator.extent) (filter (λ c. not (is_sound c.status)) checked)))
 named_by_sound [] e = refl
@@ -66,7 +66,7 @@ named_by_sound_alone checked extents e are =
 
 -- ---- the parts of a candidate
 
--- what is told of the chunks that are found by their starts is told of the live ones
+-- what holds of the chunks that are found by their starts holds of the live ones
 pub walked_of_live : {Y : Type 0} (known : List Item → Y) (y : Y) (checked : List Checked) (starts : List Start) (e f : ℕ) (is js : List Item) → AreSoundStarts checked starts → e ≡ f → is ≡ js →
     y ≡ known (filter (is_live_by starts e) is) → y ≡ known (filter (is_live checked f) js)
 walked_of_live known y checked starts e f is js are same items h =
@@ -138,7 +138,7 @@ below_or_same a b Equal Equal is up differ = absurd (differ (exact_unsigned a b 
 below_or_same a b Equal Greater is up differ = absurd (let f : ⊥ = cc in f)
 below_or_same a b Greater p is up differ = absurd (let f : ⊥ = cc in f)
 
--- sorted candidates of which no two are of one extent are strictly sorted
+-- sorted candidates are strictly sorted if no two are of one extent
 strict_from_far : (cs : List CandidateValue) → AllPairs (λ a b. is_lt (by_free b a) ≡ false) cs → ((e : ℕ) → Having (λ c. c.extent) e cs ≤ 1) → IsStrictlySortedBy by_free cs
 unfolding IsStrictlySortedBy
 strict_from_far [] far once = tt
@@ -178,7 +178,7 @@ no_candidates : IsStrictlySortedBy by_free []
 unfolding IsStrictlySortedBy
 no_candidates = tt
 
--- none, where it isn't known which locators there are
+-- none, if it isn't known which locators there are
 pub none_named : (plan : PlanValue) (all : List Scanned) (checked : List Checked) (in_doubt : Bool) (cs : List CandidateValue) →
     (plan.has_superblock && not in_doubt) ≡ false → cs ≡ [] → AreCandidates plan all checked in_doubt cs
 none_named plan all checked in_doubt cs unknown none = record {

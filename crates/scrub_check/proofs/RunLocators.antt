@@ -1,4 +1,4 @@
--- What the locator of a run is worth by what became of the run, where no item begins at its place.
+-- The status of a run's locator by the state of the run, if no item begins at its place.
 use Rattle.std.proofs.Common.{◌≡◌, ◌<◌, ◌⊎◌, inl, inr, ℕ, Bool, Option, MatchBool, MatchOption, List, length, get_or, sym, subst}
 use Rattle.scrub_disk.specs.Image.{Image}
 use Rattle.scrub_frame.specs.declared.locator.Locator.{Locator}
@@ -7,7 +7,7 @@ use Rattle.scrub_check.specs.declared.statuses.status.Status.{Status}
 use Rattle.scrub_check.specs.declared.statuses.status.Status.TheVariants.{OutOfRange, Hidden}
 use Rattle.scrub_check.specs.declared.sources.runs.RunState.{RunState}
 use Rattle.scrub_check.specs.declared.sources.runs.RunState.TheVariants.{Read, BadChunk, NotARun}
-use Rattle.scrub_check.specs.Looks.{IsOpen}
+use Rattle.scrub_check.specs.Asked.{IsOpen}
 use Rattle.scrub_check.specs.Runs.{HasRunState, HasRunStateInUse, HasRunStateIn, IsLostInRetired, AreRunStates}
 use Rattle.scrub_check.specs.Status.{NamesChunk, HasStatusIn}
 use Rattle.scrub_check.proofs.Judged.{status_under}
@@ -27,7 +27,7 @@ names_there : (image : Image) (w : ℕ) (l : Locator) (s : RunState) → (s ≡ 
 names_there image w l s (inl is) h = (subst (λ (t : RunState). HasRunState image w l t) is h).1.names
 names_there image w l s (inr is) h = (subst (λ (t : RunState). HasRunState image w l t) is h).0
 
--- and where the chunk stands, it is hidden
+-- and if the chunk is there, it is hidden
 pub hidden_status : (image : Image) (plan : PlanValue) (l : Locator) (s : RunState) → (s ≡ Read) ⊎ (s ≡ NotARun) → IsOpen image plan l → HasRunStateIn image plan l s → HasStatusIn image plan l Hidden
 hidden_status image plan l s is left h =
     status_under image plan left.pointer l Hidden left.in_use left.is (names_there image left.pointer l s is (under image plan l s left h), left.apart)
@@ -36,7 +36,7 @@ hidden_status image plan l s is left h =
 pub same_locator : (a b : Locator) → a.extent ≡ b.extent → a.offset ≡ b.offset → a.length ≡ b.length → a.uuid ≡ b.uuid → a.digest ≡ b.digest → a ≡ b
 same_locator a b e o n u d = λ i. record { extent = e i; offset = o i; length = n i; uuid = u i; digest = d i }
 
--- the state of the run at a number, of which this is the locator
+-- the state of the run with this number and this locator
 pub state_at : (image : Image) (plan : PlanValue) (states : List RunState) (k : ℕ) (l m : Locator) (s : RunState) → AreRunStates image plan states → k < length plan.runs → k < length states → l ≡ get_or plan.runs k l →
     s ≡ get_or states k s → l ≡ m → HasRunStateIn image plan m s
 state_at image plan states k l m s are below under_states locator_is state_is same =

@@ -1,4 +1,4 @@
--- Which statuses say that the chunk which a locator names stands.
+-- Which statuses say that the chunk that a locator names is there.
 use Rattle.std.proofs.Common.{◌≡◌, ◌⊎◌, inl, inr, ℕ, Bool, true, false, List, MatchBool, length, ◌∙◌, ap, subst, refl}
 use Rattle.scrub_disk.specs.Image.{Image}
 use Rattle.scrub_frame.specs.declared.locator.Locator.{Locator}

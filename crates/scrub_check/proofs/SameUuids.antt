@@ -1,4 +1,4 @@
--- Chunks whose UUID stands on another chunk too, found among the sorted UUIDs.
+-- Chunks whose UUID another chunk has too, found among the sorted UUIDs.
 use Rattle.std.proofs.Common.{◌≡◌, ◌∙◌, ap, sym, refl, arith, ℕ, Bool, false, List, [], ◌∷◌, map, cond, nat_lt, is_eq}
 use Rattle.std.specs.Str.{bytes_eq}
 use Rattle.std.specs.List.{filter, count_by}
@@ -13,7 +13,7 @@ use Rattle.scrub_check.specs.ChunkUuids.{uuid_cmp, AreUuidsOf, is_twin_by}
 use Rattle.scrub_check.proofs.Counts.{count_map}
 use Rattle.scrub_check.proofs.Rising.{once_at_most, not_several}
 
--- how many chunks have a UUID is how often it stands there
+-- how many chunks have a UUID is how often it is there
 count_uuids : (all : List Scanned) (uuids : List (List ℕ)) (uuid : List ℕ) → AreUuidsOf (chunks all) uuids → count_by (λ other. bytes_eq other uuid) uuids ≡ chunks_with all uuid
 count_uuids all uuids uuid are =
     sum_by-IsPermutation (λ other. cond (bytes_eq other uuid) 1 0) (map (λ p. p.uuid) (chunks all)) uuids are ∙ count_map (λ other. bytes_eq other uuid) (λ p. p.uuid) (chunks all)
@@ -21,7 +21,7 @@ count_uuids all uuids uuid are =
 pub twins_found : (all : List Scanned) (uuids : List (List ℕ)) → AreUuidsOf (chunks all) uuids → filter (is_twin_by uuids) (chunks all) ≡ twins all
 twins_found all uuids are = ap (λ test. filter test (chunks all)) (λ i p. nat_lt 1 (count_uuids all uuids p.uuid are i))
 
--- where the UUIDs rise, no chunk has a twin
+-- if the UUIDs rise, no chunk has a twin
 not_twin : (uuids : List (List ℕ)) (one : Place) → IsStrictlySortedBy uuid_cmp uuids → is_twin_by uuids one ≡ false
 not_twin uuids one rising =
     let same : count_by (λ other. is_eq (uuid_cmp other one.uuid)) uuids ≡ count_by (λ other. bytes_eq other one.uuid) uuids = ap (λ test. count_by test uuids) (λ i other. is_eq-slice_cmp other one.uuid i) in

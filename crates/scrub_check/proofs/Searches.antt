@@ -15,11 +15,11 @@ parted pages first rising i j d le below later = elim (cases_eq i j) [
       lt-ltb (get_or pages i d) first (omega (arith, less, ltb-true (get_or pages j d) first later))
 ]
 
--- where pages that rise are parted by a page
+-- the point at which a page parts pages that rise
 abbrev pub PartedAt : List ℕ → ℕ → ℕ → Type 0
 PartedAt pages first i = IsPartitionPoint (λ p. nat_lt p first ≡ true) (λ p. nat_lt p first ≡ false) pages i
 
--- one of them lies from the first through the last exactly where the next one does
+-- one of them lies from the first through the last exactly if the next one does
 abbrev pub LiesBetween : List ℕ → ℕ → ℕ → Type 0
 LiesBetween pages first last = (q : ℕ) × Contains pages q × (first ≤ q) × (q ≤ last)
 

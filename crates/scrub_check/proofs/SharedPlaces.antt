@@ -37,13 +37,13 @@ rising_map R S f (x ∷ xs) alike rising =
 mapped_there : {X Y : Type 0} (f : X → Y) (xs : List X) (x : X) → Contains xs x → Contains (map f xs) (f x)
 mapped_there f xs x (i, inside, is) = (i, omega (arith, inside, length-map xs f), get_or-map f xs i x (f x) inside ∙ ap f is)
 
--- a place that is counted stands there
+-- a place that is counted is there
 counted_there : (starts : List Start) (s : Start) → 0 < count_by (is_start s) starts → Contains starts s
 counted_there starts s some =
     let found = Any-from_list_any (is_start s) starts (any_counts (is_start s) starts ∙ lt-ltb 0 (count_by (is_start s) starts) some) in
     subst (λ (t : Start). Contains starts t) (tells_apart start_exact found.1 s found.4) (found.0, found.2, found.3)
 
--- those of the places that stand twice or more are the shared ones
+-- the places that are there twice or more are the shared ones
 pub shared_found : (checked : List Checked) (starts once : List Start) (places : List SharedPlace) → AreSoundStarts checked starts → AreDistinct start_cmp starts once →
     places ≡ shared_by starts once → AreShared checked places
 shared_found checked starts once places are distinct is = subst (λ (ps : List SharedPlace). AreShared checked ps) (sym is) (record {
@@ -73,7 +73,7 @@ no_places : IsStrictlySortedBy by_place []
 unfolding IsStrictlySortedBy
 no_places = tt
 
--- where each place stands there once, none is shared
+-- if each place is there once, none is shared
 pub none_shared : (checked : List Checked) (starts : List Start) → AreSoundStarts checked starts → IsStrictlySortedBy start_cmp starts → AreShared checked []
 none_shared checked starts are rising = record {
   rising = no_places;

@@ -34,7 +34,7 @@ both Less q = refl
 both Equal q = refl
 both Greater q = refl
 
--- two places that the order doesn't tell apart are one
+-- two places that the order makes equal are one
 pub start_exact : CmpEqualImpliesEq start_cmp
 start_exact a b e = λ i. record { extent = extent i; offset = offset i }
   where
@@ -47,7 +47,7 @@ start_exact a b e = λ i. record { extent = extent i; offset = offset i }
     offset : a.offset ≡ b.offset
     offset = tells_apart exact_unsigned a.offset b.offset parts.1
 
--- places are equal exactly where the order doesn't tell them apart
+-- places are equal exactly if the order makes them equal
 pub start_ties : (a b : Start) → ((a.extent == b.extent) && (a.offset == b.offset)) ≡ eq_by_cmp start_cmp a b
 start_ties a b = sym (both (nat_cmp a.extent b.extent) (nat_cmp a.offset b.offset) ∙ ap₂ (λ x y. x && y) (same_number a.extent b.extent) (same_number a.offset b.offset))
 
@@ -73,16 +73,16 @@ one_named c cs e p false other rest =
     ∙ rest
     ∙ sym (count_out (is_sound_at e p) c cs (ap (λ b. b && (c.locator.extent == e) && (c.locator.offset == p)) other))
 
--- how many sound locators point to a place is how often it stands among what they point to
+-- how many sound locators point to a place is how often it is among their places
 pub count_named : (checked : List Checked) (e p : ℕ) → count_by (is_start (record { extent = e; offset = p })) (map start_named (sound_ones checked)) ≡ sound_at checked e p
 count_named [] e p = refl
 count_named (c ∷ cs) e p = one_named c cs e p (is_sound c.status) refl (count_named cs e p)
 
--- so it is in whatever order they stand
+-- so it is in any order of them
 pub sound_in_order : (checked : List Checked) (starts : List Start) → IsPermutation (sound_starts checked) starts → AreSoundStarts checked starts
 sound_in_order checked starts same s = sum_by-IsPermutation (λ t. cond (is_start s t) 1 0) (sound_starts checked) starts same ∙ count_named checked s.extent s.offset
 
--- a search finds a place exactly where it stands there
+-- a search finds a place exactly if it is there
 pub found_counts : (starts : List Start) (s : Start) (r : Result ℕ ℕ) → IsSorted start_cmp starts → IsSearchInRange r (length starts) → IsBinarySearchResult (λ t. start_cmp t s) starts r →
     is_ok r ≡ nat_lt 0 (count_by (is_start s) starts)
 found_counts starts s (Ok i) sorted inside found = sym (sym (any_counts (is_start s) starts) ∙ any_at (is_start s) starts i inside (λ d. ap is_eq (found d)))
@@ -94,7 +94,7 @@ found_counts starts s (Err i) sorted inside found =
       | inr more ↦ ap is_eq (point.1 k d more lt)
     ])))
 
--- so it does where a sound locator points there
+-- so it does if a sound locator points there
 pub found_sound : (checked : List Checked) (starts : List Start) (e p : ℕ) (found : Bool) → AreSoundStarts checked starts →
     found ≡ nat_lt 0 (count_by (is_start (record { extent = e; offset = p })) starts) → found ≡ has_sound_at checked e p
 found_sound checked starts e p found are is = is ∙ ap (λ n. nat_lt 0 n) (are (record { extent = e; offset = p })) ∙ sym (any_counts (is_sound_at e p) checked)

@@ -43,7 +43,7 @@ lies_below xs x low high middle rising h lt le more = record {
   ];
 }
 
--- where nothing is left it isn't there
+-- if nothing is left, it isn't there
 pub lies_nowhere : (xs : List ℕ) (x low high : ℕ) → LiesWithin xs x low high → high ≤ low → ¬ Contains xs x
 lies_nowhere xs x low high h end (i, inside, is) =
     let at = get_or_default xs i 0 x inside in

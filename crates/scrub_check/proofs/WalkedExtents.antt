@@ -1,4 +1,4 @@
--- What is told of the extents, one after the other.
+-- What is known of the extents, one after the other.
 use Rattle.std.proofs.Common.{◌≡◌, ◌<◌, ◌+◌, ◌++◌, ◌∷◌, [], ℕ, Bool, not, List, Option, Some, None, slice_get, map, length, get_or, take, arith, refl, sym, ◌∙◌, ap, subst}
 use Rattle.std.specs.List.{filter, filter_map, sum_by}
 use Rattle.std.specs.List.Sorted.{IsStrictlyIncreasing}
@@ -62,14 +62,14 @@ pub none_reclaimable : (g : Option Geometry) (checked : List Checked) → [] ≡
 none_reclaimable None checked = refl
 none_reclaimable (Some g) checked = refl
 
--- those of them that may be reclaimed, where that is asked for
+-- those of them that may be reclaimed, if that is asked for
 reclaimable_more : (g : Option Geometry) (checked : List Checked) (fs : List Scanned) (f : Scanned) → reclaimable_by g fs checked ++ reclaimable_by g (f ∷ []) checked ≡ reclaimable_by g (fs ++ f ∷ []) checked
 reclaimable_more None checked fs f = refl
 reclaimable_more (Some g) checked fs f =
     sym (map-append (candidate_of checked) (filter (is_reclaimable g checked) fs) (filter (is_reclaimable g checked) (f ∷ [])))
     ∙ ap (map (candidate_of checked)) (sym (filter-append (is_reclaimable g checked) fs (f ∷ [])))
 
--- what is told of one more extent
+-- what is known of one more extent
 pub walked_more : (g : Option Geometry) (checked : List Checked) (starts : List Start) (fs : List Scanned) (f : Scanned) (e : ℕ) (items : List Item) (live : LiveChunks) (old new : Walked) →
     AreSoundStarts checked starts → AreWalkedOf g checked fs old → e ≡ f.extent → items ≡ f.findings.items → AreLiveChunks checked f live →
     new.live.items ≡ old.live.items ++ live.bytes ∷ [] → new.orphans.items ≡ old.orphans.items ++ orphans_by starts e items → new.reclaimable.items ≡ old.reclaimable.items ++ reclaimable_by g (f ∷ []) checked →
@@ -91,7 +91,7 @@ walked_more g checked starts fs f e items live old new are known number its chun
 pub walked_next : (g : Option Geometry) (checked : List Checked) (all : List Scanned) (i : ℕ) (f : Scanned) (t : Walked) → slice_get all i ≡ Some f → AreWalkedOf g checked (take i all ++ f ∷ []) t → AreWalkedOf g checked (take (i + 1) all) t
 walked_next g checked all i f t at known = subst (λ (fs : List Scanned). AreWalkedOf g checked fs t) (sym (take_next all i f at)) known
 
--- a cursor that has passed none from the next extent on, where there is one
+-- a cursor that has passed none from the next extent on, if there is one
 abbrev pub HasPassedAll : Cursor → List Scanned → ℕ → Type 0
 HasPassedAll c all i = i < length all → HasPassed c (get_or (extent_numbers all) i 0) 0
 

@@ -1,5 +1,5 @@
--- What is told of the items of an extent, and of the extents, so far.
-use Rattle.std.proofs.Common.{◌≡◌, ◌<◌, ◌≤◌, ◌+◌, ◌^◌, ◌++◌, ◌∷◌, [], ℕ, Bool, not, cond, List, Some, None, map, length, get_or, take, arith, refl, sym, ◌∙◌, ap, subst, append_assoc, nat_lt}
+-- What is known of the items of an extent, and of the extents, so far.
+use Rattle.std.proofs.Common.{◌≡◌, ◌<◌, ◌≤◌, ◌+◌, ◌^◌, ◌++◌, ◌∷◌, [], ℕ, Bool, not, cond, List, Some, map, length, get_or, take, arith, refl, sym, ◌∙◌, ap, subst, append_assoc, nat_lt}
 use Rattle.std.specs.List.{filter, filter_map, sum_by, count_by}
 use Rattle.std.specs.List.Sorted.{IsStrictlyIncreasing}
 use Rattle.std.proofs.lemmas.List.{map-append, append-nil, length-map, get_or-map, take_more}
@@ -20,15 +20,7 @@ use Rattle.scrub_check.specs.Walked.{HasPassed, live_by, orphans_by, AreLiveBy}
 use Rattle.scrub_check.proofs.Sizes.{sum_of_kept}
 use Rattle.scrub_check.proofs.WalkedPlaces.{passed_further}
 
--- what is no chunk is neither live nor an orphan
-pub no_chunk : (starts : List Start) (e : ℕ) (item : Item) → place_of e item ≡ None → (live_by starts e (item ∷ []) ≡ []) × (orphans_by starts e (item ∷ []) ≡ [])
-no_chunk starts e (Chunk f start stop u n digest) is = absurd (let f : ⊥ = cc in f)
-no_chunk starts e (Pad start stop) is = (refl, refl)
-no_chunk starts e (Torn start stop) is = (refl, refl)
-no_chunk starts e (Noise start stop) is = (refl, refl)
-no_chunk starts e (Lost start stop) is = (refl, refl)
-
--- a chunk is one of them, by whether it is named
+-- a chunk is live or an orphan, by whether it is named
 pub a_chunk : (starts : List Start) (e : ℕ) (item : Item) (chunk : Place) (named : Bool) → place_of e item ≡ Some chunk → named ≡ nat_lt 0 (count_by (is_start (record { extent = e; offset = start_of item })) starts) →
     (live_by starts e (item ∷ []) ≡ cond named (item ∷ []) []) × (orphans_by starts e (item ∷ []) ≡ cond (not named) (chunk ∷ []) [])
 a_chunk starts e (Chunk f start stop u n digest) chunk named is known =

@@ -95,7 +95,7 @@ found_nowhere starts s n sorted first end =
     ∙ found_counts starts s (Err n) sorted first.within
     (λ rises. (λ k d from lt. lies_before_less (get_or starts k d) s (first.before k d lt), λ k d from lt. absurd (omega (arith, from, lt, end))))
 
--- a place is found exactly where it is the first one that isn't below itself
+-- a place is found exactly if it is the first one that isn't below itself
 pub found_first : (starts : List Start) (s d : Start) (n : ℕ) (r : Ordering) → IsSorted start_cmp starts → IsFirstFrom starts s n → n < length starts → start_cmp (get_or starts n d) s ≡ r →
     is_eq r ≡ nat_lt 0 (count_by (is_start s) starts)
 found_first starts s d n Less sorted first inside is = absurd (true≢false (sym (ap is_lt is) ∙ first.next d inside))

@@ -2,9 +2,9 @@
 use Rattle.scrub_disk.specs.Image.{Image}
 use Rattle.scrub_super.specs.Plan.{PlanValue}
 use Rattle.scrub_check.specs.declared.statuses.seen.Seen.{Seen}
-use Rattle.scrub_check.specs.Looks.{AreLooks, AreClaims}
+use Rattle.scrub_check.specs.Asked.{AreAnswered, IsClaimSeen, IsSeenAt}
 
--- claims and looks, each of which says what is claimed or what is at its place
+-- each of these claims and frames is what is claimed or what is at its place
 pub record AreSeen (image : Image) (plan : PlanValue) (s : Seen) : Type 0 where
-  pub claims : AreClaims image plan s.claims.items
-  pub looks : AreLooks image plan s.looks.items
+  pub claims : AreAnswered (IsClaimSeen image plan) s.claims.items
+  pub frames : AreAnswered (IsSeenAt image plan) s.frames.items

@@ -1,5 +1,5 @@
-//! What the locators of a disk are worth, which index runs can be read, which locators a disk names, which chunks are live
-//! by them, which shards are broken, and which extents may be reclaimed.
+//! The status of each locator of a disk, and what follows from the statuses: readable index runs, named locators, live
+//! chunks, broken shards, and extents that may be reclaimed.
 #![tactic(auto)]
 
 pub mod lists;
@@ -8,14 +8,14 @@ pub mod statuses;
 
 pub use lists::broken::{broken_shards, one_list_of_broken_shards};
 pub use lists::candidate::Candidate;
-pub use statuses::checked::{Checked, check_all, check_named, dangling, hidden};
 pub use lists::chunks::{orphans, twins};
 pub use lists::live::live_bytes;
 pub use lists::liveness::{Liveness, liveness_of};
-pub use sources::named::{Named, Owner, named_locators};
 pub use lists::place::{Place, SharedPlace};
 pub use lists::reclaiming::{candidates, candidates_are_safe, one_list_of_candidates};
-pub use sources::runs::{ReadRuns, RunState, read_all_runs, read_runs};
-pub use statuses::searching::{Found, find_start};
 pub use lists::shared_places::{one_list_of_shared_places, shared};
+pub use sources::named::{Named, Owner, named_locators};
+pub use sources::runs::{ReadRuns, RunState, read_all_runs, read_runs};
+pub use statuses::checked::{Checked, check_all, check_named, dangling, hidden};
+pub use statuses::searching::{Found, find_start};
 pub use statuses::status::{Status, status_of};

@@ -1,4 +1,4 @@
-//! Where locators come from: the index runs that a disk names, and all locators that it names with their owners.
+//! The sources of locators: the index runs that a disk names, and all locators that it names with their owners.
 
 pub mod named;
 pub mod runs;

@@ -1,10 +1,10 @@
-//! The status of a locator: what the findings say, what is claimed at its place, and what is read there.
+//! The status of a locator: by the findings, by what is claimed at its place, or by what is read there.
 
+pub(crate) mod asked;
 pub mod checked;
-pub(crate) mod claims;
 pub(crate) mod counted_items;
 pub(crate) mod extents;
-pub(crate) mod looks;
+pub(crate) mod frames;
 pub mod searching;
 pub(crate) mod seen;
 pub mod status;

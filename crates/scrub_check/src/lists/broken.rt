@@ -1,4 +1,4 @@
-//! The shards of which a locator dangles.
+//! The shards with a dangling locator.
 
 ghost use Rattle.std.specs.Prelude.{◌≡◌, IfOk, List};
 ghost use Rattle.std.specs.List.{filter_map};
@@ -7,13 +7,13 @@ ghost use Rattle.scrub_check.specs.declared.statuses.checked.Checked.{Checked};
 ghost use Rattle.scrub_check.specs.Checked.{AreBrokenShards};
 ghost use Rattle.scrub_check.specs.BrokenShards.{broken_owner};
 
-use crate::statuses::checked::{Checked, is_dangling};
 use crate::sources::named::Owner;
+use crate::statuses::checked::{Checked, is_dangling};
 use scrub_disk::OutOfMemory;
 use scrub_run::ShardId;
 use std::alloc::Global;
 
-/// The shard that names a locator, where the locator dangles.
+/// The shard that names a locator, if the locator dangles.
 fn broken_owner(one: &Checked) -> Option<ShardId>
     ensures { result ≡ broken_owner one.now }
 {
@@ -23,7 +23,7 @@ fn broken_owner(one: &Checked) -> Option<ShardId>
     }
 }
 
-/// The shards that name the dangling ones of these locators, in their order; a shard stands there once for each.
+/// The shards that name the dangling ones of these locators, in their order; a shard is there once for each.
 fn broken_owners(alloc: Global, checked: &[Checked]) -> Result<Vec<ShardId>, OutOfMemory>
     ensures { IfOk result (λ v. v.items ≡ filter_map broken_owner checked.now) }
 {
@@ -33,7 +33,7 @@ fn broken_owners(alloc: Global, checked: &[Checked]) -> Result<Vec<ShardId>, Out
         .collect(alloc)
 }
 
-/// The shards of which a locator dangles, by identifier, each once.
+/// The shards with a dangling locator, by identifier, each once.
 pub fn broken_shards(alloc: Global, checked: &[Checked]) -> Result<Vec<ShardId>, OutOfMemory>
     ensures { IfOk result (λ v. AreBrokenShards checked.now v.items) }
 {

@@ -1,4 +1,4 @@
-//! An extent that may be reclaimed. Which ones may is left to `reclaiming`.
+//! An extent that may be reclaimed. See `reclaiming` for which ones may.
 
 ghost use Rattle.std.specs.Prelude.{◌≡◌};
 

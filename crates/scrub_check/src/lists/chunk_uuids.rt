@@ -13,7 +13,7 @@ use std::alloc::Global;
 use std::marker::Model;
 use uuid::Uuid;
 
-/// The UUIDs of chunks, in the order of their bytes; one that several chunks have stands there as often.
+/// The UUIDs of chunks, in the order of their bytes; one that several chunks have is there as often.
 #[derive(Drop)]
 pub struct ChunkUuids {
     uuids: Vec<Uuid>,

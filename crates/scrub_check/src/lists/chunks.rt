@@ -5,17 +5,17 @@ ghost use Rattle.std.specs.List.{filter, filter_map};
 ghost use Rattle.scrub_check.specs.ChunkUuids.{is_twin_by};
 ghost use Rattle.scrub_check.specs.Chunks.{frame_of_item, place_of, chunks, orphans, twins};
 
-use crate::statuses::checked::Checked;
 use crate::lists::chunk_uuids::ChunkUuids;
 use crate::lists::place::Place;
 use crate::lists::sound_starts::SoundStarts;
 use crate::lists::verdicts::Verdicts;
 use crate::lists::walked::walk;
+use crate::statuses::checked::Checked;
 use scrub_disk::{OutOfMemory, PageSource};
 use scrub_scan::{AllFindings, Item, Standing};
 use std::alloc::Global;
 
-/// An item of an extent as the frame that stands at its start, or `None` where it is no chunk.
+/// An item of an extent as the frame at its start, or `None` if it isn't a chunk.
 pub(crate) fn frame_of_item(extent: u32, item: &Item) -> Option<Standing>
     ensures { result ≡ frame_of_item extent item.now }
 {
@@ -39,7 +39,7 @@ pub(crate) fn frame_of_item(extent: u32, item: &Item) -> Option<Standing>
     }
 }
 
-/// The place of an item of an extent, where it is a chunk.
+/// The place of an item of an extent, if it is a chunk.
 pub(crate) fn place_of(extent: u32, item: &Item) -> Option<Place>
     ensures { result ≡ place_of extent item.now }
 {
@@ -77,7 +77,7 @@ fn all_chunks<D: PageSource>(
     Ok(chunks)
 }
 
-/// The chunks to whose place no sound locator points, by extent and then start.
+/// The chunks that no sound locator points to, by extent and then start.
 pub fn orphans<D: PageSource>(
     alloc: Global,
     all: &AllFindings<'_, D>,
@@ -91,7 +91,7 @@ pub fn orphans<D: PageSource>(
     Ok(known.orphans)
 }
 
-/// Those of these chunks whose UUID is twice or more among these.
+/// Those of these chunks whose UUID occurs twice or more among these UUIDs.
 fn twins_among(
     alloc: Global,
     chunks: &[Place],
@@ -106,7 +106,7 @@ fn twins_among(
         .collect(alloc)
 }
 
-/// The chunks whose UUID stands on another chunk too, by extent and then start.
+/// The chunks whose UUID another chunk has too, by extent and then start.
 pub fn twins<D: PageSource>(
     alloc: Global,
     all: &AllFindings<'_, D>,

@@ -1,5 +1,5 @@
-//! A cursor over the sorted places that sound locators point to. It moves forward alone, so that whoever asks for rising
-//! places goes over them once.
+//! A cursor over the sorted places that sound locators point to. It only moves forward, so rising places are all found in
+//! one pass.
 
 ghost use Rattle.std.specs.Prelude.{◌≡◌, ◌≤◌, ◌+◌, nat_lt, length};
 ghost use Rattle.std.specs.List.{count_by};
@@ -9,7 +9,7 @@ ghost use Rattle.scrub_check.specs.Walked.{AreBefore, IsFirstFrom, HasPassed};
 
 use crate::lists::sound_starts::{SoundStarts, Start};
 
-/// The index of the first place that isn't below a start, where none before `from` is such.
+/// The index of the first place that isn't below a start, if all before `from` are below it.
 fn first_from(starts: &[Start], from: usize, start: Start) -> usize
     requires within { from ≤ length starts.now }
     requires before { AreBefore starts.now from start.extent start.offset }
@@ -44,7 +44,7 @@ impl<'s> Cursor<'s> {
         }
     }
 
-    /// Whether a place stands there, where the cursor hasn't passed it yet.
+    /// Whether a place is there, if the cursor hasn't passed it yet.
     pub(crate) fn has(&mut self, start: Start) -> bool
         requires { HasPassed self.old start.extent start.offset }
         ensures stands { result ≡ nat_lt 0 (count_by (is_start start) self.old.starts.now) }

@@ -68,7 +68,7 @@ fn live_bytes_of<D: PageSource>(one: &ExtentResult<'_, D>, checked: &[Checked]) 
     sum_of_live(items, checked, one.extent())
 }
 
-/// How many bytes the live chunks of an extent take: 0 where the extent wasn't scanned. It takes no memory, and walks over
+/// How many bytes the live chunks of an extent take: 0 if the extent wasn't scanned. It takes no memory, and walks over
 /// all locators for each chunk of the extent; for all extents at once call `liveness_of`.
 pub fn live_bytes<D: PageSource>(all: &AllFindings<'_, D>, checked: &[Checked], extent: u32) -> u32
     ensures { HasLiveBytes all.now.extents checked.now extent result }

@@ -1,4 +1,4 @@
-//! All that follows from which chunks are live, at once: for a disk whose report tells all of it.
+//! All that follows from which chunks are live, at once: for a report that lists all of it.
 
 ghost use Rattle.std.specs.Prelude.{◌≡◌, IfOk, map};
 ghost use Rattle.scrub_check.specs.Live.{live_bytes};
@@ -7,13 +7,13 @@ ghost use Rattle.scrub_check.specs.Shared.{AreShared};
 ghost use Rattle.scrub_check.specs.Candidates.{AreCandidates};
 
 use crate::lists::candidate::Candidate;
-use crate::statuses::checked::Checked;
 use crate::lists::place::{Place, SharedPlace};
 use crate::lists::reclaiming::candidates_among;
 use crate::lists::shared_places::shared_by;
 use crate::lists::sound_starts::SoundStarts;
 use crate::lists::verdicts::Verdicts;
 use crate::lists::walked::walk;
+use crate::statuses::checked::Checked;
 use scrub_disk::{OutOfMemory, PageSource};
 use scrub_scan::AllFindings;
 use scrub_super::Plan;
@@ -24,7 +24,7 @@ use std::alloc::Global;
 pub struct Liveness {
     /// How many bytes the live chunks of each scanned extent take, in the order of the extents.
     pub live: Vec<u32>,
-    /// The chunks to whose place no sound locator points, by extent and then start.
+    /// The chunks that no sound locator points to, by extent and then start.
     pub orphans: Vec<Place>,
     /// The places that two sound locators or more point to, by extent and then byte.
     pub shared: Vec<SharedPlace>,
@@ -33,7 +33,7 @@ pub struct Liveness {
 }
 
 /// The live bytes of each extent, and what `orphans`, `shared` and `candidates` give, together. The places that sound locators
-/// point to are sorted once, and walked once beside the items of the extents, so that each chunk is looked at once.
+/// point to are sorted once, and walked once beside the items of the extents, so that each chunk is visited once.
 pub fn liveness_of<D: PageSource>(
     alloc: Global,
     plan: &Plan,

@@ -1,8 +1,8 @@
-//! Places of chunks, as the lists of chunks tell them.
+//! Places of chunks, as in the lists of chunks.
 
 use uuid::Uuid;
 
-/// A chunk and where it stands.
+/// A chunk and its place.
 #[derive(Debug, Clone, Copy, PartialEq, Eq)]
 pub struct Place {
     /// The number of its extent.

@@ -1,5 +1,5 @@
 //! Which extents may be reclaimed: those that hold garbage by half or more, and nothing that a locator might still need.
-//! What a locator is worth, and which chunks are live, is left to `status` and `walked`.
+//! See `status` for the statuses of locators, and `walked` for the live chunks.
 
 ghost use Rattle.std.specs.Prelude.{◌≡◌, ◌&&◌, ◌*◌, ◌-◌, Bool, not, nat_lt, IfOk, OnOk, List};
 ghost use Rattle.std.specs.List.{list_all};
@@ -12,14 +12,15 @@ ghost use Rattle.scrub_check.specs.declared.statuses.checked.Checked.{Checked};
 ghost use Rattle.scrub_check.specs.Live.{live_bytes};
 ghost use Rattle.scrub_check.specs.Verdicts.{AreVerdicts, with_reclaimable};
 ghost use Rattle.scrub_check.specs.Walked.{AreLiveChunks};
-ghost use Rattle.scrub_check.specs.Candidates.{CandidateValue, has_sound_alone, is_reclaimable, candidate_of, by_free, reclaimable, AreCandidates};
+ghost use Rattle.scrub_check.specs.Candidates.{CandidateValue, has_sound_alone, is_reclaimable, candidate_of};
+ghost use Rattle.scrub_check.specs.Candidates.{by_free, reclaimable, AreCandidates};
 ghost use Rattle.scrub_check.specs.Kept.{CandidatesAreSafe};
 
 use crate::lists::candidate::Candidate;
-use crate::statuses::checked::Checked;
 use crate::lists::sound_starts::SoundStarts;
 use crate::lists::verdicts::Verdicts;
 use crate::lists::walked::{LiveChunks, walk};
+use crate::statuses::checked::Checked;
 use scrub_disk::{Geometry, OutOfMemory, PageSource};
 use scrub_scan::{AllFindings, ExtentResult};
 use scrub_super::Plan;
@@ -35,7 +36,7 @@ fn are_past(pages: &[u32], page: u32, pointer: u32) -> bool
         .all(|number| *number as u64 * page as u64 >= pointer as u64)
 }
 
-/// How many bytes below the write pointer of an extent are left, where the live chunks take so many.
+/// How many bytes below the write pointer of an extent are left, if the live chunks take so many.
 fn free_bytes<D: PageSource>(found: &ExtentResult<'_, D>, live: u32) -> u32
     ensures { result ≡ (scanned found.now).pointer - live }
 {
@@ -44,7 +45,8 @@ fn free_bytes<D: PageSource>(found: &ExtentResult<'_, D>, live: u32) -> u32
 
 /// Whether each locator that names an extent is sound.
 fn has_sound_alone<D: PageSource>(verdicts: &Verdicts<'_>, found: &ExtentResult<'_, D>) -> bool
-    ensures { (checked : List Checked) → AreVerdicts checked verdicts.now → result ≡ has_sound_alone checked (scanned found.now) }
+    ensures { (checked : List Checked) → AreVerdicts checked verdicts.now →
+        result ≡ has_sound_alone checked (scanned found.now) }
 {
     !verdicts.unsound.has(found.extent())
 }
@@ -56,7 +58,7 @@ fn is_half_garbage<D: PageSource>(found: &ExtentResult<'_, D>, live: u32) -> boo
     2 * live as u64 <= found.pointer() as u64
 }
 
-/// Whether an extent may be reclaimed whose live chunks take so many bytes.
+/// Whether an extent may be reclaimed if its live chunks take so many bytes.
 fn is_reclaimable<D: PageSource>(
     geometry: Geometry,
     verdicts: &Verdicts<'_>,
@@ -84,8 +86,7 @@ fn candidate_of<D: PageSource>(found: &ExtentResult<'_, D>, live: LiveChunks) ->
     Candidate::new(found.extent(), free_bytes(found, live.bytes), live.starts)
 }
 
-/// Adds an extent of these live chunks to the candidates, if it may be reclaimed, and the sizes of the disk are given to find
-/// that by.
+/// Adds an extent of these live chunks to the candidates, if the sizes of the disk are given and it may be reclaimed.
 pub(crate) fn add_reclaimable<D: PageSource>(
     geometry: Option<Geometry>,
     verdicts: &Verdicts<'_>,
@@ -129,7 +130,7 @@ fn knows_locators(plan: &Plan, in_doubt: bool) -> bool
     plan.has_superblock() && !in_doubt
 }
 
-/// Those of the extents that may be reclaimed, in their order; none where it isn't known which locators the disk has.
+/// Those of the extents that may be reclaimed, in their order; none if it isn't known which locators the disk has.
 pub(crate) fn candidates_among(
     alloc: Global,
     plan: &Plan,
@@ -171,8 +172,9 @@ pub fn one_list_of_candidates()
         AreCandidates plan all checked in_doubt cs → AreCandidates plan all checked in_doubt ds → cs ≡ ds }
 {}
 
-/// A law: reclaiming candidates loses nothing that is named. Where the statuses are those of a whole scan, each locator
+/// A law: reclaiming candidates loses nothing that is named. If the statuses are those of a whole scan, each locator
 /// into the extent of a candidate is sound, and the candidate keeps the chunk that it points to.
 pub fn candidates_are_safe()
-    ensures { (image : Image) (plan : PlanValue) (all : List Scanned) (checked : List Checked) → CandidatesAreSafe image plan all checked }
+    ensures { (image : Image) (plan : PlanValue) (all : List Scanned) (checked : List Checked) →
+        CandidatesAreSafe image plan all checked }
 {}

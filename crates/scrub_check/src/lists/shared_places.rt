@@ -6,9 +6,9 @@ ghost use Rattle.scrub_check.specs.declared.statuses.checked.Checked.{Checked};
 ghost use Rattle.scrub_check.specs.Shared.{AreShared};
 ghost use Rattle.scrub_check.specs.SoundStarts.{AreSoundStarts, place_counted, shared_by};
 
-use crate::statuses::checked::Checked;
 use crate::lists::place::SharedPlace;
 use crate::lists::sound_starts::{SoundStarts, Start};
+use crate::statuses::checked::Checked;
 use scrub_disk::OutOfMemory;
 use std::alloc::Global;
 
@@ -46,7 +46,7 @@ pub fn shared(alloc: Global, checked: &[Checked]) -> Result<Vec<SharedPlace>, Ou
     shared_by(alloc, &sound)
 }
 
-/// The same, where the places are known that sound locators point to.
+/// The same, if the places that sound locators point to are known.
 pub(crate) fn shared_by(alloc: Global, sound: &SoundStarts) -> Result<Vec<SharedPlace>, OutOfMemory>
     ensures { (checked : List Checked) → AreSoundStarts checked sound.now → IfOk result (λ v. AreShared checked v.items) }
 {

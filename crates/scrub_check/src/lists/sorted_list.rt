@@ -1,4 +1,4 @@
-//! Sorted lists: how often an element stands in one, found by search, and whether each stands there once.
+//! Sorted lists: how often an element occurs in one, found by search, and whether each occurs once.
 
 ghost use Rattle.std.specs.Prelude.{◌≡◌, ◌↔◌, IsTrue, IfOk};
 ghost use Rattle.std.specs.Ordering.{is_eq};
@@ -7,7 +7,7 @@ ghost use Rattle.std.specs.List.Sorted.{IsPermutation, IsSorted, IsStrictlySorte
 
 use scrub_disk::OutOfMemory;
 
-/// How often an element stands in a sorted list: as often as it lies between those that are less and those that are
+/// How often an element occurs in a sorted list: as often as it lies between those that are less and those that are
 /// greater.
 pub(crate) fn count_of<T: Ord>(sorted: &[T], one: &T) -> usize
     requires { IsSorted T.cmp sorted.now }
@@ -18,7 +18,7 @@ pub(crate) fn count_of<T: Ord>(sorted: &[T], one: &T) -> usize
     through - below
 }
 
-/// Whether each element of a list is below the next one, so that none stands there twice.
+/// Whether each element of a list is below the next one, so that none occurs twice.
 pub(crate) fn rises_strictly<T: Ord>(list: &[T]) -> bool
     ensures { IsTrue result ↔ IsStrictlySortedBy T.cmp list.now }
 {

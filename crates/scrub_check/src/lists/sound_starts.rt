@@ -6,8 +6,8 @@ ghost use Rattle.std.specs.List.Sorted.{IsSorted, IsStrictlySortedBy};
 ghost use Rattle.scrub_check.specs.Distinct.{AreDistinct};
 ghost use Rattle.scrub_check.specs.SoundStarts.{start_cmp, is_start, sound_starts, AreSoundStarts};
 
-use crate::statuses::checked::Checked;
 use crate::lists::sorted_list::{count_of, rises_strictly, sorted};
+use crate::statuses::checked::Checked;
 use crate::statuses::status::Status;
 use scrub_disk::OutOfMemory;
 use std::alloc::Global;
@@ -20,7 +20,7 @@ pub struct Start {
     pub offset: u32,
 }
 
-/// The places that sound locators point to, by extent and then byte; one that several point to stands there as often.
+/// The places that sound locators point to, by extent and then byte; one that several point to is there as often.
 #[derive(Drop)]
 pub struct SoundStarts {
     starts: Vec<Start>,
@@ -71,7 +71,7 @@ impl SoundStarts {
         &self.starts
     }
 
-    /// Whether each place stands there once.
+    /// Whether each place is there once.
     pub(crate) fn are_distinct(&self) -> bool
         ensures { IsTrue result ↔ IsStrictlySortedBy start_cmp self.now }
     {
@@ -87,7 +87,7 @@ impl SoundStarts {
         Ok(starts)
     }
 
-    /// How often a place stands there.
+    /// How often a place is there.
     pub(crate) fn count(&self, start: Start) -> usize
         ensures { result ≡ count_by (is_start start) self.now }
     {

@@ -9,15 +9,15 @@ ghost use Rattle.scrub_check.specs.Checked.{is_sound};
 ghost use Rattle.scrub_check.specs.SoundStarts.{AreSoundStarts};
 ghost use Rattle.scrub_check.specs.Verdicts.{AreUnsoundExtents, AreVerdicts};
 
-use crate::statuses::checked::Checked;
 use crate::lists::sorted_list::sorted;
 use crate::lists::sound_starts::SoundStarts;
+use crate::statuses::checked::Checked;
 use crate::statuses::status::Status;
 use scrub_disk::OutOfMemory;
 use std::alloc::Global;
 use std::marker::Model;
 
-/// The extents that locators name which aren't sound, by number; one that several name stands there as often.
+/// The extents that locators name which aren't sound, by number; one that several name is there as often.
 #[derive(Drop)]
 pub struct UnsoundExtents {
     extents: Vec<u32>,
@@ -44,7 +44,7 @@ pub struct Verdicts<'a> {
     pub(crate) unsound: UnsoundExtents,
 }
 
-/// Whether a number stands among sorted ones.
+/// Whether a number is among sorted ones.
 fn has_number(numbers: &[u32], number: u32) -> bool
     requires { IsSorted nat_cmp numbers.now }
     ensures { result ≡ list_any (λ n. n == number) numbers.now }
@@ -87,7 +87,7 @@ impl UnsoundExtents {
 }
 
 impl<'a> Verdicts<'a> {
-    /// What these locators say, of which the places are known that the sound ones point to.
+    /// What these locators say, if the places that the sound ones point to are known.
     pub(crate) fn of(
         alloc: Global,
         checked: &[Checked],

@@ -1,4 +1,4 @@
-//! The chunks of all extents, told apart into live ones and orphans by one walk of the sorted places beside the items.
+//! The chunks of all extents, parted into live ones and orphans by one walk of the sorted places beside the items.
 
 ghost use Rattle.std.specs.Prelude.{◌≡◌, ◌<◌, ◌+◌, ◌++◌, ◌∷◌, ◌^◌, [], IfOk, OnOk, List, map};
 ghost use Rattle.std.specs.List.{sum_by};
@@ -33,18 +33,18 @@ pub(crate) struct LiveChunks {
     pub starts: Vec<u32>,
 }
 
-/// What is told of some extents.
+/// What is known of some extents.
 #[derive(Drop)]
 pub(crate) struct Walked {
     /// How many bytes the live chunks of each take.
     pub live: Vec<u32>,
-    /// The chunks in them to whose place no sound locator points, by extent and then start.
+    /// The chunks in them that no sound locator points to, by extent and then start.
     pub orphans: Vec<Place>,
-    /// Those that may be reclaimed, where that is asked for.
+    /// Those that may be reclaimed, if that is asked for.
     pub reclaimable: Vec<Candidate>,
 }
 
-/// Puts an item of an extent to the live chunks or the orphans, where it is a chunk.
+/// Adds an item of an extent to the live chunks or the orphans, if it is a chunk.
 fn put_item(
     extent: u32,
     item: &Item,
@@ -56,7 +56,8 @@ fn put_item(
     requires fits { live.old.bytes + size_of item.now < 2 ^ 32 }
     ensures live { (items : List Item) → AreLiveBy cursor.old.starts.now extent items live.old →
         OnOk result (AreLiveBy cursor.old.starts.now extent (items ++ item.now ∷ []) live.new) }
-    ensures orphans { OnOk result (orphans.new.items ≡ orphans.old.items ++ orphans_by cursor.old.starts.now extent (item.now ∷ [])) }
+    ensures orphans { OnOk result (orphans.new.items ≡
+        orphans.old.items ++ orphans_by cursor.old.starts.now extent (item.now ∷ [])) }
     ensures same { cursor.new.starts.now ≡ cursor.old.starts.now }
     ensures passed { HasPassed cursor.new extent (start_of item.now) }
 {
@@ -99,7 +100,7 @@ fn live_among(
     Ok(live)
 }
 
-/// Tells of one more extent.
+/// Adds one more extent.
 fn tell_extent<D: PageSource>(
     alloc: Global,
     geometry: Option<Geometry>,
@@ -124,14 +125,16 @@ fn tell_extent<D: PageSource>(
     add_reclaimable(geometry, verdicts, found, live, &mut known.reclaimable)
 }
 
-/// What is told of all extents; which may be reclaimed, only where the sizes of the disk are given. The places are walked once, since the extents rise, and the items in each of them.
+/// What is known of all extents; which may be reclaimed, only if the sizes of the disk are given. The places are walked
+/// once, since the extents rise, and so do the items in each.
 pub(crate) fn walk<D: PageSource>(
     alloc: Global,
     geometry: Option<Geometry>,
     verdicts: &Verdicts<'_>,
     all: &AllFindings<'_, D>,
 ) -> Result<Walked, OutOfMemory>
-    ensures known { (checked : List Checked) → AreVerdicts checked verdicts.now → IfOk result (AreWalkedOf geometry checked all.now.extents) }
+    ensures known { (checked : List Checked) → AreVerdicts checked verdicts.now →
+        IfOk result (AreWalkedOf geometry checked all.now.extents) }
     // The extents of every value of the type rise.
     ensures rising { IsStrictlyIncreasing (extent_numbers all.now.extents) }
 {

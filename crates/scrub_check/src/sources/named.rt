@@ -1,4 +1,4 @@
-//! The locators that a disk names, and who names them. What they are worth is left to `status`.
+//! The locators that a disk names, and who names them. See `status` for their statuses.
 
 ghost use Rattle.std.specs.Prelude.{◌≡◌, ◌<◌, ◌^◌, ◌++◌, IfOk, OnOk, length};
 ghost use Rattle.scrub_check.specs.Named.{named_by_runs, named_by_shard, named};

@@ -1,5 +1,4 @@
-//! Which index runs can be read, and why the others are lost. What the entries of several runs come to is found by
-//! `scrub_merge`.
+//! Which index runs can be read, and why the others are lost. See `scrub_merge` for the entries of several runs.
 
 ghost use Rattle.std.specs.Prelude.{◌≡◌, IfOk, map as list_map};
 ghost use Rattle.scrub_check.specs.WholeScan.{IsWholeScan};
@@ -21,11 +20,11 @@ use std::thread::Threads;
 /// What became of an index run.
 #[derive(Debug, Clone, Copy, PartialEq, Eq)]
 pub enum RunState {
-    /// Its chunk stands, sound or hidden, and its payload is a run.
+    /// Its chunk is there, sound or hidden, and its payload is a run.
     Read,
     /// It is lost: its chunk has this status, neither sound nor hidden.
     BadChunk(Status),
-    /// It is lost: its chunk stands, and its payload isn't a run.
+    /// It is lost: its chunk is there, and its payload isn't a run.
     NotARun,
 }
 
@@ -78,8 +77,7 @@ impl ReadRuns {
     }
 }
 
-/// The payload of the chunk that a locator names, where it stands. The locator tells all of the frame but its form, which
-/// the head says.
+/// The payload of the chunk that a locator names. The locator gives all of the frame but its form, which the head says.
 fn payload_of<D: PageSource>(
     alloc: Global,
     disk: &D,
@@ -103,7 +101,7 @@ fn payload_of<D: PageSource>(
     read_payload(alloc, disk, &standing)
 }
 
-/// The run in the chunk that a locator names, where it stands, or why it isn't one.
+/// The run in the chunk that a locator names, if the chunk is there, or why it isn't one.
 fn run_in_chunk<D: PageSource>(
     alloc: Global,
     disk: &D,
@@ -138,7 +136,7 @@ fn run_of<D: PageSource>(
     }
 }
 
-/// The index runs that a plan names, read where their chunks stand and their payloads are runs.
+/// The index runs that a plan names, each read if its chunk is there and its payload is a run.
 pub fn read_runs<D: PageSource>(
     alloc: Global,
     disk: &D,

@@ -1,12 +1,12 @@
-//! The named locators with what they are worth, and the lists that are drawn from them alone. What the locators point to
-//! is left to the lists of chunks.
+//! The named locators with their statuses, and the lists that are drawn from them alone. See `lists` for the chunks that
+//! they point to.
 
 ghost use Rattle.std.specs.Prelude.{◌≡◌, IfOk, IfSome, true, All, length};
 ghost use Rattle.std.specs.List.{AllZip};
 ghost use Rattle.scrub_disk.specs.Image.{Image};
 ghost use Rattle.scrub_super.specs.Plan.{PlanValue};
 ghost use Rattle.scrub_check.specs.Checked.{IsChecked, AreChecked, IsKnownBefore, is_dangling, dangling, hidden};
-ghost use Rattle.scrub_check.specs.Looks.{IsOpen};
+ghost use Rattle.scrub_check.specs.Asked.{IsOpen};
 ghost use Rattle.scrub_check.specs.Runs.{AreRunStates};
 ghost use Rattle.scrub_check.specs.Seen.{AreSeen};
 ghost use Rattle.scrub_check.specs.Status.{HasStatusIn};
@@ -15,7 +15,7 @@ ghost use Rattle.scrub_check.specs.WholeScan.{IsWholeScan};
 use crate::sources::named::{Named, Owner};
 use crate::sources::runs::RunState;
 use crate::statuses::seen::{Seen, see};
-use crate::statuses::status::{Status, status_by_looks, status_by_findings};
+use crate::statuses::status::{Status, status_by_findings, status_by_frames};
 use crate::statuses::whole_scan::WholeScan;
 use rayon::prelude::*;
 use scrub_disk::{OutOfMemory, PageSource};
@@ -25,14 +25,14 @@ use scrub_super::Plan;
 use std::alloc::Global;
 use std::thread::Threads;
 
-/// A named locator, and what it is worth.
+/// A named locator, and its status.
 #[derive(Debug, Clone, Copy, PartialEq, Eq)]
 pub struct Checked {
     /// Who names it.
     pub owner: Owner,
     /// The locator.
     pub locator: Locator,
-    /// What it is worth.
+    /// Its status.
     pub status: Status,
 }
 
@@ -53,8 +53,7 @@ fn are_one(one: &Locator, other: &Locator) -> bool
     true
 }
 
-/// What the locator of an index run is worth by what became of the run, where no item begins at its place: it was judged
-/// before.
+/// The status of an index run's locator, by the state of the run, if no item begins at its place. The run was judged before.
 fn status_by_run(plan: &Plan, states: &[RunState], one: &Named) -> Option<Status>
     ensures { (image : Image) → AreRunStates image plan.now states.now → IsOpen image plan.now one.now.locator →
         IfSome result (HasStatusIn image plan.now one.now.locator) }
@@ -73,7 +72,7 @@ fn status_by_run(plan: &Plan, states: &[RunState], one: &Named) -> Option<Status
     }
 }
 
-/// What a named locator is worth, where the findings tell it, or what became of the index run that it is of.
+/// The status of a named locator, if the findings or the state of its index run decide it.
 fn known_before<D: PageSource>(
     scan: &WholeScan<'_, D>,
     states: &[RunState],
@@ -88,7 +87,7 @@ fn known_before<D: PageSource>(
     }
 }
 
-/// What each of these locators is worth, where that is told before its place is seen.
+/// The status of each of these locators that is known before its place is read.
 fn all_known_before<R: Threads + Sync, D: PageSource>(
     rt: &R,
     alloc: Global,
@@ -112,7 +111,7 @@ fn all_known_before<R: Threads + Sync, D: PageSource>(
     Ok(known)
 }
 
-/// The locators of which nothing is told yet.
+/// The locators whose status isn't known yet.
 fn left_locators(
     alloc: Global,
     named: &[Named],
@@ -131,7 +130,7 @@ fn left_locators(
     Ok(left)
 }
 
-/// A named locator with what it is worth, by what was told before, or else by what was seen at its place.
+/// A named locator with its status: the one that is known, or else the one by what was read at its place.
 fn check_one<D: PageSource>(
     alloc: Global,
     scan: &WholeScan<'_, D>,
@@ -145,7 +144,7 @@ fn check_one<D: PageSource>(
 {
     let status = match known {
         Some(status) => status,
-        None => status_by_looks(alloc, scan, seen, &one.locator)?,
+        None => status_by_frames(alloc, scan, seen, &one.locator)?,
     };
     Ok(Checked {
         owner: one.owner,
@@ -154,7 +153,7 @@ fn check_one<D: PageSource>(
     })
 }
 
-/// These locators with what they are worth, in their order.
+/// These locators with their statuses, in their order.
 fn check_each<D: PageSource>(
     alloc: Global,
     scan: &WholeScan<'_, D>,
@@ -175,9 +174,9 @@ fn check_each<D: PageSource>(
     Ok(checked)
 }
 
-/// What each of these locators is worth, in their order. The findings are searched, and the disk is looked at, on several
-/// threads where there is much to do. A place that several of them point to is looked at once, and its payload is hashed only
-/// where the frame there is sealed, or its head has the UUID and the length of one of them.
+/// The status of each of these locators, in their order. Several threads search the findings and read the disk if there is
+/// much to do. Each place is read once, however many locators point to it. Its payload is hashed only if the frame there is
+/// sealed, or if its head has the UUID and the length of one of the locators.
 pub fn check_all<R: Threads + Sync, D: PageSource>(
     rt: &R,
     alloc: Global,
@@ -192,8 +191,8 @@ pub fn check_all<R: Threads + Sync, D: PageSource>(
     check_named(rt, alloc, disk, plan, all, &[], named)
 }
 
-/// What `check_all` gives, where the index runs were read before: what became of each, in the order of the plan, tells what
-/// its locator is worth, so that its place isn't looked at again.
+/// The same as `check_all`, if the index runs were read before. The state of each run, in the order of the plan, decides the
+/// status of its locator, so its place isn't read again.
 pub fn check_named<R: Threads + Sync, D: PageSource>(
     rt: &R,
     alloc: Global,
@@ -232,7 +231,7 @@ pub fn dangling(alloc: Global, checked: &[Checked]) -> Result<Vec<Checked>, OutO
         .collect(alloc)
 }
 
-/// The hidden locators, in their order: the chunk of each stands, but a scan steps past it.
+/// The hidden locators, in their order: the chunk of each is there, but a scan steps past it.
 pub fn hidden(alloc: Global, checked: &[Checked]) -> Result<Vec<Checked>, OutOfMemory>
     ensures { IfOk result (λ v. v.items ≡ hidden checked.now) }
 {

@@ -1,17 +1,16 @@
-//! Items whose starts are shown one by one, and counted as they are. Nothing else raises the count, since only this module
-//! sees the fields. Which starts are asked for is left to `searching`.
+//! Items that show their starts one by one and count each. Only this module sees the fields, so nothing else changes the
+//! count. See `searching` for the search.
 
 ghost use Rattle.std.specs.Prelude.{◌≡◌, ◌<◌, ◌+◌, ◌^◌, ℕ, List, map, length, slice_index};
 ghost use Rattle.scrub_scan.specs.Item.{start_of};
 
 use scrub_scan::Item;
 
-/// Places that are shown one by one, and counted as they are. A search that sees them by this alone can't look at one that
-/// isn't counted.
+/// Places that are shown one by one, and counted. A search that sees them only through this trait can't see an uncounted one.
 pub(crate) trait ShowsStarts {
     /// The places, in their order.
     ghost starts: { Self → List ℕ };
-    /// How many were shown, each as often as it was.
+    /// How many were shown, with repetitions.
     ghost shown: { Self → ℕ };
 
     /// How many places there are.
@@ -27,11 +26,11 @@ pub(crate) trait ShowsStarts {
         ensures one_more { shown self.new ≡ shown self.old + 1 };
 
     /// How many were shown so far.
-    fn looks(&self) -> u32
+    fn probes(&self) -> u32
         ensures { result ≡ shown self.now };
 }
 
-/// Items whose starts are shown, and how many were.
+/// Items that show their starts, and how many they have shown.
 #[derive(Drop)]
 pub(crate) struct CountedItems<'a> {
     items: &'a [Item],
@@ -39,7 +38,7 @@ pub(crate) struct CountedItems<'a> {
 }
 
 impl<'a> CountedItems<'a> {
-    /// Items of which none was shown.
+    /// Items, none of them shown yet.
     pub(crate) fn new(items: &'a [Item]) -> CountedItems<'a>
         ensures items { result.items.now ≡ items.now }
         ensures unseen { result.shown ≡ 0 }
@@ -62,7 +61,7 @@ impl ShowsStarts for CountedItems<'_> {
         self.items[i].start()
     }
 
-    fn looks(&self) -> u32 {
+    fn probes(&self) -> u32 {
         self.shown
     }
 }

@@ -1,4 +1,4 @@
-//! Where among items an item begins at a place. The starts are seen by `counted_items` alone, which counts them.
+//! The search for the item that begins at a place. It sees the starts only through `counted_items`, which counts them.
 
 ghost use Rattle.std.specs.Prelude.{◌≡◌, ◌≤◌, ◌<◌, ◌^◌, ℕ, IfSome, IfNone, Contains, map, length, slice_index};
 ghost use Rattle.std.specs.List.Sorted.{IsStrictlyIncreasing};
@@ -10,13 +10,13 @@ use scrub_scan::Item;
 /// What a search for an item came to.
 #[derive(Debug, Clone, Copy, PartialEq, Eq)]
 pub struct Found {
-    /// The index of the item that begins at the place, where one does.
+    /// The index of the item that begins at the place, if one does.
     pub at: Option<usize>,
     /// How many items were looked at.
     pub probes: u32,
 }
 
-/// The index of a place among places that rise. It halves them with each that it is shown.
+/// The index of a place among places that rise. Each probe halves them.
 fn search<S: ShowsStarts>(among: &mut S, start: u32) -> Option<usize>
     requires rising { IsStrictlyIncreasing (S.starts among.old) }
     requires unseen { S.shown among.old ≡ 0 }
@@ -55,13 +55,12 @@ fn find<S: ShowsStarts>(among: &mut S, start: u32) -> Found
     let at = search(among, start);
     Found {
         at,
-        probes: among.looks(),
+        probes: among.probes(),
     }
 }
 
-/// The item that begins at a byte of the extent, among items whose starts rise. It halves the items with each that it
-/// looks at, so that these are at most as many as the number of items has binary digits; where there are items it looks at
-/// one at least.
+/// The item that begins at a byte of the extent, among items whose starts rise. Each probe halves the items, so there are at
+/// most as many probes as the number of items has binary digits, and at least one if there are items.
 pub fn find_start(items: &[Item], start: u32) -> Found
     requires { IsStrictlyIncreasing (map start_of items.now) }
     ensures found { IfSome result.at (λ i. (i < length items.now) × (slice_index (map start_of items.now) i ≡ start)) }

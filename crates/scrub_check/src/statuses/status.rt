@@ -1,4 +1,4 @@
-//! What a locator is worth: whether the chunk that it names stands at its place.
+//! The status of a locator: whether the chunk that it names is at its place.
 
 ghost use Rattle.std.specs.Prelude.{◌≡◌, ◌≤◌, ◌<◌, ◌+◌, ◌↔◌, ℕ, Some, IfOk, IfSome, IfNone, IsTrue, map};
 ghost use Rattle.std.specs.List.Sorted.{IsStrictlyIncreasing};
@@ -10,16 +10,17 @@ ghost use Rattle.scrub_check.specs.Judged.{IsOther, IsMismatch, Agrees, IsJudged
 ghost use Rattle.scrub_scan.specs.Extent.{extent_of};
 ghost use Rattle.scrub_scan.specs.Item.{start_of};
 ghost use Rattle.scrub_scan.specs.Tiling.{IsTiling};
-ghost use Rattle.scrub_check.specs.Looks.{start_named_by, IsOpen, IsStatusByItems, IsKnownAmong};
+ghost use Rattle.scrub_check.specs.Asked.{start_named_by, CanBeAsked, IsClaimSeen, IsSeenAt};
+ghost use Rattle.scrub_check.specs.Asked.{IsOpen, IsStatusByItems, IsKnownAmong};
 ghost use Rattle.scrub_check.specs.Seen.{AreSeen};
 
 use crate::lists::chunks::frame_of_item;
-use crate::statuses::claims::{Claim, head_claimed_at, seen_claim};
+use crate::lists::sound_starts::Start;
+use crate::statuses::asked::{Asked, answer_at, asked_at};
 use crate::statuses::extents::{findings_of, has_gap};
-use crate::statuses::looks::standing_at;
+use crate::statuses::frames::{claim_at, frame_at};
 use crate::statuses::searching::find_start;
 use crate::statuses::seen::Seen;
-use crate::lists::sound_starts::Start;
 use crate::statuses::whole_scan::WholeScan;
 use scrub_disk::{Geometry, OutOfMemory, PageSource};
 use scrub_frame::{Form, Head, LEAST_OVERHEAD, Locator};
@@ -28,18 +29,18 @@ use scrub_super::Plan;
 use std::alloc::Global;
 use uuid::Uuid;
 
-/// What a locator is worth: the first of these that applies.
+/// The status of a locator: the first of these that applies.
 #[derive(Debug, Clone, Copy, PartialEq, Eq)]
 pub enum Status {
     /// It names extent 0 or none of the disk, or the least frame of its payload would end past the extent.
     OutOfRange,
-    /// Its extent is retired: what stands there isn't asked.
+    /// Its extent is retired, whatever is there.
     Retired,
     /// The least frame of its payload would end past the write pointer.
     PastPointer,
     /// A page with a byte of the least frame of its payload is unreadable.
     Unreadable,
-    /// No frame of either form stands at its place.
+    /// No frame of either form is at its place.
     NoFrame,
     /// The frame there has another UUID.
     WrongUuid,
@@ -47,13 +48,13 @@ pub enum Status {
     WrongLength,
     /// The payload there has another SHA-256.
     WrongDigest,
-    /// The chunk stands there, but the tiling stepped past it: no item begins at its place.
+    /// The chunk is there, but the tiling stepped past it: no item begins at its place.
     Hidden,
-    /// The chunk stands there, and an item of the tiling begins at its place.
+    /// The chunk is there, and an item of the tiling begins at its place.
     Sound,
 }
 
-/// Where the frame that a locator names would end at the least, in bytes of the extent: a locator doesn't tell the form.
+/// The least byte of the extent at which the frame that a locator names would end: a locator doesn't say the form.
 fn end_of(locator: &Locator) -> u64
     ensures { result ≡ end_of locator.now }
 {
@@ -69,7 +70,7 @@ fn lies_in_range(geometry: Geometry, locator: &Locator) -> bool
         && end_of(locator) <= geometry.extent_bytes() as u64
 }
 
-/// Why a frame of this UUID and this length isn't the one that a locator names, or `None` where both are its own.
+/// Why a frame of this UUID and this length isn't the one that a locator names, or `None` if both are the locator's.
 fn difference(locator: &Locator, uuid: Uuid, length: u32) -> Option<Status>
     ensures other { IfSome result (IsOther locator.now uuid length) }
     ensures same { IfNone result ((uuid ≡ locator.now.uuid) × (length ≡ locator.now.length)) }
@@ -83,7 +84,7 @@ fn difference(locator: &Locator, uuid: Uuid, length: u32) -> Option<Status>
     None
 }
 
-/// Why a frame isn't the one that a locator names, or `None` where it is.
+/// Why a frame isn't the one that a locator names, or `None` if it is.
 fn mismatch(locator: &Locator, standing: &Standing) -> Option<Status>
     ensures other { IfSome result (IsMismatch locator.now standing.now) }
     ensures same { IfNone result (Agrees locator.now standing.now) }
@@ -97,7 +98,7 @@ fn mismatch(locator: &Locator, standing: &Standing) -> Option<Status>
     None
 }
 
-/// What a locator is worth where this frame stands at its place, or none: `agreeing` where it is the one that it names.
+/// The status of a locator by the frame at its place, or by none: `agreeing` if it is the one that the locator names.
 fn judged(locator: &Locator, standing: Option<Standing>, agreeing: Status) -> Status
     ensures { IsJudged locator.now standing agreeing result }
 {
@@ -120,12 +121,11 @@ fn is_unreadable<D: PageSource>(disk: &D, bad_pages: &[u32], locator: &Locator) 
     has_gap(disk, bad_pages, locator.offset, size)
 }
 
-/// What a locator is worth whose frame would lie where it can be read, by the item that begins at its place; `None` where
-/// none does.
+/// The status of a locator whose frame would be on readable pages, by the item that begins at its place; `None` if none does.
 fn status_by_item(items: &[Item], locator: &Locator) -> Option<Status>
     requires { IsStrictlyIncreasing (map start_of items.now) }
-    ensures { (image : Image) (w : ℕ) → CanStand image w locator.now → IsTiling (extent_of image locator.now.extent w) items.now →
-        IsStatusByItems image w locator.now result }
+    ensures { (image : Image) (w : ℕ) → CanStand image w locator.now →
+        IsTiling (extent_of image locator.now.extent w) items.now → IsStatusByItems image w locator.now result }
 {
     if let Some(i) = find_start(items, locator.offset).at {
         let standing = frame_of_item(locator.extent, &items[i]);
@@ -134,7 +134,7 @@ fn status_by_item(items: &[Item], locator: &Locator) -> Option<Status>
     None
 }
 
-/// What a locator is worth, where the findings tell it; `None` where its place has to be looked at.
+/// The status of a locator by the findings; `None` if its place has to be read.
 pub(crate) fn status_by_findings<D: PageSource>(
     scan: &WholeScan<'_, D>,
     locator: &Locator,
@@ -170,8 +170,8 @@ pub(crate) fn start_of(locator: &Locator) -> Start
     }
 }
 
-/// What a locator is worth at whose place this frame is claimed, or none, where that is told without hashing a payload:
-/// that of a sealed frame says whether it stands at all.
+/// The status of a locator by what is claimed at its place; `None` if the payload has to be hashed. A sealed frame has to be
+/// hashed to see whether it is one at all.
 fn status_by_claim(locator: &Locator, claimed: Option<Head>) -> Option<Status>
     ensures { IsStatusByClaim locator.now claimed result }
 {
@@ -184,24 +184,23 @@ fn status_by_claim(locator: &Locator, claimed: Option<Head>) -> Option<Status>
     }
 }
 
-/// The place of a locator, where none of these claims tells what it is worth.
-pub(crate) fn open_start(claims: &[Claim], locator: &Locator) -> Option<Start>
+/// The place of a locator, if none of these claims decides its status.
+pub(crate) fn open_start(claims: &[Asked<Option<Head>>], locator: &Locator) -> Option<Start>
     ensures start { IfSome result (λ s. s ≡ start_named_by locator.now) }
     ensures known { IfNone result (IsKnownAmong claims.now locator.now) }
 {
     let start = start_of(locator);
-    let Some(claim) = seen_claim(claims, start) else {
+    let Some(claim) = asked_at(claims, start) else {
         return Some(start);
     };
-    match status_by_claim(locator, claim.head) {
+    match status_by_claim(locator, claim.answer) {
         Some(_) => None,
         None => Some(start),
     }
 }
 
-/// What a locator is worth that the findings don't tell, by what is claimed at its place, and only where that doesn't tell
-/// it either by what stands there.
-pub(crate) fn status_by_looks<D: PageSource>(
+/// The status of a locator that the findings don't decide: by what is claimed at its place, or else by the frame there.
+pub(crate) fn status_by_frames<D: PageSource>(
     alloc: Global,
     scan: &WholeScan<'_, D>,
     seen: &Seen,
@@ -212,16 +211,30 @@ pub(crate) fn status_by_looks<D: PageSource>(
     ensures { IfOk result (HasStatusIn (D.image scan.now.disk.now) scan.now.plan.now locator.now) }
 {
     let start = start_of(locator);
-    let claimed = head_claimed_at(alloc, scan, &seen.claims, start)?;
+    let claimed = answer_at(
+        &seen.claims,
+        start,
+        &|start: Start| -> Result<Option<Head>, OutOfMemory>
+            requires { CanBeAsked (D.image scan.now.disk.now) scan.now.plan.now start }
+            ensures { IfOk result (IsClaimSeen (D.image scan.entry.now.disk.now) scan.entry.now.plan.now start) }
+        { claim_at(alloc, scan, start) },
+    )?;
     if let Some(status) = status_by_claim(locator, claimed) {
         return Ok(status);
     }
-    let standing = standing_at(alloc, scan, &seen.looks, start)?;
+    let standing = answer_at(
+        &seen.frames,
+        start,
+        &|start: Start| -> Result<Option<Standing>, OutOfMemory>
+            requires { CanBeAsked (D.image scan.now.disk.now) scan.now.plan.now start }
+            ensures { IfOk result (IsSeenAt (D.image scan.entry.now.disk.now) scan.entry.now.plan.now start) }
+        { frame_at(alloc, scan, start) },
+    )?;
     Ok(judged(locator, standing, Status::Hidden))
 }
 
-/// What a locator is worth in the image of a disk: the first status of the table that applies. The disk is looked at only
-/// where no item that was found begins at the locator's place.
+/// The status of a locator in the image of a disk: the first of the table that applies. The disk is read only if no item
+/// that was found begins at the locator's place.
 pub fn status_of<D: PageSource>(
     alloc: Global,
     disk: &D,
@@ -235,12 +248,12 @@ pub fn status_of<D: PageSource>(
     let scan = WholeScan { disk, plan, all };
     match status_by_findings(&scan, locator) {
         Some(status) => Ok(status),
-        None => status_by_looks(alloc, &scan, &Seen::nothing(alloc), locator),
+        None => status_by_frames(alloc, &scan, &Seen::nothing(alloc), locator),
     }
 }
 
-/// A law: exactly one status applies to a locator, under a write pointer and by a plan. Two that do are one, and it can't
-/// be that none does. So what a locator is worth is told by the image and the pointer of its extent, and by nothing else.
+/// A law: exactly one status applies to a locator, under a write pointer and by a plan. So only the image and the pointer of
+/// its extent decide the status.
 pub fn one_status()
     ensures under_pointer { (image : Image) (w : ℕ) (locator : Locator) → ExactlyOne (HasStatus image w locator) }
     ensures in_plan { (image : Image) (plan : PlanValue) (locator : Locator) → ExactlyOne (HasStatusIn image plan locator) }

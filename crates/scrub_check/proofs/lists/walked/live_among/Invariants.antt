@@ -3,7 +3,7 @@ use Rattle.scrub_check.specs.Walked.{orphans_by, AreLiveBy}
 use Rattle.scrub_check.proofs.WalkedItems.{HasPassedTo}
 use Rattle.scrub_check.proofs.lists.walked.live_among.Given as goal
 
--- the items so far are told of, and the cursor has passed none of the starts of the others
+-- the items so far are added, and the cursor has passed none of the starts of the others
 abbrev pub invariant-loop-item : goal.invariant-loop-item
 invariant-loop-item l = record {
   known : AreLiveBy l.fn.cursor.starts.now l.extent (take l.item-index l.items) l.live;

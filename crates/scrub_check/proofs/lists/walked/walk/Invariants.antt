@@ -5,7 +5,7 @@ use Rattle.scrub_check.specs.Walked.{AreWalkedOf}
 use Rattle.scrub_check.proofs.WalkedExtents.{HasPassedAll}
 use Rattle.scrub_check.proofs.lists.walked.walk.Given as goal
 
--- the extents so far are told of, and the cursor has passed no place in the others
+-- the extents so far are added, and the cursor has passed no place in the others
 abbrev pub invariant-loop-i : goal.invariant-loop-i
 invariant-loop-i g l = record {
   known : (checked : List Checked) → AreVerdicts checked l.fn.verdicts → AreWalkedOf l.fn.geometry checked (take l.i l.all.extents) l.known;

@@ -1,4 +1,4 @@
--- What is claimed at the locator's place is its chunk, whose form it tells.
+-- What is claimed at the locator's place is its chunk, and says its form.
 use Rattle.std.proofs.Common.{rules, ℕ, ◌≡◌, ◌∙◌, sym, ap, subst}
 use Rattle.std.proofs.lemmas.Result.{IfOk-weaker}
 use Rattle.scrub_disk.specs.Image.{extent_bytes}

@@ -34,7 +34,7 @@ invariant_of-result g c =
     c.loop-locator-test.false c.runs-locators.ensures.runs c.loop-locator.invariant in
     counted (g.D.PageSource.image c.args.disk.now) c.args.plan.now c.loop-locator.runs.items c.loop-locator.states.items (c.runs-locators.ensures.located.count) all
 
--- all locators are told of
+-- all locators are read
 pub returns : goal.returns
 returns g c =
     let all = all_states (g.D.PageSource.image c.args.disk.now) c.args.plan.now c.runs-locators.result.now c.loop-locator.locator-index c.loop-locator.runs.items c.loop-locator.states.items

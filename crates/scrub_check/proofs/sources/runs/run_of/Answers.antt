@@ -7,7 +7,7 @@ use Rattle.scrub_check.specs.Runs.{IsRunIn, HasRunStateIn}
 use Rattle.scrub_check.proofs.Payloads.{stands_there, states_in, lost_in}
 use Rattle.scrub_check.proofs.sources.runs.run_of.Goals as goal
 
--- the chunk of a sound or hidden locator stands
+-- the chunk of a sound or hidden locator is there
 pub run_in_chunk-requires-after_bounds : goal.run_in_chunk-requires-after_bounds
 run_in_chunk-requires-after_bounds g c κs within =
     stands_there (g.D.PageSource.image c.args.disk.now) c.args.plan.now c.args.locator.now c.in_ok-status.status c.in-Sound.is c.in_ok-status.ensures

@@ -1,12 +1,12 @@
 use Rattle.std.proofs.Common.{◌∙◌, None, not, get_or, arith, sym, ap, subst, List, All}
 use Rattle.std.proofs.lemmas.List.{get_or_default}
 use Rattle.scrub_frame.specs.declared.locator.Locator.{Locator}
-use Rattle.scrub_check.specs.Looks.{IsOpen}
+use Rattle.scrub_check.specs.Asked.{IsOpen}
 use Rattle.scrub_check.proofs.CheckedLists.{left_more}
 use Rattle.scrub_check.proofs.statuses.checked.left_locators.Goals as goal
 use Rattle.scrub_check.proofs.statuses.checked.left_locators.Goals.{then-is_none+in_ok-push, else-is_none}
 
--- one more of which nothing is told, or one that is told
+-- one more of which nothing is known, or one whose status is known
 pub loop-i-preserved : goal.loop-i-preserved
 loop-i-preserved c =
     let i = c.loop-i.i in

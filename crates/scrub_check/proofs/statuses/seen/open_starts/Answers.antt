@@ -2,7 +2,7 @@ use Rattle.std.proofs.Common.{◌≡◌, ◌∙◌, IfSome, List, ap, sym, subst
 use Rattle.std.specs.List.{AllZip, All}
 use Rattle.rayon.proofs.ToStd.{slice-AllZip}
 use Rattle.scrub_check.specs.declared.lists.sound_starts.Start.{Start}
-use Rattle.scrub_check.specs.Looks.{start_named_by, CanBeLookedAt}
+use Rattle.scrub_check.specs.Asked.{start_named_by, CanBeAsked}
 use Rattle.scrub_check.proofs.LeftPlaces.{places_left}
 use Rattle.scrub_check.proofs.statuses.seen.open_starts.Goals as goal
 
@@ -13,4 +13,4 @@ returns g c = λ image plan geometry left.
     let chain = h.1 in
     let known = subst (λ f. AllZip (λ z o. IfSome o (λ s. s ≡ start_named_by z.now)) chain.0 chain.1) c.filter_map.ensures.f chain.3 in
     let each = slice-AllZip chain.0 c.args.left.now (chain.2 ∙ slice) (λ l o. IfSome o (λ s. s ≡ start_named_by l)) chain.1 known in
-    subst (λ (ss : List Start). All (CanBeLookedAt image plan) ss) (sym (h.2 ∙ chain.4)) (places_left image plan c.args.left.now chain.1 geometry left each)
+    subst (λ (ss : List Start). All (CanBeAsked image plan) ss) (sym (h.2 ∙ chain.4)) (places_left image plan c.args.left.now chain.1 geometry left each)

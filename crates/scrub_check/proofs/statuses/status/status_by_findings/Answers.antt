@@ -36,7 +36,7 @@ status_by_item-requires g c =
     subst (λ (is : List Item). IsStrictlyIncreasing (map start_of is)) (sym c.items.ensures)
     (starts_rise (extent_of image c.args.locator.now.extent c.pointer-pointer.result) c.findings_of-findings.result.now.items (omega (arith, image.geometry.page_size.least)) found.tiled)
 
--- so they tell its status
+-- so they decide its status
 pub returns-clause-known : goal.returns-clause-known
 returns-clause-known g c =
     let image = g.D.PageSource.image c.args.scan.now.disk.now in
@@ -49,7 +49,7 @@ returns-clause-known g c =
     let tiled = subst (λ (is : List Item). IsTiling (extent_of image l.extent w) is) (sym c.items.ensures) found.tiled in
     (status_in_plan image c.args.scan.now.plan.now w l c.status_by_item.result (sym c.is_retired.ensures ∙ c.if-is_retired.false) c.pointer-pointer.ensures.value can (c.status_by_item.ensures image w can tiled)).0
 
--- or leave its place to be looked at
+-- or its place has to be read
 pub returns-clause-open : goal.returns-clause-open
 returns-clause-open g c =
     let image = g.D.PageSource.image c.args.scan.now.disk.now in

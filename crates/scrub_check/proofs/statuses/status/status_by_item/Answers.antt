@@ -7,7 +7,7 @@ use Rattle.scrub_check.specs.Judged.{IsJudged}
 use Rattle.scrub_check.proofs.Judged.{StartsAt, at_some, at_none, judged_by_item, none_begins}
 use Rattle.scrub_check.proofs.statuses.status.status_by_item.Goals as goal
 
--- an item begins at its place, and tells the status
+-- an item begins at its place, and decides the status
 pub returns-in-Some : goal.returns-in-Some
 returns-in-Some c image w can tiled =
     let l = c.args.locator.now in

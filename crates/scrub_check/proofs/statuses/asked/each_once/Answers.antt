@@ -1,6 +1,6 @@
 use Rattle.scrub_check.proofs.Distinct.{distinct_made}
 use Rattle.scrub_check.proofs.SortedStarts.{start_total, start_exact, start_ties}
-use Rattle.scrub_check.proofs.statuses.looks.each_once.Goals as goal
+use Rattle.scrub_check.proofs.statuses.asked.each_once.Goals as goal
 
 pub returns : goal.returns
 returns c =

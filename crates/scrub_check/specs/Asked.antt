@@ -1,5 +1,5 @@
 -- What is at places of a disk that have to be read, since the findings don't say it; and what is claimed there.
-use Rattle.std.specs.Prelude.{◌≡◌, ◌<◌, ◌≤◌, ◌+◌, ℕ, List, false, Option, Some, None, MatchOption, All, Contains}
+use Rattle.std.specs.Prelude.{◌≡◌, ◌<◌, ◌≤◌, ◌+◌, ◌⊎◌, ℕ, List, false, Option, Some, None, MatchOption, All, Contains}
 use Rattle.scrub_disk.specs.Image.{Image, byte, extent_bytes}
 use Rattle.scrub_frame.specs.declared.locator.Locator.{Locator}
 use Rattle.scrub_super.specs.Plan.{PlanValue, pointer_of}
@@ -9,8 +9,7 @@ use Rattle.scrub_scan.specs.declared.standing.Standing.{Standing}
 use Rattle.scrub_scan.specs.Extent.{Extent, extent_of, NoFrameAt, HasGap}
 use Rattle.scrub_scan.specs.Standing.{IsStandingAt, IsClaimedAt}
 use Rattle.scrub_check.specs.declared.lists.sound_starts.Start.{Start}
-use Rattle.scrub_check.specs.declared.statuses.claims.Claim.{Claim}
-use Rattle.scrub_check.specs.declared.statuses.looks.Look.{Look}
+use Rattle.scrub_check.specs.declared.statuses.asked.Asked.{Asked}
 use Rattle.scrub_check.specs.declared.statuses.status.Status.{Status}
 use Rattle.scrub_check.specs.Judged.{IsStatusByClaim}
 use Rattle.scrub_check.specs.Status.{CanStand, BeginsAt, HasStatus, is_retired}
@@ -19,8 +18,8 @@ use Rattle.scrub_check.specs.Status.{CanStand, BeginsAt, HasStatus, is_retired}
 abbrev pub start_named_by : Locator → Start
 start_named_by l = record { extent = l.extent; offset = l.offset }
 
--- a place that can be looked at: in an extent of the disk that is in use
-pub record CanBeLookedAt (image : Image) (plan : PlanValue) (s : Start) : Type 0 where
+-- a place that can be asked: in an extent of the disk that is in use
+pub record CanBeAsked (image : Image) (plan : PlanValue) (s : Start) : Type 0 where
   pub geometry : plan.geometry ≡ image.geometry
   pub from_one : 1 ≤ s.extent
   pub in_disk : s.extent < image.geometry.extents
@@ -35,11 +34,15 @@ IsFoundAt image w e p found = MatchOption found (NoFrameAt (extent_of image e w)
 abbrev pub IsSeenAt : Image → PlanValue → Start → Option Standing → Type 0
 IsSeenAt image plan s found = (w : ℕ) → pointer_of plan s.extent ≡ Some w → IsFoundAt image w s.extent s.offset found
 
--- each of these says which frame is at its place under the plan's pointer, or that none is
-abbrev pub AreLooks : Image → PlanValue → List Look → Type 0
-AreLooks image plan looks = All (λ look. IsSeenAt image plan look.start look.standing) looks
+-- this is the answer at a place: one of these, or one that asking gives
+abbrev pub IsAnswerOf : {A : Type 0} → List (Asked A) → (Start → A → Type 0) → Start → A → Type 0
+IsAnswerOf asked gives s a = Contains asked (record { start = s; answer = a }) ⊎ gives s a
 
--- the frame that a locator names would be in an extent in use, where it can be read, and no item begins at its place
+-- each of these answers holds at its place
+abbrev pub AreAnswered : {A : Type 0} → (Start → A → Type 0) → List (Asked A) → Type 0
+AreAnswered holds asked = All (λ one. holds one.start one.answer) asked
+
+-- the frame that a locator names would be in an extent in use, on readable pages, and no item begins at its place
 pub record IsOpen (image : Image) (plan : PlanValue) (l : Locator) : Type 0 where
   pub in_use : is_retired plan l.extent ≡ false
   pub pointer : ℕ
@@ -47,8 +50,7 @@ pub record IsOpen (image : Image) (plan : PlanValue) (l : Locator) : Type 0 wher
   pub can : CanStand image pointer l
   pub apart : ¬ BeginsAt (extent_of image l.extent pointer) l.offset
 
--- what items say of a locator whose frame would be where it can be read: its status, or that no item begins at its
--- place
+-- what items say of a locator whose frame would be on readable pages: its status, or that no item begins at its place
 abbrev pub IsStatusByItems : Image → ℕ → Locator → Option Status → Type 0
 IsStatusByItems image w l known = MatchOption known (¬ BeginsAt (extent_of image l.extent w) l.offset) (HasStatus image w l)
 
@@ -66,19 +68,15 @@ pub record IsReadableClaim (x : Extent) (p : ℕ) (h : Head) : Type 0 where
 abbrev pub IsClaimSeen : Image → PlanValue → Start → Option Head → Type 0
 IsClaimSeen image plan s found = (w : ℕ) → pointer_of plan s.extent ≡ Some w → MatchOption found (NoFrameAt (extent_of image s.extent w) s.offset) (IsReadableClaim (extent_of image s.extent w) s.offset)
 
--- each of these says which frame is claimed at its place, or that no frame is there
-abbrev pub AreClaims : Image → PlanValue → List Claim → Type 0
-AreClaims image plan claims = All (λ claim. IsClaimSeen image plan claim.start claim.head) claims
-
 -- what is left of a claimed frame: nothing if one of its bytes can't be read, and else the same
 abbrev pub AreReadableClaims : Image → Start → Option Head → Option Head → Type 0
 AreReadableClaims image s None left = left ≡ None
 AreReadableClaims image s (Some h) left = MatchOption left (HasGap (byte image s.extent) s.offset (h.length + frame_overhead h.form)) (λ k. (k ≡ h) × ¬ HasGap (byte image s.extent) s.offset (h.length + frame_overhead h.form))
 
 -- one of these claims, which is at the locator's place, says its status
-pub record IsKnownAmong (claims : List Claim) (l : Locator) : Type 0 where
-  pub claim : Claim
+pub record IsKnownAmong (claims : List (Asked (Option Head))) (l : Locator) : Type 0 where
+  pub claim : Asked (Option Head)
   pub among : Contains claims claim
   pub there : claim.start ≡ start_named_by l
   pub status : Status
-  pub known : IsStatusByClaim l claim.head (Some status)
+  pub known : IsStatusByClaim l claim.answer (Some status)

@@ -1,0 +1,13 @@
+use Rattle.std.proofs.Common.{inl, subst}
+use Rattle.std.specs.List.{Contains}
+use Rattle.scrub_check.specs.declared.lists.sound_starts.Start.{Start}
+use Rattle.scrub_check.proofs.SeenPlaces.{asked_now}
+use Rattle.scrub_check.proofs.statuses.asked.answer_at.Goals as goal
+
+-- the known answer
+pub returns-in-Some : goal.returns-in-Some
+returns-in-Some g c = inl (subst (λ (s : Start). Contains c.args.asked.now (record { start = s; answer = c.in-Some.one.answer })) c.in-Some.ensures.start c.in-Some.ensures.among)
+
+-- or what asking gives
+pub returns : goal.returns
+returns g c = asked_now c.args.asked.now (λ s r. g.F.Fn.post c.args.ask.now (s, tt) r) c.args.start c.ask.result c.ask.ensures
