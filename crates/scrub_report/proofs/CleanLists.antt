@@ -1,4 +1,4 @@
--- A list of locators in good order: none dangles and none is hidden exactly where each is sound.
+-- No locator dangles or is hidden exactly if each is sound.
 use Rattle.std.proofs.Common.{◌≡◌, ◌&&◌, Bool, true, false, List, [], ◌∷◌, length, refl, ap, ◌∙◌, cond}
 use Rattle.std.specs.Prelude.{◌==◌}
 use Rattle.std.proofs.Math.Dec.{eqb-suc-zero}
@@ -12,7 +12,7 @@ and_false : (a : Bool) → (a && false) ≡ false
 and_false true = refl
 and_false false = refl
 
--- one locator more
+-- one more locator
 one_more : (c : Checked) (s : Status) (ds hs : List Checked) (rest : Bool) → (length ds == 0 && length hs == 0) ≡ rest →
     (length (cond (is_dangling s) (c ∷ ds) ds) == 0 && length (cond (is_hidden s) (c ∷ hs) hs) == 0) ≡ (is_sound s && rest)
 one_more c Sound ds hs rest h = h

@@ -1,15 +1,13 @@
--- The lines of what may be reclaimed, told of what was found; one such text for an image; and that they are safe.
-use Rattle.std.proofs.Common.{◌≡◌, ◌++◌, ◌==◌, ◌&&◌, ℕ, Bool, true, false, List, [], ◌∷◌, length, get_or, map, arith, refl, sym, subst, ap, ◌∙◌, inl, inr, if◌then◌else◌}
-use Rattle.std.specs.List.{All, Contains, flat_map}
+-- The lines of what can be reclaimed are those of what was found, an image has one such text, and reclaiming is safe.
+use Rattle.std.proofs.Common.{◌≡◌, ◌++◌, ◌==◌, ◌&&◌, ℕ, Bool, true, false, List, [], ◌∷◌, get_or, arith, refl, sym, subst, ap, ◌∙◌, inl, inr, if◌then◌else◌}
+use Rattle.std.specs.List.{Contains, flat_map}
 use Rattle.std.proofs.lemmas.Bool.{eq-eqb}
-use Rattle.std.proofs.lemmas.List.Elements.{Contains-append_left, Contains-append_right, All-contains, All-contains_itself}
+use Rattle.std.proofs.lemmas.List.Elements.{Contains-append_left, Contains-append_right, All-contains_itself}
 use Rattle.scrub_disk.specs.Image.{Image}
 use Rattle.scrub_super.specs.declared.pages.SuperblockPage.{SuperblockPage}
-use Rattle.scrub_super.specs.Pages.{AreSuperblockPages}
 use Rattle.scrub_super.specs.Planned.{extents_in_use}
 use Rattle.scrub_super.proofs.PageLaws.{one_list_of_pages}
 use Rattle.scrub_merge.proofs.Elements.{Contains-cases, Contains-filter}
-use Rattle.scrub_scan.specs.Scanned.{Scanned}
 use Rattle.scrub_check.specs.declared.statuses.checked.Checked.{Checked}
 use Rattle.scrub_check.specs.declared.sources.runs.RunState.{RunState}
 use Rattle.scrub_check.specs.Candidates.{CandidateValue}
@@ -21,26 +19,26 @@ use Rattle.scrub_report.specs.declared.doubts.Accepted.{Accepted}
 use Rattle.scrub_report.specs.declared.doubts.Doubt.{Doubt}
 use Rattle.scrub_report.specs.declared.parts.Parts.{Parts}
 use Rattle.scrub_report.specs.Doubts.{are_accepted, doubts, doubts_in}
-use Rattle.scrub_report.specs.Parts.{AreKeptOf, found_in}
-use Rattle.scrub_report.specs.Reclaimable.{AreMoved, AreOfCandidates, AreReclaimLines, IsClear, IsMoved, candidate_lines, doubt_line, is_clear, moves, pointing_to, points_to, reclaim_text, reclaimed}
+use Rattle.scrub_report.specs.Parts.{AreRowsOf, found_in, run_states}
+use Rattle.scrub_report.specs.Reclaimable.{AreMoved, AreOfCandidates, AreReclaimLines, IsClear, IsMoved, candidate_lines, doubt_line, is_clear, pointing_to, points_to, reclaim_text, reclaimed}
 use Rattle.scrub_report.specs.Report.{IsReport, report_text}
 use Rattle.scrub_report.specs.Scrubbed.{Scrubbed, IsScrubbed, is_in_doubt}
 use Rattle.scrub_report.proofs.OneReport.{one_scrub}
 
--- ---- what the code tells
+-- ---- what the code writes
 
-module _ {D : Type 0} {s : _} (p : Parts D s) (read : ReadRunsValue) (kept : AreKeptOf read p.entries.items p.states.items) (pages : List SuperblockPage) (accepted : Accepted) where
-  -- the doubts are told of the runs by what is kept of them
-  pub doubts_found : doubts_in p.chosen pages p.states.items p.plan.geometry.page p.all.extents ≡ doubts pages (found_in p read)
-  doubts_found = ap (λ (states : List RunState). doubts_in p.chosen pages states p.plan.geometry.page p.all.extents) kept.states_are
+module _ {D : Type 0} {s : _} (p : Parts D s) (read : ReadRunsValue) (rows : AreRowsOf p.plan.runs read p.runs.items) (pages : List SuperblockPage) (accepted : Accepted) where
+  -- the doubts of the rows are those of the runs
+  pub doubts_found : doubts_in p.chosen pages (run_states p.runs.items) p.plan.geometry.page p.all.extents ≡ doubts pages (found_in p read)
+  doubts_found = ap (λ (states : List RunState). doubts_in p.chosen pages states p.plan.geometry.page p.all.extents) rows.states_are
 
-  -- so whether it is clear
-  pub clear_found : (list : List Doubt) (clear : Bool) → list ≡ doubts_in p.chosen pages p.states.items p.plan.geometry.page p.all.extents →
+  -- the verdict is that of what was found
+  pub clear_found : (list : List Doubt) (clear : Bool) → list ≡ doubts_in p.chosen pages (run_states p.runs.items) p.plan.geometry.page p.all.extents →
       clear ≡ are_accepted accepted list → clear ≡ is_clear accepted pages (found_in p read)
   clear_found list clear are is = is ∙ ap (are_accepted accepted) (are ∙ doubts_found)
 
-  -- and the lines
-  pub lines_found : (list : List Doubt) (clear : Bool) (lines text : List ℕ) → list ≡ doubts_in p.chosen pages p.states.items p.plan.geometry.page p.all.extents →
+  -- the text is that of what was found
+  pub lines_found : (list : List Doubt) (clear : Bool) (lines text : List ℕ) → list ≡ doubts_in p.chosen pages (run_states p.runs.items) p.plan.geometry.page p.all.extents →
       clear ≡ are_accepted accepted list → lines ≡ flat_map (doubt_line accepted) list →
       text ≡ lines ++ flat_map (candidate_lines p.checked.items) (if clear then p.liveness.candidates.items else []) → text ≡ reclaim_text accepted pages (found_in p read)
   lines_found list clear lines text are is first all =
@@ -65,7 +63,7 @@ module _ (image : Image) (accepted : Accepted) where
   one_verdict a b x y =
       x.verdict ∙ same_verdict x.found y.found x.pages y.pages (one_scrub image x.found y.found x.scrubbed y.scrubbed) (one_list_of_pages image x.pages y.pages x.held y.held) ∙ sym y.verdict
 
-  -- it is told of what the report tells
+  -- the extents are those of the report
   pub of_candidates : (report text : List ℕ) (clear : Bool) → IsReport image report → AreReclaimLines image accepted text → IsClear image accepted clear →
       AreOfCandidates image accepted report text clear
   of_candidates report text clear r t v = record {
@@ -82,7 +80,7 @@ module _ (image : Image) (accepted : Accepted) where
 
 -- ---- what is reclaimed is safe
 
--- a part's element is among the parts
+-- an element of a part is in the parts put together
 among_parts : {X A : Type 0} (f : X → List A) (xs : List X) (x : X) (y : A) → Contains xs x → Contains (f x) y → Contains (flat_map f xs) y
 among_parts f [] x y (i, below, is) there = absurd (omega (arith, below))
 among_parts {X} {A} f (z ∷ xs) x y among there = elim (Contains-cases z xs x among) [
@@ -94,7 +92,7 @@ among_parts {X} {A} f (z ∷ xs) x y among there = elim (Contains-cases z xs x a
 own_place : (c : Checked) (e : ℕ) → c.locator.extent ≡ e → points_to e c.locator.offset c ≡ true
 own_place c e same = ap (λ b. b && (c.locator.offset == c.locator.offset)) (eq-eqb c.locator.extent e same) ∙ eq-eqb c.locator.offset c.locator.offset refl
 
--- so one that points to a chunk to keep is among the moves
+-- a locator that points to a chunk to keep is among the moves
 moved : (checked : List Checked) (a : CandidateValue) (c : Checked) → Contains checked c → c.locator.extent ≡ a.extent → IsKept a c → IsMoved checked a c
 moved checked a c there same k = record {
   sound = k.sound;

@@ -1,4 +1,4 @@
--- The text of the report's extents, piece by piece, and what is before and behind it.
+-- The text of the report's extents, piece by piece, and the text before and behind it.
 use Rattle.std.proofs.Common.{◌≡◌, ◌<◌, ◌≤◌, ◌+◌, ◌-◌, ◌*◌, ℕ, zero, suc, List, [], ◌∷◌, ◌++◌, Bool, true, false, codes, fold, get_or, length, min, take, drop, nat_lt, arith, refl, sym, ap, ap₂, ◌∙◌, append_assoc, append-nil}
 use Rattle.std.specs.List.{zip}
 use Rattle.std.specs.Int.{div_ceil}
@@ -22,7 +22,7 @@ use Rattle.scrub_report.specs.Tokens.{all_keys, begun_tokens, ended_tokens, exte
 use Rattle.scrub_report.proofs.ScannedLive.{beside_scanned}
 use Rattle.scrub_report.proofs.Tokens.{keys_joined, list_tokens, object_tokens}
 
--- whether some tokens leave a value just ended
+-- whether the last token ends a value
 abbrev left : Bool → List Token → Bool
 left c ts = fold (λ _ t. ends t) c ts
 
@@ -31,7 +31,7 @@ extent_tokens p = value_tokens (extent_data p.1 p.0)
 
 -- ---- one extent
 
--- behind another one it has a comma
+-- behind another extent it has a comma
 opened : (p : Scanned × ℕ) (ts : List Token) → print_from true (extent_tokens p ++ ts) ≡ 44 ∷ print_from false (extent_tokens p ++ ts)
 unfolding print_from
 opened p ts = refl
@@ -70,7 +70,7 @@ more_extents ps from i p old new behind below is so_far grown =
     ∙ flat_map_more extent_tokens [] (take n rest) (get_or rest n p)
     ∙ ap extents_tokens (sym (take_more rest n p (omega (arith, behind, below, length-drop from ps))) ∙ ap (λ k. take k rest) (omega (arith, behind)))
 
--- a piece ends with the last extent at the latest
+-- a piece ends at the last extent or before it
 pub whole_piece : (ps : List (Scanned × ℕ)) (from size i : ℕ) → i - from ≡ min size (length ps - from) → take (i - from) (drop from ps) ≡ take size (drop from ps)
 whole_piece ps from size i e = ap (λ k. take k (drop from ps)) (e ∙ ap (min size) (sym (length-drop from ps))) ∙ take_min size (drop from ps)
 
@@ -105,7 +105,7 @@ no_piece t ps size =
     let nothing : 0 * size ≡ 0 = grind arith in
     sym (ap (λ k. t ++ print (extents_tokens (take k ps))) nothing ∙ append-nil t)
 
--- as many pieces as are begun reach the end, and each of them begins before it
+-- the pieces reach the end, and each of them begins before it
 pub pieces_end : (n c size len : ℕ) → 0 < size → c ≡ div_ceil len size → c ≤ n → len ≤ n * size
 pieces_end n c size len some is all =
     let bound = (div_ceil_times len size some).0 in

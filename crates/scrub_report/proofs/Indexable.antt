@@ -1,4 +1,4 @@
--- The bindings of a disk's shard map fit into one index run: their identifiers differ, and each stands in one of at most
+-- The bindings of a disk's shard map fit into one index run: their identifiers differ, and each is in one of at most
 -- 32 runs, none of which has more entries than an extent has bytes. So the recovered index is a run.
 use Rattle.std.proofs.Common.{◌≡◌, ◌<◌, ◌≤◌, ◌^◌, ◌||◌, ℕ, Bool, true, false, not, Option, Some, None, MatchOption, List, [], ◌∷◌, ◌++◌, length, map, zero, suc, arith, refl, sym, ◌∙◌, ap, get_or, inl, inr}
 use Rattle.std.specs.Ordering.{nat_cmp, eq_by_cmp, is_eq}
@@ -77,7 +77,7 @@ abbrev bound_ids : List BindingValue → List (List ℕ)
 bound_ids bindings = map (λ b. b.id.0) bindings
 
 id_among : (p : List ℕ → Bool) (es : List EntryValue) (e : EntryValue) → Contains es e → p e.id.0 ≡ true → list_any p (map (λ f. f.id.0) es) ≡ true
-id_among p [] e there h = absurd (let no : ⊥ = omega (arith, there.1) in no)
+id_among p [] e there h = absurd (omega (arith, there.1))
 id_among p (x ∷ xs) e there h = elim (Contains-cases x xs e there) [
   | inl is ↦ or_left (p x.id.0) (list_any p (map (λ f. f.id.0) xs)) (ap (λ v. p v.id.0) is ∙ h)
   | inr later ↦ or_right (p x.id.0) (list_any p (map (λ f. f.id.0) xs)) (id_among p xs e later h)
@@ -107,7 +107,7 @@ bound_among p runs (b ∷ bs) newest h = by (p b.id.0) refl (λ later. bound_amo
 -- ---- they differ
 
 apart : (b : BindingValue) (bs : List BindingValue) → All (λ c. IsBelow b.id c.id) bs → All (λ y. same_bytes b.id.0 y ≡ false) (bound_ids bs)
-apart b [] below k d hk = absurd (let no : ⊥ = omega (arith, hk) in no)
+apart b [] below k d hk = absurd (omega (arith, hk))
 apart b (c ∷ bs) below zero d hk = ap is_eq (All-head (λ v. IsBelow b.id v.id) c bs below)
 apart b (c ∷ bs) below (suc k) d hk = apart b bs (All-tail (λ v. IsBelow b.id v.id) c bs below) k d (omega (arith, hk))
 
@@ -136,7 +136,7 @@ few_runs image s x = omega (arith, x.read.count, planned s.choice.superblock s.c
     planned (Some c) None chosen by = absurd chosen
     planned (Some c) (Some q) chosen by = omega (arith, ap length by.runs, chosen.stands.contents.runs.count)
 
--- fewer bindings than a run can tell
+-- a run can have this many entries
 pub countable : (image : Image) (s : Scrubbed) → IsScrubbed image s → length s.bindings < 2 ^ 32
 countable image s x =
     let ids = length-le_from_is_member same_bytes_laws (bound_ids s.bindings) (ids_of_runs s.read.runs) (distinct s.bindings x.bindings.bindings_of_map.rising)
@@ -144,7 +144,7 @@ countable image s x =
     let all = sum_by-le (λ (r : Option (List EntryValue)). length (ids_of_run r)) (2 ^ 26) s.read.runs (runs_within s.read.runs (λ k es here. let found = read_of image s.plan s.read x.read k es here in read_within image found.1 found.0 es found.2)) in
     omega (arith, ids, length-map s.bindings (λ (b : BindingValue). b.id.0), length-flat_map ids_of_run s.read.runs, all, few_runs image s x)
 
--- each of them is what an entry can tell
+-- each binding is an entry
 entries_are : (image : Image) (s : Scrubbed) → IsScrubbed image s → All (λ b. IsEntry (indexed b)) s.bindings
 entries_are image s x k d hk = entry (get_or s.bindings k d) (x.bindings.newest k d hk)
   where
@@ -153,15 +153,15 @@ entries_are image s x k d hk = entry (get_or s.bindings k d) (x.bindings.newest 
         let entries = read_runs_are_runs image s.plan s.read x.read b.run is.entry.entries is.entry.is_read in
         All-contains IsEntry is.entry.entries (indexed b) entries.each is.entry.among
 
--- so each has as many locators as an entry can
+-- each has at most as many locators as an entry can have
 pub entries_fit : (image : Image) (s : Scrubbed) → IsScrubbed image s → All (λ b. length b.locators ≤ 64) s.bindings
 entries_fit image s x k d hk = (entries_are image s x k d hk).few
 
 -- ---- the index is a run
 
 indexed_rise : (bs : List BindingValue) → AllPairs (λ b c. IsBelow b.id c.id) bs → RisesById (map indexed bs)
-indexed_rise [] rising i j d order here = absurd (let no : ⊥ = omega (arith, here) in no)
-indexed_rise (b ∷ bs) rising i zero d order here = absurd (let no : ⊥ = omega (arith, order) in no)
+indexed_rise [] rising i j d order here = absurd (omega (arith, here))
+indexed_rise (b ∷ bs) rising i zero d order here = absurd (omega (arith, order))
 indexed_rise (b ∷ bs) rising zero (suc j) d order here =
     All-map (λ (e : EntryValue). IsBelow b.id e.id) indexed bs (λ k c hk. rising zero (suc k) c (omega arith) (omega (arith, hk))) j d (omega (arith, here))
 indexed_rise (b ∷ bs) rising (suc i) (suc j) d order here =

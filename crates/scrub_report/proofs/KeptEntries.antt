@@ -1,4 +1,4 @@
--- What a search among rising identifiers finds.
+-- Binary search among rising identifiers finds one exactly if it is there.
 use Rattle.std.proofs.Common.{◌≡◌, ◌+◌, ℕ, List, Bool, length, get_or, AllPairs, Contains, IsTrue, ◌↔◌, Result, Ok, Err, is_ok, arith, sym, ◌∙◌, ap, inl, inr}
 use Rattle.std.specs.List.Sorted.{IsBinarySearchResult, IsSearchInRange, IsNonDecreasingBy, IsPartitionPoint, IsSortedBy}
 use Rattle.std.specs.Ordering.{is_eq, is_lt, ordering_index, ordering_reverse}

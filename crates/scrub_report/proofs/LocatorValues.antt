@@ -9,7 +9,7 @@ use Rattle.scrub_check.specs.Checked.{dangling, hidden, is_dangling, is_hidden, 
 use Rattle.scrub_report.specs.Tokens.{locator_data}
 use Rattle.scrub_report.specs.Report.{dangling_data, hidden_data}
 
--- two ways to show that agree where a test holds agree on what the test keeps
+-- two functions that agree on what passes a test agree on the filtered list
 same_shown : {X : Type 0} (p : X → Bool) (f g : X → Data) → ((x : X) → p x ≡ true → f x ≡ g x) → (xs : List X) → map f (filter p xs) ≡ map g (filter p xs)
 same_shown p f g same [] = refl
 same_shown {X} p f g same (x ∷ xs) = by (p x) (same x) (same_shown p f g same xs)

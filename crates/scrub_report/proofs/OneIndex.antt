@@ -1,4 +1,4 @@
--- An image has, by its plan, one list of index runs, and one list of named locators with what they are worth.
+-- By its plan an image has one list of index runs, and one list of named locators with their statuses.
 use Rattle.std.proofs.Common.{◌≡◌, ℕ, Bool, true, false, Option, Some, None, MatchBool, MatchOption, List, [], ◌∷◌, map, refl, sym, ◌∙◌, ap, subst}
 use Rattle.std.proofs.Math.Path.{ap₂}
 use Rattle.std.specs.List.{AllZip, slice_get}
@@ -11,7 +11,6 @@ use Rattle.scrub_super.specs.Plan.{PlanValue, pointer_of}
 use Rattle.scrub_scan.specs.Extent.{extent_of}
 use Rattle.scrub_scan.specs.OneFrame.{one_frame_at}
 use Rattle.scrub_run.specs.Entry.{EntryValue}
-use Rattle.scrub_run.specs.Run.{IsRun}
 use Rattle.scrub_run.proofs.Runs.{one_run_lem}
 use Rattle.scrub_merge.specs.Binding.{Runs}
 use Rattle.scrub_merge.specs.ShardMap.{AreRuns}
@@ -29,7 +28,7 @@ use Rattle.scrub_report.proofs.OneReader.{heads, tails, no_tail}
 
 -- ---- one list of runs
 
--- lists that agree with one list are one, where what agrees with one element is one
+-- two lists related to one list are the same if at most one element is related to each element
 same_zipped : {A B : Type 0} (R : A → B → Type 0) → ((a : A) (b c : B) → R a b → R a c → b ≡ c) → (xs : List A) (ys zs : List B) → AllZip R xs ys → AllZip R xs zs → ys ≡ zs
 same_zipped R one [] [] [] h k = refl
 same_zipped R one [] [] (z ∷ zs) h k = absurd k
@@ -46,7 +45,7 @@ one_run_of image w l None None x y = refl
 one_run_of image w l None (Some fs) x y = absurd (x fs y)
 one_run_of image w l (Some es) None x y = absurd (y es x)
 one_run_of image w l (Some es) (Some fs) x y =
-    ap Some (one_run_lem y.names.payload es fs (subst (λ (p : List ℕ). IsRun p es) (same_payload image w l es fs x y) x.run) y.run)
+    ap Some (one_run_lem y.names.payload es fs (rw (same_payload image w l es fs x y) at x.run) y.run)
 
 one_run_in : (image : Image) (plan : PlanValue) (l : Locator) (r s : Option (List EntryValue)) → IsRunIn image plan l r → IsRunIn image plan l s → r ≡ s
 one_run_in image plan l r s = by (is_retired plan l.extent)
@@ -100,7 +99,7 @@ one_list_of_runs image plan r s x y =
     (same_zipped (IsRunIn image plan) (one_run_in image plan) plan.runs r.runs s.runs x.runs y.runs)
     (same_zipped (HasRunStateIn image plan) (one_state_in image plan) plan.runs r.states s.states x.states y.states)
 
--- a run that is read names a chunk, whose payload it is
+-- the locator of a run that was read names a chunk with the run as its payload
 named_run : (image : Image) (plan : PlanValue) (l : Locator) (es : List EntryValue) → IsRunIn image plan l (Some es) → (w : ℕ) × NamesRun image w l es
 named_run image plan l es = by (is_retired plan l.extent)
   where
@@ -119,7 +118,7 @@ pub read_of : (image : Image) (plan : PlanValue) (r : ReadRunsValue) → AreRead
     (l : Locator) × (w : ℕ) × NamesRun image w l es
 read_of image plan r x k es here =
     from (slice_get plan.runs k)
-    (subst (λ (y : Option (Option (List EntryValue))). MatchOption y (Unit {0}) (λ run. IsSomeAnd (slice_get plan.runs k) (λ l. IsRunIn image plan l run))) here
+    (rw here at
     (AllZip-right (IsRunIn image plan) plan.runs r.runs x.runs k))
   where
     from : (l : Option Locator) → IsSomeAnd l (λ l. IsRunIn image plan l (Some es)) → (l : Locator) × (w : ℕ) × NamesRun image w l es

@@ -1,5 +1,5 @@
--- A choice has one plan, and one reader finds one thing by it.
-use Rattle.std.proofs.Common.{◌≡◌, ◌<◌, ℕ, Option, Some, None, MatchOption, List, [], ◌∷◌, arith, refl, sym, ◌∙◌, ap, subst}
+-- A choice has one plan, and a plan has one scan.
+use Rattle.std.proofs.Common.{◌≡◌, ◌<◌, ℕ, Option, Some, None, MatchOption, List, [], ◌∷◌, arith, refl, sym, ◌∙◌, ap}
 use Rattle.std.proofs.Math.Path.{ap₂}
 use Rattle.std.proofs.lemmas.Option.{same_Some}
 use Rattle.std.specs.List.{All}
@@ -30,7 +30,7 @@ same_plan p q hg hp ht hw hr hs = λ i. record {
   has_superblock = hs i;
 }
 
--- what a superblock tells, or the want of one
+-- the same for a superblock or none
 same_choice : (g : Geometry) (s : Option Contents) (p q : PlanValue) → MatchOption s (IsPlanWithout p g) (IsPlanBy p) → MatchOption s (IsPlanWithout q g) (IsPlanBy q) →
     (p.retired ≡ q.retired) × (p.pointers ≡ q.pointers) × (p.runs ≡ q.runs) × (p.has_superblock ≡ q.has_superblock)
 same_choice g None p q x y = (x.retired ∙ sym y.retired, x.pointers ∙ sym y.pointers, x.runs ∙ sym y.runs, x.has ∙ sym y.has)
@@ -38,7 +38,7 @@ same_choice g (Some c) p q x y = (x.retired ∙ sym y.retired, x.pointers ∙ sy
 
 pub one_plan : (choice : Choice) (p q : PlanValue) → IsPlanOf choice p → IsPlanOf choice q → p ≡ q
 one_plan choice p q x y =
-    let verdict = same_choice choice.geometry choice.superblock p q x.by y.by in
+    let known = same_choice choice.geometry choice.superblock p q x.by y.by in
     same_plan p q (x.geometry ∙ sym y.geometry) (x.all ∙ ap (extents_in_use choice.geometry.extents) known.0 ∙ sym y.all) known.0 known.1 known.2 known.3
 
 -- ---- one reader
@@ -69,7 +69,7 @@ one_scanned : (image : Image) (plan : PlanValue) (f g : Scanned) → f.extent �
     IsFindings image f.extent f.pointer f.findings → IsFindings image g.extent g.pointer g.findings → f ≡ g
 one_scanned image plan f g he pf pg x y =
     let hp : f.pointer ≡ g.pointer = same_Some f.pointer g.pointer (sym pf ∙ ap (pointer_of plan) he ∙ pg) in
-    let z : IsFindings image g.extent g.pointer f.findings = subst (λ (w : ℕ). IsFindings image g.extent w f.findings) hp (subst (λ (e : ℕ). IsFindings image e f.pointer f.findings) he x) in
+    let z : IsFindings image g.extent g.pointer f.findings = rw (← hp) (rw he at x) in
     same_scanned f g he hp (one_findings image g.extent g.pointer f.findings g.findings z y)
 
 pub heads : {X : Type 0} (x y : X) (xs ys : List X) → (x ∷ xs) ≡ (y ∷ ys) → x ≡ y

@@ -62,7 +62,7 @@ ranges_push (p ∷ ps) q = ap (with_page p) (ranges_push ps q) ∙ around p q (p
 pub ranges_more : (ps : List ℕ) (i d : ℕ) → i < length ps → page_ranges (take (i + 1) ps) ≡ joined_with (page_ranges (take i ps)) (get_or ps i d)
 ranges_more ps i d below = ap page_ranges (take_more ps i d below) ∙ ranges_push (take i ps) (get_or ps i d)
 
--- a page behind ranges whose last one is its neighbour, and behind others
+-- a page behind ranges, whether it follows the last one directly or not
 module _ (old rest : List PageRange) (r : PageRange) (q : ℕ) (split : old ≡ rest ++ r ∷ []) where
   pub joined_neighbour : (r.last + 1 == q) ≡ true → rest ++ up_to_page r q ∷ [] ≡ joined_with old q
   joined_neighbour e = sym (ap (λ (rs : List PageRange). joined_with rs q) split ∙ joined_behind rest r q ∙ ap (λ b. rest ++ last_joined b r q) e)

@@ -11,7 +11,7 @@ each_beside : (checked : List Checked) (all : List Scanned) → map (λ (p : Sca
 each_beside checked [] = refl
 each_beside checked (f ∷ all) = ap (λ (ds : List Data). extent_data (live_bytes checked f) f ∷ ds) (each_beside checked all)
 
--- what each shows is the value of an extent with its live bytes
+-- each pair has the value of an extent with its live bytes
 pub beside_scanned : (checked : List Checked) (all : List Scanned) (live : List ℕ) → live ≡ map (live_bytes checked) all →
     map (λ (p : Scanned × ℕ). extent_data p.1 p.0) (zip all live) ≡ map (λ f. extent_data (live_bytes checked f) f) all
 beside_scanned checked all live same = ap (λ (ns : List ℕ). map (λ (p : Scanned × ℕ). extent_data p.1 p.0) (zip all ns)) same ∙ each_beside checked all

@@ -1,4 +1,4 @@
-//! Chunks at their places, and the extents that may be reclaimed, as the report has them.
+//! Chunks at their places, and the extents that can be reclaimed, as the report has them.
 
 ghost use Rattle.scrub_report.specs.Report.{candidate_data, place_data, shared_data};
 

@@ -17,7 +17,7 @@ fn is_hidden(status: Status) -> bool
     matches!(status, Status::Hidden)
 }
 
-/// One of `hidden`, or of `dangling`, which tells what is wrong with it too.
+/// One of `hidden`, or of `dangling`, which has its status as `reason` too.
 impl WriteJson for Checked {
     ghost shown = { locator_data };
 

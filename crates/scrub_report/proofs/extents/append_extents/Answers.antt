@@ -1,4 +1,4 @@
--- One more piece, and in the end all.
+-- One more piece, and at the end all.
 use Rattle.std.proofs.Common.{rules, ◌≡◌, ◌*◌, ◌++◌, IfOk, IfSome, length, [], ◌∷◌, arith, refl, ap, subst, ◌∙◌}
 use Rattle.std.specs.List.{zip}
 use Rattle.std.proofs.lemmas.Iterator.Adapters.{YieldsList-from_vec}

@@ -1,6 +1,6 @@
 -- One more write.
 use Rattle.scrub_report.proofs.Appending.{appends_next}
-use Rattle.scrub_report.proofs.writing.write_out.Goals as goal
+use Rattle.scrub_report.proofs.output.write_out.Goals as goal
 
 pub loop-written-preserved : goal.loop-written-preserved
 loop-written-preserved g c =

@@ -1,7 +1,7 @@
 -- So far the first bytes have been written.
 use Rattle.std.proofs.Common.{length, ◌-◌, take, ◌≤◌}
 use Rattle.std.specs.Io.KnownBytes.{Appends}
-use Rattle.scrub_report.proofs.writing.write_out.Given as goal
+use Rattle.scrub_report.proofs.output.write_out.Given as goal
 
 -- the first bytes have been written, and nothing else
 abbrev pub invariant-loop-written : goal.invariant-loop-written
