@@ -38,7 +38,11 @@ shown_total = on_total place_shown place_total
 abbrev pub probe : ℕ → ℕ → Bor Checked
 probe e p = record {
   ref_ptr = (0, 0);
-  now = record { owner = Run 0; locator = record { extent = e; offset = p; length = 0; uuid = []; digest = [] }; status = Sound };
+  now = record {
+    owner = Run 0;
+    locator = record { extent = e; offset = p; length = 0; uuid = []; digest = [] };
+    status = Sound;
+  };
 }
 
 both : (r q : Ordering) → is_eq (ordering_then r q) ≡ (is_eq r && is_eq q)
@@ -48,7 +52,9 @@ both Greater q = refl
 
 -- a locator points to a place exactly if it is neither below nor above one that does
 pub points_there : (e p : ℕ) (one : Bor Checked) → points_to e p one.now ≡ is_eq (shown_cmp one (probe e p))
-points_there e p one = sym (both (nat_cmp one.now.locator.extent e) (nat_cmp one.now.locator.offset p) ∙ ap₂ (λ a b. a && b) (same_number one.now.locator.extent e) (same_number one.now.locator.offset p))
+points_there e p one =
+    sym
+    (both (nat_cmp one.now.locator.extent e) (nat_cmp one.now.locator.offset p) ∙ ap₂ (λ a b. a && b) (same_number one.now.locator.extent e) (same_number one.now.locator.offset p))
 
 neither_below : (r : Ordering) → (not (is_lt (ordering_reverse r)) && not (is_lt r)) ≡ is_eq r
 neither_below Less = refl
@@ -56,9 +62,11 @@ neither_below Equal = refl
 neither_below Greater = refl
 
 -- that is, if neither is below the other
-pub ties_there : (e p : ℕ) (one : Bor Checked) → ties (λ a b. is_lt (shown_cmp a b)) (probe e p) one ≡ points_to e p one.now
+pub ties_there : (e p : ℕ) (one : Bor Checked) →
+    ties (λ a b. is_lt (shown_cmp a b)) (probe e p) one ≡ points_to e p one.now
 ties_there e p one =
-    ap (λ (r : Ordering). not (is_lt r) && not (is_lt (shown_cmp one (probe e p)))) (shown_total.antisymm (probe e p) one)
+    ap (λ (r : Ordering). not (is_lt r) && not (is_lt (shown_cmp one (probe e p))))
+    (shown_total.antisymm (probe e p) one)
     ∙ neither_below (shown_cmp one (probe e p)) ∙ sym (points_there e p one)
 
 -- the references to locators of a place
@@ -66,14 +74,17 @@ abbrev pub shown_at : ℕ → ℕ → List (Bor Checked) → List (Bor Checked)
 shown_at e p xs = filter (λ one. points_to e p one.now) xs
 
 -- a stable sort keeps their order
-pub stable_there : (xs ys : List (Bor Checked)) → IsStableByKey place_shown place_cmp xs ys → (e p : ℕ) → shown_at e p ys ≡ shown_at e p xs
+pub stable_there : (xs ys : List (Bor Checked)) → IsStableByKey place_shown place_cmp xs ys → (e p : ℕ) →
+    shown_at e p ys ≡ shown_at e p xs
 stable_there xs ys stable e p =
-    sym (filter_agree (ties (λ a b. is_lt (shown_cmp a b)) (probe e p)) (λ one. points_to e p one.now) (ties_there e p) ys)
+    sym
+    (filter_agree (ties (λ a b. is_lt (shown_cmp a b)) (probe e p)) (λ one. points_to e p one.now) (ties_there e p) ys)
     ∙ stable (probe e p)
     ∙ filter_agree (ties (λ a b. is_lt (shown_cmp a b)) (probe e p)) (λ one. points_to e p one.now) (ties_there e p) xs
 
 -- so the sorted list has those of a place in their order
-pub alike : (checked : List Checked) (xs ys : List (Bor Checked)) → map shown xs ≡ checked → IsStableByKey place_shown place_cmp xs ys → PointAlike checked ys
+pub alike : (checked : List Checked) (xs ys : List (Bor Checked)) → map shown xs ≡ checked →
+    IsStableByKey place_shown place_cmp xs ys → PointAlike checked ys
 alike checked xs ys are stable e p =
     sym (filter_mapped (points_to e p) shown ys)
     ∙ ap (map shown) (stable_there xs ys stable e p)
@@ -110,7 +121,8 @@ found_there ys e p below through lows highs le inside =
 pub part_there : (checked : List Checked) (ys : List (Bor Checked)) (e p below through : ℕ) →
     IsPartitionPoint (λ one. is_lt (shown_cmp one (probe e p)) ≡ true) (λ one. is_lt (shown_cmp one (probe e p)) ≡ false) ys below →
     IsPartitionPoint (λ one. is_le (shown_cmp one (probe e p)) ≡ true) (λ one. is_le (shown_cmp one (probe e p)) ≡ false) ys through →
-    below ≤ through → through ≤ length ys → PointAlike checked ys → map shown (take (through - below) (drop below ys)) ≡ pointing_to checked e p
+    below ≤ through → through ≤ length ys → PointAlike checked ys →
+    map shown (take (through - below) (drop below ys)) ≡ pointing_to checked e p
 part_there checked ys e p below through lows highs le inside same =
     ap (map shown) (between_is ys below through ∙ sym (found_there ys e p below through lows highs le inside))
     ∙ filter_mapped (points_to e p) shown ys ∙ same e p

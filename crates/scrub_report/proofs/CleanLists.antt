@@ -16,7 +16,8 @@ and_false false = refl
 one_more : (c : Checked) (s : Status) (ds hs : List Checked) (rest : Bool) → (length ds == 0 && length hs == 0) ≡ rest →
     (length (cond (is_dangling s) (c ∷ ds) ds) == 0 && length (cond (is_hidden s) (c ∷ hs) hs) == 0) ≡ (is_sound s && rest)
 one_more c Sound ds hs rest h = h
-one_more c Hidden ds hs rest h = ap (λ none. length ds == 0 && none) (eqb-suc-zero (length hs)) ∙ and_false (length ds == 0)
+one_more c Hidden ds hs rest h =
+    ap (λ none. length ds == 0 && none) (eqb-suc-zero (length hs)) ∙ and_false (length ds == 0)
 one_more c OutOfRange ds hs rest h = ap (λ none. none && length hs == 0) (eqb-suc-zero (length ds))
 one_more c Retired ds hs rest h = ap (λ none. none && length hs == 0) (eqb-suc-zero (length ds))
 one_more c PastPointer ds hs rest h = ap (λ none. none && length hs == 0) (eqb-suc-zero (length ds))
@@ -26,6 +27,8 @@ one_more c WrongUuid ds hs rest h = ap (λ none. none && length hs == 0) (eqb-su
 one_more c WrongLength ds hs rest h = ap (λ none. none && length hs == 0) (eqb-suc-zero (length ds))
 one_more c WrongDigest ds hs rest h = ap (λ none. none && length hs == 0) (eqb-suc-zero (length ds))
 
-pub sound_alone : (cs : List Checked) → (length (dangling cs) == 0 && length (hidden cs) == 0) ≡ list_all (λ c. is_sound c.status) cs
+pub sound_alone : (cs : List Checked) →
+    (length (dangling cs) == 0 && length (hidden cs) == 0) ≡ list_all (λ c. is_sound c.status) cs
 sound_alone [] = refl
-sound_alone (c ∷ cs) = one_more c c.status (dangling cs) (hidden cs) (list_all (λ d. is_sound d.status) cs) (sound_alone cs)
+sound_alone (c ∷ cs) =
+    one_more c c.status (dangling cs) (hidden cs) (list_all (λ d. is_sound d.status) cs) (sound_alone cs)

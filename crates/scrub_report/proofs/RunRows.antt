@@ -10,11 +10,13 @@ use Rattle.scrub_report.specs.Values.{row_data}
 
 -- rows are shown as their three lists side by side
 shown : (rows : List RunRow) → map row_data rows
-    ≡ map (λ r. run_data r.0 r.1.0 r.1.1) (zip (map (λ r. r.locator) rows) (zip (map (λ r. r.entries) rows) (run_states rows)))
+    ≡ map (λ r. run_data r.0 r.1.0 r.1.1)
+    (zip (map (λ r. r.locator) rows) (zip (map (λ r. r.entries) rows) (run_states rows)))
 shown [] = refl
 shown (r ∷ rs) = ap (λ ds. row_data r ∷ ds) (shown rs)
 
-pub rows_shown : (rows : List RunRow) → list (map row_data rows) ≡ runs_data (map (λ r. r.locator) rows) (map (λ r. r.entries) rows) (run_states rows)
+pub rows_shown : (rows : List RunRow) →
+    list (map row_data rows) ≡ runs_data (map (λ r. r.locator) rows) (map (λ r. r.entries) rows) (run_states rows)
 rows_shown rows = ap list (shown rows)
 
 -- the doubts of rows are those of their states

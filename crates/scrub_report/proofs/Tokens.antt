@@ -21,36 +21,50 @@ chain a b c xs ys first later = later ∙ ap (λ ts. ts ++ ys) first ∙ append_
 
 items_are : (ds : List Data) → items_tokens (items_outline (items_of ds)) ≡ flat_map value_tokens ds ++ end_array ∷ []
 items_are [] = refl
-items_are (d ∷ ds) = ap (λ ts. value_tokens d ++ ts) (items_are ds) ∙ sym (append_assoc (value_tokens d) (flat_map value_tokens ds) (end_array ∷ []))
+items_are (d ∷ ds) =
+    ap (λ ts. value_tokens d ++ ts) (items_are ds)
+    ∙ sym (append_assoc (value_tokens d) (flat_map value_tokens ds) (end_array ∷ []))
 
 -- a list is written element by element, between its brackets
-pub list_tokens : {X : Type 0} (show : X → Data) (xs : List X) → value_tokens (list (map show xs)) ≡ begin_array ∷ (flat_map (λ x. value_tokens (show x)) xs ++ end_array ∷ [])
-list_tokens show xs = ap (λ ts. begin_array ∷ ts) (items_are (map show xs) ∙ ap (λ ts. ts ++ end_array ∷ []) (flat_map-map value_tokens show xs))
+pub list_tokens : {X : Type 0} (show : X → Data) (xs : List X) →
+    value_tokens (list (map show xs)) ≡ begin_array ∷ (flat_map (λ x. value_tokens (show x)) xs ++ end_array ∷ [])
+list_tokens show xs =
+    ap (λ ts. begin_array ∷ ts)
+    (items_are (map show xs) ∙ ap (λ ts. ts ++ end_array ∷ []) (flat_map-map value_tokens show xs))
 
 module _ {X : Type 0} (show : X → Data) (xs : List X) (old mid new : List Token) (i : ℕ) where
   -- all are written, and the list is closed
-  closed_list : length xs ≤ i → mid ≡ old ++ list_begun show (take i xs) → new ≡ mid ++ end_array ∷ [] → new ≡ old ++ value_tokens (list (map show xs))
+  closed_list : length xs ≤ i → mid ≡ old ++ list_begun show (take i xs) → new ≡ mid ++ end_array ∷ [] →
+      new ≡ old ++ value_tokens (list (map show xs))
   closed_list end so_far closed =
       closed ∙ ap (λ ts. ts ++ end_array ∷ []) (so_far ∙ ap (λ ys. old ++ list_begun show ys) (take_all i xs end))
       ∙ append_assoc old (list_begun show xs) (end_array ∷ [])
       ∙ ap (λ ts. old ++ ts) (sym (list_tokens show xs))
 
-  pub list_closed : {E : Type 0} (r : Result (Unit {0}) E) → length xs ≤ i → mid ≡ old ++ list_begun show (take i xs) → OnOk r (new ≡ mid ++ end_array ∷ []) →
+  pub list_closed : {E : Type 0} (r : Result (Unit {0}) E) → length xs ≤ i → mid ≡ old ++ list_begun show (take i xs) →
+      OnOk r (new ≡ mid ++ end_array ∷ []) →
       OnOk r (new ≡ old ++ value_tokens (list (map show xs)))
   list_closed (Ok u) end so_far closed = closed_list end so_far closed
   list_closed (Err e) end so_far closed = tt
 
 -- ---- objects
 
-members_are : (ms : List (List ℕ × Data)) → closed_members (members_outline (members ms)) ≡ members_tokens ms ++ end_object ∷ []
+members_are : (ms : List (List ℕ × Data)) →
+    closed_members (members_outline (members ms)) ≡ members_tokens ms ++ end_object ∷ []
 members_are [] = refl
-members_are (m ∷ ms) = ap (λ ts. member_tokens m.0 m.1 ++ ts) (members_are ms) ∙ sym (append_assoc (member_tokens m.0 m.1) (members_tokens ms) (end_object ∷ []))
+members_are (m ∷ ms) =
+    ap (λ ts. member_tokens m.0 m.1 ++ ts) (members_are ms)
+    ∙ sym (append_assoc (member_tokens m.0 m.1) (members_tokens ms) (end_object ∷ []))
 
-pub object_tokens : (ms : List (List ℕ × Data)) → value_tokens (with_keys ms) ≡ begin_object ∷ (members_tokens ms ++ end_object ∷ [])
+pub object_tokens : (ms : List (List ℕ × Data)) →
+    value_tokens (with_keys ms) ≡ begin_object ∷ (members_tokens ms ++ end_object ∷ [])
 object_tokens ms = ap (λ ts. begin_object ∷ ts) (members_are ms)
 
-members_joined : (ms ns : List (List ℕ × Data)) (ts : List Token) → members_tokens (ms ++ ns) ++ ts ≡ members_tokens ms ++ (members_tokens ns ++ ts)
-members_joined ms ns ts = ap (λ us. us ++ ts) (flat_map-append (λ (m : List ℕ × Data). member_tokens m.0 m.1) ms ns) ∙ append_assoc (members_tokens ms) (members_tokens ns) ts
+members_joined : (ms ns : List (List ℕ × Data)) (ts : List Token) →
+    members_tokens (ms ++ ns) ++ ts ≡ members_tokens ms ++ (members_tokens ns ++ ts)
+members_joined ms ns ts =
+    ap (λ us. us ++ ts) (flat_map-append (λ (m : List ℕ × Data). member_tokens m.0 m.1) ms ns)
+    ∙ append_assoc (members_tokens ms) (members_tokens ns) ts
 
 -- what one member is written as
 abbrev shown_member : {X : Type 0} → (X → List ℕ × Data) → X → List Token
@@ -58,20 +72,24 @@ shown_member show x = member_tokens (show x).0 (show x).1
 
 module _ {X : Type 0} (show : X → List ℕ × Data) (xs : List X) (old mid : List Token) (i : ℕ) where
   -- all are written
-  pub all_members : length xs ≤ i → mid ≡ old ++ flat_map (shown_member show) (take i xs) → mid ≡ old ++ members_tokens (map show xs)
+  pub all_members : length xs ≤ i → mid ≡ old ++ flat_map (shown_member show) (take i xs) →
+      mid ≡ old ++ members_tokens (map show xs)
   all_members end so_far =
       so_far ∙ ap (λ ys. old ++ flat_map (shown_member show) ys) (take_all i xs end)
       ∙ ap (λ ts. old ++ ts) (sym (flat_map-map (λ (m : List ℕ × Data). member_tokens m.0 m.1) show xs))
 
 -- an object is begun, its members are written, and it is closed
-pub object_written : (ms : List (List ℕ × Data)) (a b c d : List Token) → b ≡ a ++ begin_object ∷ [] → c ≡ b ++ members_tokens ms → d ≡ c ++ end_object ∷ [] →
+pub object_written : (ms : List (List ℕ × Data)) (a b c d : List Token) → b ≡ a ++ begin_object ∷ [] →
+    c ≡ b ++ members_tokens ms → d ≡ c ++ end_object ∷ [] →
     d ≡ a ++ value_tokens (with_keys ms)
 object_written ms a b c d begun all closed =
-    chain a b d (begin_object ∷ []) (members_tokens ms ++ end_object ∷ []) begun (chain b c d (members_tokens ms) (end_object ∷ []) all closed)
+    chain a b d (begin_object ∷ []) (members_tokens ms ++ end_object ∷ []) begun
+    (chain b c d (members_tokens ms) (end_object ∷ []) all closed)
     ∙ ap (λ ts. a ++ ts) (sym (object_tokens ms))
 
 pub object_closed : {E : Type 0} (ms : List (List ℕ × Data)) (a b c d : List Token) (r : Result (Unit {0}) E) →
-    b ≡ a ++ begin_object ∷ [] → c ≡ b ++ members_tokens ms → OnOk r (d ≡ c ++ end_object ∷ []) → OnOk r (d ≡ a ++ value_tokens (with_keys ms))
+    b ≡ a ++ begin_object ∷ [] → c ≡ b ++ members_tokens ms → OnOk r (d ≡ c ++ end_object ∷ []) →
+    OnOk r (d ≡ a ++ value_tokens (with_keys ms))
 object_closed ms a b c d (Ok u) begun all closed = object_written ms a b c d begun all closed
 object_closed ms a b c d (Err e) begun all closed = tt
 
@@ -83,6 +101,11 @@ module _ {D : Type 0} {s : _} (p : Parts D s) (clean : Bool) where
   keys_joined =
       let closed = end_object ∷ [] in
       let last = members_joined (run_keys p) (last_keys p) closed in
-      let scanned = members_joined (extent_keys p) (run_keys p ++ last_keys p) closed ∙ ap (λ ts. members_tokens (extent_keys p) ++ ts) last in
-      let all = members_joined (first_keys p clean) (extent_keys p ++ (run_keys p ++ last_keys p)) closed ∙ ap (λ ts. members_tokens (first_keys p clean) ++ ts) scanned in
-      ap (λ ts. begin_object ∷ ts) (sym all) ∙ sym (object_tokens (first_keys p clean ++ (extent_keys p ++ (run_keys p ++ last_keys p))))
+      let scanned =
+      members_joined (extent_keys p) (run_keys p ++ last_keys p) closed
+      ∙ ap (λ ts. members_tokens (extent_keys p) ++ ts) last in
+      let all =
+      members_joined (first_keys p clean) (extent_keys p ++ (run_keys p ++ last_keys p)) closed
+      ∙ ap (λ ts. members_tokens (first_keys p clean) ++ ts) scanned in
+      ap (λ ts. begin_object ∷ ts) (sym all)
+      ∙ sym (object_tokens (first_keys p clean ++ (extent_keys p ++ (run_keys p ++ last_keys p))))

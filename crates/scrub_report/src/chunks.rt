@@ -2,8 +2,8 @@
 
 ghost use Rattle.scrub_report.specs.Report.{candidate_data, place_data, shared_data};
 
-use crate::object::{Value, write_object};
 use crate::json_values::WriteJson;
+use crate::object::{Value, write_object};
 use json::Writer;
 use scrub_check::{Candidate, Place, SharedPlace};
 use scrub_disk::OutOfMemory;

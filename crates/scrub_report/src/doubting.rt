@@ -221,7 +221,7 @@ pub(crate) fn doubts_of<D: PageSource>(
 ) -> Result<Vec<Doubt>, OutOfMemory>
     ensures { IfOk result (λ v.
         v.items ≡ doubts_in parts.now.chosen pages.now (run_states parts.now.runs.items)
-            parts.now.plan.geometry.page parts.now.all.extents) }
+        parts.now.plan.geometry.page parts.now.all.extents) }
 {
     let page = parts.plan.geometry().page();
     let mut doubts = choice_doubts(alloc, &parts.chosen)?;

@@ -9,8 +9,8 @@ ghost use Rattle.scrub_scan.specs.Scanned.{scanned};
 ghost use Rattle.scrub_report.specs.Report.{extent_data};
 ghost use Rattle.scrub_report.specs.Tokens.{extents_tokens, piece_text, value_tokens};
 
-use crate::object::{Value, write_object};
 use crate::json_values::WriteJson;
+use crate::object::{Value, write_object};
 use json::Writer;
 use scrub_disk::{OutOfMemory, PageSource};
 use scrub_scan::{AllFindings, ExtentResult, Item, item_line};

@@ -5,12 +5,12 @@ ghost use Rattle.std.specs.Prelude.{◌≡◌, ◌++◌, OnOk};
 ghost use Rattle.scrub_check.specs.Chunks.{twins};
 ghost use Rattle.scrub_report.specs.Tokens.{first_keys, hidden_keys, last_keys, members_tokens, run_keys};
 
+use crate::json_values::{WriteJson, write_list};
 use crate::object::write_members;
 use crate::parts::Parts;
 use crate::runs::RunRow;
 use crate::shards::doubtful_ids;
 use crate::sizes::{write_geometry, write_super};
-use crate::json_values::{WriteJson, write_list};
 use json::Writer;
 use scrub_check::{Candidate, Checked, Place, SharedPlace, dangling, hidden};
 use scrub_disk::{Geometry, OutOfMemory, PageSource};

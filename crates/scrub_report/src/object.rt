@@ -4,8 +4,8 @@ ghost use Rattle.std.specs.Prelude.{◌≡◌, ◌++◌, OnOk, map};
 ghost use Rattle.scrub_report.specs.Json.{with_keys};
 ghost use Rattle.scrub_report.specs.Tokens.{members_tokens, value_tokens};
 
-use crate::texts::{owner_text, state_text, status_text};
 use crate::json_values::{WriteJson, write_list};
+use crate::texts::{owner_text, state_text, status_text};
 use json::Writer;
 use scrub_check::{Owner, RunState, Status};
 use scrub_disk::OutOfMemory;
