@@ -4,7 +4,7 @@ use Rattle.std.proofs.lemmas.List.{take-take}
 use Rattle.std.proofs.Math.Seq.{take-add}
 use Rattle.std.specs.Io.KnownBytes.{Appends}
 
--- where one part was appended and then another, both were
+-- if one part was appended and then another, both were
 pub appends_twice : (old mid new : Option (List ℕ)) (first second both : List ℕ) →
     Appends old mid first → Appends mid new second → both ≡ first ++ second → Appends old new both
 appends_twice None mid new first second both before now joined = tt
@@ -13,7 +13,7 @@ appends_twice (Some xs) (Some ys) None first second both before now joined = abs
 appends_twice (Some xs) (Some ys) (Some zs) first second both before now joined =
     now ∙ ap (λ u. u ++ second) before ∙ append_assoc xs first second ∙ ap (λ u. xs ++ u) (sym joined)
 
--- where the first n bytes were appended and then k of those that are left, the first n + k were
+-- if the first n bytes were appended and then k of the rest, the first n + k were
 pub appends_next : (old mid new : Option (List ℕ)) (bytes : List ℕ) (n k : ℕ) → n ≤ length bytes →
     k ≤ length (take (length bytes - n) (drop n bytes)) →
     Appends old mid (take n bytes) →

@@ -1,4 +1,4 @@
--- A list of locators in good order: none dangles and none is hidden exactly where each is sound.
+-- No locator dangles or is hidden exactly if each is sound.
 use Rattle.std.proofs.Common.{◌≡◌, ◌&&◌, Bool, true, false, List, [], ◌∷◌, length, refl, ap, ◌∙◌, cond}
 use Rattle.std.specs.Prelude.{◌==◌}
 use Rattle.std.proofs.Math.Dec.{eqb-suc-zero}
@@ -12,11 +12,12 @@ and_false : (a : Bool) → (a && false) ≡ false
 and_false true = refl
 and_false false = refl
 
--- one locator more
+-- one more locator
 one_more : (c : Checked) (s : Status) (ds hs : List Checked) (rest : Bool) → (length ds == 0 && length hs == 0) ≡ rest →
     (length (cond (is_dangling s) (c ∷ ds) ds) == 0 && length (cond (is_hidden s) (c ∷ hs) hs) == 0) ≡ (is_sound s && rest)
 one_more c Sound ds hs rest h = h
-one_more c Hidden ds hs rest h = ap (λ none. length ds == 0 && none) (eqb-suc-zero (length hs)) ∙ and_false (length ds == 0)
+one_more c Hidden ds hs rest h =
+    ap (λ none. length ds == 0 && none) (eqb-suc-zero (length hs)) ∙ and_false (length ds == 0)
 one_more c OutOfRange ds hs rest h = ap (λ none. none && length hs == 0) (eqb-suc-zero (length ds))
 one_more c Retired ds hs rest h = ap (λ none. none && length hs == 0) (eqb-suc-zero (length ds))
 one_more c PastPointer ds hs rest h = ap (λ none. none && length hs == 0) (eqb-suc-zero (length ds))
@@ -26,6 +27,8 @@ one_more c WrongUuid ds hs rest h = ap (λ none. none && length hs == 0) (eqb-su
 one_more c WrongLength ds hs rest h = ap (λ none. none && length hs == 0) (eqb-suc-zero (length ds))
 one_more c WrongDigest ds hs rest h = ap (λ none. none && length hs == 0) (eqb-suc-zero (length ds))
 
-pub sound_alone : (cs : List Checked) → (length (dangling cs) == 0 && length (hidden cs) == 0) ≡ list_all (λ c. is_sound c.status) cs
+pub sound_alone : (cs : List Checked) →
+    (length (dangling cs) == 0 && length (hidden cs) == 0) ≡ list_all (λ c. is_sound c.status) cs
 sound_alone [] = refl
-sound_alone (c ∷ cs) = one_more c c.status (dangling cs) (hidden cs) (list_all (λ d. is_sound d.status) cs) (sound_alone cs)
+sound_alone (c ∷ cs) =
+    one_more c c.status (dangling cs) (hidden cs) (list_all (λ d. is_sound d.status) cs) (sound_alone cs)

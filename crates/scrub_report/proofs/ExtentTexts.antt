@@ -1,4 +1,4 @@
--- The text of the report's extents, piece by piece, and what is before and behind it.
+-- The text of the report's extents, piece by piece, and the text before and behind it.
 use Rattle.std.proofs.Common.{◌≡◌, ◌<◌, ◌≤◌, ◌+◌, ◌-◌, ◌*◌, ℕ, zero, suc, List, [], ◌∷◌, ◌++◌, Bool, true, false, codes, fold, get_or, length, min, take, drop, nat_lt, arith, refl, sym, ap, ap₂, ◌∙◌, append_assoc, append-nil}
 use Rattle.std.specs.List.{zip}
 use Rattle.std.specs.Int.{div_ceil}
@@ -22,7 +22,7 @@ use Rattle.scrub_report.specs.Tokens.{all_keys, begun_tokens, ended_tokens, exte
 use Rattle.scrub_report.proofs.ScannedLive.{beside_scanned}
 use Rattle.scrub_report.proofs.Tokens.{keys_joined, list_tokens, object_tokens}
 
--- whether some tokens leave a value just ended
+-- whether the last token ends a value
 abbrev left : Bool → List Token → Bool
 left c ts = fold (λ _ t. ends t) c ts
 
@@ -31,15 +31,17 @@ extent_tokens p = value_tokens (extent_data p.1 p.0)
 
 -- ---- one extent
 
--- behind another one it has a comma
-opened : (p : Scanned × ℕ) (ts : List Token) → print_from true (extent_tokens p ++ ts) ≡ 44 ∷ print_from false (extent_tokens p ++ ts)
+-- behind another extent it has a comma
+opened : (p : Scanned × ℕ) (ts : List Token) →
+    print_from true (extent_tokens p ++ ts) ≡ 44 ∷ print_from false (extent_tokens p ++ ts)
 unfolding print_from
 opened p ts = refl
 
 closed : (c : Bool) (p : Scanned × ℕ) → left c (extent_tokens p) ≡ true
 closed c p =
     let ms = (codes "bad", numbers_data p.0.findings.bad_pages) ∷ (codes "extent", natural p.0.extent) ∷ (codes "items", items_data p.0.findings.items) ∷ (codes "live", natural p.1) ∷
-    (codes "pointer", natural p.0.pointer) ∷ (codes "tail", natural p.0.findings.tail_count) ∷ (codes "tail_at", natural_or_null p.0.findings.tail_first) ∷ [] in
+    (codes "pointer", natural p.0.pointer) ∷ (codes "tail", natural p.0.findings.tail_count) ∷
+    (codes "tail_at", natural_or_null p.0.findings.tail_first) ∷ [] in
     ap (left c) (object_tokens ms) ∙ ends_push c (begin_object ∷ members_tokens ms) end_object
 
 -- ---- some extents
@@ -47,20 +49,25 @@ closed c p =
 all_closed : (ps : List (Scanned × ℕ)) → left true (extents_tokens ps) ≡ true
 all_closed [] = refl
 all_closed (p ∷ ps) =
-    fold-append (λ _ t. ends t) true (extent_tokens p) (extents_tokens ps) ∙ ap (λ c. left c (extents_tokens ps)) (closed true p) ∙ all_closed ps
+    fold-append (λ _ t. ends t) true (extent_tokens p) (extents_tokens ps)
+    ∙ ap (λ c. left c (extents_tokens ps)) (closed true p) ∙ all_closed ps
 
 some_closed : (c : Bool) (ps : List (Scanned × ℕ)) → 0 < length ps → left c (extents_tokens ps) ≡ true
 some_closed c [] h = absurd (omega (arith, h))
 some_closed c (p ∷ ps) h =
-    fold-append (λ _ t. ends t) c (extent_tokens p) (extents_tokens ps) ∙ ap (λ b. left b (extents_tokens ps)) (closed c p) ∙ all_closed ps
+    fold-append (λ _ t. ends t) c (extent_tokens p) (extents_tokens ps)
+    ∙ ap (λ b. left b (extents_tokens ps)) (closed c p) ∙ all_closed ps
 
-some_opened : (ps : List (Scanned × ℕ)) → 0 < length ps → print_from true (extents_tokens ps) ≡ 44 ∷ print (extents_tokens ps)
+some_opened : (ps : List (Scanned × ℕ)) → 0 < length ps →
+    print_from true (extents_tokens ps) ≡ 44 ∷ print (extents_tokens ps)
 some_opened [] h = absurd (omega (arith, h))
 some_opened (p ∷ ps) h = opened p (extents_tokens ps)
 
 -- one more is written
-pub more_extents : (ps : List (Scanned × ℕ)) (from i : ℕ) (p : Scanned × ℕ) (old new : List Token) → from ≤ i → i < length ps → get_or ps i p ≡ p →
-    old ≡ extents_tokens (take (i - from) (drop from ps)) → new ≡ old ++ extent_tokens p → new ≡ extents_tokens (take (i + 1 - from) (drop from ps))
+pub more_extents : (ps : List (Scanned × ℕ)) (from i : ℕ) (p : Scanned × ℕ) (old new : List Token) → from ≤ i →
+    i < length ps → get_or ps i p ≡ p →
+    old ≡ extents_tokens (take (i - from) (drop from ps)) → new ≡ old ++ extent_tokens p →
+    new ≡ extents_tokens (take (i + 1 - from) (drop from ps))
 more_extents ps from i p old new behind below is so_far grown =
     let rest = drop from ps in
     let n = i - from in
@@ -68,11 +75,14 @@ more_extents ps from i p old new behind below is so_far grown =
     grown ∙ ap (λ ts. ts ++ extent_tokens p) so_far
     ∙ ap (λ q. extents_tokens (take n rest) ++ extent_tokens q) (sym there)
     ∙ flat_map_more extent_tokens [] (take n rest) (get_or rest n p)
-    ∙ ap extents_tokens (sym (take_more rest n p (omega (arith, behind, below, length-drop from ps))) ∙ ap (λ k. take k rest) (omega (arith, behind)))
+    ∙ ap extents_tokens
+    (sym (take_more rest n p (omega (arith, behind, below, length-drop from ps))) ∙ ap (λ k. take k rest) (omega (arith, behind)))
 
--- a piece ends with the last extent at the latest
-pub whole_piece : (ps : List (Scanned × ℕ)) (from size i : ℕ) → i - from ≡ min size (length ps - from) → take (i - from) (drop from ps) ≡ take size (drop from ps)
-whole_piece ps from size i e = ap (λ k. take k (drop from ps)) (e ∙ ap (min size) (sym (length-drop from ps))) ∙ take_min size (drop from ps)
+-- a piece ends at the last extent or before it
+pub whole_piece : (ps : List (Scanned × ℕ)) (from size i : ℕ) → i - from ≡ min size (length ps - from) →
+    take (i - from) (drop from ps) ≡ take size (drop from ps)
+whole_piece ps from size i e =
+    ap (λ k. take k (drop from ps)) (e ∙ ap (min size) (sym (length-drop from ps))) ∙ take_min size (drop from ps)
 
 -- ---- piece by piece
 
@@ -90,11 +100,13 @@ next_piece ps from size below some =
     later : (n : ℕ) → nat_lt 0 (suc n) ≡ true
     later n = grind (arith, nat_tests)
 
-    behind : (n : ℕ) → n < length ps → print_from (left false (extents_tokens (take n ps))) (extents_tokens (take size (drop n ps))) ≡ piece_text ps n size
+    behind : (n : ℕ) → n < length ps →
+        print_from (left false (extents_tokens (take n ps))) (extents_tokens (take size (drop n ps))) ≡ piece_text ps n size
     behind zero below = refl
     behind (suc n) below =
         let qs = take size (drop (suc n) ps) in
-        ap (λ c. print_from c (extents_tokens qs)) (some_closed false (take (suc n) ps) (omega (arith, below, length-take (suc n) ps)))
+        ap (λ c. print_from c (extents_tokens qs))
+        (some_closed false (take (suc n) ps) (omega (arith, below, length-take (suc n) ps)))
         ∙ some_opened qs (omega (arith, below, some, length-take size (drop (suc n) ps), length-drop (suc n) ps))
         ∙ ap (λ b. comma_if b ++ print (extents_tokens qs)) (sym (later n))
 
@@ -105,7 +117,7 @@ no_piece t ps size =
     let nothing : 0 * size ≡ 0 = grind arith in
     sym (ap (λ k. t ++ print (extents_tokens (take k ps))) nothing ∙ append-nil t)
 
--- as many pieces as are begun reach the end, and each of them begins before it
+-- the pieces reach the end, and each of them begins before it
 pub pieces_end : (n c size len : ℕ) → 0 < size → c ≡ div_ceil len size → c ≤ n → len ≤ n * size
 pieces_end n c size len some is all =
     let bound = (div_ceil_times len size some).0 in
@@ -120,12 +132,15 @@ piece_begins n c size len some is below =
     omega (arith, bound, steps, more)
 
 -- the text with the piece of this number
-pub with_piece : (ps : List (Scanned × ℕ)) (n m size : ℕ) (t0 t1 piece : List ℕ) → n * size < length ps → 0 < size → m ≡ n + 1 →
-    t1 ≡ t0 ++ print (extents_tokens (take (n * size) ps)) → piece ≡ piece_text ps (n * size) size → t1 ++ piece ≡ t0 ++ print (extents_tokens (take (m * size) ps))
+pub with_piece : (ps : List (Scanned × ℕ)) (n m size : ℕ) (t0 t1 piece : List ℕ) → n * size < length ps → 0 < size →
+    m ≡ n + 1 →
+    t1 ≡ t0 ++ print (extents_tokens (take (n * size) ps)) → piece ≡ piece_text ps (n * size) size →
+    t1 ++ piece ≡ t0 ++ print (extents_tokens (take (m * size) ps))
 with_piece ps n m size t0 t1 piece below some more so_far is =
     let added : (n + 1) * size ≡ n * size + size = grind arith in
     let times : n * size + size ≡ m * size = sym (ap (λ k. k * size) more ∙ added) in
-    ap₂ (λ t p. t ++ p) so_far is ∙ append_assoc t0 (print (extents_tokens (take (n * size) ps))) (piece_text ps (n * size) size)
+    ap₂ (λ t p. t ++ p) so_far is
+    ∙ append_assoc t0 (print (extents_tokens (take (n * size) ps))) (piece_text ps (n * size) size)
     ∙ ap (λ t. t0 ++ t) (next_piece ps (n * size) size below some ∙ ap (λ k. print (extents_tokens (take k ps))) times)
 
 -- ---- the report
@@ -148,14 +163,17 @@ module _ {D : Type 0} {s : _} (p : Parts D s) (clean : Bool) where
 
   extents_are : value_tokens (extents_data p.checked.items p.all.extents) ≡ begin_array ∷ (extents_tokens pairs ++ end_array ∷ [])
   extents_are =
-      ap (λ ds. value_tokens (list ds)) (sym (beside_scanned p.checked.items p.all.extents p.liveness.live.items p.live_found))
+      ap (λ ds. value_tokens (list ds))
+      (sym (beside_scanned p.checked.items p.all.extents p.liveness.live.items p.live_found))
       ∙ list_tokens (λ (q : Scanned × ℕ). extent_data q.1 q.0) pairs
 
   extents_written : members_tokens (extent_keys p) ++ behind_hidden ≡ opens ++ (extents_tokens pairs ++ ended_tokens p)
   extents_written =
-      append_assoc (key (codes "extents") ∷ value_tokens (extents_data p.checked.items p.all.extents)) (members_tokens (hidden_keys p)) behind_hidden
+      append_assoc (key (codes "extents") ∷ value_tokens (extents_data p.checked.items p.all.extents))
+      (members_tokens (hidden_keys p)) behind_hidden
       ∙ ap (λ ts. key (codes "extents") ∷ (ts ++ (members_tokens (hidden_keys p) ++ behind_hidden))) extents_are
-      ∙ ap (λ ts. opens ++ ts) (append_assoc (extents_tokens pairs) (end_array ∷ []) (members_tokens (hidden_keys p) ++ behind_hidden))
+      ∙ ap (λ ts. opens ++ ts)
+      (append_assoc (extents_tokens pairs) (end_array ∷ []) (members_tokens (hidden_keys p) ++ behind_hidden))
 
   tokens_are : begun_tokens p clean ++ (extents_tokens pairs ++ ended_tokens p) ≡ value_tokens (with_keys (all_keys p clean))
   tokens_are =
@@ -173,5 +191,6 @@ module _ {D : Type 0} {s : _} (p : Parts D s) (clean : Bool) where
       let rest = extents_tokens pairs ++ ended_tokens p in
       ap (λ t. print (begun_tokens p clean) ++ t)
       (sym (print_from-append false (extents_tokens pairs) (ended_tokens p) ∙ ap (λ t. print (extents_tokens pairs) ++ t) (closing _ _)))
-      ∙ sym (print_from-append false (begun_tokens p clean) rest ∙ ap (λ c. print (begun_tokens p clean) ++ print_from c rest) begun)
+      ∙ sym
+      (print_from-append false (begun_tokens p clean) rest ∙ ap (λ c. print (begun_tokens p clean) ++ print_from c rest) begun)
       ∙ ap print tokens_are ∙ print-outline (with_keys (all_keys p clean))

@@ -1,4 +1,4 @@
--- What is appended for the elements of a list, part by part.
+-- What is appended for each element of a list.
 use Rattle.std.proofs.Common.{◌≡◌, ◌==◌, ◌+◌, ◌<◌, ◌≤◌, ℕ, true, List, [], ◌∷◌, ◌++◌, OnOk, Result, Ok, Err, length, get_or, take, append-nil, append_assoc, arith, refl, sym, ap, ◌∙◌}
 use Rattle.std.specs.List.{flat_map}
 use Rattle.std.proofs.lemmas.List.{flat_map_more, take_all, take_more}
@@ -7,7 +7,8 @@ use Rattle.std.proofs.lemmas.List.Concat.{flat_map-append}
 
 module _ {X A : Type 0} (f : X → List A) (old mid new : List A) (xs : List X) (i : ℕ) where
   -- the part of one more element
-  pub flat_more : (d : X) (part : List A) → i < length xs → part ≡ f (get_or xs i d) → mid ≡ old ++ flat_map f (take i xs) → new ≡ mid ++ part →
+  pub flat_more : (d : X) (part : List A) → i < length xs → part ≡ f (get_or xs i d) →
+      mid ≡ old ++ flat_map f (take i xs) → new ≡ mid ++ part →
       new ≡ old ++ flat_map f (take (i + 1) xs)
   flat_more d part below is so_far grown =
       grown
@@ -17,24 +18,29 @@ module _ {X A : Type 0} (f : X → List A) (old mid new : List A) (xs : List X) 
       ∙ ap (λ (ys : List X). old ++ flat_map f ys) (sym (take_more xs i d below))
 
 -- all of them
-pub flat_all : {X A : Type 0} (f : X → List A) (old mid : List A) (xs : List X) (i : ℕ) → length xs ≤ i → mid ≡ old ++ flat_map f (take i xs) → mid ≡ old ++ flat_map f xs
+pub flat_all : {X A : Type 0} (f : X → List A) (old mid : List A) (xs : List X) (i : ℕ) → length xs ≤ i →
+    mid ≡ old ++ flat_map f (take i xs) → mid ≡ old ++ flat_map f xs
 flat_all {X} f old mid xs i end so_far = so_far ∙ ap (λ (ys : List X). old ++ flat_map f ys) (take_all i xs end)
 
 -- none of them
-pub flat_none : {X A : Type 0} (f : X → List A) (old : List A) (xs : List X) → (length xs == 0) ≡ true → old ≡ old ++ flat_map f xs
+pub flat_none : {X A : Type 0} (f : X → List A) (old : List A) (xs : List X) → (length xs == 0) ≡ true →
+    old ≡ old ++ flat_map f xs
 flat_none f old [] e = sym (append-nil old)
-flat_none f old (x ∷ xs) e = let none : length (x ∷ xs) ≡ 0 = eqb-true (length (x ∷ xs)) 0 e in absurd (omega (arith, none))
+flat_none f old (x ∷ xs) e =
+    let none : length (x ∷ xs) ≡ 0 = eqb-true (length (x ∷ xs)) 0 e in
+    absurd (omega (arith, none))
 
--- what each part of a part comes to
 abbrev pub flat_part : {X Y A : Type 0} → (Y → List A) → (X → List Y) → X → List A
 flat_part f g x = flat_map f (g x)
 
 -- lists of lists, joined twice
-pub flat_twice : {X Y A : Type 0} (f : Y → List A) (g : X → List Y) (xs : List X) → flat_map f (flat_map g xs) ≡ flat_map (flat_part f g) xs
+pub flat_twice : {X Y A : Type 0} (f : Y → List A) (g : X → List Y) (xs : List X) →
+    flat_map f (flat_map g xs) ≡ flat_map (flat_part f g) xs
 flat_twice f g [] = refl
 flat_twice f g (x ∷ xs) = flat_map-append f (g x) (flat_map g xs) ∙ ap (λ u. flat_map f (g x) ++ u) (flat_twice f g xs)
 
--- what was appended in one step and then in others was appended in all of them
-pub appended_ok : {A E : Type 0} (r : Result (Unit {0}) E) (old mid new xs ys : List A) → mid ≡ old ++ xs → OnOk r (new ≡ mid ++ ys) → OnOk r (new ≡ old ++ (xs ++ ys))
+-- two steps of appending are one
+pub appended_ok : {A E : Type 0} (r : Result (Unit {0}) E) (old mid new xs ys : List A) → mid ≡ old ++ xs →
+    OnOk r (new ≡ mid ++ ys) → OnOk r (new ≡ old ++ (xs ++ ys))
 appended_ok (Ok u) old mid new xs ys first later = later ∙ ap (λ us. us ++ ys) first ∙ append_assoc old xs ys
 appended_ok (Err e) old mid new xs ys first later = tt

@@ -1,4 +1,4 @@
--- The bindings of a disk's shard map fit into one index run: their identifiers differ, and each stands in one of at most
+-- The bindings of a disk's shard map fit into one index run: their identifiers differ, and each is in one of at most
 -- 32 runs, none of which has more entries than an extent has bytes. So the recovered index is a run.
 use Rattle.std.proofs.Common.{◌≡◌, ◌<◌, ◌≤◌, ◌^◌, ◌||◌, ℕ, Bool, true, false, not, Option, Some, None, MatchOption, List, [], ◌∷◌, ◌++◌, length, map, zero, suc, arith, refl, sym, ◌∙◌, ap, get_or, inl, inr}
 use Rattle.std.specs.Ordering.{nat_cmp, eq_by_cmp, is_eq}
@@ -49,7 +49,8 @@ part_within a b c d = omega (arith, length-append (a ++ (b ++ c)) d, length-appe
 
 run_within : (es : List EntryValue) → length es ≤ length (run_bytes es)
 run_within es =
-    let part : length (flat_map entry_bytes es) ≤ length (run_bytes es) = part_within run_magic (big_bytes 4 (length es)) (flat_map entry_bytes es) (sha256 (run_body es)) in
+    let part : length (flat_map entry_bytes es) ≤ length (run_bytes es) =
+    part_within run_magic (big_bytes 4 (length es)) (flat_map entry_bytes es) (sha256 (run_body es)) in
     omega (arith, part, entries_within es)
 
 read_within : (image : Image) (w : ℕ) (l : Locator) (es : List EntryValue) → NamesRun image w l es → length es ≤ 2 ^ 26
@@ -76,38 +77,47 @@ ids_of_runs runs = flat_map ids_of_run runs
 abbrev bound_ids : List BindingValue → List (List ℕ)
 bound_ids bindings = map (λ b. b.id.0) bindings
 
-id_among : (p : List ℕ → Bool) (es : List EntryValue) (e : EntryValue) → Contains es e → p e.id.0 ≡ true → list_any p (map (λ f. f.id.0) es) ≡ true
-id_among p [] e there h = absurd (let no : ⊥ = omega (arith, there.1) in no)
+id_among : (p : List ℕ → Bool) (es : List EntryValue) (e : EntryValue) → Contains es e → p e.id.0 ≡ true →
+    list_any p (map (λ f. f.id.0) es) ≡ true
+id_among p [] e there h = absurd (omega (arith, there.1))
 id_among p (x ∷ xs) e there h = elim (Contains-cases x xs e there) [
   | inl is ↦ or_left (p x.id.0) (list_any p (map (λ f. f.id.0) xs)) (ap (λ v. p v.id.0) is ∙ h)
   | inr later ↦ or_right (p x.id.0) (list_any p (map (λ f. f.id.0) xs)) (id_among p xs e later h)
 ]
 
-run_among : (p : List ℕ → Bool) (runs : Runs) (k : ℕ) (r : Option (List EntryValue)) → slice_get runs k ≡ Some r → list_any p (ids_of_run r) ≡ true → list_any p (ids_of_runs runs) ≡ true
+run_among : (p : List ℕ → Bool) (runs : Runs) (k : ℕ) (r : Option (List EntryValue)) → slice_get runs k ≡ Some r →
+    list_any p (ids_of_run r) ≡ true → list_any p (ids_of_runs runs) ≡ true
 run_among p [] k r here h = absurd (none-some r here)
 run_among p (x ∷ xs) zero r here h =
     list_any-append p (ids_of_run x) (ids_of_runs xs)
-    ∙ or_left (list_any p (ids_of_run x)) (list_any p (ids_of_runs xs)) (ap (λ v. list_any p (ids_of_run v)) (same_Some x r here) ∙ h)
+    ∙ or_left (list_any p (ids_of_run x)) (list_any p (ids_of_runs xs))
+    (ap (λ v. list_any p (ids_of_run v)) (same_Some x r here) ∙ h)
 run_among p (x ∷ xs) (suc k) r here h =
     list_any-append p (ids_of_run x) (ids_of_runs xs)
     ∙ or_right (list_any p (ids_of_run x)) (list_any p (ids_of_runs xs)) (run_among p xs k r here h)
 
-bound_among : (p : List ℕ → Bool) (runs : Runs) (bs : List BindingValue) → All (IsNewestBinding runs) bs → list_any p (bound_ids bs) ≡ true → list_any p (ids_of_runs runs) ≡ true
-bound_among p runs [] newest h = absurd (let no : ⊥ = cc in no)
-bound_among p runs (b ∷ bs) newest h = by (p b.id.0) refl (λ later. bound_among p runs bs (All-tail (IsNewestBinding runs) b bs newest) later) h
+bound_among : (p : List ℕ → Bool) (runs : Runs) (bs : List BindingValue) → All (IsNewestBinding runs) bs →
+    list_any p (bound_ids bs) ≡ true → list_any p (ids_of_runs runs) ≡ true
+bound_among p runs [] newest h = absurd (cc)
+bound_among p runs (b ∷ bs) newest h =
+    by (p b.id.0) refl (λ later. bound_among p runs bs (All-tail (IsNewestBinding runs) b bs newest) later) h
   where
     is : IsNewestBinding runs b
     is = All-head (IsNewestBinding runs) b bs newest
 
-    by : (here : Bool) → p b.id.0 ≡ here → (list_any p (bound_ids bs) ≡ true → list_any p (ids_of_runs runs) ≡ true) → (here || list_any p (bound_ids bs)) ≡ true →
+    by : (here : Bool) → p b.id.0 ≡ here → (list_any p (bound_ids bs) ≡ true → list_any p (ids_of_runs runs) ≡ true) →
+        (here || list_any p (bound_ids bs)) ≡ true →
         list_any p (ids_of_runs runs) ≡ true
-    by true same later any = run_among p runs b.run (Some is.entry.entries) is.entry.is_read (id_among p is.entry.entries (record { id = b.id; locators = b.locators }) is.entry.among same)
+    by true same later any =
+        run_among p runs b.run (Some is.entry.entries) is.entry.is_read
+        (id_among p is.entry.entries (record { id = b.id; locators = b.locators }) is.entry.among same)
     by false same later any = later any
 
 -- ---- they differ
 
-apart : (b : BindingValue) (bs : List BindingValue) → All (λ c. IsBelow b.id c.id) bs → All (λ y. same_bytes b.id.0 y ≡ false) (bound_ids bs)
-apart b [] below k d hk = absurd (let no : ⊥ = omega (arith, hk) in no)
+apart : (b : BindingValue) (bs : List BindingValue) → All (λ c. IsBelow b.id c.id) bs →
+    All (λ y. same_bytes b.id.0 y ≡ false) (bound_ids bs)
+apart b [] below k d hk = absurd (omega (arith, hk))
 apart b (c ∷ bs) below zero d hk = ap is_eq (All-head (λ v. IsBelow b.id v.id) c bs below)
 apart b (c ∷ bs) below (suc k) d hk = apart b bs (All-tail (λ v. IsBelow b.id v.id) c bs below) k d (omega (arith, hk))
 
@@ -115,13 +125,16 @@ distinct : (bs : List BindingValue) → AllPairs (λ b c. IsBelow b.id c.id) bs 
 unfolding IsDistinct
 distinct [] rising = tt
 distinct (b ∷ bs) rising = (
-  recursion_from_All (λ y. same_bytes b.id.0 y ≡ false) (bound_ids bs) (apart b bs (λ k d hk. rising zero (suc k) d (omega arith) (omega (arith, hk)))),
+  recursion_from_All (λ y. same_bytes b.id.0 y ≡ false) (bound_ids bs)
+      (apart b bs (λ k d hk. rising zero (suc k) d (omega arith) (omega (arith, hk)))),
   distinct bs (λ i j d order here. rising (suc i) (suc j) d (omega (arith, order)) (omega (arith, here))),
 )
 
 -- ---- the bounds
 
-runs_within : (runs : Runs) → ((k : ℕ) (es : List EntryValue) → slice_get runs k ≡ Some (Some es) → length es ≤ 2 ^ 26) → All (λ r. length (ids_of_run r) ≤ 2 ^ 26) runs
+runs_within : (runs : Runs) →
+    ((k : ℕ) (es : List EntryValue) → slice_get runs k ≡ Some (Some es) → length es ≤ 2 ^ 26) →
+    All (λ r. length (ids_of_run r) ≤ 2 ^ 26) runs
 runs_within runs bound k d hk = by (get_or runs k d) (slice_get-get_or runs k d hk)
   where
     by : (r : Option (List EntryValue)) → slice_get runs k ≡ Some r → length (ids_of_run r) ≤ 2 ^ 26
@@ -131,20 +144,30 @@ runs_within runs bound k d hk = by (get_or runs k d) (slice_get-get_or runs k d 
 few_runs : (image : Image) (s : Scrubbed) → IsScrubbed image s → length s.read.runs ≤ 32
 few_runs image s x = omega (arith, x.read.count, planned s.choice.superblock s.choice.page x.choice.chosen x.plan.by)
   where
-    planned : (c : Option Contents) (q : Option ℕ) → IsChosen image c q → MatchOption c (IsPlanWithout s.plan s.choice.geometry) (IsPlanBy s.plan) → length s.plan.runs ≤ 32
+    planned : (c : Option Contents) (q : Option ℕ) → IsChosen image c q →
+        MatchOption c (IsPlanWithout s.plan s.choice.geometry) (IsPlanBy s.plan) → length s.plan.runs ≤ 32
     planned None q chosen by = omega (arith, ap length by.runs)
     planned (Some c) None chosen by = absurd chosen
     planned (Some c) (Some q) chosen by = omega (arith, ap length by.runs, chosen.stands.contents.runs.count)
 
--- fewer bindings than a run can tell
+-- a run can have this many entries
 pub countable : (image : Image) (s : Scrubbed) → IsScrubbed image s → length s.bindings < 2 ^ 32
 countable image s x =
     let ids = length-le_from_is_member same_bytes_laws (bound_ids s.bindings) (ids_of_runs s.read.runs) (distinct s.bindings x.bindings.bindings_of_map.rising)
     (λ q h. bound_among (same_bytes q) s.read.runs s.bindings x.bindings.newest h) in
-    let all = sum_by-le (λ (r : Option (List EntryValue)). length (ids_of_run r)) (2 ^ 26) s.read.runs (runs_within s.read.runs (λ k es here. let found = read_of image s.plan s.read x.read k es here in read_within image found.1 found.0 es found.2)) in
-    omega (arith, ids, length-map s.bindings (λ (b : BindingValue). b.id.0), length-flat_map ids_of_run s.read.runs, all, few_runs image s x)
+    let all =
+    sum_by-le (λ (r : Option (List EntryValue)). length (ids_of_run r)) (2 ^ 26) s.read.runs
+    (runs_within s.read.runs (λ k es here. let found = read_of image s.plan s.read x.read k es here in read_within image found.1 found.0 es found.2)) in
+    omega (
+      arith,
+      ids,
+      length-map s.bindings (λ (b : BindingValue). b.id.0),
+      length-flat_map ids_of_run s.read.runs,
+      all,
+      few_runs image s x,
+    )
 
--- each of them is what an entry can tell
+-- each binding is an entry
 entries_are : (image : Image) (s : Scrubbed) → IsScrubbed image s → All (λ b. IsEntry (indexed b)) s.bindings
 entries_are image s x k d hk = entry (get_or s.bindings k d) (x.bindings.newest k d hk)
   where
@@ -153,19 +176,21 @@ entries_are image s x k d hk = entry (get_or s.bindings k d) (x.bindings.newest 
         let entries = read_runs_are_runs image s.plan s.read x.read b.run is.entry.entries is.entry.is_read in
         All-contains IsEntry is.entry.entries (indexed b) entries.each is.entry.among
 
--- so each has as many locators as an entry can
+-- each has at most as many locators as an entry can have
 pub entries_fit : (image : Image) (s : Scrubbed) → IsScrubbed image s → All (λ b. length b.locators ≤ 64) s.bindings
 entries_fit image s x k d hk = (entries_are image s x k d hk).few
 
 -- ---- the index is a run
 
 indexed_rise : (bs : List BindingValue) → AllPairs (λ b c. IsBelow b.id c.id) bs → RisesById (map indexed bs)
-indexed_rise [] rising i j d order here = absurd (let no : ⊥ = omega (arith, here) in no)
-indexed_rise (b ∷ bs) rising i zero d order here = absurd (let no : ⊥ = omega (arith, order) in no)
+indexed_rise [] rising i j d order here = absurd (omega (arith, here))
+indexed_rise (b ∷ bs) rising i zero d order here = absurd (omega (arith, order))
 indexed_rise (b ∷ bs) rising zero (suc j) d order here =
-    All-map (λ (e : EntryValue). IsBelow b.id e.id) indexed bs (λ k c hk. rising zero (suc k) c (omega arith) (omega (arith, hk))) j d (omega (arith, here))
+    All-map (λ (e : EntryValue). IsBelow b.id e.id) indexed bs
+    (λ k c hk. rising zero (suc k) c (omega arith) (omega (arith, hk))) j d (omega (arith, here))
 indexed_rise (b ∷ bs) rising (suc i) (suc j) d order here =
-    indexed_rise bs (λ k l c before within. rising (suc k) (suc l) c (omega (arith, before)) (omega (arith, within))) i j d (omega (arith, order)) (omega (arith, here))
+    indexed_rise bs (λ k l c before within. rising (suc k) (suc l) c (omega (arith, before)) (omega (arith, within))) i
+    j d (omega (arith, order)) (omega (arith, here))
 
 abbrev is_kept : Scrubbed → BindingValue → Bool
 is_kept s b = not (is_broken s.checked b.id)
@@ -175,6 +200,10 @@ index_run image s x = record {
   count =
       let all = length-filter_both (is_kept s) (λ b. not (is_kept s b)) (λ b. refl) s.bindings in
       omega (arith, countable image s x, all, length-map (filter (is_kept s) s.bindings) indexed);
-  each = All-map IsEntry indexed (filter (is_kept s) s.bindings) (All-filter (is_kept s) (λ b. IsEntry (indexed b)) s.bindings (entries_are image s x));
-  rising = indexed_rise (filter (is_kept s) s.bindings) (AllPairs-filter (λ b c. IsBelow b.id c.id) (is_kept s) s.bindings x.bindings.bindings_of_map.rising);
+  each =
+      All-map IsEntry indexed (filter (is_kept s) s.bindings)
+      (All-filter (is_kept s) (λ b. IsEntry (indexed b)) s.bindings (entries_are image s x));
+  rising =
+      indexed_rise (filter (is_kept s) s.bindings)
+      (AllPairs-filter (λ b c. IsBelow b.id c.id) (is_kept s) s.bindings x.bindings.bindings_of_map.rising);
 }

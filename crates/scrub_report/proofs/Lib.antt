@@ -1,4 +1,4 @@
--- Lemmas on what a writer holds, on lists side by side, and on the report's tokens.
+-- The lemmas of this crate.
 pub mod Appending
 pub mod SideBySide
 pub mod ScannedLive
@@ -11,6 +11,7 @@ pub mod OneIndex
 pub mod OneReport
 pub mod Indexable
 pub mod CleanLists
+pub mod RunRows
 pub mod KeptRuns
 pub mod PageRanges
 pub mod JoinedPages

@@ -9,8 +9,9 @@ use Rattle.scrub_check.specs.Checked.{dangling, hidden, is_dangling, is_hidden, 
 use Rattle.scrub_report.specs.Tokens.{locator_data}
 use Rattle.scrub_report.specs.Report.{dangling_data, hidden_data}
 
--- two ways to show that agree where a test holds agree on what the test keeps
-same_shown : {X : Type 0} (p : X → Bool) (f g : X → Data) → ((x : X) → p x ≡ true → f x ≡ g x) → (xs : List X) → map f (filter p xs) ≡ map g (filter p xs)
+-- two functions that agree on what passes a test agree on the filtered list
+same_shown : {X : Type 0} (p : X → Bool) (f g : X → Data) → ((x : X) → p x ≡ true → f x ≡ g x) → (xs : List X) →
+    map f (filter p xs) ≡ map g (filter p xs)
 same_shown p f g same [] = refl
 same_shown {X} p f g same (x ∷ xs) = by (p x) (same x) (same_shown p f g same xs)
   where
@@ -25,9 +26,12 @@ not_last true true h = absurd (false≢true h)
 not_last false true h = absurd (false≢true h)
 
 pub hidden_shown : (cs : List Checked) → map locator_data (hidden cs) ≡ map hidden_data (hidden cs)
-hidden_shown cs = same_shown (λ c. is_hidden c.status) locator_data hidden_data (λ c h. ap (λ t. cond t (hidden_data c) (dangling_data c)) h) cs
+hidden_shown cs =
+    same_shown (λ c. is_hidden c.status) locator_data hidden_data
+    (λ c h. ap (λ t. cond t (hidden_data c) (dangling_data c)) h) cs
 
 pub dangling_shown : (cs : List Checked) → map locator_data (dangling cs) ≡ map dangling_data (dangling cs)
 dangling_shown cs =
     same_shown (λ c. is_dangling c.status) locator_data dangling_data
-    (λ c h. ap (λ t. cond t (hidden_data c) (dangling_data c)) (not_last (not (is_sound c.status)) (is_hidden c.status) h)) cs
+    (λ c h. ap (λ t. cond t (hidden_data c) (dangling_data c)) (not_last (not (is_sound c.status)) (is_hidden c.status) h))
+    cs

@@ -1,5 +1,5 @@
--- A choice has one plan, and one reader finds one thing by it.
-use Rattle.std.proofs.Common.{◌≡◌, ◌<◌, ℕ, Option, Some, None, MatchOption, List, [], ◌∷◌, arith, refl, sym, ◌∙◌, ap, subst}
+-- A choice has one plan, and a plan has one scan.
+use Rattle.std.proofs.Common.{◌≡◌, ◌<◌, ℕ, Option, Some, None, MatchOption, List, [], ◌∷◌, arith, refl, sym, ◌∙◌, ap}
 use Rattle.std.proofs.Math.Path.{ap₂}
 use Rattle.std.proofs.lemmas.Option.{same_Some}
 use Rattle.std.specs.List.{All}
@@ -11,7 +11,6 @@ use Rattle.scrub_super.specs.Contents.{Contents}
 use Rattle.scrub_super.specs.Planned.{extents_in_use}
 use Rattle.scrub_super.specs.Plan.{PlanValue, IsPlanBy, IsPlanOf, IsPlanWithout, pointer_of}
 use Rattle.scrub_scan.specs.declared.findings.Findings.{Findings}
-use Rattle.scrub_scan.specs.declared.item.Item.{Item}
 use Rattle.scrub_scan.specs.AllFindings.{AreAllFindings, HaveFindings, extent_numbers}
 use Rattle.scrub_scan.specs.Extent.{extent_of}
 use Rattle.scrub_scan.specs.Findings.{IsFindings}
@@ -20,7 +19,8 @@ use Rattle.scrub_scan.proofs.Tilings.{one_tiling}
 
 -- ---- one plan
 
-same_plan : (p q : PlanValue) → p.geometry ≡ q.geometry → p.planned ≡ q.planned → p.retired ≡ q.retired → p.pointers ≡ q.pointers → p.runs ≡ q.runs → p.has_superblock ≡ q.has_superblock → p ≡ q
+same_plan : (p q : PlanValue) → p.geometry ≡ q.geometry → p.planned ≡ q.planned → p.retired ≡ q.retired →
+    p.pointers ≡ q.pointers → p.runs ≡ q.runs → p.has_superblock ≡ q.has_superblock → p ≡ q
 same_plan p q hg hp ht hw hr hs = λ i. record {
   geometry = hg i;
   planned = hp i;
@@ -30,46 +30,42 @@ same_plan p q hg hp ht hw hr hs = λ i. record {
   has_superblock = hs i;
 }
 
--- what a superblock tells, or the want of one
-same_choice : (g : Geometry) (s : Option Contents) (p q : PlanValue) → MatchOption s (IsPlanWithout p g) (IsPlanBy p) → MatchOption s (IsPlanWithout q g) (IsPlanBy q) →
+-- the same for a superblock or none
+same_choice : (g : Geometry) (s : Option Contents) (p q : PlanValue) → MatchOption s (IsPlanWithout p g) (IsPlanBy p) →
+    MatchOption s (IsPlanWithout q g) (IsPlanBy q) →
     (p.retired ≡ q.retired) × (p.pointers ≡ q.pointers) × (p.runs ≡ q.runs) × (p.has_superblock ≡ q.has_superblock)
-same_choice g None p q x y = (x.retired ∙ sym y.retired, x.pointers ∙ sym y.pointers, x.runs ∙ sym y.runs, x.has ∙ sym y.has)
-same_choice g (Some c) p q x y = (x.retired ∙ sym y.retired, x.pointers ∙ sym y.pointers, x.runs ∙ sym y.runs, x.has ∙ sym y.has)
+same_choice g None p q x y =
+    (x.retired ∙ sym y.retired, x.pointers ∙ sym y.pointers, x.runs ∙ sym y.runs, x.has ∙ sym y.has)
+same_choice g (Some c) p q x y =
+    (x.retired ∙ sym y.retired, x.pointers ∙ sym y.pointers, x.runs ∙ sym y.runs, x.has ∙ sym y.has)
 
 pub one_plan : (choice : Choice) (p q : PlanValue) → IsPlanOf choice p → IsPlanOf choice q → p ≡ q
 one_plan choice p q x y =
     let known = same_choice choice.geometry choice.superblock p q x.by y.by in
-    same_plan p q (x.geometry ∙ sym y.geometry) (x.all ∙ ap (extents_in_use choice.geometry.extents) known.0 ∙ sym y.all) known.0 known.1 known.2 known.3
+    same_plan p q (x.geometry ∙ sym y.geometry)
+    (x.all ∙ ap (extents_in_use choice.geometry.extents) known.0 ∙ sym y.all) known.0 known.1 known.2 known.3
 
 -- ---- one reader
 
-same_findings : (f g : Findings) → f.items ≡ g.items → f.tail_count ≡ g.tail_count → f.tail_first ≡ g.tail_first → f.bad_pages ≡ g.bad_pages → f ≡ g
-same_findings f g hi hc hf hb =
-    ap (λ x. make x f.tail_count f.tail_first f.bad_pages) hi
-    ∙ ap (λ x. make g.items x f.tail_first f.bad_pages) hc
-    ∙ ap (λ x. make g.items g.tail_count x f.bad_pages) hf
-    ∙ ap (make g.items g.tail_count g.tail_first) hb
-  where
-    make : List Item → ℕ → Option ℕ → List ℕ → Findings
-    make i c f b = record { items = i; tail_count = c; tail_first = f; bad_pages = b }
+same_findings : (f g : Findings) → f.items ≡ g.items → f.tail_count ≡ g.tail_count → f.tail_first ≡ g.tail_first →
+    f.bad_pages ≡ g.bad_pages → f ≡ g
+same_findings f g hi hc hf hb = λ i. record { items = hi i; tail_count = hc i; tail_first = hf i; bad_pages = hb i }
 
 one_findings : (image : Image) (e w : ℕ) (f g : Findings) → IsFindings image e w f → IsFindings image e w g → f ≡ g
 one_findings image e w f g x y =
     let pos : 0 < image.geometry.page = omega (arith, image.geometry.page_size.least) in
-    same_findings f g (one_tiling (extent_of image e w) f.items g.items pos x.tiled y.tiled) (x.tail.counted ∙ sym y.tail.counted) (x.tail.least ∙ sym y.tail.least) (x.bad_pages ∙ sym y.bad_pages)
+    same_findings f g (one_tiling (extent_of image e w) f.items g.items pos x.tiled y.tiled)
+    (x.tail.counted ∙ sym y.tail.counted) (x.tail.least ∙ sym y.tail.least) (x.bad_pages ∙ sym y.bad_pages)
 
 same_scanned : (f g : Scanned) → f.extent ≡ g.extent → f.pointer ≡ g.pointer → f.findings ≡ g.findings → f ≡ g
-same_scanned f g he hp hf =
-    ap (λ x. make x f.pointer f.findings) he ∙ ap (λ x. make g.extent x f.findings) hp ∙ ap (make g.extent g.pointer) hf
-  where
-    make : ℕ → ℕ → Findings → Scanned
-    make e p f = record { extent = e; pointer = p; findings = f }
+same_scanned f g he hp hf = λ i. record { extent = he i; pointer = hp i; findings = hf i }
 
-one_scanned : (image : Image) (plan : PlanValue) (f g : Scanned) → f.extent ≡ g.extent → pointer_of plan f.extent ≡ Some f.pointer → pointer_of plan g.extent ≡ Some g.pointer →
+one_scanned : (image : Image) (plan : PlanValue) (f g : Scanned) → f.extent ≡ g.extent →
+    pointer_of plan f.extent ≡ Some f.pointer → pointer_of plan g.extent ≡ Some g.pointer →
     IsFindings image f.extent f.pointer f.findings → IsFindings image g.extent g.pointer g.findings → f ≡ g
 one_scanned image plan f g he pf pg x y =
     let hp : f.pointer ≡ g.pointer = same_Some f.pointer g.pointer (sym pf ∙ ap (pointer_of plan) he ∙ pg) in
-    let z : IsFindings image g.extent g.pointer f.findings = subst (λ (w : ℕ). IsFindings image g.extent w f.findings) hp (subst (λ (e : ℕ). IsFindings image e f.pointer f.findings) he x) in
+    let z : IsFindings image g.extent g.pointer f.findings = rw (← hp) (rw he at x) in
     same_scanned f g he hp (one_findings image g.extent g.pointer f.findings g.findings z y)
 
 pub heads : {X : Type 0} (x y : X) (xs ys : List X) → (x ∷ xs) ≡ (y ∷ ys) → x ≡ y
@@ -84,7 +80,8 @@ no_tail x xs e = cc
 abbrev HasPlanned : PlanValue → Scanned → Type 0
 HasPlanned plan f = pointer_of plan f.extent ≡ Some f.pointer
 
-same_results : (image : Image) (plan : PlanValue) (fs gs : List Scanned) → extent_numbers fs ≡ extent_numbers gs → All (HasPlanned plan) fs → All (HasPlanned plan) gs →
+same_results : (image : Image) (plan : PlanValue) (fs gs : List Scanned) → extent_numbers fs ≡ extent_numbers gs →
+    All (HasPlanned plan) fs → All (HasPlanned plan) gs →
     HaveFindings image fs → HaveFindings image gs → fs ≡ gs
 same_results image plan [] [] e pf pg x y = refl
 same_results image plan [] (g ∷ gs) e pf pg x y = absurd (no_tail g.extent (extent_numbers gs) e)
@@ -99,5 +96,7 @@ same_results image plan (f ∷ fs) (g ∷ gs) e pf pg x y =
     is : Scanned → Type 0
     is h = IsFindings image h.extent h.pointer h.findings
 
-pub one_reader : (image : Image) (plan : PlanValue) (fs gs : List Scanned) → AreAllFindings image plan fs → AreAllFindings image plan gs → fs ≡ gs
-one_reader image plan fs gs x y = same_results image plan fs gs (x.extents ∙ sym y.extents) x.pointers y.pointers x.findings y.findings
+pub one_reader : (image : Image) (plan : PlanValue) (fs gs : List Scanned) → AreAllFindings image plan fs →
+    AreAllFindings image plan gs → fs ≡ gs
+one_reader image plan fs gs x y =
+    same_results image plan fs gs (x.extents ∙ sym y.extents) x.pointers y.pointers x.findings y.findings

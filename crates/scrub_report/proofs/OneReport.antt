@@ -1,23 +1,12 @@
--- An image has one report, one index and one verdict whether it is clean: all that is found on it is one.
-use Rattle.std.proofs.Common.{◌≡◌, ℕ, Bool, List, sym, ◌∙◌, ap, subst}
+-- An image has one report, one index and one verdict whether it is clean, since what is found on it is unique.
+use Rattle.std.proofs.Common.{◌≡◌, ℕ, List, sym, ◌∙◌, ap}
 use Rattle.scrub_disk.specs.Image.{Image}
-use Rattle.scrub_super.specs.Chosen.{Choice}
-use Rattle.scrub_super.specs.Plan.{PlanValue, IsPlanOf}
+use Rattle.scrub_super.specs.Plan.{PlanValue}
 use Rattle.scrub_super.proofs.Laws.{one_choice_lem}
-use Rattle.scrub_scan.specs.Scanned.{Scanned}
-use Rattle.scrub_scan.specs.AllFindings.{AreAllFindings}
-use Rattle.scrub_run.specs.declared.shard_id.ShardId.{ShardId}
 use Rattle.scrub_run.specs.Run.{run_bytes}
-use Rattle.scrub_merge.specs.Binding.{BindingValue}
-use Rattle.scrub_merge.specs.ShardMap.{IsShardMap}
 use Rattle.scrub_merge.proofs.Maps.{one_shard_map_lem}
-use Rattle.scrub_check.specs.declared.statuses.checked.Checked.{Checked}
-use Rattle.scrub_check.specs.declared.lists.place.SharedPlace.{SharedPlace}
-use Rattle.scrub_check.specs.Candidates.{CandidateValue, AreCandidates}
-use Rattle.scrub_check.specs.Checked.{AreChecked, AreBrokenShards}
+use Rattle.scrub_check.specs.Candidates.{AreCandidates}
 use Rattle.scrub_check.specs.Named.{named}
-use Rattle.scrub_check.specs.Runs.{ReadRunsValue, AreReadRuns}
-use Rattle.scrub_check.specs.Shared.{AreShared}
 use Rattle.scrub_check.proofs.OneList.{one_list, one_shared, one_broken}
 use Rattle.scrub_report.specs.Answer.{AnswerValue, IsScrubAnswer, ArePlannedExtents}
 use Rattle.scrub_report.specs.Index.{index_entries}
@@ -28,23 +17,22 @@ use Rattle.scrub_report.proofs.OneIndex.{one_list_of_runs, one_list_of_checked, 
 use Rattle.scrub_report.proofs.OneReader.{one_plan, one_reader}
 
 -- the same parts make the same whole
-same_parts : (s t : Scrubbed) → s.choice ≡ t.choice → s.plan ≡ t.plan → s.all ≡ t.all → s.read ≡ t.read → s.bindings ≡ t.bindings → s.checked ≡ t.checked →
+same_parts : (s t : Scrubbed) → s.choice ≡ t.choice → s.plan ≡ t.plan → s.all ≡ t.all → s.read ≡ t.read →
+    s.bindings ≡ t.bindings → s.checked ≡ t.checked →
     s.shared ≡ t.shared → s.broken ≡ t.broken → s.candidates ≡ t.candidates → s ≡ t
-same_parts s t hc hp ha hr hb hk hs hx hd =
-    ap (λ v. make v s.plan s.all s.read s.bindings s.checked s.shared s.broken s.candidates) hc
-    ∙ ap (λ v. make t.choice v s.all s.read s.bindings s.checked s.shared s.broken s.candidates) hp
-    ∙ ap (λ v. make t.choice t.plan v s.read s.bindings s.checked s.shared s.broken s.candidates) ha
-    ∙ ap (λ v. make t.choice t.plan t.all v s.bindings s.checked s.shared s.broken s.candidates) hr
-    ∙ ap (λ v. make t.choice t.plan t.all t.read v s.checked s.shared s.broken s.candidates) hb
-    ∙ ap (λ v. make t.choice t.plan t.all t.read t.bindings v s.shared s.broken s.candidates) hk
-    ∙ ap (λ v. make t.choice t.plan t.all t.read t.bindings t.checked v s.broken s.candidates) hs
-    ∙ ap (λ v. make t.choice t.plan t.all t.read t.bindings t.checked t.shared v s.candidates) hx
-    ∙ ap (make t.choice t.plan t.all t.read t.bindings t.checked t.shared t.broken) hd
-  where
-    make : Choice → PlanValue → List Scanned → ReadRunsValue → List BindingValue → List Checked → List SharedPlace → List ShardId → List CandidateValue → Scrubbed
-    make c p a r b k s x d = record { choice = c; plan = p; all = a; read = r; bindings = b; checked = k; shared = s; broken = x; candidates = d }
+same_parts s t hc hp ha hr hb hk hs hx hd = λ i. record {
+  choice = hc i;
+  plan = hp i;
+  all = ha i;
+  read = hr i;
+  bindings = hb i;
+  checked = hk i;
+  shared = hs i;
+  broken = hx i;
+  candidates = hd i;
+}
 
--- each part follows from those before it
+-- each part is determined by those before it
 pub one_scrub : (image : Image) (s t : Scrubbed) → IsScrubbed image s → IsScrubbed image t → s ≡ t
 one_scrub image s t x y = same_parts s t choice plan all read bindings checked shared broken candidates
   where
@@ -52,52 +40,48 @@ one_scrub image s t x y = same_parts s t choice plan all read bindings checked s
     choice = one_choice_lem image s.choice t.choice x.choice y.choice
 
     plan : s.plan ≡ t.plan
-    plan = one_plan t.choice s.plan t.plan (subst (λ (c : Choice). IsPlanOf c s.plan) choice x.plan) y.plan
+    plan = one_plan t.choice s.plan t.plan (rw choice at x.plan) y.plan
 
     all : s.all ≡ t.all
-    all = one_reader image t.plan s.all t.all (subst (λ (p : PlanValue). AreAllFindings image p s.all) plan x.all) y.all
+    all = one_reader image t.plan s.all t.all (rw plan at x.all) y.all
 
     read : s.read ≡ t.read
-    read = one_list_of_runs image t.plan s.read t.read (subst (λ (p : PlanValue). AreReadRuns image p s.read) plan x.read) y.read
+    read = one_list_of_runs image t.plan s.read t.read (rw plan at x.read) y.read
 
     bindings : s.bindings ≡ t.bindings
     bindings = one_shard_map_lem t.read.runs s.bindings t.bindings (read_runs_are_runs image t.plan t.read y.read)
-        (subst (λ (r : ReadRunsValue). IsShardMap r.runs s.bindings) read x.bindings) y.bindings
+        (rw read at x.bindings) y.bindings
 
     checked : s.checked ≡ t.checked
     checked = one_list_of_checked image t.plan (named t.plan.runs t.bindings) s.checked t.checked
-        (subst (λ (b : List BindingValue). AreChecked image t.plan (named t.plan.runs b) s.checked) bindings
-        (subst (λ (p : PlanValue). AreChecked image p (named p.runs s.bindings) s.checked) plan x.checked)) y.checked
+        (rw (← bindings) (rw plan at x.checked)) y.checked
 
     shared : s.shared ≡ t.shared
-    shared = one_shared t.checked s.shared t.shared (subst (λ (c : List Checked). AreShared c s.shared) checked x.shared) y.shared
+    shared = one_shared t.checked s.shared t.shared (rw checked at x.shared) y.shared
 
     broken : s.broken ≡ t.broken
-    broken = one_broken t.checked s.broken t.broken (subst (λ (c : List Checked). AreBrokenShards c s.broken) checked x.broken) y.broken
+    broken = one_broken t.checked s.broken t.broken (rw checked at x.broken) y.broken
 
-    same : AreCandidates s.plan s.all s.checked (is_in_doubt s.choice s.read) s.candidates → AreCandidates t.plan t.all t.checked (is_in_doubt t.choice t.read) s.candidates
+    same : AreCandidates s.plan s.all s.checked (is_in_doubt s.choice s.read) s.candidates →
+        AreCandidates t.plan t.all t.checked (is_in_doubt t.choice t.read) s.candidates
     same h =
-        subst (λ (r : ReadRunsValue). AreCandidates t.plan t.all t.checked (is_in_doubt t.choice r) s.candidates) read
-        (subst (λ (c : Choice). AreCandidates t.plan t.all t.checked (is_in_doubt c s.read) s.candidates) choice
-        (subst (λ (c : List Checked). AreCandidates t.plan t.all c (is_in_doubt s.choice s.read) s.candidates) checked
-        (subst (λ (a : List Scanned). AreCandidates t.plan a s.checked (is_in_doubt s.choice s.read) s.candidates) all
-        (subst (λ (p : PlanValue). AreCandidates p s.all s.checked (is_in_doubt s.choice s.read) s.candidates) plan h))))
+        rw (← read) (rw (← choice) (rw (← checked) (rw (← all) (rw plan at h))))
 
     candidates : s.candidates ≡ t.candidates
-    candidates = one_list t.plan t.all t.checked (is_in_doubt t.choice t.read) s.candidates t.candidates (same x.candidates) y.candidates
+    candidates =
+        one_list t.plan t.all t.checked (is_in_doubt t.choice t.read) s.candidates t.candidates (same x.candidates)
+        y.candidates
 
 -- and one list of planned extents
-pub one_planned : (image : Image) (planned others : List ℕ) → ArePlannedExtents image planned → ArePlannedExtents image others → planned ≡ others
+pub one_planned : (image : Image) (planned others : List ℕ) → ArePlannedExtents image planned →
+    ArePlannedExtents image others → planned ≡ others
 one_planned image planned others x y =
     let choice : x.choice ≡ y.choice = one_choice_lem image x.choice y.choice x.chosen y.chosen in
-    let plan : x.plan ≡ y.plan = one_plan y.choice x.plan y.plan (subst (λ (c : Choice). IsPlanOf c x.plan) choice x.follows) y.follows in
+    let plan : x.plan ≡ y.plan = one_plan y.choice x.plan y.plan (rw choice at x.follows) y.follows in
     x.are ∙ ap (λ (p : PlanValue). p.planned) plan ∙ sym y.are
 
 same_answer : (a b : AnswerValue) → a.report ≡ b.report → a.index ≡ b.index → a.is_clean ≡ b.is_clean → a ≡ b
-same_answer a b hr hi hc = ap (λ x. make x a.index a.is_clean) hr ∙ ap (λ x. make b.report x a.is_clean) hi ∙ ap (make b.report b.index) hc
-  where
-    make : List ℕ → List ℕ → Bool → AnswerValue
-    make r i c = record { report = r; index = i; is_clean = c }
+same_answer a b hr hi hc = λ i. record { report = hr i; index = hi i; is_clean = hc i }
 
 pub one_answer : (image : Image) (a b : AnswerValue) → IsScrubAnswer image a → IsScrubAnswer image b → a ≡ b
 one_answer image a b x y =
@@ -109,4 +93,5 @@ one_answer image a b x y =
 -- and one listing of its named locators
 pub one_listing : (image : Image) (a b : List ℕ) → AreLocatorLines image a → AreLocatorLines image b → a ≡ b
 one_listing image a b x y =
-    x.text_is ∙ ap (λ (s : Scrubbed). locator_lines s.checked) (one_scrub image x.found y.found x.scrubbed y.scrubbed) ∙ sym y.text_is
+    x.text_is ∙ ap (λ (s : Scrubbed). locator_lines s.checked) (one_scrub image x.found y.found x.scrubbed y.scrubbed)
+    ∙ sym y.text_is

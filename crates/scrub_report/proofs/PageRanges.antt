@@ -21,7 +21,8 @@ abbrev pub last_joined : Bool → PageRange → ℕ → List PageRange
 last_joined b r q = cond b (up_to_page r q ∷ []) (r ∷ alone q ∷ [])
 
 -- behind ranges it is joined to the last one
-pub joined_behind : (rs : List PageRange) (r : PageRange) (q : ℕ) → joined_with (rs ++ r ∷ []) q ≡ rs ++ last_joined (r.last + 1 == q) r q
+pub joined_behind : (rs : List PageRange) (r : PageRange) (q : ℕ) →
+    joined_with (rs ++ r ∷ []) q ≡ rs ++ last_joined (r.last + 1 == q) r q
 joined_behind [] r q = refl
 joined_behind (s ∷ []) r q = refl
 joined_behind (s ∷ t ∷ rs) r q = ap (λ (us : List PageRange). s ∷ us) (joined_behind (t ∷ rs) r q)
@@ -44,13 +45,17 @@ around_one p q r false false eb ec =
 
 around_more : (p q : ℕ) (r s : PageRange) (rs : List PageRange) (b : Bool) → (p + 1 == r.first) ≡ b →
     with_page p (r ∷ joined_with (s ∷ rs) q) ≡ joined_with (cond b (from_page p r ∷ s ∷ rs) (alone p ∷ r ∷ s ∷ rs)) q
-around_more p q r s rs true e = ap (λ t. cond t (from_page p r ∷ joined_with (s ∷ rs) q) (alone p ∷ r ∷ joined_with (s ∷ rs) q)) e
-around_more p q r s rs false e = ap (λ t. cond t (from_page p r ∷ joined_with (s ∷ rs) q) (alone p ∷ r ∷ joined_with (s ∷ rs) q)) e
+around_more p q r s rs true e =
+    ap (λ t. cond t (from_page p r ∷ joined_with (s ∷ rs) q) (alone p ∷ r ∷ joined_with (s ∷ rs) q)) e
+around_more p q r s rs false e =
+    ap (λ t. cond t (from_page p r ∷ joined_with (s ∷ rs) q) (alone p ∷ r ∷ joined_with (s ∷ rs) q)) e
 
 -- whichever page is joined first
 around : (p q : ℕ) (rs : List PageRange) → with_page p (joined_with rs q) ≡ joined_with (with_page p rs) q
 around p q [] = refl
-around p q (r ∷ []) = around_one p q r (p + 1 == r.first) (r.last + 1 == q) refl refl ∙ ap (λ (rs : List PageRange). joined_with rs q) refl
+around p q (r ∷ []) =
+    around_one p q r (p + 1 == r.first) (r.last + 1 == q) refl refl
+    ∙ ap (λ (rs : List PageRange). joined_with rs q) refl
 around p q (r ∷ s ∷ rs) = around_more p q r s rs (p + 1 == r.first) refl
 
 -- the ranges of pages, and of one more behind them
@@ -59,15 +64,19 @@ ranges_push [] q = refl
 ranges_push (p ∷ ps) q = ap (with_page p) (ranges_push ps q) ∙ around p q (page_ranges ps)
 
 -- a loop's step
-pub ranges_more : (ps : List ℕ) (i d : ℕ) → i < length ps → page_ranges (take (i + 1) ps) ≡ joined_with (page_ranges (take i ps)) (get_or ps i d)
+pub ranges_more : (ps : List ℕ) (i d : ℕ) → i < length ps →
+    page_ranges (take (i + 1) ps) ≡ joined_with (page_ranges (take i ps)) (get_or ps i d)
 ranges_more ps i d below = ap page_ranges (take_more ps i d below) ∙ ranges_push (take i ps) (get_or ps i d)
 
--- a page behind ranges whose last one is its neighbour, and behind others
+-- a page behind ranges, whether it follows the last one directly or not
 module _ (old rest : List PageRange) (r : PageRange) (q : ℕ) (split : old ≡ rest ++ r ∷ []) where
   pub joined_neighbour : (r.last + 1 == q) ≡ true → rest ++ up_to_page r q ∷ [] ≡ joined_with old q
-  joined_neighbour e = sym (ap (λ (rs : List PageRange). joined_with rs q) split ∙ joined_behind rest r q ∙ ap (λ b. rest ++ last_joined b r q) e)
+  joined_neighbour e =
+      sym
+      (ap (λ (rs : List PageRange). joined_with rs q) split ∙ joined_behind rest r q ∙ ap (λ b. rest ++ last_joined b r q) e)
 
   pub joined_alone : (r.last + 1 == q) ≡ false → (rest ++ r ∷ []) ++ alone q ∷ [] ≡ joined_with old q
   joined_alone e =
       append_assoc rest (r ∷ []) (alone q ∷ [])
-      ∙ sym (ap (λ (rs : List PageRange). joined_with rs q) split ∙ joined_behind rest r q ∙ ap (λ b. rest ++ last_joined b r q) e)
+      ∙ sym
+      (ap (λ (rs : List PageRange). joined_with rs q) split ∙ joined_behind rest r q ∙ ap (λ b. rest ++ last_joined b r q) e)

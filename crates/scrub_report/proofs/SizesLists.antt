@@ -1,4 +1,4 @@
--- Records and lost ranges in one list by rising start, and what it says of raw bytes.
+-- Records and lost ranges in one list by rising start, and the lines of raw bytes that it gives.
 use Rattle.std.proofs.Common.{◌≡◌, ◌≢◌, ◌<◌, ◌≤◌, ◌+◌, ◌-◌, ◌*◌, ◌/◌, ◌++◌, ℕ, zero, suc, Bool, true, false, List, [], ◌∷◌, length, take, get_or, arith, refl, sym, ◌∙◌, ap, subst, inl, inr, Option, Some, None, IfSome}
 use Rattle.std.specs.Prelude.{◌↔◌, IsTrue}
 use Rattle.std.specs.List.{All, AllPairs, Contains}
@@ -40,11 +40,11 @@ none_merged records ranges = record {
   below_ranges = λ line c. absurd (none_in line c);
 }
 
--- one element more of a list
+-- one more element of a list
 taken_more : {X : Type 0} (xs : List X) (n : ℕ) (x : X) → n < length xs → x ≡ get_or xs n x → take (n + 1) xs ≡ take n xs ++ x ∷ []
 taken_more xs n x h is = take_more xs n x h ∙ ap (λ y. take n xs ++ y ∷ []) (sym is)
 
--- what the default is doesn't matter
+-- the default doesn't matter
 at_any : {X : Type 0} (xs : List X) (n : ℕ) (x d : X) → n < length xs → x ≡ get_or xs n x → get_or xs n d ≡ x
 at_any xs n x d h is = get_or_default xs n d x h ∙ sym is
 
@@ -147,7 +147,7 @@ range_more records ranges r l lines x can old here is first = record {
     grown : take (l + 1) ranges ≡ take l ranges ++ x ∷ []
     grown = taken_more ranges l x here is
 
--- the next line is added; behind it there are so many records, and the other lines are of ranges
+-- one more line, with the records and the ranges that are before the next
 pub line_more : (records : List FoundRecord) (ranges : List LostBytes) (r n : ℕ) (lines more : List SizesLine) (line : SizesLine) (count : ℕ) → r ≤ n → IsNextLine records ranges r (n - r) line →
     count ≡ record_count line → more ≡ lines ++ line ∷ [] → (CanMerge records ranges → AreMerged records ranges r (n - r) lines) →
     CanMerge records ranges → AreMerged records ranges (r + count) (n + 1 - (r + count)) more
@@ -202,7 +202,7 @@ in_order bytes lost records ranges lines h o = record {
   ranges = λ l. ((λ c. (h.ranges_are.exact l).0 ((o.ranges_are l).0 c)), (λ f. (o.ranges_are l).1 ((h.ranges_are.exact l).1 f)));
 }
 
--- ---- a lost block lies in a run of them
+-- ---- a lost block is in a run of lost blocks
 
 abbrev HasFirst : List Bool → ℕ → Type 0
 HasFirst lost n = (f : ℕ) × (f ≤ n) × ((k : ℕ) → f ≤ k → k ≤ n → IsMarked lost k) × ((k : ℕ) → k + 1 ≡ f → IsMarked lost k → ⊥)
@@ -220,7 +220,7 @@ first_before lost n m before = by (get_or lost n false) refl
         (r.0, omega (arith, r.1), (λ k low high. elim (cases_lt n k) [ inl last ↦ this k (omega (arith, last)) high | inr earlier ↦ r.2 k low earlier ]), r.3)
 
 first_of_run : (lost : List Bool) (n : ℕ) → IsMarked lost n → HasFirst lost n
-first_of_run lost zero m = (0, omega arith, (λ k low high. let e : k ≡ 0 = omega (arith, high) in ap (λ j. get_or lost j false) e ∙ m), (λ k e. absurd (let no : ⊥ = omega (arith, e) in no)))
+first_of_run lost zero m = (0, omega arith, (λ k low high. let e : k ≡ 0 = omega (arith, high) in ap (λ j. get_or lost j false) e ∙ m), (λ k e. absurd (omega (arith, e))))
 first_of_run lost (suc n) m = first_before lost n m (λ e. first_of_run lost n e)
 
 abbrev HasStop : List Bool → ℕ → Type 0
@@ -256,7 +256,7 @@ run_of lost n m =
       },
     )
 
--- ---- whether all is in good order
+-- ---- whether it is clean
 
 an_element : {X : Type 0} (xs : List X) → 0 < length xs → (x : X) × Contains xs x
 an_element [] some = absurd (omega (arith, some))

@@ -1,10 +1,10 @@
--- The tokens of lists and of objects, as they are written.
-use Rattle.std.proofs.Common.{◌≡◌, ◌<◌, ◌≤◌, ◌+◌, ℕ, List, [], ◌∷◌, ◌++◌, Bool, OnOk, Result, Ok, Err, length, map, take, get_or, refl, sym, ap, ◌∙◌, append-nil, append_assoc}
+-- The tokens of lists and of objects, written element by element.
+use Rattle.std.proofs.Common.{◌≡◌, ◌≤◌, ℕ, List, [], ◌∷◌, ◌++◌, Bool, OnOk, Result, Ok, Err, length, map, take, refl, sym, ap, ◌∙◌, append_assoc}
 use Rattle.std.specs.List.{flat_map}
-use Rattle.std.proofs.lemmas.List.{flat_map_more, take_all, take_more}
+use Rattle.std.proofs.lemmas.List.{take_all}
 use Rattle.std.proofs.lemmas.List.Concat.{flat_map-append}
 use Rattle.std.proofs.lemmas.List.Folds.{flat_map-map}
-use Rattle.json.specs.Token.{Token, begin_array, end_array, begin_object, end_object, key}
+use Rattle.json.specs.Token.{Token, begin_array, end_array, begin_object, end_object}
 use Rattle.json.specs.Tree.{items_tokens, members_tokens as closed_members}
 use Rattle.serde_json.specs.Data.{Data}
 use Rattle.serde_json.specs.View.{items_of}
@@ -13,103 +13,85 @@ use Rattle.scrub_report.specs.Json.{list, members, with_keys}
 use Rattle.scrub_report.specs.declared.parts.Parts.{Parts}
 use Rattle.scrub_report.specs.Tokens.{all_keys, extent_keys, first_keys, last_keys, list_begun, member_tokens, members_tokens, run_keys, value_tokens}
 
--- what was written in one step and then in others was written in all of them
+-- two steps of writing are one
 pub chain : (a b c xs ys : List Token) → b ≡ a ++ xs → c ≡ b ++ ys → c ≡ a ++ (xs ++ ys)
 chain a b c xs ys first later = later ∙ ap (λ ts. ts ++ ys) first ∙ append_assoc a xs ys
-
-pub chain_ok : {E : Type 0} (a b c xs ys : List Token) (r : Result (Unit {0}) E) → b ≡ a ++ xs → OnOk r (c ≡ b ++ ys) → OnOk r (c ≡ a ++ (xs ++ ys))
-chain_ok a b c xs ys (Ok u) first later = chain a b c xs ys first later
-chain_ok a b c xs ys (Err e) first later = tt
 
 -- ---- lists
 
 items_are : (ds : List Data) → items_tokens (items_outline (items_of ds)) ≡ flat_map value_tokens ds ++ end_array ∷ []
 items_are [] = refl
-items_are (d ∷ ds) = ap (λ ts. value_tokens d ++ ts) (items_are ds) ∙ sym (append_assoc (value_tokens d) (flat_map value_tokens ds) (end_array ∷ []))
+items_are (d ∷ ds) =
+    ap (λ ts. value_tokens d ++ ts) (items_are ds)
+    ∙ sym (append_assoc (value_tokens d) (flat_map value_tokens ds) (end_array ∷ []))
 
 -- a list is written element by element, between its brackets
-pub list_tokens : {X : Type 0} (show : X → Data) (xs : List X) → value_tokens (list (map show xs)) ≡ begin_array ∷ (flat_map (λ x. value_tokens (show x)) xs ++ end_array ∷ [])
-list_tokens show xs = ap (λ ts. begin_array ∷ ts) (items_are (map show xs) ∙ ap (λ ts. ts ++ end_array ∷ []) (flat_map-map value_tokens show xs))
+pub list_tokens : {X : Type 0} (show : X → Data) (xs : List X) →
+    value_tokens (list (map show xs)) ≡ begin_array ∷ (flat_map (λ x. value_tokens (show x)) xs ++ end_array ∷ [])
+list_tokens show xs =
+    ap (λ ts. begin_array ∷ ts)
+    (items_are (map show xs) ∙ ap (λ ts. ts ++ end_array ∷ []) (flat_map-map value_tokens show xs))
 
 module _ {X : Type 0} (show : X → Data) (xs : List X) (old mid new : List Token) (i : ℕ) where
-  -- one more element is written
-  pub list_more : (d x : X) → i < length xs → get_or xs i d ≡ x → mid ≡ old ++ list_begun show (take i xs) → new ≡ mid ++ value_tokens (show x) →
-      new ≡ old ++ list_begun show (take (i + 1) xs)
-  list_more d x below is so_far grown =
-      grown ∙ ap (λ ts. ts ++ value_tokens (show x)) so_far
-      ∙ append_assoc old (list_begun show (take i xs)) (value_tokens (show x))
-      ∙ ap (λ ts. old ++ ts)
-      (ap (λ y. list_begun show (take i xs) ++ value_tokens (show y)) (sym is)
-      ∙ flat_map_more (λ z. value_tokens (show z)) (begin_array ∷ []) (take i xs) (get_or xs i d)
-      ∙ ap (list_begun show) (sym (take_more xs i d below)))
-
   -- all are written, and the list is closed
-  closed_list : length xs ≤ i → mid ≡ old ++ list_begun show (take i xs) → new ≡ mid ++ end_array ∷ [] → new ≡ old ++ value_tokens (list (map show xs))
+  closed_list : length xs ≤ i → mid ≡ old ++ list_begun show (take i xs) → new ≡ mid ++ end_array ∷ [] →
+      new ≡ old ++ value_tokens (list (map show xs))
   closed_list end so_far closed =
       closed ∙ ap (λ ts. ts ++ end_array ∷ []) (so_far ∙ ap (λ ys. old ++ list_begun show ys) (take_all i xs end))
       ∙ append_assoc old (list_begun show xs) (end_array ∷ [])
       ∙ ap (λ ts. old ++ ts) (sym (list_tokens show xs))
 
-  pub list_closed : {E : Type 0} (r : Result (Unit {0}) E) → length xs ≤ i → mid ≡ old ++ list_begun show (take i xs) → OnOk r (new ≡ mid ++ end_array ∷ []) →
+  pub list_closed : {E : Type 0} (r : Result (Unit {0}) E) → length xs ≤ i → mid ≡ old ++ list_begun show (take i xs) →
+      OnOk r (new ≡ mid ++ end_array ∷ []) →
       OnOk r (new ≡ old ++ value_tokens (list (map show xs)))
   list_closed (Ok u) end so_far closed = closed_list end so_far closed
   list_closed (Err e) end so_far closed = tt
 
 -- ---- objects
 
-members_are : (ms : List (List ℕ × Data)) → closed_members (members_outline (members ms)) ≡ members_tokens ms ++ end_object ∷ []
+members_are : (ms : List (List ℕ × Data)) →
+    closed_members (members_outline (members ms)) ≡ members_tokens ms ++ end_object ∷ []
 members_are [] = refl
-members_are (m ∷ ms) = ap (λ ts. member_tokens m.0 m.1 ++ ts) (members_are ms) ∙ sym (append_assoc (member_tokens m.0 m.1) (members_tokens ms) (end_object ∷ []))
+members_are (m ∷ ms) =
+    ap (λ ts. member_tokens m.0 m.1 ++ ts) (members_are ms)
+    ∙ sym (append_assoc (member_tokens m.0 m.1) (members_tokens ms) (end_object ∷ []))
 
-pub object_tokens : (ms : List (List ℕ × Data)) → value_tokens (with_keys ms) ≡ begin_object ∷ (members_tokens ms ++ end_object ∷ [])
+pub object_tokens : (ms : List (List ℕ × Data)) →
+    value_tokens (with_keys ms) ≡ begin_object ∷ (members_tokens ms ++ end_object ∷ [])
 object_tokens ms = ap (λ ts. begin_object ∷ ts) (members_are ms)
 
-members_joined : (ms ns : List (List ℕ × Data)) (ts : List Token) → members_tokens (ms ++ ns) ++ ts ≡ members_tokens ms ++ (members_tokens ns ++ ts)
-members_joined ms ns ts = ap (λ us. us ++ ts) (flat_map-append (λ (m : List ℕ × Data). member_tokens m.0 m.1) ms ns) ∙ append_assoc (members_tokens ms) (members_tokens ns) ts
+members_joined : (ms ns : List (List ℕ × Data)) (ts : List Token) →
+    members_tokens (ms ++ ns) ++ ts ≡ members_tokens ms ++ (members_tokens ns ++ ts)
+members_joined ms ns ts =
+    ap (λ us. us ++ ts) (flat_map-append (λ (m : List ℕ × Data). member_tokens m.0 m.1) ms ns)
+    ∙ append_assoc (members_tokens ms) (members_tokens ns) ts
 
 -- what one member is written as
 abbrev shown_member : {X : Type 0} → (X → List ℕ × Data) → X → List Token
 shown_member show x = member_tokens (show x).0 (show x).1
 
 module _ {X : Type 0} (show : X → List ℕ × Data) (xs : List X) (old mid : List Token) (i : ℕ) where
-  -- one more member is written
-  pub member_more : (new : List Token) (d x : X) → i < length xs → get_or xs i d ≡ x → mid ≡ old ++ flat_map (shown_member show) (take i xs) → new ≡ mid ++ shown_member show x →
-      new ≡ old ++ flat_map (shown_member show) (take (i + 1) xs)
-  member_more new d x below is so_far grown =
-      grown ∙ ap (λ ts. ts ++ shown_member show x) so_far
-      ∙ append_assoc old (flat_map (shown_member show) (take i xs)) (shown_member show x)
-      ∙ ap (λ ts. old ++ ts)
-      (ap (λ y. flat_map (shown_member show) (take i xs) ++ shown_member show y) (sym is)
-      ∙ flat_map_more (shown_member show) [] (take i xs) (get_or xs i d)
-      ∙ ap (flat_map (shown_member show)) (sym (take_more xs i d below)))
-
   -- all are written
-  pub all_members : length xs ≤ i → mid ≡ old ++ flat_map (shown_member show) (take i xs) → mid ≡ old ++ members_tokens (map show xs)
+  pub all_members : length xs ≤ i → mid ≡ old ++ flat_map (shown_member show) (take i xs) →
+      mid ≡ old ++ members_tokens (map show xs)
   all_members end so_far =
       so_far ∙ ap (λ ys. old ++ flat_map (shown_member show) ys) (take_all i xs end)
       ∙ ap (λ ts. old ++ ts) (sym (flat_map-map (λ (m : List ℕ × Data). member_tokens m.0 m.1) show xs))
 
 -- an object is begun, its members are written, and it is closed
-pub object_written : (ms : List (List ℕ × Data)) (a b c d : List Token) → b ≡ a ++ begin_object ∷ [] → c ≡ b ++ members_tokens ms → d ≡ c ++ end_object ∷ [] →
+pub object_written : (ms : List (List ℕ × Data)) (a b c d : List Token) → b ≡ a ++ begin_object ∷ [] →
+    c ≡ b ++ members_tokens ms → d ≡ c ++ end_object ∷ [] →
     d ≡ a ++ value_tokens (with_keys ms)
 object_written ms a b c d begun all closed =
-    chain a b d (begin_object ∷ []) (members_tokens ms ++ end_object ∷ []) begun (chain b c d (members_tokens ms) (end_object ∷ []) all closed)
+    chain a b d (begin_object ∷ []) (members_tokens ms ++ end_object ∷ []) begun
+    (chain b c d (members_tokens ms) (end_object ∷ []) all closed)
     ∙ ap (λ ts. a ++ ts) (sym (object_tokens ms))
 
 pub object_closed : {E : Type 0} (ms : List (List ℕ × Data)) (a b c d : List Token) (r : Result (Unit {0}) E) →
-    b ≡ a ++ begin_object ∷ [] → c ≡ b ++ members_tokens ms → OnOk r (d ≡ c ++ end_object ∷ []) → OnOk r (d ≡ a ++ value_tokens (with_keys ms))
+    b ≡ a ++ begin_object ∷ [] → c ≡ b ++ members_tokens ms → OnOk r (d ≡ c ++ end_object ∷ []) →
+    OnOk r (d ≡ a ++ value_tokens (with_keys ms))
 object_closed ms a b c d (Ok u) begun all closed = object_written ms a b c d begun all closed
 object_closed ms a b c d (Err e) begun all closed = tt
-
--- one more member is written behind others
-pub one_behind : {E : Type 0} (first : List (List ℕ × Data)) (one : List ℕ × Data) (t0 t1 t2 t3 : List Token) (r : Result (Unit {0}) E) →
-    t1 ≡ t0 ++ members_tokens first → t2 ≡ t1 ++ key one.0 ∷ [] → OnOk r (t3 ≡ t2 ++ value_tokens one.1) →
-    OnOk r (t3 ≡ t0 ++ members_tokens (first ++ (one ∷ [])))
-one_behind first one t0 t1 t2 t3 (Err e) h1 h2 h3 = tt
-one_behind first one t0 t1 t2 t3 (Ok u) h1 h2 h3 =
-    chain t0 t1 t3 (members_tokens first) (key one.0 ∷ value_tokens one.1) h1 (chain t1 t2 t3 (key one.0 ∷ []) (value_tokens one.1) h2 h3)
-    ∙ ap (λ ts. t0 ++ (members_tokens first ++ (key one.0 ∷ ts))) (sym (append-nil (value_tokens one.1)))
-    ∙ ap (λ ts. t0 ++ ts) (sym (flat_map-append (λ (m : List ℕ × Data). member_tokens m.0 m.1) first (one ∷ [])))
 
 -- ---- the report, whose keys are written in four steps
 
@@ -119,6 +101,11 @@ module _ {D : Type 0} {s : _} (p : Parts D s) (clean : Bool) where
   keys_joined =
       let closed = end_object ∷ [] in
       let last = members_joined (run_keys p) (last_keys p) closed in
-      let scanned = members_joined (extent_keys p) (run_keys p ++ last_keys p) closed ∙ ap (λ ts. members_tokens (extent_keys p) ++ ts) last in
-      let all = members_joined (first_keys p clean) (extent_keys p ++ (run_keys p ++ last_keys p)) closed ∙ ap (λ ts. members_tokens (first_keys p clean) ++ ts) scanned in
-      ap (λ ts. begin_object ∷ ts) (sym all) ∙ sym (object_tokens (first_keys p clean ++ (extent_keys p ++ (run_keys p ++ last_keys p))))
+      let scanned =
+      members_joined (extent_keys p) (run_keys p ++ last_keys p) closed
+      ∙ ap (λ ts. members_tokens (extent_keys p) ++ ts) last in
+      let all =
+      members_joined (first_keys p clean) (extent_keys p ++ (run_keys p ++ last_keys p)) closed
+      ∙ ap (λ ts. members_tokens (first_keys p clean) ++ ts) scanned in
+      ap (λ ts. begin_object ∷ ts) (sym all)
+      ∙ sym (object_tokens (first_keys p clean ++ (extent_keys p ++ (run_keys p ++ last_keys p))))

@@ -1,4 +1,4 @@
--- What a scrub answers of a disk.
+-- The answer of a scrub.
 use Rattle.std.specs.Prelude.{◌≡◌, ℕ, List, Bool, length}
 use Rattle.scrub_disk.specs.Image.{Image}
 use Rattle.scrub_super.specs.Chosen.{Choice, IsChoice}
@@ -8,7 +8,7 @@ use Rattle.scrub_report.specs.Scrubbed.{IsCleanImage}
 use Rattle.scrub_report.specs.Report.{IsReport}
 use Rattle.scrub_report.specs.Index.{IsIndex}
 
--- an answer: the text of the report, the bytes of the index, and whether all is in good order
+-- an answer: the text of the report, the bytes of the index, and whether the disk is clean
 pub record AnswerValue : Type 0 where
   pub report : List ℕ
   pub index : List ℕ
@@ -20,7 +20,7 @@ pub record IsScrubAnswer (image : Image) (a : AnswerValue) : Type 0 where
   pub index : IsIndex image a.index
   pub clean : IsCleanImage image a.is_clean
 
--- the extents that a scrub goes through, rising: those of the plan by the superblock that counts on the disk
+-- the extents that a scrub scans, rising: the planned extents of the plan by the superblock that counts on the disk
 pub record ArePlannedExtents (image : Image) (planned : List ℕ) : Type 0 where
   pub choice : Choice
   pub plan : PlanValue
@@ -32,6 +32,6 @@ pub record ArePlannedExtents (image : Image) (planned : List ℕ) : Type 0 where
 abbrev pub IsPartitionOfPlanned : Image → List (List ℕ) → Type 0
 IsPartitionOfPlanned image lists = (planned : List ℕ) × ArePlannedExtents image planned × IsPartition planned lists
 
--- the image has so many planned extents
+-- the image has this many planned extents
 abbrev pub IsCountOfPlanned : Image → ℕ → Type 0
 IsCountOfPlanned image count = (planned : List ℕ) × ArePlannedExtents image planned × (count ≡ length planned)

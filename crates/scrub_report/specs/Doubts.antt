@@ -17,13 +17,13 @@ use Rattle.scrub_report.specs.Scrubbed.{Scrubbed}
 
 -- ---- neighbouring pages
 
--- a page in front of ranges: the first page of the first range if it is that range's neighbour, and else a range of its
+-- a page in front of ranges: the first page of the first range if that range follows it directly, or else a range of its
 -- own
 abbrev pub with_page : ℕ → List PageRange → List PageRange
 with_page q [] = record { first = q; last = q } ∷ []
 with_page q (r ∷ rs) = if q + 1 == r.first then record { first = q; last = r.last } ∷ rs else record { first = q; last = q } ∷ r ∷ rs
 
--- rising pages as ranges of neighbours, joined as far as they go
+-- rising pages joined into as few ranges as possible
 abbrev pub page_ranges : List ℕ → List PageRange
 page_ranges [] = []
 page_ranges (q ∷ qs) = with_page q (page_ranges qs)
@@ -32,13 +32,13 @@ page_ranges (q ∷ qs) = with_page q (page_ranges qs)
 abbrev pub pages_within : PageRange → List ℕ
 pages_within r = range_with_len r.first (r.last + 1 - r.first)
 
--- no range is the neighbour of the next
+-- no range is directly followed by the next
 abbrev pub AreApart : List PageRange → Type 0
 AreApart [] = ⊤
 AreApart (r ∷ []) = ⊤
 AreApart (r ∷ s ∷ rs) = (r.last + 1 ≢ s.first) × AreApart (s ∷ rs)
 
--- no range is empty, the ranges hold just these pages in their order, and none is the neighbour of the next
+-- no range is empty, the ranges hold just these pages in their order, and none is directly followed by the next
 pub record AreJoined (pages : List ℕ) (ranges : List PageRange) : Type 0 where
   pub filled : All (λ r. r.first ≤ r.last) ranges
   pub same : flat_map pages_within ranges ≡ pages
@@ -46,22 +46,22 @@ pub record AreJoined (pages : List ℕ) (ranges : List PageRange) : Type 0 where
 
 -- ---- each kind of doubt
 
--- the doubts of a choice: no superblock counts, or two records or more have the greatest generation
+-- the doubts of a choice: no superblock counts, or two or more records have the greatest generation
 abbrev pub choice_doubts : Choice → List Doubt
 choice_doubts choice = (if is_none choice.superblock then NoSuperblock ∷ [] else []) ++ (if choice.tie then Tie ∷ [] else [])
 
--- the doubt that page q of extent 0 can't be read
+-- the doubt that page q of extent 0 is unreadable
 abbrev pub superblock_lost : ℕ → SuperblockPage → Option Doubt
 superblock_lost q Lost = Some (SuperblockLost q)
 superblock_lost q _ = None
 
--- the doubt that page q of extent 0 begins with the letters of a kind, and is no part of a record
+-- the doubt that page q of extent 0 begins with the letters of a kind of record, and is no part of a record
 abbrev pub superblock_damaged : ℕ → SuperblockPage → Option Doubt
 superblock_damaged q (Damaged kind) = Some (SuperblockDamaged q)
 superblock_damaged q _ = None
 
--- the doubt that page q of extent 0 has a byte other than zero, doesn't begin with these letters, and is no part of a
--- record
+-- the doubt that page q of extent 0 has a nonzero byte, doesn't begin with the letters of a kind of record, and is no
+-- part of a record
 abbrev pub superblock_stray : ℕ → SuperblockPage → Option Doubt
 superblock_stray q Stray = Some (SuperblockStray q)
 superblock_stray q _ = None
@@ -79,15 +79,16 @@ run_lost k state = Some (RunLost k state)
 abbrev pub run_doubts : List RunState → List Doubt
 run_doubts states = filter_map (λ s. run_lost s.0 s.1) (enumerate_from 0 states)
 
--- the doubt that an extent has bytes other than zero at or behind its write pointer: the first of them, and how many
+-- the doubt that an extent has nonzero bytes at or behind its write pointer, with the first of them and how many there
+-- are
 abbrev pub tail_doubts : Scanned → List Doubt
 tail_doubts f = option_to_list (option_map (λ first. Tail f.extent first f.findings.tail_count) f.findings.tail_first)
 
--- page q has a byte at or behind the write pointer
+-- page q has a byte at or behind the write pointer, by the bytes of a page
 abbrev pub ends_past : ℕ → ℕ → ℕ → Bool
 ends_past page pointer q = nat_lt pointer ((q + 1) * page)
 
--- the unreadable pages of an extent that have a byte at or behind its write pointer, if a page has so many bytes
+-- the unreadable pages of an extent that have a byte at or behind its write pointer, by the bytes of a page
 abbrev pub lost_past : ℕ → Scanned → List ℕ
 lost_past page f = filter (ends_past page f.pointer) f.findings.bad_pages
 
@@ -95,14 +96,15 @@ lost_past page f = filter (ends_past page f.pointer) f.findings.bad_pages
 abbrev pub range_doubts : ℕ → List PageRange → List Doubt
 range_doubts extent ranges = map (λ r. TailLost extent r.first r.last) ranges
 
--- the doubts of an extent's unreadable pages with a byte at or behind its write pointer, joined as far as they go
+-- the doubts of an extent's unreadable pages with a byte at or behind its write pointer, joined into as few ranges as
+-- possible
 abbrev pub tail_lost_doubts : ℕ → Scanned → List Doubt
 tail_lost_doubts page f = range_doubts f.extent (page_ranges (lost_past page f))
 
 -- ---- all of them
 
--- all doubts, by kind, from a choice, the pages of extent 0, what became of the runs, the bytes of a page, and the
--- scanned extents
+-- all doubts, by kind, from a choice, the pages of extent 0, the states of the runs, the bytes of a page, and the scanned
+-- extents
 abbrev pub doubts_in : Choice → List SuperblockPage → List RunState → ℕ → List Scanned → List Doubt
 doubts_in choice pages states page all =
     choice_doubts choice
@@ -117,7 +119,7 @@ doubts_in choice pages states page all =
 abbrev pub doubts : List SuperblockPage → Scrubbed → List Doubt
 doubts pages found = doubts_in found.choice pages found.read.states found.plan.geometry.page found.all
 
--- ---- what was accepted
+-- ---- accepted kinds
 
 -- the doubt is of an accepted kind
 abbrev pub is_accepted : Accepted → Doubt → Bool

@@ -17,7 +17,7 @@ indexed b = record { id = b.id; locators = b.locators }
 abbrev pub index_entries : List Checked → List BindingValue → List EntryValue
 index_entries checked bindings = map indexed (filter (λ b. not (is_broken checked b.id)) bindings)
 
--- the bytes are the index of an image: the run of the index's entries, of what is found there
+-- the bytes are the index of an image: the run of the entries of the shards that aren't broken there
 pub record IsIndex (image : Image) (bytes : List ℕ) : Type 0 where
   pub found : Scrubbed
   pub scrubbed : IsScrubbed image found

@@ -1,4 +1,4 @@
--- What of the bindings goes into the recovered index, as the code counts it.
+-- The locators in the recovered index, which the code counts.
 use Rattle.std.specs.Prelude.{List}
 use Rattle.std.specs.List.{flat_map}
 use Rattle.scrub_frame.specs.declared.locator.Locator.{Locator}

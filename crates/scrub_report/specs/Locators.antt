@@ -1,4 +1,4 @@
--- The lines of the named locators: who names what, and its status.
+-- The lines of the named locators: owner, place and status.
 use Rattle.std.specs.Prelude.{◌≡◌, ◌++◌, ◌∷◌, [], ℕ, List}
 use Rattle.std.specs.Fmt.{decimal}
 use Rattle.std.specs.List.{flat_map}
@@ -9,7 +9,7 @@ use Rattle.scrub_check.specs.declared.statuses.checked.Checked.{Checked}
 use Rattle.scrub_report.specs.Scrubbed.{Scrubbed, IsScrubbed}
 use Rattle.scrub_report.specs.Texts.{owner_text, status_text, uuid_text}
 
--- where a locator points: `EXTENT OFFSET LENGTH UUID`
+-- the text of where a locator points: `EXTENT OFFSET LENGTH UUID`
 abbrev pub place_text : Locator → List ℕ
 place_text l = decimal l.extent ++ spaced (decimal l.offset) ++ spaced (decimal l.length) ++ spaced (uuid_text l.uuid)
 

@@ -1,8 +1,8 @@
--- What a writer is given of some bytes, where it may fail.
+-- What a writer holds after it was given some bytes, even if it failed.
 use Rattle.std.specs.Prelude.{ℕ, List, take, Option}
 use Rattle.std.specs.Io.KnownBytes.{Appends}
 
--- a writer holds what it held before and some of the first bytes of the text, or all of it, if it is known what it
--- holds
+-- a writer, if it is known what it holds, has what it held before, and behind it some first bytes of the text, or none,
+-- or all
 abbrev pub AppendsFront : Option (List ℕ) → Option (List ℕ) → List ℕ → Type 0
 AppendsFront old new text = (count : ℕ) × Appends old new (take count text)

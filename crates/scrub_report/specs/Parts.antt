@@ -1,13 +1,14 @@
 -- What the code keeps of a disk until the report is written.
-use Rattle.std.specs.Prelude.{◌≡◌, ◌&&◌, ℕ, Bool, List, Option, is_some, map}
+use Rattle.std.specs.Prelude.{◌≡◌, ◌&&◌, Bool, List, is_some, map}
 use Rattle.std.specs.List.{list_all}
 use Rattle.scrub_disk.specs.Image.{Image}
+use Rattle.scrub_frame.specs.declared.locator.Locator.{Locator}
 use Rattle.scrub_super.specs.Chosen.{Choice, IsChoice}
 use Rattle.scrub_super.specs.Plan.{PlanValue, IsPlanOf}
 use Rattle.scrub_scan.specs.Scanned.{Scanned}
 use Rattle.scrub_scan.specs.AllFindings.{AreAllFindings}
 use Rattle.scrub_check.specs.declared.sources.runs.RunState.{RunState}
-use Rattle.scrub_check.specs.Runs.{AreCounted, AreReadRuns, ReadRunsValue}
+use Rattle.scrub_check.specs.Runs.{AreReadRuns, ReadRunsValue}
 use Rattle.scrub_check.specs.declared.lists.liveness.Liveness.{Liveness}
 use Rattle.scrub_check.specs.Candidates.{AreCandidates}
 use Rattle.scrub_check.specs.Checked.{AreChecked}
@@ -18,6 +19,7 @@ use Rattle.scrub_check.specs.Shared.{AreShared}
 use Rattle.scrub_merge.specs.ShardMap.{IsShardMap}
 use Rattle.scrub_report.specs.declared.parts.Judged.{Judged}
 use Rattle.scrub_report.specs.declared.parts.Parts.{Parts}
+use Rattle.scrub_report.specs.declared.runs.RunRow.{RunRow}
 use Rattle.scrub_report.specs.Report.{entry_counts}
 use Rattle.scrub_report.specs.Scrubbed.{IsScrubbed, Scrubbed, is_clean_choice, is_clean_extent, is_clean_list, is_in_doubt}
 
@@ -27,17 +29,22 @@ pub record IsScan (image : Image) (choice : Choice) (plan : PlanValue) (all : Li
   pub planned : IsPlanOf choice plan
   pub scanned : AreAllFindings image plan all
 
--- what is kept of the runs that were read: how many entries each has, None if it is lost, and what became of it
-pub record AreKeptOf (read : ReadRunsValue) (entries : List (Option ℕ)) (states : List RunState) : Type 0 where
-  pub entries_are : entries ≡ entry_counts read.runs
-  pub states_are : states ≡ read.states
+-- what became of the runs of some rows
+abbrev pub run_states : List RunRow → List RunState
+run_states rows = map (λ r. r.state) rows
+
+-- the rows are of the runs that were read: each with its locator, how many entries it has, None if it is lost, and what
+-- became of it
+pub record AreRowsOf (locators : List Locator) (read : ReadRunsValue) (rows : List RunRow) : Type 0 where
+  pub locators_are : map (λ r. r.locator) rows ≡ locators
+  pub entries_are : map (λ r. r.entries) rows ≡ entry_counts read.runs
+  pub states_are : run_states rows ≡ read.states
 
 module _ {D : Type 0} where
-  -- the locators are judged as they are in an image, and what is kept of runs is that of the runs that were read
+  -- the locators are judged as they are in an image, and the rows are those of the runs that were read
   pub record AreJudgedOf (image : Image) (j : Judged D) : Type 0 where
     pub read : ReadRunsValue
-    pub counted : AreCounted read
-    pub kept : AreKeptOf read j.entries.items j.states.items
+    pub rows : AreRowsOf j.plan.runs read j.runs.items
     pub doubt : j.in_doubt ≡ is_in_doubt j.chosen read
     pub choice : IsChoice image j.chosen
     pub plan : IsPlanOf j.chosen j.plan
@@ -54,7 +61,7 @@ module _ {D : Type 0} where
     pub candidates : AreCandidates j.plan j.all.extents j.checked.items j.in_doubt l.candidates.items
 
 module _ {D : Type 0} {s : _} where
-  -- the parts that the code keeps, as what was found on the disk, if these runs were read
+  -- what is found on the disk, by the parts that the code keeps and the runs that were read
   abbrev pub found_in : Parts D s → ReadRunsValue → Scrubbed
   found_in p read = record {
     choice = p.chosen;
@@ -71,11 +78,10 @@ module _ {D : Type 0} {s : _} where
   -- whether the parts are clean: the choice, all scanned extents and the lists, and each run has a number of entries
   abbrev pub is_clean_kept : Parts D s → Bool
   is_clean_kept p =
-      is_clean_choice p.chosen && list_all is_clean_extent p.all.extents && list_all is_some p.entries.items && is_clean_list p.checked.items p.liveness.shared.items
+      is_clean_choice p.chosen && list_all is_clean_extent p.all.extents && list_all (λ r. is_some r.entries) p.runs.items && is_clean_list p.checked.items p.liveness.shared.items
 
-  -- with some runs, of which entries and states are kept, the parts are what is found in the image
+  -- with the runs that the rows are of, the parts are what is found in the image
   pub record ArePartsOf (image : Image) (p : Parts D s) : Type 0 where
     pub read : ReadRunsValue
-    pub counted : AreCounted read
-    pub kept : AreKeptOf read p.entries.items p.states.items
+    pub rows : AreRowsOf p.plan.runs read p.runs.items
     pub scrubbed : IsScrubbed image (found_in p read)

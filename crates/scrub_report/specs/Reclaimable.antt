@@ -1,4 +1,4 @@
--- The lines that say which extents may be reclaimed, and what has to be moved first.
+-- The lines that say which extents can be reclaimed, and what must be moved first.
 use Rattle.std.specs.Prelude.{◌≡◌, ◌++◌, ◌∷◌, ◌==◌, ◌&&◌, [], ℕ, Bool, List, All, Contains, codes, if◌then◌else◌}
 use Rattle.std.specs.Fmt.{decimal}
 use Rattle.std.specs.List.{filter, flat_map}
@@ -31,11 +31,11 @@ doubt_text (RunLost k state) = codes "run-lost" ++ spaced (decimal k) ++ spaced 
 doubt_text (Tail extent first count) = codes "tail" ++ spaced (decimal extent) ++ spaced (decimal first) ++ spaced (decimal count)
 doubt_text (TailLost extent first last) = codes "tail-lost" ++ spaced (decimal extent) ++ spaced (decimal first) ++ spaced (decimal last)
 
--- the word that a doubt's line begins with: `accepted`, or `doubt`
+-- the first word of a doubt's line: `accepted` if its kind was accepted, or else `doubt`
 abbrev pub doubt_word : Accepted → Doubt → List ℕ
 doubt_word accepted doubt = if is_accepted accepted doubt then codes "accepted" else codes "doubt"
 
--- the line of a doubt: whether it is accepted, its kind and its numbers, and a line feed
+-- the line of a doubt: its first word, its kind and its numbers, and a line feed
 abbrev pub doubt_line : Accepted → Doubt → List ℕ
 doubt_line accepted doubt = doubt_word accepted doubt ++ spaced (doubt_text doubt) ++ 10 ∷ []
 
@@ -69,7 +69,7 @@ freed_text extent free = codes "reclaim" ++ spaced (decimal extent) ++ spaced (d
 abbrev pub reclaim_line : CandidateValue → List ℕ
 reclaim_line a = freed_text a.extent a.free ++ 10 ∷ []
 
--- a candidate's line, and behind it those of its moves
+-- a candidate's line and those of its moves
 abbrev pub candidate_lines : List Checked → CandidateValue → List ℕ
 candidate_lines checked a = reclaim_line a ++ flat_map move_line (moves checked a)
 
@@ -83,7 +83,7 @@ all_candidate_lines checked candidates = flat_map (candidate_lines checked) cand
 abbrev pub is_clear : Accepted → List SuperblockPage → Scrubbed → Bool
 is_clear accepted pages found = are_accepted accepted (doubts pages found)
 
--- the extents to reclaim: all candidates if each doubt is accepted, and else none
+-- the extents to reclaim: all candidates if each doubt is of an accepted kind, or else none
 abbrev pub reclaimed : Accepted → List SuperblockPage → Scrubbed → List CandidateValue
 reclaimed accepted pages found = if is_clear accepted pages found then found.candidates else []
 
@@ -100,7 +100,7 @@ pub record AreReclaimLines (image : Image) (accepted : Accepted) (text : List �
   pub held : AreSuperblockPages image pages
   pub text_is : text ≡ reclaim_text accepted pages found
 
--- the truth value says whether each doubt of an image is accepted, so that no line begins with `doubt`
+-- the truth value says whether each doubt of an image is of an accepted kind, so that no line begins with `doubt`
 pub record IsClear (image : Image) (accepted : Accepted) (clear : Bool) : Type 0 where
   pub found : Scrubbed
   pub scrubbed : IsScrubbed image found
@@ -110,7 +110,7 @@ pub record IsClear (image : Image) (accepted : Accepted) (clear : Bool) : Type 0
 
 -- ---- what follows
 
--- the extents to reclaim are the candidates of a report of the same image, all of them in its order if it is clear, and
+-- the extents to reclaim are the candidates of a report of the same image, all of them in its order if it is clear, or
 -- else none
 pub record AreOfCandidates (image : Image) (accepted : Accepted) (report text : List ℕ) (clear : Bool) : Type 0 where
   pub found : Scrubbed

@@ -50,8 +50,8 @@ super_data choice = with_keys (
 abbrev pub items_data : List Item → Data
 items_data items = list (map (λ item. string (line_of item)) items)
 
--- one of `extents`: unreadable pages, number, the lines of its items, live bytes, pointer, how many places the tail
--- has, and the first of them, or null
+-- one of `extents`: unreadable pages, number, the lines of its items, live bytes, write pointer, how many bytes its
+-- tail has, and the offset of the first of them, or null
 abbrev pub extent_data : ℕ → Scanned → Data
 extent_data live s = with_keys (
     (codes "bad", numbers_data s.findings.bad_pages) ∷
@@ -62,7 +62,7 @@ extent_data live s = with_keys (
     (codes "tail", natural s.findings.tail_count) ∷
     (codes "tail_at", natural_or_null s.findings.tail_first) ∷ [])
 
--- one of `runs`: the number of its entries, or null if it is lost, extent and offset of its locator, and what became of
+-- one of `runs`: the number of its entries, or null if it is lost, its locator's extent and offset, and what became of
 -- it
 abbrev pub run_data : Locator → Option ℕ → RunState → Data
 run_data locator entries state = with_keys (
@@ -71,7 +71,7 @@ run_data locator entries state = with_keys (
     (codes "offset", natural locator.offset) ∷
     (codes "state", string (state_text state)) ∷ [])
 
--- the value of `runs`: those of the plan, newest first
+-- the value of `runs`: the index runs of the plan, newest first
 abbrev pub runs_data : List Locator → List (Option ℕ) → List RunState → Data
 runs_data locators entries states = list (map (λ r. run_data r.0 r.1.0 r.1.1) (zip locators (zip entries states)))
 
@@ -92,11 +92,11 @@ locator_members c = members (
     (codes "owner", string (owner_text c.owner)) ∷
     (codes "uuid", string (uuid_text c.locator.uuid)) ∷ [])
 
--- one of `hidden`: a locator, and who names it
+-- one of `hidden`: a locator and its owner
 abbrev pub hidden_data : Checked → Data
 hidden_data c = object (locator_members c)
 
--- one of `dangling`: a locator, who names it, and its status as `reason`
+-- one of `dangling`: a locator, its owner, and its status as `reason`
 abbrev pub dangling_data : Checked → Data
 dangling_data c = object (put (codes "reason") (string (status_text c.status)) (locator_members c))
 
@@ -112,7 +112,7 @@ place_data p = with_keys (
 abbrev pub shared_data : SharedPlace → Data
 shared_data s = with_keys ((codes "count", natural s.count) ∷ (codes "extent", natural s.extent) ∷ (codes "offset", natural s.offset) ∷ [])
 
--- one of `candidates`: an extent, how many bytes it frees, and the starts that it keeps
+-- one of `candidates`: an extent, how many bytes reclaiming it frees, and the starts of the chunks to move first
 abbrev pub candidate_data : CandidateValue → Data
 candidate_data c = with_keys ((codes "extent", natural c.extent) ∷ (codes "free", natural c.free) ∷ (codes "keep", numbers_data c.keep) ∷ [])
 

@@ -1,4 +1,4 @@
--- What is found on a whole disk, each part as it is in the image, and whether all of it is in good order.
+-- What is found on a whole disk, each part as it is in the image, and whether it is clean.
 use Rattle.std.specs.Prelude.{◌≡◌, ◌==◌, ◌&&◌, ◌||◌, Bool, true, false, not, List, length, is_none, is_some}
 use Rattle.std.specs.List.{list_all, list_any}
 use Rattle.scrub_disk.specs.Image.{Image}

@@ -1,4 +1,4 @@
--- The lines of the superblock records of raw bytes, whatever the sizes, and of the bytes that are lost.
+-- The lines of the superblock records in raw bytes, of any sizes, and of the lost bytes.
 use Rattle.std.specs.Prelude.{◌≡◌, ◌<◌, ◌↔◌, ◌++◌, ◌∷◌, [], ℕ, List, Bool, AllPairs, Contains, IsTrue, codes}
 use Rattle.std.specs.Fmt.{decimal}
 use Rattle.std.specs.List.{flat_map}
@@ -30,18 +30,18 @@ size_line line = size_text line ++ 10 ∷ []
 abbrev pub size_lines : List SizesLine → List ℕ
 size_lines = flat_map size_line
 
--- where the record or the lost bytes of a line begin
+-- the start of a line's record or lost bytes
 abbrev pub line_start : SizesLine → ℕ
 line_start (Record r) = r.offset
 line_start (Lost l) = l.from
 
--- the lines are of all records and of all lost bytes, by rising start
+-- the lines are of all records and all lost bytes, by rising start
 pub record AreSizesInOrder (bytes : List ℕ) (lost : List Bool) (lines : List SizesLine) : Type 0 where
   pub rising : AllPairs (λ a b. line_start a < line_start b) lines
   pub records : (r : FoundRecord) → Contains lines (Record r) ↔ IsFoundRecord (byte_left bytes lost) r
   pub ranges : (l : LostBytes) → Contains lines (Lost l) ↔ AreLostBytes lost l
 
--- the text is the lines of raw bytes of which these blocks are lost
+-- the text is the lines of raw bytes with these lost blocks
 pub record AreSizesLines (bytes : List ℕ) (lost : List Bool) (text : List ℕ) : Type 0 where
   pub lines : List SizesLine
   pub in_order : AreSizesInOrder bytes lost lines
@@ -54,8 +54,8 @@ pub record IsCleanFront (bytes : List ℕ) (lost : List Bool) : Type 0 where
       IsFoundRecord (byte_left bytes lost) r → IsFoundRecord (byte_left bytes lost) s → r.geometry ≡ s.geometry
   pub nothing_lost : (n : ℕ) → ¬ IsMarked lost n
 
--- the text, and whether it is clean, are those of raw bytes, for some lost blocks that fit these marks and so many
--- failures
+-- the text and the verdict whether it is clean are those of raw bytes, for some lost blocks that fit these marks and this
+-- many failures
 pub record IsSizesListing (bytes : List ℕ) (marks : List Bool) (failures : ℕ) (text : List ℕ) (clean : Bool) : Type 0 where
   pub lost : List Bool
   pub loses : LosesBlocks bytes marks failures lost

@@ -1,4 +1,4 @@
--- Steps of listing records and lost ranges: one list of both, and whether they are in good order.
+-- Steps of listing records and lost ranges: one list of both, and whether they are clean.
 use Rattle.std.specs.Prelude.{◌≡◌, ◌≢◌, ◌<◌, ◌≤◌, ◌↔◌, ℕ, List, [], AllPairs, Contains, length, slice_index_or}
 use Rattle.scrub_super.specs.declared.anywhere.FoundRecord.{FoundRecord}
 use Rattle.scrub_super.specs.declared.anywhere.LostBytes.{LostBytes}
@@ -6,7 +6,7 @@ use Rattle.scrub_report.specs.declared.sizes_listing.lines.SizesLine.{SizesLine}
 use Rattle.scrub_report.specs.declared.sizes_listing.lines.SizesLine.TheVariants.{Record, Lost}
 use Rattle.scrub_report.specs.Sizes.{line_start}
 
--- both lists rise, and no element of one begins where one of the other does
+-- both lists rise, and no record begins where a lost range does
 pub record CanMerge (records : List FoundRecord) (ranges : List LostBytes) : Type 0 where
   pub records_rise : AllPairs (λ a b. a.offset < b.offset) records
   pub ranges_rise : AllPairs (λ a b. a.from < b.from) ranges
@@ -18,14 +18,14 @@ pub record AreInOrder (records : List FoundRecord) (ranges : List LostBytes) (li
   pub records_are : (r : FoundRecord) → Contains lines (Record r) ↔ Contains records r
   pub ranges_are : (l : LostBytes) → Contains lines (Lost l) ↔ Contains ranges l
 
--- the line is of what begins first, of all but the first so many records and the first so many ranges
+-- the line is of what begins first among all but the first r records and the first l ranges
 abbrev pub IsNextLine : List FoundRecord → List LostBytes → ℕ → ℕ → SizesLine → Type 0
 IsNextLine records ranges r l (Record x) =
     (r < length records) × (x ≡ slice_index_or records r x) × ((d : LostBytes) → l < length ranges → x.offset < (slice_index_or ranges l d).from)
 IsNextLine records ranges r l (Lost x) =
     (l < length ranges) × (x ≡ slice_index_or ranges l x) × ((d : FoundRecord) → r < length records → x.from ≤ (slice_index_or records r d).offset)
 
--- how many records a line is of: one, or none
+-- how many records a line has: one or none
 abbrev pub record_count : SizesLine → ℕ
 record_count (Record x) = 1
 record_count (Lost x) = 0

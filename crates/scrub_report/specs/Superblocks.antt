@@ -1,4 +1,4 @@
--- The lines of the pages of extent 0: where superblocks are, which of them counts, and what may have been one.
+-- The lines of the pages of extent 0: the superblocks, which of them counts, and what may have been one.
 use Rattle.std.specs.Prelude.{◌≡◌, ◌++◌, ◌∷◌, ◌&&◌, [], ℕ, List, Bool, true, false, codes}
 use Rattle.std.specs.Fmt.{decimal}
 use Rattle.std.specs.List.{enumerate_from, flat_map, list_all, list_any}
@@ -31,7 +31,7 @@ superblock_line q Stray = codes "stray" ++ spaced (decimal q) ++ 10 ∷ []
 abbrev pub superblock_lines : List SuperblockPage → List ℕ
 superblock_lines pages = flat_map (λ x. superblock_line x.0 x.1) (enumerate_from 0 pages)
 
--- the page has the record that counts, and no other has its generation
+-- the page has the record that counts, and no other record has its generation
 abbrev pub is_counting_page : SuperblockPage → Bool
 is_counting_page (Record kind generation Counts) = true
 is_counting_page _ = false
@@ -47,7 +47,7 @@ is_orderly_page Lost = false
 is_orderly_page (Damaged kind) = false
 is_orderly_page Stray = false
 
--- there is a line, each is that of a record, one of them counts and none ties
+-- one record counts, none ties, and no line is of anything but a record
 abbrev pub are_clean_pages : List SuperblockPage → Bool
 are_clean_pages pages = list_any is_counting_page pages && list_all is_orderly_page pages
 

@@ -1,5 +1,4 @@
--- The texts of the report that name things: shards, owners of locators, UUIDs, what is wrong with a locator, and what
--- became of a run.
+-- The texts of the report for shards, UUIDs, owners and statuses of locators, and what became of a run.
 use Rattle.std.specs.Prelude.{ℕ, List, ◌++◌, codes}
 use Rattle.std.specs.Fmt.{decimal}
 use Rattle.hex.specs.Hex.{encode_lower}
@@ -20,7 +19,7 @@ id_text id = encode_lower id.0
 abbrev pub uuid_text : List ℕ → List ℕ
 uuid_text uuid = hyphenated_text lower uuid
 
--- who names a locator: `run` with the run's number, or `shard` with the text of its identifier
+-- the owner of a locator: `run` with the run's number, or `shard` with the text of its identifier
 abbrev pub owner_text : Owner → List ℕ
 owner_text (Run number) = codes "run " ++ decimal number
 owner_text (Shard id) = codes "shard " ++ id_text id

@@ -1,4 +1,4 @@
--- The steps of the code: the tokens of values, and those of the report's keys, a few at a time.
+-- Steps of the code: the JSON tokens of values, and those of the report's keys, a few at a time.
 use Rattle.std.specs.Prelude.{ℕ, Bool, List, [], ◌∷◌, ◌++◌, codes, cond, drop, length, map, nat_lt, take}
 use Rattle.std.specs.List.{flat_map}
 use Rattle.json.specs.Token.{Token, begin_array, begin_object, end_array, end_object, key}
@@ -12,7 +12,8 @@ use Rattle.scrub_check.specs.Chunks.{orphans, twins}
 use Rattle.scrub_report.specs.Json.{natural, list, with_keys}
 use Rattle.scrub_report.specs.declared.parts.Parts.{Parts}
 use Rattle.scrub_scan.specs.Scanned.{Scanned}
-use Rattle.scrub_report.specs.Report.{ids_data, candidate_data, dangling_data, doubtful_ids, extent_data, extents_data, geometry_data, hidden_data, numbers_data, place_data, runs_data, shared_data, super_data}
+use Rattle.scrub_report.specs.Values.{row_data}
+use Rattle.scrub_report.specs.Report.{ids_data, candidate_data, dangling_data, doubtful_ids, extent_data, extents_data, geometry_data, hidden_data, numbers_data, place_data, shared_data, super_data}
 
 -- the JSON tokens that a value is written in
 abbrev pub value_tokens : Data → List Token
@@ -26,7 +27,7 @@ member_tokens name d = key name ∷ value_tokens d
 abbrev pub members_tokens : List (List ℕ × Data) → List Token
 members_tokens ms = flat_map (λ m. member_tokens m.0 m.1) ms
 
--- the tokens of a list of which some elements are written, each shown as a value
+-- the tokens of a list that isn't closed yet, of some elements, each shown as a value
 abbrev pub list_begun : {X : Type 0} → (X → Data) → List X → List Token
 list_begun show xs = begin_array ∷ flat_map (λ x. value_tokens (show x)) xs
 
@@ -38,12 +39,12 @@ locator_data c = cond (is_hidden c.status) (hidden_data c) (dangling_data c)
 abbrev pub extents_tokens : List (Scanned × ℕ) → List Token
 extents_tokens ps = flat_map (λ p. value_tokens (extent_data p.1 p.0)) ps
 
--- the text of this many extents from a place on, behind a comma if there are others before
+-- the text of up to this many extents from a number of them on, behind a comma if that isn't 0
 abbrev pub piece_text : List (Scanned × ℕ) → ℕ → ℕ → List ℕ
 piece_text ps from size = comma_if (nat_lt 0 from) ++ print (extents_tokens (take size (drop from ps)))
 
 module _ {D : Type 0} {s : _} where
-  -- the report's keys with their values, of the parts that are kept, from the first one up to `doubtful`
+  -- the report's keys from `broken` up to `doubtful` with their values
   abbrev pub first_keys : Parts D s → Bool → List (List ℕ × Data)
   first_keys p clean =
       (codes "broken", ids_data p.broken.items) ∷
@@ -67,9 +68,9 @@ module _ {D : Type 0} {s : _} where
   run_keys p =
       (codes "orphans", list (map place_data (orphans p.all.extents p.checked.items))) ∷
       (codes "retired", numbers_data p.plan.retired) ∷
-      (codes "runs", runs_data p.plan.runs p.entries.items p.states.items) ∷ []
+      (codes "runs", list (map row_data p.runs.items)) ∷ []
 
-  -- the report's keys with their values from `shards` up to the last one
+  -- the report's keys from `shards` up to `twins` with their values
   abbrev pub last_keys : Parts D s → List (List ℕ × Data)
   last_keys p =
       (codes "shards", natural (length p.map)) ∷
@@ -77,11 +78,11 @@ module _ {D : Type 0} {s : _} where
       (codes "super", super_data p.chosen) ∷
       (codes "twins", list (map place_data (twins p.all.extents))) ∷ []
 
-  -- all keys of the report with their values, of the parts that are kept
+  -- all keys of the report with their values, from the parts that the code keeps
   abbrev pub all_keys : Parts D s → Bool → List (List ℕ × Data)
   all_keys p clean = first_keys p clean ++ (extent_keys p ++ (run_keys p ++ last_keys p))
 
-  -- the report's tokens up to the first extent
+  -- the report's tokens before the first extent
   abbrev pub begun_tokens : Parts D s → Bool → List Token
   begun_tokens p clean = begin_object ∷ (members_tokens (first_keys p clean) ++ (key (codes "extents") ∷ begin_array ∷ []))
 

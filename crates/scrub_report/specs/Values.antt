@@ -3,10 +3,11 @@ use Rattle.std.specs.Prelude.{map}
 use Rattle.serde_json.specs.Data.{Data, boolean, string}
 use Rattle.scrub_check.specs.Checked.{dangling, hidden}
 use Rattle.scrub_report.specs.Json.{list, natural, natural_or_null}
-use Rattle.scrub_report.specs.Report.{candidate_data, dangling_data, doubtful_ids, geometry_data, hidden_data, ids_data, items_data, numbers_data, place_data, shared_data, super_data}
+use Rattle.scrub_report.specs.Report.{candidate_data, dangling_data, doubtful_ids, geometry_data, hidden_data, ids_data, items_data, numbers_data, place_data, run_data, shared_data, super_data}
 use Rattle.scrub_report.specs.Texts.{owner_text, state_text, status_text, uuid_text}
 use Rattle.scrub_report.specs.declared.keys.KeyValue.{KeyValue}
 use Rattle.scrub_report.specs.declared.keys.KeyValue.TheVariants as key
+use Rattle.scrub_report.specs.declared.runs.RunRow.{RunRow}
 use Rattle.scrub_report.specs.declared.object.Value.{Value}
 use Rattle.scrub_report.specs.declared.object.Value.TheVariants.{Number, Optional, Optional32, Flag, Owner, Status, State, Uuid, Numbers, Items}
 
@@ -23,6 +24,10 @@ value_data (Uuid u) = string (uuid_text u)
 value_data (Numbers ns) = numbers_data ns.now
 value_data (Items items) = items_data items.now
 
+-- one of `runs`, by its row
+abbrev pub row_data : RunRow → Data
+row_data r = run_data r.locator r.entries r.state
+
 -- the value of a key of the report, as JSON
 abbrev pub key_data : KeyValue → Data
 key_data (key.Candidates cs) = list (map candidate_data cs.now)
@@ -35,5 +40,6 @@ key_data (key.Hidden cs) = list (map hidden_data (hidden cs.now))
 key_data (key.Ids ids) = ids_data ids.now
 key_data (key.Numbers ns) = numbers_data ns.now
 key_data (key.Places ps) = list (map place_data ps.now)
+key_data (key.Runs rs) = list (map row_data rs.now)
 key_data (key.Shared ps) = list (map shared_data ps.now)
 key_data (key.Super c) = super_data c.now

@@ -1,4 +1,4 @@
-//! What a scrub answers, and the whole scrub of a disk, by one reader or by many workers.
+//! The whole scrub of a disk, by one reader or by many workers, and its answer.
 
 ghost use Rattle.std.specs.Prelude.{◌≡◌, ◌+◌, ◌<◌, ◌≤◌, ◌^◌, ℕ, All, List, length, IfOk};
 ghost use Rattle.scrub_disk.specs.Image.{Image};
@@ -24,10 +24,10 @@ use std::marker::Model;
 use std::sync::Wait;
 use std::thread::{Threads, join_mut};
 
-/// Why a scrub has no answer.
+/// Why a scrub failed.
 #[derive(Debug, Clone, Copy, PartialEq, Eq)]
 pub enum ScrubFault {
-    /// A growth was refused.
+    /// An allocation failed.
     OutOfMemory,
 }
 
@@ -43,7 +43,7 @@ impl From<PoolFault> for ScrubFault {
     }
 }
 
-/// What a scrub of a disk answers.
+/// The answer of a scrub.
 #[derive(Drop)]
 pub struct ScrubAnswer {
     report: Vec<u8>,
@@ -74,21 +74,21 @@ impl ScrubAnswer {
         self.index.as_slice()
     }
 
-    /// The report, handed out.
+    /// Gives the report away.
     pub fn into_report(self) -> Vec<u8>
         ensures { result.items ≡ self.report }
     {
         self.report
     }
 
-    /// The recovered index, handed out.
+    /// Gives the recovered index away.
     pub fn into_index(self) -> Vec<u8>
         ensures { result.items ≡ self.index }
     {
         self.index
     }
 
-    /// Whether all on the disk is in good order.
+    /// Whether the disk is clean.
     pub fn is_clean(&self) -> bool
         ensures { result ≡ self.now.is_clean }
     {
@@ -96,7 +96,7 @@ impl ScrubAnswer {
     }
 }
 
-/// The bytes of the recovered index, made on a thread of their own, and the text of the report, at the same time.
+/// The bytes of the recovered index and the text of the report, made at the same time on two threads.
 fn index_and_report<R: Threads + Sync, D: PageSource>(
     rt: &R,
     alloc: Global,
@@ -108,8 +108,6 @@ fn index_and_report<R: Threads + Sync, D: PageSource>(
     requires broken { AreBrokenShards parts.now.checked.items parts.now.broken.items }
     requires few { All (λ b. length b.locators ≤ 64) parts.now.map }
     requires count { length parts.now.map < 2 ^ 32 }
-    requires entries { length parts.now.entries.items ≡ length parts.now.plan.runs }
-    requires states { length parts.now.states.items ≡ length parts.now.entries.items }
     ensures index { IfOk result (λ r. r.0.items ≡ run_bytes (index_entries parts.now.checked.items parts.now.map)) }
     ensures report { IfOk result (λ r. r.1.items ≡ kept_text parts.now is_clean) }
 {
@@ -121,18 +119,16 @@ fn index_and_report<R: Threads + Sync, D: PageSource>(
             requires count { length parts.now.map < 2 ^ 32 }
             ensures index { IfOk result (λ bytes.
                 bytes.items ≡ run_bytes (index_entries parts.entry.now.checked.items parts.entry.now.map)) }
-        { index_bytes(alloc, parts.map.bindings(), &parts.checked, &parts.broken) },
+        { index_bytes(alloc, parts.map.bindings(), &parts.broken) },
         &mut || -> Result<Vec<u8>, OutOfMemory>
             requires twins { twin_chunks.now ≡ twins parts.now.all.extents }
-            requires entries { length parts.now.entries.items ≡ length parts.now.plan.runs }
-            requires states { length parts.now.states.items ≡ length parts.now.entries.items }
             ensures report { IfOk result (λ text. text.items ≡ kept_text parts.entry.now is_clean) }
         { report_text(rt, alloc, parts, twin_chunks, is_clean) },
     );
     Ok((index?, report?))
 }
 
-/// The answer of a scrub, from what was chosen, planned and scanned.
+/// The answer of a scrub of a scanned disk.
 fn answer_of<R: Threads + Sync, D: PageSource>(
     rt: &R,
     alloc: Global,
@@ -151,9 +147,8 @@ fn answer_of<R: Threads + Sync, D: PageSource>(
     })
 }
 
-/// Scrubs a disk: which superblock counts, what lies in each planned extent, in the order of their numbers, and what the
-/// index that the superblock names is worth. One thread reads the extents; what the locators are worth is found on several
-/// threads where there is much to do.
+/// Scrubs a disk: finds the superblock that counts, scans each planned extent by rising number, and checks each named
+/// locator. One thread reads the extents; several check the locators if there are many. The only fault is `OutOfMemory`.
 pub fn scrub_in_order<R: Threads + Sync, D: PageSource>(
     rt: &R,
     alloc: Global,
@@ -165,9 +160,9 @@ pub fn scrub_in_order<R: Threads + Sync, D: PageSource>(
     Ok(answer_of(rt, alloc, scan)?)
 }
 
-/// Scrubs a disk as `scrub_in_order` does, with this many workers (0 to 64) beside the caller, who scan its planned extents at
-/// the same time, each taking from one queue until none is left; and tells who took which extents. The one fault is
-/// `OutOfMemory`, told once every worker that was started has ended.
+/// Scrubs a disk as `scrub_in_order` does, with this many workers (0 to 64) beside the caller. All take planned extents from
+/// one queue until it is empty. Also returns which extents each of them took. The only fault is `OutOfMemory`, returned once
+/// every started worker has ended.
 pub fn scrub<D: PageSource, G: Gate, R: Threads + Wait + Sync>(
     rt: &R,
     alloc: Global,
@@ -192,15 +187,15 @@ pub fn one_list_of_planned_extents()
         planned ≡ others }
 {}
 
-/// A law: the recovered index is one index run, whole: that of the shards of the map that aren't broken. So `read_run` reads
-/// it again, and finds these entries.
+/// A law: the recovered index is an index run, whose entries are the shards of the map that aren't broken. So `read_run`
+/// reads it back as these entries.
 pub fn the_index_is_a_run()
     ensures { (image : Image) (bytes : List ℕ) → IsIndex image bytes →
         (found : Scrubbed) × IsScrubbed image found × IsRun bytes (index_entries found.checked found.bindings) }
 {}
 
-/// A law: an image has one report, one index and one verdict whether it is clean. So whoever scrubs it, with however many
-/// workers, has to answer the same.
+/// A law: an image has one report, one index and one verdict whether it is clean. So the answer is the same for each number
+/// of workers.
 pub fn one_report()
     ensures { (image : Image) (a b : AnswerValue) → IsScrubAnswer image a → IsScrubAnswer image b → a ≡ b }
 {}

@@ -1,9 +1,9 @@
-//! Chunks at their places, and the extents that may be reclaimed, as the report has them.
+//! Chunks at their places, and the extents that can be reclaimed, as the report has them.
 
 ghost use Rattle.scrub_report.specs.Report.{candidate_data, place_data, shared_data};
 
-use crate::object::{Value, write_object};
 use crate::json_values::WriteJson;
+use crate::object::{Value, write_object};
 use json::Writer;
 use scrub_check::{Candidate, Place, SharedPlace};
 use scrub_disk::OutOfMemory;

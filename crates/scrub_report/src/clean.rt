@@ -1,4 +1,4 @@
-//! Whether what was found is in good order, part by part.
+//! Whether what was found is clean, part by part.
 
 ghost use Rattle.std.specs.Prelude.{◌≡◌};
 ghost use Rattle.std.specs.List.{list_all};
@@ -16,14 +16,14 @@ fn is_clean_item(item: &Item) -> bool
     matches!(item, Item::Chunk { .. } | Item::Pad { .. })
 }
 
-/// Whether each of these items is what a writer leaves: a chunk, or zeros.
+/// Whether each of these items is a chunk or zeros.
 pub fn are_clean_items(items: &[Item]) -> bool
     ensures { result ≡ list_all is_clean_item items.now }
 {
     items.iter().all(|item| is_clean_item(item))
 }
 
-/// Whether every page of an extent can be read, and each item is such.
+/// Whether every page of an extent can be read, and each of its items is clean.
 fn is_clean_extent<D: PageSource>(found: &ExtentResult<'_, D>) -> bool
     ensures { result ≡ is_clean_extent (scanned found.now) }
 {
@@ -31,7 +31,7 @@ fn is_clean_extent<D: PageSource>(found: &ExtentResult<'_, D>) -> bool
     findings.bad_pages().is_empty() && are_clean_items(findings.items())
 }
 
-/// Whether each of the extents is such.
+/// Whether each extent is clean.
 pub(crate) fn are_clean_extents<D: PageSource>(all: &AllFindings<'_, D>) -> bool
     ensures { result ≡ list_all is_clean_extent all.now.extents }
 {
@@ -42,7 +42,7 @@ pub(crate) fn are_clean_extents<D: PageSource>(all: &AllFindings<'_, D>) -> bool
     clean
 }
 
-/// Whether one superblock counts, and every page of its extent can be read.
+/// Whether a superblock counts, none ties with it, and every page of extent 0 can be read.
 pub(crate) fn is_clean_choice(chosen: &Chosen) -> bool
     ensures { result ≡ is_clean_choice chosen.now }
 {

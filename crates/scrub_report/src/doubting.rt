@@ -1,20 +1,22 @@
-//! Which doubts a disk has, kind by kind. How they are told is left to `doubts`.
+//! Finds the doubts of a disk, kind by kind. `doubts` has their texts.
 
 ghost use Rattle.std.specs.Prelude.{◌≡◌, ◌++◌, ℕ, Bool, IfOk, OnOk, List, nat_lt};
 ghost use Rattle.std.specs.List.{filter_map, flat_map};
 ghost use Rattle.scrub_scan.specs.Scanned.{scanned};
+ghost use Rattle.scrub_report.specs.Parts.{run_states};
 ghost use Rattle.scrub_report.specs.Doubts.{choice_doubts, doubts_in, ends_past, lost_past, page_doubts, range_doubts, run_doubts, run_lost, superblock_damaged, superblock_lost, superblock_stray, tail_doubts, tail_lost_doubts};
 
 use crate::doubts::Doubt;
 use crate::page_ranges::{PageRange, join_pages};
 use crate::parts::Parts;
+use crate::runs::RunRow;
 use scrub_check::RunState;
 use scrub_disk::{OutOfMemory, PageSource};
 use scrub_scan::{AllFindings, ExtentResult};
 use scrub_super::{Chosen, SuperblockPage};
 use std::alloc::Global;
 
-/// The doubts whether the superblock that counts is the newest: there is none, or another one is as new.
+/// The doubts that the choice makes: no superblock counts, or another one is as new.
 fn choice_doubts(alloc: Global, chosen: &Chosen) -> Result<Vec<Doubt>, OutOfMemory>
     ensures { IfOk result (λ v. v.items ≡ choice_doubts chosen.now) }
 {
@@ -38,7 +40,7 @@ fn superblock_lost(page: usize, held: &SuperblockPage) -> Option<Doubt>
     }
 }
 
-/// The doubt that a damaged one makes.
+/// The doubt that a damaged page of extent 0 makes.
 fn superblock_damaged(page: usize, held: &SuperblockPage) -> Option<Doubt>
     ensures { result ≡ superblock_damaged page held.now }
 {
@@ -48,7 +50,7 @@ fn superblock_damaged(page: usize, held: &SuperblockPage) -> Option<Doubt>
     }
 }
 
-/// The doubt that one with other bytes makes.
+/// The doubt that a page of extent 0 with other bytes makes.
 fn superblock_stray(page: usize, held: &SuperblockPage) -> Option<Doubt>
     ensures { result ≡ superblock_stray page held.now }
 {
@@ -58,7 +60,7 @@ fn superblock_stray(page: usize, held: &SuperblockPage) -> Option<Doubt>
     }
 }
 
-/// The lost ones of these pages, by number.
+/// The doubts of the lost pages, by number.
 fn lost_pages(alloc: Global, pages: &[SuperblockPage]) -> Result<Vec<Doubt>, OutOfMemory>
     ensures { IfOk result (λ v. v.items ≡ page_doubts superblock_lost pages.now) }
 {
@@ -69,7 +71,7 @@ fn lost_pages(alloc: Global, pages: &[SuperblockPage]) -> Result<Vec<Doubt>, Out
         .collect(alloc)
 }
 
-/// The damaged ones, by number.
+/// The doubts of the damaged pages, by number.
 fn damaged_pages(alloc: Global, pages: &[SuperblockPage]) -> Result<Vec<Doubt>, OutOfMemory>
     ensures { IfOk result (λ v. v.items ≡ page_doubts superblock_damaged pages.now) }
 {
@@ -80,7 +82,7 @@ fn damaged_pages(alloc: Global, pages: &[SuperblockPage]) -> Result<Vec<Doubt>, 
         .collect(alloc)
 }
 
-/// Those with other bytes, by number.
+/// The doubts of the pages with other bytes, by number.
 fn stray_pages(alloc: Global, pages: &[SuperblockPage]) -> Result<Vec<Doubt>, OutOfMemory>
     ensures { IfOk result (λ v. v.items ≡ page_doubts superblock_stray pages.now) }
 {
@@ -91,7 +93,7 @@ fn stray_pages(alloc: Global, pages: &[SuperblockPage]) -> Result<Vec<Doubt>, Ou
         .collect(alloc)
 }
 
-/// The doubt that an index run makes, where it is lost.
+/// The doubt that an index run makes if it is lost.
 fn run_lost(number: usize, state: RunState) -> Option<Doubt>
     ensures { result ≡ run_lost number state }
 {
@@ -101,18 +103,17 @@ fn run_lost(number: usize, state: RunState) -> Option<Doubt>
     }
 }
 
-/// The lost ones of the index runs, by number.
-fn lost_runs(alloc: Global, states: &[RunState]) -> Result<Vec<Doubt>, OutOfMemory>
-    ensures { IfOk result (λ v. v.items ≡ run_doubts states.now) }
+/// The doubts of the lost index runs, by number.
+fn lost_runs(alloc: Global, runs: &[RunRow]) -> Result<Vec<Doubt>, OutOfMemory>
+    ensures { IfOk result (λ v. v.items ≡ run_doubts (run_states runs.now)) }
 {
-    states
-        .iter()
+    runs.iter()
         .enumerate()
-        .filter_map(|(number, state)| run_lost(number, *state))
+        .filter_map(|(number, run)| run_lost(number, run.state))
         .collect(alloc)
 }
 
-/// Adds the doubt that the tail of an extent makes, where it has one.
+/// Adds the doubt that an extent makes if it has a tail.
 fn add_tail<D: PageSource>(
     doubts: &mut Vec<Doubt>,
     found: &ExtentResult<'_, D>,
@@ -131,7 +132,7 @@ fn add_tail<D: PageSource>(
     Ok(())
 }
 
-/// Adds the doubts that the tails of the extents make.
+/// Adds the doubts of the extents' tails.
 fn add_tails<D: PageSource>(
     doubts: &mut Vec<Doubt>,
     all: &AllFindings<'_, D>,
@@ -144,7 +145,7 @@ fn add_tails<D: PageSource>(
     Ok(())
 }
 
-/// Whether a page of so many bytes has one at or behind a write pointer.
+/// Whether page `number` has a byte at or behind the write pointer. `page` is the page size in bytes.
 fn ends_past(page: u32, pointer: u32, number: u32) -> bool
     ensures { result ≡ ends_past page pointer number }
 {
@@ -152,7 +153,7 @@ fn ends_past(page: u32, pointer: u32, number: u32) -> bool
     end > pointer as u64
 }
 
-/// Those of an extent's unreadable pages that have a byte at or behind its write pointer.
+/// The unreadable pages of an extent that have a byte at or behind its write pointer.
 fn lost_past<D: PageSource>(
     alloc: Global,
     page: u32,
@@ -169,7 +170,7 @@ fn lost_past<D: PageSource>(
         .collect(alloc)
 }
 
-/// Adds the doubts that ranges of such pages make.
+/// Adds a doubt for each range of such pages.
 fn add_ranges(doubts: &mut Vec<Doubt>, extent: u32, ranges: &[PageRange]) -> Result<(), OutOfMemory>
     ensures { OnOk result (doubts.new.items ≡ doubts.old.items ++ range_doubts extent ranges.now) }
 {
@@ -183,7 +184,7 @@ fn add_ranges(doubts: &mut Vec<Doubt>, extent: u32, ranges: &[PageRange]) -> Res
     Ok(())
 }
 
-/// Adds the doubts that such pages of an extent make.
+/// Adds the doubts of such pages of an extent.
 fn add_lost_tail<D: PageSource>(
     alloc: Global,
     doubts: &mut Vec<Doubt>,
@@ -197,7 +198,7 @@ fn add_lost_tail<D: PageSource>(
     add_ranges(doubts, found.extent(), &ranges)
 }
 
-/// Adds those of all extents.
+/// Adds the doubts of such pages of all extents.
 fn add_lost_tails<D: PageSource>(
     alloc: Global,
     doubts: &mut Vec<Doubt>,
@@ -219,14 +220,15 @@ pub(crate) fn doubts_of<D: PageSource>(
     parts: &Parts<'_, D>,
 ) -> Result<Vec<Doubt>, OutOfMemory>
     ensures { IfOk result (λ v.
-        v.items ≡ doubts_in parts.now.chosen pages.now parts.now.states.items parts.now.plan.geometry.page parts.now.all.extents) }
+        v.items ≡ doubts_in parts.now.chosen pages.now (run_states parts.now.runs.items)
+        parts.now.plan.geometry.page parts.now.all.extents) }
 {
     let page = parts.plan.geometry().page();
     let mut doubts = choice_doubts(alloc, &parts.chosen)?;
     doubts.extend_from_slice(&lost_pages(alloc, pages)?)?;
     doubts.extend_from_slice(&damaged_pages(alloc, pages)?)?;
     doubts.extend_from_slice(&stray_pages(alloc, pages)?)?;
-    doubts.extend_from_slice(&lost_runs(alloc, &parts.states)?)?;
+    doubts.extend_from_slice(&lost_runs(alloc, &parts.runs)?)?;
     add_tails(&mut doubts, &parts.all)?;
     add_lost_tails(alloc, &mut doubts, page, &parts.all)?;
     Ok(doubts)

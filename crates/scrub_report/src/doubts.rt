@@ -1,5 +1,5 @@
-//! What may have hidden a newer superblock, a newer binding, or a chunk behind a write pointer; and which of it was accepted.
-//! Whether a disk has such doubts is found by `doubting`.
+//! Doubts: what may have hidden a newer superblock, a newer binding, or a chunk behind a write pointer; and which kinds of them
+//! were accepted. `doubting` finds them.
 
 ghost use Rattle.std.specs.Prelude.{◌≡◌, ◌++◌, IfOk, OnOk};
 ghost use Rattle.scrub_report.specs.Doubts.{are_accepted, is_accepted};
@@ -18,15 +18,15 @@ pub(crate) enum Doubt {
     NoSuperblock,
     /// Two superblocks or more have the greatest generation.
     Tie,
-    /// This page of extent 0 can't be read.
+    /// This page of extent 0 is unreadable.
     SuperblockLost {
         page: usize,
     },
-    /// This page of extent 0 begins as a superblock does, and is no part of one.
+    /// This page of extent 0 begins like a superblock, and is no part of one.
     SuperblockDamaged {
         page: usize,
     },
-    /// This page of extent 0 has other bytes than zeros, and is no part of a superblock.
+    /// This page of extent 0 has a nonzero byte, doesn't begin like a superblock, and is no part of a superblock.
     SuperblockStray {
         page: usize,
     },
@@ -35,14 +35,14 @@ pub(crate) enum Doubt {
         number: usize,
         state: RunState,
     },
-    /// So many bytes at or behind the write pointer of an extent aren't zero; the first of them is at this offset.
+    /// An extent has this many nonzero bytes at or behind its write pointer, the first of them at this offset.
     Tail {
         extent: u32,
         offset: u32,
         bytes: u32,
     },
-    /// These neighbouring pages of an extent, the first up to and with the last, can't be read. Each has a byte at or behind
-    /// the write pointer.
+    /// The pages `first` to `last` of an extent, both included, are unreadable. Each has a byte at or behind the write
+    /// pointer.
     TailLost {
         extent: u32,
         first: u32,
@@ -81,16 +81,16 @@ impl fmt::Display for Doubt {
     }
 }
 
-/// The kinds of doubts that were accepted: a person has found out what made them.
+/// The kinds of doubts that a person accepted, knowing what made them.
 #[derive(Debug, Clone, Copy, PartialEq, Eq)]
 pub struct Accepted {
-    /// Pages of extent 0 that begin as a superblock does, and are no part of one.
+    /// Pages of extent 0 that begin like a superblock, and are no part of one.
     pub superblock_damaged: bool,
-    /// Pages of extent 0 that have other bytes than zeros, and are no part of a superblock.
+    /// Pages of extent 0 with a nonzero byte, which don't begin like a superblock and are no part of a superblock.
     pub superblock_stray: bool,
-    /// Bytes that aren't zero at or behind a write pointer.
+    /// Nonzero bytes at or behind a write pointer.
     pub tail: bool,
-    /// Pages that can't be read, with a byte at or behind a write pointer.
+    /// Unreadable pages with a byte at or behind a write pointer.
     pub tail_lost: bool,
 }
 
@@ -108,14 +108,14 @@ fn is_accepted(accepted: Accepted, doubt: &Doubt) -> bool
     }
 }
 
-/// Whether each of these doubts is.
+/// Whether each of these doubts is of a kind that was accepted.
 pub(crate) fn are_accepted(accepted: Accepted, doubts: &[Doubt]) -> bool
     ensures { result ≡ are_accepted accepted doubts.now }
 {
     doubts.iter().all(|doubt| is_accepted(accepted, doubt))
 }
 
-/// The word that a doubt's line begins with.
+/// The first word of a doubt's line.
 fn doubt_word(accepted: Accepted, doubt: &Doubt) -> &'static str
     ensures { result.now ≡ doubt_word accepted doubt.now }
 {

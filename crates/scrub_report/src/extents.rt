@@ -1,4 +1,4 @@
-//! The extents that were scanned, as the report has them.
+//! The scanned extents, as the report has them.
 
 ghost use Rattle.std.specs.Prelude.{◌≡◌, ◌*◌, ◌<◌, ◌≤◌, ◌++◌, ℕ, IfOk, IfSome, OnOk, length, slice_get};
 ghost use Rattle.std.specs.Int.{div_ceil};
@@ -9,18 +9,18 @@ ghost use Rattle.scrub_scan.specs.Scanned.{scanned};
 ghost use Rattle.scrub_report.specs.Report.{extent_data};
 ghost use Rattle.scrub_report.specs.Tokens.{extents_tokens, piece_text, value_tokens};
 
-use crate::object::{Value, write_object};
 use crate::json_values::WriteJson;
+use crate::object::{Value, write_object};
 use json::Writer;
 use scrub_disk::{OutOfMemory, PageSource};
 use scrub_scan::{AllFindings, ExtentResult, Item, item_line};
 use std::alloc::Global;
 use std::thread::{Threads, available_parallelism, map_indices};
 
-/// So many items are worth threads that write them.
+/// With fewer items than this, one thread writes them all.
 const WORTH_THREADS: usize = 4_096;
 
-/// Its line.
+/// The line of an item.
 impl WriteJson for Item {
     ghost use Rattle.serde_json.specs.Data.{string};
     ghost use Rattle.scrub_scan.specs.Line.{line_of};
@@ -59,7 +59,7 @@ fn write_extent<D: PageSource>(
     )
 }
 
-/// A comma where something is before, as the beginning of a text.
+/// A text that is a comma if something comes before it, or else empty.
 fn comma_if(alloc: Global, later: bool) -> Result<Vec<u8>, OutOfMemory>
     ensures { IfOk result (λ text. text.items ≡ comma_if later) }
 {
@@ -70,7 +70,7 @@ fn comma_if(alloc: Global, later: bool) -> Result<Vec<u8>, OutOfMemory>
     }
 }
 
-/// The text of this many extents from a place on, or of as many as there are.
+/// The text of up to `size` extents, from number `from` of the scanned ones on.
 fn extents_text<D: PageSource>(
     alloc: Global,
     all: &AllFindings<'_, D>,
@@ -90,7 +90,7 @@ fn extents_text<D: PageSource>(
     Ok(out.into_inner())
 }
 
-/// The text of a piece of this size, by its number.
+/// The text of piece `n`, where each piece has `size` extents.
 fn nth_text<D: PageSource>(
     alloc: Global,
     all: &AllFindings<'_, D>,
@@ -106,7 +106,7 @@ fn nth_text<D: PageSource>(
     extents_text(alloc, all, live, n * size, size)
 }
 
-/// The texts of all pieces of this size, in their order, each made on a thread of its own.
+/// The texts of all pieces of this size, in their order, made by threads.
 fn extents_texts<R: Threads + Sync, D: PageSource>(
     rt: &R,
     alloc: Global,
@@ -133,7 +133,7 @@ fn extents_texts<R: Threads + Sync, D: PageSource>(
     )
 }
 
-/// How many items lie in all extents.
+/// How many items are in all extents.
 fn item_count<D: PageSource>(all: &AllFindings<'_, D>) -> usize {
     let mut count = 0usize;
     for i in 0..all.len() {
@@ -142,8 +142,7 @@ fn item_count<D: PageSource>(all: &AllFindings<'_, D>) -> usize {
     count
 }
 
-/// How many extents are in a piece: so many that there are two pieces for each processor at most, and all of them where there
-/// are few items.
+/// How many extents a piece has: enough for at most two pieces a processor, or all of them if there are few items.
 fn piece_size<R: Threads, D: PageSource>(rt: &R, all: &AllFindings<'_, D>) -> usize
     ensures { 0 < result }
 {
@@ -158,7 +157,7 @@ fn piece_size<R: Threads, D: PageSource>(rt: &R, all: &AllFindings<'_, D>) -> us
     count.div_ceil(processors.saturating_mul(2)).max(1)
 }
 
-/// Appends the text of the scanned extents, with their live bytes. Threads write it piece by piece.
+/// Appends the text of the scanned extents, with their live bytes. Threads make it piece by piece.
 pub(crate) fn append_extents<R: Threads + Sync, D: PageSource>(
     rt: &R,
     alloc: Global,

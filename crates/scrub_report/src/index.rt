@@ -9,13 +9,12 @@ ghost use Rattle.scrub_check.specs.Checked.{AreBrokenShards, is_broken};
 ghost use Rattle.scrub_report.specs.Index.{index_entries};
 ghost use Rattle.scrub_report.specs.Kept.{all_locators};
 
-use scrub_check::Checked;
 use scrub_disk::OutOfMemory;
 use scrub_merge::Binding;
 use scrub_run::{RunWriter, ShardId};
 use std::alloc::Global;
 
-/// Whether a shard is among some, by a search.
+/// Whether these shards have this one, by binary search.
 fn is_among(ids: &[ShardId], id: ShardId) -> bool
     requires { AllPairs IsBelow ids.now }
     ensures { IsTrue result ↔ Contains ids.now id }
@@ -74,21 +73,18 @@ fn append_kept(
     Ok(())
 }
 
-/// The bytes of the recovered index, where these are the broken shards of the locators that were checked. They are made in
-/// the room that they take.
+/// The bytes of the recovered index, in a buffer of just their size.
 pub(crate) fn index_bytes(
     alloc: Global,
     bindings: &[Binding],
-    checked: &[Checked],
     broken: &[ShardId],
 ) -> Result<Vec<u8>, OutOfMemory>
-    requires broken { AreBrokenShards checked.now broken.now }
+    requires sorted { AllPairs IsBelow broken.now }
     requires few { All (λ b. length b.locators ≤ 64) bindings.now }
     requires count { length bindings.now < 2 ^ 32 }
-    ensures { IfOk result (λ bytes. bytes.items ≡ run_bytes (index_entries checked.now bindings.now)) }
+    ensures { (checked : List Checked) → AreBrokenShards checked broken.now →
+        IfOk result (λ bytes. bytes.items ≡ run_bytes (index_entries checked bindings.now)) }
 {
-    // The contract says by them which shards are broken; the code is given those.
-    let _ = checked;
     let (entries, locators) = kept_sizes(bindings, broken);
     let mut run = RunWriter::new(alloc, entries as u32, locators)?;
     append_kept(&mut run, bindings, broken)?;

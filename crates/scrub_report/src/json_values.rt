@@ -1,4 +1,4 @@
-//! JSON values as the tokens that a writer takes: numbers, shards and lists. Objects are in `object`.
+//! Numbers, shards and lists as JSON. Objects are in `object`.
 
 ghost use Rattle.std.specs.Prelude.{◌≡◌, ◌++◌, OnOk, map};
 ghost use Rattle.serde_json.specs.Data.{Data};
@@ -11,7 +11,7 @@ use scrub_disk::OutOfMemory;
 use scrub_run::ShardId;
 use std::alloc::Global;
 
-/// What the report has as a JSON value.
+/// A type that the report has as a JSON value.
 pub(crate) trait WriteJson {
     /// Which value it is.
     ghost shown: { Self → Data };
@@ -22,7 +22,7 @@ pub(crate) trait WriteJson {
         ensures before { out.new.before ≡ out.old.before };
 }
 
-/// Writes the values of some elements, in their order, as a list.
+/// Writes these elements as a list.
 pub(crate) fn write_list<T: WriteJson>(
     alloc: Global,
     out: &mut Writer,

@@ -1,16 +1,16 @@
-//! The report's keys with their values, from what was found on a disk, in the order of the keys. Each list that only the
-//! report needs is given up once it is written.
+//! The report's keys and their values, in the order of the keys. Each list that only the report needs is freed once it is
+//! written.
 
-ghost use Rattle.std.specs.Prelude.{◌≡◌, ◌++◌, OnOk, length};
+ghost use Rattle.std.specs.Prelude.{◌≡◌, ◌++◌, OnOk};
 ghost use Rattle.scrub_check.specs.Chunks.{twins};
 ghost use Rattle.scrub_report.specs.Tokens.{first_keys, hidden_keys, last_keys, members_tokens, run_keys};
 
+use crate::json_values::{WriteJson, write_list};
 use crate::object::write_members;
 use crate::parts::Parts;
-use crate::runs::write_runs;
+use crate::runs::RunRow;
 use crate::shards::doubtful_ids;
 use crate::sizes::{write_geometry, write_super};
-use crate::json_values::{WriteJson, write_list};
 use json::Writer;
 use scrub_check::{Candidate, Checked, Place, SharedPlace, dangling, hidden};
 use scrub_disk::{Geometry, OutOfMemory, PageSource};
@@ -22,19 +22,19 @@ use std::alloc::Global;
 /// The value of a key.
 #[derive(Clone, Copy)]
 pub(crate) enum KeyValue<'a> {
-    /// The extents that may be reclaimed.
+    /// The extents that can be reclaimed.
     Candidates(&'a [Candidate]),
-    /// How many there are.
+    /// A number of elements.
     Count(usize),
-    /// Of the checked locators those that dangle.
+    /// The dangling ones of these checked locators.
     Dangling(&'a [Checked]),
-    /// The shards of the doubtful ones among the bindings.
+    /// The shards of the doubtful ones of these bindings.
     Doubtful(&'a [Binding]),
     /// `true` or `false`.
     Flag(bool),
     /// The sizes of the disk.
     Geometry(Geometry),
-    /// Of the checked locators those that are hidden.
+    /// The hidden ones of these checked locators.
     Hidden(&'a [Checked]),
     /// Shards.
     Ids(&'a [ShardId]),
@@ -42,9 +42,11 @@ pub(crate) enum KeyValue<'a> {
     Numbers(&'a [u32]),
     /// Chunks.
     Places(&'a [Place]),
+    /// The index runs.
+    Runs(&'a [RunRow]),
     /// Places with more than one locator.
     Shared(&'a [SharedPlace]),
-    /// The superblock that counts, and what the choice says beside it.
+    /// The choice of the superblock that counts.
     Super(&'a Chosen),
 }
 
@@ -65,6 +67,7 @@ impl WriteJson for KeyValue<'_> {
             KeyValue::Ids(ids) => write_list(alloc, out, ids),
             KeyValue::Numbers(numbers) => write_list(alloc, out, numbers),
             KeyValue::Places(places) => write_list(alloc, out, places),
+            KeyValue::Runs(runs) => write_list(alloc, out, runs),
             KeyValue::Shared(places) => write_list(alloc, out, places),
             KeyValue::Super(chosen) => write_super(alloc, out, chosen),
         }
@@ -122,8 +125,6 @@ pub(crate) fn write_index<D: PageSource>(
     out: &mut Writer,
     parts: &Parts<'_, D>,
 ) -> Result<(), OutOfMemory>
-    requires entries { length parts.now.entries.items ≡ length parts.now.plan.runs }
-    requires states { length parts.now.states.items ≡ length parts.now.entries.items }
     ensures tokens { OnOk result (out.new.tokens ≡ out.old.tokens ++ members_tokens (run_keys parts.now)) }
     ensures before { out.new.before ≡ out.old.before }
 {
@@ -133,10 +134,9 @@ pub(crate) fn write_index<D: PageSource>(
         &[
             ("orphans", KeyValue::Places(&parts.liveness.orphans)),
             ("retired", KeyValue::Numbers(parts.plan.retired())),
+            ("runs", KeyValue::Runs(&parts.runs)),
         ],
-    )?;
-    out.key("runs")?;
-    write_runs(alloc, out, parts.plan.runs(), &parts.entries, &parts.states)
+    )
 }
 
 /// Writes the keys from `shards` up to `twins`, the last one.

@@ -1,20 +1,21 @@
-//! The whole scrub of a disk: its report as JSON text, the recovered index as the bytes of a run, its named locators as lines,
-//! and whether it is clean; what may be reclaimed of it, and its superblocks, as lines; the superblock records of a raw image
-//! of any sizes; and bytes written out whole. The words of the program are in `scrub_cli`.
+//! The whole scrub of a disk: its report as JSON text, its recovered index as the bytes of a run, and whether it is clean. As
+//! lines: its named locators, what can be reclaimed, its superblocks, and the superblock records of a raw image of any sizes.
 #![tactic(auto)]
 
 pub mod answer;
 mod chunks;
+pub mod clean;
 mod doubting;
 mod doubts;
 mod extents;
 mod index;
+mod json_values;
 mod keys;
 pub mod listing;
 mod locators;
 mod moves;
 mod object;
-pub mod clean;
+pub mod output;
 mod page_ranges;
 mod parts;
 mod reclaiming;
@@ -27,16 +28,15 @@ mod sizes;
 pub mod sizes_listing;
 pub mod superblocks;
 mod texts;
-pub mod output;
-mod json_values;
 
 pub use answer::{
     ScrubAnswer, ScrubFault, one_list_of_planned_extents, one_report, scrub, scrub_in_order,
     the_index_is_a_run,
 };
+pub use clean::are_clean_items;
 pub use doubts::Accepted;
 pub use listing::{LocatorListing, list_locators, one_locator_listing};
-pub use clean::are_clean_items;
+pub use output::{WriteFault, write_out};
 pub use page_ranges::neighbouring_pages_are_joined;
 pub use reclaiming::{
     ReclaimListing, list_reclaimable, one_reclaim_listing, reclaimed_are_candidates,
@@ -44,4 +44,3 @@ pub use reclaiming::{
 };
 pub use sizes_listing::{SizesListing, list_sizes, one_sizes_listing};
 pub use superblocks::{SuperblockListing, list_superblocks, one_superblock_listing};
-pub use output::{WriteFault, write_out};

@@ -1,4 +1,4 @@
-//! The named locators of a disk as lines: who names what, and what it is worth.
+//! The named locators of a disk as lines: the owner, the place and the status of each.
 
 ghost use Rattle.std.specs.Prelude.{◌≡◌, ◌+◌, ◌++◌, ◌≤◌, List, ℕ, IfOk, OnOk, length, string_bytes};
 ghost use Rattle.scrub_disk.specs.Image.{Image};
@@ -23,11 +23,11 @@ use std::thread::Threads;
 /// The named locators of a disk, as lines.
 #[derive(Drop)]
 pub struct LocatorListing {
-    /// A line for each named locator, in the order of the named locators: `OWNER EXTENT OFFSET LENGTH UUID STATUS`. Owner and
-    /// status have the report's words, the numbers are in decimal, offset and length in bytes, and the UUID is as RFC 9562
-    /// writes it, in lower case.
+    /// A line for each named locator, in their order: `OWNER EXTENT OFFSET LENGTH UUID STATUS`. Owner and status have the
+    /// report's words. The numbers are in decimal, offset and length in bytes. The UUID is as RFC 9562 writes it, in lower
+    /// case.
     pub text: Vec<u8>,
-    /// Whether all on the disk is in good order.
+    /// Whether the disk is clean.
     pub is_clean: bool,
 }
 
@@ -89,7 +89,7 @@ fn locator_lines(alloc: Global, checked: &[Checked]) -> Result<Vec<u8>, OutOfMem
     Ok(text)
 }
 
-/// The named locators as lines, from what was chosen, planned and scanned.
+/// The named locators of a scanned disk as lines.
 fn listing_of<R: Threads + Sync, D: PageSource>(
     rt: &R,
     alloc: Global,
@@ -105,9 +105,9 @@ fn listing_of<R: Threads + Sync, D: PageSource>(
     Ok(LocatorListing { text, is_clean })
 }
 
-/// Lists the named locators of a disk, each with its owner and what it is worth, and tells who took which extents. The disk is
-/// scrubbed as `scrub` does it, with this many workers (0 to 64) beside the caller. The one fault is `OutOfMemory`, told once
-/// every worker that was started has ended.
+/// Lists the named locators of a disk, each with its owner and status, and returns which extents the caller and each worker
+/// took. It scans as `scrub` does, with this many workers (0 to 64) beside the caller. The only fault is `OutOfMemory`,
+/// returned once every started worker has ended.
 pub fn list_locators<D: PageSource, G: Gate, R: Threads + Wait + Sync>(
     rt: &R,
     alloc: Global,

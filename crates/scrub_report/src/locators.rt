@@ -4,8 +4,8 @@ ghost use Rattle.std.specs.Prelude.{◌≡◌};
 ghost use Rattle.scrub_check.specs.Checked.{is_hidden};
 ghost use Rattle.scrub_report.specs.Tokens.{locator_data};
 
-use crate::object::{Value, write_object};
 use crate::json_values::WriteJson;
+use crate::object::{Value, write_object};
 use json::Writer;
 use scrub_check::{Checked, Status};
 use scrub_disk::OutOfMemory;
@@ -17,7 +17,7 @@ fn is_hidden(status: Status) -> bool
     matches!(status, Status::Hidden)
 }
 
-/// One of `hidden`, or of `dangling`, which tells what is wrong with it too.
+/// One of `hidden`, or of `dangling`, which has its status as `reason` too.
 impl WriteJson for Checked {
     ghost shown = { locator_data };
 

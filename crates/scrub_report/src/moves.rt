@@ -1,4 +1,4 @@
-//! Which named locators point to a chunk, found among all of them by search.
+//! Finds the named locators that point to a chunk, by binary search.
 
 ghost use Rattle.std.specs.Prelude.{◌≡◌, IfOk, List, map};
 ghost use Rattle.scrub_check.specs.declared.statuses.checked.Checked.{Checked};
@@ -9,7 +9,7 @@ use scrub_check::Checked;
 use scrub_disk::OutOfMemory;
 use std::alloc::Global;
 
-/// Where a named locator points: an extent and a byte of it.
+/// The place that a named locator points to: its extent and offset.
 fn place_named(one: &Checked) -> (u32, u32)
     ensures { result ≡ place_named one.now }
 {
@@ -23,8 +23,7 @@ fn references<'c>(alloc: Global, checked: &'c [Checked]) -> Result<Vec<&'c Check
     checked.iter().collect(alloc)
 }
 
-/// Named locators by the places that they point to, extent by extent and byte by byte. Those of one place are in their
-/// order.
+/// Named locators by the place that they point to: by extent, then by offset. Those of one place keep their order.
 pub(crate) fn by_place<'c>(
     alloc: Global,
     checked: &'c [Checked],
@@ -37,7 +36,7 @@ pub(crate) fn by_place<'c>(
     Ok(sorted)
 }
 
-/// Those of them that point to a place, in their order.
+/// The ones that point to a place, in their order.
 pub(crate) fn pointing_to<'v, 'c>(
     sorted: &'v [&'c Checked],
     extent: u32,

@@ -1,11 +1,11 @@
-//! JSON objects as data: an object is a list of members, which one function writes.
+//! JSON objects: an object is a list of members, which one function writes.
 
 ghost use Rattle.std.specs.Prelude.{◌≡◌, ◌++◌, OnOk, map};
 ghost use Rattle.scrub_report.specs.Json.{with_keys};
 ghost use Rattle.scrub_report.specs.Tokens.{members_tokens, value_tokens};
 
-use crate::texts::{owner_text, state_text, status_text};
 use crate::json_values::{WriteJson, write_list};
+use crate::texts::{owner_text, state_text, status_text};
 use json::Writer;
 use scrub_check::{Owner, RunState, Status};
 use scrub_disk::OutOfMemory;
@@ -13,7 +13,7 @@ use scrub_scan::Item;
 use std::alloc::Global;
 use uuid::Uuid;
 
-/// The bytes of a UUID's text.
+/// The length of a UUID's text, in bytes.
 const UUID_TEXT_BYTES: usize = 36;
 
 /// The value of a member.
@@ -27,7 +27,7 @@ pub(crate) enum Value<'a> {
     Optional32(Option<u32>),
     /// `true` or `false`.
     Flag(bool),
-    /// Who names a locator.
+    /// The owner of a locator.
     Owner(Owner),
     /// The status of a locator.
     Status(Status),
@@ -68,7 +68,7 @@ impl WriteJson for Value<'_> {
     }
 }
 
-/// Writes members of an object, in their order.
+/// Writes members of an object, without its braces.
 pub(crate) fn write_members<V: WriteJson>(
     alloc: Global,
     out: &mut Writer,
@@ -85,7 +85,7 @@ pub(crate) fn write_members<V: WriteJson>(
     Ok(())
 }
 
-/// Writes an object with these members, in their order.
+/// Writes an object with these members.
 pub(crate) fn write_object<V: WriteJson>(
     alloc: Global,
     out: &mut Writer,

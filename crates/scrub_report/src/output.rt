@@ -1,4 +1,4 @@
-//! Writing bytes whole, and telling after a fault how many of them were written.
+//! Writes bytes whole, or says how many of them were written before a fault.
 
 ghost use Rattle.std.specs.Prelude.{◌<◌, OnOk, IfErr, length, take};
 ghost use Rattle.std.specs.Io.KnownBytes.{Appends};
@@ -6,7 +6,7 @@ ghost use Rattle.scrub_report.specs.Output.{AppendsFront};
 
 use std::io::Write;
 
-/// Writing ended early: the writer answered an error, or took no byte.
+/// Writing ended early: the writer returned an error, or took no byte.
 #[derive(Clone, Copy, Debug, PartialEq, Eq)]
 pub struct WriteFault {
     /// How many bytes were written before the fault.
@@ -15,8 +15,8 @@ pub struct WriteFault {
 
 /// Writes all of `bytes`, with as few calls of `write` as the writer allows.
 ///
-/// An error of the writer and an answer of 0 bytes both end it; an interrupted call is an error
-/// like any other. Nothing is flushed, and no memory is taken.
+/// It ends at an error of the writer, also at `Interrupted`, and at a call that takes 0 bytes. It doesn't flush and takes no
+/// memory.
 pub fn write_out<W: Write>(writer: &mut W, bytes: &[u8]) -> Result<(), WriteFault>
     ensures whole { OnOk result (Appends (W.contents writer.old) (W.contents writer.new) bytes.now) }
     ensures part { IfErr result (λ fault. Appends (W.contents writer.old) (W.contents writer.new)

@@ -16,14 +16,14 @@ pub(crate) struct PageRange {
     pub last: u32,
 }
 
-/// Whether a page is the neighbour behind a range.
+/// Whether a page follows a range directly.
 fn is_next(range: PageRange, page: u32) -> bool
     ensures { result ≡ (range.last + 1 == page) }
 {
     range.last as u64 + 1 == page as u64
 }
 
-/// Puts one more page behind ranges: to the last of them where it is its neighbour, and else as a range of its own.
+/// Adds one more page behind ranges: to the last of them if it follows directly, or else as a range of its own.
 fn join_page(ranges: &mut Vec<PageRange>, page: u32) -> Result<(), OutOfMemory>
     ensures { OnOk result (ranges.new.items ≡ joined_with ranges.old.items page) }
 {
@@ -47,7 +47,7 @@ fn join_page(ranges: &mut Vec<PageRange>, page: u32) -> Result<(), OutOfMemory>
     Ok(())
 }
 
-/// Rising pages as ranges of neighbours, joined as far as they go.
+/// Joins rising pages into as few ranges as possible.
 pub(crate) fn join_pages(alloc: Global, pages: &[u32]) -> Result<Vec<PageRange>, OutOfMemory>
     ensures { IfOk result (λ v. v.items ≡ page_ranges pages.now) }
 {

@@ -1,55 +1,52 @@
-//! What was found on a disk, kept until the report stands. How it is found is left to `scrubbing`.
+//! What was found on a disk, kept until the report is written. `scrubbing` finds it.
 
 ghost use Rattle.std.specs.Prelude.{◌≡◌, map as list_map};
 ghost use Rattle.scrub_check.specs.Chunks.{orphans};
 ghost use Rattle.scrub_check.specs.Live.{live_bytes};
 
-use scrub_check::{Checked, Liveness, RunState};
+use crate::runs::RunRow;
+use scrub_check::{Checked, Liveness};
 use scrub_disk::PageSource;
 use scrub_merge::ShardMap;
 use scrub_run::ShardId;
 use scrub_scan::AllFindings;
 use scrub_super::{Chosen, Plan};
 
-/// What was found on a disk, up to what its named locators are worth.
+/// What was found on a disk, up to the status of each named locator.
 #[derive(Drop)]
 pub(crate) struct Judged<'d, D: PageSource> {
-    /// Which superblock counts.
+    /// The choice of the superblock that counts.
     pub chosen: Chosen,
-    /// The plan that follows from it.
+    /// The plan that it gives.
     pub plan: Plan,
-    /// What lies in each planned extent.
+    /// The findings in each planned extent.
     pub all: AllFindings<'d, D>,
-    /// Whether a newer superblock, or a newer binding, may have been lost.
+    /// Whether a newer superblock or a newer binding may have been lost.
     pub in_doubt: bool,
-    /// How many entries each index run has, none where it is lost. The entries themselves are in the map.
-    pub entries: Vec<Option<u64>>,
-    /// What became of each index run.
-    pub states: Vec<RunState>,
-    /// The shards that they bind.
+    /// The index runs of the plan, in its order.
+    pub runs: Vec<RunRow>,
+    /// The shard map of the runs that were read.
     pub map: ShardMap,
-    /// The named locators, and what they are worth.
+    /// The named locators, each with its status.
     pub checked: Vec<Checked>,
 }
 
 /// What was found on a disk.
 #[derive(Drop)]
 pub(crate) struct Parts<'d, D: PageSource> {
-    /// Which superblock counts.
+    /// The choice of the superblock that counts.
     pub chosen: Chosen,
-    /// The plan that follows from it.
+    /// The plan that it gives.
     pub plan: Plan,
-    /// What lies in each planned extent.
+    /// The findings in each planned extent.
     pub all: AllFindings<'d, D>,
-    /// How many entries each index run has, none where it is lost. The entries themselves are in the map.
-    pub entries: Vec<Option<u64>>,
-    /// What became of each index run.
-    pub states: Vec<RunState>,
-    /// The shards that they bind.
+    /// The index runs of the plan, in its order.
+    pub runs: Vec<RunRow>,
+    /// The shard map of the runs that were read.
     pub map: ShardMap,
-    /// The named locators, and what they are worth.
+    /// The named locators, each with its status.
     pub checked: Vec<Checked>,
-    /// The shards of which a locator dangles.
+    /// The shards with a dangling locator.
     pub broken: Vec<ShardId>,
     /// What follows from which chunks are live.
     pub liveness: Liveness,

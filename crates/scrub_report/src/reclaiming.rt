@@ -1,5 +1,5 @@
-//! What may be reclaimed of a disk, as lines: first what speaks against it, and only where nothing does the extents, each with
-//! the chunks that have to be moved before.
+//! What can be reclaimed of a disk, as lines: the doubts, and if all are accepted the extents, each with the chunks to move
+//! first.
 
 ghost use Rattle.std.specs.Prelude.{◌≡◌, ◌+◌, ◌++◌, ◌≤◌, ℕ, [], Bool, List, IfOk, OnOk, length, map, string_bytes, if◌then◌else◌};
 ghost use Rattle.std.specs.List.{flat_map};
@@ -32,19 +32,19 @@ use std::fmt;
 use std::sync::Wait;
 use std::thread::Threads;
 
-/// What may be reclaimed of a disk, as lines.
+/// What can be reclaimed of a disk, as lines.
 #[derive(Drop)]
 pub struct ReclaimListing {
-    /// A line for each doubt, by kind, which begins with `doubt`, or with `accepted` where its kind was accepted. Where none
-    /// begins with `doubt`, `reclaim EXTENT FREE` for each candidate of the report, in its order, and behind each of them
+    /// A line for each doubt, by kind. It begins with `accepted` if its kind was accepted, or else with `doubt`. If no line
+    /// begins with `doubt`, then `reclaim EXTENT FREE` for each candidate of the report, in its order, and behind each of them
     /// `move EXTENT OFFSET LENGTH UUID OWNER` for each named locator into it, by the chunk that it points to. The numbers are
-    /// in decimal, free bytes, offset and length in bytes; the UUID is as RFC 9562 writes it, in lower case.
+    /// in decimal; free, offset and length are in bytes. The UUID is as RFC 9562 writes it, in lower case.
     pub text: Vec<u8>,
     /// Whether no line begins with `doubt`.
     pub is_clear: bool,
 }
 
-/// Appends the line of a named locator to a chunk that has to be moved.
+/// Appends the line of a named locator to a chunk that must be moved.
 fn append_move(alloc: Global, text: &mut Vec<u8>, one: &Checked) -> Result<(), OutOfMemory>
     ensures { OnOk result (text.new.items ≡ text.old.items ++ move_line one.now) }
 {
@@ -55,7 +55,7 @@ fn append_move(alloc: Global, text: &mut Vec<u8>, one: &Checked) -> Result<(), O
     Ok(())
 }
 
-/// Appends the lines of some, in their order.
+/// Appends the lines of these named locators, in their order.
 fn append_moves(alloc: Global, text: &mut Vec<u8>, some: &[&Checked]) -> Result<(), OutOfMemory>
     ensures { OnOk result (text.new.items ≡ text.old.items ++ flat_map move_line (map (λ one. one.now) some.now)) }
 {
@@ -65,7 +65,7 @@ fn append_moves(alloc: Global, text: &mut Vec<u8>, some: &[&Checked]) -> Result<
     Ok(())
 }
 
-/// Appends the lines of those that point to the chunks to keep of an extent, chunk by chunk.
+/// Appends the lines of the named locators to the chunks to keep of an extent, chunk by chunk.
 fn append_kept(
     alloc: Global,
     text: &mut Vec<u8>,
@@ -83,7 +83,7 @@ fn append_kept(
     Ok(())
 }
 
-/// An extent to reclaim, and how many bytes that frees, as `reclaim EXTENT FREE`.
+/// An extent to reclaim and how many bytes that frees, as `reclaim EXTENT FREE`.
 #[derive(Drop)]
 struct FreedText {
     extent: u32,
@@ -113,7 +113,7 @@ fn reclaim_line(alloc: Global, candidate: &Candidate) -> Result<String, OutOfMem
     format!(in alloc; "{text}\n")
 }
 
-/// Appends a candidate's line, and those of its moves.
+/// Appends a candidate's line and those of its moves.
 fn append_candidate(
     alloc: Global,
     text: &mut Vec<u8>,
@@ -129,7 +129,7 @@ fn append_candidate(
     append_kept(alloc, text, sorted, candidate.extent(), candidate.keep())
 }
 
-/// Appends the lines of candidates, in their order. The named locators are sorted once, for all of them.
+/// Appends the lines of candidates, in their order. The named locators are sorted once for all of them.
 fn append_candidates(
     alloc: Global,
     text: &mut Vec<u8>,
@@ -148,7 +148,7 @@ fn append_candidates(
     Ok(())
 }
 
-/// Appends the lines of the extents to reclaim: of all candidates where that is clear, and else of none.
+/// Appends the lines of the extents to reclaim: of all candidates if `is_clear`, or else of none.
 fn append_reclaimed(
     alloc: Global,
     text: &mut Vec<u8>,
@@ -165,7 +165,7 @@ fn append_reclaimed(
     append_candidates(alloc, text, checked, candidates)
 }
 
-/// What may be reclaimed, from what was chosen, planned and scanned, and the pages of extent 0.
+/// What can be reclaimed of a scanned disk, whose extent 0 has these pages.
 fn listing_of<R: Threads + Sync, D: PageSource>(
     rt: &R,
     alloc: Global,
@@ -187,8 +187,9 @@ fn listing_of<R: Threads + Sync, D: PageSource>(
     Ok(ReclaimListing { text, is_clear })
 }
 
-/// Lists what may be reclaimed of a disk, and tells who took which extents. The disk is scrubbed as `scrub` does it, with this
-/// many workers (0 to 64) beside the caller. The one fault is `OutOfMemory`, told once every worker that was started has ended.
+/// Lists what can be reclaimed of a disk, and returns which extents the caller and each worker took. It scans as `scrub` does,
+/// with this many workers (0 to 64) beside the caller. The only fault is `OutOfMemory`, returned once every started worker has
+/// ended.
 pub fn list_reclaimable<D: PageSource, G: Gate, R: Threads + Wait + Sync>(
     rt: &R,
     alloc: Global,
@@ -210,22 +211,22 @@ pub fn list_reclaimable<D: PageSource, G: Gate, R: Threads + Wait + Sync>(
     Ok((listing, takings))
 }
 
-/// A law: what may be reclaimed of an image has one text of lines, and one verdict whether it is clear.
+/// A law: what can be reclaimed of an image has one text of lines, and one verdict whether it is clear.
 pub fn one_reclaim_listing()
     ensures text { (image : Image) (accepted : Accepted) (a b : List ℕ) →
         AreReclaimLines image accepted a → AreReclaimLines image accepted b → a ≡ b }
     ensures clear { (image : Image) (accepted : Accepted) (a b : Bool) → IsClear image accepted a → IsClear image accepted b → a ≡ b }
 {}
 
-/// A law: each extent that may be reclaimed is a candidate of the report. Where no line begins with `doubt` they are all of
-/// them, in the report's order, and else there is none.
+/// A law: the extents to reclaim are the candidates of the report, in its order, if no line begins with `doubt`, or else there
+/// is none.
 pub fn reclaimed_are_candidates()
     ensures { (image : Image) (accepted : Accepted) (report text : List ℕ) (clear : Bool) → IsReport image report →
         AreReclaimLines image accepted text → IsClear image accepted clear → AreOfCandidates image accepted report text clear }
 {}
 
-/// A law: reclaiming these extents loses nothing that is named. Each named locator into one of them is sound, points to a
-/// chunk to keep, and has a line among the moves.
+/// A law: reclaiming these extents after the moves loses no named chunk. Each named locator into one of them is sound, points
+/// to a chunk to keep, and has a line among the moves.
 pub fn reclaiming_is_safe()
     ensures { (image : Image) (accepted : Accepted) (pages : List SuperblockPage) (found : Scrubbed) → IsScrubbed image found →
         AreMoved found.checked (reclaimed accepted pages found) }

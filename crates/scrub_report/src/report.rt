@@ -1,7 +1,7 @@
-//! The text of the report: one JSON object, written token by token, but for its extents, whose texts threads make. Its keys are
-//! left to the module `keys`.
+//! The text of the report: one JSON object, written token by token, except for its extents, whose texts threads make. The other
+//! keys are in `keys`.
 
-ghost use Rattle.std.specs.Prelude.{◌≡◌, ◌++◌, IfOk, length};
+ghost use Rattle.std.specs.Prelude.{◌≡◌, ◌++◌, IfOk};
 ghost use Rattle.json.specs.Print.{print};
 ghost use Rattle.scrub_check.specs.Chunks.{twins};
 ghost use Rattle.scrub_report.specs.Tokens.{begun_tokens, ended_tokens, kept_text};
@@ -15,7 +15,7 @@ use scrub_disk::{OutOfMemory, PageSource};
 use std::alloc::Global;
 use std::thread::Threads;
 
-/// The text up to the first extent.
+/// The text before the first extent.
 fn begun_text<D: PageSource>(
     alloc: Global,
     parts: &Parts<'_, D>,
@@ -31,7 +31,7 @@ fn begun_text<D: PageSource>(
     Ok(out.into_inner())
 }
 
-/// A text, and what follows the last extent behind it.
+/// This text, and behind it what follows the last extent.
 fn ended_text<D: PageSource>(
     alloc: Global,
     text: Vec<u8>,
@@ -39,8 +39,6 @@ fn ended_text<D: PageSource>(
     twin_chunks: &[Place],
 ) -> Result<Vec<u8>, OutOfMemory>
     requires twins { twin_chunks.now ≡ twins parts.now.all.extents }
-    requires entries { length parts.now.entries.items ≡ length parts.now.plan.runs }
-    requires states { length parts.now.states.items ≡ length parts.now.entries.items }
     ensures { IfOk result (λ whole. whole.items ≡ text.items ++ print (ended_tokens parts.now)) }
 {
     let mut out = Writer::new(text);
@@ -61,8 +59,6 @@ pub(crate) fn report_text<R: Threads + Sync, D: PageSource>(
     clean: bool,
 ) -> Result<Vec<u8>, OutOfMemory>
     requires twins { twin_chunks.now ≡ twins parts.now.all.extents }
-    requires entries { length parts.now.entries.items ≡ length parts.now.plan.runs }
-    requires states { length parts.now.states.items ≡ length parts.now.entries.items }
     ensures { IfOk result (λ text. text.items ≡ kept_text parts.now clean) }
 {
     let mut begun = begun_text(alloc, parts, clean)?;

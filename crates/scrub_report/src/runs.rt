@@ -1,55 +1,73 @@
-//! The index runs, as the report has them.
+//! The index runs of a plan, as the report has them.
 
-ghost use Rattle.std.specs.Prelude.{◌≡◌, ◌++◌, OnOk, length};
-ghost use Rattle.scrub_report.specs.Report.{run_data, runs_data};
-ghost use Rattle.scrub_report.specs.Tokens.{value_tokens};
+ghost use Rattle.std.specs.Prelude.{◌≡◌, IfOk, length, option_map};
+ghost use Rattle.scrub_report.specs.Parts.{AreRowsOf};
 
+use crate::json_values::WriteJson;
 use crate::object::{Value, write_object};
 use json::Writer;
-use scrub_check::RunState;
+use scrub_check::{ReadRuns, RunState};
 use scrub_disk::OutOfMemory;
 use scrub_frame::Locator;
+use scrub_run::Run;
 use std::alloc::Global;
 
-/// Writes one of `runs`.
-fn write_run(
-    alloc: Global,
-    out: &mut Writer,
-    locator: &Locator,
-    entries: Option<u64>,
-    state: RunState,
-) -> Result<(), OutOfMemory>
-    ensures tokens { OnOk result (out.new.tokens ≡ out.old.tokens ++ value_tokens (run_data locator.now entries state)) }
-    ensures before { out.new.before ≡ out.old.before }
-{
-    write_object(
-        alloc,
-        out,
-        &[
-            ("entries", Value::Optional(entries)),
-            ("extent", Value::Number(u64::from(locator.extent))),
-            ("offset", Value::Number(u64::from(locator.offset))),
-            ("state", Value::State(state)),
-        ],
-    )
+/// An index run. The entries themselves are in the shard map.
+#[derive(Clone, Copy)]
+pub(crate) struct RunRow {
+    /// The locator of its chunk.
+    pub locator: Locator,
+    /// How many entries it has, none if it is lost.
+    pub entries: Option<u64>,
+    /// What became of it.
+    pub state: RunState,
 }
 
-/// Writes `runs`: of each locator how many entries its run has, none where it is lost, and what became of it.
-pub(crate) fn write_runs(
-    alloc: Global,
-    out: &mut Writer,
-    locators: &[Locator],
-    entries: &[Option<u64>],
-    states: &[RunState],
-) -> Result<(), OutOfMemory>
-    requires entries { length entries.now ≡ length locators.now }
-    requires states { length states.now ≡ length entries.now }
-    ensures tokens { OnOk result (out.new.tokens ≡ out.old.tokens ++ value_tokens (runs_data locators.now entries.now states.now)) }
-    ensures before { out.new.before ≡ out.old.before }
-{
-    out.begin_array()?;
-    for i in 0..locators.len() {
-        write_run(alloc, out, &locators[i], entries[i], states[i])?;
+/// One of `runs`.
+impl WriteJson for RunRow {
+    ghost use Rattle.scrub_report.specs.Values.{row_data};
+
+    ghost shown = { row_data };
+
+    fn write_json(&self, alloc: Global, out: &mut Writer) -> Result<(), OutOfMemory> {
+        write_object(
+            alloc,
+            out,
+            &[
+                ("entries", Value::Optional(self.entries)),
+                ("extent", Value::Number(u64::from(self.locator.extent))),
+                ("offset", Value::Number(u64::from(self.locator.offset))),
+                ("state", Value::State(self.state)),
+            ],
+        )
     }
-    out.end_array()
+}
+
+/// How many entries a run has, none if it is lost.
+fn entry_count(run: &Option<Run>) -> Option<u64>
+    ensures { result ≡ option_map length run.now }
+{
+    run.as_ref().map(|run| run.entries().len() as u64)
+}
+
+/// The rows of the runs at these locators.
+pub(crate) fn run_rows(
+    alloc: Global,
+    locators: &[Locator],
+    read: &ReadRuns,
+) -> Result<Vec<RunRow>, OutOfMemory>
+    requires { length read.now.runs ≡ length locators.now }
+    ensures { IfOk result (λ v. AreRowsOf locators.now read.now v.items) }
+{
+    let runs = read.runs();
+    let states = read.states();
+    let mut rows = Vec::with_capacity(alloc, locators.len())?;
+    for i in 0..locators.len() {
+        rows.push(RunRow {
+            locator: locators[i],
+            entries: entry_count(&runs[i]),
+            state: states[i],
+        })?;
+    }
+    Ok(rows)
 }

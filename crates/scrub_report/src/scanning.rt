@@ -1,4 +1,4 @@
-//! A disk that was chosen, planned and scanned, by one reader or by workers.
+//! The choice, the plan and the scan of a disk, by one reader or by workers.
 
 ghost use Rattle.std.specs.Prelude.{◌≡◌, ◌+◌, ◌≤◌, length, IfOk};
 ghost use Rattle.scrub_super.specs.Chosen.{IsChoice};
@@ -19,11 +19,11 @@ use std::thread::Threads;
 pub(crate) struct Scan<'d, D: PageSource> {
     /// The disk.
     pub disk: &'d D,
-    /// Which superblock counts.
+    /// The choice of the superblock that counts.
     pub chosen: Chosen,
-    /// The plan that follows from it.
+    /// The plan that it gives.
     pub plan: Plan,
-    /// What lies in each planned extent.
+    /// The findings in each planned extent.
     pub all: AllFindings<'d, D>,
 }
 
@@ -46,7 +46,7 @@ pub(crate) fn scan_by_one<'d, D: PageSource>(
     })
 }
 
-/// Scans a disk by so many workers beside the caller, and tells who took which extents.
+/// Scans a disk by this many workers beside the caller, and returns which extents each of them took.
 pub(crate) fn scan_by<'d, D: PageSource, G: Gate, R: Threads + Wait + Sync>(
     rt: &R,
     alloc: Global,
@@ -65,7 +65,7 @@ pub(crate) fn scan_by<'d, D: PageSource, G: Gate, R: Threads + Wait + Sync>(
     scan_chosen(rt, alloc, disk, chosen, workers, gate)
 }
 
-/// Scans it so, where it is known which superblock counts.
+/// Does the same if it is known which superblock counts.
 pub(crate) fn scan_chosen<'d, D: PageSource, G: Gate, R: Threads + Wait + Sync>(
     rt: &R,
     alloc: Global,

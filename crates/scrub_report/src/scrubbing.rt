@@ -1,6 +1,6 @@
-//! What is found on a whole disk, part by part. How it is told is left to `report`, `index` and `listing`.
+//! Finds what is on a whole disk, part by part. `report`, `index` and `listing` write it.
 
-ghost use Rattle.std.specs.Prelude.{◌≡◌, IfOk, is_none, is_some, length, option_map};
+ghost use Rattle.std.specs.Prelude.{◌≡◌, IfOk, is_none, is_some};
 ghost use Rattle.std.specs.List.{list_all, list_any};
 ghost use Rattle.scrub_disk.specs.Image.{Image};
 ghost use Rattle.scrub_check.specs.Checked.{is_sound, AreChecked};
@@ -9,11 +9,11 @@ ghost use Rattle.scrub_check.specs.Named.{named};
 ghost use Rattle.scrub_check.specs.Runs.{AreRunStates};
 ghost use Rattle.scrub_check.specs.WholeScan.{IsWholeScan};
 ghost use Rattle.scrub_report.specs.Parts.{AreJudgedOf, ArePartsOf, IsLivenessOf, IsScan, is_clean_kept};
-ghost use Rattle.scrub_report.specs.Report.{entry_counts};
 ghost use Rattle.scrub_report.specs.Scrubbed.{is_clean_list, is_in_doubt};
 
 use crate::clean::{are_clean_extents, is_clean_choice};
 use crate::parts::{Judged, Parts};
+use crate::runs::{RunRow, run_rows};
 use crate::scanning::Scan;
 use scrub_check::{
     Checked, Liveness, Place, ReadRuns, RunState, SharedPlace, Status, broken_shards, check_named,
@@ -21,7 +21,6 @@ use scrub_check::{
 };
 use scrub_disk::{OutOfMemory, PageSource};
 use scrub_merge::{ShardMap, merge_owned};
-use scrub_run::Run;
 use scrub_scan::AllFindings;
 use scrub_super::{Chosen, Plan};
 use std::alloc::Global;
@@ -34,32 +33,14 @@ fn has_lost_run(read: &ReadRuns) -> bool
     read.runs().iter().any(|run| run.is_none())
 }
 
-/// Whether a newer superblock, or a newer binding, may have been lost.
+/// Whether a newer superblock or a newer binding may have been lost.
 fn is_in_doubt(chosen: &Chosen, read: &ReadRuns) -> bool
     ensures { result ≡ is_in_doubt chosen.now read.now }
 {
     chosen.tie() || !chosen.bad_pages().is_empty() || has_lost_run(read)
 }
 
-/// How many entries a run has, none where it is lost.
-fn entry_count(run: &Option<Run>) -> Option<u64>
-    ensures { result ≡ option_map length run.now }
-{
-    run.as_ref().map(|run| run.entries().len() as u64)
-}
-
-/// How many entries each run has, none where it is lost.
-fn entry_counts(alloc: Global, runs: &[Option<Run>]) -> Result<Vec<Option<u64>>, OutOfMemory>
-    ensures { IfOk result (λ v. v.items ≡ entry_counts runs.now) }
-{
-    let mut counts = Vec::with_capacity(alloc, runs.len())?;
-    for run in runs {
-        counts.push(entry_count(run))?;
-    }
-    Ok(counts)
-}
-
-/// The named locators, and what they are worth.
+/// The named locators, each with its status.
 fn judged_locators<R: Threads + Sync, D: PageSource>(
     rt: &R,
     alloc: Global,
@@ -77,8 +58,8 @@ fn judged_locators<R: Threads + Sync, D: PageSource>(
     check_named(rt, alloc, disk, plan, all, states, &named)
 }
 
-/// What is found on a disk up to what its named locators are worth, from what was chosen, planned and scanned. Once the runs
-/// are merged their entries are in the map, so only what the report needs of the runs is kept.
+/// What is found on a scanned disk, up to the status of each named locator. Once the runs are merged their entries are in the
+/// map, so only what the report needs of the runs is kept.
 fn judged_of<'d, R: Threads + Sync, D: PageSource>(
     rt: &R,
     alloc: Global,
@@ -95,17 +76,16 @@ fn judged_of<'d, R: Threads + Sync, D: PageSource>(
     } = scan;
     let read = read_all_runs(rt, alloc, disk, &plan, &all)?;
     let in_doubt = is_in_doubt(&chosen, &read);
-    let entries = entry_counts(alloc, read.runs())?;
-    let (runs, states) = read.into_parts();
-    let map = merge_owned(alloc, runs)?;
+    let runs = run_rows(alloc, plan.runs(), &read)?;
+    let (read_runs, states) = read.into_parts();
+    let map = merge_owned(alloc, read_runs)?;
     let checked = judged_locators(rt, alloc, disk, &plan, &all, &states, &map)?;
     Ok(Judged {
         chosen,
         plan,
         all,
         in_doubt,
-        entries,
-        states,
+        runs,
         map,
         checked,
     })
@@ -127,7 +107,7 @@ fn liveness_in<D: PageSource>(
     )
 }
 
-/// What follows from which chunks are live, and the twins among the chunks, both found at the same time.
+/// What follows from which chunks are live, and the twins among the chunks, found at the same time on two threads.
 fn liveness_and_twins<R: Threads + Sync, D: PageSource>(
     rt: &R,
     alloc: Global,
@@ -148,7 +128,7 @@ fn liveness_and_twins<R: Threads + Sync, D: PageSource>(
     Ok((liveness?, twin_chunks?))
 }
 
-/// What is found on a disk, from what its locators are worth and what follows from which chunks are live.
+/// What is found on a disk, from its checked locators and what follows from which chunks are live.
 fn parts_from<'d, D: PageSource>(
     alloc: Global,
     judged: Judged<'d, D>,
@@ -162,8 +142,7 @@ fn parts_from<'d, D: PageSource>(
         chosen,
         plan,
         all,
-        entries,
-        states,
+        runs,
         map,
         checked,
         ..
@@ -173,15 +152,14 @@ fn parts_from<'d, D: PageSource>(
         chosen,
         plan,
         all,
-        entries,
-        states,
+        runs,
         map,
         checked,
         liveness,
     })
 }
 
-/// What is found on a disk, from what was chosen, planned and scanned.
+/// What is found on a scanned disk.
 pub(crate) fn parts_of<'d, R: Threads + Sync, D: PageSource>(
     rt: &R,
     alloc: Global,
@@ -195,7 +173,7 @@ pub(crate) fn parts_of<'d, R: Threads + Sync, D: PageSource>(
     parts_from(alloc, judged, liveness)
 }
 
-/// The same, and the twins among the chunks, which only the report names.
+/// The same, and the twins among the chunks, which only the report has.
 pub(crate) fn parts_and_twins<'d, R: Threads + Sync, D: PageSource>(
     rt: &R,
     alloc: Global,
@@ -224,26 +202,26 @@ fn are_sound(checked: &[Checked]) -> bool
     checked.iter().all(|one| is_sound(one.status))
 }
 
-/// Whether each locator is sound, and each place is named once at most.
+/// Whether each locator is sound, and no place is named twice.
 fn is_clean_list(checked: &[Checked], shared: &[SharedPlace]) -> bool
     ensures { result ≡ is_clean_list checked.now shared.now }
 {
     are_sound(checked) && shared.is_empty()
 }
 
-/// Whether each index run is read, by how many entries each has.
-fn are_read(entries: &[Option<u64>]) -> bool
-    ensures { result ≡ list_all is_some entries.now }
+/// Whether each index run is read.
+fn are_read(runs: &[RunRow]) -> bool
+    ensures { result ≡ list_all (λ r. is_some r.entries) runs.now }
 {
-    entries.iter().all(|count| count.is_some())
+    runs.iter().all(|run| run.entries.is_some())
 }
 
-/// Whether all is in good order.
+/// Whether the disk is clean.
 pub(crate) fn is_clean<D: PageSource>(parts: &Parts<'_, D>) -> bool
     ensures { result ≡ is_clean_kept parts.now }
 {
     is_clean_choice(&parts.chosen)
         && are_clean_extents(&parts.all)
-        && are_read(&parts.entries)
+        && are_read(&parts.runs)
         && is_clean_list(&parts.checked, &parts.liveness.shared)
 }

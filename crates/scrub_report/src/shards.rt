@@ -1,4 +1,4 @@
-//! Which shards the report names.
+//! The shards under the report's key `doubtful`.
 
 ghost use Rattle.std.specs.Prelude.{◌≡◌, IfOk};
 ghost use Rattle.scrub_report.specs.Report.{doubtful_ids};

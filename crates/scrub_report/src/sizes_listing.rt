@@ -1,4 +1,4 @@
-//! The superblock records of a raw image as lines, whatever its sizes, with what is lost of it.
+//! The superblock records of a raw image of any sizes, and what is lost of it, as lines.
 
 ghost use Rattle.std.specs.Prelude.{◌≡◌, ◌+◌, ◌-◌, ◌<◌, ◌≤◌, ◌↔◌, ◌^◌, ℕ, All, List, Bool, IfOk, IfSome, IsTrue};
 ghost use Rattle.scrub_disk.specs.Limits.{max_extent_bytes};
@@ -12,12 +12,12 @@ use scrub_disk::{Geometry, OutOfMemory, RawImage};
 use scrub_super::{FoundRecord, FoundSuperblocks, find_superblocks};
 use std::alloc::Global;
 
-/// What the front of a raw image has of superblock records, as lines.
+/// The superblock records in the front of a raw image, as lines.
 #[derive(Debug, Drop)]
 pub struct SizesListing {
     /// By rising start, each with a line feed: `OFFSET KIND GENERATION PAGE PAGES EXTENTS` for each record, and
-    /// `lost FROM TO` for each run of lost blocks. The numbers are in decimal, offsets and page sizes in bytes; TO is the
-    /// byte behind the last lost one.
+    /// `lost FROM TO` for each run of lost blocks. The numbers are in decimal; OFFSET, PAGE, FROM and TO are in bytes. TO is
+    /// behind the last lost byte.
     pub text: Vec<u8>,
     /// Whether there is a record, all records have the same sizes, and nothing is lost.
     pub is_clean: bool,
@@ -45,9 +45,9 @@ fn is_clean(found: &FoundSuperblocks) -> bool
     have_sizes(&found.records, found.records[0].geometry)
 }
 
-/// Lists the superblock records of a raw image, each of the sizes that it has itself, and what is lost of its first
-/// 67,108,864 bytes. The image is read as `find_superblocks` does it, and `marked` has a mark for each of the first blocks of
-/// 512 bytes, as a rescue's map says. The one fault is `OutOfMemory`.
+/// Lists the superblock records of a raw image, each with its own sizes, and what is lost of the first 67,108,864 bytes.
+/// `find_superblocks` reads the image. `marked` says for each of the first blocks of 512 bytes whether a rescue's map marks it
+/// as lost. The only fault is `OutOfMemory`.
 pub fn list_sizes<R: RawImage>(
     alloc: Global,
     raw: &mut R,

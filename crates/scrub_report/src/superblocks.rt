@@ -1,4 +1,4 @@
-//! The superblocks of a disk as lines: which records stand in extent 0, which of them counts, and what else is there.
+//! The superblocks of a disk as lines: the records in extent 0, which of them counts, and what else is there.
 
 ghost use Rattle.std.specs.Prelude.{◌≡◌, ◌++◌, Bool, List, ℕ, IfOk, OnOk, string_bytes};
 ghost use Rattle.std.specs.List.{list_all, list_any};
@@ -19,7 +19,7 @@ pub struct SuperblockListing {
     /// `record PAGE KIND GENERATION STATE`, `damaged PAGE KIND` or `stray PAGE`. The kind is `SSB1` or `SSB2`, the state `tie`,
     /// `counts` or `older`, and the numbers are in decimal.
     pub text: Vec<u8>,
-    /// Whether there is a line, each line is that of a record, one of them counts and none ties.
+    /// Whether one record counts, none ties, and no line is of anything but a record.
     pub is_clean: bool,
 }
 
@@ -86,7 +86,7 @@ fn superblock_lines(alloc: Global, pages: &[SuperblockPage]) -> Result<Vec<u8>, 
     Ok(text.into_bytes())
 }
 
-/// Whether the page has the record that counts, and no other has its generation.
+/// Whether the page has the record that counts, and no other record has its generation.
 fn is_counting_page(page: SuperblockPage) -> bool
     ensures { result ≡ is_counting_page page }
 {
@@ -110,28 +110,28 @@ fn is_orderly_page(page: SuperblockPage) -> bool
     }
 }
 
-/// Whether a page has the record that counts, and no other has its generation.
+/// Whether one of these pages has the record that counts, and no other record has its generation.
 fn has_counting_page(pages: &[SuperblockPage]) -> bool
     ensures { result ≡ list_any is_counting_page pages.now }
 {
     pages.iter().any(|page| is_counting_page(*page))
 }
 
-/// Whether no page has a line but that of a record that ties with none.
+/// Whether each page has no line, or the line of a record that ties with none.
 fn are_orderly_pages(pages: &[SuperblockPage]) -> bool
     ensures { result ≡ list_all is_orderly_page pages.now }
 {
     pages.iter().all(|page| is_orderly_page(*page))
 }
 
-/// Whether one record counts, none ties, and nothing but records has a line.
+/// Whether one record counts, none ties, and no line is of anything but a record.
 fn are_clean_pages(pages: &[SuperblockPage]) -> bool
     ensures { result ≡ are_clean_pages pages.now }
 {
     has_counting_page(pages) && are_orderly_pages(pages)
 }
 
-/// Lists what extent 0 of a disk holds of superblocks. Extent 0 is read once, and no other extent is read.
+/// Lists the superblocks in extent 0 of a disk. It reads extent 0 once, and no other extent. The only fault is `OutOfMemory`.
 pub fn list_superblocks<D: PageSource>(
     alloc: Global,
     disk: &D,
@@ -145,7 +145,7 @@ pub fn list_superblocks<D: PageSource>(
     Ok(SuperblockListing { text, is_clean })
 }
 
-/// A law: the superblocks of an image have one text of lines, and are either in good order or not.
+/// A law: the superblocks of an image have one text of lines, and one verdict whether they are clean.
 pub fn one_superblock_listing()
     ensures text { (image : Image) (a b : List ℕ) → AreSuperblockLines image a → AreSuperblockLines image b → a ≡ b }
     ensures clean { (image : Image) (a b : Bool) → AreCleanSuperblocks image a → AreCleanSuperblocks image b → a ≡ b }

@@ -1,16 +1,15 @@
-//! Texts of the report and of lines: of identifiers, of owners of locators, of what is wrong with one, of what became of a run,
-//! and of the kinds of superblock records.
+//! Texts of the report and of lines: identifiers, owners and statuses of locators, what became of a run, and kinds of
+//! superblock records.
 
 ghost use Rattle.std.specs.Prelude.{◌≡◌, IfOk, string_bytes};
 ghost use Rattle.scrub_super.specs.Pages.{magic_of};
-ghost use Rattle.scrub_report.specs.Texts.{id_text, owner_text, state_text, status_text, uuid_text};
+ghost use Rattle.scrub_report.specs.Texts.{id_text, owner_text, state_text, status_text};
 
 use scrub_check::{Owner, RunState, Status};
 use scrub_disk::OutOfMemory;
 use scrub_run::ShardId;
 use scrub_super::RecordKind;
 use std::alloc::Global;
-use uuid::Uuid;
 
 /// A shard's identifier, as 32 lower-case hexadecimal digits.
 pub(crate) fn id_text(alloc: Global, id: ShardId) -> Result<String, OutOfMemory>
@@ -19,14 +18,7 @@ pub(crate) fn id_text(alloc: Global, id: ShardId) -> Result<String, OutOfMemory>
     hex::encode(alloc, id.0)
 }
 
-/// A UUID as RFC 9562 writes it, in lower case.
-pub(crate) fn uuid_text(alloc: Global, uuid: Uuid) -> Result<String, OutOfMemory>
-    ensures { IfOk result (λ text. string_bytes text ≡ uuid_text uuid) }
-{
-    format!(in alloc; "{uuid}")
-}
-
-/// Who names a locator: `run K` or `shard IDENTIFIER`.
+/// The owner of a locator: `run K` or `shard IDENTIFIER`.
 pub(crate) fn owner_text(alloc: Global, owner: Owner) -> Result<String, OutOfMemory>
     ensures { IfOk result (λ text. string_bytes text ≡ owner_text owner) }
 {
@@ -39,7 +31,7 @@ pub(crate) fn owner_text(alloc: Global, owner: Owner) -> Result<String, OutOfMem
     }
 }
 
-/// What a locator is worth. The report says it of a dangling locator and of a lost run.
+/// The word for a locator's status. The report has it for dangling locators and for lost runs.
 pub(crate) fn status_text(status: Status) -> &'static str
     ensures { result.now ≡ status_text status }
 {
@@ -57,7 +49,7 @@ pub(crate) fn status_text(status: Status) -> &'static str
     }
 }
 
-/// What became of an index run.
+/// The word for what became of an index run.
 pub(crate) fn state_text(state: RunState) -> &'static str
     ensures { result.now ≡ state_text state }
 {
@@ -68,7 +60,7 @@ pub(crate) fn state_text(state: RunState) -> &'static str
     }
 }
 
-/// The word for a kind of superblock record, which is what such a record begins with.
+/// The word for a kind of superblock record: the four letters that such a record begins with.
 pub(crate) fn kind_text(kind: RecordKind) -> &'static str
     ensures { result.now ≡ magic_of kind }
 {

@@ -1,4 +1,4 @@
-//! The lines of records and of lost bytes: their order and their texts.
+//! The lines of superblock records and of lost ranges: their order and their texts.
 
 ghost use Rattle.std.specs.Prelude.{◌≡◌, ◌+◌, ◌<◌, ◌≤◌, ◌++◌, IfOk, OnOk, length, string_bytes};
 ghost use Rattle.scrub_report.specs.Sizes.{size_line, size_lines, size_text};
@@ -10,7 +10,7 @@ use scrub_super::{FoundRecord, LostBytes};
 use std::alloc::Global;
 use std::fmt;
 
-/// What a line is of.
+/// What a line is about.
 #[derive(Clone, Copy)]
 pub(crate) enum SizesLine {
     Record(FoundRecord),
@@ -78,7 +78,7 @@ pub(crate) fn lines_text(alloc: Global, lines: &[SizesLine]) -> Result<Vec<u8>, 
     Ok(text)
 }
 
-/// The next line, behind the first `records_before` records and `lost_before` lost ranges: the one that begins first.
+/// The line that begins first, behind the first `records_before` records and `lost_before` lost ranges.
 fn next_line(
     records: &[FoundRecord],
     lost: &[LostBytes],
@@ -100,7 +100,7 @@ fn next_line(
     SizesLine::Lost(range)
 }
 
-/// How many records a line is of.
+/// How many records a line has: 1 or 0.
 fn records_in(line: SizesLine) -> usize
     ensures { result ≡ record_count line }
 {
@@ -110,7 +110,7 @@ fn records_in(line: SizesLine) -> usize
     }
 }
 
-/// The lines of records and lost ranges, by rising start, where both rise and no two begin at one byte.
+/// The lines of records and lost ranges, by rising start, if both lists rise and no two begin at the same byte.
 pub(crate) fn lines_in_order(
     alloc: Global,
     records: &[FoundRecord],

@@ -1,4 +1,4 @@
--- The bindings fit into one run, and each part of the answer is told of what was found.
+-- The bindings fit into one run, and each part of the answer is that of what was found.
 use Rattle.std.proofs.Common.{◌∙◌}
 use Rattle.scrub_report.proofs.Indexable.{countable, entries_fit}
 use Rattle.scrub_report.proofs.KeptRuns.{clean_found, text_found}
@@ -25,12 +25,12 @@ returns g c =
       report = record {
         found = found;
         scrubbed = are.scrubbed;
-        text_is = c.in_ok-index.ensures.report ∙ text_found parts are.read are.kept c.is_clean-is_clean.result c.is_clean-is_clean.ensures;
+        text_is = c.in_ok-index.ensures.report ∙ text_found parts are.read are.rows c.is_clean-is_clean.result c.is_clean-is_clean.ensures;
       };
       index = record {
         found = found;
         scrubbed = are.scrubbed;
         bytes_are = c.in_ok-index.ensures.index;
       };
-      clean = record { found = found; scrubbed = are.scrubbed; verdict = c.is_clean-is_clean.ensures ∙ clean_found parts are.read are.kept };
+      clean = record { found = found; scrubbed = are.scrubbed; verdict = c.is_clean-is_clean.ensures ∙ clean_found parts are.read are.rows };
     }

@@ -1,4 +1,4 @@
--- Whether the first extents are such.
+-- Whether the first extents are clean.
 use Rattle.std.proofs.Common.{◌≡◌, take}
 use Rattle.std.specs.List.{list_all}
 use Rattle.scrub_report.specs.Scrubbed.{is_clean_extent}

@@ -1,4 +1,4 @@
--- One more extent, and in the end all.
+-- One more extent, and at the end all.
 use Rattle.std.proofs.Common.{sym, ap}
 use Rattle.std.proofs.lemmas.Option.{slice_get_within, get_or_from_slice_get}
 use Rattle.scrub_scan.specs.Scanned.{scanned}

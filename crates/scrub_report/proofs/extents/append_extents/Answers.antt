@@ -1,5 +1,5 @@
--- One more piece, and in the end all.
-use Rattle.std.proofs.Common.{rules, ◌≡◌, ◌*◌, ◌++◌, IfOk, IfSome, length, [], ◌∷◌, arith, refl, ap, subst, ◌∙◌}
+-- One more piece, and at the end all.
+use Rattle.std.proofs.Common.{rules, ◌*◌, ◌++◌, length, [], ◌∷◌, arith, refl, ap, ◌∙◌}
 use Rattle.std.specs.List.{zip}
 use Rattle.std.proofs.lemmas.Iterator.Adapters.{YieldsList-from_vec}
 use Rattle.std.proofs.lemmas.Iterator.Consumers.{YieldsList-end, YieldsList-turn}
@@ -7,7 +7,7 @@ use Rattle.std.proofs.lemmas.List.{length_push, take_all}
 use Rattle.std.proofs.lemmas.Option.{slice_get_read}
 use Rattle.std.proofs.lemmas.Slice.Zip.{length-zip}
 use Rattle.json.specs.Print.{print}
-use Rattle.scrub_report.specs.Tokens.{extents_tokens, piece_text}
+use Rattle.scrub_report.specs.Tokens.{extents_tokens}
 use Rattle.scrub_report.proofs.ExtentTexts.{no_piece, piece_begins, pieces_end, with_piece}
 use Rattle.scrub_report.proofs.extents.append_extents.Goals as goal
 
@@ -23,8 +23,8 @@ loop-piece-preserved g c =
     let turn = YieldsList-turn (YieldsList-from_vec {s = c.into_iter-piece-iterator.result} texts (search rules) (search rules)) c.loop-piece.yielded _ c.loop-piece.yielded_by _ c.next.new.self c.in-Some.piece c.in-Some.is
     c.next.ensures.steps in
     let there = slice_get_read texts (length texts) n c.in-Some.piece refl turn.0 turn.1 in
-    let each = subst (λ o. IfSome o (λ r. IfOk r (λ bytes. bytes.items ≡ piece_text pairs (n * size) size))) there (c.in_ok-piece-items.ensures.each n) in
-    let text = subst (λ r. IfOk r (λ bytes. bytes.items ≡ piece_text pairs (n * size) size)) c.in_ok-piece.was each in
+    let each = rw there at (c.in_ok-piece-items.ensures.each n) in
+    let text = rw c.in_ok-piece.was at each in
     let begins = piece_begins n (length texts) size (length c.args.all.now.extents) c.piece_size-size.ensures c.in_ok-piece-items.ensures.count turn.0 in
     c.in_ok-extend_from_slice.ensures.items
     ∙ with_piece pairs n (length (c.loop-piece.yielded ++ c.in-Some.piece ∷ [])) size c.args.text.now.items c.loop-piece.text.items c.deref.result.now

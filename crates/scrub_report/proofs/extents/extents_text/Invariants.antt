@@ -1,4 +1,4 @@
--- The first extents from the place on are written, behind the comma.
+-- The first extents of the piece are written, behind the comma.
 use Rattle.std.proofs.Common.{◌≡◌, ◌≤◌, ◌-◌, take, drop}
 use Rattle.std.specs.List.{zip}
 use Rattle.scrub_report.specs.Tokens.{extents_tokens}

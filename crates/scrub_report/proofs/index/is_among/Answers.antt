@@ -1,4 +1,4 @@
--- What a search among rising identifiers finds.
+-- Binary search among rising identifiers finds one exactly if it is there.
 use Rattle.std.proofs.Common.{rules}
 use Rattle.std.proofs.lemmas.List.Sorted.{answers_always}
 use Rattle.scrub_run.specs.declared.shard_id.ShardId.{ShardId}

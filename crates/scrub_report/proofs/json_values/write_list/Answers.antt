@@ -1,4 +1,4 @@
--- In the end all are written.
+-- At the end all are written.
 use Rattle.std.proofs.Common.{arith}
 use Rattle.scrub_report.proofs.Tokens.{list_closed}
 use Rattle.scrub_report.proofs.json_values.write_list.Goals as goal

@@ -1,4 +1,4 @@
--- Both are told of what was found.
+-- The text and the verdict are those of what was found.
 use Rattle.std.proofs.Common.{ap, ◌∙◌}
 use Rattle.scrub_report.proofs.KeptRuns.{clean_found}
 use Rattle.scrub_report.specs.Locators.{locator_lines}
@@ -16,5 +16,5 @@ returns-clause-clean g c =
     record {
       found = found_in c.in_ok-parts.parts are.read;
       scrubbed = are.scrubbed;
-      verdict = c.is_clean-is_clean.ensures ∙ clean_found c.in_ok-parts.parts are.read are.kept;
+      verdict = c.is_clean-is_clean.ensures ∙ clean_found c.in_ok-parts.parts are.read are.rows;
     }

@@ -1,4 +1,4 @@
--- All that is found on an image is one.
+-- What is found on an image is unique.
 use Rattle.scrub_report.proofs.OneReport.{one_listing}
 use Rattle.scrub_report.proofs.listing.one_locator_listing.Goals as goal
 

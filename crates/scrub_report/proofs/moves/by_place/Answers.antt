@@ -1,4 +1,4 @@
--- Each call of the key's closure gives the place that a locator points to.
+-- Each call of the key's closure returns the place that a locator points to.
 use Rattle.std.proofs.Common.{rules}
 use Rattle.std.proofs.lemmas.List.Sorted.{answers_always}
 use Rattle.scrub_report.proofs.ByPlace.{alike, place_shown}

@@ -1,4 +1,4 @@
--- Those of a place lie between the first that isn't below it and the first that is above it.
+-- The locators of a place are between the first that isn't below it and the first that is above it.
 use Rattle.std.proofs.Common.{is_lt, is_le, rules}
 use Rattle.std.proofs.lemmas.List.Sorted.{IsPartitionPoint-from_clause}
 use Rattle.scrub_check.proofs.Counts.{BelowAt, ThroughAt, parted_below, parted_through, below_through}

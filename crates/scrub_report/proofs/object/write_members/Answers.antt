@@ -1,4 +1,4 @@
--- In the end all are written.
+-- At the end all are written.
 use Rattle.std.proofs.Common.{arith}
 use Rattle.scrub_report.proofs.Tokens.{all_members}
 use Rattle.scrub_report.proofs.object.write_members.Goals as goal

@@ -1,5 +1,5 @@
 -- It is begun, its members are written, and it is closed.
-use Rattle.std.proofs.Common.{◌≡◌, map}
+use Rattle.std.proofs.Common.{map}
 use Rattle.scrub_report.proofs.Tokens.{object_closed}
 use Rattle.scrub_report.proofs.object.write_object.Goals as goal
 

@@ -1,4 +1,4 @@
--- The last range was taken off, and stands again in front of the page, or is joined with it.
+-- The last range was taken off; it is put back in front of the page, or joined with it.
 use Rattle.std.proofs.Common.{◌≡◌, ◌++◌, ◌∷◌, [], List, sym, ap, ◌∙◌, rules}
 use Rattle.scrub_report.specs.declared.page_ranges.PageRange.{PageRange}
 use Rattle.scrub_report.proofs.PageRanges.{alone, joined_alone, joined_neighbour, up_to_page}

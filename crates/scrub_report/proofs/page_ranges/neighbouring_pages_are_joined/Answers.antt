@@ -1,4 +1,4 @@
--- By the pages, the last one first.
+-- By induction over the pages.
 use Rattle.scrub_report.proofs.JoinedPages.{joined_pages}
 use Rattle.scrub_report.proofs.page_ranges.neighbouring_pages_are_joined.Goals as goal
 

@@ -1,4 +1,4 @@
--- Where there is none nothing is written.
+-- If there is no candidate nothing is written.
 use Rattle.std.proofs.Common.{sym, ◌∙◌}
 use Rattle.scrub_report.specs.Reclaimable.{candidate_lines}
 use Rattle.scrub_report.proofs.FlatLists.{flat_none}

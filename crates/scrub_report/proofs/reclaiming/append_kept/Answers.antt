@@ -1,4 +1,4 @@
--- One more chunk, and in the end all.
+-- One more chunk, and at the end all.
 use Rattle.std.proofs.Common.{◌++◌, List, ℕ, get_or, refl, sym, ap, ◌∙◌}
 use Rattle.std.specs.List.{flat_map}
 use Rattle.scrub_check.specs.declared.statuses.checked.Checked.{Checked}

@@ -1,4 +1,4 @@
--- The lines of those that point to the first chunks.
+-- The lines of the locators to the first chunks.
 use Rattle.std.proofs.Common.{◌≡◌, ◌++◌, List, take}
 use Rattle.std.specs.List.{flat_map}
 use Rattle.scrub_check.specs.declared.statuses.checked.Checked.{Checked}

@@ -1,4 +1,4 @@
--- In the end all are written.
+-- At the end all are written.
 use Rattle.std.proofs.Common.{◌++◌, List, ℕ, sym, ap, ◌∙◌}
 use Rattle.std.specs.Borrow.{Bor}
 use Rattle.std.proofs.lemmas.List.Folds.{flat_map-map}

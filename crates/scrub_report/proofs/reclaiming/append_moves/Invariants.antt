@@ -1,4 +1,4 @@
--- The lines of the first ones.
+-- The lines of the first locators.
 use Rattle.std.proofs.Common.{◌≡◌, ◌++◌, take}
 use Rattle.std.specs.List.{flat_map}
 use Rattle.scrub_report.specs.Reclaimable.{move_line}

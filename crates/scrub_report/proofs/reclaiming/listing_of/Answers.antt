@@ -1,4 +1,4 @@
--- Both are told of what was found.
+-- The text and the verdict are those of what was found.
 use Rattle.std.proofs.Common.{◌≡◌, ◌++◌, [], rules, if◌then◌else◌}
 use Rattle.std.specs.List.{flat_map}
 use Rattle.scrub_report.specs.Doubts.{are_accepted}
@@ -24,7 +24,7 @@ returns-clause-text g c =
       scrubbed = are.scrubbed;
       pages = c.args.pages.now;
       held = c.requires.pages;
-      text_is = lines_found parts are.read are.kept c.args.pages.now accepted list clear lines text c.in_ok-doubts.ensures is first all;
+      text_is = lines_found parts are.read are.rows c.args.pages.now accepted list clear lines text c.in_ok-doubts.ensures is first all;
     }
 
 pub returns-clause-clear : goal.returns-clause-clear
@@ -40,5 +40,5 @@ returns-clause-clear g c =
       scrubbed = are.scrubbed;
       pages = c.args.pages.now;
       held = c.requires.pages;
-      verdict = clear_found parts are.read are.kept c.args.pages.now accepted list clear c.in_ok-doubts.ensures is;
+      verdict = clear_found parts are.read are.rows c.args.pages.now accepted list clear c.in_ok-doubts.ensures is;
     }

@@ -1,4 +1,4 @@
--- All that is found on an image is one.
+-- What is found on an image is unique.
 use Rattle.scrub_report.proofs.Clear.{one_text, one_verdict}
 use Rattle.scrub_report.proofs.reclaiming.one_reclaim_listing.Goals as goal
 

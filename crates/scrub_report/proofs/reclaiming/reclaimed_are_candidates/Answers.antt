@@ -1,4 +1,4 @@
--- The report and the lines are told of one scrub.
+-- The report and the lines are of the same scrub.
 use Rattle.scrub_report.proofs.Clear.{of_candidates}
 use Rattle.scrub_report.proofs.reclaiming.reclaimed_are_candidates.Goals as goal
 

@@ -1,4 +1,4 @@
--- The planned extents are those of the plan that was made.
+-- The planned extents are those of the plan.
 use Rattle.std.proofs.Common.{refl}
 use Rattle.scrub_report.specs.Answer.{ArePlannedExtents}
 use Rattle.scrub_report.proofs.scanning.scan_chosen.Goals as goal

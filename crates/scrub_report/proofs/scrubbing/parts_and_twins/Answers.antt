@@ -1,4 +1,4 @@
--- They are the parts of the image of which the locators were judged.
+-- They are the parts of the image that the locators were checked in.
 use Rattle.scrub_report.proofs.scrubbing.parts_and_twins.Goals as goal
 
 pub returns-clause-parts : goal.returns-clause-parts

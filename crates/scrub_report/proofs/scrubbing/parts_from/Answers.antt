@@ -9,8 +9,7 @@ pub returns-clause-parts : goal.returns-clause-parts
 returns-clause-parts g c = λ image are.
     record {
       read = are.read;
-      counted = are.counted;
-      kept = are.kept;
+      rows = are.rows;
       scrubbed = record {
         choice = are.choice;
         plan = are.plan;

@@ -1,4 +1,4 @@
--- Both are asked, the second where the first holds.
+-- The second test runs only if the first holds.
 use Rattle.std.proofs.Common.{◌&&◌, ap, sym, ◌∙◌}
 use Rattle.std.specs.List.{list_all}
 use Rattle.scrub_report.specs.Superblocks.{is_orderly_page}

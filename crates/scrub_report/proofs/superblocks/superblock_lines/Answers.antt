@@ -1,4 +1,4 @@
--- One more page, and in the end all.
+-- One more page, and at the end all.
 use Rattle.std.proofs.Common.{◌≡◌, ◌<◌, ◌+◌, ◌++◌, ◌∷◌, [], ◌∙◌, ℕ, List, length, take, get_or, ap, arith, sym, Vec, Global}
 use Rattle.std.specs.List.{enumerate_from, flat_map}
 use Rattle.std.proofs.lemmas.List.{append-nil, take_all, take_more}
