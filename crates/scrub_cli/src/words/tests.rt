@@ -252,7 +252,7 @@ fn the_help_of_the_commands_on_a_disk(rt: HostRuntime) -> Result<(), Fail> {
             "--extents <COUNT>",
             "[EXTENT:PAGE]...",
             "hidden",
-            "no repair",
+            "a repair",
             "Exit status",
             "\n  shardscrub index --page 64 --pages 4 --extents 3 examples/one-shard.img",
         ],
