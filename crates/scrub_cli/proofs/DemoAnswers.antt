@@ -20,19 +20,19 @@ pub demo_made : (blank with_chunk with_run image : Image) (g : Geometry)
     Puts blank with_chunk 1 0 chunk → Puts with_chunk with_run 2 0 run → Puts with_run image 0 0 superblock → IsDemoDisk image
 demo_made blank with_chunk with_run image g u v abc payload chunk run superblock l m zero sizes hu hv habc hc hl hp hr hm hs
     put_chunk put_run put_superblock = record {
-  blank = blank;
-  sizes = subst (λ (x : Geometry). HasSizes x 64 4 3) (sym zero.geometry) sizes;
-  zeros = subst (λ (x : Geometry). IsBlank blank x) (sym zero.geometry) zero;
-  with_chunk = with_chunk;
-  chunk =
-      subst (λ (b : List ℕ). Puts blank with_chunk 1 0 b) (hc ∙ ap (λ x. frame Plain x abc) hu ∙ ap (frame Plain ones) habc)
-      put_chunk;
-  with_run = with_run;
-  run =
-      subst (λ (b : List ℕ). Puts with_chunk with_run 2 0 b)
-      (hr ∙ ap (λ x. frame Plain x payload) hv ∙ ap (frame Plain twos) run_is) put_run;
-  superblock = subst (λ (b : List ℕ). Puts with_run image 0 0 b) record_is put_superblock;
-}
+      blank = blank;
+      sizes = subst (λ (x : Geometry). HasSizes x 64 4 3) (sym zero.geometry) sizes;
+      zeros = subst (λ (x : Geometry). IsBlank blank x) (sym zero.geometry) zero;
+      with_chunk = with_chunk;
+      chunk =
+          subst (λ (b : List ℕ). Puts blank with_chunk 1 0 b) (hc ∙ ap (λ x. frame Plain x abc) hu ∙ ap (frame Plain ones) habc)
+          put_chunk;
+      with_run = with_run;
+      run =
+          subst (λ (b : List ℕ). Puts with_chunk with_run 2 0 b)
+          (hr ∙ ap (λ x. frame Plain x payload) hv ∙ ap (frame Plain twos) run_is) put_run;
+      superblock = subst (λ (b : List ℕ). Puts with_run image 0 0 b) record_is put_superblock;
+    }
   where
     chunk_is : l ≡ located 1 ones (codes "abc")
     chunk_is = hl ∙ ap (λ x. located 1 x abc) hu ∙ ap (located 1 ones) habc

@@ -136,39 +136,75 @@ disk_by_name : (name : Text) → EachRule IsByName (disk name).rules
 unfolding clap_on_literals
 disk_by_name name = (
   (refl, inr refl, refl, refl),
-  ((refl, inr refl, refl, refl),
-  ((refl, inr refl, refl, refl),
-  ((refl, inr refl, refl, refl),
-  ((refl, inr refl, refl, refl),
-  ((refl, inl refl, refl, refl),
-  ((refl, inl refl, refl, refl),
-  ((refl, inr refl, refl, refl), tt))))))),
+  (
+    (refl, inr refl, refl, refl),
+    (
+      (refl, inr refl, refl, refl),
+      (
+        (refl, inr refl, refl, refl),
+        (
+          (refl, inr refl, refl, refl),
+          (
+            (refl, inl refl, refl, refl),
+            (
+              (refl, inl refl, refl, refl),
+              ((refl, inr refl, refl, refl), tt),
+            ),
+          ),
+        ),
+      ),
+    ),
+  ),
 )
 
 reclaimable_by_name : EachRule IsByName built_reclaimable.rules
 unfolding clap_on_literals
 reclaimable_by_name = (
   (refl, inr refl, refl, refl),
-  ((refl, inr refl, refl, refl),
-  ((refl, inr refl, refl, refl),
-  ((refl, inr refl, refl, refl),
-  ((refl, inr refl, refl, refl),
-  ((refl, inr refl, refl, refl),
-  ((refl, inl refl, refl, refl),
-  ((refl, inl refl, refl, refl),
-  ((refl, inr refl, refl, refl), tt)))))))),
+  (
+    (refl, inr refl, refl, refl),
+    (
+      (refl, inr refl, refl, refl),
+      (
+        (refl, inr refl, refl, refl),
+        (
+          (refl, inr refl, refl, refl),
+          (
+            (refl, inr refl, refl, refl),
+            (
+              (refl, inl refl, refl, refl),
+              (
+                (refl, inl refl, refl, refl),
+                ((refl, inr refl, refl, refl), tt),
+              ),
+            ),
+          ),
+        ),
+      ),
+    ),
+  ),
 )
 
 superblocks_by_name : EachRule IsByName built_superblocks.rules
 unfolding clap_on_literals
 superblocks_by_name = (
   (refl, inr refl, refl, refl),
-  ((refl, inr refl, refl, refl),
-  ((refl, inr refl, refl, refl),
-  ((refl, inr refl, refl, refl),
-  ((refl, inl refl, refl, refl),
-  ((refl, inl refl, refl, refl),
-  ((refl, inr refl, refl, refl), tt)))))),
+  (
+    (refl, inr refl, refl, refl),
+    (
+      (refl, inr refl, refl, refl),
+      (
+        (refl, inr refl, refl, refl),
+        (
+          (refl, inl refl, refl, refl),
+          (
+            (refl, inl refl, refl, refl),
+            ((refl, inr refl, refl, refl), tt),
+          ),
+        ),
+      ),
+    ),
+  ),
 )
 
 sizes_by_name : EachRule IsByName built_sizes.rules
@@ -179,14 +215,28 @@ items_by_name : EachRule IsByName built_items.rules
 unfolding clap_on_literals
 items_by_name = (
   (refl, inr refl, refl, refl),
-  ((refl, inr refl, refl, refl),
-  ((refl, inr refl, refl, refl),
-  ((refl, inr refl, refl, refl),
-  ((refl, inr refl, refl, refl),
-  ((refl, inr refl, refl, refl),
-  ((refl, inl refl, refl, refl),
-  ((refl, inl refl, refl, refl),
-  ((refl, inr refl, refl, refl), tt)))))))),
+  (
+    (refl, inr refl, refl, refl),
+    (
+      (refl, inr refl, refl, refl),
+      (
+        (refl, inr refl, refl, refl),
+        (
+          (refl, inr refl, refl, refl),
+          (
+            (refl, inr refl, refl, refl),
+            (
+              (refl, inl refl, refl, refl),
+              (
+                (refl, inl refl, refl, refl),
+                ((refl, inr refl, refl, refl), tt),
+              ),
+            ),
+          ),
+        ),
+      ),
+    ),
+  ),
 )
 
 plain : {below : Shape} → EachRule IsByName below.rules → below.arg_required_else_help ≡ false → IsPlainTable below

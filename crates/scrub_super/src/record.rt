@@ -18,9 +18,7 @@ use crate::head::{Head, append_head, cuts_of, head_of, read_head};
 use crate::superblock::Superblock;
 use byteorder::{BigEndian, ByteOrder};
 use scrub_disk::{Geometry, OutOfMemory};
-use scrub_frame::{
-    DIGEST_BYTES, LOCATOR_BYTES, append, append_locators, digest_of, read_locators,
-};
+use scrub_frame::{DIGEST_BYTES, LOCATOR_BYTES, append, append_locators, digest_of, read_locators};
 use std::alloc::Global;
 
 /// Whether each four-byte number is at most `most`.
