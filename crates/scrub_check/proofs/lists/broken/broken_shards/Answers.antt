@@ -14,5 +14,5 @@ returns c =
     let sorted = c.sort.new.self.items in
     broken_found c.args.checked.now c.dedup.new.self.items
     (distinct_made id_cmp_total id_cmp_exact id_ties owners sorted c.dedup.new.self.items
-    (subst (λ (ids : List ShardId). IsPermutation ids sorted) c.in_ok-shards.ensures c.in_ok-sort.ensures.permutation)
+    (rw c.in_ok-shards.ensures at c.in_ok-sort.ensures.permutation)
     c.in_ok-sort.ensures.sorted c.dedup.ensures.filtered)

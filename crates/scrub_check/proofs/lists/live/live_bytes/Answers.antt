@@ -7,4 +7,4 @@ use Rattle.scrub_check.proofs.lists.live.live_bytes.Goals as goal
 pub returns-in-None : goal.returns-in-None
 returns-in-None g c =
     let none : ℕ = 0 in
-    subst (λ (o : Option Scanned). MatchOption o (none ≡ none) (λ f. none ≡ live_bytes c.args.checked.now f)) (sym (not_scanned c.args.all.now.extents c.args.extent c.in-None.ensures.none)) refl
+    rw (not_scanned c.args.all.now.extents c.args.extent c.in-None.ensures.none) refl

@@ -8,7 +8,7 @@ use Rattle.scrub_check.proofs.lists.shared_places.shared_by.Goals as goal
 
 pub returns-then-are_distinct : goal.returns-then-are_distinct
 returns-then-are_distinct c checked are =
-    subst (λ (ps : List SharedPlace). AreShared checked ps) (sym c.new.ensures.items)
+    rw c.new.ensures.items
     (none_shared checked c.args.sound.now are (c.are_distinct.ensures.0 (search rules)))
 
 pub returns : goal.returns

@@ -6,7 +6,7 @@ use Rattle.scrub_check.proofs.statuses.asked.answer_at.Goals as goal
 
 -- the known answer
 pub returns-in-Some : goal.returns-in-Some
-returns-in-Some g c = inl (subst (λ (s : Start). Contains c.args.asked.now (record { start = s; answer = c.in-Some.one.answer })) c.in-Some.ensures.start c.in-Some.ensures.among)
+returns-in-Some g c = inl (rw c.in-Some.ensures.start at c.in-Some.ensures.among)
 
 -- or what asking gives
 pub returns : goal.returns

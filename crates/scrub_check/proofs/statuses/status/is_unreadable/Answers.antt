@@ -5,7 +5,7 @@ use Rattle.scrub_check.proofs.statuses.status.is_unreadable.Goals as goal
 
 pub has_gap-requires-clause-rising : goal.has_gap-requires-clause-rising
 has_gap-requires-clause-rising g c κs within =
-    subst (λ (xs : List ℕ). IsStrictlyIncreasing xs) (sym c.requires.pages)
+    rw c.requires.pages
     (filtered_rises (λ p. is_none ((g.D.PageSource.image c.args.disk.now).page c.args.locator.now.extent p)) 0 (g.D.PageSource.image c.args.disk.now).geometry.pages)
 
 pub returns : goal.returns

@@ -6,4 +6,4 @@ use Rattle.scrub_check.proofs.lists.chunk_uuids.ChunkUuids.are_distinct.Goals as
 pub returns : goal.returns
 returns c =
     let read : c.deref.result.now ≡ c.args.self.now = search rules in
-    subst (λ (us : List (List ℕ)). IsTrue c.rises_strictly.result ↔ IsStrictlySortedBy uuid_cmp us) read c.rises_strictly.ensures
+    rw read at c.rises_strictly.ensures

@@ -7,4 +7,4 @@ use Rattle.scrub_check.proofs.lists.sound_starts.SoundStarts.are_distinct.Goals 
 pub returns : goal.returns
 returns c =
     let read : c.deref.result.now ≡ c.args.self.now = search rules in
-    subst (λ (ss : List Start). IsTrue c.rises_strictly.result ↔ IsStrictlySortedBy start_cmp ss) read c.rises_strictly.ensures
+    rw read at c.rises_strictly.ensures
