@@ -1,5 +1,5 @@
 -- Shards with a dangling locator, found among the owners of the dangling ones.
-use Rattle.std.proofs.Common.{◌≡◌, ◌&&◌, ◌||◌, Bool, true, false, None, List, [], ◌∷◌, get_or, suc, arith, refl, sym, ◌∙◌, ap, subst, if◌then◌else◌}
+use Rattle.std.proofs.Common.{◌≡◌, ◌&&◌, ◌||◌, Bool, true, false, None, List, [], ◌∷◌, get_or, suc, arith, refl, sym, ◌∙◌, ap, if◌then◌else◌}
 use Rattle.std.specs.Ordering.{eq_by_cmp}
 use Rattle.std.specs.Str.{bytes_eq}
 use Rattle.std.specs.List.{AllPairs, Contains, filter_map, list_any, cons_option}

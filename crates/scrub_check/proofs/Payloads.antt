@@ -1,5 +1,5 @@
 -- The payload of the chunk that a locator names, and the run that it is.
-use Rattle.std.proofs.Common.{◌≡◌, ◌⊎◌, ◌<◌, ◌+◌, ◌-◌, ◌/◌, ◌%◌, ℕ, Bool, true, false, cond, nat_lt, List, Option, Some, None, MatchBool, MatchOption, option_and_then, slice_get, slice_index, length, arith, refl, sym, ◌∙◌, ap, subst, inl, inr}
+use Rattle.std.proofs.Common.{◌≡◌, ◌⊎◌, ◌<◌, ◌+◌, ◌-◌, ◌/◌, ◌%◌, ℕ, Bool, true, false, cond, nat_lt, List, Option, Some, None, MatchBool, MatchOption, option_and_then, slice_get, slice_index, length, arith, refl, sym, ◌∙◌, ap, inl, inr}
 use Rattle.std.proofs.lemmas.Bool.Decides.{nat_tests}
 use Rattle.std.proofs.lemmas.Option.{none-some}
 use Rattle.scrub_disk.specs.Image.{Image, byte, extent_bytes}

@@ -1,5 +1,5 @@
 -- Which extents may be reclaimed: what the sorted verdicts say of an extent, and that candidates are in a strict order.
-use Rattle.std.proofs.Common.{◌≡◌, ◌<◌, ◌≤◌, ◌+◌, ◌==◌, ◌≢◌, ◌&&◌, ◌||◌, ℕ, suc, Bool, true, false, not, cond, List, [], ◌∷◌, length, get_or, map, arith, refl, sym, ◌∙◌, ap, subst, Result, Ok, Err, is_ok, Ordering, Less, Equal, Greater, nat_cmp, is_eq, is_lt, inl, inr, if◌then◌else◌}
+use Rattle.std.proofs.Common.{◌≡◌, ◌<◌, ◌≤◌, ◌+◌, ◌==◌, ◌≢◌, ◌&&◌, ◌||◌, ℕ, suc, Bool, true, false, not, cond, List, [], ◌∷◌, length, get_or, map, arith, refl, sym, ◌∙◌, ap, Result, Ok, Err, is_ok, Ordering, Less, Equal, Greater, nat_cmp, is_eq, is_lt, inl, inr}
 use Rattle.std.specs.Ordering.{ordering_then, ordering_reverse}
 use Rattle.std.specs.Cmp.{IsTotalOrder, nat_cmp_total}
 use Rattle.std.specs.List.{All, AllPairs, filter, list_any, list_all, count_by}

@@ -1,5 +1,5 @@
 -- Answers at places, and the search for one.
-use Rattle.std.proofs.Common.{◌≡◌, ℕ, List, get_or, Result, Ok, Err, Option, Some, None, IfSome, IfNone, IfOk, All, inl, inr, sym, ◌∙◌, ap, subst}
+use Rattle.std.proofs.Common.{◌≡◌, ℕ, List, get_or, Result, Ok, Err, Option, Some, None, IfSome, IfNone, IfOk, All, inl, inr, sym, ◌∙◌, ap}
 use Rattle.std.specs.declared.cmp.Ordering.{Ordering}
 use Rattle.std.specs.List.Sorted.{IsBinarySearchResult}
 use Rattle.std.specs.Result.{result_ok}

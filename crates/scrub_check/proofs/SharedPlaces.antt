@@ -1,5 +1,5 @@
 -- Places that several sound locators point to, found among the sorted ones.
-use Rattle.std.proofs.Common.{◌≡◌, ◌<◌, ◌≤◌, Bool, List, [], ◌∷◌, map, nat_lt, arith, refl, sym, ◌∙◌, ap, subst, Ordering, Less}
+use Rattle.std.proofs.Common.{◌≡◌, ◌<◌, ◌≤◌, Bool, List, [], ◌∷◌, map, nat_lt, arith, refl, sym, ◌∙◌, ap, Ordering, Less}
 use Rattle.std.specs.Cmp.{IsTotalOrder, nat_cmp_total}
 use Rattle.std.specs.List.{All, Contains, count_by}
 use Rattle.std.specs.List.Sorted.{IsStrictlySortedBy}

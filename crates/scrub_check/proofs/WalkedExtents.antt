@@ -1,5 +1,5 @@
 -- What is known of the extents, one after the other.
-use Rattle.std.proofs.Common.{◌≡◌, ◌<◌, ◌+◌, ◌++◌, ◌∷◌, [], ℕ, Bool, not, List, Option, Some, None, slice_get, map, length, get_or, take, arith, refl, sym, ◌∙◌, ap, subst}
+use Rattle.std.proofs.Common.{◌≡◌, ◌<◌, ◌+◌, ◌++◌, ◌∷◌, [], ℕ, Bool, not, List, Option, Some, None, slice_get, map, length, get_or, take, arith, refl, sym, ◌∙◌, ap}
 use Rattle.std.specs.List.{filter, filter_map, sum_by}
 use Rattle.std.specs.List.Sorted.{IsStrictlyIncreasing}
 use Rattle.std.proofs.lemmas.List.{map-append, append-nil, length-map, get_or-map}

@@ -1,5 +1,5 @@
 -- What is known of the items of an extent, and of the extents, so far.
-use Rattle.std.proofs.Common.{◌≡◌, ◌<◌, ◌≤◌, ◌+◌, ◌^◌, ◌++◌, ◌∷◌, [], ℕ, Bool, not, cond, List, Some, map, length, get_or, take, arith, refl, sym, ◌∙◌, ap, subst, append_assoc, nat_lt}
+use Rattle.std.proofs.Common.{◌≡◌, ◌<◌, ◌≤◌, ◌+◌, ◌^◌, ◌++◌, ◌∷◌, [], ℕ, Bool, not, cond, List, Some, map, length, get_or, take, arith, refl, sym, ◌∙◌, ap, append_assoc, nat_lt}
 use Rattle.std.specs.List.{filter, filter_map, sum_by, count_by}
 use Rattle.std.specs.List.Sorted.{IsStrictlyIncreasing}
 use Rattle.std.proofs.lemmas.List.{map-append, append-nil, length-map, get_or-map, take_more}

@@ -1,7 +1,4 @@
-use Rattle.std.proofs.Common.{List, subst}
 use Rattle.std.specs.List.{filter_map}
-use Rattle.std.specs.List.Sorted.{IsPermutation}
-use Rattle.scrub_run.specs.declared.shard_id.ShardId.{ShardId}
 use Rattle.scrub_merge.proofs.Identifiers.{id_cmp_total, id_cmp_exact}
 use Rattle.scrub_check.specs.BrokenShards.{broken_owner}
 use Rattle.scrub_check.proofs.Distinct.{distinct_made}

@@ -1,7 +1,6 @@
-use Rattle.std.proofs.Common.{◌≡◌, ◌∙◌, ap, subst, List, rules}
+use Rattle.std.proofs.Common.{◌≡◌, ◌∙◌, ap, rules}
 use Rattle.std.specs.List.{filter}
 use Rattle.std.proofs.lemmas.Result.{IfOk-weaker}
-use Rattle.scrub_check.specs.declared.lists.place.Place.{Place}
 use Rattle.scrub_check.specs.Chunks.{chunks}
 use Rattle.scrub_check.specs.ChunkUuids.{AreUuidsOf, is_twin_by}
 use Rattle.scrub_check.proofs.SameUuids.{no_twins, twins_found}

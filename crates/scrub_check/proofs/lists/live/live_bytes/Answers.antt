@@ -1,6 +1,4 @@
-use Rattle.std.proofs.Common.{◌≡◌, ℕ, Option, MatchOption, refl, sym, subst}
-use Rattle.scrub_scan.specs.Scanned.{Scanned}
-use Rattle.scrub_check.specs.Live.{live_bytes}
+use Rattle.std.proofs.Common.{ℕ, refl}
 use Rattle.scrub_check.proofs.Sizes.{not_scanned}
 use Rattle.scrub_check.proofs.lists.live.live_bytes.Goals as goal
 

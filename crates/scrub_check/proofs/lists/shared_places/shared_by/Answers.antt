@@ -1,7 +1,5 @@
-use Rattle.std.proofs.Common.{◌≡◌, ◌∙◌, ap, List, subst, sym, rules}
+use Rattle.std.proofs.Common.{◌≡◌, ◌∙◌, ap, rules}
 use Rattle.std.proofs.lemmas.Result.{IfOk-weaker}
-use Rattle.scrub_check.specs.declared.lists.place.SharedPlace.{SharedPlace}
-use Rattle.scrub_check.specs.Shared.{AreShared}
 use Rattle.scrub_check.specs.SoundStarts.{shared_by}
 use Rattle.scrub_check.proofs.SharedPlaces.{none_shared, shared_found}
 use Rattle.scrub_check.proofs.lists.shared_places.shared_by.Goals as goal

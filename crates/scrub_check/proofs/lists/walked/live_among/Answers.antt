@@ -1,4 +1,4 @@
-use Rattle.std.proofs.Common.{◌++◌, ◌∷◌, [], List, take, refl, sym, ◌∙◌, ap, subst}
+use Rattle.std.proofs.Common.{◌++◌, ◌∷◌, [], List, take, refl, sym, ◌∙◌, ap}
 use Rattle.std.proofs.lemmas.List.{take_all, append-nil}
 use Rattle.scrub_scan.specs.declared.item.Item.{Item}
 use Rattle.scrub_check.specs.declared.lists.sound_starts.Start.{Start}

@@ -1,11 +1,11 @@
-use Rattle.std.proofs.Common.{◌≡◌, ◌++◌, ◌∷◌, [], List, arith, ◌∙◌, ap, subst}
+use Rattle.std.proofs.Common.{◌≡◌, ◌++◌, ◌∷◌, [], List, arith, ◌∙◌, ap}
 use Rattle.std.proofs.lemmas.Result.{IfOk-weaker}
 use Rattle.scrub_scan.specs.declared.findings.Findings.{Findings}
 use Rattle.scrub_scan.specs.Scanned.{Scanned, scanned, result_image}
 use Rattle.scrub_check.specs.declared.lists.sound_starts.Start.{Start}
 use Rattle.scrub_check.specs.declared.lists.walked.Walked.{Walked}
 use Rattle.scrub_check.specs.Verdicts.{reclaimable_by}
-use Rattle.scrub_check.specs.Walked.{orphans_by, AreLiveBy, AreLiveChunks, AreWalkedOf}
+use Rattle.scrub_check.specs.Walked.{orphans_by, AreLiveChunks, AreWalkedOf}
 use Rattle.scrub_check.proofs.Sizes.{sizes_fit}
 use Rattle.scrub_check.proofs.WalkedExtents.{starts_found, live_of_extent, walked_more}
 use Rattle.scrub_check.proofs.lists.walked.tell_extent.Goals as goal

@@ -1,8 +1,7 @@
-use Rattle.std.proofs.Common.{List, take, get_or, arith, ◌∙◌, subst}
+use Rattle.std.proofs.Common.{take, get_or, arith, ◌∙◌}
 use Rattle.std.proofs.lemmas.List.{take_all}
 use Rattle.scrub_scan.specs.Scanned.{Scanned, scanned}
 use Rattle.scrub_scan.specs.AllFindings.{extent_numbers}
-use Rattle.scrub_check.specs.Walked.{AreWalkedOf}
 use Rattle.scrub_check.proofs.WalkedPlaces.{passed_further}
 use Rattle.scrub_check.proofs.WalkedExtents.{none_reclaimable, walked_next, passed_extent, passed_extents}
 use Rattle.scrub_check.proofs.lists.walked.walk.Goals as goal

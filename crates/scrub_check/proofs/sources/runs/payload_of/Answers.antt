@@ -1,10 +1,9 @@
 -- What is claimed at the locator's place is its chunk, and says its form.
-use Rattle.std.proofs.Common.{rules, ℕ, ◌≡◌, ◌∙◌, sym, ap, subst}
+use Rattle.std.proofs.Common.{rules, ◌≡◌, ◌∙◌, ap}
 use Rattle.std.proofs.lemmas.Result.{IfOk-weaker}
 use Rattle.scrub_disk.specs.Image.{extent_bytes}
-use Rattle.scrub_frame.specs.declared.form.Form.{Form}
 use Rattle.scrub_scan.specs.Extent.{extent_of, FrameAt, NoFrameAt}
-use Rattle.scrub_scan.specs.Standing.{IsClaimedAt, Stands, HasPayload}
+use Rattle.scrub_scan.specs.Standing.{IsClaimedAt, HasPayload}
 use Rattle.scrub_scan.proofs.Claims.{only_frame}
 use Rattle.scrub_check.specs.ChunkRun.{standing_of, HasPayloadThere}
 use Rattle.scrub_check.proofs.Judged.{at_some, at_none}

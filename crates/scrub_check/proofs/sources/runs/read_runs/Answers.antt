@@ -1,10 +1,5 @@
-use Rattle.std.proofs.Common.{List, sym, subst, take}
-use Rattle.std.specs.List.{AllZip}
 use Rattle.std.proofs.lemmas.Slice.Zip.{AllZip-long}
-use Rattle.scrub_frame.specs.declared.locator.Locator.{Locator}
-use Rattle.scrub_merge.specs.Binding.{Runs}
-use Rattle.scrub_check.specs.declared.sources.runs.RunState.{RunState}
-use Rattle.scrub_check.specs.Runs.{IsRunIn, HasRunStateIn}
+use Rattle.scrub_check.specs.Runs.{IsRunIn}
 use Rattle.scrub_check.proofs.Listed.{walked_more, all_states, counted}
 use Rattle.scrub_check.proofs.sources.runs.read_runs.Goals as goal
 

@@ -1,7 +1,6 @@
-use Rattle.std.proofs.Common.{ap, subst, Result, Err, List, ℕ}
+use Rattle.std.proofs.Common.{ap, Result, Err}
 use Rattle.scrub_run.specs.declared.run.Run.{Run}
 use Rattle.scrub_run.specs.declared.reading.RunFault.{RunFault}
-use Rattle.scrub_run.specs.Run.{IsRun}
 use Rattle.scrub_check.proofs.Payloads.{holds_none}
 use Rattle.scrub_check.proofs.sources.runs.run_in_chunk.Goals as goal
 

@@ -1,6 +1,4 @@
-use Rattle.std.proofs.Common.{inl, subst}
-use Rattle.std.specs.List.{Contains}
-use Rattle.scrub_check.specs.declared.lists.sound_starts.Start.{Start}
+use Rattle.std.proofs.Common.{inl}
 use Rattle.scrub_check.proofs.SeenPlaces.{asked_now}
 use Rattle.scrub_check.proofs.statuses.asked.answer_at.Goals as goal
 

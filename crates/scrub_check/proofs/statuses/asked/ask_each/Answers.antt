@@ -1,5 +1,5 @@
-use Rattle.std.proofs.Common.{◌∙◌, IfOk, List, Ok, ap, sym, subst}
-use Rattle.std.specs.List.{AllZip, All}
+use Rattle.std.proofs.Common.{◌∙◌, List, Ok, ap, sym, subst}
+use Rattle.std.specs.List.{All}
 use Rattle.rayon.proofs.ListFacts.{IfOk-then}
 use Rattle.scrub_check.specs.declared.lists.sound_starts.Start.{Start}
 use Rattle.scrub_check.proofs.Collected.{collected, all_zipped}

@@ -1,9 +1,6 @@
-use Rattle.std.proofs.Common.{List, None, get_or, arith, sym, subst, take}
-use Rattle.std.specs.List.{AllZip}
+use Rattle.std.proofs.Common.{None, get_or, arith}
 use Rattle.std.proofs.lemmas.List.{take_all, get_or_default}
 use Rattle.scrub_disk.proofs.Zips.{AllZip-take_more}
-use Rattle.scrub_check.specs.declared.sources.named.Named.{Named}
-use Rattle.scrub_check.specs.declared.statuses.checked.Checked.{Checked}
 use Rattle.scrub_check.specs.Checked.{IsChecked}
 use Rattle.scrub_check.proofs.CheckedLists.{each_checked, known_at}
 use Rattle.scrub_check.proofs.statuses.checked.check_each.Goals as goal

@@ -1,7 +1,5 @@
-use Rattle.std.proofs.Common.{◌∙◌, None, not, get_or, arith, sym, ap, subst, List, All}
+use Rattle.std.proofs.Common.{◌∙◌, None, not, get_or, arith, ap}
 use Rattle.std.proofs.lemmas.List.{get_or_default}
-use Rattle.scrub_frame.specs.declared.locator.Locator.{Locator}
-use Rattle.scrub_check.specs.Asked.{IsOpen}
 use Rattle.scrub_check.proofs.CheckedLists.{left_more}
 use Rattle.scrub_check.proofs.statuses.checked.left_locators.Goals as goal
 use Rattle.scrub_check.proofs.statuses.checked.left_locators.Goals.{then-is_none+in_ok-push, else-is_none}

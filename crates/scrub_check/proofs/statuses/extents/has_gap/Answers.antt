@@ -1,5 +1,4 @@
-use Rattle.std.proofs.Common.{refl, sym, ap, ◌≡◌, ◌∙◌, ◌+◌, ◌-◌, ◌/◌, List, ℕ, subst}
-use Rattle.scrub_check.proofs.Searches.{LiesBetween}
+use Rattle.std.proofs.Common.{refl, ap, ◌≡◌, ◌∙◌, ◌+◌, ◌-◌, ◌/◌}
 use Rattle.scrub_check.proofs.Gaps.{gap_pages, pages_gap}
 use Rattle.scrub_check.proofs.statuses.extents.has_gap.Goals as goal
 

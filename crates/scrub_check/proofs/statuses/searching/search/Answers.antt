@@ -1,5 +1,5 @@
-use Rattle.std.proofs.Common.{◌≡◌, ◌<◌, ◌-◌, ◌+◌, ◌/◌, ℕ, List, length, get_or, arith, sym, ◌∙◌, ap, subst}
-use Rattle.scrub_check.proofs.StartSearch.{HalvesIn, lies_above, lies_below, lies_nowhere, halves_more, few_steps}
+use Rattle.std.proofs.Common.{◌≡◌, ◌<◌, ◌-◌, ◌+◌, ◌/◌, ℕ, List, length, get_or, arith, ◌∙◌, ap}
+use Rattle.scrub_check.proofs.StartSearch.{lies_above, lies_below, lies_nowhere, halves_more, few_steps}
 use Rattle.scrub_check.proofs.statuses.searching.search.Goals as goal
 
 -- the count of the places that were shown fits a word, since it is at most 64

@@ -1,8 +1,6 @@
-use Rattle.std.proofs.Common.{◌≡◌, ◌∙◌, IfSome, List, ap, sym, subst}
-use Rattle.std.specs.List.{AllZip, All}
+use Rattle.std.proofs.Common.{◌≡◌, ◌∙◌, IfSome, ap}
 use Rattle.rayon.proofs.ToStd.{slice-AllZip}
-use Rattle.scrub_check.specs.declared.lists.sound_starts.Start.{Start}
-use Rattle.scrub_check.specs.Asked.{start_named_by, CanBeAsked}
+use Rattle.scrub_check.specs.Asked.{start_named_by}
 use Rattle.scrub_check.proofs.LeftPlaces.{places_left}
 use Rattle.scrub_check.proofs.statuses.seen.open_starts.Goals as goal
 

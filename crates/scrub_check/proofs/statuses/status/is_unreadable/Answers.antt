@@ -1,5 +1,4 @@
-use Rattle.std.proofs.Common.{sym, subst, List, ℕ, is_none}
-use Rattle.std.specs.List.Sorted.{IsStrictlyIncreasing}
+use Rattle.std.proofs.Common.{is_none}
 use Rattle.scrub_check.proofs.Filtered.{filtered_rises}
 use Rattle.scrub_check.proofs.statuses.status.is_unreadable.Goals as goal
 

@@ -1,8 +1,3 @@
-use Rattle.std.proofs.Common.{List, Option, sym, subst}
-use Rattle.scrub_frame.specs.declared.frame.Head.{Head}
-use Rattle.scrub_scan.specs.declared.standing.Standing.{Standing}
-use Rattle.scrub_check.specs.declared.lists.sound_starts.Start.{Start}
-use Rattle.scrub_check.specs.declared.statuses.asked.Asked.{Asked}
 use Rattle.scrub_check.specs.Asked.{IsSeenAt, IsClaimSeen, AreAnswered}
 use Rattle.scrub_check.proofs.Judged.{judged_by_frame}
 use Rattle.scrub_check.proofs.ClaimedFrames.{judged_by_claim}

@@ -1,9 +1,6 @@
-use Rattle.std.proofs.Common.{Option, map, subst}
+use Rattle.std.proofs.Common.{map}
 use Rattle.std.specs.List.{Contains}
 use Rattle.scrub_scan.specs.Item.{start_of}
-use Rattle.scrub_scan.specs.declared.standing.Standing.{Standing}
-use Rattle.scrub_check.specs.declared.statuses.status.Status.TheVariants.{Sound}
-use Rattle.scrub_check.specs.Judged.{IsJudged}
 use Rattle.scrub_check.proofs.Judged.{StartsAt, at_some, at_none, judged_by_item, none_begins}
 use Rattle.scrub_check.proofs.statuses.status.status_by_item.Goals as goal
 

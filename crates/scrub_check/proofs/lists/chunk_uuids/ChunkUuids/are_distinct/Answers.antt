@@ -1,6 +1,4 @@
-use Rattle.std.proofs.Common.{◌≡◌, ◌↔◌, IsTrue, List, ℕ, subst, rules}
-use Rattle.std.specs.List.Sorted.{IsStrictlySortedBy}
-use Rattle.scrub_check.specs.ChunkUuids.{uuid_cmp}
+use Rattle.std.proofs.Common.{◌≡◌, rules}
 use Rattle.scrub_check.proofs.lists.chunk_uuids.ChunkUuids.are_distinct.Goals as goal
 
 pub returns : goal.returns

@@ -1,7 +1,4 @@
-use Rattle.std.proofs.Common.{◌≡◌, ◌↔◌, IsTrue, List, subst, rules}
-use Rattle.std.specs.List.Sorted.{IsStrictlySortedBy}
-use Rattle.scrub_check.specs.declared.lists.sound_starts.Start.{Start}
-use Rattle.scrub_check.specs.SoundStarts.{start_cmp}
+use Rattle.std.proofs.Common.{◌≡◌, rules}
 use Rattle.scrub_check.proofs.lists.sound_starts.SoundStarts.are_distinct.Goals as goal
 
 pub returns : goal.returns

@@ -1,6 +1,3 @@
-use Rattle.std.proofs.Common.{List, subst}
-use Rattle.std.specs.List.Sorted.{IsPermutation}
-use Rattle.scrub_check.specs.declared.lists.sound_starts.Start.{Start}
 use Rattle.scrub_check.proofs.SortedStarts.{sound_in_order}
 use Rattle.scrub_check.proofs.lists.sound_starts.SoundStarts.of.Goals as goal
 
