@@ -1,5 +1,5 @@
 -- Shards with a dangling locator, found among the owners of the dangling ones.
-use Rattle.std.proofs.Common.{◌≡◌, ◌&&◌, ◌||◌, Bool, true, false, None, List, [], ◌∷◌, get_or, suc, arith, refl, sym, ◌∙◌, ap, subst, if◌then◌else◌}
+use Rattle.std.proofs.Common.{◌≡◌, ◌&&◌, ◌||◌, Bool, true, false, None, List, [], ◌∷◌, get_or, suc, arith, refl, sym, ◌∙◌, ap, if◌then◌else◌}
 use Rattle.std.specs.Ordering.{eq_by_cmp}
 use Rattle.std.specs.Str.{bytes_eq}
 use Rattle.std.specs.List.{AllPairs, Contains, filter_map, list_any, cons_option}
@@ -52,25 +52,32 @@ one_owner id false (Shard other) rest = by (bytes_eq other.0 id.0)
 one_owner id false (Run k) rest = refl
 
 -- a shard is broken exactly if it is among the owners of dangling locators
-broken_is : (checked : List Checked) (id : ShardId) → list_any (is_id id) (filter_map broken_owner checked) ≡ is_broken checked id
+broken_is : (checked : List Checked) (id : ShardId) →
+    list_any (is_id id) (filter_map broken_owner checked) ≡ is_broken checked id
 broken_is [] id = refl
-broken_is (c ∷ cs) id = one_owner id (is_dangling c.status) c.owner (filter_map broken_owner cs) ∙ ap (λ b. (is_owned_by id c.owner && is_dangling c.status) || b) (broken_is cs id)
+broken_is (c ∷ cs) id =
+    one_owner id (is_dangling c.status) c.owner (filter_map broken_owner cs)
+    ∙ ap (λ b. (is_owned_by id c.owner && is_dangling c.status) || b) (broken_is cs id)
 
 same_id : (id other : ShardId) → is_id id other ≡ true → other ≡ id
 same_id id other e = λ i. record { 0 = (bytes_eq-Decides other.0 id.0).0 e i }
 
-among_owners : (checked : List Checked) (id : ShardId) → is_broken checked id ≡ true → Contains (filter_map broken_owner checked) id
+among_owners : (checked : List Checked) (id : ShardId) → is_broken checked id ≡ true →
+    Contains (filter_map broken_owner checked) id
 among_owners checked id broken =
     let owners = filter_map broken_owner checked in
     let found = Any-from_list_any (is_id id) owners (broken_is checked id ∙ broken) in
-    subst (λ (other : ShardId). Contains owners other) (same_id id found.1 found.4) (found.0, found.2, found.3)
+    rw (← (same_id id found.1 found.4)) (found.0, found.2, found.3)
 
-owner_broken : (checked : List Checked) (id : ShardId) → Contains (filter_map broken_owner checked) id → is_broken checked id ≡ true
+owner_broken : (checked : List Checked) (id : ShardId) → Contains (filter_map broken_owner checked) id →
+    is_broken checked id ≡ true
 owner_broken checked id (i, inside, is) =
-    sym (broken_is checked id) ∙ list_any_at (is_id id) (filter_map broken_owner checked) i id inside ((bytes_eq-Decides _ id.0).1 (ap (λ other. other.0) is))
+    sym (broken_is checked id)
+    ∙ list_any_at (is_id id) (filter_map broken_owner checked) i id inside ((bytes_eq-Decides _ id.0).1 (ap (λ other. other.0) is))
 
 -- so the owners, each once and rising, are the broken shards
-pub broken_found : (checked : List Checked) (ids : List ShardId) → AreDistinct id_cmp (filter_map broken_owner checked) ids → AreBrokenShards checked ids
+pub broken_found : (checked : List Checked) (ids : List ShardId) → AreDistinct id_cmp (filter_map broken_owner checked) ids →
+    AreBrokenShards checked ids
 broken_found checked ids distinct = record {
   rising = λ i j d lt within. Less-from_sorted id_cmp ids i j d distinct.rising lt within;
   each = λ k d lt. owner_broken checked (get_or ids k d) ((distinct.same (get_or ids k d)).0 (All-contains_itself ids k d lt));

@@ -1,5 +1,5 @@
 -- Lists of checked locators.
-use Rattle.std.proofs.Common.{◌≡◌, ◌<◌, ℕ, zero, suc, false, List, [], ◌∷◌, ◌++◌, Option, Some, None, is_some, All, length, get_or, arith, refl, sym, subst}
+use Rattle.std.proofs.Common.{◌≡◌, ◌<◌, ℕ, zero, suc, false, List, [], ◌∷◌, ◌++◌, Option, Some, None, is_some, All, length, get_or, arith, refl}
 use Rattle.std.proofs.Math.Path.{ap₂}
 use Rattle.std.specs.List.{AllZip}
 use Rattle.std.proofs.lemmas.List.Elements.{All-nil, All-cons, All-push}
@@ -15,7 +15,8 @@ use Rattle.scrub_check.specs.Checked.{IsChecked, AreChecked, IsKnownBefore}
 use Rattle.scrub_check.specs.Runs.{ReadRunsValue, HasRunStateIn, AreReadRuns, AreRunStates}
 
 -- each by itself is all of them
-pub each_checked : (image : Image) (plan : PlanValue) (names : List Named) (checked : List Checked) → AllZip (IsChecked image plan) names checked → AreChecked image plan names checked
+pub each_checked : (image : Image) (plan : PlanValue) (names : List Named) (checked : List Checked) →
+    AllZip (IsChecked image plan) names checked → AreChecked image plan names checked
 each_checked image plan [] [] h = record { same = refl; statuses = All-nil (λ c. HasStatusIn image plan c.locator c.status) }
 each_checked image plan [] (c ∷ cs) h = absurd h
 each_checked image plan (n ∷ ns) [] h = absurd h
@@ -24,32 +25,39 @@ each_checked image plan (n ∷ ns) (c ∷ cs) h =
     record { same = ap₂ (λ m ms. m ∷ ms) h.0.same rest.same; statuses = All-cons (λ c. HasStatusIn image plan c.locator c.status) c cs h.0.status rest.statuses }
 
 -- what holds place by place holds at a place
-pub zipped_at : {A B : Type 0} (R : A → B → Type 0) (xs : List A) (ys : List B) (i : ℕ) (d : A) (e : B) → i < length xs → AllZip R xs ys → R (get_or xs i d) (get_or ys i e)
-zipped_at R [] ys i d e below h = absurd (let z : ⊥ = omega (arith, below) in z)
+pub zipped_at : {A B : Type 0} (R : A → B → Type 0) (xs : List A) (ys : List B) (i : ℕ) (d : A) (e : B) → i < length xs →
+    AllZip R xs ys → R (get_or xs i d) (get_or ys i e)
+zipped_at R [] ys i d e below h = absurd (omega (arith, below))
 zipped_at R (x ∷ xs) [] i d e below h = absurd h
 zipped_at R (x ∷ xs) (y ∷ ys) zero d e below h = h.0
 zipped_at R (x ∷ xs) (y ∷ ys) (suc i) d e below h = zipped_at R xs ys i d e (omega (arith, below)) h.1
 
 -- states of runs that were read are those of the runs
-pub states_read : (image : Image) (plan : PlanValue) (r : ReadRunsValue) → AreReadRuns image plan r → AreRunStates image plan r.states
-states_read image plan r read k l s below under = zipped_at (HasRunStateIn image plan) plan.runs r.states k l s below read.states
+pub states_read : (image : Image) (plan : PlanValue) (r : ReadRunsValue) → AreReadRuns image plan r →
+    AreRunStates image plan r.states
+states_read image plan r read k l s below under =
+    zipped_at (HasRunStateIn image plan) plan.runs r.states k l s below read.states
 
 -- what is known of one
-pub known_at : (image : Image) (plan : PlanValue) (names : List Named) (tells : List (Option Status)) (i : ℕ) (n : Named) (t : Option Status) → i < length names → n ≡ get_or names i n → t ≡ get_or tells i t →
+pub known_at : (image : Image) (plan : PlanValue) (names : List Named) (tells : List (Option Status)) (i : ℕ) (n : Named) (t : Option Status) →
+    i < length names → n ≡ get_or names i n → t ≡ get_or tells i t →
     AllZip (IsKnownBefore image plan) names tells → IsKnownBefore image plan n t
 known_at image plan names tells i n t below name_is tell_is known =
-    subst (λ (m : Named). IsKnownBefore image plan m t) (sym name_is)
-    (subst (λ (u : Option Status). IsKnownBefore image plan (get_or names i n) u) (sym tell_is) (zipped_at (IsKnownBefore image plan) names tells i n t below known))
+    rw name_is
+    (rw tell_is (zipped_at (IsKnownBefore image plan) names tells i n t below known))
 
 -- nothing is known of it
-left_open : (image : Image) (plan : PlanValue) (n : Named) (t : Option Status) → is_some t ≡ false → IsKnownBefore image plan n t → IsOpen image plan n.locator
+left_open : (image : Image) (plan : PlanValue) (n : Named) (t : Option Status) → is_some t ≡ false →
+    IsKnownBefore image plan n t → IsOpen image plan n.locator
 left_open image plan n None none known = known
-left_open image plan n (Some s) none known = absurd (let z : ⊥ = cc in z)
+left_open image plan n (Some s) none known = absurd (cc)
 
 -- one more of which nothing is known
-pub left_more : (names : List Named) (tells : List (Option Status)) (i : ℕ) (n : Named) (t : Option Status) (ls more : List Locator) → i < length names → n ≡ get_or names i n → t ≡ get_or tells i t → is_some t ≡ false →
-    more ≡ ls ++ n.locator ∷ [] → ((image : Image) (plan : PlanValue) → AllZip (IsKnownBefore image plan) names tells → All (IsOpen image plan) ls) →
+pub left_more : (names : List Named) (tells : List (Option Status)) (i : ℕ) (n : Named) (t : Option Status) (ls more : List Locator) →
+    i < length names → n ≡ get_or names i n → t ≡ get_or tells i t → is_some t ≡ false →
+    more ≡ ls ++ n.locator ∷ [] →
+    ((image : Image) (plan : PlanValue) → AllZip (IsKnownBefore image plan) names tells → All (IsOpen image plan) ls) →
     (image : Image) (plan : PlanValue) → AllZip (IsKnownBefore image plan) names tells → All (IsOpen image plan) more
 left_more names tells i n t ls more below name_is tell_is none grown before image plan known =
-    subst (λ (xs : List Locator). All (IsOpen image plan) xs) (sym grown)
+    rw grown
     (All-push (IsOpen image plan) ls n.locator (before image plan known) (left_open image plan n t none (known_at image plan names tells i n t below name_is tell_is known)))

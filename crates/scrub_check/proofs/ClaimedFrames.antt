@@ -20,10 +20,15 @@ use Rattle.scrub_check.specs.Status.{CanStand, FindsFrame, HasStatus, HasStatusI
 use Rattle.scrub_check.proofs.Judged.{status_under}
 
 -- another plain frame is there
-other_frame : (image : Image) (w : ℕ) (l : Locator) (h : Head) (s : Status) → CanStand image w l → HasPlainFrame (extent_of image l.extent w) l.offset h → IsOther l h.uuid h.length s → HasStatus image w l s
-other_frame image w l h WrongUuid can f other = (h.uuid, (f.payload, record { can = can; form = Plain; frame = f.frame }, other))
-other_frame image w l h WrongLength can f other =
-    (f.payload, subst (λ (u : List ℕ). FindsFrame image w l u f.payload) other.0 (record { can = can; form = Plain; frame = f.frame }), λ e. other.1 (f.length ∙ e))
+other_frame : (image : Image) (w : ℕ) (l : Locator) (h : Head) (s : Status) → CanStand image w l →
+    HasPlainFrame (extent_of image l.extent w) l.offset h → IsOther l h.uuid h.length s → HasStatus image w l s
+other_frame image w l h WrongUuid can f other =
+    (h.uuid, (f.payload, record { can = can; form = Plain; frame = f.frame }, other))
+other_frame image w l h WrongLength can f other = (
+  f.payload,
+  subst (λ (u : List ℕ). FindsFrame image w l u f.payload) other.0 (record { can = can; form = Plain; frame = f.frame }),
+  λ e. other.1 (f.length ∙ e),
+)
 other_frame image w l h WrongDigest can f other = absurd other
 other_frame image w l h OutOfRange can f other = absurd other
 other_frame image w l h Retired can f other = absurd other
@@ -33,30 +38,38 @@ other_frame image w l h NoFrame can f other = absurd other
 other_frame image w l h Hidden can f other = absurd other
 other_frame image w l h Sound can f other = absurd other
 
-by_claim : (image : Image) (w : ℕ) (l : Locator) (found : Option Head) (known : Option Status) (s : Status) → CanStand image w l →
-    MatchOption found (NoFrameAt (extent_of image l.extent w) l.offset) (IsReadableClaim (extent_of image l.extent w) l.offset) → IsStatusByClaim l found known → known ≡ Some s → HasStatus image w l s
-by_claim image w l None known s can none by is = subst (λ (t : Status). HasStatus image w l t) (same_Some NoFrame s (sym by ∙ is)) (can, none)
+by_claim : (image : Image) (w : ℕ) (l : Locator) (found : Option Head) (known : Option Status) (s : Status) →
+    CanStand image w l →
+    MatchOption found (NoFrameAt (extent_of image l.extent w) l.offset) (IsReadableClaim (extent_of image l.extent w) l.offset) →
+    IsStatusByClaim l found known → known ≡ Some s → HasStatus image w l s
+by_claim image w l None known s can none by is = rw (← (same_Some NoFrame s (sym by ∙ is))) (can, none)
 by_claim image w l (Some h) known s can claim by is =
-    let other = subst (λ (t : Option Status). MatchOption t (h.form ≡ Plain → (h.uuid ≡ l.uuid) × (h.length ≡ l.length)) (λ status. (h.form ≡ Plain) × IsOther l h.uuid h.length status)) is by in
-    other_frame image w l h s can (plain_frame (extent_of image l.extent w) l.offset h claim.claimed other.0 claim.readable) other.1
+    let other = rw is at by in
+    other_frame image w l h s can (plain_frame (extent_of image l.extent w) l.offset h claim.claimed other.0 claim.readable)
+    other.1
 
 -- so the status by the claim is the status
-pub judged_by_claim : (image : Image) (plan : PlanValue) (l : Locator) (found : Option Head) (known : Option Status) (s : Status) → IsOpen image plan l → IsClaimSeen image plan (start_named_by l) found →
+pub judged_by_claim : (image : Image) (plan : PlanValue) (l : Locator) (found : Option Head) (known : Option Status) (s : Status) →
+    IsOpen image plan l → IsClaimSeen image plan (start_named_by l) found →
     IsStatusByClaim l found known → known ≡ Some s → HasStatusIn image plan l s
 judged_by_claim image plan l found known s left seen by is =
-    status_under image plan left.pointer l s left.in_use left.is (by_claim image left.pointer l found known s left.can (seen left.pointer left.is) by is)
+    status_under image plan left.pointer l s left.in_use left.is
+    (by_claim image left.pointer l found known s left.can (seen left.pointer left.is) by is)
 
 -- what is claimed, and can be read, under the pointer of the extent
-pub claim_seen : (image : Image) (s : Start) (v w : ℕ) (claimed left : Option Head) → v ≡ w → IfSome claimed (IsClaimedAt (extent_of image s.extent v) s.offset) → IfNone claimed (NoFrameAt (extent_of image s.extent v) s.offset) →
-    AreReadableClaims image s claimed left → MatchOption left (NoFrameAt (extent_of image s.extent w) s.offset) (IsReadableClaim (extent_of image s.extent w) s.offset)
+pub claim_seen : (image : Image) (s : Start) (v w : ℕ) (claimed left : Option Head) → v ≡ w →
+    IfSome claimed (IsClaimedAt (extent_of image s.extent v) s.offset) →
+    IfNone claimed (NoFrameAt (extent_of image s.extent v) s.offset) →
+    AreReadableClaims image s claimed left →
+    MatchOption left (NoFrameAt (extent_of image s.extent w) s.offset) (IsReadableClaim (extent_of image s.extent w) s.offset)
 claim_seen image s v w None left same some none is =
-    subst (λ (o : Option Head). MatchOption o (NoFrameAt (extent_of image s.extent w) s.offset) (IsReadableClaim (extent_of image s.extent w) s.offset)) (sym is)
-    (subst (λ (x : ℕ). NoFrameAt (extent_of image s.extent x) s.offset) same none)
+    rw is
+    (rw same at none)
 claim_seen image s v w (Some h) None same some none gap = λ f u b k.
-    let claim : IsClaimedAt (extent_of image s.extent w) s.offset h = subst (λ (x : ℕ). IsClaimedAt (extent_of image s.extent x) s.offset h) same some in
+    let claim : IsClaimedAt (extent_of image s.extent w) s.offset h = rw same at some in
     let is = only_frame (extent_of image s.extent w) s.offset h claim f u b k in
     let round : frame_overhead h.form ≡ frame_overhead f = ap frame_overhead is.0 in
     no_gap (extent_of image s.extent w) s.offset (h.length + frame_overhead h.form) f u b k (omega (arith, is.2, round)) gap
 claim_seen image s v w (Some h) (Some j) same some none is =
-    subst (λ (k : Head). IsReadableClaim (extent_of image s.extent w) s.offset k) (sym is.0)
-    (record { claimed = subst (λ (x : ℕ). IsClaimedAt (extent_of image s.extent x) s.offset h) same some; readable = is.1 })
+    rw is.0
+    (record { claimed = rw same at some; readable = is.1 })

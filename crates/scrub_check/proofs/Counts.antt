@@ -13,7 +13,8 @@ count_in p x xs e = sum_by-cons (λ y. cond (p y) 1 0) x xs ∙ ap (λ b. cond b
 
 pub count_out : {X : Type 0} (p : X → Bool) (x : X) (xs : List X) → p x ≡ false → count_by p (x ∷ xs) ≡ count_by p xs
 count_out p x xs e =
-    let none : count_by p (x ∷ xs) ≡ 0 + count_by p xs = sum_by-cons (λ y. cond (p y) 1 0) x xs ∙ ap (λ b. cond b 1 0 + count_by p xs) e in omega (arith, none)
+    let none : count_by p (x ∷ xs) ≡ 0 + count_by p xs = sum_by-cons (λ y. cond (p y) 1 0) x xs ∙ ap (λ b. cond b 1 0 + count_by p xs) e in
+    omega (arith, none)
 
 -- how many pass a test that fails below `low`, holds from there up to `high`, and fails from there on
 pub count_between : {X : Type 0} (p : X → Bool) (xs : List X) (low high : ℕ) → low ≤ high → high ≤ length xs →
@@ -23,14 +24,21 @@ pub count_between : {X : Type 0} (p : X → Bool) (xs : List X) (low high : ℕ)
 count_between p [] low high le within below inside above = omega (arith, le, within)
 count_between p (x ∷ xs) zero zero le within below inside above =
     count_out p x xs (above 0 x (omega arith) (omega arith))
-    ∙ count_between p xs 0 0 (omega arith) (omega arith) (λ k d lt. absurd (omega (arith, lt))) (λ k d a lt. absurd (omega (arith, lt))) (λ k d a lt. above (suc k) d (omega arith) (omega (arith, lt)))
+    ∙ count_between p xs 0 0 (omega arith) (omega arith) (λ k d lt. absurd (omega (arith, lt)))
+    (λ k d a lt. absurd (omega (arith, lt))) (λ k d a lt. above (suc k) d (omega arith) (omega (arith, lt)))
 count_between p (x ∷ xs) zero (suc high) le within below inside above =
-    let more = count_between p xs 0 high (omega arith) (omega (arith, within)) (λ k d lt. absurd (omega (arith, lt))) (λ k d a lt. inside (suc k) d (omega arith) (omega (arith, lt))) (λ k d a lt. above (suc k) d (omega (arith, a)) (omega (arith, lt))) in
+    let more =
+    count_between p xs 0 high (omega arith) (omega (arith, within)) (λ k d lt. absurd (omega (arith, lt)))
+    (λ k d a lt. inside (suc k) d (omega arith) (omega (arith, lt)))
+    (λ k d a lt. above (suc k) d (omega (arith, a)) (omega (arith, lt))) in
     let one = count_in p x xs (inside 0 x (omega arith) (omega arith)) in
     omega (arith, one, more)
 count_between p (x ∷ xs) (suc low) zero le within below inside above = absurd (omega (arith, le))
 count_between p (x ∷ xs) (suc low) (suc high) le within below inside above =
-    let more = count_between p xs low high (omega (arith, le)) (omega (arith, within)) (λ k d lt. below (suc k) d (omega (arith, lt))) (λ k d a lt. inside (suc k) d (omega (arith, a)) (omega (arith, lt))) (λ k d a lt. above (suc k) d (omega (arith, a)) (omega (arith, lt))) in
+    let more =
+    count_between p xs low high (omega (arith, le)) (omega (arith, within)) (λ k d lt. below (suc k) d (omega (arith, lt)))
+    (λ k d a lt. inside (suc k) d (omega (arith, a)) (omega (arith, lt)))
+    (λ k d a lt. above (suc k) d (omega (arith, a)) (omega (arith, lt))) in
     let none = count_out p x xs (below 0 x (omega arith)) in
     omega (arith, none, more)
 
@@ -38,10 +46,13 @@ count_between p (x ∷ xs) (suc low) (suc high) le within below inside above =
 pub count_map : {X Y : Type 0} (p : Y → Bool) (f : X → Y) (xs : List X) → count_by p (map f xs) ≡ count_by (λ x. p (f x)) xs
 count_map p f [] = refl
 count_map p f (x ∷ xs) =
-    sum_by-cons (λ y. cond (p y) 1 0) (f x) (map f xs) ∙ ap (λ n. cond (p (f x)) 1 0 + n) (count_map p f xs) ∙ sym (sum_by-cons (λ y. cond (p (f y)) 1 0) x xs)
+    sum_by-cons (λ y. cond (p y) 1 0) (f x) (map f xs) ∙ ap (λ n. cond (p (f x)) 1 0 + n) (count_map p f xs)
+    ∙ sym (sum_by-cons (λ y. cond (p (f y)) 1 0) x xs)
 
-any_one : {X : Type 0} (p : X → Bool) (x : X) (xs : List X) (b : Bool) → p x ≡ b → list_any p xs ≡ nat_lt 0 (count_by p xs) → list_any p (x ∷ xs) ≡ nat_lt 0 (count_by p (x ∷ xs))
-any_one p x xs true e rest = ap (λ b. b || list_any p xs) e ∙ sym (ap (λ n. nat_lt 0 n) (count_in p x xs e) ∙ lt-ltb 0 (1 + count_by p xs) (omega arith))
+any_one : {X : Type 0} (p : X → Bool) (x : X) (xs : List X) (b : Bool) → p x ≡ b → list_any p xs ≡ nat_lt 0 (count_by p xs) →
+    list_any p (x ∷ xs) ≡ nat_lt 0 (count_by p (x ∷ xs))
+any_one p x xs true e rest =
+    ap (λ b. b || list_any p xs) e ∙ sym (ap (λ n. nat_lt 0 n) (count_in p x xs e) ∙ lt-ltb 0 (1 + count_by p xs) (omega arith))
 any_one p x xs false e rest = ap (λ b. b || list_any p xs) e ∙ rest ∙ sym (ap (λ n. nat_lt 0 n) (count_out p x xs e))
 
 -- an element passes exactly if more than none do
@@ -49,18 +60,22 @@ pub any_counts : {X : Type 0} (p : X → Bool) (xs : List X) → list_any p xs �
 any_counts p [] = refl
 any_counts p (x ∷ xs) = any_one p x xs (p x) refl (any_counts p xs)
 
-pub any_at : {X : Type 0} (p : X → Bool) (xs : List X) (i : ℕ) → i < length xs → ((d : X) → p (get_or xs i d) ≡ true) → list_any p xs ≡ true
+pub any_at : {X : Type 0} (p : X → Bool) (xs : List X) (i : ℕ) → i < length xs → ((d : X) → p (get_or xs i d) ≡ true) →
+    list_any p xs ≡ true
 any_at p [] i lt h = absurd (omega (arith, lt))
 any_at p (x ∷ xs) zero lt h = ap (λ b. b || list_any p xs) (h x)
 any_at p (x ∷ xs) (suc i) lt h = or_right (p x) (list_any p xs) (any_at p xs i (omega (arith, lt)) h)
 
 -- what is sorted rises against any element
-pub rises_against : {X : Type 0} {R : X → X → Ordering} (o : IsTotalOrder R) (xs : List X) (x : X) → IsSorted R xs → IsNonDecreasingBy (λ y. ordering_index (R y x)) xs
+pub rises_against : {X : Type 0} {R : X → X → Ordering} (o : IsTotalOrder R) (xs : List X) (x : X) → IsSorted R xs →
+    IsNonDecreasingBy (λ y. ordering_index (R y x)) xs
 rises_against o xs x sorted = searchable_from_sorted o (λ y. y) xs x sorted
 
 -- so it is parted at it
-pub parted_below : {X : Type 0} {R : X → X → Ordering} (o : IsTotalOrder R) (xs : List X) (x : X) → IsSorted R xs → IsPartitionedBy (λ y. is_lt (R y x)) xs
-parted_below {R = R} o xs x sorted i j d le under later = go (R (get_or xs i d) x) (R (get_or xs j d) x) (rises_against o xs x sorted i j d le under) later
+pub parted_below : {X : Type 0} {R : X → X → Ordering} (o : IsTotalOrder R) (xs : List X) (x : X) → IsSorted R xs →
+    IsPartitionedBy (λ y. is_lt (R y x)) xs
+parted_below {R = R} o xs x sorted i j d le under later =
+    go (R (get_or xs i d) x) (R (get_or xs j d) x) (rises_against o xs x sorted i j d le under) later
   where
     go : (a b : Ordering) → ordering_index a ≤ ordering_index b → is_lt b ≡ true → is_lt a ≡ true
     go Less b rise e = refl
@@ -71,8 +86,10 @@ parted_below {R = R} o xs x sorted i j d le under later = go (R (get_or xs i d) 
     go Greater Equal rise e = e
     go Greater Greater rise e = e
 
-pub parted_through : {X : Type 0} {R : X → X → Ordering} (o : IsTotalOrder R) (xs : List X) (x : X) → IsSorted R xs → IsPartitionedBy (λ y. is_le (R y x)) xs
-parted_through {R = R} o xs x sorted i j d le under later = go (R (get_or xs i d) x) (R (get_or xs j d) x) (rises_against o xs x sorted i j d le under) later
+pub parted_through : {X : Type 0} {R : X → X → Ordering} (o : IsTotalOrder R) (xs : List X) (x : X) → IsSorted R xs →
+    IsPartitionedBy (λ y. is_le (R y x)) xs
+parted_through {R = R} o xs x sorted i j d le under later =
+    go (R (get_or xs i d) x) (R (get_or xs j d) x) (rises_against o xs x sorted i j d le under) later
   where
     go : (a b : Ordering) → ordering_index a ≤ ordering_index b → is_le b ≡ true → is_le a ≡ true
     go Less b rise e = refl
@@ -107,7 +124,8 @@ greater_differs Less e = refl
 greater_differs Equal e = e
 greater_differs Greater e = refl
 
-pub below_through : {X : Type 0} (R : X → X → Ordering) (xs : List X) (x : X) (below through : ℕ) → BelowAt R xs x below → ThroughAt R xs x through → below ≤ length xs → below ≤ through
+pub below_through : {X : Type 0} (R : X → X → Ordering) (xs : List X) (x : X) (below through : ℕ) → BelowAt R xs x below →
+    ThroughAt R xs x through → below ≤ length xs → below ≤ through
 below_through R xs x below through lows highs inside = elim (cases_lt through below) [
   | inl less ↦
       let lt = lows.0 through x (omega arith) less in
@@ -117,7 +135,8 @@ below_through R xs x below through lows highs inside = elim (cases_lt through be
 ]
 
 -- what lies between is how often the element occurs
-pub counted_between : {X : Type 0} (R : X → X → Ordering) (xs : List X) (x : X) (below through : ℕ) → BelowAt R xs x below → ThroughAt R xs x through → below ≤ through → through ≤ length xs →
+pub counted_between : {X : Type 0} (R : X → X → Ordering) (xs : List X) (x : X) (below through : ℕ) → BelowAt R xs x below →
+    ThroughAt R xs x through → below ≤ through → through ≤ length xs →
     count_by (λ y. is_eq (R y x)) xs ≡ through - below
 counted_between R xs x below through lows highs le inside =
     count_between (λ y. is_eq (R y x)) xs below through le inside

@@ -21,7 +21,8 @@ distinct_made {X} {R} o exact {E} ties xs sorted once moved rising left =
       rising = IsStrictlySortedBy-dedup o ties sorted rising;
       same = λ x. (
         λ there. Contains-permutation sorted xs x (IsPermutation-sym xs sorted moved) (Contains-from_dedup E sorted x there),
-        λ there. Contains-dedup equivalence (λ y z same. tells_apart exact y z (sym (ties y z) ∙ same)) sorted x (Contains-permutation xs sorted x moved there),
+        λ there. Contains-dedup equivalence (λ y z same. tells_apart exact y z (sym (ties y z) ∙ same)) sorted x
+            (Contains-permutation xs sorted x moved there),
       );
     })
   where

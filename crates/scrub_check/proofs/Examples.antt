@@ -88,17 +88,20 @@ in_extent_0 image d h = omega (arith, h.from_one)
 in_extent_3 : (image : Image) (d : List ℕ) → HoldsAbc image → HasStatus image 41 (start_of_extent 3 3 ones d) OutOfRange
 in_extent_3 image d a h = omega (arith, h.in_disk, a.extents)
 
-one_byte_past_the_pointer : (image : Image) (d : List ℕ) → HoldsAbc image → HasStatus image 40 (start_of_extent 1 3 ones d) PastPointer
+one_byte_past_the_pointer : (image : Image) (d : List ℕ) → HoldsAbc image →
+    HasStatus image 40 (start_of_extent 1 3 ones d) PastPointer
 one_byte_past_the_pointer image d a = (in_range image 3 ones d a (omega arith), λ below. omega (arith, below))
 
-another_uuid : (image : Image) (u d : List ℕ) → HoldsAbc image → u ≢ ones → HasStatus image 41 (start_of_extent 1 3 u d) WrongUuid
+another_uuid : (image : Image) (u d : List ℕ) → HoldsAbc image → u ≢ ones →
+    HasStatus image 41 (start_of_extent 1 3 u d) WrongUuid
 another_uuid image u d a other = (ones, (abc, finds image 3 u d a (omega arith), λ same. other (sym same)))
 
 one_byte_less : (image : Image) (d : List ℕ) → HoldsAbc image → HasStatus image 41 (start_of_extent 1 2 ones d) WrongLength
 unfolding abc
 one_byte_less image d a = (abc, finds image 2 ones d a (omega arith), λ same. omega (arith, same))
 
-another_digest : (image : Image) (d : List ℕ) → HoldsAbc image → d ≢ sha256 abc → HasStatus image 41 (start_of_extent 1 3 ones d) WrongDigest
+another_digest : (image : Image) (d : List ℕ) → HoldsAbc image → d ≢ sha256 abc →
+    HasStatus image 41 (start_of_extent 1 3 ones d) WrongDigest
 unfolding abc
 another_digest image d a other = (abc, finds image 3 ones d a (omega arith), refl, λ same. other (sym same))
 

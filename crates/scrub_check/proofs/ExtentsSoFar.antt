@@ -11,12 +11,14 @@ use Rattle.scrub_check.specs.Chunks.{place_of, chunks_in, chunks}
 
 module _ (all : List Scanned) (i : ℕ) (f : Scanned) (at : slice_get all i ≡ Some f) where
   -- its chunks
-  pub chunks_more : (old found new : List Place) (e : ℕ) (items : List Item) → old ≡ chunks (take i all) → found ≡ filter_map (place_of e) items → e ≡ f.extent → items ≡ f.findings.items → new ≡ old ++ found →
+  pub chunks_more : (old found new : List Place) (e : ℕ) (items : List Item) → old ≡ chunks (take i all) →
+      found ≡ filter_map (place_of e) items → e ≡ f.extent → items ≡ f.findings.items → new ≡ old ++ found →
       new ≡ chunks (take (i + 1) all)
   chunks_more old found new e items is its number its_items grown =
       grown
       ∙ ap (λ ps. ps ++ found) is
-      ∙ ap (λ ps. chunks (take i all) ++ ps) (its ∙ ap (λ n. filter_map (place_of n) items) number ∙ ap (filter_map (place_of f.extent)) its_items)
+      ∙ ap (λ ps. chunks (take i all) ++ ps)
+      (its ∙ ap (λ n. filter_map (place_of n) items) number ∙ ap (filter_map (place_of f.extent)) its_items)
       ∙ ap (λ ps. chunks (take i all) ++ ps) (sym (append-nil (chunks_in f)))
       ∙ sym (flat_map-append chunks_in (take i all) (f ∷ []))
       ∙ ap chunks (sym (take_next all i f at))

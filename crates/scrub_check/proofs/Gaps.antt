@@ -11,34 +11,42 @@ use Rattle.scrub_check.proofs.Searches.{LiesBetween}
 
 none_is : {A : Type 0} (o : Option A) → is_none o ≡ true → o ≡ None
 none_is None e = refl
-none_is (Some x) e = absurd (let no_such : ⊥ = cc in no_such)
+none_is (Some x) e = absurd (cc)
 
 -- one of the bytes from `start` up to `end` can't be read exactly if one of their pages can't
-pub gap_pages : (image : Image) (e start size page first last : ℕ) → HasWholePages image → e < image.geometry.extents → start + size ≤ extent_bytes image.geometry → 0 < size →
+pub gap_pages : (image : Image) (e start size page first last : ℕ) → HasWholePages image → e < image.geometry.extents →
+    start + size ≤ extent_bytes image.geometry → 0 < size →
     page ≡ image.geometry.page → first ≡ start / page → last ≡ (start + size - 1) / page →
     LiesBetween (unreadable_pages image e) first last → HasGap (byte image e) start size
 gap_pages image e start size page first last whole he fits some hp hf hl (q, there, low, high) =
     let pos : 0 < page = omega (arith, hp, image.geometry.page_size.least) in
     let is = filtered_is (λ p. is_none (image.page e p)) 0 image.geometry.pages q there in
-    let place = place_in_page q start (start + size) page pos (omega (arith, some)) (omega (arith, low, hf)) (omega (arith, high, hl)) in
+    let place =
+    place_in_page q start (start + size) page pos (omega (arith, some)) (omega (arith, low, hf)) (omega (arith, high, hl)) in
     record {
       place = place.0;
       low = place.1;
       high = place.2;
-      unreadable = byte-unreadable image e place.0 (ap (image.page e) (ap (λ p. place.0 / p) (sym hp) ∙ place.3) ∙ none_is (image.page e q) is.2);
+      unreadable =
+          byte-unreadable image e place.0
+          (ap (image.page e) (ap (λ p. place.0 / p) (sym hp) ∙ place.3) ∙ none_is (image.page e q) is.2);
     }
 
-pub pages_gap : (image : Image) (e start size page first last : ℕ) → HasWholePages image → e < image.geometry.extents → start + size ≤ extent_bytes image.geometry → 0 < size →
+pub pages_gap : (image : Image) (e start size page first last : ℕ) → HasWholePages image → e < image.geometry.extents →
+    start + size ≤ extent_bytes image.geometry → 0 < size →
     page ≡ image.geometry.page → first ≡ start / page → last ≡ (start + size - 1) / page →
     HasGap (byte image e) start size → LiesBetween (unreadable_pages image e) first last
 pages_gap image e start size page first last whole he fits some hp hf hl gap =
     let pos : 0 < page = omega (arith, hp, image.geometry.page_size.least) in
     let inside : gap.place < extent_bytes image.geometry = omega (arith, gap.high, fits) in
-    let none : is_none (image.page e (gap.place / image.geometry.page)) ≡ true = page_byte image e gap.place (image.page e (gap.place / image.geometry.page)) whole he inside refl gap.unreadable in
-    let q : gap.place / image.geometry.page < image.geometry.pages = div_below gap.place image.geometry.page image.geometry.pages (omega (arith, pos, hp)) (omega (arith, inside)) in
+    let none : is_none (image.page e (gap.place / image.geometry.page)) ≡ true =
+    page_byte image e gap.place (image.page e (gap.place / image.geometry.page)) whole he inside refl gap.unreadable in
+    let q : gap.place / image.geometry.page < image.geometry.pages =
+    div_below gap.place image.geometry.page image.geometry.pages (omega (arith, pos, hp)) (omega (arith, inside)) in
     let same : gap.place / image.geometry.page ≡ gap.place / page = ap (λ p. gap.place / p) (sym hp) in (
       gap.place / image.geometry.page,
-      filtered_has (λ p. is_none (image.page e p)) 0 image.geometry.pages (gap.place / image.geometry.page) (omega arith) (omega (arith, q)) none,
+      filtered_has (λ p. is_none (image.page e p)) 0 image.geometry.pages (gap.place / image.geometry.page) (omega arith)
+          (omega (arith, q)) none,
       omega (arith, page_rises start gap.place page pos gap.low, same, hf),
       omega (arith, page_rises gap.place (start + size - 1) page pos (omega (arith, gap.high)), same, hl),
     )

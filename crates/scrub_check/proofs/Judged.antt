@@ -1,5 +1,5 @@
 -- The status of a locator, from what was found at its place.
-use Rattle.std.proofs.Common.{◌≡◌, ◌<◌, ℕ, List, map, length, get_or, slice_index, Bool, false, Option, Some, None, MatchBool, MatchOption, IfSome, IfNone, inl, inr, arith, refl, sym, ◌∙◌, ap, subst}
+use Rattle.std.proofs.Common.{◌≡◌, ◌<◌, ℕ, List, map, length, get_or, slice_index, false, Option, Some, None, IfSome, IfNone, inl, inr, arith, refl, sym, ◌∙◌, ap}
 use Rattle.std.specs.List.{Contains}
 use Rattle.std.proofs.lemmas.List.{get_or-map}
 use Rattle.std.proofs.lemmas.List.Elements.{All-get_or}
@@ -7,7 +7,7 @@ use Rattle.scrub_disk.specs.Image.{Image}
 use Rattle.scrub_frame.specs.declared.locator.Locator.{Locator}
 use Rattle.scrub_super.specs.Plan.{PlanValue, pointer_of}
 use Rattle.scrub_scan.specs.declared.standing.Standing.{Standing}
-use Rattle.scrub_scan.specs.Extent.{extent_of, FrameAt, NoFrameAt}
+use Rattle.scrub_scan.specs.Extent.{extent_of}
 use Rattle.scrub_scan.specs.declared.item.Item.{Item}
 use Rattle.scrub_scan.specs.declared.item.Item.TheVariants.{Chunk, Pad, Torn, Noise, Lost}
 use Rattle.scrub_scan.specs.Item.{start_of, IsChunk, IsItem}
@@ -15,7 +15,7 @@ use Rattle.scrub_scan.specs.Standing.{IsStandingAt}
 use Rattle.scrub_scan.specs.Tiling.{IsTiling}
 use Rattle.scrub_check.specs.declared.statuses.status.Status.{Status}
 use Rattle.scrub_check.specs.declared.statuses.status.Status.TheVariants.{OutOfRange, Retired, PastPointer, Unreadable, NoFrame, WrongUuid, WrongLength, WrongDigest, Hidden, Sound}
-use Rattle.scrub_check.specs.Status.{CanStand, FindsFrame, NamesChunk, HasStatus, HasStatusInRetired, HasStatusInUse, HasStatusIn, is_retired}
+use Rattle.scrub_check.specs.Status.{CanStand, FindsFrame, NamesChunk, HasStatus, HasStatusIn, is_retired}
 use Rattle.scrub_check.specs.Chunks.{frame_of_item}
 use Rattle.scrub_check.specs.Judged.{IsOther, IsMismatch, Agrees, IsJudged}
 use Rattle.scrub_check.specs.Asked.{IsFoundAt, IsOpen, IsSeenAt, IsStatusByItems}
@@ -23,23 +23,25 @@ use Rattle.scrub_check.proofs.Starts.{begins, begins_among}
 
 -- what a clause says of the value that there is
 pub at_some : {A : Type 0} (P : A → Type 0) (o : Option A) (x : A) → o ≡ Some x → IfSome o P → P x
-at_some P o x is h = subst (λ r. IfSome r P) is h
+at_some P o x is h = rw is at h
 
 -- and of there being none
 pub at_none : {A : Type 0} (P : Type 0) (o : Option A) → o ≡ None → IfNone o P → P
-at_none P o is h = subst (λ r. IfNone r P) is h
+at_none P o is h = rw is at h
 
 -- the frame that was found is at the locator's place
-finds : (image : Image) (w : ℕ) (l : Locator) (s : Standing) (u : List ℕ) → CanStand image w l → (h : IsStandingAt image w l.extent l.offset s) → s.uuid ≡ u → FindsFrame image w l u h.payload
+finds : (image : Image) (w : ℕ) (l : Locator) (s : Standing) (u : List ℕ) → CanStand image w l →
+    (h : IsStandingAt image w l.extent l.offset s) → s.uuid ≡ u → FindsFrame image w l u h.payload
 finds image w l s u can h uuid = record {
   can = can;
   form = s.form;
-  frame = subst (λ (v : List ℕ). FrameAt (extent_of image l.extent w) l.offset s.form v h.payload) uuid
-      (subst (λ (o : ℕ). FrameAt (extent_of image l.extent w) o s.form s.uuid h.payload) h.at_offset
-      (subst (λ (e : ℕ). FrameAt (extent_of image e w) s.offset s.form s.uuid h.payload) h.in_extent h.frame.frame));
+  frame = rw (← uuid)
+      (rw (← h.at_offset)
+      (rw h.in_extent at h.frame.frame));
 }
 
-names_chunk : (image : Image) (w : ℕ) (l : Locator) (s : Standing) → CanStand image w l → IsStandingAt image w l.extent l.offset s → Agrees l s → NamesChunk image w l
+names_chunk : (image : Image) (w : ℕ) (l : Locator) (s : Standing) → CanStand image w l →
+    IsStandingAt image w l.extent l.offset s → Agrees l s → NamesChunk image w l
 names_chunk image w l s can h a = record {
   payload = h.payload;
   found = finds image w l s l.uuid can h a.uuid;
@@ -48,7 +50,8 @@ names_chunk image w l s can h a = record {
 }
 
 -- a frame of another UUID or length isn't the one that the locator names
-pub other_is_mismatch : (l : Locator) (s : Standing) (status : Status) → IsOther l s.uuid s.length status → IsMismatch l s status
+pub other_is_mismatch : (l : Locator) (s : Standing) (status : Status) → IsOther l s.uuid s.length status →
+    IsMismatch l s status
 other_is_mismatch l s WrongUuid other = other
 other_is_mismatch l s WrongLength other = other
 other_is_mismatch l s WrongDigest other = absurd other
@@ -61,10 +64,12 @@ other_is_mismatch l s Hidden other = absurd other
 other_is_mismatch l s Sound other = absurd other
 
 -- a frame that isn't the named chunk gives the status of the first reason
-mismatched : (image : Image) (w : ℕ) (l : Locator) (s : Standing) (status : Status) → CanStand image w l → IsStandingAt image w l.extent l.offset s → IsMismatch l s status → HasStatus image w l status
+mismatched : (image : Image) (w : ℕ) (l : Locator) (s : Standing) (status : Status) → CanStand image w l →
+    IsStandingAt image w l.extent l.offset s → IsMismatch l s status → HasStatus image w l status
 mismatched image w l s WrongUuid can h m = (s.uuid, (h.payload, finds image w l s s.uuid can h (λ i. s.uuid), m))
 mismatched image w l s WrongLength can h m = (h.payload, finds image w l s l.uuid can h m.0, λ e. m.1 (h.frame.length ∙ e))
-mismatched image w l s WrongDigest can h m = (h.payload, finds image w l s l.uuid can h m.0, sym h.frame.length ∙ m.1, λ e. m.2 (h.frame.digest ∙ e))
+mismatched image w l s WrongDigest can h m =
+    (h.payload, finds image w l s l.uuid can h m.0, sym h.frame.length ∙ m.1, λ e. m.2 (h.frame.digest ∙ e))
 mismatched image w l s OutOfRange can h m = absurd m
 mismatched image w l s Retired can h m = absurd m
 mismatched image w l s PastPointer can h m = absurd m
@@ -78,53 +83,75 @@ abbrev pub IsFoundThere : Image → ℕ → Locator → Option Standing → Type
 IsFoundThere image w l found = IsFoundAt image w l.extent l.offset found
 
 -- it decides the status, if the chunk that the locator names has the status that is given for it
-judged_status : (image : Image) (w : ℕ) (l : Locator) (found : Option Standing) (agreeing status : Status) → CanStand image w l → IsFoundThere image w l found →
+judged_status : (image : Image) (w : ℕ) (l : Locator) (found : Option Standing) (agreeing status : Status) →
+    CanStand image w l → IsFoundThere image w l found →
     (NamesChunk image w l → HasStatus image w l agreeing) → IsJudged l found agreeing status → HasStatus image w l status
-judged_status image w l None agreeing status can none chunk judged = subst (λ (s : Status). HasStatus image w l s) (sym judged) (can, none)
-judged_status image w l (Some s) agreeing status can there chunk (inl mismatch) = mismatched image w l s status can there mismatch
-judged_status image w l (Some s) agreeing status can there chunk (inr judged) = subst (λ (t : Status). HasStatus image w l t) (sym judged.1) (chunk (names_chunk image w l s can there judged.0))
+judged_status image w l None agreeing status can none chunk judged = rw judged (can, none)
+judged_status image w l (Some s) agreeing status can there chunk (inl mismatch) =
+    mismatched image w l s status can there mismatch
+judged_status image w l (Some s) agreeing status can there chunk (inr judged) =
+    rw judged.1 (chunk (names_chunk image w l s can there judged.0))
 
 -- an item that begins there says what is there
-item_there : (image : Image) (w : ℕ) (l : Locator) (item : Item) → IsItem (extent_of image l.extent w) item → start_of item ≡ l.offset → IsFoundThere image w l (frame_of_item l.extent item)
+item_there : (image : Image) (w : ℕ) (l : Locator) (item : Item) → IsItem (extent_of image l.extent w) item →
+    start_of item ≡ l.offset → IsFoundThere image w l (frame_of_item l.extent item)
 item_there image w l (Chunk f start stop u n digest) h at =
     let chunk : IsChunk (extent_of image l.extent w) start f stop n u digest h.fits.1.0 = h.fits.1.1 in
     record { in_extent = refl; at_offset = at; payload = h.fits.1.0; frame = record { frame = chunk.frame; length = chunk.length; digest = chunk.digest_is } }
-item_there image w l (Pad start stop) h at = subst (λ (p : ℕ). NoFrameAt (extent_of image l.extent w) p) at h.fits.1
-item_there image w l (Torn start stop) h at = subst (λ (p : ℕ). NoFrameAt (extent_of image l.extent w) p) at h.fits.1
-item_there image w l (Noise start stop) h at = subst (λ (p : ℕ). NoFrameAt (extent_of image l.extent w) p) at h.fits.1
-item_there image w l (Lost start stop) h at = subst (λ (p : ℕ). NoFrameAt (extent_of image l.extent w) p) at h.fits.1
+item_there image w l (Pad start stop) h at = rw at at h.fits.1
+item_there image w l (Torn start stop) h at = rw at at h.fits.1
+item_there image w l (Noise start stop) h at = rw at at h.fits.1
+item_there image w l (Lost start stop) h at = rw at at h.fits.1
 
 -- the i-th item begins at p
 abbrev pub StartsAt : List Item → ℕ → ℕ → Type 0
 StartsAt items p i = (i < length items) × (slice_index (map start_of items) i ≡ p)
 
 -- so the i-th item decides the status if it begins there
-pub judged_by_item : (image : Image) (w : ℕ) (l : Locator) (items : List Item) (i : ℕ) (item : Item) (status : Status) → CanStand image w l → IsTiling (extent_of image l.extent w) items →
-    StartsAt items l.offset i → item ≡ get_or items i item → IsJudged l (frame_of_item l.extent item) Sound status → HasStatus image w l status
+pub judged_by_item : (image : Image) (w : ℕ) (l : Locator) (items : List Item) (i : ℕ) (item : Item) (status : Status) →
+    CanStand image w l → IsTiling (extent_of image l.extent w) items →
+    StartsAt items l.offset i → item ≡ get_or items i item → IsJudged l (frame_of_item l.extent item) Sound status →
+    HasStatus image w l status
 judged_by_item image w l items i item status can tiled at is judged =
     let x = extent_of image l.extent w in
-    let fits : IsItem x item = subst (λ (j : Item). IsItem x j) (sym is) (All-get_or (IsItem x) items i item at.0 tiled.each) in
+    let fits : IsItem x item = rw is (All-get_or (IsItem x) items i item at.0 tiled.each) in
     let start : start_of item ≡ l.offset = ap start_of is ∙ sym (get_or-map start_of items i item 0 at.0) ∙ at.1 in
-    judged_status image w l (frame_of_item l.extent item) Sound status can (item_there image w l item fits start) (λ chunk. (chunk, begins x items i l.offset tiled at.0 at.1)) judged
+    judged_status image w l (frame_of_item l.extent item) Sound status can (item_there image w l item fits start)
+    (λ chunk. (chunk, begins x items i l.offset tiled at.0 at.1)) judged
 
 -- and if none begins there, the place has to be read
-pub none_begins : (image : Image) (w : ℕ) (l : Locator) (items : List Item) → IsTiling (extent_of image l.extent w) items → ¬ Contains (map start_of items) l.offset → IsStatusByItems image w l None
-none_begins image w l items tiled apart b = apart (begins_among (extent_of image l.extent w) items l.offset (omega (arith, image.geometry.page_size.least)) tiled b)
+pub none_begins : (image : Image) (w : ℕ) (l : Locator) (items : List Item) → IsTiling (extent_of image l.extent w) items →
+    ¬ Contains (map start_of items) l.offset → IsStatusByItems image w l None
+none_begins image w l items tiled apart b =
+    apart (begins_among (extent_of image l.extent w) items l.offset (omega (arith, image.geometry.page_size.least)) tiled b)
 
 -- by a plan, a status under the pointer of an extent in use
-pub status_under : (image : Image) (plan : PlanValue) (w : ℕ) (l : Locator) (s : Status) → is_retired plan l.extent ≡ false → pointer_of plan l.extent ≡ Some w → HasStatus image w l s → HasStatusIn image plan l s
+pub status_under : (image : Image) (plan : PlanValue) (w : ℕ) (l : Locator) (s : Status) → is_retired plan l.extent ≡ false →
+    pointer_of plan l.extent ≡ Some w → HasStatus image w l s → HasStatusIn image plan l s
 status_under image plan w l s in_use at h =
-    subst (λ (b : Bool). MatchBool b (HasStatusInRetired image l s) (HasStatusInUse image plan l s)) (sym in_use)
-    (subst (λ (o : Option ℕ). MatchOption o (s ≡ OutOfRange) (λ v. HasStatus image v l s)) (sym at) h)
+    rw in_use
+    (rw at h)
 
 -- what items decide under the pointer of an extent, by a plan
-pub status_in_plan : (image : Image) (plan : PlanValue) (w : ℕ) (l : Locator) (known : Option Status) → is_retired plan l.extent ≡ false → pointer_of plan l.extent ≡ Some w → CanStand image w l → IsStatusByItems image w l known →
+pub status_in_plan : (image : Image) (plan : PlanValue) (w : ℕ) (l : Locator) (known : Option Status) →
+    is_retired plan l.extent ≡ false → pointer_of plan l.extent ≡ Some w → CanStand image w l →
+    IsStatusByItems image w l known →
     IfSome known (HasStatusIn image plan l) × IfNone known (IsOpen image plan l)
-status_in_plan image plan w l None in_use at can h = (tt, record { in_use = in_use; pointer = w; is = at; can = can; apart = h })
+status_in_plan image plan w l None in_use at can h = (
+  tt,
+  record {
+    in_use = in_use;
+    pointer = w;
+    is = at;
+    can = can;
+    apart = h;
+  },
+)
 status_in_plan image plan w l (Some s) in_use at can h = (status_under image plan w l s in_use at h, tt)
 
 -- the frame that was read decides the status of a locator that was left
-pub judged_by_frame : (image : Image) (plan : PlanValue) (l : Locator) (found : Option Standing) (status : Status) → IsOpen image plan l → IsSeenAt image plan (record { extent = l.extent; offset = l.offset }) found →
+pub judged_by_frame : (image : Image) (plan : PlanValue) (l : Locator) (found : Option Standing) (status : Status) →
+    IsOpen image plan l → IsSeenAt image plan (record { extent = l.extent; offset = l.offset }) found →
     IsJudged l found Hidden status → HasStatusIn image plan l status
 judged_by_frame image plan l found status left seen judged =
     status_under image plan left.pointer l status left.in_use left.is

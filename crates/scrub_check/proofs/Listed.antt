@@ -1,5 +1,5 @@
 -- Lists that say one thing of each locator, as they grow.
-use Rattle.std.proofs.Common.{◌≡◌, ◌<◌, ◌≤◌, ◌+◌, ℕ, List, [], ◌∷◌, ◌++◌, Option, length, map, take, get_or, arith, sym, ◌∙◌, subst}
+use Rattle.std.proofs.Common.{◌≡◌, ◌<◌, ◌≤◌, ◌+◌, ℕ, List, [], ◌∷◌, ◌++◌, Option, length, map, take, get_or, arith, sym, ◌∙◌}
 use Rattle.std.specs.List.{AllZip}
 use Rattle.std.proofs.lemmas.List.{take_all}
 use Rattle.std.proofs.lemmas.Slice.Zip.{AllZip-long}
@@ -13,32 +13,38 @@ use Rattle.scrub_check.specs.declared.sources.runs.RunState.{RunState}
 use Rattle.scrub_check.specs.Runs.{IsRunIn, HasRunStateIn, AreCounted}
 
 -- what is said of the locators so far
-pub record AreWalkedOf (image : Image) (plan : PlanValue) (locators : List Locator) (read : Runs) (known : List RunState) : Type 0 where
+pub record AreWalkedOf (image : Image) (plan : PlanValue) (locators : List Locator) (read : Runs)
+    (known : List RunState) : Type 0 where
   pub runs : AllZip (IsRunIn image plan) locators read
   pub states : AllZip (HasRunStateIn image plan) locators known
 
 pub walked_more : (image : Image) (plan : PlanValue) (locators : List Locator) (runs more_runs : Runs) (states more_states : List RunState)
-    (i : ℕ) (d : Locator) (run : Option (List EntryValue)) (state : RunState) → i < length locators → AreWalkedOf image plan (take i locators) runs states →
+    (i : ℕ) (d : Locator) (run : Option (List EntryValue)) (state : RunState) → i < length locators → AreWalkedOf image plan
+    (take i locators) runs states →
     IsRunIn image plan (get_or locators i d) run → HasRunStateIn image plan (get_or locators i d) state →
-    more_runs ≡ runs ++ run ∷ [] → more_states ≡ states ++ state ∷ [] → AreWalkedOf image plan (take (i + 1) locators) more_runs more_states
+    more_runs ≡ runs ++ run ∷ [] → more_states ≡ states ++ state ∷ [] → AreWalkedOf image plan (take (i + 1) locators) more_runs
+    more_states
 walked_more image plan locators runs more_runs states more_states i d run state below known is has run_grown state_grown = record {
   runs = AllZip-take_more (IsRunIn image plan) locators runs more_runs i d run below known.runs is run_grown;
   states = AllZip-take_more (HasRunStateIn image plan) locators states more_states i d state below known.states has state_grown;
 }
 
 -- in the end something is said of each
-pub all_states : (image : Image) (plan : PlanValue) (locators : List Locator) (i : ℕ) (runs : Runs) (states : List RunState) → length locators ≤ i → locators ≡ plan.runs →
+pub all_states : (image : Image) (plan : PlanValue) (locators : List Locator) (i : ℕ) (runs : Runs) (states : List RunState) →
+    length locators ≤ i → locators ≡ plan.runs →
     AreWalkedOf image plan (take i locators) runs states → AreWalkedOf image plan plan.runs runs states
-all_states image plan locators i runs states end is known = subst (λ (ls : List Locator). AreWalkedOf image plan ls runs states) (take_all i locators end ∙ is) known
+all_states image plan locators i runs states end is known = rw (take_all i locators end ∙ is) at known
 
-pub counted : (image : Image) (plan : PlanValue) (runs : Runs) (states : List RunState) → length plan.runs ≤ 32 → AreWalkedOf image plan plan.runs runs states → AreCounted (record { runs = runs; states = states })
+pub counted : (image : Image) (plan : PlanValue) (runs : Runs) (states : List RunState) → length plan.runs ≤ 32 →
+    AreWalkedOf image plan plan.runs runs states → AreCounted (record { runs = runs; states = states })
 counted image plan runs states few known =
     let r : length runs ≡ length plan.runs = AllZip-long (IsRunIn image plan) plan.runs runs known.runs in
     record { same = AllZip-long (HasRunStateIn image plan) plan.runs states known.states ∙ sym r; few = omega (arith, r, few) }
 
 -- pairs that are right for each locator are so as two lists
 pub split : (image : Image) (plan : PlanValue) (locators : List Locator) (read : List (Option (List EntryValue) × RunState)) →
-    AllZip (λ l one. IsRunIn image plan l one.0 × HasRunStateIn image plan l one.1) locators read → AreWalkedOf image plan locators (map (λ one. one.0) read) (map (λ one. one.1) read)
+    AllZip (λ l one. IsRunIn image plan l one.0 × HasRunStateIn image plan l one.1) locators read →
+    AreWalkedOf image plan locators (map (λ one. one.0) read) (map (λ one. one.1) read)
 split image plan [] [] each = record { runs = tt; states = tt }
 split image plan [] (one ∷ read) each = absurd each
 split image plan (l ∷ locators) [] each = absurd each

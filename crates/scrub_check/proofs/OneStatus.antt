@@ -1,6 +1,6 @@
 -- Exactly one status applies to a locator. Each is that of the first test that the locator fails, and the tests are the
 -- same for all.
-use Rattle.std.proofs.Common.{◌≡◌, ◌⊎◌, ℕ, Bool, true, false, List, Option, Some, None, MatchBool, MatchOption, length, inl, inr, sym, ◌∙◌, ap, subst, refl}
+use Rattle.std.proofs.Common.{◌≡◌, ◌⊎◌, ℕ, Bool, true, false, List, Option, Some, None, MatchBool, MatchOption, length, inl, inr, sym, ◌∙◌, ap, refl}
 use Rattle.scrub_disk.specs.Image.{Image}
 use Rattle.scrub_frame.specs.declared.form.Form.{Form}
 use Rattle.scrub_frame.specs.declared.locator.Locator.{Locator}
@@ -18,7 +18,8 @@ HasUuid image w l = (f : Form) × ((b : List ℕ) × FrameAt (extent_of image l.
 
 -- one whose payload has the locator's length
 abbrev HasLength : Image → ℕ → Locator → Type 0
-HasLength image w l = (f : Form) × ((b : List ℕ) × FrameAt (extent_of image l.extent w) l.offset f l.uuid b × (length b ≡ l.length))
+HasLength image w l =
+    (f : Form) × ((b : List ℕ) × FrameAt (extent_of image l.extent w) l.offset f l.uuid b × (length b ≡ l.length))
 
 -- the status is that of a test which fails, or the test is passed and more is known
 abbrev Tested : Status → Status → Type 0 → Type 0 → Type 0
@@ -29,10 +30,13 @@ abbrev ByTiling : Image → ℕ → Locator → Status → Type 0
 ByTiling image w l s = Tested Hidden s (BeginsAt (extent_of image l.extent w) l.offset) (Sound ≡ s)
 
 abbrev ByLength : Image → ℕ → Locator → Status → Type 0
-ByLength image w l s = Tested WrongLength s (HasLength image w l) (Tested WrongDigest s (NamesChunk image w l) (ByTiling image w l s))
+ByLength image w l s =
+    Tested WrongLength s (HasLength image w l) (Tested WrongDigest s (NamesChunk image w l) (ByTiling image w l s))
 
 abbrev ByFrame : Image → ℕ → Locator → Status → Type 0
-ByFrame image w l s = Tested NoFrame s (¬ NoFrameAt (extent_of image l.extent w) l.offset) (Tested WrongUuid s (HasUuid image w l) (ByLength image w l s))
+ByFrame image w l s =
+    Tested NoFrame s (¬ NoFrameAt (extent_of image l.extent w) l.offset)
+    (Tested WrongUuid s (HasUuid image w l) (ByLength image w l s))
 
 abbrev ByTests : Image → ℕ → Locator → Status → Type 0
 ByTests image w l s =
@@ -43,11 +47,15 @@ ByTests image w l s =
 from_can : (image : Image) (w : ℕ) (l : Locator) (s : Status) → CanStand image w l → ByFrame image w l s → ByTests image w l s
 from_can image w l s can more = inr (can.in_range, inr (can.below, inr (can.readable, more)))
 
-from_frame : (image : Image) (w : ℕ) (l : Locator) (s : Status) (b : List ℕ) → FindsFrame image w l l.uuid b → ByLength image w l s → ByTests image w l s
-from_frame image w l s b f more = from_can image w l s f.can (inr (λ none. none f.form l.uuid b f.frame, inr ((f.form, (b, f.frame)), more)))
+from_frame : (image : Image) (w : ℕ) (l : Locator) (s : Status) (b : List ℕ) → FindsFrame image w l l.uuid b →
+    ByLength image w l s → ByTests image w l s
+from_frame image w l s b f more =
+    from_can image w l s f.can (inr (λ none. none f.form l.uuid b f.frame, inr ((f.form, (b, f.frame)), more)))
 
-from_chunk : (image : Image) (w : ℕ) (l : Locator) (s : Status) → NamesChunk image w l → ByTiling image w l s → ByTests image w l s
-from_chunk image w l s n more = from_frame image w l s n.payload n.found (inr ((n.found.form, (n.payload, n.found.frame, n.length)), inr (n, more)))
+from_chunk : (image : Image) (w : ℕ) (l : Locator) (s : Status) → NamesChunk image w l → ByTiling image w l s →
+    ByTests image w l s
+from_chunk image w l s n more =
+    from_frame image w l s n.payload n.found (inr ((n.found.form, (n.payload, n.found.frame, n.length)), inr (n, more)))
 
 by_tests : (image : Image) (w : ℕ) (l : Locator) (s : Status) → HasStatus image w l s → ByTests image w l s
 by_tests image w l OutOfRange h = inl (refl, h)
@@ -116,7 +124,7 @@ place_judged image w l none can =
           b,
           record { can = can; form = g; frame = f },
           λ same.
-              frame_judged image w l b none (record { can = can; form = g; frame = subst (λ (v : List ℕ). FrameAt (extent_of image l.extent w) l.offset g v b) same f }),
+              frame_judged image w l b none (record { can = can; form = g; frame = rw same at f }),
         ),
       ),
     )
@@ -126,7 +134,11 @@ some_status_lem image w l none =
     none OutOfRange (λ in_range. none PastPointer (
       in_range,
       λ below.
-          place_judged image w l none (record { in_range = in_range; below = below; readable = λ gap. none Unreadable (in_range, below, gap) }),
+          place_judged image w l none (record {
+            in_range = in_range;
+            below = below;
+            readable = λ gap. none Unreadable (in_range, below, gap);
+          }),
     ))
 
 -- exactly one, under a pointer and by a plan
@@ -134,7 +146,8 @@ pub one_under_pointer : (image : Image) (w : ℕ) (l : Locator) → ExactlyOne (
 one_under_pointer image w l = record { one = one_status_lem image w l; some = some_status_lem image w l }
 
 -- in a retired extent there is one test
-by_range : (image : Image) (l : Locator) (s : Status) → HasStatusInRetired image l s → Tested OutOfRange s (InRange image.geometry l) (Retired ≡ s)
+by_range : (image : Image) (l : Locator) (s : Status) → HasStatusInRetired image l s →
+    Tested OutOfRange s (InRange image.geometry l) (Retired ≡ s)
 by_range image l OutOfRange h = inl (refl, h)
 by_range image l Retired h = inr (h, refl)
 by_range image l PastPointer h = absurd h

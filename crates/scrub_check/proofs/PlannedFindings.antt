@@ -1,5 +1,5 @@
 -- The findings of one reader, extent by extent.
-use Rattle.std.proofs.Common.{◌≡◌, ◌<◌, ◌≤◌, ◌+◌, ◌-◌, ℕ, List, false, not, arith, sym, ◌∙◌, ap, subst}
+use Rattle.std.proofs.Common.{◌≡◌, ◌<◌, ◌≤◌, ◌+◌, ◌-◌, ℕ, List, false, not, arith, ◌∙◌, ap}
 use Rattle.std.specs.List.{Contains, range_with_len}
 use Rattle.std.proofs.lemmas.List.FromFn.{get_or-range_with_len, length-range_with_len}
 use Rattle.scrub_disk.specs.Image.{Image}
@@ -12,9 +12,10 @@ use Rattle.scrub_check.specs.WholeScan.{IsWholeScan}
 use Rattle.scrub_check.specs.Status.{is_retired}
 
 -- each extent in use is listed
-pub each_listed : (image : Image) (plan : PlanValue) (all : List Scanned) (e : ℕ) → IsWholeScan image plan all → is_retired plan e ≡ false → 1 ≤ e → e < image.geometry.extents → Contains (extent_numbers all) e
+pub each_listed : (image : Image) (plan : PlanValue) (all : List Scanned) (e : ℕ) → IsWholeScan image plan all →
+    is_retired plan e ≡ false → 1 ≤ e → e < image.geometry.extents → Contains (extent_numbers all) e
 each_listed image plan all e h in_use low high =
     let n : ℕ = image.geometry.extents - 1 in
-    subst (λ (xs : List ℕ). Contains xs e) (sym (h.findings.extents ∙ h.planned))
+    rw (h.findings.extents ∙ h.planned)
     (Contains-filter (is_in_use plan.retired) (range_with_len 1 n) e (ap not in_use)
     (e - 1, omega (arith, length-range_with_len 1 n, low, high), get_or-range_with_len 1 n (e - 1) e (omega (arith, low, high)) ∙ (let k : 1 + (e - 1) ≡ e = omega (arith, low) in k)))

@@ -1,5 +1,5 @@
 -- Which extents may be reclaimed: what the sorted verdicts say of an extent, and that candidates are in a strict order.
-use Rattle.std.proofs.Common.{◌≡◌, ◌<◌, ◌≤◌, ◌+◌, ◌==◌, ◌≢◌, ◌&&◌, ◌||◌, ℕ, suc, Bool, true, false, not, cond, List, [], ◌∷◌, length, get_or, map, arith, refl, sym, ◌∙◌, ap, subst, Result, Ok, Err, is_ok, Ordering, Less, Equal, Greater, nat_cmp, is_eq, is_lt, inl, inr, if◌then◌else◌}
+use Rattle.std.proofs.Common.{◌≡◌, ◌<◌, ◌≤◌, ◌+◌, ◌==◌, ◌≢◌, ◌&&◌, ◌||◌, ℕ, suc, Bool, true, false, not, cond, List, [], ◌∷◌, length, get_or, map, arith, refl, sym, ◌∙◌, ap, Result, Ok, Err, is_ok, Ordering, Less, Equal, Greater, nat_cmp, is_eq, is_lt, inl, inr}
 use Rattle.std.specs.Ordering.{ordering_then, ordering_reverse}
 use Rattle.std.specs.Cmp.{IsTotalOrder, nat_cmp_total}
 use Rattle.std.specs.List.{All, AllPairs, filter, list_any, list_all, count_by}
@@ -31,8 +31,10 @@ use Rattle.scrub_check.proofs.SortedStarts.{live_sizes, same_number}
 -- ---- the extents that locators name which aren't sound
 
 -- a search among sorted numbers
-pub found_number : (xs : List ℕ) (n : ℕ) (r : Result ℕ ℕ) → IsSorted nat_cmp xs → IsSearchInRange r (length xs) → IsBinarySearchResult (λ y. nat_cmp y n) xs r → is_ok r ≡ list_any (λ m. m == n) xs
-found_number xs n (Ok i) sorted within result = sym (list_any_at (λ m. m == n) xs i n within (sym (same_number (get_or xs i n) n) ∙ ap is_eq (result n)))
+pub found_number : (xs : List ℕ) (n : ℕ) (r : Result ℕ ℕ) → IsSorted nat_cmp xs → IsSearchInRange r (length xs) →
+    IsBinarySearchResult (λ y. nat_cmp y n) xs r → is_ok r ≡ list_any (λ m. m == n) xs
+found_number xs n (Ok i) sorted within result =
+    sym (list_any_at (λ m. m == n) xs i n within (sym (same_number (get_or xs i n) n) ∙ ap is_eq (result n)))
 found_number xs n (Err i) sorted within result =
     let point = result (searchable_from_sorted nat_cmp_total (λ y. y) xs n sorted) in
     sym (list_any_none (λ m. m == n) xs (λ k d below. elim (cases_lt k i) [
@@ -62,12 +64,14 @@ named_by_sound (c ∷ cs) e = by (is_sound c.status) (c.locator.extent == e) ref
 pub named_by_sound_alone : (checked : List Checked) (extents : List ℕ) (e : ℕ) → AreUnsoundExtents checked extents →
     list_all (λ c. not (c.locator.extent == e) || is_sound c.status) checked ≡ not (list_any (λ x. x == e) extents)
 named_by_sound_alone checked extents e are =
-    named_by_sound checked e ∙ ap not (list_any-IsPermutation (λ x. x == e) (map (λ c. c.locator.extent) (filter (λ c. not (is_sound c.status)) checked)) extents are)
+    named_by_sound checked e
+    ∙ ap not (list_any-IsPermutation (λ x. x == e) (map (λ c. c.locator.extent) (filter (λ c. not (is_sound c.status)) checked)) extents are)
 
 -- ---- the parts of a candidate
 
 -- what holds of the chunks that are found by their starts holds of the live ones
-pub walked_of_live : {Y : Type 0} (known : List Item → Y) (y : Y) (checked : List Checked) (starts : List Start) (e f : ℕ) (is js : List Item) → AreSoundStarts checked starts → e ≡ f → is ≡ js →
+pub walked_of_live : {Y : Type 0} (known : List Item → Y) (y : Y) (checked : List Checked) (starts : List Start) (e f : ℕ) (is js : List Item) →
+    AreSoundStarts checked starts → e ≡ f → is ≡ js →
     y ≡ known (filter (is_live_by starts e) is) → y ≡ known (filter (is_live checked f) js)
 walked_of_live known y checked starts e f is js are same items h =
     h
@@ -81,7 +85,8 @@ walked_of_live known y checked starts e f is js are same items h =
 abbrev Having : {X : Type 0} → (X → ℕ) → ℕ → List X → ℕ
 Having number e xs = count_by (λ x. number x == e) xs
 
-having_map : {X Y : Type 0} (h : X → Y) (number : Y → ℕ) (e : ℕ) (xs : List X) → Having number e (map h xs) ≡ Having (λ x. number (h x)) e xs
+having_map : {X Y : Type 0} (h : X → Y) (number : Y → ℕ) (e : ℕ) (xs : List X) →
+    Having number e (map h xs) ≡ Having (λ x. number (h x)) e xs
 having_map h number e [] = refl
 having_map h number e (x ∷ xs) =
     sum_by-cons (λ y. cond (number y == e) 1 0) (h x) (map h xs)
@@ -94,17 +99,19 @@ none_above e (n ∷ ns) above =
     let first : e < n = above 0 n (omega arith) in
     let rest : Having (λ n. n) e ns ≡ 0 = none_above e ns (λ k d lt. above (suc k) d (omega (arith, lt))) in
     let other : (n == e) ≡ false = grind (arith, common_steps, first) in
-    let whole : Having (λ n. n) e (n ∷ ns) ≡ 0 + Having (λ n. n) e ns = sum_by-cons (λ y. cond (y == e) 1 0) n ns ∙ ap (λ b. cond b 1 0 + Having (λ n. n) e ns) other in
+    let whole : Having (λ n. n) e (n ∷ ns) ≡ 0 + Having (λ n. n) e ns =
+    sum_by-cons (λ y. cond (y == e) 1 0) n ns ∙ ap (λ b. cond b 1 0 + Having (λ n. n) e ns) other in
     omega (arith, whole, rest)
 
 is_same : (o : Ordering) → is_eq o ≡ true → o ≡ Equal
 is_same Equal e = refl
-is_same Less e = absurd (let f : ⊥ = cc in f)
-is_same Greater e = absurd (let f : ⊥ = cc in f)
+is_same Less e = absurd (cc)
+is_same Greater e = absurd (cc)
 
 once_among : (e : ℕ) (ns : List ℕ) → AllPairs (λ x y. x < y) ns → Having (λ n. n) e ns ≤ 1
 once_among e [] rising = omega arith
-once_among e (n ∷ ns) rising = by (n == e) refl (once_among e ns (λ i j d lt below. rising (suc i) (suc j) d (omega (arith, lt)) (omega (arith, below))))
+once_among e (n ∷ ns) rising =
+    by (n == e) refl (once_among e ns (λ i j d lt below. rising (suc i) (suc j) d (omega (arith, lt)) (omega (arith, below))))
   where
     whole : (b : Bool) → (n == e) ≡ b → Having (λ n. n) e (n ∷ ns) ≡ cond b 1 0 + Having (λ n. n) e ns
     whole b is = sum_by-cons (λ y. cond (y == e) 1 0) n ns ∙ ap (λ b. cond b 1 0 + Having (λ n. n) e ns) is
@@ -112,37 +119,48 @@ once_among e (n ∷ ns) rising = by (n == e) refl (once_among e ns (λ i j d lt 
     by : (b : Bool) → (n == e) ≡ b → Having (λ n. n) e ns ≤ 1 → Having (λ n. n) e (n ∷ ns) ≤ 1
     by true is rest =
         let same : n ≡ e = exact_unsigned n e (is_same (nat_cmp n e) (same_number n e ∙ is)) in
-        let none : Having (λ n. n) e ns ≡ 0 = none_above e ns (λ k d lt. subst (λ (m : ℕ). m < get_or ns k d) same (rising 0 (suc k) d (omega arith) (omega (arith, lt)))) in
+        let none : Having (λ n. n) e ns ≡ 0 =
+        none_above e ns (λ k d lt. rw same at (rising 0 (suc k) d (omega arith) (omega (arith, lt)))) in
         let w : Having (λ n. n) e (n ∷ ns) ≡ 1 + Having (λ n. n) e ns = whole true is in
         omega (arith, w, none)
     by false is rest = let w : Having (λ n. n) e (n ∷ ns) ≡ 0 + Having (λ n. n) e ns = whole false is in omega (arith, w, rest)
 
-pub each_once : (g : Geometry) (all : List Scanned) (checked : List Checked) (e : ℕ) → IsStrictlyIncreasing (extent_numbers all) → Having (λ c. c.extent) e (reclaimable g all checked) ≤ 1
+pub each_once : (g : Geometry) (all : List Scanned) (checked : List Checked) (e : ℕ) →
+    IsStrictlyIncreasing (extent_numbers all) → Having (λ c. c.extent) e (reclaimable g all checked) ≤ 1
 each_once g all checked e rising =
     let one = having_map (candidate_of checked) (λ c. c.extent) e (filter (is_reclaimable g checked) all) in
-    let few : Having (λ f. f.extent) e (filter (is_reclaimable g checked) all) ≤ Having (λ f. f.extent) e all = sum_of_kept (λ f. cond (f.extent == e) 1 0) (is_reclaimable g checked) all in
+    let few : Having (λ f. f.extent) e (filter (is_reclaimable g checked) all) ≤ Having (λ f. f.extent) e all =
+    sum_of_kept (λ f. cond (f.extent == e) 1 0) (is_reclaimable g checked) all in
     let numbers = having_map (λ (f : Scanned). f.extent) (λ n. n) e all in
-    let once : Having (λ n. n) e (extent_numbers all) ≤ 1 = once_among e (extent_numbers all) (AllPairs-from_increasing (extent_numbers all) rising) in
+    let once : Having (λ n. n) e (extent_numbers all) ≤ 1 =
+    once_among e (extent_numbers all) (AllPairs-from_increasing (extent_numbers all) rising) in
     omega (arith, one, few, numbers, once)
 
 -- ---- their order
 
 pub free_total : IsTotalOrder by_free
-free_total = then_total (back_total (on_total (λ (c : CandidateValue). c.free) nat_cmp_total)) (on_total (λ (c : CandidateValue). c.extent) nat_cmp_total)
+free_total =
+    then_total (back_total (on_total (λ (c : CandidateValue). c.free) nat_cmp_total))
+    (on_total (λ (c : CandidateValue). c.extent) nat_cmp_total)
 
 -- what isn't above, nor of the same extent, is below
-below_or_same : (a b : ℕ) (o p : Ordering) → (nat_cmp a b ≡ p) → is_lt (ordering_reverse (ordering_then o p)) ≡ false → a ≢ b → ordering_then o p ≡ Less
+below_or_same : (a b : ℕ) (o p : Ordering) → (nat_cmp a b ≡ p) → is_lt (ordering_reverse (ordering_then o p)) ≡ false → a ≢ b →
+    ordering_then o p ≡ Less
 below_or_same a b Less p is up differ = refl
 below_or_same a b Equal Less is up differ = refl
 below_or_same a b Equal Equal is up differ = absurd (differ (exact_unsigned a b is))
-below_or_same a b Equal Greater is up differ = absurd (let f : ⊥ = cc in f)
-below_or_same a b Greater p is up differ = absurd (let f : ⊥ = cc in f)
+below_or_same a b Equal Greater is up differ = absurd (cc)
+below_or_same a b Greater p is up differ = absurd (cc)
 
 -- sorted candidates are strictly sorted if no two are of one extent
-strict_from_far : (cs : List CandidateValue) → AllPairs (λ a b. is_lt (by_free b a) ≡ false) cs → ((e : ℕ) → Having (λ c. c.extent) e cs ≤ 1) → IsStrictlySortedBy by_free cs
+strict_from_far : (cs : List CandidateValue) → AllPairs (λ a b. is_lt (by_free b a) ≡ false) cs →
+    ((e : ℕ) → Having (λ c. c.extent) e cs ≤ 1) → IsStrictlySortedBy by_free cs
 unfolding IsStrictlySortedBy
 strict_from_far [] far once = tt
-strict_from_far (c ∷ cs) far once = (recursion_from_All (λ d. by_free c d ≡ Less) cs below, strict_from_far cs (λ i j d lt within. far (suc i) (suc j) d (omega (arith, lt)) (omega (arith, within))) fewer)
+strict_from_far (c ∷ cs) far once = (
+  recursion_from_All (λ d. by_free c d ≡ Less) cs below,
+  strict_from_far cs (λ i j d lt within. far (suc i) (suc j) d (omega (arith, lt)) (omega (arith, within))) fewer,
+)
   where
     whole : (e : ℕ) → Having (λ c. c.extent) e (c ∷ cs) ≡ cond (c.extent == e) 1 0 + Having (λ c. c.extent) e cs
     whole e = sum_by-cons (λ d. cond (d.extent == e) 1 0) c cs
@@ -154,21 +172,27 @@ strict_from_far (c ∷ cs) far once = (recursion_from_All (λ d. by_free c d ≡
     apart k d lt same =
         let mine : (c.extent == c.extent) ≡ true = eq-eqb c.extent c.extent refl in
         let its : ((get_or cs k d).extent == c.extent) ≡ true = eq-eqb (get_or cs k d).extent c.extent (sym same) in
-        let there : cond ((get_or cs k d).extent == c.extent) 1 0 ≤ Having (λ c. c.extent) c.extent cs = get_or-le-sum_by (λ d. cond (d.extent == c.extent) 1 0) cs k d lt in
-        let one : 1 ≤ Having (λ c. c.extent) c.extent cs = subst (λ b. cond b 1 0 ≤ Having (λ c. c.extent) c.extent cs) its there in
-        let two : Having (λ c. c.extent) c.extent (c ∷ cs) ≡ 1 + Having (λ c. c.extent) c.extent cs = whole c.extent ∙ ap (λ b. cond b 1 0 + Having (λ c. c.extent) c.extent cs) mine in
+        let there : cond ((get_or cs k d).extent == c.extent) 1 0 ≤ Having (λ c. c.extent) c.extent cs =
+        get_or-le-sum_by (λ d. cond (d.extent == c.extent) 1 0) cs k d lt in
+        let one : 1 ≤ Having (λ c. c.extent) c.extent cs = rw its at there in
+        let two : Having (λ c. c.extent) c.extent (c ∷ cs) ≡ 1 + Having (λ c. c.extent) c.extent cs =
+        whole c.extent ∙ ap (λ b. cond b 1 0 + Having (λ c. c.extent) c.extent cs) mine in
         omega (arith, one, two, once c.extent)
 
     below : All (λ d. by_free c d ≡ Less) cs
     below k d lt =
-        below_or_same c.extent (get_or cs k d).extent (nat_cmp (get_or cs k d).free c.free) (nat_cmp c.extent (get_or cs k d).extent) refl
-        (ap is_lt (sym (free_total.antisymm (get_or cs k d) c)) ∙ far 0 (suc k) d (omega arith) (omega (arith, lt))) (apart k d lt)
+        below_or_same c.extent (get_or cs k d).extent (nat_cmp (get_or cs k d).free c.free)
+        (nat_cmp c.extent (get_or cs k d).extent) refl
+        (ap is_lt (sym (free_total.antisymm (get_or cs k d) c)) ∙ far 0 (suc k) d (omega arith) (omega (arith, lt)))
+        (apart k d lt)
 
 -- so the sorted candidates are strictly sorted
-pub strictly_sorted : (g : Geometry) (all : List Scanned) (checked : List Checked) (cs : List CandidateValue) → IsStrictlyIncreasing (extent_numbers all) →
+pub strictly_sorted : (g : Geometry) (all : List Scanned) (checked : List Checked) (cs : List CandidateValue) →
+    IsStrictlyIncreasing (extent_numbers all) →
     IsPermutation (reclaimable g all checked) cs → IsSorted by_free cs → IsStrictlySortedBy by_free cs
 strictly_sorted g all checked cs rising same sorted =
-    strict_from_far cs (λ i j d lt within. sorted_far _ (ranks_by free_total (λ a. a)) cs sorted i j d (omega (arith, lt)) within)
+    strict_from_far cs
+    (λ i j d lt within. sorted_far _ (ranks_by free_total (λ a. a)) cs sorted i j d (omega (arith, lt)) within)
     (λ e. let moved : Having (λ c. c.extent) e cs ≡ Having (λ c. c.extent) e (reclaimable g all checked) = sum_by-IsPermutation (λ c. cond (c.extent == e) 1 0) (reclaimable g all checked) cs same in
     omega (arith, moved, each_once g all checked e rising))
 
@@ -182,17 +206,18 @@ no_candidates = tt
 pub none_named : (plan : PlanValue) (all : List Scanned) (checked : List Checked) (in_doubt : Bool) (cs : List CandidateValue) →
     (plan.has_superblock && not in_doubt) ≡ false → cs ≡ [] → AreCandidates plan all checked in_doubt cs
 none_named plan all checked in_doubt cs unknown none = record {
-  filtered = subst (λ (b : Bool). IsPermutation (if b then reclaimable plan.geometry all checked else []) cs) (sym unknown) (subst (λ (ds : List CandidateValue). IsPermutation [] ds) (sym none) (IsPermutation-refl []));
-  ordered = subst (λ (ds : List CandidateValue). IsStrictlySortedBy by_free ds) (sym none) no_candidates;
+  filtered = rw unknown (rw none (IsPermutation-refl []));
+  ordered = rw none no_candidates;
 }
 
 -- else the extents that may be reclaimed, sorted
 pub all_named : (plan : PlanValue) (all : List Scanned) (checked : List Checked) (in_doubt : Bool) (found cs : List CandidateValue) →
-    (plan.has_superblock && not in_doubt) ≡ true → IsStrictlyIncreasing (extent_numbers all) → found ≡ reclaimable plan.geometry all checked → IsPermutation found cs → IsSorted by_free cs →
+    (plan.has_superblock && not in_doubt) ≡ true → IsStrictlyIncreasing (extent_numbers all) →
+    found ≡ reclaimable plan.geometry all checked → IsPermutation found cs → IsSorted by_free cs →
     AreCandidates plan all checked in_doubt cs
 all_named plan all checked in_doubt found cs known rising is same sorted =
-    let moved : IsPermutation (reclaimable plan.geometry all checked) cs = subst (λ (ds : List CandidateValue). IsPermutation ds cs) is same in
+    let moved : IsPermutation (reclaimable plan.geometry all checked) cs = rw is at same in
     record {
-      filtered = subst (λ (b : Bool). IsPermutation (if b then reclaimable plan.geometry all checked else []) cs) (sym known) moved;
+      filtered = rw known moved;
       ordered = strictly_sorted plan.geometry all checked cs rising moved sorted;
     }

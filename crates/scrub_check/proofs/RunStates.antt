@@ -1,5 +1,5 @@
 -- Which statuses say that the chunk that a locator names is there.
-use Rattle.std.proofs.Common.{◌≡◌, ◌⊎◌, inl, inr, ℕ, Bool, true, false, List, MatchBool, length, ◌∙◌, ap, subst, refl}
+use Rattle.std.proofs.Common.{◌≡◌, ◌⊎◌, inl, inr, ℕ, Bool, true, false, List, MatchBool, length, ◌∙◌, ap, refl}
 use Rattle.scrub_disk.specs.Image.{Image}
 use Rattle.scrub_frame.specs.declared.locator.Locator.{Locator}
 use Rattle.scrub_super.specs.Plan.{PlanValue}
@@ -10,32 +10,39 @@ use Rattle.scrub_check.specs.declared.statuses.status.Status.{Status}
 use Rattle.scrub_check.specs.declared.statuses.status.Status.TheVariants.{OutOfRange, Retired, PastPointer, Unreadable, NoFrame, WrongUuid, WrongLength, WrongDigest, Hidden, Sound}
 use Rattle.scrub_check.specs.Status.{NamesChunk, HasStatus, HasStatusInRetired, HasStatusInUse, HasStatusIn, is_retired}
 
-pub named : (image : Image) (w : ℕ) (l : Locator) (s : Status) → (s ≡ Sound) ⊎ (s ≡ Hidden) → HasStatus image w l s → NamesChunk image w l
-named image w l s (inl e) h = (subst (λ (t : Status). HasStatus image w l t) e h).0
-named image w l s (inr e) h = (subst (λ (t : Status). HasStatus image w l t) e h).0
+pub named : (image : Image) (w : ℕ) (l : Locator) (s : Status) → (s ≡ Sound) ⊎ (s ≡ Hidden) → HasStatus image w l s →
+    NamesChunk image w l
+named image w l s (inl e) h = (rw e at h).0
+named image w l s (inr e) h = (rw e at h).0
 
-pub unnamed : (image : Image) (w : ℕ) (l : Locator) (s : Status) → ¬ (s ≡ Sound) → ¬ (s ≡ Hidden) → HasStatus image w l s → ¬ NamesChunk image w l
+pub unnamed : (image : Image) (w : ℕ) (l : Locator) (s : Status) → ¬ (s ≡ Sound) → ¬ (s ≡ Hidden) → HasStatus image w l s →
+    ¬ NamesChunk image w l
 unnamed image w l OutOfRange a b h n = h n.found.can.in_range
 unnamed image w l Retired a b h n = h
 unnamed image w l PastPointer a b h n = h.1 n.found.can.below
 unnamed image w l Unreadable a b h n = n.found.can.readable h.2
 unnamed image w l NoFrame a b h n = h.1 n.found.form l.uuid n.payload n.found.frame
-unnamed image w l WrongUuid a b (u, (c, f, other)) n = other (one_frame_at (extent_of image l.extent w) l.offset f.form u c n.found.form l.uuid n.payload f.frame n.found.frame).1
+unnamed image w l WrongUuid a b (u, (c, f, other)) n =
+    other (one_frame_at (extent_of image l.extent w) l.offset f.form u c n.found.form l.uuid n.payload f.frame n.found.frame).1
 unnamed image w l WrongLength a b (c, f, other) n =
-    other (ap (λ (xs : List ℕ). length xs) (one_frame_at (extent_of image l.extent w) l.offset f.form l.uuid c n.found.form l.uuid n.payload f.frame n.found.frame).2 ∙ n.length)
+    other
+    (ap (λ (xs : List ℕ). length xs) (one_frame_at (extent_of image l.extent w) l.offset f.form l.uuid c n.found.form l.uuid n.payload f.frame n.found.frame).2 ∙ n.length)
 unnamed image w l WrongDigest a b (c, f, same, other) n =
-    other (ap (λ (xs : List ℕ). sha256 xs) (one_frame_at (extent_of image l.extent w) l.offset f.form l.uuid c n.found.form l.uuid n.payload f.frame n.found.frame).2 ∙ n.digest)
+    other
+    (ap (λ (xs : List ℕ). sha256 xs) (one_frame_at (extent_of image l.extent w) l.offset f.form l.uuid c n.found.form l.uuid n.payload f.frame n.found.frame).2 ∙ n.digest)
 unnamed image w l Hidden a b h n = b refl
 unnamed image w l Sound a b h n = a refl
 
 -- a sound or hidden locator by a plan is one into an extent in use
-pub named_in_use : (image : Image) (plan : PlanValue) (l : Locator) (s : Status) → (s ≡ Sound) ⊎ (s ≡ Hidden) → HasStatusIn image plan l s → (is_retired plan l.extent ≡ false) × HasStatusInUse image plan l s
+pub named_in_use : (image : Image) (plan : PlanValue) (l : Locator) (s : Status) → (s ≡ Sound) ⊎ (s ≡ Hidden) →
+    HasStatusIn image plan l s → (is_retired plan l.extent ≡ false) × HasStatusInUse image plan l s
 named_in_use image plan l s is h = by (is_retired plan l.extent) h
   where
     none : (s ≡ Sound) ⊎ (s ≡ Hidden) → ¬ HasStatusInRetired image l s
-    none (inl e) r = subst (λ (t : Status). HasStatusInRetired image l t) e r
-    none (inr e) r = subst (λ (t : Status). HasStatusInRetired image l t) e r
+    none (inl e) r = rw e at r
+    none (inr e) r = rw e at r
 
-    by : (b : Bool) → MatchBool b (HasStatusInRetired image l s) (HasStatusInUse image plan l s) → (b ≡ false) × HasStatusInUse image plan l s
+    by : (b : Bool) → MatchBool b (HasStatusInRetired image l s) (HasStatusInUse image plan l s) →
+        (b ≡ false) × HasStatusInUse image plan l s
     by true r = absurd (none is r)
     by false r = (refl, r)

@@ -23,17 +23,29 @@ PartedAt pages first i = IsPartitionPoint (λ p. nat_lt p first ≡ true) (λ p.
 abbrev pub LiesBetween : List ℕ → ℕ → ℕ → Type 0
 LiesBetween pages first last = (q : ℕ) × Contains pages q × (first ≤ q) × (q ≤ last)
 
-pub page_between : (pages : List ℕ) (i first last : ℕ) → IsStrictlyIncreasing pages → PartedAt pages first i → LiesBetween pages first last → (i < length pages) × (get_or pages i 0 ≤ last)
+pub page_between : (pages : List ℕ) (i first last : ℕ) → IsStrictlyIncreasing pages → PartedAt pages first i →
+    LiesBetween pages first last → (i < length pages) × (get_or pages i 0 ≤ last)
 page_between pages i first last rising point (q, there, low, high) =
     let at : get_or pages there.0 0 ≡ q = get_or_default pages there.0 0 q there.1 ∙ there.2 in
     elim (cases_lt there.0 i) [
-      | inl less ↦ let below : get_or pages there.0 0 < first = ltb-true (get_or pages there.0 0) first (point.0 there.0 0 (omega arith) less) in absurd (omega (arith, below, at, low))
+      | inl less ↦
+          let below : get_or pages there.0 0 < first = ltb-true (get_or pages there.0 0) first (point.0 there.0 0 (omega arith) less) in
+          absurd (omega (arith, below, at, low))
       | inr more ↦ elim (cases_eq i there.0) [
-        | inl same ↦ let e : get_or pages i 0 ≡ get_or pages there.0 0 = ap (λ n. get_or pages n 0) same in (omega (arith, same, there.1), omega (arith, e, at, high))
-        | inr differ ↦ let less : get_or pages i 0 < get_or pages there.0 0 = AllPairs-from_increasing pages rising i there.0 0 (omega (arith, more)) there.1 in (omega (arith, more, there.1), omega (arith, less, at, high))
+        | inl same ↦
+            let e : get_or pages i 0 ≡ get_or pages there.0 0 = ap (λ n. get_or pages n 0) same in
+            (omega (arith, same, there.1), omega (arith, e, at, high))
+        | inr differ ↦
+            let less : get_or pages i 0 < get_or pages there.0 0 = AllPairs-from_increasing pages rising i there.0 0 (omega (arith, more)) there.1 in
+            (omega (arith, more, there.1), omega (arith, less, at, high))
       ]
     ]
 
-pub between_page : (pages : List ℕ) (i first last : ℕ) → PartedAt pages first i → i < length pages → get_or pages i 0 ≤ last → LiesBetween pages first last
-between_page pages i first last point below high =
-    (get_or pages i 0, (i, below, get_or_default pages i (get_or pages i 0) 0 below), ltb-false (get_or pages i 0) first (point.1 i 0 (omega arith) below), high)
+pub between_page : (pages : List ℕ) (i first last : ℕ) → PartedAt pages first i → i < length pages → get_or pages i 0 ≤ last →
+    LiesBetween pages first last
+between_page pages i first last point below high = (
+  get_or pages i 0,
+  (i, below, get_or_default pages i (get_or pages i 0) 0 below),
+  ltb-false (get_or pages i 0) first (point.1 i 0 (omega arith) below),
+  high,
+)

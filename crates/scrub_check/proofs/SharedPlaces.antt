@@ -1,5 +1,5 @@
 -- Places that several sound locators point to, found among the sorted ones.
-use Rattle.std.proofs.Common.{◌≡◌, ◌<◌, ◌≤◌, Bool, List, [], ◌∷◌, map, nat_lt, arith, refl, sym, ◌∙◌, ap, subst, Ordering, Less}
+use Rattle.std.proofs.Common.{◌≡◌, ◌<◌, ◌≤◌, Bool, List, [], ◌∷◌, map, nat_lt, arith, refl, sym, ◌∙◌, ap, Ordering, Less}
 use Rattle.std.specs.Cmp.{IsTotalOrder, nat_cmp_total}
 use Rattle.std.specs.List.{All, Contains, count_by}
 use Rattle.std.specs.List.Sorted.{IsStrictlySortedBy}
@@ -26,12 +26,16 @@ pub by_place_total : IsTotalOrder by_place
 by_place_total = then_total (on_total (λ p. p.extent) nat_cmp_total) (on_total (λ p. p.offset) nat_cmp_total)
 
 -- what rises still does once each element is mapped to one that is ordered alike
-rising_map : {X Y : Type 0} (R : X → X → Ordering) (S : Y → Y → Ordering) (f : X → Y) (xs : List X) → ((x y : X) → S (f x) (f y) ≡ R x y) → IsStrictlySortedBy R xs → IsStrictlySortedBy S (map f xs)
+rising_map : {X Y : Type 0} (R : X → X → Ordering) (S : Y → Y → Ordering) (f : X → Y) (xs : List X) →
+    ((x y : X) → S (f x) (f y) ≡ R x y) → IsStrictlySortedBy R xs → IsStrictlySortedBy S (map f xs)
 unfolding IsStrictlySortedBy
 rising_map R S f [] alike rising = tt
 rising_map R S f (x ∷ xs) alike rising =
-    let below : All (λ y. S (f x) (f y) ≡ Less) xs = λ k d lt. alike x _ ∙ All-from_recursion (λ y. R x y ≡ Less) xs rising.0 k d lt in
-    (recursion_from_All (λ y. S (f x) y ≡ Less) (map f xs) (All-map (λ y. S (f x) y ≡ Less) f xs below), rising_map R S f xs alike rising.1)
+    let below : All (λ y. S (f x) (f y) ≡ Less) xs =
+    λ k d lt. alike x _ ∙ All-from_recursion (λ y. R x y ≡ Less) xs rising.0 k d lt in (
+      recursion_from_All (λ y. S (f x) y ≡ Less) (map f xs) (All-map (λ y. S (f x) y ≡ Less) f xs below),
+      rising_map R S f xs alike rising.1,
+    )
 
 -- an element is among what is mapped as what it is mapped to
 mapped_there : {X Y : Type 0} (f : X → Y) (xs : List X) (x : X) → Contains xs x → Contains (map f xs) (f x)
@@ -40,41 +44,57 @@ mapped_there f xs x (i, inside, is) = (i, omega (arith, inside, length-map xs f)
 -- a place that is counted is there
 counted_there : (starts : List Start) (s : Start) → 0 < count_by (is_start s) starts → Contains starts s
 counted_there starts s some =
-    let found = Any-from_list_any (is_start s) starts (any_counts (is_start s) starts ∙ lt-ltb 0 (count_by (is_start s) starts) some) in
-    subst (λ (t : Start). Contains starts t) (tells_apart start_exact found.1 s found.4) (found.0, found.2, found.3)
+    let found =
+    Any-from_list_any (is_start s) starts (any_counts (is_start s) starts ∙ lt-ltb 0 (count_by (is_start s) starts) some) in
+    rw (← (tells_apart start_exact found.1 s found.4)) (found.0, found.2, found.3)
 
 -- the places that are there twice or more are the shared ones
-pub shared_found : (checked : List Checked) (starts once : List Start) (places : List SharedPlace) → AreSoundStarts checked starts → AreDistinct start_cmp starts once →
+pub shared_found : (checked : List Checked) (starts once : List Start) (places : List SharedPlace) →
+    AreSoundStarts checked starts → AreDistinct start_cmp starts once →
     places ≡ shared_by starts once → AreShared checked places
-shared_found checked starts once places are distinct is = subst (λ (ps : List SharedPlace). AreShared checked ps) (sym is) (record {
-  rising = IsStrictlySortedBy-filter by_place several (map (place_counted starts) once) (rising_map start_cmp by_place (place_counted starts) once (λ s t. refl) distinct.rising);
+shared_found checked starts once places are distinct is = rw is (record {
+  rising =
+      IsStrictlySortedBy-filter by_place several (map (place_counted starts) once)
+      (rising_map start_cmp by_place (place_counted starts) once (λ s t. refl) distinct.rising);
   each = λ k d lt. record {
-    counted = All-filter several (λ (p : SharedPlace). p.count ≡ sound_at checked p.extent p.offset) (map (place_counted starts) once) counted k d lt;
+    counted =
+        All-filter several (λ (p : SharedPlace). p.count ≡ sound_at checked p.extent p.offset) (map (place_counted starts) once)
+        counted k d lt;
     several = ltb-true 1 _ (filter_passes several (map (place_counted starts) once) k d lt);
   };
-  all = λ s shared. Contains-filter several (map (place_counted starts) once) s (lt-ltb 1 s.count (omega (arith, shared.several))) (there s shared);
+  all = λ s shared.
+      Contains-filter several (map (place_counted starts) once) s (lt-ltb 1 s.count (omega (arith, shared.several)))
+      (there s shared);
 })
   where
     several : SharedPlace → Bool
     several p = nat_lt 1 p.count
 
     counted : All (λ (p : SharedPlace). p.count ≡ sound_at checked p.extent p.offset) (map (place_counted starts) once)
-    counted = All-map (λ (p : SharedPlace). p.count ≡ sound_at checked p.extent p.offset) (place_counted starts) once (λ k d lt. are _)
+    counted =
+        All-map (λ (p : SharedPlace). p.count ≡ sound_at checked p.extent p.offset) (place_counted starts) once
+        (λ k d lt. are _)
 
     there : (s : SharedPlace) → IsShared checked s → Contains (map (place_counted starts) once) s
     there s shared =
         let start : Start = record { extent = s.extent; offset = s.offset } in
         let so_often : count_by (is_start start) starts ≡ s.count = are start ∙ sym shared.counted in
-        let among : Contains once start = (distinct.same start).1 (counted_there starts start (omega (arith, so_often, shared.several))) in
-        let itself : place_counted starts start ≡ s = λ i. record { extent = s.extent; offset = s.offset; count = so_often i } in
-        subst (λ (p : SharedPlace). Contains (map (place_counted starts) once) p) itself (mapped_there (place_counted starts) once start among)
+        let among : Contains once start =
+        (distinct.same start).1 (counted_there starts start (omega (arith, so_often, shared.several))) in
+        let itself : place_counted starts start ≡ s = λ i. record {
+          extent = s.extent;
+          offset = s.offset;
+          count = so_often i;
+        } in
+        rw itself at (mapped_there (place_counted starts) once start among)
 
 no_places : IsStrictlySortedBy by_place []
 unfolding IsStrictlySortedBy
 no_places = tt
 
 -- if each place is there once, none is shared
-pub none_shared : (checked : List Checked) (starts : List Start) → AreSoundStarts checked starts → IsStrictlySortedBy start_cmp starts → AreShared checked []
+pub none_shared : (checked : List Checked) (starts : List Start) → AreSoundStarts checked starts →
+    IsStrictlySortedBy start_cmp starts → AreShared checked []
 none_shared checked starts are rising = record {
   rising = no_places;
   each = λ k d lt. absurd (omega (arith, lt));

@@ -49,10 +49,15 @@ start_exact a b e = λ i. record { extent = extent i; offset = offset i }
 
 -- places are equal exactly if the order makes them equal
 pub start_ties : (a b : Start) → ((a.extent == b.extent) && (a.offset == b.offset)) ≡ eq_by_cmp start_cmp a b
-start_ties a b = sym (both (nat_cmp a.extent b.extent) (nat_cmp a.offset b.offset) ∙ ap₂ (λ x y. x && y) (same_number a.extent b.extent) (same_number a.offset b.offset))
+start_ties a b =
+    sym
+    (both (nat_cmp a.extent b.extent) (nat_cmp a.offset b.offset) ∙ ap₂ (λ x y. x && y) (same_number a.extent b.extent) (same_number a.offset b.offset))
 
-named_there : (e p : ℕ) (c : Checked) → is_start (record { extent = e; offset = p }) (start_named c) ≡ ((c.locator.extent == e) && (c.locator.offset == p))
-named_there e p c = both (nat_cmp c.locator.extent e) (nat_cmp c.locator.offset p) ∙ ap₂ (λ a b. a && b) (same_number c.locator.extent e) (same_number c.locator.offset p)
+named_there : (e p : ℕ) (c : Checked) →
+    is_start (record { extent = e; offset = p }) (start_named c) ≡ ((c.locator.extent == e) && (c.locator.offset == p))
+named_there e p c =
+    both (nat_cmp c.locator.extent e) (nat_cmp c.locator.offset p)
+    ∙ ap₂ (λ a b. a && b) (same_number c.locator.extent e) (same_number c.locator.offset p)
 
 -- the sound ones
 abbrev pub sound_ones : List Checked → List Checked
@@ -66,7 +71,8 @@ one_named c cs e p true sound rest =
     ap (λ b. count_by there (map start_named (cond b (c ∷ sound_ones cs) (sound_ones cs)))) sound
     ∙ sum_by-cons (λ t. cond (there t) 1 0) (start_named c) (map start_named (sound_ones cs))
     ∙ ap₂ (λ b n. cond b 1 0 + n) (named_there e p c) rest
-    ∙ sym (sum_by-cons (λ c. cond (is_sound_at e p c) 1 0) c cs ∙ ap (λ b. cond (b && (c.locator.extent == e) && (c.locator.offset == p)) 1 0 + sound_at cs e p) sound)
+    ∙ sym
+    (sum_by-cons (λ c. cond (is_sound_at e p c) 1 0) c cs ∙ ap (λ b. cond (b && (c.locator.extent == e) && (c.locator.offset == p)) 1 0 + sound_at cs e p) sound)
 one_named c cs e p false other rest =
     let there : Start → Bool = is_start (record { extent = e; offset = p }) in
     ap (λ b. count_by there (map start_named (cond b (c ∷ sound_ones cs) (sound_ones cs)))) other
@@ -74,21 +80,28 @@ one_named c cs e p false other rest =
     ∙ sym (count_out (is_sound_at e p) c cs (ap (λ b. b && (c.locator.extent == e) && (c.locator.offset == p)) other))
 
 -- how many sound locators point to a place is how often it is among their places
-pub count_named : (checked : List Checked) (e p : ℕ) → count_by (is_start (record { extent = e; offset = p })) (map start_named (sound_ones checked)) ≡ sound_at checked e p
+pub count_named : (checked : List Checked) (e p : ℕ) →
+    count_by (is_start (record { extent = e; offset = p })) (map start_named (sound_ones checked)) ≡ sound_at checked e p
 count_named [] e p = refl
 count_named (c ∷ cs) e p = one_named c cs e p (is_sound c.status) refl (count_named cs e p)
 
 -- so it is in any order of them
-pub sound_in_order : (checked : List Checked) (starts : List Start) → IsPermutation (sound_starts checked) starts → AreSoundStarts checked starts
-sound_in_order checked starts same s = sum_by-IsPermutation (λ t. cond (is_start s t) 1 0) (sound_starts checked) starts same ∙ count_named checked s.extent s.offset
+pub sound_in_order : (checked : List Checked) (starts : List Start) → IsPermutation (sound_starts checked) starts →
+    AreSoundStarts checked starts
+sound_in_order checked starts same s =
+    sum_by-IsPermutation (λ t. cond (is_start s t) 1 0) (sound_starts checked) starts same
+    ∙ count_named checked s.extent s.offset
 
 -- a search finds a place exactly if it is there
-pub found_counts : (starts : List Start) (s : Start) (r : Result ℕ ℕ) → IsSorted start_cmp starts → IsSearchInRange r (length starts) → IsBinarySearchResult (λ t. start_cmp t s) starts r →
+pub found_counts : (starts : List Start) (s : Start) (r : Result ℕ ℕ) → IsSorted start_cmp starts →
+    IsSearchInRange r (length starts) → IsBinarySearchResult (λ t. start_cmp t s) starts r →
     is_ok r ≡ nat_lt 0 (count_by (is_start s) starts)
-found_counts starts s (Ok i) sorted inside found = sym (sym (any_counts (is_start s) starts) ∙ any_at (is_start s) starts i inside (λ d. ap is_eq (found d)))
+found_counts starts s (Ok i) sorted inside found =
+    sym (sym (any_counts (is_start s) starts) ∙ any_at (is_start s) starts i inside (λ d. ap is_eq (found d)))
 found_counts starts s (Err i) sorted inside found =
     let point = found (rises_against start_total starts s sorted) in
-    sym (ap (λ n. nat_lt 0 n) (count_between (is_start s) starts 0 0 (omega arith) (omega arith) (λ k d lt. absurd (omega (arith, lt))) (λ k d from lt. absurd (omega (arith, lt)))
+    sym
+    (ap (λ n. nat_lt 0 n) (count_between (is_start s) starts 0 0 (omega arith) (omega arith) (λ k d lt. absurd (omega (arith, lt))) (λ k d from lt. absurd (omega (arith, lt)))
     (λ k d from lt. elim (cases_lt k i) [
       | inl less ↦ ap is_eq (point.0 k d (omega arith) less)
       | inr more ↦ ap is_eq (point.1 k d more lt)
@@ -97,19 +110,24 @@ found_counts starts s (Err i) sorted inside found =
 -- so it does if a sound locator points there
 pub found_sound : (checked : List Checked) (starts : List Start) (e p : ℕ) (found : Bool) → AreSoundStarts checked starts →
     found ≡ nat_lt 0 (count_by (is_start (record { extent = e; offset = p })) starts) → found ≡ has_sound_at checked e p
-found_sound checked starts e p found are is = is ∙ ap (λ n. nat_lt 0 n) (are (record { extent = e; offset = p })) ∙ sym (any_counts (is_sound_at e p) checked)
+found_sound checked starts e p found are is =
+    is ∙ ap (λ n. nat_lt 0 n) (are (record { extent = e; offset = p })) ∙ sym (any_counts (is_sound_at e p) checked)
 
 -- a live chunk is found by its start
-pub live_found : (checked : List Checked) (starts : List Start) (e : ℕ) (item : Item) → AreSoundStarts checked starts → is_live_by starts e item ≡ is_live checked e item
+pub live_found : (checked : List Checked) (starts : List Start) (e : ℕ) (item : Item) → AreSoundStarts checked starts →
+    is_live_by starts e item ≡ is_live checked e item
 live_found checked starts e item are = ap (λ b. is_chunk item && b) (found_sound checked starts e (start_of item) _ are refl)
 
-pub live_sizes : (checked : List Checked) (starts : List Start) (e : ℕ) (items : List Item) → AreSoundStarts checked starts → filter (is_live_by starts e) items ≡ filter (is_live checked e) items
+pub live_sizes : (checked : List Checked) (starts : List Start) (e : ℕ) (items : List Item) → AreSoundStarts checked starts →
+    filter (is_live_by starts e) items ≡ filter (is_live checked e) items
 live_sizes checked starts e [] are = refl
-live_sizes checked starts e (i ∷ is) are = ap₂ (λ b xs. cond b (i ∷ xs) xs) (live_found checked starts e i are) (live_sizes checked starts e is are)
+live_sizes checked starts e (i ∷ is) are =
+    ap₂ (λ b xs. cond b (i ∷ xs) xs) (live_found checked starts e i are) (live_sizes checked starts e is are)
 
 -- chunks that aren't found are those to which no sound locator points
 pub orphans_found : (checked : List Checked) (starts : List Start) (ps : List Place) → AreSoundStarts checked starts →
     filter (λ p. not (is_named_by starts p)) ps ≡ filter (λ p. not (has_sound_at checked p.extent p.offset)) ps
 orphans_found checked starts [] are = refl
 orphans_found checked starts (p ∷ ps) are =
-    ap₂ (λ b xs. cond (not b) (p ∷ xs) xs) (found_sound checked starts p.extent p.offset _ are refl) (orphans_found checked starts ps are)
+    ap₂ (λ b xs. cond (not b) (p ∷ xs) xs) (found_sound checked starts p.extent p.offset _ are refl)
+    (orphans_found checked starts ps are)

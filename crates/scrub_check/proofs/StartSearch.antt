@@ -1,5 +1,5 @@
 -- A search that halves what rises.
-use Rattle.std.proofs.Common.{◌≡◌, ◌<◌, ◌≤◌, ◌+◌, ◌*◌, ◌^◌, ℕ, zero, suc, List, length, get_or, arith, sym, ◌∙◌, subst, inl, inr}
+use Rattle.std.proofs.Common.{◌≡◌, ◌<◌, ◌≤◌, ◌+◌, ◌*◌, ◌^◌, ℕ, zero, suc, List, length, get_or, arith, ◌∙◌, inl, inr}
 use Rattle.std.specs.List.{Contains}
 use Rattle.std.specs.List.Sorted.{IsStrictlyIncreasing}
 use Rattle.std.proofs.lemmas.Bool.{cases_lt, cases_eq}
@@ -17,28 +17,33 @@ pub record LiesWithin (xs : List ℕ) (x low high : ℕ) : Type 0 where
 abbrev pub HalvesIn : ℕ → ℕ → ℕ → Type 0
 HalvesIn n steps width = (digits : ℕ) → n < 2 ^ digits → (left : ℕ) × (steps + left ≡ digits) × (width < 2 ^ left)
 
-pub lies_above : (xs : List ℕ) (x low high middle : ℕ) → IsStrictlyIncreasing xs → LiesWithin xs x low high → middle < high → low ≤ middle → get_or xs middle 0 < x → LiesWithin xs x (middle + 1) high
+pub lies_above : (xs : List ℕ) (x low high middle : ℕ) → IsStrictlyIncreasing xs → LiesWithin xs x low high → middle < high →
+    low ≤ middle → get_or xs middle 0 < x → LiesWithin xs x (middle + 1) high
 lies_above xs x low high middle rising h lt le less = record {
   ordered = omega (arith, lt);
   inside = h.inside;
   below = λ k under. elim (cases_eq k middle) [
-    | inl same ↦ subst (λ (n : ℕ). get_or xs n 0 < x) (sym same) less
+    | inl same ↦ rw same less
     | inr differ ↦
-        let up : get_or xs k 0 < get_or xs middle 0 = AllPairs-from_increasing xs rising k middle 0 (omega (arith, under)) (let inside = h.inside in omega (arith, lt, inside)) in
+        let up : get_or xs k 0 < get_or xs middle 0 =
+        AllPairs-from_increasing xs rising k middle 0 (omega (arith, under))
+        (let inside = h.inside in omega (arith, lt, inside)) in
         omega (arith, up, less)
   ];
   above = h.above;
 }
 
-pub lies_below : (xs : List ℕ) (x low high middle : ℕ) → IsStrictlyIncreasing xs → LiesWithin xs x low high → middle < high → low ≤ middle → x < get_or xs middle 0 → LiesWithin xs x low middle
+pub lies_below : (xs : List ℕ) (x low high middle : ℕ) → IsStrictlyIncreasing xs → LiesWithin xs x low high → middle < high →
+    low ≤ middle → x < get_or xs middle 0 → LiesWithin xs x low middle
 lies_below xs x low high middle rising h lt le more = record {
   ordered = le;
   inside = (let inside = h.inside in omega (arith, lt, inside));
   below = h.below;
   above = λ k from under. elim (cases_eq k middle) [
-    | inl same ↦ subst (λ (n : ℕ). x < get_or xs n 0) (sym same) more
+    | inl same ↦ rw same more
     | inr differ ↦
-        let up : get_or xs middle 0 < get_or xs k 0 = AllPairs-from_increasing xs rising middle k 0 (omega (arith, from)) under in
+        let up : get_or xs middle 0 < get_or xs k 0 =
+        AllPairs-from_increasing xs rising middle k 0 (omega (arith, from)) under in
         omega (arith, up, more)
   ];
 }
@@ -49,14 +54,17 @@ lies_nowhere xs x low high h end (i, inside, is) =
     let at = get_or_default xs i 0 x inside in
     elim (cases_lt i low) [
       | inl less ↦ let b = h.below i less in absurd (let e : get_or xs i 0 ≡ x = at ∙ is in omega (arith, b, e))
-      | inr more ↦ let a = h.above i (omega (arith, more, end)) inside in absurd (let e : get_or xs i 0 ≡ x = at ∙ is in omega (arith, a, e))
+      | inr more ↦
+          let a = h.above i (omega (arith, more, end)) inside in
+          absurd (let e : get_or xs i 0 ≡ x = at ∙ is in omega (arith, a, e))
     ]
 
 -- one more step leaves at most half
 pub halves_more : (n steps width less : ℕ) → HalvesIn n steps width → 0 < width → 2 * less ≤ width → HalvesIn n (steps + 1) less
 halves_more n steps width less h some half digits lt = go (h digits lt)
   where
-    go : (left : ℕ) × (steps + left ≡ digits) × (width < 2 ^ left) → (left : ℕ) × (steps + 1 + left ≡ digits) × (less < 2 ^ left)
+    go : (left : ℕ) × (steps + left ≡ digits) × (width < 2 ^ left) →
+        (left : ℕ) × (steps + 1 + left ≡ digits) × (less < 2 ^ left)
     go (zero, e, under) = absurd (omega (arith, some, under))
     go (suc left, e, under) = (left, omega (arith, e), omega (arith, half, under))
 

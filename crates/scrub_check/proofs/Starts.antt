@@ -21,14 +21,18 @@ starts_rise x items pos h = go 0 items h.joined h.each
     go a (i ∷ next ∷ is) j each zero hk =
         let one = advances x i pos (All-head (IsItem x) i (next ∷ is) each) in omega (arith, one.0, j.1.0)
     go a (i ∷ next ∷ is) j each (suc k) hk =
-        let more : get_or (map start_of (next ∷ is)) k 0 < get_or (map start_of (next ∷ is)) (k + 1) 0 = go (stop_of i) (next ∷ is) j.1 (All-tail (IsItem x) i (next ∷ is) each) k (omega (arith, hk)) in
-        subst (λ (n : ℕ). get_or (map start_of (next ∷ is)) k 0 < get_or (map start_of (i ∷ next ∷ is)) n 0) {x = suc (k + 1)} (omega arith) more
+        let more : get_or (map start_of (next ∷ is)) k 0 < get_or (map start_of (next ∷ is)) (k + 1) 0 =
+        go (stop_of i) (next ∷ is) j.1 (All-tail (IsItem x) i (next ∷ is) each) k (omega (arith, hk)) in
+        subst (λ (n : ℕ). get_or (map start_of (next ∷ is)) k 0 < get_or (map start_of (i ∷ next ∷ is)) n 0) {x = suc (k + 1)}
+        (omega arith) more
 
 -- an item of the tiling begins where the i-th one does, and one that begins there is among them
-pub begins : (x : Extent) (items : List Item) (i p : ℕ) → IsTiling x items → i < length items → slice_index (map start_of items) i ≡ p → BeginsAt x p
+pub begins : (x : Extent) (items : List Item) (i p : ℕ) → IsTiling x items → i < length items →
+    slice_index (map start_of items) i ≡ p → BeginsAt x p
 begins x items i p tiled below at =
     let inside : i < length (map start_of items) = omega (arith, below, length-map items start_of) in
     record { items = items; tiled = tiled; begins = (i, inside, get_or_default (map start_of items) i p 0 inside ∙ at) }
 
-pub begins_among : (x : Extent) (items : List Item) (p : ℕ) → 0 < x.page → IsTiling x items → BeginsAt x p → Contains (map start_of items) p
-begins_among x items p pos tiled b = subst (λ (is : List Item). Contains (map start_of is) p) (one_tiling x b.items items pos b.tiled tiled) b.begins
+pub begins_among : (x : Extent) (items : List Item) (p : ℕ) → 0 < x.page → IsTiling x items → BeginsAt x p →
+    Contains (map start_of items) p
+begins_among x items p pos tiled b = rw (one_tiling x b.items items pos b.tiled tiled) at b.begins

@@ -50,7 +50,8 @@ lies_before_less : (t s : Start) → LiesBefore s.extent s.offset t → start_cm
 lies_before_less t s before = before_less t.extent s.extent t.offset s.offset before.0 before.1
 
 -- one more place lies before a byte
-pub before_more : (starts : List Start) (n e p : ℕ) (d : Start) → n < length starts → AreBefore starts n e p → LiesBefore e p (get_or starts n d) → AreBefore starts (n + 1) e p
+pub before_more : (starts : List Start) (n e p : ℕ) (d : Start) → n < length starts → AreBefore starts n e p →
+    LiesBefore e p (get_or starts n d) → AreBefore starts (n + 1) e p
 before_more starts n e p d inside before here k f lt = elim (cases_eq k n) [
   | inl same ↦ moved k same
   | inr differ ↦ before k f (omega (arith, lt, differ))
@@ -63,8 +64,10 @@ before_more starts n e p d inside before here k f lt = elim (cases_eq k n) [
     moved m same =
         let there : get_or starts n d ≡ get_or starts m f = at ∙ ap (λ (i : ℕ). get_or starts i f) (sym same) in
         let number : (get_or starts n d).extent ≡ (get_or starts m f).extent = ap (λ (s : Start). s.extent) there in
-        let byte : (get_or starts n d).offset ≡ (get_or starts m f).offset = ap (λ (s : Start). s.offset) there in
-        (omega (arith, here.0, number), λ is. let lt : (get_or starts n d).offset < p = here.1 (number ∙ is) in omega (arith, lt, byte))
+        let byte : (get_or starts n d).offset ≡ (get_or starts m f).offset = ap (λ (s : Start). s.offset) there in (
+          omega (arith, here.0, number),
+          λ is. let lt : (get_or starts n d).offset < p = here.1 (number ∙ is) in omega (arith, lt, byte),
+        )
 
 -- what was passed lies before any later byte, too
 pub passed_further : (c : Cursor) (e p f q : ℕ) → HasPassed c e p → e ≤ f → (e ≡ f → p ≤ q) → HasPassed c f q
@@ -88,25 +91,32 @@ top Less h = absurd (omega (arith, h))
 top Equal h = absurd (omega (arith, h))
 
 -- past the last of the places, none is found
-pub found_nowhere : (starts : List Start) (s : Start) (n : ℕ) → IsSorted start_cmp starts → IsFirstFrom starts s n → length starts ≤ n → nat_lt n (length starts) ≡ nat_lt 0 (count_by (is_start s) starts)
+pub found_nowhere : (starts : List Start) (s : Start) (n : ℕ) → IsSorted start_cmp starts → IsFirstFrom starts s n →
+    length starts ≤ n → nat_lt n (length starts) ≡ nat_lt 0 (count_by (is_start s) starts)
 found_nowhere starts s n sorted first end =
-    let none : nat_lt n (length starts) ≡ false = false_from_ne_true (nat_lt n (length starts)) (λ more. let lt = ltb-true n (length starts) more in omega (arith, lt, end)) in
+    let none : nat_lt n (length starts) ≡ false =
+    false_from_ne_true (nat_lt n (length starts))
+    (λ more. let lt = ltb-true n (length starts) more in omega (arith, lt, end)) in
     none
     ∙ found_counts starts s (Err n) sorted first.within
     (λ rises. (λ k d from lt. lies_before_less (get_or starts k d) s (first.before k d lt), λ k d from lt. absurd (omega (arith, from, lt, end))))
 
 -- a place is found exactly if it is the first one that isn't below itself
-pub found_first : (starts : List Start) (s d : Start) (n : ℕ) (r : Ordering) → IsSorted start_cmp starts → IsFirstFrom starts s n → n < length starts → start_cmp (get_or starts n d) s ≡ r →
+pub found_first : (starts : List Start) (s d : Start) (n : ℕ) (r : Ordering) → IsSorted start_cmp starts →
+    IsFirstFrom starts s n → n < length starts → start_cmp (get_or starts n d) s ≡ r →
     is_eq r ≡ nat_lt 0 (count_by (is_start s) starts)
 found_first starts s d n Less sorted first inside is = absurd (true≢false (sym (ap is_lt is) ∙ first.next d inside))
 found_first starts s d n Equal sorted first inside is =
-    found_counts starts s (Ok n) sorted inside (λ f. ap (λ (t : Start). start_cmp t s) (get_or_default starts n f d inside) ∙ is)
+    found_counts starts s (Ok n) sorted inside
+    (λ f. ap (λ (t : Start). start_cmp t s) (get_or_default starts n f d inside) ∙ is)
 found_first starts s d n Greater sorted first inside is =
     found_counts starts s (Err n) sorted first.within
     (λ rises. (
       λ k f from lt. lies_before_less (get_or starts k f) s (first.before k f lt),
       λ k f from lt.
-          let up : ordering_index (start_cmp (get_or starts n f) s) ≤ ordering_index (start_cmp (get_or starts k f) s) = rises_against start_total starts s sorted n k f from lt in
-          let there : start_cmp (get_or starts n f) s ≡ Greater = ap (λ (t : Start). start_cmp t s) (get_or_default starts n f d inside) ∙ is in
+          let up : ordering_index (start_cmp (get_or starts n f) s) ≤ ordering_index (start_cmp (get_or starts k f) s) =
+          rises_against start_total starts s sorted n k f from lt in
+          let there : start_cmp (get_or starts n f) s ≡ Greater =
+          ap (λ (t : Start). start_cmp t s) (get_or_default starts n f d inside) ∙ is in
           top (start_cmp (get_or starts k f) s) (let same = ap ordering_index there in omega (arith, up, same)),
     ))

@@ -1,7 +1,4 @@
-use Rattle.std.proofs.Common.{List, subst}
 use Rattle.std.specs.List.{filter_map}
-use Rattle.std.specs.List.Sorted.{IsPermutation}
-use Rattle.scrub_run.specs.declared.shard_id.ShardId.{ShardId}
 use Rattle.scrub_merge.proofs.Identifiers.{id_cmp_total, id_cmp_exact}
 use Rattle.scrub_check.specs.BrokenShards.{broken_owner}
 use Rattle.scrub_check.proofs.Distinct.{distinct_made}
@@ -14,5 +11,5 @@ returns c =
     let sorted = c.sort.new.self.items in
     broken_found c.args.checked.now c.dedup.new.self.items
     (distinct_made id_cmp_total id_cmp_exact id_ties owners sorted c.dedup.new.self.items
-    (subst (λ (ids : List ShardId). IsPermutation ids sorted) c.in_ok-shards.ensures c.in_ok-sort.ensures.permutation)
+    (rw c.in_ok-shards.ensures at c.in_ok-sort.ensures.permutation)
     c.in_ok-sort.ensures.sorted c.dedup.ensures.filtered)

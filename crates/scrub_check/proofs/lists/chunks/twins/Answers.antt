@@ -1,7 +1,6 @@
-use Rattle.std.proofs.Common.{◌≡◌, ◌∙◌, ap, subst, List, rules}
+use Rattle.std.proofs.Common.{◌≡◌, ◌∙◌, ap, rules}
 use Rattle.std.specs.List.{filter}
 use Rattle.std.proofs.lemmas.Result.{IfOk-weaker}
-use Rattle.scrub_check.specs.declared.lists.place.Place.{Place}
 use Rattle.scrub_check.specs.Chunks.{chunks}
 use Rattle.scrub_check.specs.ChunkUuids.{AreUuidsOf, is_twin_by}
 use Rattle.scrub_check.proofs.SameUuids.{no_twins, twins_found}
@@ -13,7 +12,7 @@ returns-then-are_distinct g c =
     let uuids = c.in_ok-uuids.uuids in
     let found : c.in_ok-chunks.chunks.items ≡ chunks all = c.in_ok-chunks.ensures in
     let read : c.deref.result.now ≡ c.in_ok-chunks.chunks.items = search rules in
-    let are : AreUuidsOf (chunks all) uuids = subst (λ (ps : List Place). AreUuidsOf ps uuids) (read ∙ found) c.in_ok-uuids.ensures in
+    let are : AreUuidsOf (chunks all) uuids = rw (read ∙ found) at c.in_ok-uuids.ensures in
     c.new.ensures.items ∙ no_twins all uuids are (c.are_distinct.ensures.0 (search rules))
 
 pub returns : goal.returns
@@ -23,7 +22,7 @@ returns g c =
     let found : c.in_ok-chunks.chunks.items ≡ chunks all = c.in_ok-chunks.ensures in
     let read : c.deref.result.now ≡ c.in_ok-chunks.chunks.items = search rules in
     let read_again : c.deref-2.result.now ≡ c.in_ok-chunks.chunks.items = search rules in
-    let are : AreUuidsOf (chunks all) uuids = subst (λ (ps : List Place). AreUuidsOf ps uuids) (read ∙ found) c.in_ok-uuids.ensures in
+    let are : AreUuidsOf (chunks all) uuids = rw (read ∙ found) at c.in_ok-uuids.ensures in
     IfOk-weaker c.twins_among.result _ _
     (λ v is. is ∙ ap (filter (is_twin_by uuids)) (read_again ∙ found) ∙ twins_found all uuids are)
     c.twins_among.ensures

@@ -10,7 +10,8 @@ returns-then-not-is_lt c =
     let starts = c.args.starts.now in
     let s = c.args.start in
     let none : Start = record { extent = 0; offset = 0 } in
-    let known : is_lt (start_cmp (get_or starts c.loop-at.at none) s) ≡ false = ap is_lt (sym c.cmp.ensures) ∙ sym c.is_lt.ensures ∙ c.if-not-is_lt.true in
+    let known : is_lt (start_cmp (get_or starts c.loop-at.at none) s) ≡ false =
+    ap is_lt (sym c.cmp.ensures) ∙ sym c.is_lt.ensures ∙ c.if-not-is_lt.true in
     record {
       within = omega (arith, c.loop-at-test.true);
       before = c.loop-at.invariant;
@@ -22,8 +23,10 @@ loop-at-preserved c =
     let starts = c.args.starts.now in
     let s = c.args.start in
     let none : Start = record { extent = 0; offset = 0 } in
-    let known : is_lt (start_cmp (get_or starts c.loop-at.at none) s) ≡ true = ap is_lt (sym c.cmp.ensures) ∙ sym c.is_lt.ensures ∙ c.if-not-is_lt.false in
-    before_more starts c.loop-at.at s.extent s.offset none c.loop-at-test.true c.loop-at.invariant (less_lies_before (get_or starts c.loop-at.at none) s known)
+    let known : is_lt (start_cmp (get_or starts c.loop-at.at none) s) ≡ true =
+    ap is_lt (sym c.cmp.ensures) ∙ sym c.is_lt.ensures ∙ c.if-not-is_lt.false in
+    before_more starts c.loop-at.at s.extent s.offset none c.loop-at-test.true c.loop-at.invariant
+    (less_lies_before (get_or starts c.loop-at.at none) s known)
 
 pub returns : goal.returns
 returns c =

@@ -1,10 +1,8 @@
-use Rattle.std.proofs.Common.{◌≡◌, ℕ, Option, MatchOption, refl, sym, subst}
-use Rattle.scrub_scan.specs.Scanned.{Scanned}
-use Rattle.scrub_check.specs.Live.{live_bytes}
+use Rattle.std.proofs.Common.{ℕ, refl}
 use Rattle.scrub_check.proofs.Sizes.{not_scanned}
 use Rattle.scrub_check.proofs.lists.live.live_bytes.Goals as goal
 
 pub returns-in-None : goal.returns-in-None
 returns-in-None g c =
     let none : ℕ = 0 in
-    subst (λ (o : Option Scanned). MatchOption o (none ≡ none) (λ f. none ≡ live_bytes c.args.checked.now f)) (sym (not_scanned c.args.all.now.extents c.args.extent c.in-None.ensures.none)) refl
+    rw (not_scanned c.args.all.now.extents c.args.extent c.in-None.ensures.none) refl

@@ -5,4 +5,6 @@ use Rattle.scrub_check.proofs.lists.reclaiming.sort_by_free.Goals as goal
 
 -- each call of the key's closure gives what is freed, and the number
 pub returns-clause-sorted : goal.returns-clause-sorted
-returns-clause-sorted c = c.in_ok-sort_by_key.ensures.sorted (λ (a : CandidateValue). (record { 0 = a.free }, a.extent)) (answers_always _ _ _ (λ f a r h called. search rules))
+returns-clause-sorted c =
+    c.in_ok-sort_by_key.ensures.sorted (λ (a : CandidateValue). (record { 0 = a.free }, a.extent))
+    (answers_always _ _ _ (λ f a r h called. search rules))

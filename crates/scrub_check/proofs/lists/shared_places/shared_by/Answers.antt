@@ -1,14 +1,12 @@
-use Rattle.std.proofs.Common.{◌≡◌, ◌∙◌, ap, List, subst, sym, rules}
+use Rattle.std.proofs.Common.{◌≡◌, ◌∙◌, ap, rules}
 use Rattle.std.proofs.lemmas.Result.{IfOk-weaker}
-use Rattle.scrub_check.specs.declared.lists.place.SharedPlace.{SharedPlace}
-use Rattle.scrub_check.specs.Shared.{AreShared}
 use Rattle.scrub_check.specs.SoundStarts.{shared_by}
 use Rattle.scrub_check.proofs.SharedPlaces.{none_shared, shared_found}
 use Rattle.scrub_check.proofs.lists.shared_places.shared_by.Goals as goal
 
 pub returns-then-are_distinct : goal.returns-then-are_distinct
 returns-then-are_distinct c checked are =
-    subst (λ (ps : List SharedPlace). AreShared checked ps) (sym c.new.ensures.items)
+    rw c.new.ensures.items
     (none_shared checked c.args.sound.now are (c.are_distinct.ensures.0 (search rules)))
 
 pub returns : goal.returns

@@ -1,4 +1,4 @@
-use Rattle.std.proofs.Common.{◌++◌, ◌∷◌, [], List, take, refl, sym, ◌∙◌, ap, subst}
+use Rattle.std.proofs.Common.{◌++◌, ◌∷◌, [], List, take, refl, sym, ◌∙◌, ap}
 use Rattle.std.proofs.lemmas.List.{take_all, append-nil}
 use Rattle.scrub_scan.specs.declared.item.Item.{Item}
 use Rattle.scrub_check.specs.declared.lists.sound_starts.Start.{Start}
@@ -16,11 +16,13 @@ loop-item-init c = record {
 
 pub put_item-requires-clause-passed : goal.put_item-requires-clause-passed
 put_item-requires-clause-passed c =
-    passed_at c.loop-item.cursor c.args.extent c.args.items.now c.loop-item.item-index c.item-item.result c.item-item.result c.loop-item-test.true c.item-item.is c.loop-item.invariant.passed
+    passed_at c.loop-item.cursor c.args.extent c.args.items.now c.loop-item.item-index c.item-item.result c.item-item.result
+    c.loop-item-test.true c.item-item.is c.loop-item.invariant.passed
 
 pub put_item-requires-clause-fits : goal.put_item-requires-clause-fits
 put_item-requires-clause-fits c =
-    fits_next c.args.cursor.now.starts.now c.args.extent c.args.items.now c.loop-item.item-index c.item-item.result c.item-item.result c.loop-item.live c.loop-item-test.true c.item-item.is
+    fits_next c.args.cursor.now.starts.now c.args.extent c.args.items.now c.loop-item.item-index c.item-item.result
+    c.item-item.result c.loop-item.live c.loop-item-test.true c.item-item.is
     c.loop-item.invariant.known c.requires.sizes
 
 pub returns-in_err-put_item-clause-same : goal.returns-in_err-put_item-clause-same
@@ -36,24 +38,29 @@ loop-item-preserved c =
     let l = c.loop-item.invariant in
     let put = c.in_ok-put_item.ensures in
     let known : AreLiveBy c.loop-item.cursor.starts.now e (take i items ++ item ∷ []) c.put_item.new.live =
-    put.live (take i items) (subst (λ (ss : List Start). AreLiveBy ss e (take i items) c.loop-item.live) (sym l.same) l.known) in
+    put.live (take i items) (rw l.same l.known) in
     record {
       known = live_next starts e items i item item c.put_item.new.live c.loop-item-test.true c.item-item.is
-          (subst (λ (ss : List Start). AreLiveBy ss e (take i items ++ item ∷ []) c.put_item.new.live) l.same known);
-      left = orphans_more starts e items i item item c.args.orphans.now.items c.loop-item.orphans.items c.put_item.new.orphans.items c.loop-item-test.true c.item-item.is l.left
+          (rw l.same at known);
+      left =
+          orphans_more starts e items i item item c.args.orphans.now.items c.loop-item.orphans.items
+          c.put_item.new.orphans.items c.loop-item-test.true c.item-item.is l.left
           (put.orphans ∙ ap (λ (ss : List Start). c.loop-item.orphans.items ++ orphans_by ss e (item ∷ [])) l.same);
       same = put.same ∙ l.same;
-      passed = passed_next c.put_item.new.cursor e items i item item c.requires.rising c.loop-item-test.true c.item-item.is put.passed;
+      passed =
+          passed_next c.put_item.new.cursor e items i item item c.requires.rising c.loop-item-test.true c.item-item.is
+          put.passed;
     }
 
 pub returns-clause-live : goal.returns-clause-live
 returns-clause-live c =
-    subst (λ (is : List Item). AreLiveBy c.args.cursor.now.starts.now c.args.extent is c.loop-item.live) (take_all c.loop-item.item-index c.args.items.now c.loop-item-test.false) c.loop-item.invariant.known
+    rw (take_all c.loop-item.item-index c.args.items.now c.loop-item-test.false) at c.loop-item.invariant.known
 
 pub returns-clause-orphans : goal.returns-clause-orphans
 returns-clause-orphans c =
     c.loop-item.invariant.left
-    ∙ ap (λ (is : List Item). c.args.orphans.now.items ++ orphans_by c.args.cursor.now.starts.now c.args.extent is) (take_all c.loop-item.item-index c.args.items.now c.loop-item-test.false)
+    ∙ ap (λ (is : List Item). c.args.orphans.now.items ++ orphans_by c.args.cursor.now.starts.now c.args.extent is)
+    (take_all c.loop-item.item-index c.args.items.now c.loop-item-test.false)
 
 pub returns-clause-same : goal.returns-clause-same
 returns-clause-same c = c.loop-item.invariant.same

@@ -14,7 +14,8 @@ returns-then-not-has-clause-live c = λ items known.
     let e = c.args.extent in
     let item = c.args.item.now in
     let named : false ≡ nat_lt 0 (count_by (is_start (record { extent = e; offset = start_of item })) starts) =
-    sym c.if-not-has.true ∙ c.has.ensures.stands ∙ ap (λ (n : ℕ). nat_lt 0 (count_by (is_start (record { extent = e; offset = n })) starts)) c.start-offset.ensures in
+    sym c.if-not-has.true ∙ c.has.ensures.stands
+    ∙ ap (λ (n : ℕ). nat_lt 0 (count_by (is_start (record { extent = e; offset = n })) starts)) c.start-offset.ensures in
     let here = a_chunk starts e item c.in-Some.chunk false (sym c.place_of.ensures ∙ c.in-Some.is) named in
     other_more starts e items item c.args.live.now c.args.live.now known here.0 refl refl
 
@@ -24,7 +25,8 @@ returns-then-not-has-clause-orphans c =
     let e = c.args.extent in
     let item = c.args.item.now in
     let named : false ≡ nat_lt 0 (count_by (is_start (record { extent = e; offset = start_of item })) starts) =
-    sym c.if-not-has.true ∙ c.has.ensures.stands ∙ ap (λ (n : ℕ). nat_lt 0 (count_by (is_start (record { extent = e; offset = n })) starts)) c.start-offset.ensures in
+    sym c.if-not-has.true ∙ c.has.ensures.stands
+    ∙ ap (λ (n : ℕ). nat_lt 0 (count_by (is_start (record { extent = e; offset = n })) starts)) c.start-offset.ensures in
     let here = a_chunk starts e item c.in-Some.chunk false (sym c.place_of.ensures ∙ c.in-Some.is) named in
     c.in_ok-push.ensures.items ∙ ap (λ ps. c.args.orphans.now.items ++ ps) (sym here.1)
 
@@ -37,7 +39,8 @@ returns-clause-live c = λ items known.
     let old = c.args.live.now in
     let new : LiveChunks = record { bytes = old.bytes + c.size_of.result; starts = c.push-2.new.self } in
     let named : true ≡ nat_lt 0 (count_by (is_start (record { extent = e; offset = start_of item })) starts) =
-    sym c.if-not-has.false ∙ c.has.ensures.stands ∙ ap (λ (n : ℕ). nat_lt 0 (count_by (is_start (record { extent = e; offset = n })) starts)) c.start-offset.ensures in
+    sym c.if-not-has.false ∙ c.has.ensures.stands
+    ∙ ap (λ (n : ℕ). nat_lt 0 (count_by (is_start (record { extent = e; offset = n })) starts)) c.start-offset.ensures in
     let here = a_chunk starts e item c.in-Some.chunk true (sym c.place_of.ensures ∙ c.in-Some.is) named in
     live_more starts e items item old new known here.0 (ap (λ (n : ℕ). old.bytes + n) c.size_of.ensures)
     (c.in_ok-push-2.ensures.items ∙ ap (λ (n : ℕ). old.starts.items ++ n ∷ []) c.start-offset.ensures)
@@ -48,6 +51,7 @@ returns-clause-orphans c =
     let e = c.args.extent in
     let item = c.args.item.now in
     let named : true ≡ nat_lt 0 (count_by (is_start (record { extent = e; offset = start_of item })) starts) =
-    sym c.if-not-has.false ∙ c.has.ensures.stands ∙ ap (λ (n : ℕ). nat_lt 0 (count_by (is_start (record { extent = e; offset = n })) starts)) c.start-offset.ensures in
+    sym c.if-not-has.false ∙ c.has.ensures.stands
+    ∙ ap (λ (n : ℕ). nat_lt 0 (count_by (is_start (record { extent = e; offset = n })) starts)) c.start-offset.ensures in
     let here = a_chunk starts e item c.in-Some.chunk true (sym c.place_of.ensures ∙ c.in-Some.is) named in
     sym (append-nil c.args.orphans.now.items) ∙ ap (λ ps. c.args.orphans.now.items ++ ps) (sym here.1)

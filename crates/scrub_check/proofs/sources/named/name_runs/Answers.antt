@@ -9,8 +9,11 @@ loop-number-init c = search rules
 
 pub loop-number-preserved : goal.loop-number-preserved
 loop-number-preserved c =
-    runs_more c.args.runs.now c.loop-number.number _ c.loop-number.named.items c.push.new.self.items c.loop-number-test.true c.loop-number.invariant
+    runs_more c.args.runs.now c.loop-number.number _ c.loop-number.named.items c.push.new.self.items c.loop-number-test.true
+    c.loop-number.invariant
     (c.in_ok-push.ensures.items ∙ ap (λ l. c.loop-number.named.items ++ run_named c.loop-number.number l ∷ []) c.index-runs-number.is)
 
 pub returns : goal.returns
-returns c = c.loop-number.invariant ∙ ap (λ ls. named_by_runs 0 ls) (take_all c.loop-number.number c.args.runs.now c.loop-number-test.false)
+returns c =
+    c.loop-number.invariant
+    ∙ ap (λ ls. named_by_runs 0 ls) (take_all c.loop-number.number c.args.runs.now c.loop-number-test.false)

@@ -13,7 +13,8 @@ pub loop-locator-preserved : goal.loop-locator-preserved
 loop-locator-preserved c =
     let id = c.args.binding.now.id in
     let named = c.loop-locator.named.items in
-    shard_more c.args.named.now.items id c.locators-locator-items.result.now c.loop-locator.locator-index _ named c.push.new.self.items
+    shard_more c.args.named.now.items id c.locators-locator-items.result.now c.loop-locator.locator-index _ named
+    c.push.new.self.items
     c.loop-locator-test.true c.loop-locator.invariant
     (c.in_ok-push.ensures.items
     ∙ ap (λ x. named ++ record { owner = Shard x; locator = c.locator-item.result } ∷ []) c.id.ensures
@@ -23,5 +24,6 @@ pub returns : goal.returns
 returns c =
     let id = c.args.binding.now.id in
     c.loop-locator.invariant
-    ∙ ap (λ ls. c.args.named.now.items ++ map (λ (l : Locator). let n : Named = record { owner = Shard id; locator = l } in n) ls)
+    ∙ ap
+    (λ ls. c.args.named.now.items ++ map (λ (l : Locator). let n : Named = record { owner = Shard id; locator = l } in n) ls)
     (take_all c.loop-locator.locator-index c.locators-locator-items.result.now c.loop-locator-test.false ∙ c.locators-locator-items.ensures)

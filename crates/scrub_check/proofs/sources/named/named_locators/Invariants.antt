@@ -5,4 +5,5 @@ use Rattle.scrub_check.proofs.sources.named.named_locators.Given as goal
 
 -- behind the runs the shards so far are named
 abbrev pub invariant-loop-binding : goal.invariant-loop-binding
-invariant-loop-binding l = l.named.items ≡ l.initial.named.items ++ flat_map named_by_shard (take l.binding-index l.binding-items)
+invariant-loop-binding l =
+    l.named.items ≡ l.initial.named.items ++ flat_map named_by_shard (take l.binding-index l.binding-items)

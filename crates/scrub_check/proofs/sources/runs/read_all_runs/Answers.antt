@@ -13,28 +13,39 @@ use Rattle.scrub_check.proofs.Listed.{AreWalkedOf, split, counted}
 use Rattle.scrub_check.proofs.sources.runs.read_all_runs.Given.{Over}
 use Rattle.scrub_check.proofs.sources.runs.read_all_runs.Goals as goal
 
-all_states : (g : Over) (c : goal.In_ok-runs g) → AreWalkedOf (g.D.PageSource.image c.args.disk.now) c.args.plan.now c.args.plan.now.runs c.in_ok-runs.runs.items c.in_ok-runs.states.items
+all_states : (g : Over) (c : goal.In_ok-runs g) →
+    AreWalkedOf (g.D.PageSource.image c.args.disk.now) c.args.plan.now c.args.plan.now.runs c.in_ok-runs.runs.items c.in_ok-runs.states.items
 all_states g c =
     let image = g.D.PageSource.image c.args.disk.now in
     let plan = c.args.plan.now in
-    let IsReported : Locator → Option (List EntryValue) × RunState → Type 0 = λ l one. IsRunIn image plan l one.0 × HasRunStateIn image plan l one.1 in
-    let slice = ap (λ it. it.base.slice.now) c.map.ensures.base ∙ ap (λ it. it.slice.now) c.with_min_len.ensures.base ∙ c.par_iter.ensures ∙ c.runs-locators.ensures.runs in
+    let IsReported : Locator → Option (List EntryValue) × RunState → Type 0 =
+    λ l one. IsRunIn image plan l one.0 × HasRunStateIn image plan l one.1 in
+    let slice =
+    ap (λ it. it.base.slice.now) c.map.ensures.base ∙ ap (λ it. it.slice.now) c.with_min_len.ensures.base ∙ c.par_iter.ensures
+    ∙ c.runs-locators.ensures.runs in
     let h = c.in_ok-collect.ensures in
     let chain = h.1 in
-    let given = subst (λ f. AllZip (λ z r. IfOk r (λ one. IsRunIn (g.D.PageSource.image f.1.now) f.2.now z.now one.0 × HasRunStateIn (g.D.PageSource.image f.1.now) f.2.now z.now one.1)) chain.0 h.0) c.map.ensures.f chain.2 in
+    let given =
+    subst
+    (λ f. AllZip (λ z r. IfOk r (λ one. IsRunIn (g.D.PageSource.image f.1.now) f.2.now z.now one.0 × HasRunStateIn (g.D.PageSource.image f.1.now) f.2.now z.now one.1)) chain.0 h.0)
+    c.map.ensures.f chain.2 in
     let tried = slice-AllZip chain.0 plan.runs (chain.1 ∙ slice) (λ l r. IfOk r (IsReported l)) h.0 given in
-    let each : IfOk c.in_ok-collect.field-0 (λ v. AllZip IsReported plan.runs v.items) = collected (λ v. v.items) IsReported plan.runs h.0 c.in_ok-collect.field-0 tried h.2 in
+    let each : IfOk c.in_ok-collect.field-0 (λ v. AllZip IsReported plan.runs v.items) =
+    collected (λ v. v.items) IsReported plan.runs h.0 c.in_ok-collect.field-0 tried h.2 in
     let read = subst (λ r. IfOk r (λ v. AllZip IsReported plan.runs v.items)) c.in_ok-read.was each in
     let known = split image plan plan.runs c.in_ok-read.read.items read in
     record {
       runs = subst (λ (xs : Runs). AllZip (IsRunIn image plan) plan.runs xs) (sym c.in_ok-runs.ensures.runs) known.runs;
-      states = subst (λ (xs : List RunState). AllZip (HasRunStateIn image plan) plan.runs xs) (sym c.in_ok-runs.ensures.states) known.states;
+      states =
+          subst (λ (xs : List RunState). AllZip (HasRunStateIn image plan) plan.runs xs) (sym c.in_ok-runs.ensures.states)
+          known.states;
     }
 
 -- as many runs as states, and as many as the plan names
 pub invariant_of-result : goal.invariant_of-result
 invariant_of-result g c =
-    counted (g.D.PageSource.image c.args.disk.now) c.args.plan.now c.in_ok-runs.runs.items c.in_ok-runs.states.items c.runs-locators.ensures.located.count (all_states g c)
+    counted (g.D.PageSource.image c.args.disk.now) c.args.plan.now c.in_ok-runs.runs.items c.in_ok-runs.states.items
+    c.runs-locators.ensures.located.count (all_states g c)
 
 -- the lists have what each locator has
 pub returns : goal.returns

@@ -1,10 +1,5 @@
-use Rattle.std.proofs.Common.{List, sym, subst, take}
-use Rattle.std.specs.List.{AllZip}
 use Rattle.std.proofs.lemmas.Slice.Zip.{AllZip-long}
-use Rattle.scrub_frame.specs.declared.locator.Locator.{Locator}
-use Rattle.scrub_merge.specs.Binding.{Runs}
-use Rattle.scrub_check.specs.declared.sources.runs.RunState.{RunState}
-use Rattle.scrub_check.specs.Runs.{IsRunIn, HasRunStateIn}
+use Rattle.scrub_check.specs.Runs.{IsRunIn}
 use Rattle.scrub_check.proofs.Listed.{walked_more, all_states, counted}
 use Rattle.scrub_check.proofs.sources.runs.read_runs.Goals as goal
 
@@ -13,8 +8,8 @@ loop-locator-init g c =
     let image = g.D.PageSource.image c.args.disk.now in
     let plan = c.args.plan.now in
     record {
-      runs = subst (λ (xs : Runs). AllZip (IsRunIn image plan) (take 0 c.runs-locators.result.now) xs) (sym c.in_ok-runs.ensures.items) tt;
-      states = subst (λ (xs : List RunState). AllZip (HasRunStateIn image plan) (take 0 c.runs-locators.result.now) xs) (sym c.in_ok-states.ensures.items) tt;
+      runs = rw c.in_ok-runs.ensures.items tt;
+      states = rw c.in_ok-states.ensures.items tt;
     }
 
 pub loop-locator-preserved : goal.loop-locator-preserved
@@ -22,17 +17,19 @@ loop-locator-preserved g c =
     let image = g.D.PageSource.image c.args.disk.now in
     let plan = c.args.plan.now in
     walked_more image plan c.runs-locators.result.now c.loop-locator.runs.items c.push.new.self.items
-    c.loop-locator.states.items c.push-in-loop-locator.new.self.items c.loop-locator.locator-index _ c.in_ok-run.run' c.in_ok-run.state
+    c.loop-locator.states.items c.push-in-loop-locator.new.self.items c.loop-locator.locator-index _ c.in_ok-run.run'
+    c.in_ok-run.state
     c.loop-locator-test.true c.loop-locator.invariant
-    (subst (λ (x : Locator). IsRunIn image plan x c.in_ok-run.run') c.locator-item.is c.in_ok-run.ensures.run)
-    (subst (λ (x : Locator). HasRunStateIn image plan x c.in_ok-run.state) c.locator-item.is c.in_ok-run.ensures.state) c.in_ok-push.ensures.items c.in_ok-push-2.ensures.items
+    (rw c.locator-item.is at c.in_ok-run.ensures.run)
+    (rw c.locator-item.is at c.in_ok-run.ensures.state) c.in_ok-push.ensures.items c.in_ok-push-2.ensures.items
 
 -- as many runs as states, and as many as the plan names
 pub invariant_of-result : goal.invariant_of-result
 invariant_of-result g c =
     let all = all_states (g.D.PageSource.image c.args.disk.now) c.args.plan.now c.runs-locators.result.now c.loop-locator.locator-index c.loop-locator.runs.items c.loop-locator.states.items
     c.loop-locator-test.false c.runs-locators.ensures.runs c.loop-locator.invariant in
-    counted (g.D.PageSource.image c.args.disk.now) c.args.plan.now c.loop-locator.runs.items c.loop-locator.states.items (c.runs-locators.ensures.located.count) all
+    counted (g.D.PageSource.image c.args.disk.now) c.args.plan.now c.loop-locator.runs.items c.loop-locator.states.items
+    (c.runs-locators.ensures.located.count) all
 
 -- all locators are read
 pub returns : goal.returns

@@ -4,4 +4,5 @@ use Rattle.scrub_check.proofs.sources.runs.read_runs.Given as goal
 
 -- the runs and the states so far are those of the locators so far
 abbrev pub invariant-loop-locator : goal.invariant-loop-locator
-invariant-loop-locator g l = AreWalkedOf (g.D.PageSource.image l.fn.disk) l.fn.plan (take l.locator-index l.locators) l.runs.items l.states.items
+invariant-loop-locator g l =
+    AreWalkedOf (g.D.PageSource.image l.fn.disk) l.fn.plan (take l.locator-index l.locators) l.runs.items l.states.items

@@ -1,7 +1,6 @@
-use Rattle.std.proofs.Common.{ap, subst, Result, Err, List, ℕ}
+use Rattle.std.proofs.Common.{ap, Result, Err}
 use Rattle.scrub_run.specs.declared.run.Run.{Run}
 use Rattle.scrub_run.specs.declared.reading.RunFault.{RunFault}
-use Rattle.scrub_run.specs.Run.{IsRun}
 use Rattle.scrub_check.proofs.Payloads.{holds_none}
 use Rattle.scrub_check.proofs.sources.runs.run_in_chunk.Goals as goal
 
@@ -10,11 +9,12 @@ pub returns-in-Ok : goal.returns-in-Ok
 returns-in-Ok g c = record {
   payload = c.in_ok-payload.payload.items;
   has = c.in_ok-payload.ensures;
-  run = subst (λ (p : List ℕ). IsRun p c.in-Ok.run') c.deref.ensures.value c.in-Ok.ensures.ok;
+  run = rw c.deref.ensures.value at c.in-Ok.ensures.ok;
 }
 
 -- the payload that was read is none
 pub returns-in-Err-NotARun : goal.returns-in-Err-NotARun
 returns-in-Err-NotARun g c =
-    holds_none (g.D.PageSource.image c.args.disk.now) c.args.locator.now c.in_ok-payload.payload.items c.deref.result.now c.in_ok-payload.ensures c.deref.ensures.value
+    holds_none (g.D.PageSource.image c.args.disk.now) c.args.locator.now c.in_ok-payload.payload.items c.deref.result.now
+    c.in_ok-payload.ensures c.deref.ensures.value
     (c.in-Err-NotARun.ensures.not_a_run (ap (λ (fault : RunFault). let known : Result Run RunFault = Err fault in known) c.in-Err-NotARun.field-0-is))

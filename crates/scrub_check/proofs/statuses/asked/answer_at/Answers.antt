@@ -1,12 +1,10 @@
-use Rattle.std.proofs.Common.{inl, subst}
-use Rattle.std.specs.List.{Contains}
-use Rattle.scrub_check.specs.declared.lists.sound_starts.Start.{Start}
+use Rattle.std.proofs.Common.{inl}
 use Rattle.scrub_check.proofs.SeenPlaces.{asked_now}
 use Rattle.scrub_check.proofs.statuses.asked.answer_at.Goals as goal
 
 -- the known answer
 pub returns-in-Some : goal.returns-in-Some
-returns-in-Some g c = inl (subst (λ (s : Start). Contains c.args.asked.now (record { start = s; answer = c.in-Some.one.answer })) c.in-Some.ensures.start c.in-Some.ensures.among)
+returns-in-Some g c = inl (rw c.in-Some.ensures.start at c.in-Some.ensures.among)
 
 -- or what asking gives
 pub returns : goal.returns

@@ -14,7 +14,10 @@ returns g c =
     let slice = ap (λ it. it.slice.now) c.map.ensures.base ∙ c.par_iter.ensures in
     let h = c.in_ok-known.ensures in
     let chain = h.1 in
-    let given = subst (λ f. AllZip (λ z r. IsKnownBefore (g.D.PageSource.image f.0.now.disk.now) f.0.now.plan.now z.now r) chain.0 h.0) c.map.ensures.f chain.2 in
+    let given =
+    subst (λ f. AllZip (λ z r. IsKnownBefore (g.D.PageSource.image f.0.now.disk.now) f.0.now.plan.now z.now r) chain.0 h.0)
+    c.map.ensures.f chain.2 in
     let each = slice-AllZip chain.0 named (chain.1 ∙ slice) (IsKnownBefore image plan) h.0 given in
-    let known : AllZip (IsKnownBefore image plan) named c.in_ok-known.known.items = subst (λ (os : List (Option Status)). AllZip (IsKnownBefore image plan) named os) (sym h.2) each in
+    let known : AllZip (IsKnownBefore image plan) named c.in_ok-known.known.items =
+    subst (λ (os : List (Option Status)). AllZip (IsKnownBefore image plan) named os) (sym h.2) each in
     record { count = AllZip-long (IsKnownBefore image plan) named c.in_ok-known.known.items known; known = known }

@@ -8,4 +8,6 @@ use Rattle.scrub_check.proofs.statuses.checked.left_locators.Given as goal
 
 -- nothing is known of those so far
 abbrev pub invariant-loop-i : goal.invariant-loop-i
-invariant-loop-i l = (image : Image) (plan : PlanValue) → AllZip (IsKnownBefore image plan) l.fn.named l.fn.known → All (IsOpen image plan) l.left.items
+invariant-loop-i l =
+    (image : Image) (plan : PlanValue) → AllZip (IsKnownBefore image plan) l.fn.named l.fn.known → All (IsOpen image plan)
+    l.left.items

@@ -1,5 +1,4 @@
-use Rattle.std.proofs.Common.{refl, sym, ap, ◌≡◌, ◌∙◌, ◌+◌, ◌-◌, ◌/◌, List, ℕ, subst}
-use Rattle.scrub_check.proofs.Searches.{LiesBetween}
+use Rattle.std.proofs.Common.{refl, ap, ◌≡◌, ◌∙◌, ◌+◌, ◌-◌, ◌/◌}
 use Rattle.scrub_check.proofs.Gaps.{gap_pages, pages_gap}
 use Rattle.scrub_check.proofs.statuses.extents.has_gap.Goals as goal
 
@@ -12,8 +11,9 @@ returns g c = λ e in_disk is.
     let first = c.args.start / page in
     let last = (c.args.start + c.args.size - 1) / page in
     let same : page ≡ image.geometry.page = c.page-page.ensures ∙ ap (λ x. x.page) c.geometry.ensures in (
-      λ known. gap_pages image e c.args.start c.args.size page first last (source.whole_pages c.args.disk.now) in_disk c.requires.in_extent c.requires.some same refl refl
-          (subst (λ (xs : List ℕ). LiesBetween xs first last) is (c.has_page_between.ensures.0 known)),
-      λ gap. c.has_page_between.ensures.1 (subst (λ (xs : List ℕ). LiesBetween xs first last) (sym is)
+      λ known. gap_pages image e c.args.start c.args.size page first last (source.whole_pages c.args.disk.now) in_disk
+          c.requires.in_extent c.requires.some same refl refl
+          (rw is at (c.has_page_between.ensures.0 known)),
+      λ gap. c.has_page_between.ensures.1 (rw is
           (pages_gap image e c.args.start c.args.size page first last (source.whole_pages c.args.disk.now) in_disk c.requires.in_extent c.requires.some same refl refl gap)),
     )

@@ -1,11 +1,10 @@
-use Rattle.std.proofs.Common.{sym, subst, List, ℕ, is_none}
-use Rattle.std.specs.List.Sorted.{IsStrictlyIncreasing}
+use Rattle.std.proofs.Common.{is_none}
 use Rattle.scrub_check.proofs.Filtered.{filtered_rises}
 use Rattle.scrub_check.proofs.statuses.status.is_unreadable.Goals as goal
 
 pub has_gap-requires-clause-rising : goal.has_gap-requires-clause-rising
 has_gap-requires-clause-rising g c κs within =
-    subst (λ (xs : List ℕ). IsStrictlyIncreasing xs) (sym c.requires.pages)
+    rw c.requires.pages
     (filtered_rises (λ p. is_none ((g.D.PageSource.image c.args.disk.now).page c.args.locator.now.extent p)) 0 (g.D.PageSource.image c.args.disk.now).geometry.pages)
 
 pub returns : goal.returns

@@ -1,9 +1,6 @@
-use Rattle.std.proofs.Common.{Option, map, subst}
+use Rattle.std.proofs.Common.{map}
 use Rattle.std.specs.List.{Contains}
 use Rattle.scrub_scan.specs.Item.{start_of}
-use Rattle.scrub_scan.specs.declared.standing.Standing.{Standing}
-use Rattle.scrub_check.specs.declared.statuses.status.Status.TheVariants.{Sound}
-use Rattle.scrub_check.specs.Judged.{IsJudged}
 use Rattle.scrub_check.proofs.Judged.{StartsAt, at_some, at_none, judged_by_item, none_begins}
 use Rattle.scrub_check.proofs.statuses.status.status_by_item.Goals as goal
 
@@ -12,12 +9,14 @@ pub returns-in-Some : goal.returns-in-Some
 returns-in-Some c image w can tiled =
     let l = c.args.locator.now in
     let items = c.args.items.now in
-    let at : StartsAt items l.offset c.in-Some.i = at_some (StartsAt items l.offset) c.find_start.result.at c.in-Some.i c.in-Some.is c.find_start.ensures.found in
+    let at : StartsAt items l.offset c.in-Some.i =
+    at_some (StartsAt items l.offset) c.find_start.result.at c.in-Some.i c.in-Some.is c.find_start.ensures.found in
     judged_by_item image w l items c.in-Some.i c.index-items-i.result c.judged.result can tiled at c.index-items-i.is
-    (subst (λ (s : Option Standing). IsJudged l s Sound c.judged.result) c.frame_of_item-standing.ensures c.judged.ensures)
+    (rw c.frame_of_item-standing.ensures at c.judged.ensures)
 
 -- none does
 pub returns : goal.returns
 returns c image w can tiled =
     let l = c.args.locator.now in
-    none_begins image w l c.args.items.now tiled (at_none (¬ Contains (map start_of c.args.items.now) l.offset) c.find_start.result.at c.in_default.is c.find_start.ensures.none)
+    none_begins image w l c.args.items.now tiled
+    (at_none (¬ Contains (map start_of c.args.items.now) l.offset) c.find_start.result.at c.in_default.is c.find_start.ensures.none)

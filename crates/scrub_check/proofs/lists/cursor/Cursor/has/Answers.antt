@@ -12,7 +12,10 @@ returns-then-self-clause-stands c =
     let n = c.first_from-self.result in
     c.eq.ensures
     ∙ start_ties (get_or starts n none) c.args.start
-    ∙ found_first starts c.args.start none n (start_cmp (get_or starts n none) c.args.start) c.requires.sorted c.first_from-self.ensures c.if-self.true refl
+    ∙ found_first starts c.args.start none n (start_cmp (get_or starts n none) c.args.start) c.requires.sorted
+    c.first_from-self.ensures c.if-self.true refl
 
 pub returns-else-self-clause-stands : goal.returns-else-self-clause-stands
-returns-else-self-clause-stands c = found_nowhere c.args.self.now.starts.now c.args.start c.first_from-self.result c.requires.sorted c.first_from-self.ensures c.if-self.false
+returns-else-self-clause-stands c =
+    found_nowhere c.args.self.now.starts.now c.args.start c.first_from-self.result c.requires.sorted c.first_from-self.ensures
+    c.if-self.false

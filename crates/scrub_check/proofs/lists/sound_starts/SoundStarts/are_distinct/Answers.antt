@@ -1,10 +1,7 @@
-use Rattle.std.proofs.Common.{◌≡◌, ◌↔◌, IsTrue, List, subst, rules}
-use Rattle.std.specs.List.Sorted.{IsStrictlySortedBy}
-use Rattle.scrub_check.specs.declared.lists.sound_starts.Start.{Start}
-use Rattle.scrub_check.specs.SoundStarts.{start_cmp}
+use Rattle.std.proofs.Common.{◌≡◌, rules}
 use Rattle.scrub_check.proofs.lists.sound_starts.SoundStarts.are_distinct.Goals as goal
 
 pub returns : goal.returns
 returns c =
     let read : c.deref.result.now ≡ c.args.self.now = search rules in
-    subst (λ (ss : List Start). IsTrue c.rises_strictly.result ↔ IsStrictlySortedBy start_cmp ss) read c.rises_strictly.ensures
+    rw read at c.rises_strictly.ensures

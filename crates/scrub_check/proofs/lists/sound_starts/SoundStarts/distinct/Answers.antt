@@ -1,7 +1,6 @@
-use Rattle.std.proofs.Common.{◌≡◌, ◌∙◌, List, subst, sym, rules}
-use Rattle.std.specs.List.Sorted.{IsPermutation, IsSorted}
+use Rattle.std.proofs.Common.{◌≡◌, ◌∙◌, rules}
+use Rattle.std.specs.List.Sorted.{IsSorted}
 use Rattle.std.proofs.lemmas.List.Sorted.{IsPermutation-refl}
-use Rattle.scrub_check.specs.declared.lists.sound_starts.Start.{Start}
 use Rattle.scrub_check.specs.SoundStarts.{start_cmp}
 use Rattle.scrub_check.proofs.Distinct.{distinct_made}
 use Rattle.scrub_check.proofs.SortedStarts.{start_total, start_exact, start_ties}
@@ -12,7 +11,8 @@ returns c =
     let starts = c.args.self.now in
     let read : c.deref.result.now ≡ starts = search rules in
     let sorted : IsSorted start_cmp starts = search rules in
-    let copied : c.in_ok-starts.starts.items ≡ starts = c.in_ok-starts.ensures.items_if_clones_equal (λ x y same. search rules) ∙ read in
+    let copied : c.in_ok-starts.starts.items ≡ starts =
+    c.in_ok-starts.ensures.items_if_clones_equal (λ x y same. search rules) ∙ read in
     distinct_made start_total start_exact start_ties starts c.in_ok-starts.starts.items c.dedup.new.self.items
-    (subst (λ (xs : List Start). IsPermutation starts xs) (sym copied) (IsPermutation-refl starts))
-    (subst (λ (xs : List Start). IsSorted start_cmp xs) (sym copied) sorted) c.dedup.ensures.filtered
+    (rw copied (IsPermutation-refl starts))
+    (rw copied sorted) c.dedup.ensures.filtered

@@ -1,10 +1,7 @@
-use Rattle.std.proofs.Common.{List, subst}
-use Rattle.std.specs.List.Sorted.{IsPermutation}
-use Rattle.scrub_check.specs.declared.lists.sound_starts.Start.{Start}
 use Rattle.scrub_check.proofs.SortedStarts.{sound_in_order}
 use Rattle.scrub_check.proofs.lists.sound_starts.SoundStarts.of.Goals as goal
 
 pub returns : goal.returns
 returns c =
     let starts = c.in_ok-starts.starts.items in
-    sound_in_order c.args.checked.now starts (subst (λ (xs : List Start). IsPermutation xs starts) c.in_ok-starts_of.ensures c.in_ok-starts.ensures.same)
+    sound_in_order c.args.checked.now starts (rw c.in_ok-starts_of.ensures at c.in_ok-starts.ensures.same)
