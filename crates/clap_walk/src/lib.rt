@@ -1,5 +1,5 @@
-//! Facts about every walk of `clap` over arguments, whatever the table of options: lemmas for the crates above, and two
-//! laws. This crate knows nothing of disks or of the program's commands.
+//! Facts about every walk of `clap` over arguments, for any table of options that each take one value and have no default:
+//! lemmas for the crates above, and two laws. This crate knows nothing of disks or of the program's commands.
 #![tactic(auto)]
 
 ghost use Rattle.std.specs.Prelude.{List};
