@@ -3,6 +3,9 @@ pub mod Writes
 pub mod HeldBytes
 pub mod RawBytes
 pub mod RawImages
+pub mod ReadAhead
+pub mod JoinedParts
+pub mod PartsRead
 pub mod LostPages
 pub mod PagesRead
 pub mod Filters

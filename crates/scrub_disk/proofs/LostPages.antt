@@ -1,15 +1,17 @@
 -- Which pages of a loaded image are unreadable.
-use Rattle.std.proofs.Common.{◌≡◌, ◌<◌, ◌≤◌, ◌+◌, ◌-◌, ◌*◌, ℕ, Bool, true, false, cond, List, [], length, get_or, arith, refl, sym, ◌∙◌, inl, inr, ◌⊎◌, Option, Some, None, IfSome}
+use Rattle.std.proofs.Common.{◌≡◌, ◌<◌, ◌≤◌, ◌+◌, ◌-◌, ◌*◌, ℕ, Bool, true, false, cond, List, [], length, get_or, arith, refl, sym, ◌∙◌, inl, inr, ◌⊎◌, Option, Some, None, IfSome, slice_get, ap}
 use Rattle.std.specs.List.{between, Contains}
 use Rattle.std.proofs.lemmas.Nat.{row_fits}
 use Rattle.std.proofs.lemmas.Option.{slice_get_within, none-some}
 use Rattle.scrub_disk.specs.declared.geometry.Geometry.{Geometry}
-use Rattle.std.specs.Bool.{OnFalse}
+use Rattle.std.specs.Bool.{OnFalse, OnTrue}
 use Rattle.std.proofs.lemmas.Bool.{false≢true}
 use Rattle.scrub_disk.specs.Image.{Image, HasWholePages, disk_bytes}
 use Rattle.scrub_disk.specs.Held.{held}
 use Rattle.scrub_disk.specs.Raw.{IsPageAt, HoldsRaw, LosesOnly, HoldsKnown, IsLoadedWith}
 use Rattle.scrub_disk.specs.Marked.{MarksAll, MarksOnly}
+use Rattle.scrub_disk.specs.Ahead.{IsReadFrom}
+use Rattle.scrub_disk.proofs.RawImages.{holds_raw}
 
 -- a page that is whole at its place isn't cut
 uncut : (known : List ℕ) (place size : ℕ) (page : Option (List ℕ)) → 0 < size → length known < place + size →
@@ -146,3 +148,64 @@ loaded_with_more raw few many g named image le l = record {
       };
       not_too_long = λ none. t.not_too_long (omega (arith, none, le));
     }
+
+-- the same by several readers, of which at most `failures` reads may fail; the last one looked behind the last page
+pub loaded_by_readers : (raw was : Option (List ℕ)) (g : Geometry) (named : List (ℕ × ℕ)) (failures before after end : ℕ) (there : Bool) (old new : Image) →
+    was ≡ raw → end ≡ disk_bytes g → there ≡ false → old.geometry ≡ g → after ≤ failures → HasWholePages new →
+    IfSome raw (λ known. HoldsRaw known old) → IfSome raw (λ known. LosesOnly known g [] failures old) →
+    IfSome was (λ known. OnFalse there ((length known ≤ end) ⊎ (before < after))) → MarksAll old new named →
+    IsLoadedWith raw failures g named new
+loaded_by_readers raw was g named failures before after end there old new same at absent is le whole holds lost short m = record {
+  geometry = m.geometry ∙ is;
+  whole = whole;
+  unreadable = m.marked;
+  known = of_known raw holds lost (rw same at short);
+}
+  where
+    not_found : (b : Bool) {P : Type 0} → b ≡ false → OnFalse b P → P
+    not_found false e p = p
+    not_found true e p = absurd (false≢true (sym e))
+
+    of_known : (r : Option (List ℕ)) → IfSome r (λ known. HoldsRaw known old) →
+        IfSome r (λ known. LosesOnly known g [] failures old) →
+        IfSome r (λ known. OnFalse there ((length known ≤ end) ⊎ (before < after))) →
+        IfSome r (λ known. HoldsKnown known failures g named new)
+    of_known None holds lost short = tt
+    of_known (Some known) holds lost short = record {
+      pages = holds_marked known named old new holds m;
+      lost = loses_marked known g named failures failures old new is (omega arith) lost m;
+      not_too_long = λ none. elim (not_found there absent short) [
+        | inl fits ↦ omega (arith, fits, at)
+        | inr more ↦ absurd (omega (arith, none, more, le))
+      ];
+    }
+
+-- a disk whose bytes and marks were read from its first page on has the raw pages
+pub holds_read : (g : Geometry) (raw : Option (List ℕ)) (failures : ℕ) (bytes : List ℕ) (marks : List Bool) (image : Image) →
+    image ≡ held g bytes marks → length bytes ≡ g.page * g.pages * g.extents → length marks ≡ g.pages * g.extents →
+    IsReadFrom raw 0 g.page failures bytes marks → IfSome raw (λ known. HoldsRaw known image)
+holds_read g None failures bytes marks image is lb lm r = tt
+holds_read g (Some known) failures bytes marks image is lb lm r =
+    rw is
+    (holds_raw g known bytes marks lb lm (λ i hi unmarked. ap (slice_get known) (let e : i ≡ 0 * g.page + i = omega arith in e) ∙ r.held i hi unmarked))
+
+-- and has lost only pages that are cut or that failures cost
+pub loses_read : (g : Geometry) (raw : Option (List ℕ)) (failures : ℕ) (bytes : List ℕ) (marks : List Bool) (image : Image) →
+    image ≡ held g bytes marks → length marks ≡ g.pages * g.extents → IfSome raw (λ known. HoldsRaw known image) →
+    IsReadFrom raw 0 g.page failures bytes marks → IfSome raw (λ known. LosesOnly known g [] failures image)
+loses_read g None failures bytes marks image is lm holds r = tt
+loses_read g (Some known) failures bytes marks image is lm holds r =
+    rw is
+    (loses_only g known bytes marks failures
+    (record {
+      failed = r.lost.failed;
+      few = r.lost.few;
+      only = λ n hn marked. let same : 0 + n ≡ n = omega arith in rw same at (r.lost.only n (omega (arith, hn, lm)) marked);
+    })
+    (rw is at holds))
+
+-- a byte that was found behind the last page
+pub longer : (raw was : Option (List ℕ)) (end size : ℕ) (there : Bool) → was ≡ raw → end ≡ size → there ≡ true →
+    IfSome was (λ known. OnTrue there (end < length known)) → IfSome raw (λ known. size < length known)
+longer None was end size there same at found short = tt
+longer (Some known) was end size there same at found short = rw (at, found) at (rw same at short)

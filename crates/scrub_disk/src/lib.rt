@@ -6,13 +6,18 @@ pub mod buffered_extent;
 pub mod geometry;
 pub mod loading;
 pub mod memory;
+pub mod parted_loading;
+pub mod parts;
 pub mod raw;
+pub mod reading;
 pub mod source;
 
 pub use buffered_extent::{BufferedExtent, read_extent, unreadable_pages};
 pub use geometry::{Geometry, GeometryFault};
 pub use loading::{LoadFault, load};
 pub use memory::MemDisk;
+pub use parted_loading::load_in_parts;
+pub use parts::PartedDisk;
 pub use raw::{RawFault, RawImage};
 pub use source::{PageSource, Unreadable};
 pub use std::alloc::AllocError as OutOfMemory;

@@ -63,7 +63,7 @@ fn read_pages<R: RawImage>(raw: &mut R, page: usize, bytes: &mut [u8], unreadabl
 }
 
 /// Whether a byte at an offset can be read.
-fn has_byte_at<R: RawImage>(raw: &mut R, offset: u64) -> bool
+pub(crate) fn has_byte_at<R: RawImage>(raw: &mut R, offset: u64) -> bool
     requires { R.reads raw.old < 2 ^ 63 }
     ensures there { IfSome (R.bytes raw.old) (λ known. OnTrue result (offset < length known)) }
     ensures not_there { IfSome (R.bytes raw.old) (λ known. OnFalse result

@@ -1,0 +1,31 @@
+-- Steps of loading a part of a disk: pages that are read one after another, many at once where that can be.
+use Rattle.std.specs.Prelude.{◌≡◌, ◌<◌, ◌≤◌, ◌+◌, ◌*◌, ◌/◌, ℕ, Bool, true, false, List, length, slice_get, slice_index, slice_index_or, Option, Some, IfSome, ◌⊎◌, Contains}
+
+-- from one byte of a list up to another each byte is the raw one, where the list stands at a place of the raw bytes
+abbrev pub StandsBetween : List ℕ → ℕ → ℕ → ℕ → List ℕ → Type 0
+StandsBetween known place from end bytes =
+    (i : ℕ) → from ≤ i → i < end → slice_get known (place + i) ≡ Some (slice_index bytes i)
+
+-- byte i of a list is the raw byte at the place plus i, unless its page is marked
+abbrev pub HoldsFrom : List ℕ → ℕ → ℕ → List Bool → List ℕ → Type 0
+HoldsFrom known place page marks bytes =
+    (i : ℕ) → i < length bytes → slice_index_or marks (i / page) true ≡ false → slice_get known (place + i) ≡ Some (slice_index bytes i)
+
+-- each marked page among the first ones of a part isn't whole before the bytes end, or is one of those that failures
+-- cost, listed here by their numbers on the disk, at most as many as the failures that were counted
+pub record MarksFrom (bytes : List ℕ) (start page count failures : ℕ) (marks : List Bool) : Type 0 where
+  pub failed : List ℕ
+  pub few : length failed ≤ failures
+  pub only : (n : ℕ) → n < count → slice_index_or marks n false ≡ true →
+      (length bytes < (start + n) * page + page) ⊎ Contains failed (start + n)
+
+-- the bytes and marks of pages that follow one another, from this one on, were read from this text with at most
+-- `failures` failed reads
+pub record IsReadPart (text : List ℕ) (first page failures : ℕ) (bytes : List ℕ) (marks : List Bool) : Type 0 where
+  pub held : HoldsFrom text (first * page) page marks bytes
+  pub lost : MarksFrom text first page (length marks) failures marks
+
+-- the same, if the raw bytes are known
+abbrev pub IsReadFrom : Option (List ℕ) → ℕ → ℕ → ℕ → List ℕ → List Bool → Type 0
+IsReadFrom known first page failures bytes marks =
+    IfSome known (λ text. IsReadPart text first page failures bytes marks)
