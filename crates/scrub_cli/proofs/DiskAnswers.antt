@@ -80,11 +80,11 @@ load_fault known maps was words g no_memory_to_load before same longer = tt
 load_fault known maps was words g too_long before same longer =
     (before, rw same at (longer (λ i. too_long)))
 
--- no more reads failed while loading than may fail of the image
+-- no more reads of all readers fail than may fail of the image
 pub loaded_as_known : (known : KnownRaw) (was : Option (List ℕ)) (g : Sizes) (pages : List (ℕ × ℕ)) (image : Image)
-    (before after most most_before : ℕ) →
-    was ≡ known.bytes → most_before ≡ known.most_failures → most ≡ most_before → after ≤ most →
-    IsLoadedWith was (after - before) g pages image → IsLoadedWith known.bytes known.most_failures g pages image
-loaded_as_known known was g pages image before after most most_before same bound kept within loaded =
-    let few : after - before ≤ known.most_failures = omega (arith, bound, kept, within) in
-    rw same at (loaded_with_more was (after - before) known.most_failures g pages image few loaded)
+    (most most_before : ℕ) →
+    was ≡ known.bytes → most_before ≡ known.most_failures → most ≤ most_before →
+    IsLoadedWith was most g pages image → IsLoadedWith known.bytes known.most_failures g pages image
+loaded_as_known known was g pages image most most_before same bound within loaded =
+    let few : most ≤ known.most_failures = omega (arith, bound, within) in
+    rw same at (loaded_with_more was most known.most_failures g pages image few loaded)

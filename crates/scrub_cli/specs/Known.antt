@@ -8,7 +8,7 @@ pub record KnownRaw : Type 0 where
 
 -- what is known of a file: no bytes, and any of its reads may fail
 abbrev pub file : KnownRaw
-file = record { bytes = None; most_failures = 2 ^ 64 }
+file = record { bytes = None; most_failures = 2 ^ 70 }
 
 -- the text of the map under each name, if it is known
 abbrev pub KnownMaps : Type 0

@@ -59,7 +59,7 @@ fn answer<'a, R: Threads + Wait + Sync, I: Images>(
 {
     match read_words(alloc, words)? {
         Request::Demo => Ok(demo_answer(rt, alloc)?),
-        Request::Items(words) => items(alloc, &words, images),
+        Request::Items(words) => items(rt, alloc, &words, images),
         Request::Scan(words) => scan_answer(rt, alloc, &words, images, Wanted::Report),
         Request::Index(words) => scan_answer(rt, alloc, &words, images, Wanted::Index),
         Request::Locators(words) => scan_answer(rt, alloc, &words, images, Wanted::Locators),
@@ -72,7 +72,7 @@ fn answer<'a, R: Threads + Wait + Sync, I: Images>(
                 Wanted::Reclaimable(words.accepted),
             )
         }
-        Request::Superblocks(words) => superblocks(alloc, &words, images),
+        Request::Superblocks(words) => superblocks(rt, alloc, &words, images),
         Request::Sizes(words) => sizes(alloc, &words, images),
         Request::Version => Ok(version(alloc)?),
     }

@@ -1,8 +1,8 @@
 //! Loading the disk in an image file, with the unreadable pages that the arguments name. The commands check the sizes; for
 //! the map of a rescue see `rescue`.
 
-ghost use Rattle.std.specs.Prelude.{ℕ, MatchOption, MatchResult};
-ghost use Rattle.scrub_disk.specs.Memory.{image_of};
+ghost use Rattle.std.specs.Prelude.{ℕ, ◌<◌, ◌≤◌, MatchOption, MatchResult};
+ghost use Rattle.scrub_disk.specs.Parted.{image_of};
 ghost use Rattle.scrub_cli.specs.DiskImage.{NamesPage, NamePages, IsBadPageFault, IsLoadedDisk, IsDiskFault};
 
 use crate::commands::rescue::{rescue_map, rescued};
@@ -10,8 +10,29 @@ use crate::process::fault::Fault;
 use crate::process::images::Images;
 use crate::words::ImageWords;
 use crate::words::pair::bad_page;
-use scrub_disk::{Geometry, MemDisk, load};
+use scrub_disk::{Geometry, PartedDisk, load_in_parts};
 use std::alloc::Global;
+use std::thread::{Threads, available_parallelism};
+
+/// A disk with fewer bytes than this is loaded by one thread.
+const WORTH_THREADS: u64 = 1 << 22;
+
+/// The most readers of an image.
+const MOST_READERS: usize = 64;
+
+/// How many readers load a disk of these sizes: one for each processor, or one if there are few bytes.
+fn reader_count<R: Threads>(rt: &R, geometry: Geometry) -> usize
+    ensures some { 0 < result }
+    ensures few { result ≤ 64 }
+{
+    if geometry.extent_bytes() as u64 * (geometry.extents() as u64) < WORTH_THREADS {
+        return 1;
+    }
+    match available_parallelism(rt) {
+        Ok(processors) => processors.get().min(MOST_READERS).max(1),
+        Err(_) => 1,
+    }
+}
 
 /// The page of the disk that the argument names, if it names one.
 fn named_page(geometry: Geometry, word: &str) -> Option<(u32, u32)>
@@ -45,13 +66,14 @@ fn bad_pages<'a>(
 
 /// The disk of these sizes that the arguments name. Faults, in this order: the first argument for an unreadable page that
 /// names none, a map that can't be opened, the map's first line that breaks the rules, an image that can't be opened, and an
-/// image that is too long.
-pub fn load_disk<'a, I: Images>(
+/// image that is too long. As many threads read the image as there are processors.
+pub fn load_disk<'a, R: Threads + Sync, I: Images>(
+    rt: &R,
     alloc: Global,
     geometry: Geometry,
     words: &ImageWords<'a>,
     images: &mut I,
-) -> Result<MemDisk, Fault<'a>>
+) -> Result<PartedDisk, Fault<'a>>
     ensures { MatchResult result
         (λ disk. IsLoadedDisk (I.known images.old words.now.name.now) (I.known_map images.old) words.now geometry
         (image_of disk))
@@ -59,9 +81,9 @@ pub fn load_disk<'a, I: Images>(
 {
     let bad = bad_pages(alloc, geometry, &words.bad_pages)?;
     let map = rescue_map(alloc, words.map, images)?;
-    let Some(mut raw) = images.image(words.name) else {
+    let Some(readers) = images.readers(alloc, words.name, reader_count(rt, geometry))? else {
         return Err(Fault::NoImage(words.name));
     };
-    let disk = load(alloc, &mut raw, geometry, &bad)?;
+    let disk = load_in_parts(rt, alloc, readers, geometry, &bad)?;
     Ok(rescued(alloc, disk, &map)?)
 }

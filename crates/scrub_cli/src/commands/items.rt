@@ -11,9 +11,11 @@ use crate::words::ItemsWords;
 use scrub_disk::Geometry;
 use scrub_scan::tile;
 use std::alloc::Global;
+use std::thread::Threads;
 
 /// The items of the extent that the arguments name. Faults are checked in the order of `Fault`.
-pub fn items<'a, I: Images>(
+pub fn items<'a, R: Threads + Sync, I: Images>(
+    rt: &R,
     alloc: Global,
     words: &ItemsWords<'a>,
     images: &mut I,
@@ -32,7 +34,7 @@ pub fn items<'a, I: Images>(
     if pointer > geometry.extent_bytes() {
         return Err(Fault::Pointer);
     }
-    let disk = load_disk(alloc, geometry, image, images)?;
+    let disk = load_disk(rt, alloc, geometry, image, images)?;
     let tiling = tile(alloc, &disk, words.extent, pointer)?;
     Ok(listing(alloc, tiling.as_slice())?)
 }

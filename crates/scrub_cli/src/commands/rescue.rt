@@ -2,7 +2,7 @@
 //! `scrub_map`.
 
 ghost use Rattle.std.specs.Prelude.{◌≡◌, ◌*◌, IfOk, List, MatchResult, Option, length};
-ghost use Rattle.scrub_disk.specs.Memory.{image_of};
+ghost use Rattle.scrub_disk.specs.Parted.{image_of};
 ghost use Rattle.scrub_map.specs.declared.block.MapBlock.{MapBlock};
 ghost use Rattle.scrub_map.specs.Kept.{KeepsBlocks};
 ghost use Rattle.scrub_cli.specs.SizesListed.{AreMarksOf};
@@ -10,7 +10,7 @@ ghost use Rattle.scrub_cli.specs.Rescue.{IsMapFault, IsMapNamed, KeepsMap, Loses
 
 use crate::process::fault::Fault;
 use crate::process::images::{Images, MapReadFault};
-use scrub_disk::{MemDisk, OutOfMemory, PageSource};
+use scrub_disk::{OutOfMemory, PageSource, PartedDisk};
 use scrub_map::{RescueMap, read_map};
 use std::alloc::Global;
 
@@ -57,9 +57,9 @@ pub fn lost_blocks(alloc: Global, map: &Option<RescueMap>) -> Result<Vec<bool>, 
 /// The disk without the pages that the map lacks, if there is a map.
 pub fn rescued(
     alloc: Global,
-    disk: MemDisk,
+    disk: PartedDisk,
     map: &Option<RescueMap>,
-) -> Result<MemDisk, OutOfMemory>
+) -> Result<PartedDisk, OutOfMemory>
     requires { (blocks : Option (List MapBlock)) × KeepsMap map.now blocks }
     ensures { IfOk result (λ r. (blocks : Option (List MapBlock)) → KeepsMap map.now blocks →
         LosesByMap blocks (image_of disk) (image_of r)) }
@@ -71,7 +71,7 @@ pub fn rescued(
 }
 
 /// The disk, with each page unreadable that has a byte which the map lacks.
-fn without_lost(alloc: Global, mut disk: MemDisk, map: &RescueMap) -> Result<MemDisk, OutOfMemory>
+fn without_lost(alloc: Global, mut disk: PartedDisk, map: &RescueMap) -> Result<PartedDisk, OutOfMemory>
     requires { (blocks : List MapBlock) × KeepsBlocks map.now blocks }
     ensures { IfOk result (λ r. (blocks : List MapBlock) → KeepsBlocks map.now blocks →
         LosesPages blocks (image_of disk) (image_of r)) }
@@ -84,7 +84,7 @@ fn without_lost(alloc: Global, mut disk: MemDisk, map: &RescueMap) -> Result<Mem
 }
 
 /// Makes the marked pages unreadable. The marks are by the number of a page among all pages of the disk.
-fn mark_pages(disk: &mut MemDisk, lost: &[bool])
+fn mark_pages(disk: &mut PartedDisk, lost: &[bool])
     requires { length lost.now ≡ (image_of disk.old).geometry.pages * (image_of disk.old).geometry.extents }
     ensures { LosesMarked lost.now (length lost.now) (image_of disk.old) (image_of disk.new) }
 {

@@ -2,7 +2,7 @@
 //! `superblocks`, which reads its extent 0.
 
 ghost use Rattle.std.specs.Prelude.{◌≡◌, ◌+◌, ◌≤◌, IfOk, MatchResult, length};
-ghost use Rattle.scrub_disk.specs.Memory.{image_of};
+ghost use Rattle.scrub_disk.specs.Parted.{image_of};
 ghost use Rattle.scrub_cli.specs.Scan.{AreTakingsOf, IsDiskOf, IsScanAnswer, IsScanFault};
 ghost use Rattle.scrub_cli.specs.Superblock.{IsSuperblocksAnswer};
 
@@ -11,24 +11,25 @@ use crate::commands::disk_image::load_disk;
 use crate::process::fault::Fault;
 use crate::process::images::Images;
 use crate::words::{ImageWords, ScanWords};
-use scrub_disk::{Geometry, MemDisk};
+use scrub_disk::{Geometry, PartedDisk};
 use scrub_pool::Takings;
 use std::alloc::Global;
 use std::sync::Wait;
 use std::thread::Threads;
 
 /// The disk that the arguments name, with the sizes that they give. Faults are checked in the order of `Fault`.
-fn disk_of<'a, I: Images>(
+fn disk_of<'a, R: Threads + Sync, I: Images>(
+    rt: &R,
     alloc: Global,
     words: &ImageWords<'a>,
     images: &mut I,
-) -> Result<MemDisk, Fault<'a>>
+) -> Result<PartedDisk, Fault<'a>>
     ensures { MatchResult result
         (λ disk. IsDiskOf (I.known images.old words.now.name.now) (I.known_map images.old) words.now (image_of disk))
         (IsScanFault (I.known images.old words.now.name.now) (I.known_map images.old) words.now) }
 {
     let geometry = Geometry::new(words.page, words.pages, words.extents)?;
-    load_disk(alloc, geometry, words, images)
+    load_disk(rt, alloc, geometry, words, images)
 }
 
 /// What is wanted of the disk that the arguments name, and the extents that each worker took. Faults are checked in the order
@@ -50,12 +51,13 @@ pub fn scan<'a, R: Threads + Wait + Sync, I: Images>(
         (λ r. AreTakingsOf wanted (I.known images.old words.now.image.name.now) (I.known_map images.old) words.now.image
         r.0.text.items r.0.status r.1.lists) }
 {
-    let disk = disk_of(alloc, &words.image, images)?;
+    let disk = disk_of(rt, alloc, &words.image, images)?;
     Ok(disk_answer(rt, alloc, &disk, words.workers, wanted)?)
 }
 
 /// The lines of the superblocks of the disk that the arguments name. Faults are checked in the order of `Fault`.
-pub fn superblocks<'a, I: Images>(
+pub fn superblocks<'a, R: Threads + Sync, I: Images>(
+    rt: &R,
     alloc: Global,
     words: &ImageWords<'a>,
     images: &mut I,
@@ -65,6 +67,6 @@ pub fn superblocks<'a, I: Images>(
         a.text.items a.status)
         (IsScanFault (I.known images.old words.now.name.now) (I.known_map images.old) words.now) }
 {
-    let disk = disk_of(alloc, words, images)?;
+    let disk = disk_of(rt, alloc, words, images)?;
     Ok(superblock_listing(alloc, &disk)?)
 }

@@ -3,6 +3,7 @@
 ghost use Rattle.std.specs.Prelude.{◌≤◌, Some};
 
 use crate::process::images::{Images, MapReadFault};
+use scrub_disk::OutOfMemory;
 use scrub_fakes::RawBytes;
 use std::alloc::Global;
 
@@ -33,6 +34,20 @@ impl<'a> Images for OneImage<'a> {
             return None;
         }
         Some(RawBytes::failing(self.bytes, self.most, self.failing, self.faults))
+    }
+
+    fn readers(
+        &mut self,
+        alloc: Global,
+        name: &str,
+        _most: usize,
+    ) -> Result<Option<Vec<RawBytes<'a>>>, OutOfMemory> {
+        let Some(raw) = self.image(name) else {
+            return Ok(None);
+        };
+        let mut readers = Vec::new(alloc);
+        readers.push(raw)?;
+        Ok(Some(readers))
     }
 
     fn map(&mut self, alloc: Global, name: &str) -> Result<Vec<u8>, MapReadFault> {

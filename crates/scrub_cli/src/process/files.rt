@@ -1,12 +1,12 @@
 //! Raw images and maps in files of the system. Contracts don't say what a file holds, only how often an image was read and
 //! how often that failed.
 
-ghost use Rattle.std.specs.Prelude.{◌↔◌, ◌⊎◌, ◌≤◌, ◌^◌, IsTrue, None};
+ghost use Rattle.std.specs.Prelude.{◌≡◌, ◌↔◌, ◌⊎◌, ◌*◌, ◌≤◌, ◌^◌, IsTrue, None};
 ghost use Rattle.scrub_cli.specs.FileKind.{IsBlockDevice, IsRegularFile};
 ghost use Rattle.scrub_cli.specs.Known.{file, map_file};
 
 use crate::process::images::{Images, MapReadFault};
-use scrub_disk::{RawFault, RawImage};
+use scrub_disk::{OutOfMemory, RawFault, RawImage};
 use std::alloc::Global;
 use std::fs::{File, Files, metadata};
 use std::io::{ErrorKind, Read};
@@ -18,8 +18,27 @@ pub struct FileImage {
     file: File,
     reads: u64,
     failures: u64,
+    /// How many readers it stands for: 64 if it is the only one.
+    shares: u32,
     ghost counted: { failures ≤ reads },
-    ghost bounded: { failures ≤ 2 ^ 64 },
+    ghost some: { 1 ≤ shares },
+    ghost bounded: { failures ≤ 2 ^ 64 * shares },
+}
+
+impl FileImage {
+    /// A file that wasn't read yet.
+    fn new(file: File, shares: u32) -> FileImage
+        requires { 1 ≤ shares }
+        ensures unread { result.reads ≡ 0 }
+        ensures shares { result.shares ≡ shares }
+    {
+        FileImage {
+            file,
+            reads: 0,
+            failures: 0,
+            shares,
+        }
+    }
 }
 
 impl RawImage for FileImage {
@@ -29,7 +48,7 @@ impl RawImage for FileImage {
 
     ghost failures = { λ image. image.failures };
 
-    ghost most_failures = { λ _. 2 ^ 64 };
+    ghost most_failures = { λ image. 2 ^ 64 * image.shares };
 
     ghost failures_are_reads = { λ image. image.counted };
 
@@ -87,11 +106,27 @@ impl<R: Files<File = File>> Images for NamedFiles<'_, R> {
 
     fn image(&mut self, name: &str) -> Option<FileImage> {
         let file = open_readable(self.runtime, name)?;
-        Some(FileImage {
-            file,
-            reads: 0,
-            failures: 0,
-        })
+        Some(FileImage::new(file, 64))
+    }
+
+    fn readers(
+        &mut self,
+        alloc: Global,
+        name: &str,
+        most: usize,
+    ) -> Result<Option<Vec<FileImage>>, OutOfMemory> {
+        let Some(file) = open_readable(self.runtime, name) else {
+            return Ok(None);
+        };
+        let mut readers = Vec::new(alloc);
+        for _ in 1..most {
+            let Ok(copy) = file.try_clone() else {
+                break;
+            };
+            readers.push(FileImage::new(copy, 1))?;
+        }
+        readers.push(FileImage::new(file, 1))?;
+        Ok(Some(readers))
     }
 
     fn map(&mut self, alloc: Global, name: &str) -> Result<Vec<u8>, MapReadFault> {

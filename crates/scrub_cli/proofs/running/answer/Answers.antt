@@ -16,19 +16,19 @@ pub scan_answer-requires : goal.scan_answer-requires
 scan_answer-requires g c =
     let asked : AskFor (map (λ word. word.now) c.args.words.now) (Scan c.in-Scan.words) =
     rw c.in-Scan.is at c.in_ok-read_words.ensures in
-    (search rules, few_workers asked.1.0 c.in-Scan.words.workers asked.1.2.workers)
+    (search rules, (search rules, few_workers asked.1.0 c.in-Scan.words.workers asked.1.2.workers))
 
 pub scan_answer-requires-in-Index : goal.scan_answer-requires-in-Index
 scan_answer-requires-in-Index g c =
     let asked : AskFor (map (λ word. word.now) c.args.words.now) (Index c.in-Index.words) =
     rw c.in-Index.is at c.in_ok-read_words.ensures in
-    (search rules, few_workers asked.1.0 c.in-Index.words.workers asked.1.2.workers)
+    (search rules, (search rules, few_workers asked.1.0 c.in-Index.words.workers asked.1.2.workers))
 
 pub scan_answer-requires-in-Locators : goal.scan_answer-requires-in-Locators
 scan_answer-requires-in-Locators g c =
     let asked : AskFor (map (λ word. word.now) c.args.words.now) (Locators c.in-Locators.words) =
     rw c.in-Locators.is at c.in_ok-read_words.ensures in
-    (search rules, few_workers asked.1.0 c.in-Locators.words.workers asked.1.2.workers)
+    (search rules, (search rules, few_workers asked.1.0 c.in-Locators.words.workers asked.1.2.workers))
 
 pub returns-in-Scan : goal.returns-in-Scan
 returns-in-Scan g c =
@@ -64,7 +64,7 @@ pub scan_answer-requires-in-Reclaimable : goal.scan_answer-requires-in-Reclaimab
 scan_answer-requires-in-Reclaimable g c =
     let asked : AskFor (map (λ word. word.now) c.args.words.now) (Reclaimable c.in-Reclaimable.words) =
     rw c.in-Reclaimable.is at c.in_ok-read_words.ensures in
-    (search rules, few_workers asked.1.0 c.in-Reclaimable.words.scan.workers asked.1.2.scan.workers)
+    (search rules, (search rules, few_workers asked.1.0 c.in-Reclaimable.words.scan.workers asked.1.2.scan.workers))
 
 pub returns-in-Reclaimable : goal.returns-in-Reclaimable
 returns-in-Reclaimable g c =

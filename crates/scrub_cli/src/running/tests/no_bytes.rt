@@ -4,7 +4,7 @@ ghost use Rattle.std.specs.Prelude.{[], Some, None};
 
 use crate::process::images::{Images, MapReadFault};
 use crate::running::run;
-use scrub_disk::{RawFault, RawImage};
+use scrub_disk::{OutOfMemory, RawFault, RawImage};
 use scrub_fakes::RawBytes;
 use scrub_fakes::published::ZEROS;
 use std::alloc::Global;
@@ -56,6 +56,20 @@ impl<'a> Images for EmptyFile<'a> {
             raw,
             reads: self.reads,
         })
+    }
+
+    fn readers(
+        &mut self,
+        alloc: Global,
+        name: &str,
+        _most: usize,
+    ) -> Result<Option<Vec<NoBytes<'a>>>, OutOfMemory> {
+        let Some(raw) = self.image(name) else {
+            return Ok(None);
+        };
+        let mut readers = Vec::new(alloc);
+        readers.push(raw)?;
+        Ok(Some(readers))
     }
 
     fn map(&mut self, _alloc: Global, _name: &str) -> Result<Vec<u8>, MapReadFault> {

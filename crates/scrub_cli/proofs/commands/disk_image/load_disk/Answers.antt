@@ -1,7 +1,7 @@
 -- Each way out of `load_disk`, in the order of the code.
 use Rattle.std.proofs.Common.{◌-◌, ◌∙◌, ap, refl, Err, List}
 use Rattle.std.proofs.lemmas.Result.{err_from_is_err_and}
-use Rattle.scrub_disk.specs.Memory.{image_of}
+use Rattle.scrub_disk.specs.Parted.{image_of}
 use Rattle.scrub_cli.specs.DiskImage.{AreReadBefore}
 use Rattle.scrub_cli.specs.Known.{KnownRaw}
 use Rattle.scrub_cli.proofs.DiskAnswers.{bad_page_fault, load_fault, loaded_as_known, map_fault}
@@ -40,9 +40,9 @@ returns-in_default g c =
       refl,
     )
 
-pub load-requires-clause-in_range : goal.load-requires-clause-in_range
-load-requires-clause-in_range g c =
-    rw c.deref-2.ensures.value (named_in_range c.args.geometry c.deref.result.now c.in_ok-bad.bad.items c.in_ok-bad.ensures)
+pub load_in_parts-requires-clause-in_range : goal.load_in_parts-requires-clause-in_range
+load_in_parts-requires-clause-in_range g c =
+    λ κs h. rw c.deref-2.ensures.value (named_in_range c.args.geometry c.deref.result.now c.in_ok-bad.bad.items c.in_ok-bad.ensures)
 
 -- the image was not loaded
 pub returns-in_err-disk : goal.returns-in_err-disk
@@ -55,10 +55,11 @@ returns-in_err-disk g c =
     let p = err_from_is_err_and c.from_residual-in_err-disk.result c.from_residual-in_err-disk.ensures.1 in
     let fault = c.in_err-disk.field-0.0 in
     let same = ap (λ (k : List _ → KnownRaw). (k words.name.now).bytes) c.rescue_map.ensures.same_images in
+    let known = rw c.in-Some.is at c.in_ok-readers.ensures.known in
     rw (p.1, p.2)
-    (load_fault (g.I.Images.known c.args.images.now words.name.now) (g.I.Images.known_map c.args.images.now) _ words disk
-    fault before
-    (c.in-Some.ensures.known ∙ same) (λ e. c.in_err-disk.ensures.too_long (ap Err e)))
+    (load_fault (g.I.Images.known c.args.images.now words.name.now) (g.I.Images.known_map c.args.images.now)
+    (g.I.Images.known c.rescue_map.new.images words.name.now).bytes words disk
+    fault before same (λ e. c.in_err-disk.ensures.too_long (ap Err e) _ known))
 
 pub returns : goal.returns
 returns g c =
@@ -68,12 +69,13 @@ returns g c =
     let named = rw c.deref.ensures.value at c.in_ok-bad.ensures in
     let image = image_of c.in_ok-disk.disk in
     let known = g.I.Images.known c.args.images.now words.name.now in
-    let raw = c.load.new.raw in
-    let loaded = rw c.deref-2.ensures.value at c.in_ok-disk.ensures.loaded in
+    let opened = g.I.Images.known c.rescue_map.new.images words.name.now in
+    let all = rw c.in-Some.is at c.in_ok-readers.ensures.known in
+    let few = rw c.in-Some.is at c.in_ok-readers.ensures.bounded in
+    let loaded = rw c.deref-2.ensures.value at (c.in_ok-disk.ensures.loaded opened.bytes all) in
     let image_bytes = ap (λ (k : List _ → KnownRaw). (k words.name.now).bytes) c.rescue_map.ensures.same_images in
     let bound = ap (λ (k : List _ → KnownRaw). (k words.name.now).most_failures) c.rescue_map.ensures.same_images in
-    let as_known = loaded_as_known known _ disk pages image _ _ _ _ (c.in-Some.ensures.known ∙ image_bytes) (c.in-Some.ensures.bounded ∙ bound) c.in_ok-disk.ensures.same_bound
-    (g.met.I.Image.RawImage.failures_are_bounded raw) loaded in
+    let as_known = loaded_as_known known opened.bytes disk pages image _ opened.most_failures image_bytes bound few loaded in
     record {
       unreadable = pages;
       named = named;

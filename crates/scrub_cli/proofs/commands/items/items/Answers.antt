@@ -2,7 +2,7 @@
 use Rattle.std.proofs.Common.{arith, ap, ◌∙◌}
 use Rattle.std.specs.List.{list_all}
 use Rattle.std.proofs.lemmas.Result.{err_from_is_err_and}
-use Rattle.scrub_disk.specs.Memory.{image_of}
+use Rattle.scrub_disk.specs.Parted.{image_of}
 use Rattle.scrub_report.specs.Scrubbed.{is_clean_item}
 use Rattle.scrub_cli.specs.Lines.{lines_of, status_of_clean}
 use Rattle.scrub_cli.proofs.ItemsAnswers.{placed, pointer_fault, items_disk_fault, items_answer}

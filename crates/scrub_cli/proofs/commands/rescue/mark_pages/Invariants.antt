@@ -1,5 +1,5 @@
 -- So far each marked page is unreadable.
-use Rattle.scrub_disk.specs.Memory.{image_of}
+use Rattle.scrub_disk.specs.Parted.{image_of}
 use Rattle.scrub_cli.specs.Rescue.{LosesMarked}
 use Rattle.scrub_cli.proofs.commands.rescue.mark_pages.Given as goal
 

@@ -1,6 +1,6 @@
 -- With a map the pages that it lacks are lost, and without one none is.
 use Rattle.std.proofs.lemmas.Result.{IfOk-weaker}
-use Rattle.scrub_disk.specs.Memory.{image_of}
+use Rattle.scrub_disk.specs.Parted.{image_of}
 use Rattle.scrub_cli.proofs.Rescues.{loses_by_map, some_blocks}
 use Rattle.scrub_cli.proofs.commands.rescue.rescued.Goals as goal
 

@@ -1,6 +1,6 @@
 -- There is one mark for each page, and each marked page is unreadable.
 use Rattle.std.proofs.Common.{◌∙◌, ap, ap₂, ◌*◌, length}
-use Rattle.scrub_disk.specs.Memory.{image_of}
+use Rattle.scrub_disk.specs.Parted.{image_of}
 use Rattle.scrub_cli.proofs.Rescues.{loses_pages}
 use Rattle.scrub_cli.proofs.commands.rescue.without_lost.Goals as goal
 

@@ -1,5 +1,5 @@
 -- The answer is that of the disk that was loaded.
-use Rattle.scrub_disk.specs.Memory.{image_of}
+use Rattle.scrub_disk.specs.Parted.{image_of}
 use Rattle.scrub_cli.proofs.commands.scan.scan.Goals as goal
 
 pub returns-clause-answer : goal.returns-clause-answer

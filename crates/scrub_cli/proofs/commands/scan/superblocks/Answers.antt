@@ -1,5 +1,5 @@
 -- The lines are those of the disk that was loaded.
-use Rattle.scrub_disk.specs.Memory.{image_of}
+use Rattle.scrub_disk.specs.Parted.{image_of}
 use Rattle.scrub_cli.proofs.commands.scan.superblocks.Goals as goal
 
 pub returns : goal.returns
