@@ -61,14 +61,7 @@ fn read_part<R: RawImage>(
     let page = geometry.page() as usize;
     let mut bytes = vec![in alloc; 0u8; page * pages]?;
     let mut marks = vec![in alloc; false; pages]?;
-    read_pages(
-        raw,
-        first,
-        page,
-        at_once(geometry),
-        &mut bytes,
-        &mut marks,
-    );
+    read_pages(raw, first, page, at_once(geometry), &mut bytes, &mut marks);
     Ok(Part { bytes, marks })
 }
 
@@ -137,10 +130,7 @@ fn read_beside<T: Threads + Sync, R: RawImage + Send + Drop>(
     last: R,
     geometry: Geometry,
     stride: usize,
-) -> (
-    Result<Parts, OutOfMemory>,
-    (Result<Part, OutOfMemory>, R),
-)
+) -> (Result<Parts, OutOfMemory>, (Result<Part, OutOfMemory>, R))
     requires few_reads { All (λ r. R.reads r < 2 ^ 62) readers.items }
     requires few_reads_of_last { R.reads last < 2 ^ 62 }
     requires in_range { vec_len readers * stride < 2 ^ 63 }

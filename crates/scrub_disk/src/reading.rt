@@ -82,7 +82,12 @@ fn reach<R: RawImage>(
         return Some(reached);
     }
     let size = block.min(bytes.len() - from);
-    let ahead = read_ahead(raw, (start + from) as u64, page, &mut bytes[from..from + size])?;
+    let ahead = read_ahead(
+        raw,
+        (start + from) as u64,
+        page,
+        &mut bytes[from..from + size],
+    )?;
     Some(from + ahead)
 }
 
@@ -116,7 +121,12 @@ fn read_next<R: RawImage>(
         return (false, 0);
     };
     let have = ahead.saturating_sub(from).min(page);
-    let is_whole = read_rest(raw, (start + from) as u64, have, &mut bytes[from..from + page]);
+    let is_whole = read_rest(
+        raw,
+        (start + from) as u64,
+        have,
+        &mut bytes[from..from + page],
+    );
     (is_whole, ahead)
 }
 

@@ -27,6 +27,8 @@ mod memory_disk;
 #[cfg(test)]
 mod one_worker;
 #[cfg(test)]
+mod parted_loading;
+#[cfg(test)]
 mod records;
 #[cfg(test)]
 mod rescue_maps;

@@ -71,7 +71,11 @@ pub fn rescued(
 }
 
 /// The disk, with each page unreadable that has a byte which the map lacks.
-fn without_lost(alloc: Global, mut disk: PartedDisk, map: &RescueMap) -> Result<PartedDisk, OutOfMemory>
+fn without_lost(
+    alloc: Global,
+    mut disk: PartedDisk,
+    map: &RescueMap,
+) -> Result<PartedDisk, OutOfMemory>
     requires { (blocks : List MapBlock) × KeepsBlocks map.now blocks }
     ensures { IfOk result (λ r. (blocks : List MapBlock) → KeepsBlocks map.now blocks →
         LosesPages blocks (image_of disk) (image_of r)) }
