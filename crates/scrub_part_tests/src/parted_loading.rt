@@ -1,6 +1,6 @@
 //! Raw images that several readers load, each its own part, compared with what one reader loads page by page.
 
-ghost use Rattle.std.specs.Prelude.{◌≡◌, ◌<◌, ◌≤◌, ◌^◌, All, IfOk, vec_len};
+ghost use Rattle.std.specs.Prelude.{◌≡◌, ◌+◌, ◌<◌, ◌≤◌, All, IfOk, vec_len};
 
 use crate::compare::same;
 use scrub_disk::{Geometry, LoadFault, OutOfMemory, PageSource, Unreadable, load, load_in_parts};
