@@ -10,7 +10,7 @@ use Rattle.scrub_check.specs.declared.sources.named.Named.{Named}
 use Rattle.scrub_check.specs.declared.statuses.checked.Checked.{Checked}
 use Rattle.scrub_check.specs.Status.{HasStatusIn}
 use Rattle.scrub_check.specs.declared.statuses.status.Status.{Status}
-use Rattle.scrub_check.specs.Asked.{IsOpen}
+use Rattle.scrub_check.specs.Open.{IsOpen}
 use Rattle.scrub_check.specs.Checked.{IsChecked, AreChecked, IsKnownBefore}
 use Rattle.scrub_check.specs.Runs.{ReadRunsValue, HasRunStateIn, AreReadRuns, AreRunStates}
 
@@ -45,19 +45,3 @@ pub known_at : (image : Image) (plan : PlanValue) (names : List Named) (tells : 
 known_at image plan names tells i n t below name_is tell_is known =
     rw name_is
     (rw tell_is (zipped_at (IsKnownBefore image plan) names tells i n t below known))
-
--- nothing is known of it
-left_open : (image : Image) (plan : PlanValue) (n : Named) (t : Option Status) → is_some t ≡ false →
-    IsKnownBefore image plan n t → IsOpen image plan n.locator
-left_open image plan n None none known = known
-left_open image plan n (Some s) none known = absurd (cc)
-
--- one more of which nothing is known
-pub left_more : (names : List Named) (tells : List (Option Status)) (i : ℕ) (n : Named) (t : Option Status) (ls more : List Locator) →
-    i < length names → n ≡ get_or names i n → t ≡ get_or tells i t → is_some t ≡ false →
-    more ≡ ls ++ n.locator ∷ [] →
-    ((image : Image) (plan : PlanValue) → AllZip (IsKnownBefore image plan) names tells → All (IsOpen image plan) ls) →
-    (image : Image) (plan : PlanValue) → AllZip (IsKnownBefore image plan) names tells → All (IsOpen image plan) more
-left_more names tells i n t ls more below name_is tell_is none grown before image plan known =
-    rw grown
-    (All-push (IsOpen image plan) ls n.locator (before image plan known) (left_open image plan n t none (known_at image plan names tells i n t below name_is tell_is known)))

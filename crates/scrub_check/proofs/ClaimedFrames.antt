@@ -15,7 +15,7 @@ use Rattle.scrub_check.specs.declared.lists.sound_starts.Start.{Start}
 use Rattle.scrub_check.specs.declared.statuses.status.Status.{Status}
 use Rattle.scrub_check.specs.declared.statuses.status.Status.TheVariants.{OutOfRange, Retired, PastPointer, Unreadable, NoFrame, WrongUuid, WrongLength, WrongDigest, Hidden, Sound}
 use Rattle.scrub_check.specs.Judged.{IsOther, IsStatusByClaim}
-use Rattle.scrub_check.specs.Asked.{start_named_by, IsOpen, IsReadableClaim, IsClaimSeen, AreReadableClaims}
+use Rattle.scrub_check.specs.Open.{start_named_by, IsOpen, IsReadableClaim, IsClaimSeen, AreReadableClaims}
 use Rattle.scrub_check.specs.Status.{CanStand, FindsFrame, HasStatus, HasStatusIn}
 use Rattle.scrub_check.proofs.Judged.{status_under}
 

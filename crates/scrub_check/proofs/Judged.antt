@@ -18,7 +18,7 @@ use Rattle.scrub_check.specs.declared.statuses.status.Status.TheVariants.{OutOfR
 use Rattle.scrub_check.specs.Status.{CanStand, FindsFrame, NamesChunk, HasStatus, HasStatusIn, is_retired}
 use Rattle.scrub_check.specs.Chunks.{frame_of_item}
 use Rattle.scrub_check.specs.Judged.{IsOther, IsMismatch, Agrees, IsJudged}
-use Rattle.scrub_check.specs.Asked.{IsFoundAt, IsOpen, IsSeenAt, IsStatusByItems}
+use Rattle.scrub_check.specs.Open.{IsFoundAt, IsOpen, IsSeenAt, IsStatusByItems}
 use Rattle.scrub_check.proofs.Starts.{begins, begins_among}
 
 -- what a clause says of the value that there is

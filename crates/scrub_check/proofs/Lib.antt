@@ -9,7 +9,6 @@ pub mod Sizes
 pub mod StartSearch
 pub mod Collected
 pub mod CheckedLists
-pub mod SeenPlaces
 pub mod ExtentsSoFar
 pub mod Reclaimable
 pub mod WalkedPlaces
@@ -24,7 +23,7 @@ pub mod Gaps
 pub mod PlannedFindings
 pub mod Judged
 pub mod ClaimedFrames
-pub mod LeftPlaces
+pub mod OpenPlaces
 pub mod RunLocators
 pub mod Payloads
 pub mod RunStates

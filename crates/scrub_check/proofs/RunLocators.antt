@@ -7,7 +7,7 @@ use Rattle.scrub_check.specs.declared.statuses.status.Status.{Status}
 use Rattle.scrub_check.specs.declared.statuses.status.Status.TheVariants.{OutOfRange, Hidden}
 use Rattle.scrub_check.specs.declared.sources.runs.RunState.{RunState}
 use Rattle.scrub_check.specs.declared.sources.runs.RunState.TheVariants.{Read, BadChunk, NotARun}
-use Rattle.scrub_check.specs.Asked.{IsOpen}
+use Rattle.scrub_check.specs.Open.{IsOpen}
 use Rattle.scrub_check.specs.Runs.{HasRunState, HasRunStateInUse, HasRunStateIn, IsLostInRetired, AreRunStates}
 use Rattle.scrub_check.specs.Status.{NamesChunk, HasStatusIn}
 use Rattle.scrub_check.proofs.Judged.{status_under}

@@ -12,7 +12,7 @@ use Rattle.scrub_check.specs.declared.sources.named.Named.{Named}
 use Rattle.scrub_check.specs.declared.statuses.checked.Checked.{Checked}
 use Rattle.scrub_check.specs.declared.statuses.status.Status.{Status}
 use Rattle.scrub_check.specs.declared.statuses.status.Status.TheVariants.{Hidden, Sound}
-use Rattle.scrub_check.specs.Asked.{IsOpen}
+use Rattle.scrub_check.specs.Open.{IsOpen}
 use Rattle.scrub_check.specs.Status.{HasStatusIn}
 
 -- a checked locator without its status: the locator and its owner

@@ -18,8 +18,7 @@ pub use Rattle.scrub_merge.specs.Binding
 -- Steps of the code.
 pub mod OneScan
 pub mod Judged
-pub mod Asked
-pub mod Seen
+pub mod Open
 pub mod ChunkRun
 pub mod Distinct
 pub mod ChunkUuids

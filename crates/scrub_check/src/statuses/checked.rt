@@ -1,21 +1,20 @@
 //! The named locators with their statuses, and the lists that are drawn from them alone. See `lists` for the chunks that
 //! they point to.
 
-ghost use Rattle.std.specs.Prelude.{◌≡◌, IfOk, IfSome, true, All, length};
+ghost use Rattle.std.specs.Prelude.{◌≡◌, IfOk, IfSome, true, length};
 ghost use Rattle.std.specs.List.{AllZip};
 ghost use Rattle.scrub_disk.specs.Image.{Image};
-ghost use Rattle.scrub_super.specs.Plan.{PlanValue};
 ghost use Rattle.scrub_check.specs.Checked.{IsChecked, AreChecked, IsKnownBefore, is_dangling, dangling, hidden};
-ghost use Rattle.scrub_check.specs.Asked.{IsOpen};
+ghost use Rattle.scrub_check.specs.Open.{IsOpen};
 ghost use Rattle.scrub_check.specs.Runs.{AreRunStates};
-ghost use Rattle.scrub_check.specs.Seen.{AreSeen};
 ghost use Rattle.scrub_check.specs.Status.{HasStatusIn};
 ghost use Rattle.scrub_check.specs.WholeScan.{IsWholeScan};
 
 use crate::sources::named::{Named, Owner};
 use crate::sources::runs::RunState;
-use crate::statuses::seen::{Seen, see};
-use crate::statuses::status::{Status, status_by_findings, status_by_frames};
+use crate::statuses::by_place::{judge_places, open_locators, put_statuses};
+use crate::statuses::open_place::status_by_place;
+use crate::statuses::status::{Status, status_by_findings};
 use crate::statuses::whole_scan::WholeScan;
 use rayon::prelude::*;
 use scrub_disk::{OutOfMemory, PageSource};
@@ -111,40 +110,19 @@ fn all_known_before<R: Threads + Sync, D: PageSource>(
     Ok(known)
 }
 
-/// The locators whose status isn't known yet.
-fn left_locators(
-    alloc: Global,
-    named: &[Named],
-    known: &[Option<Status>],
-) -> Result<Vec<Locator>, OutOfMemory>
-    requires { length known.now ≡ length named.now }
-    ensures { (image : Image) (plan : PlanValue) → AllZip (IsKnownBefore image plan) named.now known.now →
-        IfOk result (λ v. All (IsOpen image plan) v.items) }
-{
-    let mut left = Vec::new(alloc);
-    for i in 0..named.len() {
-        if known[i].is_none() {
-            left.push(named[i].locator)?;
-        }
-    }
-    Ok(left)
-}
-
-/// A named locator with its status: the one that is known, or else the one by what was read at its place.
+/// A named locator with its status: the one that is known, or else the one by what is at its place.
 fn check_one<D: PageSource>(
     alloc: Global,
     scan: &WholeScan<'_, D>,
-    seen: &Seen,
     one: &Named,
     known: Option<Status>,
 ) -> Result<Checked, OutOfMemory>
-    requires seen { AreSeen (D.image scan.now.disk.now) scan.now.plan.now seen.now }
-    requires known { IsKnownBefore (D.image scan.now.disk.now) scan.now.plan.now one.now known }
+    requires { IsKnownBefore (D.image scan.now.disk.now) scan.now.plan.now one.now known }
     ensures { IfOk result (IsChecked (D.image scan.now.disk.now) scan.now.plan.now one.now) }
 {
     let status = match known {
         Some(status) => status,
-        None => status_by_frames(alloc, scan, seen, &one.locator)?,
+        None => status_by_place(alloc, scan, &one.locator)?,
     };
     Ok(Checked {
         owner: one.owner,
@@ -157,18 +135,16 @@ fn check_one<D: PageSource>(
 fn check_each<D: PageSource>(
     alloc: Global,
     scan: &WholeScan<'_, D>,
-    seen: &Seen,
     named: &[Named],
     known: &[Option<Status>],
 ) -> Result<Vec<Checked>, OutOfMemory>
-    requires seen { AreSeen (D.image scan.now.disk.now) scan.now.plan.now seen.now }
     requires count { length known.now ≡ length named.now }
     requires known { AllZip (IsKnownBefore (D.image scan.now.disk.now) scan.now.plan.now) named.now known.now }
     ensures { IfOk result (λ v. AreChecked (D.image scan.now.disk.now) scan.now.plan.now named.now v.items) }
 {
     let mut checked = Vec::with_capacity(alloc, named.len())?;
     for i in 0..named.len() {
-        let one = check_one(alloc, scan, seen, &named[i], known[i])?;
+        let one = check_one(alloc, scan, &named[i], known[i])?;
         checked.push(one)?;
     }
     Ok(checked)
@@ -207,10 +183,12 @@ pub fn check_named<R: Threads + Sync, D: PageSource>(
     ensures { IfOk result (λ v. AreChecked (D.image disk.now) plan.now named.now v.items) }
 {
     let scan = WholeScan { disk, plan, all };
-    let known = all_known_before(rt, alloc, &scan, states, named)?;
-    let left = left_locators(alloc, named, &known)?;
-    let seen = see(rt, alloc, &scan, &left)?;
-    check_each(alloc, &scan, &seen, named, &known)
+    let mut known = all_known_before(rt, alloc, &scan, states, named)?;
+    let left = open_locators(alloc, named, &known)?;
+    for judged in &judge_places(rt, alloc, &scan, named, &left)? {
+        put_statuses(&mut known, judged);
+    }
+    check_each(alloc, &scan, named, &known)
 }
 
 /// Neither sound nor hidden.

@@ -10,17 +10,13 @@ ghost use Rattle.scrub_check.specs.Judged.{IsOther, IsMismatch, Agrees, IsJudged
 ghost use Rattle.scrub_scan.specs.Extent.{extent_of};
 ghost use Rattle.scrub_scan.specs.Item.{start_of};
 ghost use Rattle.scrub_scan.specs.Tiling.{IsTiling};
-ghost use Rattle.scrub_check.specs.Asked.{start_named_by, CanBeAsked, IsClaimSeen, IsSeenAt};
-ghost use Rattle.scrub_check.specs.Asked.{IsOpen, IsStatusByItems, IsKnownAmong};
-ghost use Rattle.scrub_check.specs.Seen.{AreSeen};
+ghost use Rattle.scrub_check.specs.Open.{start_named_by, IsOpen, IsStatusByItems};
 
 use crate::lists::chunks::frame_of_item;
 use crate::lists::sound_starts::Start;
-use crate::statuses::asked::{Asked, answer_at, asked_at};
 use crate::statuses::extents::{findings_of, has_gap};
-use crate::statuses::frames::{claim_at, frame_at};
+use crate::statuses::open_place::status_by_place;
 use crate::statuses::searching::find_start;
-use crate::statuses::seen::Seen;
 use crate::statuses::whole_scan::WholeScan;
 use scrub_disk::{Geometry, OutOfMemory, PageSource};
 use scrub_frame::{Form, Head, LEAST_OVERHEAD, Locator};
@@ -99,7 +95,7 @@ fn mismatch(locator: &Locator, standing: &Standing) -> Option<Status>
 }
 
 /// The status of a locator by the frame at its place, or by none: `agreeing` if it is the one that the locator names.
-fn judged(locator: &Locator, standing: Option<Standing>, agreeing: Status) -> Status
+pub(crate) fn judged(locator: &Locator, standing: Option<Standing>, agreeing: Status) -> Status
     ensures { IsJudged locator.now standing agreeing result }
 {
     let Some(standing) = standing else {
@@ -172,7 +168,7 @@ pub(crate) fn start_of(locator: &Locator) -> Start
 
 /// The status of a locator by what is claimed at its place; `None` if the payload has to be hashed. A sealed frame has to be
 /// hashed to see whether it is one at all.
-fn status_by_claim(locator: &Locator, claimed: Option<Head>) -> Option<Status>
+pub(crate) fn status_by_claim(locator: &Locator, claimed: Option<Head>) -> Option<Status>
     ensures { IsStatusByClaim locator.now claimed result }
 {
     let Some(head) = claimed else {
@@ -182,55 +178,6 @@ fn status_by_claim(locator: &Locator, claimed: Option<Head>) -> Option<Status>
         Form::Plain => difference(locator, head.uuid, head.length),
         Form::Sealed => None,
     }
-}
-
-/// The place of a locator, if none of these claims decides its status.
-pub(crate) fn open_start(claims: &[Asked<Option<Head>>], locator: &Locator) -> Option<Start>
-    ensures start { IfSome result (λ s. s ≡ start_named_by locator.now) }
-    ensures known { IfNone result (IsKnownAmong claims.now locator.now) }
-{
-    let start = start_of(locator);
-    let Some(claim) = asked_at(claims, start) else {
-        return Some(start);
-    };
-    match status_by_claim(locator, claim.answer) {
-        Some(_) => None,
-        None => Some(start),
-    }
-}
-
-/// The status of a locator that the findings don't decide: by what is claimed at its place, or else by the frame there.
-pub(crate) fn status_by_frames<D: PageSource>(
-    alloc: Global,
-    scan: &WholeScan<'_, D>,
-    seen: &Seen,
-    locator: &Locator,
-) -> Result<Status, OutOfMemory>
-    requires left { IsOpen (D.image scan.now.disk.now) scan.now.plan.now locator.now }
-    requires seen { AreSeen (D.image scan.now.disk.now) scan.now.plan.now seen.now }
-    ensures { IfOk result (HasStatusIn (D.image scan.now.disk.now) scan.now.plan.now locator.now) }
-{
-    let start = start_of(locator);
-    let claimed = answer_at(
-        &seen.claims,
-        start,
-        &|start: Start| -> Result<Option<Head>, OutOfMemory>
-            requires { CanBeAsked (D.image scan.now.disk.now) scan.now.plan.now start }
-            ensures { IfOk result (IsClaimSeen (D.image scan.entry.now.disk.now) scan.entry.now.plan.now start) }
-        { claim_at(alloc, scan, start) },
-    )?;
-    if let Some(status) = status_by_claim(locator, claimed) {
-        return Ok(status);
-    }
-    let standing = answer_at(
-        &seen.frames,
-        start,
-        &|start: Start| -> Result<Option<Standing>, OutOfMemory>
-            requires { CanBeAsked (D.image scan.now.disk.now) scan.now.plan.now start }
-            ensures { IfOk result (IsSeenAt (D.image scan.entry.now.disk.now) scan.entry.now.plan.now start) }
-        { frame_at(alloc, scan, start) },
-    )?;
-    Ok(judged(locator, standing, Status::Hidden))
 }
 
 /// The status of a locator in the image of a disk: the first of the table that applies. The disk is read only if no item
@@ -248,7 +195,7 @@ pub fn status_of<D: PageSource>(
     let scan = WholeScan { disk, plan, all };
     match status_by_findings(&scan, locator) {
         Some(status) => Ok(status),
-        None => status_by_frames(alloc, &scan, &Seen::nothing(alloc), locator),
+        None => status_by_place(alloc, &scan, locator),
     }
 }
 

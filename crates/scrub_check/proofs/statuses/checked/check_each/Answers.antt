@@ -9,8 +9,8 @@ pub loop-i-init : goal.loop-i-init
 loop-i-init g c =
     rw c.in_ok-checked.ensures.items tt
 
-pub check_one-requires-clause-known : goal.check_one-requires-clause-known
-check_one-requires-clause-known g c κs within =
+pub check_one-requires-after_bounds : goal.check_one-requires-after_bounds
+check_one-requires-after_bounds g c κs within =
     known_at (g.D.PageSource.image c.args.scan.now.disk.now) c.args.scan.now.plan.now c.args.named.now c.args.known.now
     c.loop-i.i c.index-named-i.result (get_or c.args.known.now c.loop-i.i None) c.loop-i-test.true c.index-named-i.is
     (get_or_default c.args.known.now c.loop-i.i None (get_or c.args.known.now c.loop-i.i None) (omega (arith, c.requires.count, c.loop-i-test.true)))

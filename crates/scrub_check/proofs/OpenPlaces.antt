@@ -1,0 +1,99 @@
+-- Places that have to be read, and the locators that point to them.
+use Rattle.std.proofs.Common.{◌≡◌, ◌<◌, ℕ, zero, suc, List, [], ◌∷◌, ◌++◌, Option, Some, None, IfSome, IfNone, IfOk, Result, Ok, Err, is_some, All, set, length, get_or, arith, sym, ◌∙◌, ap, false}
+use Rattle.std.specs.List.{AllZip}
+use Rattle.std.proofs.lemmas.List.{get_or_default}
+use Rattle.std.proofs.lemmas.List.Elements.{All-push}
+use Rattle.std.proofs.lemmas.Option.{same_Some}
+use Rattle.scrub_disk.specs.Image.{Image}
+use Rattle.scrub_frame.specs.declared.locator.Locator.{Locator}
+use Rattle.scrub_super.specs.Plan.{PlanValue, pointer_of}
+use Rattle.scrub_scan.specs.declared.standing.Standing.{Standing}
+use Rattle.scrub_scan.specs.Extent.{extent_of, NoFrameAt}
+use Rattle.scrub_scan.specs.Standing.{IsStandingAt}
+use Rattle.scrub_check.specs.declared.lists.sound_starts.Start.{Start}
+use Rattle.scrub_check.specs.declared.sources.named.Named.{Named}
+use Rattle.scrub_check.specs.declared.statuses.by_place.OpenLocator.{OpenLocator}
+use Rattle.scrub_check.specs.declared.statuses.status.Status.{Status}
+use Rattle.scrub_check.specs.Checked.{IsKnownBefore}
+use Rattle.scrub_check.specs.Status.{HasStatusIn}
+use Rattle.scrub_check.specs.Open.{start_named_by, CanBeRead, IsFoundAt, IsSeenAt, IsOpen, IsOpenAt, IsJudgedAt}
+use Rattle.scrub_check.proofs.CheckedLists.{known_at}
+
+-- the place of an open locator can be read
+pub can_be_read : (image : Image) (plan : PlanValue) (l : Locator) → plan.geometry ≡ image.geometry → IsOpen image plan l →
+    CanBeRead image plan (start_named_by l)
+can_be_read image plan l geometry left = record {
+  geometry = geometry;
+  from_one = left.can.in_range.from_one;
+  in_disk = left.can.in_range.in_disk;
+  in_extent = omega (arith, left.can.in_range.in_extent);
+  in_use = left.in_use;
+}
+
+-- what is found under the plan's pointer is what is there
+found_at : (image : Image) (e p v w : ℕ) (found : Option Standing) → v ≡ w → IfSome found (IsStandingAt image v e p) →
+    IfNone found (NoFrameAt (extent_of image e v) p) → IsFoundAt image w e p found
+found_at image e p v w (Some s) same some none = rw same at some
+found_at image e p v w None same some none = rw same at none
+
+pub frame_seen : {E : Type 0} (image : Image) (plan : PlanValue) (s : Start) (v : ℕ) (r : Result (Option Standing) E) →
+    pointer_of plan s.extent ≡ Some v →
+    IfOk r (λ found. IfSome found (IsStandingAt image v s.extent s.offset)) →
+    IfOk r (λ found. IfNone found (NoFrameAt (extent_of image s.extent v) s.offset)) → IfOk r (IsSeenAt image plan s)
+frame_seen image plan s v (Ok found) at some none = λ w is.
+    found_at image s.extent s.offset v w found (same_Some v w (sym at ∙ is)) some none
+frame_seen image plan s v (Err e) at some none = tt
+
+-- nothing is known of it
+left_open : (image : Image) (plan : PlanValue) (n : Named) (t : Option Status) → is_some t ≡ false →
+    IsKnownBefore image plan n t → IsOpen image plan n.locator
+left_open image plan n None none known = known
+left_open image plan n (Some s) none known = absurd (cc)
+
+-- one more open locator
+pub open_more : (names : List Named) (tells : List (Option Status)) (i : ℕ) (n : Named) (t : Option Status) (s : Start) (os more : List OpenLocator) →
+    i < length names → n ≡ get_or names i n → t ≡ get_or tells i t → is_some t ≡ false → s ≡ start_named_by n.locator →
+    more ≡ os ++ record { start = s; index = i } ∷ [] →
+    ((image : Image) (plan : PlanValue) → AllZip (IsKnownBefore image plan) names tells → All (IsOpenAt image plan names) os) →
+    (image : Image) (plan : PlanValue) → AllZip (IsKnownBefore image plan) names tells → All (IsOpenAt image plan names) more
+open_more names tells i n t s os more below name_is tell_is none start grown before image plan known =
+    let same : (d : Named) → n ≡ get_or names i d = λ d. name_is ∙ get_or_default names i n d below in
+    let left = left_open image plan n t none (known_at image plan names tells i n t below name_is tell_is known) in
+    rw grown
+    (All-push (IsOpenAt image plan names) os (record { start = s; index = i }) (before image plan known) (record {
+      below = below;
+      left = λ d. rw (same d) at left;
+      start = λ d. start ∙ ap (λ (m : Named). start_named_by m.locator) (same d);
+    }))
+
+-- a status that is put to the others
+put_at : {A B : Type 0} (R : A → B → Type 0) (xs : List A) (ys : List B) (i : ℕ) (y : B) → i < length xs →
+    ((d : A) → R (get_or xs i d) y) → AllZip R xs ys → AllZip R xs (set ys i y)
+put_at R [] ys i y below one all = absurd (omega (arith, below))
+put_at R (x ∷ xs) [] i y below one all = absurd all
+put_at R (x ∷ xs) (z ∷ ys) zero y below one all = (one x, all.1)
+put_at R (x ∷ xs) (z ∷ ys) (suc i) y below one all = (all.0, put_at R xs ys i y (omega (arith, below)) one all.1)
+
+pub known_more : (image : Image) (plan : PlanValue) (names : List Named) (tells : List (Option Status)) (i : ℕ) (s : Status) →
+    IsJudgedAt image plan names (i, s) → AllZip (IsKnownBefore image plan) names tells →
+    AllZip (IsKnownBefore image plan) names (set tells i (Some s))
+known_more image plan names tells i s judged known =
+    put_at (IsKnownBefore image plan) names tells i (Some s) judged.below judged.status known
+
+-- the place of one of them can be read
+pub left_can_be_read : (image : Image) (plan : PlanValue) (names : List Named) (o : OpenLocator) → plan.geometry ≡ image.geometry →
+    IsOpenAt image plan names o → CanBeRead image plan o.start
+left_can_be_read image plan [] o geometry at = absurd (omega (arith, at.below))
+left_can_be_read image plan (n ∷ ns) o geometry at =
+    rw (at.start n) (can_be_read image plan (get_or (n ∷ ns) o.index n).locator geometry (at.left n))
+
+-- one more that is judged
+pub judged_more : (image : Image) (plan : PlanValue) (names : List Named) (o : OpenLocator) (d : Named) (s : Status) (js more : List (ℕ × Status)) →
+    IsOpenAt image plan names o → HasStatusIn image plan (get_or names o.index d).locator s →
+    more ≡ js ++ (o.index, s) ∷ [] → All (IsJudgedAt image plan names) js → All (IsJudgedAt image plan names) more
+judged_more image plan names o d s js more at status grown before =
+    rw grown
+    (All-push (IsJudgedAt image plan names) js (o.index, s) before (record {
+      below = at.below;
+      status = λ e. rw (get_or_default names o.index d e at.below) at status;
+    }))
