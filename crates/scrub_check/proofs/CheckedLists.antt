@@ -5,14 +5,11 @@ use Rattle.std.specs.List.{AllZip}
 use Rattle.std.proofs.lemmas.List.Elements.{All-nil, All-cons, All-push}
 use Rattle.scrub_disk.specs.Image.{Image}
 use Rattle.scrub_super.specs.Plan.{PlanValue}
-use Rattle.scrub_frame.specs.declared.locator.Locator.{Locator}
 use Rattle.scrub_check.specs.declared.sources.named.Named.{Named}
 use Rattle.scrub_check.specs.declared.statuses.checked.Checked.{Checked}
 use Rattle.scrub_check.specs.Status.{HasStatusIn}
 use Rattle.scrub_check.specs.declared.statuses.status.Status.{Status}
-use Rattle.scrub_check.specs.Open.{IsOpen}
 use Rattle.scrub_check.specs.Checked.{IsChecked, AreChecked, IsKnownBefore}
-use Rattle.scrub_check.specs.Runs.{ReadRunsValue, HasRunStateIn, AreReadRuns, AreRunStates}
 
 -- each by itself is all of them
 pub each_checked : (image : Image) (plan : PlanValue) (names : List Named) (checked : List Checked) →
@@ -31,12 +28,6 @@ zipped_at R [] ys i d e below h = absurd (omega (arith, below))
 zipped_at R (x ∷ xs) [] i d e below h = absurd h
 zipped_at R (x ∷ xs) (y ∷ ys) zero d e below h = h.0
 zipped_at R (x ∷ xs) (y ∷ ys) (suc i) d e below h = zipped_at R xs ys i d e (omega (arith, below)) h.1
-
--- states of runs that were read are those of the runs
-pub states_read : (image : Image) (plan : PlanValue) (r : ReadRunsValue) → AreReadRuns image plan r →
-    AreRunStates image plan r.states
-states_read image plan r read k l s below under =
-    zipped_at (HasRunStateIn image plan) plan.runs r.states k l s below read.states
 
 -- what is known of one
 pub known_at : (image : Image) (plan : PlanValue) (names : List Named) (tells : List (Option Status)) (i : ℕ) (n : Named) (t : Option Status) →

@@ -24,7 +24,6 @@ pub mod PlannedFindings
 pub mod Judged
 pub mod ClaimedFrames
 pub mod OpenPlaces
-pub mod RunLocators
 pub mod Payloads
 pub mod RunStates
 pub mod OneStatus

@@ -41,13 +41,10 @@ counted image plan runs states few known =
     let r : length runs ≡ length plan.runs = AllZip-long (IsRunIn image plan) plan.runs runs known.runs in
     record { same = AllZip-long (HasRunStateIn image plan) plan.runs states known.states ∙ sym r; few = omega (arith, r, few) }
 
--- pairs that are right for each locator are so as two lists
-pub split : (image : Image) (plan : PlanValue) (locators : List Locator) (read : List (Option (List EntryValue) × RunState)) →
-    AllZip (λ l one. IsRunIn image plan l one.0 × HasRunStateIn image plan l one.1) locators read →
-    AreWalkedOf image plan locators (map (λ one. one.0) read) (map (λ one. one.1) read)
-split image plan [] [] each = record { runs = tt; states = tt }
-split image plan [] (one ∷ read) each = absurd each
-split image plan (l ∷ locators) [] each = absurd each
-split image plan (l ∷ locators) (one ∷ read) each =
-    let rest = split image plan locators read each.1 in
-    record { runs = (each.0.0, rest.runs); states = (each.0.1, rest.states) }
+-- what is said of each is said of a part of each
+pub zip_part : {A B C : Type 0} (R : A → B → Type 0) (S : A → C → Type 0) (part : B → C) → ((a : A) (b : B) → R a b → S a (part b)) →
+    (xs : List A) (ys : List B) → AllZip R xs ys → AllZip S xs (map part ys)
+zip_part R S part says [] [] each = tt
+zip_part R S part says [] (y ∷ ys) each = absurd each
+zip_part R S part says (x ∷ xs) [] each = absurd each
+zip_part R S part says (x ∷ xs) (y ∷ ys) each = (says x y each.0, zip_part R S part says xs ys each.1)

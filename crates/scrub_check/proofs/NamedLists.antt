@@ -1,5 +1,5 @@
 -- The list of named locators, as it grows.
-use Rattle.std.proofs.Common.{◌≡◌, ◌<◌, ◌+◌, ℕ, suc, List, [], ◌∷◌, ◌++◌, length, map, take, get_or, arith, sym, ◌∙◌, ap}
+use Rattle.std.proofs.Common.{◌≡◌, ◌<◌, ◌≤◌, ◌+◌, ℕ, zero, suc, List, [], ◌∷◌, ◌++◌, length, map, take, get_or, arith, refl, sym, ◌∙◌, ap}
 use Rattle.std.proofs.lemmas.List.{take_more, length-take-le, append_assoc, map-append}
 use Rattle.std.proofs.lemmas.Grind.{flat_map-append}
 use Rattle.std.proofs.lemmas.List.{append-nil}
@@ -56,3 +56,14 @@ bindings_more old bs i d named new below is grown =
     ∙ append_assoc old (flat_map named_by_shard (take i bs)) (named_by_shard (get_or bs i d))
     ∙ ap (λ ns. old ++ ns)
     (sym (flat_map-append named_by_shard (take i bs) (get_or bs i d ∷ []) ∙ ap (λ ns. flat_map named_by_shard (take i bs) ++ ns) (append-nil (named_by_shard (get_or bs i d)))) ∙ ap (λ xs. flat_map named_by_shard xs) (sym (take_more bs i d below)))
+
+-- the runs come first
+pub run_at : (ls : List Locator) (rest : List Named) (k i : ℕ) (d : Named) (e : Locator) → i < length ls →
+    (get_or (named_by_runs k ls ++ rest) i d).locator ≡ get_or ls i e
+run_at [] rest k i d e below = absurd (omega (arith, below))
+run_at (l ∷ ls) rest k zero d e below = refl
+run_at (l ∷ ls) rest k (suc i) d e below = run_at ls rest (k + 1) i d e (omega (arith, below))
+
+pub runs_first : (ls : List Locator) (rest : List Named) (k : ℕ) → length ls ≤ length (named_by_runs k ls ++ rest)
+runs_first [] rest k = omega arith
+runs_first (l ∷ ls) rest k = let more = runs_first ls rest (k + 1) in omega (arith, more)

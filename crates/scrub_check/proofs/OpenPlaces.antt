@@ -1,12 +1,14 @@
 -- Places that have to be read, and the locators that point to them.
 use Rattle.std.proofs.Common.{◌≡◌, ◌<◌, ℕ, zero, suc, List, [], ◌∷◌, ◌++◌, Option, Some, None, IfSome, IfNone, IfOk, Result, Ok, Err, is_some, All, set, length, get_or, arith, sym, ◌∙◌, ap, false}
-use Rattle.std.specs.List.{AllZip}
+use Rattle.std.specs.List.{AllZip, flat_map}
+use Rattle.std.proofs.lemmas.Slice.Zip.{AllZip-long}
 use Rattle.std.proofs.lemmas.List.{get_or_default}
 use Rattle.std.proofs.lemmas.List.Elements.{All-push}
 use Rattle.std.proofs.lemmas.Option.{same_Some}
 use Rattle.scrub_disk.specs.Image.{Image}
 use Rattle.scrub_frame.specs.declared.locator.Locator.{Locator}
 use Rattle.scrub_super.specs.Plan.{PlanValue, pointer_of}
+use Rattle.scrub_merge.specs.Binding.{BindingValue}
 use Rattle.scrub_scan.specs.declared.standing.Standing.{Standing}
 use Rattle.scrub_scan.specs.Extent.{extent_of, NoFrameAt}
 use Rattle.scrub_scan.specs.Standing.{IsStandingAt}
@@ -17,7 +19,10 @@ use Rattle.scrub_check.specs.declared.statuses.status.Status.{Status}
 use Rattle.scrub_check.specs.Checked.{IsKnownBefore}
 use Rattle.scrub_check.specs.Status.{HasStatusIn}
 use Rattle.scrub_check.specs.Open.{start_named_by, CanBeRead, IsFoundAt, IsSeenAt, IsOpen, IsOpenAt, IsJudgedAt}
-use Rattle.scrub_check.proofs.CheckedLists.{known_at}
+use Rattle.scrub_check.specs.Named.{named_by_runs, named_by_shard, named}
+use Rattle.scrub_check.specs.Runs.{AreRunStatuses}
+use Rattle.scrub_check.proofs.CheckedLists.{known_at, zipped_at}
+use Rattle.scrub_check.proofs.NamedLists.{run_at, runs_first}
 
 -- the place of an open locator can be read
 pub can_be_read : (image : Image) (plan : PlanValue) (l : Locator) → plan.geometry ≡ image.geometry → IsOpen image plan l →
@@ -97,3 +102,15 @@ judged_more image plan names o d s js more at status grown before =
       below = at.below;
       status = λ e. rw (get_or_default names o.index d e at.below) at status;
     }))
+
+-- the status of a run is put to the others
+pub run_known : (image : Image) (plan : PlanValue) (map : List BindingValue) (statuses : List Status) (tells : List (Option Status)) (i : ℕ) (d : Status) →
+    i < length statuses → AreRunStatuses image plan statuses → AllZip (IsKnownBefore image plan) (named plan.runs map) tells →
+    AllZip (IsKnownBefore image plan) (named plan.runs map) (set tells i (Some (get_or statuses i d)))
+run_known image plan map statuses tells i d below are known =
+    let runs : i < length plan.runs = omega (arith, below, AllZip-long (HasStatusIn image plan) plan.runs statuses are) in
+    let at : (n : Named) → HasStatusIn image plan (get_or (named plan.runs map) i n).locator (get_or statuses i d) =
+    λ n. rw (run_at plan.runs (flat_map named_by_shard map) 0 i n n.locator runs)
+    (zipped_at (HasStatusIn image plan) plan.runs statuses i n.locator d runs are) in
+    put_at (IsKnownBefore image plan) (named plan.runs map) tells i (Some (get_or statuses i d))
+    (omega (arith, runs, runs_first plan.runs (flat_map named_by_shard map) 0)) at known

@@ -20,6 +20,7 @@ pub mod OneScan
 pub mod Judged
 pub mod Open
 pub mod ChunkRun
+pub mod JudgedRun
 pub mod Distinct
 pub mod ChunkUuids
 pub mod BrokenShards

@@ -1,5 +1,5 @@
 -- Which index runs are read, and what becomes of the others.
-use Rattle.std.specs.Prelude.{◌≡◌, ◌≤◌, ◌<◌, ℕ, List, Option, Some, None, MatchBool, MatchOption, slice_index_or}
+use Rattle.std.specs.Prelude.{◌≡◌, ◌≤◌, ℕ, List, Option, Some, None, MatchBool, MatchOption}
 use Rattle.std.specs.Prelude.{length as len}
 use Rattle.std.specs.List.{AllZip}
 use Rattle.scrub_disk.specs.Image.{Image}
@@ -8,10 +8,11 @@ use Rattle.scrub_super.specs.Plan.{PlanValue, pointer_of}
 use Rattle.scrub_run.specs.Entry.{EntryValue}
 use Rattle.scrub_run.specs.Run.{IsRun}
 use Rattle.scrub_merge.specs.Binding.{Runs}
+use Rattle.scrub_check.specs.declared.statuses.status.Status.{Status}
 use Rattle.scrub_check.specs.declared.statuses.status.Status.TheVariants.{OutOfRange}
 use Rattle.scrub_check.specs.declared.sources.runs.RunState.{RunState}
 use Rattle.scrub_check.specs.declared.sources.runs.RunState.TheVariants.{Read, BadChunk, NotARun}
-use Rattle.scrub_check.specs.Status.{NamesChunk, HasStatus, HasStatusInRetired, is_retired}
+use Rattle.scrub_check.specs.Status.{NamesChunk, HasStatus, HasStatusInRetired, HasStatusIn, is_retired}
 
 -- the locator names a chunk, be it hidden or sound, whose payload is the run of these entries
 pub record NamesRun (image : Image) (w : ℕ) (l : Locator) (entries : List EntryValue) : Type 0 where
@@ -67,6 +68,6 @@ pub record AreReadRuns (image : Image) (plan : PlanValue) (r : ReadRunsValue) : 
   pub runs : AllZip (IsRunIn image plan) plan.runs r.runs
   pub states : AllZip (HasRunStateIn image plan) plan.runs r.states
 
--- what became of the runs that a plan names, or of the first of them, or of none
-abbrev pub AreRunStates : Image → PlanValue → List RunState → Type 0
-AreRunStates image plan states = (k : ℕ) (l : Locator) (s : RunState) → k < len plan.runs → k < len states → HasRunStateIn image plan (slice_index_or plan.runs k l) (slice_index_or states k s)
+-- the statuses of the locators of the runs that a plan names
+abbrev pub AreRunStatuses : Image → PlanValue → List Status → Type 0
+AreRunStatuses image plan statuses = AllZip (HasStatusIn image plan) plan.runs statuses

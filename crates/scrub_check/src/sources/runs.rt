@@ -3,7 +3,8 @@
 ghost use Rattle.std.specs.Prelude.{◌≡◌, IfOk, map as list_map};
 ghost use Rattle.scrub_check.specs.WholeScan.{IsWholeScan};
 ghost use Rattle.scrub_check.specs.ChunkRun.{StandsThere, HasPayloadThere, IsStateOf};
-ghost use Rattle.scrub_check.specs.Runs.{IsRunIn, HasRunStateIn, AreReadRuns};
+ghost use Rattle.scrub_check.specs.JudgedRun.{IsJudgedRun};
+ghost use Rattle.scrub_check.specs.Runs.{AreReadRuns, AreRunStatuses};
 
 use crate::statuses::status::{Status, status_of};
 use rayon::current_num_threads;
@@ -118,21 +119,36 @@ fn run_in_chunk<D: PageSource>(
     }
 }
 
-/// The run that a locator names, and what became of it.
-fn run_of<D: PageSource>(
+/// An index run that was looked for: the run, what became of it, and the status of its locator.
+#[derive(Drop)]
+pub(crate) struct JudgedRun {
+    run: Option<Run>,
+    state: RunState,
+    status: Status,
+}
+
+/// The run that a locator names, what became of it, and the status of the locator.
+fn judged_run<D: PageSource>(
     alloc: Global,
     disk: &D,
     plan: &Plan,
     all: &AllFindings<'_, D>,
     locator: &Locator,
-) -> Result<(Option<Run>, RunState), OutOfMemory>
+) -> Result<JudgedRun, OutOfMemory>
     requires { IsWholeScan (D.image disk.now) plan.now all.now.extents }
-    ensures run { IfOk result (λ r. IsRunIn (D.image disk.now) plan.now locator.now r.0) }
-    ensures state { IfOk result (λ r. HasRunStateIn (D.image disk.now) plan.now locator.now r.1) }
+    ensures { IfOk result (IsJudgedRun (D.image disk.now) plan.now locator.now) }
 {
-    match status_of(alloc, disk, plan, all, locator)? {
-        Status::Sound | Status::Hidden => run_in_chunk(alloc, disk, locator),
-        status => Ok((None, RunState::BadChunk(status))),
+    let status = status_of(alloc, disk, plan, all, locator)?;
+    match status {
+        Status::Sound | Status::Hidden => {
+            let (run, state) = run_in_chunk(alloc, disk, locator)?;
+            Ok(JudgedRun { run, state, status })
+        }
+        _ => Ok(JudgedRun {
+            run: None,
+            state: RunState::BadChunk(status),
+            status,
+        }),
     }
 }
 
@@ -150,53 +166,57 @@ pub fn read_runs<D: PageSource>(
     let mut runs = Vec::with_capacity(alloc, locators.len())?;
     let mut states = Vec::with_capacity(alloc, locators.len())?;
     for locator in locators {
-        let (run, state) = run_of(alloc, disk, plan, all, locator)?;
-        runs.push(run)?;
-        states.push(state)?;
+        let one = judged_run(alloc, disk, plan, all, locator)?;
+        runs.push(one.run)?;
+        states.push(one.state)?;
     }
     Ok(ReadRuns { runs, states })
 }
 
-/// These runs, and what became of each, in two lists.
+/// These runs, what became of each, and the statuses of their locators, in three lists.
 fn unzipped(
     alloc: Global,
-    read: Vec<(Option<Run>, RunState)>,
-) -> Result<(Vec<Option<Run>>, Vec<RunState>), OutOfMemory>
-    ensures runs { IfOk result (λ r. r.0.items ≡ list_map (λ one. one.0) read.items) }
-    ensures states { IfOk result (λ r. r.1.items ≡ list_map (λ one. one.1) read.items) }
+    judged: Vec<JudgedRun>,
+) -> Result<(Vec<Option<Run>>, Vec<RunState>, Vec<Status>), OutOfMemory>
+    ensures runs { IfOk result (λ r. r.0.items ≡ list_map (λ one. one.run) judged.items) }
+    ensures states { IfOk result (λ r. r.1.items ≡ list_map (λ one. one.state) judged.items) }
+    ensures statuses { IfOk result (λ r. r.2.items ≡ list_map (λ one. one.status) judged.items) }
 {
-    let mut runs = Vec::with_capacity(alloc, read.len())?;
-    let mut states = Vec::with_capacity(alloc, read.len())?;
-    for (run, state) in read {
-        runs.push(run)?;
-        states.push(state)?;
+    let mut runs = Vec::with_capacity(alloc, judged.len())?;
+    let mut states = Vec::with_capacity(alloc, judged.len())?;
+    let mut statuses = Vec::with_capacity(alloc, judged.len())?;
+    for one in judged {
+        runs.push(one.run)?;
+        states.push(one.state)?;
+        statuses.push(one.status)?;
     }
-    Ok((runs, states))
+    Ok((runs, states, statuses))
 }
 
-/// What `read_runs` gives, read by as many threads as there are processors at most. Each holds one payload at a time.
+/// What `read_runs` gives, and the status of each run's locator, by as many threads as there are processors at most. Each
+/// holds one payload at a time.
 pub fn read_all_runs<R: Threads + Sync, D: PageSource>(
     rt: &R,
     alloc: Global,
     disk: &D,
     plan: &Plan,
     all: &AllFindings<'_, D>,
-) -> Result<ReadRuns, OutOfMemory>
+) -> Result<(ReadRuns, Vec<Status>), OutOfMemory>
     requires { IsWholeScan (D.image disk.now) plan.now all.now.extents }
-    ensures { IfOk result (AreReadRuns (D.image disk.now) plan.now) }
+    ensures runs { IfOk result (λ r. AreReadRuns (D.image disk.now) plan.now r.0) }
+    ensures statuses { IfOk result (λ r. AreRunStatuses (D.image disk.now) plan.now r.1.items) }
 {
     let locators = plan.runs();
-    let read = locators
+    let judged = locators
         .par_iter()
         .with_min_len(locators.len().div_ceil(current_num_threads(rt)))
         .map(
-            |locator: &Locator| -> Result<(Option<Run>, RunState), OutOfMemory>
+            |locator: &Locator| -> Result<JudgedRun, OutOfMemory>
                 requires { IsWholeScan (D.image disk.now) plan.now all.now.extents }
-                ensures { IfOk result (λ r. IsRunIn (D.image disk.entry.now) plan.entry.now locator.now r.0
-                    × HasRunStateIn (D.image disk.entry.now) plan.entry.now locator.now r.1) }
-            { run_of(alloc, disk, plan, all, locator) },
+                ensures { IfOk result (IsJudgedRun (D.image disk.entry.now) plan.entry.now locator.now) }
+            { judged_run(alloc, disk, plan, all, locator) },
         )
-        .collect::<Result<Vec<(Option<Run>, RunState)>, OutOfMemory>>(rt, alloc)??;
-    let (runs, states) = unzipped(alloc, read)?;
-    Ok(ReadRuns { runs, states })
+        .collect::<Result<Vec<JudgedRun>, OutOfMemory>>(rt, alloc)??;
+    let (runs, states, statuses) = unzipped(alloc, judged)?;
+    Ok((ReadRuns { runs, states }, statuses))
 }

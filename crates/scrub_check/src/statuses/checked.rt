@@ -1,17 +1,17 @@
 //! The named locators with their statuses, and the lists that are drawn from them alone. See `lists` for the chunks that
 //! they point to.
 
-ghost use Rattle.std.specs.Prelude.{◌≡◌, IfOk, IfSome, true, length};
+ghost use Rattle.std.specs.Prelude.{◌≡◌, ◌≤◌, IfOk, List, length};
 ghost use Rattle.std.specs.List.{AllZip};
 ghost use Rattle.scrub_disk.specs.Image.{Image};
+ghost use Rattle.scrub_super.specs.Plan.{PlanValue};
+ghost use Rattle.scrub_merge.specs.Binding.{BindingValue};
 ghost use Rattle.scrub_check.specs.Checked.{IsChecked, AreChecked, IsKnownBefore, is_dangling, dangling, hidden};
-ghost use Rattle.scrub_check.specs.Open.{IsOpen};
-ghost use Rattle.scrub_check.specs.Runs.{AreRunStates};
-ghost use Rattle.scrub_check.specs.Status.{HasStatusIn};
+ghost use Rattle.scrub_check.specs.Named.{named};
+ghost use Rattle.scrub_check.specs.Runs.{AreRunStatuses};
 ghost use Rattle.scrub_check.specs.WholeScan.{IsWholeScan};
 
-use crate::sources::named::{Named, Owner};
-use crate::sources::runs::RunState;
+use crate::sources::named::{Named, Owner, named_locators};
 use crate::statuses::by_place::{judge_places, open_locators, put_statuses};
 use crate::statuses::open_place::status_by_place;
 use crate::statuses::status::{Status, status_by_findings};
@@ -19,6 +19,7 @@ use crate::statuses::whole_scan::WholeScan;
 use rayon::prelude::*;
 use scrub_disk::{OutOfMemory, PageSource};
 use scrub_frame::Locator;
+use scrub_merge::ShardMap;
 use scrub_scan::AllFindings;
 use scrub_super::Plan;
 use std::alloc::Global;
@@ -35,79 +36,36 @@ pub struct Checked {
     pub status: Status,
 }
 
-/// Whether two locators are one.
-fn are_one(one: &Locator, other: &Locator) -> bool
-    ensures { result ≡ true → (one.now.extent ≡ other.now.extent) × (one.now.offset ≡ other.now.offset) ×
-        (one.now.length ≡ other.now.length) × (one.now.uuid ≡ other.now.uuid) × (one.now.digest ≡ other.now.digest) }
-{
-    if one.extent != other.extent || one.offset != other.offset || one.length != other.length {
-        return false;
-    }
-    if one.uuid != other.uuid {
-        return false;
-    }
-    if one.digest != other.digest {
-        return false;
-    }
-    true
-}
-
-/// The status of an index run's locator, by the state of the run, if no item begins at its place. The run was judged before.
-fn status_by_run(plan: &Plan, states: &[RunState], one: &Named) -> Option<Status>
-    ensures { (image : Image) → AreRunStates image plan.now states.now → IsOpen image plan.now one.now.locator →
-        IfSome result (HasStatusIn image plan.now one.now.locator) }
-{
-    let Owner::Run(number) = one.owner else {
-        return None;
-    };
-    let runs = plan.runs();
-    let i = number as usize;
-    if i >= runs.len() || i >= states.len() || !are_one(&runs[i], &one.locator) {
-        return None;
-    }
-    match states[i] {
-        RunState::BadChunk(status) => Some(status),
-        RunState::Read | RunState::NotARun => Some(Status::Hidden),
-    }
-}
-
-/// The status of a named locator, if the findings or the state of its index run decide it.
-fn known_before<D: PageSource>(
-    scan: &WholeScan<'_, D>,
-    states: &[RunState],
-    one: &Named,
-) -> Option<Status>
-    requires { AreRunStates (D.image scan.now.disk.now) scan.now.plan.now states.now }
-    ensures { IsKnownBefore (D.image scan.now.disk.now) scan.now.plan.now one.now result }
-{
-    match status_by_findings(scan, &one.locator) {
-        Some(status) => Some(status),
-        None => status_by_run(scan.plan, states, one),
-    }
-}
-
-/// The status of each of these locators that is known before its place is read.
-fn all_known_before<R: Threads + Sync, D: PageSource>(
+/// The status of each of these locators that the findings decide.
+fn known_by_findings<R: Threads + Sync, D: PageSource>(
     rt: &R,
     alloc: Global,
     scan: &WholeScan<'_, D>,
-    states: &[RunState],
     named: &[Named],
 ) -> Result<Vec<Option<Status>>, OutOfMemory>
-    requires { AreRunStates (D.image scan.now.disk.now) scan.now.plan.now states.now }
-    ensures count { IfOk result (λ v. length v.items ≡ length named.now) }
-    ensures known { IfOk result (λ v. AllZip (IsKnownBefore (D.image scan.now.disk.now) scan.now.plan.now) named.now v.items) }
+    ensures { IfOk result (λ v. AllZip (IsKnownBefore (D.image scan.now.disk.now) scan.now.plan.now) named.now v.items) }
 {
     let known = named
         .par_iter()
         .map(
             |one: &Named| -> Option<Status>
-                requires { AreRunStates (D.image scan.now.disk.now) scan.now.plan.now states.now }
                 ensures { IsKnownBefore (D.image scan.entry.now.disk.now) scan.entry.now.plan.now one.now result }
-            { known_before(scan, states, one) },
+            { status_by_findings(scan, &one.locator) },
         )
         .collect::<Vec<Option<Status>>>(rt, alloc)?;
     Ok(known)
+}
+
+/// Puts the statuses of the index runs, which are named first, to those that are known.
+fn put_run_statuses(known: &mut [Option<Status>], statuses: &[Status])
+    requires { length statuses.now ≤ length known.old }
+    ensures { (image : Image) (plan : PlanValue) (map : List BindingValue) → AreRunStatuses image plan statuses.now →
+        AllZip (IsKnownBefore image plan) (named plan.runs map) known.old →
+        AllZip (IsKnownBefore image plan) (named plan.runs map) known.new }
+{
+    for i in 0..statuses.len() {
+        known[i] = Some(statuses[i]);
+    }
 }
 
 /// A named locator with its status: the one that is known, or else the one by what is at its place.
@@ -150,6 +108,24 @@ fn check_each<D: PageSource>(
     Ok(checked)
 }
 
+/// Named locators with their statuses, in their order, if some are known.
+fn check_others<R: Threads + Sync, D: PageSource>(
+    rt: &R,
+    alloc: Global,
+    scan: &WholeScan<'_, D>,
+    named: &[Named],
+    mut known: Vec<Option<Status>>,
+) -> Result<Vec<Checked>, OutOfMemory>
+    requires { AllZip (IsKnownBefore (D.image scan.now.disk.now) scan.now.plan.now) named.now known.items }
+    ensures { IfOk result (λ v. AreChecked (D.image scan.now.disk.now) scan.now.plan.now named.now v.items) }
+{
+    let left = open_locators(alloc, named, &known)?;
+    for judged in &judge_places(rt, alloc, scan, named, &left)? {
+        put_statuses(&mut known, judged);
+    }
+    check_each(alloc, scan, named, &known)
+}
+
 /// The status of each of these locators, in their order. Several threads search the findings and read the disk if there is
 /// much to do. Each place is read once, however many locators point to it. Its payload is hashed only if the frame there is
 /// sealed, or if its head has the UUID and the length of one of the locators.
@@ -164,31 +140,31 @@ pub fn check_all<R: Threads + Sync, D: PageSource>(
     requires { IsWholeScan (D.image disk.now) plan.now all.now.extents }
     ensures { IfOk result (λ v. AreChecked (D.image disk.now) plan.now named.now v.items) }
 {
-    check_named(rt, alloc, disk, plan, all, &[], named)
+    let scan = WholeScan { disk, plan, all };
+    let known = known_by_findings(rt, alloc, &scan, named)?;
+    check_others(rt, alloc, &scan, named, known)
 }
 
-/// The same as `check_all`, if the index runs were read before. The state of each run, in the order of the plan, decides the
-/// status of its locator, so its place isn't read again.
+/// The same as `check_all` for all locators that a disk names, if the statuses of the index runs are known: their places
+/// aren't read again.
 pub fn check_named<R: Threads + Sync, D: PageSource>(
     rt: &R,
     alloc: Global,
     disk: &D,
     plan: &Plan,
     all: &AllFindings<'_, D>,
-    states: &[RunState],
-    named: &[Named],
+    statuses: &[Status],
+    map: &ShardMap,
 ) -> Result<Vec<Checked>, OutOfMemory>
     requires scan { IsWholeScan (D.image disk.now) plan.now all.now.extents }
-    requires states { AreRunStates (D.image disk.now) plan.now states.now }
-    ensures { IfOk result (λ v. AreChecked (D.image disk.now) plan.now named.now v.items) }
+    requires statuses { AreRunStatuses (D.image disk.now) plan.now statuses.now }
+    ensures { IfOk result (λ v. AreChecked (D.image disk.now) plan.now (named plan.now.runs map.now) v.items) }
 {
     let scan = WholeScan { disk, plan, all };
-    let mut known = all_known_before(rt, alloc, &scan, states, named)?;
-    let left = open_locators(alloc, named, &known)?;
-    for judged in &judge_places(rt, alloc, &scan, named, &left)? {
-        put_statuses(&mut known, judged);
-    }
-    check_each(alloc, &scan, named, &known)
+    let named = named_locators(alloc, plan, map)?;
+    let mut known = known_by_findings(rt, alloc, &scan, &named)?;
+    put_run_statuses(&mut known, statuses);
+    check_others(rt, alloc, &scan, &named, known)
 }
 
 /// Neither sound nor hidden.

@@ -17,11 +17,11 @@ loop-locator-preserved g c =
     let image = g.D.PageSource.image c.args.disk.now in
     let plan = c.args.plan.now in
     walked_more image plan c.runs-locators.result.now c.loop-locator.runs.items c.push.new.self.items
-    c.loop-locator.states.items c.push-in-loop-locator.new.self.items c.loop-locator.locator-index _ c.in_ok-run.run'
-    c.in_ok-run.state
+    c.loop-locator.states.items c.push-in-loop-locator.new.self.items c.loop-locator.locator-index _ c.in_ok-one.one.run
+    c.in_ok-one.one.state
     c.loop-locator-test.true c.loop-locator.invariant
-    (rw c.locator-item.is at c.in_ok-run.ensures.run)
-    (rw c.locator-item.is at c.in_ok-run.ensures.state) c.in_ok-push.ensures.items c.in_ok-push-2.ensures.items
+    (rw c.locator-item.is at c.in_ok-one.ensures.run)
+    (rw c.locator-item.is at c.in_ok-one.ensures.state) c.in_ok-push.ensures.items c.in_ok-push-2.ensures.items
 
 -- as many runs as states, and as many as the plan names
 pub invariant_of-result : goal.invariant_of-result

@@ -1,6 +1,10 @@
--- The two lists have the halves of the pairs so far.
+-- The three lists have the parts so far.
 use Rattle.std.proofs.Common.{◌≡◌, map as list_map}
 use Rattle.scrub_check.proofs.sources.runs.unzipped.Given as goal
 
-abbrev pub invariant-loop-run : goal.invariant-loop-run
-invariant-loop-run l = (l.runs.items ≡ list_map (λ one. one.0) l.yielded) × (l.states.items ≡ list_map (λ one. one.1) l.yielded)
+abbrev pub invariant-loop-one : goal.invariant-loop-one
+invariant-loop-one l = record {
+  runs : l.runs.items ≡ list_map (λ one. one.run) l.yielded;
+  states : l.states.items ≡ list_map (λ one. one.state) l.yielded;
+  statuses : l.statuses.items ≡ list_map (λ one. one.status) l.yielded;
+}

@@ -1,20 +1,21 @@
-use Rattle.std.proofs.Common.{ℕ, All, arith, length, ◌≡◌}
+use Rattle.std.proofs.Common.{◌≡◌, ◌∙◌, List, length, arith, ap}
+use Rattle.std.specs.List.{flat_map}
 use Rattle.std.proofs.lemmas.Slice.Zip.{AllZip-long}
-use Rattle.scrub_check.specs.declared.statuses.status.Status.{Status}
+use Rattle.scrub_check.specs.declared.sources.named.Named.{Named}
 use Rattle.scrub_check.specs.Checked.{IsKnownBefore}
-use Rattle.scrub_check.specs.Open.{IsJudgedAt}
+use Rattle.scrub_check.specs.Named.{named, named_by_shard}
+use Rattle.scrub_check.specs.Status.{HasStatusIn}
+use Rattle.scrub_check.proofs.NamedLists.{runs_first}
 use Rattle.scrub_check.proofs.statuses.checked.check_named.Goals as goal
 
--- each index is one of a named locator
-pub put_statuses-requires : goal.put_statuses-requires
-put_statuses-requires g c =
+-- the runs are among the named locators
+pub put_run_statuses-requires : goal.put_run_statuses-requires
+put_run_statuses-requires g c =
     let image = g.D.PageSource.image c.args.disk.now in
     let plan = c.args.plan.now in
-    let IsJudged : ℕ × Status → Type 0 = IsJudgedAt image plan c.args.named.now in
-    let all : All (λ place. All IsJudged place.items) c.deref-judged-items.result.now =
-    rw c.deref-judged-items.ensures.value c.in_ok-judge_places.ensures in
-    let here : All IsJudged c.judged-item.result.items =
-    rw c.judged-item.is (all c.loop-judged.judged-index c.judged-item.result c.loop-judged-test.true) in
-    let long : length c.loop-judged.known.items ≡ length c.args.named.now =
-    AllZip-long (IsKnownBefore image plan) c.args.named.now c.loop-judged.known.items c.loop-judged.invariant in
-    rw (c.deref-in-loop-judged.ensures.value, c.deref_mut.ensures.value) (λ k d lt. omega (arith, (here k d lt).below, long))
+    let runs : length c.args.statuses.now ≡ length plan.runs =
+    AllZip-long (HasStatusIn image plan) plan.runs c.args.statuses.now c.requires.statuses in
+    let long : length c.in_ok-known.known.items ≡ length (named plan.runs c.args.map.now) =
+    AllZip-long (IsKnownBefore image plan) c.deref.result.now c.in_ok-known.known.items c.in_ok-known.ensures
+    ∙ ap (λ (ns : List Named). length ns) (c.deref.ensures.value ∙ c.in_ok-named.ensures) in
+    rw c.deref_mut.ensures.value (omega (arith, runs, long, runs_first plan.runs (flat_map named_by_shard c.args.map.now) 0))

@@ -1,10 +1,9 @@
 use Rattle.std.proofs.Common.{◌∙◌, List, Option, ap, sym, subst}
 use Rattle.std.specs.List.{AllZip}
-use Rattle.std.proofs.lemmas.Slice.Zip.{AllZip-long}
 use Rattle.rayon.proofs.ToStd.{slice-AllZip}
 use Rattle.scrub_check.specs.declared.statuses.status.Status.{Status}
 use Rattle.scrub_check.specs.Checked.{IsKnownBefore}
-use Rattle.scrub_check.proofs.statuses.checked.all_known_before.Goals as goal
+use Rattle.scrub_check.proofs.statuses.checked.known_by_findings.Goals as goal
 
 pub returns : goal.returns
 returns g c =
@@ -18,6 +17,4 @@ returns g c =
     subst (λ f. AllZip (λ z r. IsKnownBefore (g.D.PageSource.image f.0.now.disk.now) f.0.now.plan.now z.now r) chain.0 h.0)
     c.map.ensures.f chain.2 in
     let each = slice-AllZip chain.0 named (chain.1 ∙ slice) (IsKnownBefore image plan) h.0 given in
-    let known : AllZip (IsKnownBefore image plan) named c.in_ok-known.known.items =
-    subst (λ (os : List (Option Status)). AllZip (IsKnownBefore image plan) named os) (sym h.2) each in
-    record { count = AllZip-long (IsKnownBefore image plan) named c.in_ok-known.known.items known; known = known }
+    subst (λ (os : List (Option Status)). AllZip (IsKnownBefore image plan) named os) (sym h.2) each
