@@ -13,8 +13,8 @@ use Rattle.std.proofs.lemmas.Slice.Eq.{bytes_eq-Decides}
 use Rattle.scrub_run.specs.declared.shard_id.ShardId.{ShardId}
 use Rattle.scrub_run.specs.Entry.{IsBelow}
 use Rattle.scrub_merge.specs.Cursors.{id_cmp}
-use Rattle.scrub_check.specs.declared.sources.named.Owner.{Owner}
-use Rattle.scrub_check.specs.declared.sources.named.Owner.TheVariants.{Run, Shard}
+use Rattle.scrub_check.specs.declared.named.Owner.{Owner}
+use Rattle.scrub_check.specs.declared.named.Owner.TheVariants.{Run, Shard}
 use Rattle.scrub_check.specs.declared.statuses.checked.Checked.{Checked}
 use Rattle.scrub_check.specs.Checked.{is_dangling, is_owned_by, is_broken, AreBrokenShards}
 use Rattle.scrub_check.specs.Distinct.{AreDistinct}

@@ -11,11 +11,12 @@ use Rattle.scrub_scan.specs.Extent.{extent_of, NoFrameAt}
 use Rattle.scrub_scan.specs.Standing.{IsClaimedAt, HasPlainFrame}
 use Rattle.scrub_scan.proofs.Claims.{only_frame, plain_frame}
 use Rattle.scrub_scan.proofs.FrameBytes.{no_gap}
-use Rattle.scrub_check.specs.declared.lists.sound_starts.Start.{Start}
+use Rattle.scrub_check.specs.declared.places.chunk_at.ChunkAt.{ChunkAt}
 use Rattle.scrub_check.specs.declared.statuses.status.Status.{Status}
 use Rattle.scrub_check.specs.declared.statuses.status.Status.TheVariants.{OutOfRange, Retired, PastPointer, Unreadable, NoFrame, WrongUuid, WrongLength, WrongDigest, Hidden, Sound}
 use Rattle.scrub_check.specs.Judged.{IsOther, IsStatusByClaim}
-use Rattle.scrub_check.specs.Open.{start_named_by, IsOpen, IsReadableClaim, IsClaimSeen, AreReadableClaims}
+use Rattle.scrub_check.specs.Places.{place_named_by}
+use Rattle.scrub_check.specs.Open.{IsOpen, IsReadableClaim, IsClaimSeen, AreReadableClaims}
 use Rattle.scrub_check.specs.Status.{CanStand, FindsFrame, HasStatus, HasStatusIn}
 use Rattle.scrub_check.proofs.Judged.{status_under}
 
@@ -50,14 +51,14 @@ by_claim image w l (Some h) known s can claim by is =
 
 -- so the status by the claim is the status
 pub judged_by_claim : (image : Image) (plan : PlanValue) (l : Locator) (found : Option Head) (known : Option Status) (s : Status) →
-    IsOpen image plan l → IsClaimSeen image plan (start_named_by l) found →
+    IsOpen image plan l → IsClaimSeen image plan (place_named_by l) found →
     IsStatusByClaim l found known → known ≡ Some s → HasStatusIn image plan l s
 judged_by_claim image plan l found known s left seen by is =
     status_under image plan left.pointer l s left.in_use left.is
     (by_claim image left.pointer l found known s left.can (seen left.pointer left.is) by is)
 
 -- what is claimed, and can be read, under the pointer of the extent
-pub claim_seen : (image : Image) (s : Start) (v w : ℕ) (claimed left : Option Head) → v ≡ w →
+pub claim_seen : (image : Image) (s : ChunkAt) (v w : ℕ) (claimed left : Option Head) → v ≡ w →
     IfSome claimed (IsClaimedAt (extent_of image s.extent v) s.offset) →
     IfNone claimed (NoFrameAt (extent_of image s.extent v) s.offset) →
     AreReadableClaims image s claimed left →

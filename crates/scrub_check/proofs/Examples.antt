@@ -12,7 +12,7 @@ use Rattle.scrub_scan.specs.Item.{IsItem}
 use Rattle.scrub_scan.specs.Tiling.{IsTiling}
 use Rattle.scrub_run.specs.declared.shard_id.ShardId.{ShardId}
 use Rattle.scrub_check.specs.declared.statuses.status.Status.TheVariants.{OutOfRange, PastPointer, WrongUuid, WrongLength, WrongDigest, Sound}
-use Rattle.scrub_check.specs.declared.sources.named.Owner.TheVariants.{Run, Shard}
+use Rattle.scrub_check.specs.declared.named.Owner.TheVariants.{Run, Shard}
 use Rattle.scrub_check.specs.Status.{InRange, FindsFrame, HasStatus}
 use Rattle.scrub_check.specs.Named.{named}
 

@@ -9,22 +9,22 @@ use Rattle.scrub_frame.specs.declared.locator.Locator.{Locator}
 use Rattle.scrub_super.specs.Plan.{PlanValue}
 use Rattle.scrub_run.specs.Entry.{EntryValue}
 use Rattle.scrub_merge.specs.Binding.{Runs}
-use Rattle.scrub_check.specs.declared.sources.runs.RunState.{RunState}
+use Rattle.scrub_check.specs.declared.runs.RunState.{RunState}
 use Rattle.scrub_check.specs.Runs.{IsRunIn, HasRunStateIn, AreCounted}
 
 -- what is said of the locators so far
-pub record AreWalkedOf (image : Image) (plan : PlanValue) (locators : List Locator) (read : Runs)
+pub record AreReadSoFar (image : Image) (plan : PlanValue) (locators : List Locator) (read : Runs)
     (known : List RunState) : Type 0 where
   pub runs : AllZip (IsRunIn image plan) locators read
   pub states : AllZip (HasRunStateIn image plan) locators known
 
-pub walked_more : (image : Image) (plan : PlanValue) (locators : List Locator) (runs more_runs : Runs) (states more_states : List RunState)
-    (i : ℕ) (d : Locator) (run : Option (List EntryValue)) (state : RunState) → i < length locators → AreWalkedOf image plan
+pub read_more : (image : Image) (plan : PlanValue) (locators : List Locator) (runs more_runs : Runs) (states more_states : List RunState)
+    (i : ℕ) (d : Locator) (run : Option (List EntryValue)) (state : RunState) → i < length locators → AreReadSoFar image plan
     (take i locators) runs states →
     IsRunIn image plan (get_or locators i d) run → HasRunStateIn image plan (get_or locators i d) state →
-    more_runs ≡ runs ++ run ∷ [] → more_states ≡ states ++ state ∷ [] → AreWalkedOf image plan (take (i + 1) locators) more_runs
+    more_runs ≡ runs ++ run ∷ [] → more_states ≡ states ++ state ∷ [] → AreReadSoFar image plan (take (i + 1) locators) more_runs
     more_states
-walked_more image plan locators runs more_runs states more_states i d run state below known is has run_grown state_grown = record {
+read_more image plan locators runs more_runs states more_states i d run state below known is has run_grown state_grown = record {
   runs = AllZip-take_more (IsRunIn image plan) locators runs more_runs i d run below known.runs is run_grown;
   states = AllZip-take_more (HasRunStateIn image plan) locators states more_states i d state below known.states has state_grown;
 }
@@ -32,11 +32,11 @@ walked_more image plan locators runs more_runs states more_states i d run state 
 -- in the end something is said of each
 pub all_states : (image : Image) (plan : PlanValue) (locators : List Locator) (i : ℕ) (runs : Runs) (states : List RunState) →
     length locators ≤ i → locators ≡ plan.runs →
-    AreWalkedOf image plan (take i locators) runs states → AreWalkedOf image plan plan.runs runs states
+    AreReadSoFar image plan (take i locators) runs states → AreReadSoFar image plan plan.runs runs states
 all_states image plan locators i runs states end is known = rw (take_all i locators end ∙ is) at known
 
 pub counted : (image : Image) (plan : PlanValue) (runs : Runs) (states : List RunState) → length plan.runs ≤ 32 →
-    AreWalkedOf image plan plan.runs runs states → AreCounted (record { runs = runs; states = states })
+    AreReadSoFar image plan plan.runs runs states → AreCounted (record { runs = runs; states = states })
 counted image plan runs states few known =
     let r : length runs ≡ length plan.runs = AllZip-long (IsRunIn image plan) plan.runs runs known.runs in
     record { same = AllZip-long (HasRunStateIn image plan) plan.runs states known.states ∙ sym r; few = omega (arith, r, few) }

@@ -7,8 +7,8 @@ use Rattle.scrub_frame.specs.declared.locator.Locator.{Locator}
 use Rattle.std.specs.List.{flat_map}
 use Rattle.scrub_run.specs.declared.shard_id.ShardId.{ShardId}
 use Rattle.scrub_merge.specs.Binding.{BindingValue}
-use Rattle.scrub_check.specs.declared.sources.named.Owner.TheVariants.{Run, Shard}
-use Rattle.scrub_check.specs.declared.sources.named.Named.{Named}
+use Rattle.scrub_check.specs.declared.named.Owner.TheVariants.{Run, Shard}
+use Rattle.scrub_check.specs.declared.named.Named.{Named}
 use Rattle.scrub_check.specs.Named.{named_by_runs, named_by_shard}
 
 abbrev pub run_named : ℕ → Locator → Named

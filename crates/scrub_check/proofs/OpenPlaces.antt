@@ -12,21 +12,22 @@ use Rattle.scrub_merge.specs.Binding.{BindingValue}
 use Rattle.scrub_scan.specs.declared.standing.Standing.{Standing}
 use Rattle.scrub_scan.specs.Extent.{extent_of, NoFrameAt}
 use Rattle.scrub_scan.specs.Standing.{IsStandingAt}
-use Rattle.scrub_check.specs.declared.lists.sound_starts.Start.{Start}
-use Rattle.scrub_check.specs.declared.sources.named.Named.{Named}
+use Rattle.scrub_check.specs.declared.places.chunk_at.ChunkAt.{ChunkAt}
+use Rattle.scrub_check.specs.declared.named.Named.{Named}
 use Rattle.scrub_check.specs.declared.statuses.by_place.OpenLocator.{OpenLocator}
 use Rattle.scrub_check.specs.declared.statuses.status.Status.{Status}
 use Rattle.scrub_check.specs.Checked.{IsKnownBefore}
 use Rattle.scrub_check.specs.Status.{HasStatusIn}
-use Rattle.scrub_check.specs.Open.{start_named_by, CanBeRead, IsFoundAt, IsSeenAt, IsOpen, IsOpenAt, IsJudgedAt}
-use Rattle.scrub_check.specs.Named.{named_by_runs, named_by_shard, named}
+use Rattle.scrub_check.specs.Places.{place_named_by}
+use Rattle.scrub_check.specs.Open.{CanBeRead, IsFoundAt, IsSeenAt, IsOpen, IsOpenAt, IsJudgedAt}
+use Rattle.scrub_check.specs.Named.{named_by_shard, named}
 use Rattle.scrub_check.specs.Runs.{AreRunStatuses}
 use Rattle.scrub_check.proofs.CheckedLists.{known_at, zipped_at}
 use Rattle.scrub_check.proofs.NamedLists.{run_at, runs_first}
 
 -- the place of an open locator can be read
 pub can_be_read : (image : Image) (plan : PlanValue) (l : Locator) → plan.geometry ≡ image.geometry → IsOpen image plan l →
-    CanBeRead image plan (start_named_by l)
+    CanBeRead image plan (place_named_by l)
 can_be_read image plan l geometry left = record {
   geometry = geometry;
   from_one = left.can.in_range.from_one;
@@ -41,7 +42,7 @@ found_at : (image : Image) (e p v w : ℕ) (found : Option Standing) → v ≡ w
 found_at image e p v w (Some s) same some none = rw same at some
 found_at image e p v w None same some none = rw same at none
 
-pub frame_seen : {E : Type 0} (image : Image) (plan : PlanValue) (s : Start) (v : ℕ) (r : Result (Option Standing) E) →
+pub frame_seen : {E : Type 0} (image : Image) (plan : PlanValue) (s : ChunkAt) (v : ℕ) (r : Result (Option Standing) E) →
     pointer_of plan s.extent ≡ Some v →
     IfOk r (λ found. IfSome found (IsStandingAt image v s.extent s.offset)) →
     IfOk r (λ found. IfNone found (NoFrameAt (extent_of image s.extent v) s.offset)) → IfOk r (IsSeenAt image plan s)
@@ -56,19 +57,19 @@ left_open image plan n None none known = known
 left_open image plan n (Some s) none known = absurd (cc)
 
 -- one more open locator
-pub open_more : (names : List Named) (tells : List (Option Status)) (i : ℕ) (n : Named) (t : Option Status) (s : Start) (os more : List OpenLocator) →
-    i < length names → n ≡ get_or names i n → t ≡ get_or tells i t → is_some t ≡ false → s ≡ start_named_by n.locator →
-    more ≡ os ++ record { start = s; index = i } ∷ [] →
+pub open_more : (names : List Named) (tells : List (Option Status)) (i : ℕ) (n : Named) (t : Option Status) (p : ChunkAt) (os more : List OpenLocator) →
+    i < length names → n ≡ get_or names i n → t ≡ get_or tells i t → is_some t ≡ false → p ≡ place_named_by n.locator →
+    more ≡ os ++ record { place = p; index = i } ∷ [] →
     ((image : Image) (plan : PlanValue) → AllZip (IsKnownBefore image plan) names tells → All (IsOpenAt image plan names) os) →
     (image : Image) (plan : PlanValue) → AllZip (IsKnownBefore image plan) names tells → All (IsOpenAt image plan names) more
-open_more names tells i n t s os more below name_is tell_is none start grown before image plan known =
+open_more names tells i n t p os more below name_is tell_is none there grown before image plan known =
     let same : (d : Named) → n ≡ get_or names i d = λ d. name_is ∙ get_or_default names i n d below in
     let left = left_open image plan n t none (known_at image plan names tells i n t below name_is tell_is known) in
     rw grown
-    (All-push (IsOpenAt image plan names) os (record { start = s; index = i }) (before image plan known) (record {
+    (All-push (IsOpenAt image plan names) os (record { place = p; index = i }) (before image plan known) (record {
       below = below;
       left = λ d. rw (same d) at left;
-      start = λ d. start ∙ ap (λ (m : Named). start_named_by m.locator) (same d);
+      place = λ d. there ∙ ap (λ (m : Named). place_named_by m.locator) (same d);
     }))
 
 -- a status that is put to the others
@@ -87,10 +88,10 @@ known_more image plan names tells i s judged known =
 
 -- the place of one of them can be read
 pub left_can_be_read : (image : Image) (plan : PlanValue) (names : List Named) (o : OpenLocator) → plan.geometry ≡ image.geometry →
-    IsOpenAt image plan names o → CanBeRead image plan o.start
+    IsOpenAt image plan names o → CanBeRead image plan o.place
 left_can_be_read image plan [] o geometry at = absurd (omega (arith, at.below))
 left_can_be_read image plan (n ∷ ns) o geometry at =
-    rw (at.start n) (can_be_read image plan (get_or (n ∷ ns) o.index n).locator geometry (at.left n))
+    rw (at.place n) (can_be_read image plan (get_or (n ∷ ns) o.index n).locator geometry (at.left n))
 
 -- one more that is judged
 pub judged_more : (image : Image) (plan : PlanValue) (names : List Named) (o : OpenLocator) (d : Named) (s : Status) (js more : List (ℕ × Status)) →

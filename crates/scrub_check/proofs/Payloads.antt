@@ -14,8 +14,8 @@ use Rattle.scrub_run.specs.Entry.{EntryValue}
 use Rattle.scrub_run.specs.Run.{IsRun}
 use Rattle.scrub_check.specs.declared.statuses.status.Status.{Status}
 use Rattle.scrub_check.specs.declared.statuses.status.Status.TheVariants.{OutOfRange, Hidden, Sound}
-use Rattle.scrub_check.specs.declared.sources.runs.RunState.{RunState}
-use Rattle.scrub_check.specs.declared.sources.runs.RunState.TheVariants.{Read, BadChunk, NotARun}
+use Rattle.scrub_check.specs.declared.runs.RunState.{RunState}
+use Rattle.scrub_check.specs.declared.runs.RunState.TheVariants.{Read, BadChunk, NotARun}
 use Rattle.scrub_check.specs.ChunkRun.{StandsThere, HasPayloadThere, HoldsRun, IsStateOf}
 use Rattle.scrub_check.specs.Status.{NamesChunk, HasStatus, HasStatusInRetired, HasStatusInUse, HasStatusIn, is_retired}
 use Rattle.scrub_check.specs.Runs.{NamesRun, IsRunOf, HasRunState, IsRunInUse, HasRunStateInUse, IsLostInRetired, IsRunIn, HasRunStateIn}

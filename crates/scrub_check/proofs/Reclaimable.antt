@@ -1,4 +1,4 @@
--- Which extents may be reclaimed: what the sorted verdicts say of an extent, and that candidates are in a strict order.
+-- Which extents may be reclaimed: what the sorted locators say of an extent, and that candidates are in a strict order.
 use Rattle.std.proofs.Common.{◌≡◌, ◌<◌, ◌≤◌, ◌+◌, ◌==◌, ◌≢◌, ◌&&◌, ◌||◌, ℕ, suc, Bool, true, false, not, cond, List, [], ◌∷◌, length, get_or, map, arith, refl, sym, ◌∙◌, ap, Result, Ok, Err, is_ok, Ordering, Less, Equal, Greater, nat_cmp, is_eq, is_lt, inl, inr}
 use Rattle.std.specs.Ordering.{ordering_then, ordering_reverse}
 use Rattle.std.specs.Cmp.{IsTotalOrder, nat_cmp_total}
@@ -19,14 +19,14 @@ use Rattle.scrub_scan.specs.declared.item.Item.{Item}
 use Rattle.scrub_scan.specs.Scanned.{Scanned}
 use Rattle.scrub_scan.specs.AllFindings.{extent_numbers}
 use Rattle.scrub_check.specs.declared.statuses.checked.Checked.{Checked}
-use Rattle.scrub_check.specs.declared.lists.sound_starts.Start.{Start}
+use Rattle.scrub_check.specs.declared.places.chunk_at.ChunkAt.{ChunkAt}
 use Rattle.scrub_check.specs.Checked.{is_sound}
 use Rattle.scrub_check.specs.Live.{is_live}
-use Rattle.scrub_check.specs.SoundStarts.{AreSoundStarts, is_live_by}
-use Rattle.scrub_check.specs.Verdicts.{AreUnsoundExtents}
+use Rattle.scrub_check.specs.SoundPlaces.{AreSoundPlaces, is_live_by}
+use Rattle.scrub_check.specs.LocatorIndex.{AreBarredExtents}
 use Rattle.scrub_check.specs.Candidates.{CandidateValue, is_reclaimable, candidate_of, by_free, reclaimable, AreCandidates}
 use Rattle.scrub_check.proofs.Sizes.{sum_of_kept}
-use Rattle.scrub_check.proofs.SortedStarts.{live_sizes, same_number}
+use Rattle.scrub_check.proofs.SortedPlaces.{live_sizes, same_number}
 
 -- ---- the extents that locators name which aren't sound
 
@@ -61,7 +61,7 @@ named_by_sound (c ∷ cs) e = by (is_sound c.status) (c.locator.extent == e) ref
     by false true is more = sym (ap (λ b. not (b || list_any (λ x. x == e) (map (λ c. c.locator.extent) others))) is)
     by false false is more = more ∙ sym (ap (λ b. not (b || list_any (λ x. x == e) (map (λ c. c.locator.extent) others))) is)
 
-pub named_by_sound_alone : (checked : List Checked) (extents : List ℕ) (e : ℕ) → AreUnsoundExtents checked extents →
+pub named_by_sound_alone : (checked : List Checked) (extents : List ℕ) (e : ℕ) → AreBarredExtents checked extents →
     list_all (λ c. not (c.locator.extent == e) || is_sound c.status) checked ≡ not (list_any (λ x. x == e) extents)
 named_by_sound_alone checked extents e are =
     named_by_sound checked e
@@ -70,10 +70,10 @@ named_by_sound_alone checked extents e are =
 -- ---- the parts of a candidate
 
 -- what holds of the chunks that are found by their starts holds of the live ones
-pub walked_of_live : {Y : Type 0} (known : List Item → Y) (y : Y) (checked : List Checked) (starts : List Start) (e f : ℕ) (is js : List Item) →
-    AreSoundStarts checked starts → e ≡ f → is ≡ js →
+pub parted_of_live : {Y : Type 0} (known : List Item → Y) (y : Y) (checked : List Checked) (starts : List ChunkAt) (e f : ℕ) (is js : List Item) →
+    AreSoundPlaces checked starts → e ≡ f → is ≡ js →
     y ≡ known (filter (is_live_by starts e) is) → y ≡ known (filter (is_live checked f) js)
-walked_of_live known y checked starts e f is js are same items h =
+parted_of_live known y checked starts e f is js are same items h =
     h
     ∙ ap (λ n. known (filter (is_live_by starts n) is)) same
     ∙ ap (λ xs. known (filter (is_live_by starts f) xs)) items

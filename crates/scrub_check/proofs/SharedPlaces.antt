@@ -13,14 +13,15 @@ use Rattle.std.proofs.lemmas.Map.Views.{tells_apart}
 use Rattle.scrub_merge.proofs.Elements.{Contains-filter}
 use Rattle.scrub_check.specs.declared.lists.place.SharedPlace.{SharedPlace}
 use Rattle.scrub_check.specs.declared.statuses.checked.Checked.{Checked}
-use Rattle.scrub_check.specs.declared.lists.sound_starts.Start.{Start}
+use Rattle.scrub_check.specs.declared.places.chunk_at.ChunkAt.{ChunkAt}
 use Rattle.scrub_check.specs.Distinct.{AreDistinct}
 use Rattle.scrub_check.specs.Live.{sound_at}
 use Rattle.scrub_check.specs.Shared.{by_place, IsShared, AreShared}
-use Rattle.scrub_check.specs.SoundStarts.{start_cmp, is_start, AreSoundStarts, place_counted, shared_by}
+use Rattle.scrub_check.specs.Places.{place_cmp, is_place}
+use Rattle.scrub_check.specs.SoundPlaces.{AreSoundPlaces, place_counted, shared_by}
 use Rattle.scrub_check.proofs.Counts.{any_counts}
 use Rattle.scrub_check.proofs.Rising.{once_at_most}
-use Rattle.scrub_check.proofs.SortedStarts.{start_total, start_exact}
+use Rattle.scrub_check.proofs.SortedPlaces.{place_total, place_exact}
 
 pub by_place_total : IsTotalOrder by_place
 by_place_total = then_total (on_total (λ p. p.extent) nat_cmp_total) (on_total (λ p. p.offset) nat_cmp_total)
@@ -42,20 +43,20 @@ mapped_there : {X Y : Type 0} (f : X → Y) (xs : List X) (x : X) → Contains x
 mapped_there f xs x (i, inside, is) = (i, omega (arith, inside, length-map xs f), get_or-map f xs i x (f x) inside ∙ ap f is)
 
 -- a place that is counted is there
-counted_there : (starts : List Start) (s : Start) → 0 < count_by (is_start s) starts → Contains starts s
+counted_there : (starts : List ChunkAt) (s : ChunkAt) → 0 < count_by (is_place s) starts → Contains starts s
 counted_there starts s some =
     let found =
-    Any-from_list_any (is_start s) starts (any_counts (is_start s) starts ∙ lt-ltb 0 (count_by (is_start s) starts) some) in
-    rw (← (tells_apart start_exact found.1 s found.4)) (found.0, found.2, found.3)
+    Any-from_list_any (is_place s) starts (any_counts (is_place s) starts ∙ lt-ltb 0 (count_by (is_place s) starts) some) in
+    rw (← (tells_apart place_exact found.1 s found.4)) (found.0, found.2, found.3)
 
 -- the places that are there twice or more are the shared ones
-pub shared_found : (checked : List Checked) (starts once : List Start) (places : List SharedPlace) →
-    AreSoundStarts checked starts → AreDistinct start_cmp starts once →
+pub shared_found : (checked : List Checked) (starts once : List ChunkAt) (places : List SharedPlace) →
+    AreSoundPlaces checked starts → AreDistinct place_cmp starts once →
     places ≡ shared_by starts once → AreShared checked places
 shared_found checked starts once places are distinct is = rw is (record {
   rising =
       IsStrictlySortedBy-filter by_place several (map (place_counted starts) once)
-      (rising_map start_cmp by_place (place_counted starts) once (λ s t. refl) distinct.rising);
+      (rising_map place_cmp by_place (place_counted starts) once (λ s t. refl) distinct.rising);
   each = λ k d lt. record {
     counted =
         All-filter several (λ (p : SharedPlace). p.count ≡ sound_at checked p.extent p.offset) (map (place_counted starts) once)
@@ -77,8 +78,8 @@ shared_found checked starts once places are distinct is = rw is (record {
 
     there : (s : SharedPlace) → IsShared checked s → Contains (map (place_counted starts) once) s
     there s shared =
-        let start : Start = record { extent = s.extent; offset = s.offset } in
-        let so_often : count_by (is_start start) starts ≡ s.count = are start ∙ sym shared.counted in
+        let start : ChunkAt = record { extent = s.extent; offset = s.offset } in
+        let so_often : count_by (is_place start) starts ≡ s.count = are start ∙ sym shared.counted in
         let among : Contains once start =
         (distinct.same start).1 (counted_there starts start (omega (arith, so_often, shared.several))) in
         let itself : place_counted starts start ≡ s = λ i. record {
@@ -93,14 +94,14 @@ unfolding IsStrictlySortedBy
 no_places = tt
 
 -- if each place is there once, none is shared
-pub none_shared : (checked : List Checked) (starts : List Start) → AreSoundStarts checked starts →
-    IsStrictlySortedBy start_cmp starts → AreShared checked []
+pub none_shared : (checked : List Checked) (starts : List ChunkAt) → AreSoundPlaces checked starts →
+    IsStrictlySortedBy place_cmp starts → AreShared checked []
 none_shared checked starts are rising = record {
   rising = no_places;
   each = λ k d lt. absurd (omega (arith, lt));
   all = λ s shared.
-      let start : Start = record { extent = s.extent; offset = s.offset } in
-      let so_often : count_by (is_start start) starts ≡ s.count = are start ∙ sym shared.counted in
-      let few : count_by (is_start start) starts ≤ 1 = once_at_most start_total starts start rising in
+      let start : ChunkAt = record { extent = s.extent; offset = s.offset } in
+      let so_often : count_by (is_place start) starts ≡ s.count = are start ∙ sym shared.counted in
+      let few : count_by (is_place start) starts ≤ 1 = once_at_most place_total starts start rising in
       absurd (omega (arith, so_often, few, shared.several));
 }

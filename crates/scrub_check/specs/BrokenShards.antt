@@ -1,8 +1,8 @@
 -- The shards that name dangling locators, as the code finds them.
 use Rattle.std.specs.Prelude.{Option, Some, None, if◌then◌else◌}
 use Rattle.scrub_run.specs.declared.shard_id.ShardId.{ShardId}
-use Rattle.scrub_check.specs.declared.sources.named.Owner.{Owner}
-use Rattle.scrub_check.specs.declared.sources.named.Owner.TheVariants.{Run, Shard}
+use Rattle.scrub_check.specs.declared.named.Owner.{Owner}
+use Rattle.scrub_check.specs.declared.named.Owner.TheVariants.{Run, Shard}
 use Rattle.scrub_check.specs.declared.statuses.checked.Checked.{Checked}
 use Rattle.scrub_check.specs.Checked.{is_dangling}
 

@@ -6,9 +6,9 @@ use Rattle.scrub_disk.specs.Image.{Image}
 use Rattle.scrub_super.specs.Plan.{PlanValue}
 use Rattle.scrub_run.specs.declared.shard_id.ShardId.{ShardId}
 use Rattle.scrub_run.specs.Entry.{IsBelow}
-use Rattle.scrub_check.specs.declared.sources.named.Owner.{Owner}
-use Rattle.scrub_check.specs.declared.sources.named.Owner.TheVariants.{Run, Shard}
-use Rattle.scrub_check.specs.declared.sources.named.Named.{Named}
+use Rattle.scrub_check.specs.declared.named.Owner.{Owner}
+use Rattle.scrub_check.specs.declared.named.Owner.TheVariants.{Run, Shard}
+use Rattle.scrub_check.specs.declared.named.Named.{Named}
 use Rattle.scrub_check.specs.declared.statuses.checked.Checked.{Checked}
 use Rattle.scrub_check.specs.declared.statuses.status.Status.{Status}
 use Rattle.scrub_check.specs.declared.statuses.status.Status.TheVariants.{Hidden, Sound}

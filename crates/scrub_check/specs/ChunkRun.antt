@@ -7,8 +7,8 @@ use Rattle.scrub_scan.specs.declared.standing.Standing.{Standing}
 use Rattle.scrub_scan.specs.Standing.{Stands, HasPayload}
 use Rattle.scrub_run.specs.Entry.{EntryValue}
 use Rattle.scrub_run.specs.Run.{IsRun}
-use Rattle.scrub_check.specs.declared.sources.runs.RunState.{RunState}
-use Rattle.scrub_check.specs.declared.sources.runs.RunState.TheVariants.{Read, NotARun}
+use Rattle.scrub_check.specs.declared.runs.RunState.{RunState}
+use Rattle.scrub_check.specs.declared.runs.RunState.TheVariants.{Read, NotARun}
 
 -- the chunk that a locator names, as a frame of this form at its place
 abbrev pub standing_of : Locator → Form → Standing

@@ -2,7 +2,7 @@
 use Rattle.scrub_disk.specs.Image.{Image}
 use Rattle.scrub_frame.specs.declared.locator.Locator.{Locator}
 use Rattle.scrub_super.specs.Plan.{PlanValue}
-use Rattle.scrub_check.specs.declared.sources.runs.JudgedRun.{JudgedRun}
+use Rattle.scrub_check.specs.declared.runs.JudgedRun.{JudgedRun}
 use Rattle.scrub_check.specs.Runs.{IsRunIn, HasRunStateIn}
 use Rattle.scrub_check.specs.Status.{HasStatusIn}
 

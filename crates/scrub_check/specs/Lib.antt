@@ -17,6 +17,7 @@ pub use Rattle.scrub_scan.specs.AllFindings
 pub use Rattle.scrub_merge.specs.Binding
 -- Steps of the code.
 pub mod OneScan
+pub mod Places
 pub mod Judged
 pub mod Open
 pub mod ChunkRun
@@ -24,6 +25,6 @@ pub mod JudgedRun
 pub mod Distinct
 pub mod ChunkUuids
 pub mod BrokenShards
-pub mod SoundStarts
-pub mod Verdicts
-pub mod Walked
+pub mod SoundPlaces
+pub mod LocatorIndex
+pub mod LiveAndOrphans

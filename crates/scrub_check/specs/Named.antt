@@ -3,8 +3,8 @@ use Rattle.std.specs.Prelude.{◌+◌, ℕ, List, [], ◌∷◌, ◌++◌, map}
 use Rattle.std.specs.List.{flat_map}
 use Rattle.scrub_frame.specs.declared.locator.Locator.{Locator}
 use Rattle.scrub_merge.specs.Binding.{BindingValue}
-use Rattle.scrub_check.specs.declared.sources.named.Owner.TheVariants.{Run, Shard}
-use Rattle.scrub_check.specs.declared.sources.named.Named.{Named}
+use Rattle.scrub_check.specs.declared.named.Owner.TheVariants.{Run, Shard}
+use Rattle.scrub_check.specs.declared.named.Named.{Named}
 
 -- the locators of runs, each owned by its run, numbered from k on
 abbrev pub named_by_runs : ℕ → List Locator → List Named

@@ -8,19 +8,16 @@ use Rattle.scrub_frame.specs.Frame.{frame_overhead}
 use Rattle.scrub_scan.specs.declared.standing.Standing.{Standing}
 use Rattle.scrub_scan.specs.Extent.{Extent, extent_of, NoFrameAt, HasGap}
 use Rattle.scrub_scan.specs.Standing.{IsStandingAt, IsClaimedAt}
-use Rattle.scrub_check.specs.declared.lists.sound_starts.Start.{Start}
-use Rattle.scrub_check.specs.declared.sources.named.Named.{Named}
+use Rattle.scrub_check.specs.declared.places.chunk_at.ChunkAt.{ChunkAt}
+use Rattle.scrub_check.specs.declared.named.Named.{Named}
 use Rattle.scrub_check.specs.declared.statuses.by_place.OpenLocator.{OpenLocator}
 use Rattle.scrub_check.specs.declared.statuses.open_place.OpenPlace.{OpenPlace}
 use Rattle.scrub_check.specs.declared.statuses.status.Status.{Status}
+use Rattle.scrub_check.specs.Places.{place_named_by}
 use Rattle.scrub_check.specs.Status.{CanStand, BeginsAt, HasStatus, HasStatusIn, is_retired}
 
--- where a locator points: an extent and a byte of it
-abbrev pub start_named_by : Locator → Start
-start_named_by l = record { extent = l.extent; offset = l.offset }
-
 -- a place that can be read: in an extent of the disk that is in use
-pub record CanBeRead (image : Image) (plan : PlanValue) (s : Start) : Type 0 where
+pub record CanBeRead (image : Image) (plan : PlanValue) (s : ChunkAt) : Type 0 where
   pub geometry : plan.geometry ≡ image.geometry
   pub from_one : 1 ≤ s.extent
   pub in_disk : s.extent < image.geometry.extents
@@ -32,7 +29,7 @@ abbrev pub IsFoundAt : Image → ℕ → ℕ → ℕ → Option Standing → Typ
 IsFoundAt image w e p found = MatchOption found (NoFrameAt (extent_of image e w) p) (IsStandingAt image w e p)
 
 -- what was found at a place under the plan's write pointer: the frame there, or that no frame is there
-abbrev pub IsSeenAt : Image → PlanValue → Start → Option Standing → Type 0
+abbrev pub IsSeenAt : Image → PlanValue → ChunkAt → Option Standing → Type 0
 IsSeenAt image plan s found = (w : ℕ) → pointer_of plan s.extent ≡ Some w → IsFoundAt image w s.extent s.offset found
 
 -- the frame that a locator names would be in an extent in use, on readable pages, and no item begins at its place
@@ -48,7 +45,7 @@ abbrev pub IsStatusByItems : Image → ℕ → Locator → Option Status → Typ
 IsStatusByItems image w l known = MatchOption known (¬ BeginsAt (extent_of image l.extent w) l.offset) (HasStatus image w l)
 
 -- the frame that is claimed at a place would end in its extent
-abbrev pub IsClaimedIn : Image → Start → Head → Type 0
+abbrev pub IsClaimedIn : Image → ChunkAt → Head → Type 0
 IsClaimedIn image s h = s.offset + h.length + frame_overhead h.form ≤ extent_bytes image.geometry
 
 -- a frame is claimed at p, and all its bytes can be read
@@ -58,24 +55,24 @@ pub record IsReadableClaim (x : Extent) (p : ℕ) (h : Head) : Type 0 where
 
 -- what is claimed at a place under the plan's pointer: a frame whose bytes can all be read, or none, and then no frame
 -- is there
-abbrev pub IsClaimSeen : Image → PlanValue → Start → Option Head → Type 0
+abbrev pub IsClaimSeen : Image → PlanValue → ChunkAt → Option Head → Type 0
 IsClaimSeen image plan s found = (w : ℕ) → pointer_of plan s.extent ≡ Some w → MatchOption found (NoFrameAt (extent_of image s.extent w) s.offset) (IsReadableClaim (extent_of image s.extent w) s.offset)
 
 -- what is left of a claimed frame: nothing if one of its bytes can't be read, and else the same
-abbrev pub AreReadableClaims : Image → Start → Option Head → Option Head → Type 0
+abbrev pub AreReadableClaims : Image → ChunkAt → Option Head → Option Head → Type 0
 AreReadableClaims image s None left = left ≡ None
 AreReadableClaims image s (Some h) left = MatchOption left (HasGap (byte image s.extent) s.offset (h.length + frame_overhead h.form)) (λ k. (k ≡ h) × ¬ HasGap (byte image s.extent) s.offset (h.length + frame_overhead h.form))
 
 -- what was read at a place: what is claimed there, and the frame there, once its payload was hashed
 pub record IsRead (image : Image) (plan : PlanValue) (p : OpenPlace) : Type 0 where
-  pub claimed : IsClaimSeen image plan p.start p.claimed
-  pub frame : p.is_hashed ≡ true → IsSeenAt image plan p.start p.frame
+  pub claimed : IsClaimSeen image plan p.place p.claimed
+  pub frame : p.is_hashed ≡ true → IsSeenAt image plan p.place p.frame
 
 -- the index of a named locator that is open, and its place
 pub record IsOpenAt (image : Image) (plan : PlanValue) (named : List Named) (o : OpenLocator) : Type 0 where
   pub below : o.index < length named
   pub left : (d : Named) → IsOpen image plan (slice_index_or named o.index d).locator
-  pub start : (d : Named) → o.start ≡ start_named_by (slice_index_or named o.index d).locator
+  pub place : (d : Named) → o.place ≡ place_named_by (slice_index_or named o.index d).locator
 
 -- the index of a named locator, and its status
 pub record IsJudgedAt (image : Image) (plan : PlanValue) (named : List Named) (one : ℕ × Status) : Type 0 where

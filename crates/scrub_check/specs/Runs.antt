@@ -10,8 +10,8 @@ use Rattle.scrub_run.specs.Run.{IsRun}
 use Rattle.scrub_merge.specs.Binding.{Runs}
 use Rattle.scrub_check.specs.declared.statuses.status.Status.{Status}
 use Rattle.scrub_check.specs.declared.statuses.status.Status.TheVariants.{OutOfRange}
-use Rattle.scrub_check.specs.declared.sources.runs.RunState.{RunState}
-use Rattle.scrub_check.specs.declared.sources.runs.RunState.TheVariants.{Read, BadChunk, NotARun}
+use Rattle.scrub_check.specs.declared.runs.RunState.{RunState}
+use Rattle.scrub_check.specs.declared.runs.RunState.TheVariants.{Read, BadChunk, NotARun}
 use Rattle.scrub_check.specs.Status.{NamesChunk, HasStatus, HasStatusInRetired, HasStatusIn, is_retired}
 
 -- the locator names a chunk, be it hidden or sound, whose payload is the run of these entries

@@ -3,7 +3,9 @@
 #![tactic(auto)]
 
 pub mod lists;
-pub mod sources;
+pub mod named;
+pub mod places;
+pub mod runs;
 pub mod statuses;
 
 pub use lists::broken::{broken_shards, one_list_of_broken_shards};
@@ -14,8 +16,8 @@ pub use lists::liveness::{Liveness, liveness_of};
 pub use lists::place::{Place, SharedPlace};
 pub use lists::reclaiming::{candidates, candidates_are_safe, one_list_of_candidates};
 pub use lists::shared_places::{one_list_of_shared_places, shared};
-pub use sources::named::{Named, Owner, named_locators};
-pub use sources::runs::{ReadRuns, RunState, read_all_runs, read_runs};
+pub use named::{Named, Owner, named_locators};
+pub use runs::{ReadRuns, RunState, read_all_runs, read_runs};
 pub use statuses::checked::{Checked, check_all, check_named, dangling, hidden};
 pub use statuses::searching::{Found, find_start};
 pub use statuses::status::{Status, status_of};

@@ -7,8 +7,8 @@ ghost use Rattle.scrub_check.specs.declared.statuses.checked.Checked.{Checked};
 ghost use Rattle.scrub_check.specs.Checked.{AreBrokenShards};
 ghost use Rattle.scrub_check.specs.BrokenShards.{broken_owner};
 
-use crate::sources::named::Owner;
-use crate::statuses::checked::{Checked, is_dangling};
+use crate::named::Owner;
+use crate::statuses::checked::Checked;
 use scrub_disk::OutOfMemory;
 use scrub_run::ShardId;
 use std::alloc::Global;
@@ -18,7 +18,7 @@ fn broken_owner(one: &Checked) -> Option<ShardId>
     ensures { result ≡ broken_owner one.now }
 {
     match one.owner {
-        Owner::Shard(id) if is_dangling(one.status) => Some(id),
+        Owner::Shard(id) if one.status.is_dangling() => Some(id),
         _ => None,
     }
 }

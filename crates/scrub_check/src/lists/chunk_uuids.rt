@@ -7,7 +7,7 @@ ghost use Rattle.std.specs.List.Sorted.{IsStrictlySortedBy};
 ghost use Rattle.scrub_check.specs.ChunkUuids.{uuid_cmp, AreUuidsOf, is_twin_by};
 
 use crate::lists::place::Place;
-use crate::lists::sorted_list::{count_of, rises_strictly, sorted};
+use crate::places::sorted_list::{count_of, rises_strictly, sorted};
 use scrub_disk::OutOfMemory;
 use std::alloc::Global;
 use std::marker::Model;

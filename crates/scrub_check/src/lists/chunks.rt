@@ -3,41 +3,18 @@
 ghost use Rattle.std.specs.Prelude.{◌≡◌, IfOk};
 ghost use Rattle.std.specs.List.{filter, filter_map};
 ghost use Rattle.scrub_check.specs.ChunkUuids.{is_twin_by};
-ghost use Rattle.scrub_check.specs.Chunks.{frame_of_item, place_of, chunks, orphans, twins};
+ghost use Rattle.scrub_check.specs.Chunks.{place_of, chunks, orphans, twins};
 
 use crate::lists::chunk_uuids::ChunkUuids;
+use crate::lists::live_and_orphans::part_chunks;
+use crate::lists::locator_index::LocatorIndex;
 use crate::lists::place::Place;
-use crate::lists::sound_starts::SoundStarts;
-use crate::lists::verdicts::Verdicts;
-use crate::lists::walked::walk;
+use crate::lists::sound_places::SoundPlaces;
+use crate::places::item_frames::frame_of_item;
 use crate::statuses::checked::Checked;
 use scrub_disk::{OutOfMemory, PageSource};
-use scrub_scan::{AllFindings, Item, Standing};
+use scrub_scan::{AllFindings, Item};
 use std::alloc::Global;
-
-/// An item of an extent as the frame at its start, or `None` if it isn't a chunk.
-pub(crate) fn frame_of_item(extent: u32, item: &Item) -> Option<Standing>
-    ensures { result ≡ frame_of_item extent item.now }
-{
-    match item {
-        Item::Chunk {
-            form,
-            start,
-            uuid,
-            length,
-            digest,
-            ..
-        } => Some(Standing {
-            extent,
-            offset: *start,
-            form: *form,
-            uuid: *uuid,
-            length: *length,
-            digest: *digest,
-        }),
-        _ => None,
-    }
-}
 
 /// The place of an item of an extent, if it is a chunk.
 pub(crate) fn place_of(extent: u32, item: &Item) -> Option<Place>
@@ -85,10 +62,10 @@ pub fn orphans<D: PageSource>(
 ) -> Result<Vec<Place>, OutOfMemory>
     ensures { IfOk result (λ v. v.items ≡ orphans all.now.extents checked.now) }
 {
-    let sound = SoundStarts::of(alloc, checked)?;
-    let verdicts = Verdicts::of(alloc, checked, &sound)?;
-    let known = walk(alloc, None, &verdicts, all)?;
-    Ok(known.orphans)
+    let sound = SoundPlaces::of(alloc, checked)?;
+    let locators = LocatorIndex::of(alloc, checked, &sound)?;
+    let parted = part_chunks(alloc, None, &locators, all)?;
+    Ok(parted.orphans)
 }
 
 /// Those of these chunks whose UUID occurs twice or more among these UUIDs.

@@ -1,4 +1,4 @@
-//! How many bytes the live chunks of one extent take. For all extents `walked` finds it.
+//! How many bytes the live chunks of one extent take. For all extents `live_and_orphans` finds it.
 
 ghost use Rattle.std.specs.Prelude.{◌≡◌, ◌<◌, ◌^◌};
 ghost use Rattle.std.specs.List.{filter, sum_by};
@@ -6,7 +6,6 @@ ghost use Rattle.scrub_scan.specs.Scanned.{scanned};
 ghost use Rattle.scrub_check.specs.Live.{is_sound_at, has_sound_at, is_chunk, is_live, size_of, live_bytes, HasLiveBytes};
 
 use crate::statuses::checked::Checked;
-use crate::statuses::status::Status;
 use scrub_disk::PageSource;
 use scrub_scan::{AllFindings, ExtentResult, Item};
 
@@ -27,7 +26,7 @@ fn is_chunk(item: &Item) -> bool
 fn is_sound_at(checked: &Checked, extent: u32, offset: u32) -> bool
     ensures { result ≡ is_sound_at extent offset checked.now }
 {
-    checked.status == Status::Sound
+    checked.status.is_sound()
         && checked.locator.extent == extent
         && checked.locator.offset == offset
 }

@@ -7,12 +7,12 @@ ghost use Rattle.scrub_check.specs.Shared.{AreShared};
 ghost use Rattle.scrub_check.specs.Candidates.{AreCandidates};
 
 use crate::lists::candidate::Candidate;
+use crate::lists::live_and_orphans::part_chunks;
+use crate::lists::locator_index::LocatorIndex;
 use crate::lists::place::{Place, SharedPlace};
 use crate::lists::reclaiming::candidates_among;
 use crate::lists::shared_places::shared_by;
-use crate::lists::sound_starts::SoundStarts;
-use crate::lists::verdicts::Verdicts;
-use crate::lists::walked::walk;
+use crate::lists::sound_places::SoundPlaces;
 use crate::statuses::checked::Checked;
 use scrub_disk::{OutOfMemory, PageSource};
 use scrub_scan::AllFindings;
@@ -46,13 +46,13 @@ pub fn liveness_of<D: PageSource>(
     ensures shared { IfOk result (λ l. AreShared checked.now l.shared.items) }
     ensures candidates { IfOk result (λ l. AreCandidates plan.now all.now.extents checked.now in_doubt l.candidates.items) }
 {
-    let sound = SoundStarts::of(alloc, checked)?;
-    let verdicts = Verdicts::of(alloc, checked, &sound)?;
-    let known = walk(alloc, Some(plan.geometry()), &verdicts, all)?;
+    let sound = SoundPlaces::of(alloc, checked)?;
+    let locators = LocatorIndex::of(alloc, checked, &sound)?;
+    let parted = part_chunks(alloc, Some(plan.geometry()), &locators, all)?;
     Ok(Liveness {
-        live: known.live,
-        orphans: known.orphans,
+        live: parted.live,
+        orphans: parted.orphans,
         shared: shared_by(alloc, &sound)?,
-        candidates: candidates_among(alloc, plan, in_doubt, known.reclaimable)?,
+        candidates: candidates_among(alloc, plan, in_doubt, parted.reclaimable)?,
     })
 }

@@ -1,5 +1,5 @@
 //! Which extents may be reclaimed: those that hold garbage by half or more, and nothing that a locator might still need.
-//! See `status` for the statuses of locators, and `walked` for the live chunks.
+//! See `status` for the statuses of locators, and `live_and_orphans` for the live chunks.
 
 ghost use Rattle.std.specs.Prelude.{◌≡◌, ◌&&◌, ◌*◌, ◌-◌, Bool, not, nat_lt, IfOk, OnOk, List};
 ghost use Rattle.std.specs.List.{list_all};
@@ -10,16 +10,16 @@ ghost use Rattle.scrub_scan.specs.Scanned.{Scanned, scanned};
 ghost use Rattle.scrub_scan.specs.AllFindings.{extent_numbers};
 ghost use Rattle.scrub_check.specs.declared.statuses.checked.Checked.{Checked};
 ghost use Rattle.scrub_check.specs.Live.{live_bytes};
-ghost use Rattle.scrub_check.specs.Verdicts.{AreVerdicts, with_reclaimable};
-ghost use Rattle.scrub_check.specs.Walked.{AreLiveChunks};
+ghost use Rattle.scrub_check.specs.LocatorIndex.{IsLocatorIndex, with_reclaimable};
+ghost use Rattle.scrub_check.specs.LiveAndOrphans.{AreLiveChunks};
 ghost use Rattle.scrub_check.specs.Candidates.{CandidateValue, has_sound_alone, is_reclaimable, candidate_of};
 ghost use Rattle.scrub_check.specs.Candidates.{by_free, reclaimable, AreCandidates};
 ghost use Rattle.scrub_check.specs.Kept.{CandidatesAreSafe};
 
 use crate::lists::candidate::Candidate;
-use crate::lists::sound_starts::SoundStarts;
-use crate::lists::verdicts::Verdicts;
-use crate::lists::walked::{LiveChunks, walk};
+use crate::lists::live_and_orphans::{LiveChunks, part_chunks};
+use crate::lists::locator_index::LocatorIndex;
+use crate::lists::sound_places::SoundPlaces;
 use crate::statuses::checked::Checked;
 use scrub_disk::{Geometry, OutOfMemory, PageSource};
 use scrub_scan::{AllFindings, ExtentResult};
@@ -44,11 +44,11 @@ fn free_bytes<D: PageSource>(found: &ExtentResult<'_, D>, live: u32) -> u32
 }
 
 /// Whether each locator that names an extent is sound.
-fn has_sound_alone<D: PageSource>(verdicts: &Verdicts<'_>, found: &ExtentResult<'_, D>) -> bool
-    ensures { (checked : List Checked) → AreVerdicts checked verdicts.now →
+fn has_sound_alone<D: PageSource>(locators: &LocatorIndex<'_>, found: &ExtentResult<'_, D>) -> bool
+    ensures { (checked : List Checked) → IsLocatorIndex checked locators.now →
         result ≡ has_sound_alone checked (scanned found.now) }
 {
-    !verdicts.unsound.has(found.extent())
+    !locators.barred.has(found.extent())
 }
 
 /// Whether live chunks that take so many bytes are at most half of what was written to an extent.
@@ -61,11 +61,11 @@ fn is_half_garbage<D: PageSource>(found: &ExtentResult<'_, D>, live: u32) -> boo
 /// Whether an extent may be reclaimed if its live chunks take so many bytes.
 fn is_reclaimable<D: PageSource>(
     geometry: Geometry,
-    verdicts: &Verdicts<'_>,
+    locators: &LocatorIndex<'_>,
     found: &ExtentResult<'_, D>,
     live: u32,
 ) -> bool
-    ensures { (checked : List Checked) → AreVerdicts checked verdicts.now → live ≡ live_bytes checked (scanned found.now) →
+    ensures { (checked : List Checked) → IsLocatorIndex checked locators.now → live ≡ live_bytes checked (scanned found.now) →
         result ≡ is_reclaimable geometry checked (scanned found.now) }
 {
     found.pointer() > 0
@@ -74,7 +74,7 @@ fn is_reclaimable<D: PageSource>(
             geometry.page(),
             found.pointer(),
         )
-        && has_sound_alone(verdicts, found)
+        && has_sound_alone(locators, found)
         && is_half_garbage(found, live)
 }
 
@@ -89,18 +89,18 @@ fn candidate_of<D: PageSource>(found: &ExtentResult<'_, D>, live: LiveChunks) ->
 /// Adds an extent of these live chunks to the candidates, if the sizes of the disk are given and it may be reclaimed.
 pub(crate) fn add_reclaimable<D: PageSource>(
     geometry: Option<Geometry>,
-    verdicts: &Verdicts<'_>,
+    locators: &LocatorIndex<'_>,
     found: &ExtentResult<'_, D>,
     live: LiveChunks,
     candidates: &mut Vec<Candidate>,
 ) -> Result<(), OutOfMemory>
-    ensures { (checked : List Checked) → AreVerdicts checked verdicts.now → AreLiveChunks checked (scanned found.now) live →
+    ensures { (checked : List Checked) → IsLocatorIndex checked locators.now → AreLiveChunks checked (scanned found.now) live →
         OnOk result (candidates.new.items ≡ with_reclaimable geometry checked candidates.old.items (scanned found.now)) }
 {
     let Some(geometry) = geometry else {
         return Ok(());
     };
-    if !is_reclaimable(geometry, verdicts, found, live.bytes) {
+    if !is_reclaimable(geometry, locators, found, live.bytes) {
         return Ok(());
     }
     candidates.push(candidate_of(found, live))?;
@@ -160,10 +160,10 @@ pub fn candidates<D: PageSource>(
 ) -> Result<Vec<Candidate>, OutOfMemory>
     ensures { IfOk result (λ v. AreCandidates plan.now all.now.extents checked.now in_doubt v.items) }
 {
-    let sound = SoundStarts::of(alloc, checked)?;
-    let verdicts = Verdicts::of(alloc, checked, &sound)?;
-    let known = walk(alloc, Some(plan.geometry()), &verdicts, all)?;
-    candidates_among(alloc, plan, in_doubt, known.reclaimable)
+    let sound = SoundPlaces::of(alloc, checked)?;
+    let locators = LocatorIndex::of(alloc, checked, &sound)?;
+    let parted = part_chunks(alloc, Some(plan.geometry()), &locators, all)?;
+    candidates_among(alloc, plan, in_doubt, parted.reclaimable)
 }
 
 /// A law: there is one list of candidates at most.

@@ -4,16 +4,17 @@ ghost use Rattle.std.specs.Prelude.{◌≡◌, IfOk, List};
 ghost use Rattle.scrub_check.specs.declared.lists.place.SharedPlace.{SharedPlace};
 ghost use Rattle.scrub_check.specs.declared.statuses.checked.Checked.{Checked};
 ghost use Rattle.scrub_check.specs.Shared.{AreShared};
-ghost use Rattle.scrub_check.specs.SoundStarts.{AreSoundStarts, place_counted, shared_by};
+ghost use Rattle.scrub_check.specs.SoundPlaces.{AreSoundPlaces, place_counted, shared_by};
 
 use crate::lists::place::SharedPlace;
-use crate::lists::sound_starts::{SoundStarts, Start};
+use crate::lists::sound_places::SoundPlaces;
+use crate::places::chunk_at::ChunkAt;
 use crate::statuses::checked::Checked;
 use scrub_disk::OutOfMemory;
 use std::alloc::Global;
 
 /// A place, and how many sound locators point to it.
-fn place_counted(sound: &SoundStarts, start: &Start) -> SharedPlace
+fn place_counted(sound: &SoundPlaces, start: &ChunkAt) -> SharedPlace
     ensures { result ≡ place_counted sound.now start.now }
 {
     SharedPlace {
@@ -26,8 +27,8 @@ fn place_counted(sound: &SoundStarts, start: &Start) -> SharedPlace
 /// Those of these places that two sound locators or more point to.
 fn shared_among(
     alloc: Global,
-    sound: &SoundStarts,
-    places: &[Start],
+    sound: &SoundPlaces,
+    places: &[ChunkAt],
 ) -> Result<Vec<SharedPlace>, OutOfMemory>
     ensures { IfOk result (λ v. v.items ≡ shared_by sound.now places.now) }
 {
@@ -42,13 +43,13 @@ fn shared_among(
 pub fn shared(alloc: Global, checked: &[Checked]) -> Result<Vec<SharedPlace>, OutOfMemory>
     ensures { IfOk result (λ v. AreShared checked.now v.items) }
 {
-    let sound = SoundStarts::of(alloc, checked)?;
+    let sound = SoundPlaces::of(alloc, checked)?;
     shared_by(alloc, &sound)
 }
 
 /// The same, if the places that sound locators point to are known.
-pub(crate) fn shared_by(alloc: Global, sound: &SoundStarts) -> Result<Vec<SharedPlace>, OutOfMemory>
-    ensures { (checked : List Checked) → AreSoundStarts checked sound.now → IfOk result (λ v. AreShared checked v.items) }
+pub(crate) fn shared_by(alloc: Global, sound: &SoundPlaces) -> Result<Vec<SharedPlace>, OutOfMemory>
+    ensures { (checked : List Checked) → AreSoundPlaces checked sound.now → IfOk result (λ v. AreShared checked v.items) }
 {
     if sound.are_distinct() {
         return Ok(Vec::new(alloc));

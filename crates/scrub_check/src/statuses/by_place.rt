@@ -5,15 +5,15 @@ ghost use Rattle.std.specs.Prelude.{◌≡◌, ◌<◌, IfOk, All, List, length}
 ghost use Rattle.std.specs.List.{AllZip};
 ghost use Rattle.scrub_disk.specs.Image.{Image};
 ghost use Rattle.scrub_super.specs.Plan.{PlanValue};
-ghost use Rattle.scrub_check.specs.declared.sources.named.Named.{Named};
+ghost use Rattle.scrub_check.specs.declared.named.Named.{Named};
 ghost use Rattle.scrub_check.specs.Checked.{IsKnownBefore};
 ghost use Rattle.scrub_check.specs.Open.{IsOpenAt, IsJudgedAt};
 
-use crate::lists::sorted_list::sorted;
-use crate::lists::sound_starts::Start;
-use crate::sources::named::Named;
+use crate::named::Named;
+use crate::places::chunk_at::ChunkAt;
+use crate::places::sorted_list::sorted;
 use crate::statuses::open_place::OpenPlace;
-use crate::statuses::status::{Status, start_of};
+use crate::statuses::status::Status;
 use crate::statuses::whole_scan::WholeScan;
 use rayon::prelude::*;
 use scrub_disk::{OutOfMemory, PageSource};
@@ -24,7 +24,7 @@ use std::thread::Threads;
 #[derive(Clone, Copy, PartialEq, Eq, PartialOrd, Ord)]
 pub(crate) struct OpenLocator {
     /// Its place.
-    pub start: Start,
+    pub place: ChunkAt,
     /// Its index among the named locators.
     pub index: usize,
 }
@@ -42,8 +42,8 @@ pub(crate) fn open_locators(
     let mut left = Vec::new(alloc);
     for index in 0..named.len() {
         if known[index].is_none() {
-            let start = start_of(&named[index].locator);
-            left.push(OpenLocator { start, index })?;
+            let place = ChunkAt::named_by(&named[index].locator);
+            left.push(OpenLocator { place, index })?;
         }
     }
     sorted(left)
@@ -53,7 +53,7 @@ pub(crate) fn open_locators(
 fn is_first(left: &[OpenLocator], i: usize) -> bool
     requires { i < length left.now }
 {
-    i == 0 || left[i - 1].start != left[i].start
+    i == 0 || left[i - 1].place != left[i].place
 }
 
 /// The statuses of an open locator and of those behind it that have its place, each with its index.
@@ -68,14 +68,14 @@ fn judge_place<D: PageSource>(
     requires left { All (IsOpenAt (D.image scan.now.disk.now) scan.now.plan.now named.now) left.now }
     ensures { IfOk result (λ v. All (IsJudgedAt (D.image scan.now.disk.now) scan.now.plan.now named.now) v.items) }
 {
-    let mut place = OpenPlace::read(alloc, scan, left[first].start)?;
+    let mut read = OpenPlace::read(alloc, scan, left[first].place)?;
     let mut judged = Vec::with_capacity(alloc, 1)?;
     for i in first..left.len() {
-        if left[i].start != place.start {
+        if left[i].place != read.place {
             return Ok(judged);
         }
         let index = left[i].index;
-        let status = place.status(alloc, scan, &named[index].locator)?;
+        let status = read.status(alloc, scan, &named[index].locator)?;
         judged.push((index, status))?;
     }
     Ok(judged)

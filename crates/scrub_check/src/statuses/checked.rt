@@ -6,12 +6,12 @@ ghost use Rattle.std.specs.List.{AllZip};
 ghost use Rattle.scrub_disk.specs.Image.{Image};
 ghost use Rattle.scrub_super.specs.Plan.{PlanValue};
 ghost use Rattle.scrub_merge.specs.Binding.{BindingValue};
-ghost use Rattle.scrub_check.specs.Checked.{IsChecked, AreChecked, IsKnownBefore, is_dangling, dangling, hidden};
+ghost use Rattle.scrub_check.specs.Checked.{IsChecked, AreChecked, IsKnownBefore, dangling, hidden};
 ghost use Rattle.scrub_check.specs.Named.{named};
 ghost use Rattle.scrub_check.specs.Runs.{AreRunStatuses};
 ghost use Rattle.scrub_check.specs.WholeScan.{IsWholeScan};
 
-use crate::sources::named::{Named, Owner, named_locators};
+use crate::named::{Named, Owner, named_locators};
 use crate::statuses::by_place::{judge_places, open_locators, put_statuses};
 use crate::statuses::open_place::status_by_place;
 use crate::statuses::status::{Status, status_by_findings};
@@ -167,13 +167,6 @@ pub fn check_named<R: Threads + Sync, D: PageSource>(
     check_others(rt, alloc, &scan, &named, known)
 }
 
-/// Neither sound nor hidden.
-pub(crate) fn is_dangling(status: Status) -> bool
-    ensures { result ≡ is_dangling status }
-{
-    !matches!(status, Status::Sound | Status::Hidden)
-}
-
 /// The locators that are neither sound nor hidden, in their order.
 pub fn dangling(alloc: Global, checked: &[Checked]) -> Result<Vec<Checked>, OutOfMemory>
     ensures { IfOk result (λ v. v.items ≡ dangling checked.now) }
@@ -181,7 +174,7 @@ pub fn dangling(alloc: Global, checked: &[Checked]) -> Result<Vec<Checked>, OutO
     checked
         .iter()
         .copied()
-        .filter(|one| is_dangling(one.status))
+        .filter(|one| one.status.is_dangling())
         .collect(alloc)
 }
 
@@ -192,6 +185,6 @@ pub fn hidden(alloc: Global, checked: &[Checked]) -> Result<Vec<Checked>, OutOfM
     checked
         .iter()
         .copied()
-        .filter(|one| one.status == Status::Hidden)
+        .filter(|one| one.status.is_hidden())
         .collect(alloc)
 }

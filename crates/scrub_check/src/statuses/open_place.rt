@@ -3,12 +3,13 @@
 
 ghost use Rattle.std.specs.Prelude.{◌≡◌, ◌<◌, IfOk, IfSome, OnOk};
 ghost use Rattle.scrub_disk.specs.Image.{unreadable_pages};
-ghost use Rattle.scrub_check.specs.Open.{start_named_by, CanBeRead, IsOpen, IsSeenAt, IsClaimSeen, IsClaimedIn, AreReadableClaims, IsRead};
+ghost use Rattle.scrub_check.specs.Places.{place_named_by};
+ghost use Rattle.scrub_check.specs.Open.{CanBeRead, IsOpen, IsSeenAt, IsClaimSeen, IsClaimedIn, AreReadableClaims, IsRead};
 ghost use Rattle.scrub_check.specs.Status.{HasStatusIn};
 
-use crate::lists::sound_starts::Start;
+use crate::places::chunk_at::ChunkAt;
 use crate::statuses::extents::{findings_of, has_gap};
-use crate::statuses::status::{Status, judged, start_of, status_by_claim};
+use crate::statuses::status::{Status, judged, status_by_claim};
 use crate::statuses::whole_scan::WholeScan;
 use scrub_disk::{OutOfMemory, PageSource};
 use scrub_frame::{Head, Locator};
@@ -19,16 +20,16 @@ use std::alloc::Global;
 fn readable_claim<D: PageSource>(
     disk: &D,
     bad_pages: &[u32],
-    start: Start,
+    place: ChunkAt,
     claimed: Option<Head>,
 ) -> Option<Head>
-    requires in_disk { start.extent < (D.image disk.now).geometry.extents }
-    requires pages { bad_pages.now ≡ unreadable_pages (D.image disk.now) start.extent }
-    requires fits { IfSome claimed (IsClaimedIn (D.image disk.now) start) }
-    ensures { AreReadableClaims (D.image disk.now) start claimed result }
+    requires in_disk { place.extent < (D.image disk.now).geometry.extents }
+    requires pages { bad_pages.now ≡ unreadable_pages (D.image disk.now) place.extent }
+    requires fits { IfSome claimed (IsClaimedIn (D.image disk.now) place) }
+    ensures { AreReadableClaims (D.image disk.now) place claimed result }
 {
     let head = claimed?;
-    if has_gap(disk, bad_pages, start.offset, head.frame_bytes()) {
+    if has_gap(disk, bad_pages, place.offset, head.frame_bytes()) {
         return None;
     }
     Some(head)
@@ -38,35 +39,35 @@ fn readable_claim<D: PageSource>(
 fn claim_at<D: PageSource>(
     alloc: Global,
     scan: &WholeScan<'_, D>,
-    start: Start,
+    place: ChunkAt,
 ) -> Result<Option<Head>, OutOfMemory>
-    requires { CanBeRead (D.image scan.now.disk.now) scan.now.plan.now start }
-    ensures { IfOk result (IsClaimSeen (D.image scan.now.disk.now) scan.now.plan.now start) }
+    requires { CanBeRead (D.image scan.now.disk.now) scan.now.plan.now place }
+    ensures { IfOk result (IsClaimSeen (D.image scan.now.disk.now) scan.now.plan.now place) }
 {
-    let pointer = scan.plan.pointer(start.extent);
-    let bad_pages = findings_of(scan.all, start.extent).bad_pages();
-    let claimed = claimed_frame(alloc, scan.disk, pointer, start.extent, start.offset)?;
-    Ok(readable_claim(scan.disk, bad_pages, start, claimed))
+    let pointer = scan.plan.pointer(place.extent);
+    let bad_pages = findings_of(scan.all, place.extent).bad_pages();
+    let claimed = claimed_frame(alloc, scan.disk, pointer, place.extent, place.offset)?;
+    Ok(readable_claim(scan.disk, bad_pages, place, claimed))
 }
 
 /// The frame that is at a place. Its payload is hashed.
 fn frame_at<D: PageSource>(
     alloc: Global,
     scan: &WholeScan<'_, D>,
-    start: Start,
+    place: ChunkAt,
 ) -> Result<Option<Standing>, OutOfMemory>
-    requires { CanBeRead (D.image scan.now.disk.now) scan.now.plan.now start }
-    ensures { IfOk result (IsSeenAt (D.image scan.now.disk.now) scan.now.plan.now start) }
+    requires { CanBeRead (D.image scan.now.disk.now) scan.now.plan.now place }
+    ensures { IfOk result (IsSeenAt (D.image scan.now.disk.now) scan.now.plan.now place) }
 {
-    let pointer = scan.plan.pointer(start.extent);
-    frame_stands(alloc, scan.disk, pointer, start.extent, start.offset)
+    let pointer = scan.plan.pointer(place.extent);
+    frame_stands(alloc, scan.disk, pointer, place.extent, place.offset)
 }
 
 /// A place, and what was read there.
 #[derive(Clone, Copy)]
 pub(crate) struct OpenPlace {
     /// The place.
-    pub start: Start,
+    pub place: ChunkAt,
     /// The head of the frame that is claimed there.
     claimed: Option<Head>,
     /// Whether its payload was hashed.
@@ -80,15 +81,15 @@ impl OpenPlace {
     pub fn read<D: PageSource>(
         alloc: Global,
         scan: &WholeScan<'_, D>,
-        start: Start,
+        place: ChunkAt,
     ) -> Result<OpenPlace, OutOfMemory>
-        requires { CanBeRead (D.image scan.now.disk.now) scan.now.plan.now start }
+        requires { CanBeRead (D.image scan.now.disk.now) scan.now.plan.now place }
         ensures read { IfOk result (IsRead (D.image scan.now.disk.now) scan.now.plan.now) }
-        ensures start { IfOk result (λ place. place.start ≡ start) }
+        ensures place { IfOk result (λ one. one.place ≡ place) }
     {
-        let claimed = claim_at(alloc, scan, start)?;
+        let claimed = claim_at(alloc, scan, place)?;
         Ok(OpenPlace {
-            start,
+            place,
             claimed,
             is_hashed: false,
             frame: None,
@@ -101,14 +102,14 @@ impl OpenPlace {
         alloc: Global,
         scan: &WholeScan<'_, D>,
     ) -> Result<Option<Standing>, OutOfMemory>
-        requires can { CanBeRead (D.image scan.now.disk.now) scan.now.plan.now self.old.start }
+        requires can { CanBeRead (D.image scan.now.disk.now) scan.now.plan.now self.old.place }
         requires read { IsRead (D.image scan.now.disk.now) scan.now.plan.now self.old }
-        ensures there { IfOk result (IsSeenAt (D.image scan.now.disk.now) scan.now.plan.now self.old.start) }
+        ensures there { IfOk result (IsSeenAt (D.image scan.now.disk.now) scan.now.plan.now self.old.place) }
         ensures read { IsRead (D.image scan.now.disk.now) scan.now.plan.now self.new }
-        ensures start { self.new.start ≡ self.old.start }
+        ensures place { self.new.place ≡ self.old.place }
     {
         if !self.is_hashed {
-            self.frame = frame_at(alloc, scan, self.start)?;
+            self.frame = frame_at(alloc, scan, self.place)?;
             self.is_hashed = true;
         }
         Ok(self.frame)
@@ -123,11 +124,11 @@ impl OpenPlace {
         locator: &Locator,
     ) -> Result<Status, OutOfMemory>
         requires left { IsOpen (D.image scan.now.disk.now) scan.now.plan.now locator.now }
-        requires there { self.old.start ≡ start_named_by locator.now }
+        requires there { self.old.place ≡ place_named_by locator.now }
         requires read { IsRead (D.image scan.now.disk.now) scan.now.plan.now self.old }
         ensures status { IfOk result (HasStatusIn (D.image scan.now.disk.now) scan.now.plan.now locator.now) }
         ensures read { IsRead (D.image scan.now.disk.now) scan.now.plan.now self.new }
-        ensures start { self.new.start ≡ self.old.start }
+        ensures place { self.new.place ≡ self.old.place }
     {
         if let Some(status) = status_by_claim(locator, self.claimed) {
             return Ok(status);
@@ -146,6 +147,6 @@ pub(crate) fn status_by_place<D: PageSource>(
     requires { IsOpen (D.image scan.now.disk.now) scan.now.plan.now locator.now }
     ensures { IfOk result (HasStatusIn (D.image scan.now.disk.now) scan.now.plan.now locator.now) }
 {
-    let mut place = OpenPlace::read(alloc, scan, start_of(locator))?;
-    place.status(alloc, scan, locator)
+    let mut read = OpenPlace::read(alloc, scan, ChunkAt::named_by(locator))?;
+    read.status(alloc, scan, locator)
 }

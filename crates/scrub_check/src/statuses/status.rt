@@ -10,10 +10,9 @@ ghost use Rattle.scrub_check.specs.Judged.{IsOther, IsMismatch, Agrees, IsJudged
 ghost use Rattle.scrub_scan.specs.Extent.{extent_of};
 ghost use Rattle.scrub_scan.specs.Item.{start_of};
 ghost use Rattle.scrub_scan.specs.Tiling.{IsTiling};
-ghost use Rattle.scrub_check.specs.Open.{start_named_by, IsOpen, IsStatusByItems};
+ghost use Rattle.scrub_check.specs.Open.{IsOpen, IsStatusByItems};
 
-use crate::lists::chunks::frame_of_item;
-use crate::lists::sound_starts::Start;
+use crate::places::item_frames::frame_of_item;
 use crate::statuses::extents::{findings_of, has_gap};
 use crate::statuses::open_place::status_by_place;
 use crate::statuses::searching::find_start;
@@ -48,6 +47,31 @@ pub enum Status {
     Hidden,
     /// The chunk is there, and an item of the tiling begins at its place.
     Sound,
+}
+
+impl Status {
+    ghost use Rattle.scrub_check.specs.Checked.{is_sound, is_hidden, is_dangling};
+
+    /// The chunk is there, and an item begins at its place.
+    pub fn is_sound(self) -> bool
+        ensures { result ≡ is_sound self }
+    {
+        matches!(self, Status::Sound)
+    }
+
+    /// The chunk is there, and no item begins at its place.
+    pub fn is_hidden(self) -> bool
+        ensures { result ≡ is_hidden self }
+    {
+        matches!(self, Status::Hidden)
+    }
+
+    /// The chunk isn't there.
+    pub fn is_dangling(self) -> bool
+        ensures { result ≡ is_dangling self }
+    {
+        !matches!(self, Status::Sound | Status::Hidden)
+    }
 }
 
 /// The least byte of the extent at which the frame that a locator names would end: a locator doesn't say the form.
@@ -154,16 +178,6 @@ pub(crate) fn status_by_findings<D: PageSource>(
         return Some(Status::Unreadable);
     }
     status_by_item(findings.items(), locator)
-}
-
-/// The place of a locator.
-pub(crate) fn start_of(locator: &Locator) -> Start
-    ensures { result ≡ start_named_by locator.now }
-{
-    Start {
-        extent: locator.extent,
-        offset: locator.offset,
-    }
 }
 
 /// The status of a locator by what is claimed at its place; `None` if the payload has to be hashed. A sealed frame has to be

@@ -4,7 +4,7 @@ use Rattle.scrub_check.proofs.OpenPlaces.{left_can_be_read, judged_more}
 use Rattle.scrub_check.proofs.statuses.by_place.judge_place.Goals as goal
 
 abbrev no_locator : OpenLocator
-no_locator = record { start = record { extent = 0; offset = 0 }; index = 0 }
+no_locator = record { place = record { extent = 0; offset = 0 }; index = 0 }
 
 -- the place can be read
 pub read-requires-after_bounds : goal.read-requires-after_bounds
@@ -18,7 +18,7 @@ pub loop-i-preserved : goal.loop-i-preserved
 loop-i-preserved g c =
     let i = c.loop-i.i in
     record {
-      read = c.status.ensures.read;
+      place = c.status.ensures.read;
       judged =
           judged_more (g.D.PageSource.image c.args.scan.now.disk.now) c.args.scan.now.plan.now c.args.named.now
           (get_or c.args.left.now i no_locator) c.index-named-index.result c.in_ok-status.status c.loop-i.judged.items

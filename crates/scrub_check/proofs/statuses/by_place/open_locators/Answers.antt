@@ -17,13 +17,13 @@ loop-index-preserved c =
     elim c.if-is_none.branch [
       | then-is_none+in_ok-push w ↦
           let name = get_or c.args.named.now i w.index-named-index.result in
-          open_more c.args.named.now c.args.known.now i name known w.start_of-start.result c.loop-index.left.items
+          open_more c.args.named.now c.args.known.now i name known w.named_by-place.result c.loop-index.left.items
           c.if-is_none.left.items
           c.loop-index-test.true
           (get_or_default c.args.named.now i w.index-named-index.result name c.loop-index-test.true)
           (get_or_default c.args.known.now i None known (omega (arith, c.requires, c.loop-index-test.true)))
           (c.is_none.ensures ∙ ap not w.if-is_none.true)
-          w.start_of-start.ensures
+          w.named_by-place.ensures
           (ap (λ v. v.items) w.left-is ∙ w.in_ok-push.ensures.items) c.loop-index.invariant
       | else-is_none w ↦
           λ image plan h. rw (ap (λ v. v.items) w.left-is) (c.loop-index.invariant image plan h)

@@ -1,7 +1,7 @@
 use Rattle.std.proofs.Common.{◌≡◌, ◌∙◌, List, length, arith, ap}
 use Rattle.std.specs.List.{flat_map}
 use Rattle.std.proofs.lemmas.Slice.Zip.{AllZip-long}
-use Rattle.scrub_check.specs.declared.sources.named.Named.{Named}
+use Rattle.scrub_check.specs.declared.named.Named.{Named}
 use Rattle.scrub_check.specs.Checked.{IsKnownBefore}
 use Rattle.scrub_check.specs.Named.{named, named_by_shard}
 use Rattle.scrub_check.specs.Status.{HasStatusIn}

@@ -1,4 +1,3 @@
-use Rattle.std.proofs.Common.{get_or}
 use Rattle.scrub_check.specs.declared.statuses.status.Status.TheVariants.{OutOfRange}
 use Rattle.scrub_check.proofs.OpenPlaces.{run_known}
 use Rattle.scrub_check.proofs.statuses.checked.put_run_statuses.Goals as goal

@@ -1,18 +1,18 @@
 use Rattle.std.proofs.Common.{◌∙◌, refl, get_or}
-use Rattle.scrub_check.specs.declared.lists.sound_starts.Start.{Start}
-use Rattle.scrub_check.specs.SoundStarts.{start_cmp}
-use Rattle.scrub_check.proofs.SortedStarts.{start_ties}
-use Rattle.scrub_check.proofs.WalkedPlaces.{found_first, found_nowhere}
+use Rattle.scrub_check.specs.declared.places.chunk_at.ChunkAt.{ChunkAt}
+use Rattle.scrub_check.specs.Places.{place_cmp}
+use Rattle.scrub_check.proofs.SortedPlaces.{place_ties}
+use Rattle.scrub_check.proofs.PartedPlaces.{found_first, found_nowhere}
 use Rattle.scrub_check.proofs.lists.cursor.Cursor.has.Goals as goal
 
 pub returns-then-self-clause-stands : goal.returns-then-self-clause-stands
 returns-then-self-clause-stands c =
     let starts = c.args.self.now.starts.now in
-    let none : Start = record { extent = 0; offset = 0 } in
+    let none : ChunkAt = record { extent = 0; offset = 0 } in
     let n = c.first_from-self.result in
     c.eq.ensures
-    ∙ start_ties (get_or starts n none) c.args.start
-    ∙ found_first starts c.args.start none n (start_cmp (get_or starts n none) c.args.start) c.requires.sorted
+    ∙ place_ties (get_or starts n none) c.args.start
+    ∙ found_first starts c.args.start none n (place_cmp (get_or starts n none) c.args.start) c.requires.sorted
     c.first_from-self.ensures c.if-self.true refl
 
 pub returns-else-self-clause-stands : goal.returns-else-self-clause-stands

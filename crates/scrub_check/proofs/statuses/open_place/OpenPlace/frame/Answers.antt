@@ -1,4 +1,3 @@
-use Rattle.scrub_check.specs.Open.{IsRead}
 use Rattle.scrub_check.proofs.statuses.open_place.OpenPlace.frame.Goals as goal
 use Rattle.scrub_check.proofs.statuses.open_place.OpenPlace.frame.Goals.{then-not-self+in_ok-self, else-not-self}
 

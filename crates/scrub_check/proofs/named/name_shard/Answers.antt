@@ -1,0 +1,29 @@
+use Rattle.std.proofs.Common.{◌∙◌, ◌++◌, ◌∷◌, [], ap, sym, map}
+use Rattle.std.proofs.lemmas.List.{take_all, append-nil}
+use Rattle.scrub_frame.specs.declared.locator.Locator.{Locator}
+use Rattle.scrub_check.specs.declared.named.Owner.TheVariants.{Shard}
+use Rattle.scrub_check.specs.declared.named.Named.{Named}
+use Rattle.scrub_check.proofs.NamedLists.{shard_more}
+use Rattle.scrub_check.proofs.named.name_shard.Goals as goal
+
+pub loop-locator-init : goal.loop-locator-init
+loop-locator-init c = sym (append-nil c.args.named.now.items)
+
+pub loop-locator-preserved : goal.loop-locator-preserved
+loop-locator-preserved c =
+    let id = c.args.binding.now.id in
+    let named = c.loop-locator.named.items in
+    shard_more c.args.named.now.items id c.locators-locator-items.result.now c.loop-locator.locator-index _ named
+    c.push.new.self.items
+    c.loop-locator-test.true c.loop-locator.invariant
+    (c.in_ok-push.ensures.items
+    ∙ ap (λ x. named ++ record { owner = Shard x; locator = c.locator-item.result } ∷ []) c.id.ensures
+    ∙ ap (λ x. named ++ record { owner = Shard id; locator = x } ∷ []) c.locator-item.is)
+
+pub returns : goal.returns
+returns c =
+    let id = c.args.binding.now.id in
+    c.loop-locator.invariant
+    ∙ ap
+    (λ ls. c.args.named.now.items ++ map (λ (l : Locator). let n : Named = record { owner = Shard id; locator = l } in n) ls)
+    (take_all c.loop-locator.locator-index c.locators-locator-items.result.now c.loop-locator-test.false ∙ c.locators-locator-items.ensures)

@@ -1,9 +1,0 @@
-use Rattle.std.proofs.Common.{◌≡◌, ◌++◌, map, take}
-use Rattle.scrub_check.specs.declared.sources.named.Owner.TheVariants.{Shard}
-use Rattle.scrub_check.proofs.sources.named.name_shard.Given as goal
-
--- the locators of the shard so far are named
-abbrev pub invariant-loop-locator : goal.invariant-loop-locator
-invariant-loop-locator l =
-    l.named.items ≡ l.initial.named.items ++ map (λ x. record { owner = Shard l.binding.id; locator = x })
-    (take l.locator-index l.locator-items)

@@ -1,0 +1,29 @@
+-- What the named locators say of places and extents, sorted by the code, and what follows for an extent.
+use Rattle.std.specs.Prelude.{◌++◌, ◌∷◌, [], ℕ, not, Option, Some, None, List, map}
+use Rattle.std.specs.List.{filter}
+use Rattle.std.specs.List.Sorted.{IsPermutation}
+use Rattle.scrub_disk.specs.declared.geometry.Geometry.{Geometry}
+use Rattle.scrub_scan.specs.Scanned.{Scanned}
+use Rattle.scrub_check.specs.declared.statuses.checked.Checked.{Checked}
+use Rattle.scrub_check.specs.declared.lists.locator_index.LocatorIndex.{LocatorIndex}
+use Rattle.scrub_check.specs.Checked.{is_sound}
+use Rattle.scrub_check.specs.SoundPlaces.{AreSoundPlaces}
+use Rattle.scrub_check.specs.Candidates.{CandidateValue, reclaimable}
+
+-- the extents of the checked locators that aren't sound, each as often as it is named, in some order
+abbrev pub AreBarredExtents : List Checked → List ℕ → Type 0
+AreBarredExtents checked extents = IsPermutation (map (λ c. c.locator.extent) (filter (λ c. not (is_sound c.status)) checked)) extents
+
+-- the starts of the sound ones of these locators, and the extents of the others
+pub record IsLocatorIndex (checked : List Checked) (v : LocatorIndex) : Type 0 where
+  pub sound : AreSoundPlaces checked v.sound.now
+  pub barred : AreBarredExtents checked v.barred
+
+-- the extents that may be reclaimed, if the sizes of the disk are given; else none
+abbrev pub reclaimable_by : Option Geometry → List Scanned → List Checked → List CandidateValue
+reclaimable_by None all checked = []
+reclaimable_by (Some g) all checked = reclaimable g all checked
+
+-- the candidates, and behind them the extent, if the sizes are given and it may be reclaimed
+abbrev pub with_reclaimable : Option Geometry → List Checked → List CandidateValue → Scanned → List CandidateValue
+with_reclaimable g checked candidates f = candidates ++ reclaimable_by g (f ∷ []) checked

@@ -1,0 +1,18 @@
+-- Places that locators point to, and their order.
+use Rattle.std.specs.Prelude.{Bool}
+use Rattle.std.specs.declared.cmp.Ordering.{Ordering}
+use Rattle.std.specs.Ordering.{nat_cmp, ordering_then, is_eq}
+use Rattle.scrub_frame.specs.declared.locator.Locator.{Locator}
+use Rattle.scrub_check.specs.declared.places.chunk_at.ChunkAt.{ChunkAt}
+
+-- where a locator points: an extent and a byte of it
+abbrev pub place_named_by : Locator → ChunkAt
+place_named_by l = record { extent = l.extent; offset = l.offset }
+
+-- the order of places: by extent, and then by byte
+abbrev pub place_cmp : ChunkAt → ChunkAt → Ordering
+place_cmp a b = ordering_then (nat_cmp a.extent b.extent) (nat_cmp a.offset b.offset)
+
+-- two places are the same
+abbrev pub is_place : ChunkAt → ChunkAt → Bool
+is_place a b = is_eq (place_cmp b a)
