@@ -1,5 +1,5 @@
 -- What a frame that is claimed at a locator's place says of the locator.
-use Rattle.std.proofs.Common.{◌≡◌, ◌+◌, ℕ, List, Option, Some, None, IfSome, IfNone, MatchOption, arith, sym, ◌∙◌, ap, subst}
+use Rattle.std.proofs.Common.{◌≡◌, ◌+◌, ℕ, Option, Some, None, IfSome, IfNone, MatchOption, arith, sym, ◌∙◌, ap}
 use Rattle.std.proofs.lemmas.Option.{same_Some}
 use Rattle.scrub_disk.specs.Image.{Image}
 use Rattle.scrub_frame.specs.declared.form.Form.TheVariants.{Plain}
@@ -8,36 +8,17 @@ use Rattle.scrub_frame.specs.declared.locator.Locator.{Locator}
 use Rattle.scrub_frame.specs.Frame.{frame_overhead}
 use Rattle.scrub_super.specs.Plan.{PlanValue}
 use Rattle.scrub_scan.specs.Extent.{extent_of, NoFrameAt}
-use Rattle.scrub_scan.specs.Standing.{IsClaimedAt, HasPlainFrame}
+use Rattle.scrub_scan.specs.Standing.{IsClaimedAt}
 use Rattle.scrub_scan.proofs.Claims.{only_frame, plain_frame}
 use Rattle.scrub_scan.proofs.FrameBytes.{no_gap}
 use Rattle.scrub_check.specs.declared.places.chunk_at.ChunkAt.{ChunkAt}
 use Rattle.scrub_check.specs.declared.statuses.status.Status.{Status}
-use Rattle.scrub_check.specs.declared.statuses.status.Status.TheVariants.{OutOfRange, Retired, PastPointer, Unreadable, NoFrame, WrongUuid, WrongLength, WrongDigest, Hidden, Sound}
-use Rattle.scrub_check.specs.Judged.{IsOther, IsStatusByClaim}
+use Rattle.scrub_check.specs.declared.statuses.status.Status.TheVariants.{NoFrame}
+use Rattle.scrub_check.specs.Judged.{IsStatusByClaim}
 use Rattle.scrub_check.specs.Places.{place_named_by}
 use Rattle.scrub_check.specs.Open.{IsOpen, IsReadableClaim, IsClaimSeen, AreReadableClaims}
-use Rattle.scrub_check.specs.Status.{CanStand, FindsFrame, HasStatus, HasStatusIn}
-use Rattle.scrub_check.proofs.Judged.{status_under}
-
--- another plain frame is there
-other_frame : (image : Image) (w : ℕ) (l : Locator) (h : Head) (s : Status) → CanStand image w l →
-    HasPlainFrame (extent_of image l.extent w) l.offset h → IsOther l h.uuid h.length s → HasStatus image w l s
-other_frame image w l h WrongUuid can f other =
-    (h.uuid, (f.payload, record { can = can; form = Plain; frame = f.frame }, other))
-other_frame image w l h WrongLength can f other = (
-  f.payload,
-  subst (λ (u : List ℕ). FindsFrame image w l u f.payload) other.0 (record { can = can; form = Plain; frame = f.frame }),
-  λ e. other.1 (f.length ∙ e),
-)
-other_frame image w l h WrongDigest can f other = absurd other
-other_frame image w l h OutOfRange can f other = absurd other
-other_frame image w l h Retired can f other = absurd other
-other_frame image w l h PastPointer can f other = absurd other
-other_frame image w l h Unreadable can f other = absurd other
-other_frame image w l h NoFrame can f other = absurd other
-other_frame image w l h Hidden can f other = absurd other
-other_frame image w l h Sound can f other = absurd other
+use Rattle.scrub_check.specs.Status.{CanStand, HasStatus, HasStatusIn}
+use Rattle.scrub_check.proofs.Judged.{status_under, other_frame}
 
 by_claim : (image : Image) (w : ℕ) (l : Locator) (found : Option Head) (known : Option Status) (s : Status) →
     CanStand image w l →
@@ -46,8 +27,8 @@ by_claim : (image : Image) (w : ℕ) (l : Locator) (found : Option Head) (known 
 by_claim image w l None known s can none by is = rw (← (same_Some NoFrame s (sym by ∙ is))) (can, none)
 by_claim image w l (Some h) known s can claim by is =
     let other = rw is at by in
-    other_frame image w l h s can (plain_frame (extent_of image l.extent w) l.offset h claim.claimed other.0 claim.readable)
-    other.1
+    let f = plain_frame (extent_of image l.extent w) l.offset h claim.claimed other.0 claim.readable in
+    other_frame image w l h.uuid f.payload h.length s (record { can = can; form = Plain; frame = f.frame }) f.length other.1
 
 -- so the status by the claim is the status
 pub judged_by_claim : (image : Image) (plan : PlanValue) (l : Locator) (found : Option Head) (known : Option Status) (s : Status) →

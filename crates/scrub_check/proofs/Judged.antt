@@ -1,5 +1,5 @@
 -- The status of a locator, from what was found at its place.
-use Rattle.std.proofs.Common.{◌≡◌, ◌<◌, ℕ, List, map, length, get_or, slice_index, false, Option, Some, None, IfSome, IfNone, inl, inr, arith, refl, sym, ◌∙◌, ap}
+use Rattle.std.proofs.Common.{◌≡◌, ◌<◌, ℕ, List, map, length, get_or, slice_index, false, Option, Some, None, IfSome, IfNone, inl, inr, arith, refl, sym, ◌∙◌, ap, subst}
 use Rattle.std.specs.List.{Contains}
 use Rattle.std.proofs.lemmas.List.{get_or-map}
 use Rattle.std.proofs.lemmas.List.Elements.{All-get_or}
@@ -49,34 +49,29 @@ names_chunk image w l s can h a = record {
   digest = sym h.frame.digest ∙ a.digest;
 }
 
--- a frame of another UUID or length isn't the one that the locator names
-pub other_is_mismatch : (l : Locator) (s : Standing) (status : Status) → IsOther l s.uuid s.length status →
-    IsMismatch l s status
-other_is_mismatch l s WrongUuid other = other
-other_is_mismatch l s WrongLength other = other
-other_is_mismatch l s WrongDigest other = absurd other
-other_is_mismatch l s OutOfRange other = absurd other
-other_is_mismatch l s Retired other = absurd other
-other_is_mismatch l s PastPointer other = absurd other
-other_is_mismatch l s Unreadable other = absurd other
-other_is_mismatch l s NoFrame other = absurd other
-other_is_mismatch l s Hidden other = absurd other
-other_is_mismatch l s Sound other = absurd other
+-- a frame of another UUID or length gives the status of the first reason
+pub other_frame : (image : Image) (w : ℕ) (l : Locator) (u b : List ℕ) (n : ℕ) (status : Status) → FindsFrame image w l u b →
+    n ≡ length b → IsOther l u n status → HasStatus image w l status
+other_frame image w l u b n WrongUuid f long other = (u, (b, f, other))
+other_frame image w l u b n WrongLength f long other =
+    (b, subst (λ (v : List ℕ). FindsFrame image w l v b) other.0 f, λ e. other.1 (long ∙ e))
+other_frame image w l u b n WrongDigest f long other = absurd other
+other_frame image w l u b n OutOfRange f long other = absurd other
+other_frame image w l u b n Retired f long other = absurd other
+other_frame image w l u b n PastPointer f long other = absurd other
+other_frame image w l u b n Unreadable f long other = absurd other
+other_frame image w l u b n NoFrame f long other = absurd other
+other_frame image w l u b n Hidden f long other = absurd other
+other_frame image w l u b n Sound f long other = absurd other
 
--- a frame that isn't the named chunk gives the status of the first reason
+-- and so does a frame that isn't the named chunk
 mismatched : (image : Image) (w : ℕ) (l : Locator) (s : Standing) (status : Status) → CanStand image w l →
     IsStandingAt image w l.extent l.offset s → IsMismatch l s status → HasStatus image w l status
-mismatched image w l s WrongUuid can h m = (s.uuid, (h.payload, finds image w l s s.uuid can h (λ i. s.uuid), m))
-mismatched image w l s WrongLength can h m = (h.payload, finds image w l s l.uuid can h m.0, λ e. m.1 (h.frame.length ∙ e))
-mismatched image w l s WrongDigest can h m =
-    (h.payload, finds image w l s l.uuid can h m.0, sym h.frame.length ∙ m.1, λ e. m.2 (h.frame.digest ∙ e))
-mismatched image w l s OutOfRange can h m = absurd m
-mismatched image w l s Retired can h m = absurd m
-mismatched image w l s PastPointer can h m = absurd m
-mismatched image w l s Unreadable can h m = absurd m
-mismatched image w l s NoFrame can h m = absurd m
-mismatched image w l s Hidden can h m = absurd m
-mismatched image w l s Sound can h m = absurd m
+mismatched image w l s status can h (inl other) =
+    other_frame image w l s.uuid h.payload s.length status (finds image w l s s.uuid can h refl) h.frame.length other
+mismatched image w l s status can h (inr m) =
+    rw m.is
+    (h.payload, finds image w l s l.uuid can h m.uuid, sym h.frame.length ∙ m.length, λ e. m.digest (h.frame.digest ∙ e))
 
 -- what was found at the locator's place: the frame there, or that none is there
 abbrev pub IsFoundThere : Image → ℕ → Locator → Option Standing → Type 0

@@ -13,12 +13,16 @@ IsOther l u n WrongUuid = u ≢ l.uuid
 IsOther l u n WrongLength = (u ≡ l.uuid) × (n ≢ l.length)
 IsOther l u n _ = ⊥
 
+-- the frame has the UUID and the length that the locator names, and another digest
+pub record IsOtherPayload (l : Locator) (s : Standing) (status : Status) : Type 0 where
+  pub is : status ≡ WrongDigest
+  pub uuid : s.uuid ≡ l.uuid
+  pub length : s.length ≡ l.length
+  pub digest : s.digest ≢ l.digest
+
 -- the frame isn't the one that the locator names, for the first reason that applies
 abbrev pub IsMismatch : Locator → Standing → Status → Type 0
-IsMismatch l s WrongUuid = s.uuid ≢ l.uuid
-IsMismatch l s WrongLength = (s.uuid ≡ l.uuid) × (s.length ≢ l.length)
-IsMismatch l s WrongDigest = (s.uuid ≡ l.uuid) × (s.length ≡ l.length) × (s.digest ≢ l.digest)
-IsMismatch l s _ = ⊥
+IsMismatch l s status = IsOther l s.uuid s.length status ⊎ IsOtherPayload l s status
 
 -- the frame is the one that the locator names
 pub record Agrees (l : Locator) (s : Standing) : Type 0 where

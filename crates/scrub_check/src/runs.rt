@@ -152,27 +152,6 @@ fn judged_run<D: PageSource>(
     }
 }
 
-/// The index runs that a plan names, each read if its chunk is there and its payload is a run.
-pub fn read_runs<D: PageSource>(
-    alloc: Global,
-    disk: &D,
-    plan: &Plan,
-    all: &AllFindings<'_, D>,
-) -> Result<ReadRuns, OutOfMemory>
-    requires { IsWholeScan (D.image disk.now) plan.now all.now.extents }
-    ensures { IfOk result (AreReadRuns (D.image disk.now) plan.now) }
-{
-    let locators = plan.runs();
-    let mut runs = Vec::with_capacity(alloc, locators.len())?;
-    let mut states = Vec::with_capacity(alloc, locators.len())?;
-    for locator in locators {
-        let one = judged_run(alloc, disk, plan, all, locator)?;
-        runs.push(one.run)?;
-        states.push(one.state)?;
-    }
-    Ok(ReadRuns { runs, states })
-}
-
 /// These runs, what became of each, and the statuses of their locators, in three lists.
 fn unzipped(
     alloc: Global,
@@ -191,6 +170,26 @@ fn unzipped(
         statuses.push(one.status)?;
     }
     Ok((runs, states, statuses))
+}
+
+/// The index runs that a plan names, each read if its chunk is there and its payload is a run.
+pub fn read_runs<D: PageSource>(
+    alloc: Global,
+    disk: &D,
+    plan: &Plan,
+    all: &AllFindings<'_, D>,
+) -> Result<ReadRuns, OutOfMemory>
+    requires { IsWholeScan (D.image disk.now) plan.now all.now.extents }
+    ensures { IfOk result (AreReadRuns (D.image disk.now) plan.now) }
+{
+    let locators = plan.runs();
+    let mut judged = Vec::with_capacity(alloc, locators.len())?;
+    for locator in locators {
+        let one = judged_run(alloc, disk, plan, all, locator)?;
+        judged.push(one)?;
+    }
+    let (runs, states, _) = unzipped(alloc, judged)?;
+    Ok(ReadRuns { runs, states })
 }
 
 /// What `read_runs` gives, and the status of each run's locator, by as many threads as there are processors at most. Each

@@ -96,25 +96,6 @@ impl OpenPlace {
         })
     }
 
-    /// The frame there. Its payload is hashed the first time that it is asked for.
-    fn frame<D: PageSource>(
-        &mut self,
-        alloc: Global,
-        scan: &WholeScan<'_, D>,
-    ) -> Result<Option<Standing>, OutOfMemory>
-        requires can { CanBeRead (D.image scan.now.disk.now) scan.now.plan.now self.old.place }
-        requires read { IsRead (D.image scan.now.disk.now) scan.now.plan.now self.old }
-        ensures there { IfOk result (IsSeenAt (D.image scan.now.disk.now) scan.now.plan.now self.old.place) }
-        ensures read { IsRead (D.image scan.now.disk.now) scan.now.plan.now self.new }
-        ensures place { self.new.place ≡ self.old.place }
-    {
-        if !self.is_hashed {
-            self.frame = frame_at(alloc, scan, self.place)?;
-            self.is_hashed = true;
-        }
-        Ok(self.frame)
-    }
-
     /// The status of a locator of this place that the findings don't decide: by what is claimed there, or else by the frame
     /// there.
     pub fn status<D: PageSource>(
@@ -133,8 +114,11 @@ impl OpenPlace {
         if let Some(status) = status_by_claim(locator, self.claimed) {
             return Ok(status);
         }
-        let frame = self.frame(alloc, scan)?;
-        Ok(judged(locator, frame, Status::Hidden))
+        if !self.is_hashed {
+            self.frame = frame_at(alloc, scan, self.place)?;
+            self.is_hashed = true;
+        }
+        Ok(judged(locator, self.frame, Status::Hidden))
     }
 }
 
