@@ -1,13 +1,13 @@
 -- What a frame that is claimed at a locator's place says of the locator.
-use Rattle.std.proofs.Common.{◌≡◌, ◌+◌, ℕ, Option, Some, None, IfSome, IfNone, MatchOption, arith, sym, ◌∙◌, ap}
+use Rattle.std.proofs.Common.{◌≡◌, ◌+◌, ℕ, Option, Some, None, MatchOption, arith, sym, ◌∙◌, ap}
 use Rattle.std.proofs.lemmas.Option.{same_Some}
-use Rattle.scrub_disk.specs.Image.{Image}
+use Rattle.scrub_disk.specs.Image.{Image, byte}
 use Rattle.scrub_frame.specs.declared.form.Form.TheVariants.{Plain}
 use Rattle.scrub_frame.specs.declared.frame.Head.{Head}
 use Rattle.scrub_frame.specs.declared.locator.Locator.{Locator}
 use Rattle.scrub_frame.specs.Frame.{frame_overhead}
-use Rattle.scrub_super.specs.Plan.{PlanValue}
-use Rattle.scrub_scan.specs.Extent.{extent_of, NoFrameAt}
+use Rattle.scrub_super.specs.Plan.{PlanValue, pointer_of}
+use Rattle.scrub_scan.specs.Extent.{extent_of, NoFrameAt, HasGap}
 use Rattle.scrub_scan.specs.Standing.{IsClaimedAt}
 use Rattle.scrub_scan.proofs.Claims.{only_frame, plain_frame}
 use Rattle.scrub_scan.proofs.FrameBytes.{no_gap}
@@ -16,7 +16,7 @@ use Rattle.scrub_check.specs.declared.statuses.status.Status.{Status}
 use Rattle.scrub_check.specs.declared.statuses.status.Status.TheVariants.{NoFrame}
 use Rattle.scrub_check.specs.Judged.{IsStatusByClaim}
 use Rattle.scrub_check.specs.Places.{place_named_by}
-use Rattle.scrub_check.specs.Open.{IsOpen, IsReadableClaim, IsClaimSeen, AreReadableClaims}
+use Rattle.scrub_check.specs.Open.{IsOpen, IsReadableClaim, IsClaimSeen}
 use Rattle.scrub_check.specs.Status.{CanStand, HasStatus, HasStatusIn}
 use Rattle.scrub_check.proofs.Judged.{status_under, other_frame}
 
@@ -38,20 +38,16 @@ judged_by_claim image plan l found known s left seen by is =
     status_under image plan left.pointer l s left.in_use left.is
     (by_claim image left.pointer l found known s left.can (seen left.pointer left.is) by is)
 
--- what is claimed, and can be read, under the pointer of the extent
-pub claim_seen : (image : Image) (s : ChunkAt) (v w : ℕ) (claimed left : Option Head) → v ≡ w →
-    IfSome claimed (IsClaimedAt (extent_of image s.extent v) s.offset) →
-    IfNone claimed (NoFrameAt (extent_of image s.extent v) s.offset) →
-    AreReadableClaims image s claimed left →
-    MatchOption left (NoFrameAt (extent_of image s.extent w) s.offset) (IsReadableClaim (extent_of image s.extent w) s.offset)
-claim_seen image s v w None left same some none is =
-    rw is
-    (rw same at none)
-claim_seen image s v w (Some h) None same some none gap = λ f u b k.
-    let claim : IsClaimedAt (extent_of image s.extent w) s.offset h = rw same at some in
-    let is = only_frame (extent_of image s.extent w) s.offset h claim f u b k in
+-- a claimed frame with a byte that can't be read is none
+pub gap_is_no_frame : (image : Image) (p : ChunkAt) (w : ℕ) (h : Head) → IsClaimedAt (extent_of image p.extent w) p.offset h →
+    HasGap (byte image p.extent) p.offset (h.length + frame_overhead h.form) → NoFrameAt (extent_of image p.extent w) p.offset
+gap_is_no_frame image p w h claim gap = λ f u b k.
+    let is = only_frame (extent_of image p.extent w) p.offset h claim f u b k in
     let round : frame_overhead h.form ≡ frame_overhead f = ap frame_overhead is.0 in
-    no_gap (extent_of image s.extent w) s.offset (h.length + frame_overhead h.form) f u b k (omega (arith, is.2, round)) gap
-claim_seen image s v w (Some h) (Some j) same some none is =
-    rw is.0
-    (record { claimed = rw same at some; readable = is.1 })
+    no_gap (extent_of image p.extent w) p.offset (h.length + frame_overhead h.form) f u b k (omega (arith, is.2, round)) gap
+
+-- what holds under the pointer that was found holds under the plan's
+pub under_plan : (image : Image) (plan : PlanValue) (p : ChunkAt) (v : ℕ) (found : Option Head) → pointer_of plan p.extent ≡ Some v →
+    MatchOption found (NoFrameAt (extent_of image p.extent v) p.offset) (IsReadableClaim (extent_of image p.extent v) p.offset) →
+    IsClaimSeen image plan p found
+under_plan image plan p v found at is = λ w there. rw (← same_Some v w (sym at ∙ there)) is

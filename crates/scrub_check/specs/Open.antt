@@ -1,6 +1,6 @@
 -- What is at places of a disk that have to be read, since no item begins there; and what is claimed there.
-use Rattle.std.specs.Prelude.{◌≡◌, ◌<◌, ◌≤◌, ◌+◌, ℕ, List, false, true, Option, Some, None, MatchOption, length, slice_index_or}
-use Rattle.scrub_disk.specs.Image.{Image, byte, extent_bytes}
+use Rattle.std.specs.Prelude.{◌≡◌, ◌<◌, ◌≤◌, ◌+◌, ℕ, List, false, true, Option, Some, MatchOption, length, slice_index_or}
+use Rattle.scrub_disk.specs.Image.{Image, extent_bytes}
 use Rattle.scrub_frame.specs.declared.locator.Locator.{Locator}
 use Rattle.scrub_super.specs.Plan.{PlanValue, pointer_of}
 use Rattle.scrub_frame.specs.declared.frame.Head.{Head}
@@ -44,10 +44,6 @@ pub record IsOpen (image : Image) (plan : PlanValue) (l : Locator) : Type 0 wher
 abbrev pub IsStatusByItems : Image → ℕ → Locator → Option Status → Type 0
 IsStatusByItems image w l known = MatchOption known (¬ BeginsAt (extent_of image l.extent w) l.offset) (HasStatus image w l)
 
--- the frame that is claimed at a place would end in its extent
-abbrev pub IsClaimedIn : Image → ChunkAt → Head → Type 0
-IsClaimedIn image s h = s.offset + h.length + frame_overhead h.form ≤ extent_bytes image.geometry
-
 -- a frame is claimed at p, and all its bytes can be read
 pub record IsReadableClaim (x : Extent) (p : ℕ) (h : Head) : Type 0 where
   pub claimed : IsClaimedAt x p h
@@ -57,11 +53,6 @@ pub record IsReadableClaim (x : Extent) (p : ℕ) (h : Head) : Type 0 where
 -- is there
 abbrev pub IsClaimSeen : Image → PlanValue → ChunkAt → Option Head → Type 0
 IsClaimSeen image plan s found = (w : ℕ) → pointer_of plan s.extent ≡ Some w → MatchOption found (NoFrameAt (extent_of image s.extent w) s.offset) (IsReadableClaim (extent_of image s.extent w) s.offset)
-
--- what is left of a claimed frame: nothing if one of its bytes can't be read, and else the same
-abbrev pub AreReadableClaims : Image → ChunkAt → Option Head → Option Head → Type 0
-AreReadableClaims image s None left = left ≡ None
-AreReadableClaims image s (Some h) left = MatchOption left (HasGap (byte image s.extent) s.offset (h.length + frame_overhead h.form)) (λ k. (k ≡ h) × ¬ HasGap (byte image s.extent) s.offset (h.length + frame_overhead h.form))
 
 -- what was read at a place: what is claimed there, and the frame there, once its payload was hashed
 pub record IsRead (image : Image) (plan : PlanValue) (p : OpenPlace) : Type 0 where

@@ -1,10 +1,9 @@
 //! A place of a disk that has to be read, since no item begins there: the frame that is claimed there, and the frame that is
 //! there.
 
-ghost use Rattle.std.specs.Prelude.{◌≡◌, ◌<◌, IfOk, IfSome, OnOk};
-ghost use Rattle.scrub_disk.specs.Image.{unreadable_pages};
+ghost use Rattle.std.specs.Prelude.{◌≡◌, IfOk};
 ghost use Rattle.scrub_check.specs.Places.{place_named_by};
-ghost use Rattle.scrub_check.specs.Open.{CanBeRead, IsOpen, IsSeenAt, IsClaimSeen, IsClaimedIn, AreReadableClaims, IsRead};
+ghost use Rattle.scrub_check.specs.Open.{CanBeRead, IsOpen, IsSeenAt, IsClaimSeen, IsRead};
 ghost use Rattle.scrub_check.specs.Status.{HasStatusIn};
 
 use crate::places::chunk_at::ChunkAt;
@@ -15,25 +14,6 @@ use scrub_disk::{OutOfMemory, PageSource};
 use scrub_frame::{Head, Locator};
 use scrub_scan::{Standing, claimed_frame, frame_stands};
 use std::alloc::Global;
-
-/// A claimed head, if all bytes of the frame that it claims can be read.
-fn readable_claim<D: PageSource>(
-    disk: &D,
-    bad_pages: &[u32],
-    place: ChunkAt,
-    claimed: Option<Head>,
-) -> Option<Head>
-    requires in_disk { place.extent < (D.image disk.now).geometry.extents }
-    requires pages { bad_pages.now ≡ unreadable_pages (D.image disk.now) place.extent }
-    requires fits { IfSome claimed (IsClaimedIn (D.image disk.now) place) }
-    ensures { AreReadableClaims (D.image disk.now) place claimed result }
-{
-    let head = claimed?;
-    if has_gap(disk, bad_pages, place.offset, head.frame_bytes()) {
-        return None;
-    }
-    Some(head)
-}
 
 /// The head of the frame that is claimed at a place, if all bytes of the frame can be read. No payload is hashed.
 fn claim_at<D: PageSource>(
@@ -47,7 +27,13 @@ fn claim_at<D: PageSource>(
     let pointer = scan.plan.pointer(place.extent);
     let bad_pages = findings_of(scan.all, place.extent).bad_pages();
     let claimed = claimed_frame(alloc, scan.disk, pointer, place.extent, place.offset)?;
-    Ok(readable_claim(scan.disk, bad_pages, place, claimed))
+    let Some(head) = claimed else {
+        return Ok(None);
+    };
+    if has_gap(scan.disk, bad_pages, place.offset, head.frame_bytes()) {
+        return Ok(None);
+    }
+    Ok(Some(head))
 }
 
 /// The frame that is at a place. Its payload is hashed.
