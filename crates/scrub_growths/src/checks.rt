@@ -7,7 +7,7 @@ use crate::disks::{
 };
 use crate::ending::{Stop, Wanted, right};
 use crate::runs::is_one_shard;
-use scrub_check::{ReadRuns, RunState};
+use scrub_check::{ReadRuns, RunState, Status};
 use scrub_disk::MemDisk;
 use scrub_fakes::{SHARD, plan_of};
 use scrub_frame::Locator;
@@ -64,8 +64,8 @@ pub fn read_all_runs<R: Threads + Sync>(rt: &R, alloc: Global, wanted: Wanted) -
     let plan = plan_of(alloc, &disk)?;
     let all = scan_in_order(alloc, &disk, &plan)?;
     wanted.made()?;
-    let three = scrub_check::read_all_runs(rt, alloc, &disk, &plan, &all)?;
-    right(are_three(&three))
+    let (three, statuses) = scrub_check::read_all_runs(rt, alloc, &disk, &plan, &all)?;
+    right(are_three(&three) && statuses.as_slice() == [Status::Sound; 3].as_slice())
 }
 
 /// The statuses of nine locators, one after another.
@@ -122,11 +122,11 @@ fn check_named_on<R: Threads + Sync>(
 ) -> Result<(), Stop> {
     let plan = plan_of(alloc, disk)?;
     let all = scan_in_order(alloc, disk, &plan)?;
-    let read = scrub_check::read_runs(alloc, disk, &plan, &all)?;
+    let (read, statuses) = scrub_check::read_all_runs(rt, alloc, disk, &plan, &all)?;
+    let map = merge(alloc, read.runs())?;
     let expected = names_with_status(alloc, run)?;
-    let named = names_in(alloc, &expected)?;
     wanted.made()?;
-    let checked = scrub_check::check_named(rt, alloc, disk, &plan, &all, read.states(), &named)?;
+    let checked = scrub_check::check_named(rt, alloc, disk, &plan, &all, &statuses, &map)?;
     right(checked.as_slice() == expected.as_slice())
 }
 

@@ -10,9 +10,9 @@ use Rattle.std.proofs.lemmas.Slice.{between_is}
 use Rattle.std.proofs.lemmas.Cmp.{then_total, on_total}
 use Rattle.std.proofs.lemmas.List.Elements.{filter_agree}
 use Rattle.scrub_check.specs.declared.statuses.checked.Checked.{Checked}
-use Rattle.scrub_check.specs.declared.sources.named.Owner.TheVariants.{Run}
+use Rattle.scrub_check.specs.declared.named.Owner.TheVariants.{Run}
 use Rattle.scrub_check.specs.declared.statuses.status.Status.TheVariants.{Sound}
-use Rattle.scrub_check.proofs.SortedStarts.{same_number}
+use Rattle.scrub_check.proofs.SortedPlaces.{same_number}
 use Rattle.scrub_report.specs.Moves.{PointAlike, place_cmp, place_named}
 use Rattle.scrub_report.specs.Reclaimable.{points_to, pointing_to}
 use Rattle.scrub_report.proofs.Between.{filter_between, filter_mapped}

@@ -9,7 +9,7 @@ use Rattle.scrub_super.specs.Planned.{extents_in_use}
 use Rattle.scrub_super.proofs.PageLaws.{one_list_of_pages}
 use Rattle.scrub_merge.proofs.Elements.{Contains-cases, Contains-filter}
 use Rattle.scrub_check.specs.declared.statuses.checked.Checked.{Checked}
-use Rattle.scrub_check.specs.declared.sources.runs.RunState.{RunState}
+use Rattle.scrub_check.specs.declared.runs.RunState.{RunState}
 use Rattle.scrub_check.specs.Candidates.{CandidateValue}
 use Rattle.scrub_check.specs.Kept.{IsKept, AreSafe}
 use Rattle.scrub_check.specs.Runs.{ReadRunsValue}

@@ -14,9 +14,9 @@ use Rattle.scrub_run.specs.Entry.{EntryValue}
 use Rattle.scrub_run.proofs.Runs.{one_run_lem}
 use Rattle.scrub_merge.specs.ShardMap.{AreRuns}
 use Rattle.scrub_check.specs.declared.statuses.checked.Checked.{Checked}
-use Rattle.scrub_check.specs.declared.sources.named.Named.{Named}
-use Rattle.scrub_check.specs.declared.sources.runs.RunState.{RunState}
-use Rattle.scrub_check.specs.declared.sources.runs.RunState.TheVariants.{Read, BadChunk, NotARun}
+use Rattle.scrub_check.specs.declared.named.Named.{Named}
+use Rattle.scrub_check.specs.declared.runs.RunState.{RunState}
+use Rattle.scrub_check.specs.declared.runs.RunState.TheVariants.{Read, BadChunk, NotARun}
 use Rattle.scrub_check.specs.declared.statuses.status.Status.TheVariants.{OutOfRange}
 use Rattle.scrub_check.specs.Checked.{AreChecked, HaveStatuses, named_of}
 use Rattle.scrub_check.specs.Runs.{AreReadRuns, HasRunState, HasRunStateInUse, HasRunStateIn, IsLostInRetired, IsRunInUse, IsRunIn, IsRunOf, NamesRun, ReadRunsValue}

@@ -7,8 +7,8 @@ use Rattle.scrub_super.specs.declared.pages.SuperblockPage.{SuperblockPage}
 use Rattle.scrub_super.specs.declared.pages.SuperblockPage.TheVariants.{Lost, Damaged, Stray}
 use Rattle.scrub_super.specs.Chosen.{Choice}
 use Rattle.scrub_scan.specs.Scanned.{Scanned}
-use Rattle.scrub_check.specs.declared.sources.runs.RunState.{RunState}
-use Rattle.scrub_check.specs.declared.sources.runs.RunState.TheVariants.{Read}
+use Rattle.scrub_check.specs.declared.runs.RunState.{RunState}
+use Rattle.scrub_check.specs.declared.runs.RunState.TheVariants.{Read}
 use Rattle.scrub_report.specs.declared.doubts.Accepted.{Accepted}
 use Rattle.scrub_report.specs.declared.doubts.Doubt.{Doubt}
 use Rattle.scrub_report.specs.declared.doubts.Doubt.TheVariants.{NoSuperblock, Tie, SuperblockLost, SuperblockDamaged, SuperblockStray, RunLost, Tail, TailLost}

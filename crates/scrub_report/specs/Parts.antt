@@ -7,7 +7,7 @@ use Rattle.scrub_super.specs.Chosen.{Choice, IsChoice}
 use Rattle.scrub_super.specs.Plan.{PlanValue, IsPlanOf}
 use Rattle.scrub_scan.specs.Scanned.{Scanned}
 use Rattle.scrub_scan.specs.AllFindings.{AreAllFindings}
-use Rattle.scrub_check.specs.declared.sources.runs.RunState.{RunState}
+use Rattle.scrub_check.specs.declared.runs.RunState.{RunState}
 use Rattle.scrub_check.specs.Runs.{AreReadRuns, ReadRunsValue}
 use Rattle.scrub_check.specs.declared.lists.liveness.Liveness.{Liveness}
 use Rattle.scrub_check.specs.Candidates.{AreCandidates}

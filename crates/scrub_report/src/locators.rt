@@ -1,21 +1,13 @@
 //! The named locators that aren't sound, as the report has them.
 
-ghost use Rattle.std.specs.Prelude.{◌≡◌};
-ghost use Rattle.scrub_check.specs.Checked.{is_hidden};
 ghost use Rattle.scrub_report.specs.Tokens.{locator_data};
 
 use crate::json_values::WriteJson;
 use crate::object::{Value, write_object};
 use json::Writer;
-use scrub_check::{Checked, Status};
+use scrub_check::Checked;
 use scrub_disk::OutOfMemory;
 use std::alloc::Global;
-
-fn is_hidden(status: Status) -> bool
-    ensures { result ≡ is_hidden status }
-{
-    matches!(status, Status::Hidden)
-}
 
 /// One of `hidden`, or of `dangling`, which has its status as `reason` too.
 impl WriteJson for Checked {
@@ -23,7 +15,7 @@ impl WriteJson for Checked {
 
     fn write_json(&self, alloc: Global, out: &mut Writer) -> Result<(), OutOfMemory> {
         let place = &self.locator;
-        if is_hidden(self.status) {
+        if self.status.is_hidden() {
             return write_object(
                 alloc,
                 out,

@@ -3,11 +3,8 @@
 ghost use Rattle.std.specs.Prelude.{◌≡◌, IfOk, is_none, is_some};
 ghost use Rattle.std.specs.List.{list_all, list_any};
 ghost use Rattle.scrub_disk.specs.Image.{Image};
-ghost use Rattle.scrub_check.specs.Checked.{is_sound, AreChecked};
+ghost use Rattle.scrub_check.specs.Checked.{is_sound};
 ghost use Rattle.scrub_check.specs.Chunks.{twins};
-ghost use Rattle.scrub_check.specs.Named.{named};
-ghost use Rattle.scrub_check.specs.Runs.{AreRunStates};
-ghost use Rattle.scrub_check.specs.WholeScan.{IsWholeScan};
 ghost use Rattle.scrub_report.specs.Parts.{AreJudgedOf, ArePartsOf, IsLivenessOf, IsScan, is_clean_kept};
 ghost use Rattle.scrub_report.specs.Scrubbed.{is_clean_list, is_in_doubt};
 
@@ -16,13 +13,12 @@ use crate::parts::{Judged, Parts};
 use crate::runs::{RunRow, run_rows};
 use crate::scanning::Scan;
 use scrub_check::{
-    Checked, Liveness, Place, ReadRuns, RunState, SharedPlace, Status, broken_shards, check_named,
-    liveness_of, named_locators, read_all_runs, twins,
+    Checked, Liveness, Place, ReadRuns, SharedPlace, broken_shards, check_named, liveness_of,
+    read_all_runs, twins,
 };
 use scrub_disk::{OutOfMemory, PageSource};
-use scrub_merge::{ShardMap, merge_owned};
-use scrub_scan::AllFindings;
-use scrub_super::{Chosen, Plan};
+use scrub_merge::merge_owned;
+use scrub_super::Chosen;
 use std::alloc::Global;
 use std::thread::{Threads, join_mut};
 
@@ -38,24 +34,6 @@ fn is_in_doubt(chosen: &Chosen, read: &ReadRuns) -> bool
     ensures { result ≡ is_in_doubt chosen.now read.now }
 {
     chosen.tie() || !chosen.bad_pages().is_empty() || has_lost_run(read)
-}
-
-/// The named locators, each with its status.
-fn judged_locators<R: Threads + Sync, D: PageSource>(
-    rt: &R,
-    alloc: Global,
-    disk: &D,
-    plan: &Plan,
-    all: &AllFindings<'_, D>,
-    states: &[RunState],
-    map: &ShardMap,
-) -> Result<Vec<Checked>, OutOfMemory>
-    requires scan { IsWholeScan (D.image disk.now) plan.now all.now.extents }
-    requires states { AreRunStates (D.image disk.now) plan.now states.now }
-    ensures { IfOk result (λ v. AreChecked (D.image disk.now) plan.now (named plan.now.runs map.now) v.items) }
-{
-    let named = named_locators(alloc, plan, map)?;
-    check_named(rt, alloc, disk, plan, all, states, &named)
 }
 
 /// What is found on a scanned disk, up to the status of each named locator. Once the runs are merged their entries are in the
@@ -74,12 +52,12 @@ fn judged_of<'d, R: Threads + Sync, D: PageSource>(
         plan,
         all,
     } = scan;
-    let read = read_all_runs(rt, alloc, disk, &plan, &all)?;
+    let (read, statuses) = read_all_runs(rt, alloc, disk, &plan, &all)?;
     let in_doubt = is_in_doubt(&chosen, &read);
     let runs = run_rows(alloc, plan.runs(), &read)?;
-    let (read_runs, states) = read.into_parts();
+    let (read_runs, _) = read.into_parts();
     let map = merge_owned(alloc, read_runs)?;
-    let checked = judged_locators(rt, alloc, disk, &plan, &all, &states, &map)?;
+    let checked = check_named(rt, alloc, disk, &plan, &all, &statuses, &map)?;
     Ok(Judged {
         chosen,
         plan,
@@ -189,17 +167,11 @@ pub(crate) fn parts_and_twins<'d, R: Threads + Sync, D: PageSource>(
     Ok((parts, twin_chunks))
 }
 
-fn is_sound(status: Status) -> bool
-    ensures { result ≡ is_sound status }
-{
-    matches!(status, Status::Sound)
-}
-
 /// Whether each locator is sound.
 fn are_sound(checked: &[Checked]) -> bool
     ensures { result ≡ list_all (λ c. is_sound c.status) checked.now }
 {
-    checked.iter().all(|one| is_sound(one.status))
+    checked.iter().all(|one| one.status.is_sound())
 }
 
 /// Whether each locator is sound, and no place is named twice.

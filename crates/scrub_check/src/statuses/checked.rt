@@ -68,7 +68,8 @@ fn put_run_statuses(known: &mut [Option<Status>], statuses: &[Status])
     }
 }
 
-/// A named locator with its status: the one that is known, or else the one by what is at its place.
+/// A named locator with its status: the one that is known, or else the one by what is at its place. `judge_places` leaves
+/// none unknown, but nothing rests on that.
 fn check_one<D: PageSource>(
     alloc: Global,
     scan: &WholeScan<'_, D>,

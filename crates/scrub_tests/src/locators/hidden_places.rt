@@ -1,7 +1,7 @@
 //! How often the checks ask for the pages of a frame at which no item begins.
 
 use crate::support::compare::same;
-use scrub_check::{Named, Owner, Status, check_all, check_named, named_locators, read_runs};
+use scrub_check::{Named, Owner, Status, check_all, check_named, named_locators, read_all_runs};
 use scrub_disk::{Geometry, MemDisk};
 use scrub_fakes::{
     CountingSource, ONES, SHARD, TWOS, plan_of, put, put_chunk, put_sealed, put_superblock, run_of,
@@ -126,11 +126,11 @@ fn the_pages_of_a_hidden_run_are_not_read_again_for_its_status(
     let source = CountingSource::new(rt.alloc(), &disk)?;
     let plan = plan_of(rt.alloc(), &disk)?;
     let all = scan_in_order(rt.alloc(), &source, &plan)?;
-    let read = read_runs(rt.alloc(), &source, &plan, &all)?;
+    let (read, statuses) = read_all_runs(&rt, rt.alloc(), &source, &plan, &all)?;
     let map = merge(rt.alloc(), read.runs())?;
     let named = named_locators(rt.alloc(), &plan, &map)?;
     let before = source.asked(1);
-    let checked = check_named(&rt, rt.alloc(), &source, &plan, &all, read.states(), &named)?;
+    let checked = check_named(&rt, rt.alloc(), &source, &plan, &all, &statuses, &map)?;
     assert!(rt; checked.len() == 1 && checked[0].status == Status::Hidden);
     same(&rt, source.asked(1), before);
     let again = check_all(&rt, rt.alloc(), &source, &plan, &all, &named)?;

@@ -50,7 +50,7 @@ fn check_runs<R: Threads + Abort + Sync>(
 ) -> Result<(), Fail> {
     let plan = plan_of(alloc, disk)?;
     let all = scan_in_order(alloc, disk, &plan)?;
-    let found = read_all_runs(rt, alloc, disk, &plan, &all)?;
+    let (found, _) = read_all_runs(rt, alloc, disk, &plan, &all)?;
     let wanted = read_runs(alloc, disk, &plan, &all)?;
     same(rt, found.states(), wanted.states());
     assert!(rt; found.runs().len() == count && wanted.runs().len() == count);

@@ -1,13 +1,5 @@
--- The states are those of the runs that were read.
-use Rattle.std.proofs.Common.{List, sym, subst}
-use Rattle.scrub_disk.specs.Memory.{image_of}
-use Rattle.scrub_check.specs.declared.sources.runs.RunState.{RunState}
-use Rattle.scrub_check.specs.Runs.{AreRunStates}
-use Rattle.scrub_check.proofs.CheckedLists.{states_read}
+-- The statuses are those of the runs that were read.
 use Rattle.scrub_growths.proofs.checks.check_named_on.Goals as goal
 
-pub check_named-requires-clause-states : goal.check_named-requires-clause-states
-check_named-requires-clause-states g c κs lives =
-    let image = image_of c.args.disk.now in
-    subst (λ (ss : List RunState). AreRunStates image c.in_ok-plan.plan ss) (sym c.states.ensures.states)
-    (states_read image c.in_ok-plan.plan c.in_ok-read.read c.in_ok-read.ensures)
+pub check_named-requires-clause-statuses : goal.check_named-requires-clause-statuses
+check_named-requires-clause-statuses g c κs lives = rw c.deref.ensures.value c.in_ok-read.ensures.statuses
