@@ -19,4 +19,5 @@ pub mod FlatLists
 pub mod Between
 pub mod ByPlace
 pub mod Clear
+pub mod Reset
 pub mod SizesLists

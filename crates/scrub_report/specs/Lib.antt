@@ -11,6 +11,7 @@ pub mod Sizes
 pub mod Answer
 pub mod Doubts
 pub mod Reclaimable
+pub mod Reset
 -- Steps of the code.
 pub mod Parts
 pub mod Tokens

@@ -39,7 +39,7 @@ pub use listing::{LocatorListing, list_locators, one_locator_listing};
 pub use output::{WriteFault, write_out};
 pub use page_ranges::neighbouring_pages_are_joined;
 pub use reclaiming::{
-    ReclaimListing, list_reclaimable, one_reclaim_listing, reclaimed_are_candidates,
+    ReclaimListing, a_reset_loses_nothing, list_reclaimable, one_reclaim_listing, reclaimed_are_candidates,
     reclaiming_is_safe,
 };
 pub use sizes_listing::{SizesListing, list_sizes, one_sizes_listing};

@@ -1,7 +1,7 @@
 //! What can be reclaimed of a disk, as lines: the doubts, and if all are accepted the extents, each with the chunks to move
 //! first.
 
-ghost use Rattle.std.specs.Prelude.{◌≡◌, ◌+◌, ◌++◌, ◌≤◌, ℕ, [], Bool, List, IfOk, OnOk, length, map, string_bytes, if◌then◌else◌};
+ghost use Rattle.std.specs.Prelude.{◌≡◌, ◌+◌, ◌++◌, ◌≤◌, ℕ, [], All, Bool, List, IfOk, OnOk, length, map, string_bytes, if◌then◌else◌};
 ghost use Rattle.std.specs.List.{flat_map};
 ghost use Rattle.scrub_disk.specs.Image.{Image};
 ghost use Rattle.scrub_super.specs.declared.pages.SuperblockPage.{SuperblockPage};
@@ -13,6 +13,7 @@ ghost use Rattle.scrub_report.specs.Moves.{AreRisingPlaces, PointAlike};
 ghost use Rattle.scrub_report.specs.Parts.{IsScan};
 ghost use Rattle.scrub_report.specs.Reclaimable.{AreMoved, AreOfCandidates, AreReclaimLines, IsClear, all_candidate_lines, candidate_lines, move_line, pointing_to, reclaim_line, reclaimed};
 ghost use Rattle.scrub_report.specs.Report.{IsReport};
+ghost use Rattle.scrub_report.specs.Reset.{IsAfterReset, IsListedWithoutMoves, NameTheSame};
 ghost use Rattle.scrub_report.specs.Scrubbed.{Scrubbed, IsScrubbed};
 
 use crate::answer::ScrubFault;
@@ -230,4 +231,13 @@ pub fn reclaimed_are_candidates()
 pub fn reclaiming_is_safe()
     ensures { (image : Image) (accepted : Accepted) (pages : List SuperblockPage) (found : Scrubbed) → IsScrubbed image found →
         AreMoved found.checked (reclaimed accepted pages found) }
+{}
+
+/// A law: a reset loses nothing that is named. Let extents be listed without a `move` line, and be reset. Then the same index
+/// runs are read, with the same bindings, and each named locator has the same status as before, whatever these extents hold
+/// now.
+pub fn a_reset_loses_nothing()
+    ensures { (before after : Image) (accepted : Accepted) (extents : List ℕ) (found rest : Scrubbed) →
+        All (IsListedWithoutMoves before accepted) extents → IsAfterReset extents before after →
+        IsScrubbed before found → IsScrubbed after rest → NameTheSame found rest }
 {}

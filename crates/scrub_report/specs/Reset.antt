@@ -1,0 +1,62 @@
+-- Resetting extents: what an image keeps then, and what is the same in what is found on it before and after.
+use Rattle.std.specs.Prelude.{◌≡◌, ◌≢◌, ℕ, List, [], All, Contains}
+use Rattle.scrub_disk.specs.Image.{Image, byte}
+use Rattle.scrub_super.specs.declared.pages.SuperblockPage.{SuperblockPage}
+use Rattle.scrub_super.specs.Chosen.{Choice, IsChoice}
+use Rattle.scrub_super.specs.Pages.{AreSuperblockPages}
+use Rattle.scrub_super.specs.Plan.{PlanValue, IsPlanOf, pointer_of}
+use Rattle.scrub_check.specs.Candidates.{CandidateValue}
+use Rattle.scrub_report.specs.declared.doubts.Accepted.{Accepted}
+use Rattle.scrub_report.specs.Reclaimable.{moves, reclaimed}
+use Rattle.scrub_report.specs.Scrubbed.{Scrubbed, IsScrubbed}
+
+-- ---- which extents may be reset
+
+-- extent e is listed among those to reclaim of an image, with nothing to move out of it first
+pub record IsListedWithoutMoves (image : Image) (accepted : Accepted) (e : ℕ) : Type 0 where
+  pub found : Scrubbed
+  pub scrubbed : IsScrubbed image found
+  pub pages : List SuperblockPage
+  pub held : AreSuperblockPages image pages
+  pub candidate : CandidateValue
+  pub listed : Contains (reclaimed accepted pages found) candidate
+  pub extent_is : candidate.extent ≡ e
+  pub unmoved : moves found.checked candidate ≡ []
+
+-- ---- what a reset keeps
+
+-- the plan that follows from the superblock that counts in an image
+pub record IsPlanIn (image : Image) (plan : PlanValue) : Type 0 where
+  pub choice : Choice
+  pub chosen : IsChoice image choice
+  pub follows : IsPlanOf choice plan
+
+-- the new plan names the same runs and the same retired extents, and all extents but these have the same write pointer
+pub record IsPlanAfterReset (extents : List ℕ) (old new : PlanValue) : Type 0 where
+  pub runs : new.runs ≡ old.runs
+  pub retired : new.retired ≡ old.retired
+  pub pointers : (x : ℕ) → ¬ Contains extents x → pointer_of new x ≡ pointer_of old x
+
+-- these extents were reset: the sizes are the same, so are the bytes of all other extents but extent 0, and the superblock
+-- that counts differs in nothing but its generation and the write pointers of these extents
+pub record IsAfterReset (extents : List ℕ) (before after : Image) : Type 0 where
+  pub sizes : after.geometry ≡ before.geometry
+  pub bytes : (x p : ℕ) → x ≢ 0 → ¬ Contains extents x → byte after x p ≡ byte before x p
+  pub old : PlanValue
+  pub new : PlanValue
+  pub was : IsPlanIn before old
+  pub is : IsPlanIn after new
+  pub plans : IsPlanAfterReset extents old new
+
+-- ---- what is the same
+
+-- the same is named in what is found before and after: the retired extents, the index runs, what was read of them, the
+-- bindings, each named locator with its status, the shared places and the broken shards
+pub record NameTheSame (before after : Scrubbed) : Type 0 where
+  pub runs : after.plan.runs ≡ before.plan.runs
+  pub retired : after.plan.retired ≡ before.plan.retired
+  pub read : after.read ≡ before.read
+  pub bindings : after.bindings ≡ before.bindings
+  pub checked : after.checked ≡ before.checked
+  pub shared : after.shared ≡ before.shared
+  pub broken : after.broken ≡ before.broken
