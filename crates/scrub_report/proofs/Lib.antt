@@ -19,5 +19,6 @@ pub mod FlatLists
 pub mod Between
 pub mod ByPlace
 pub mod Clear
+pub mod ShardLines
 pub mod Reset
 pub mod SizesLists

@@ -11,6 +11,7 @@ use Rattle.scrub_check.proofs.OneList.{one_list, one_shared, one_broken}
 use Rattle.scrub_report.specs.Answer.{AnswerValue, IsScrubAnswer, ArePlannedExtents}
 use Rattle.scrub_report.specs.Index.{index_entries}
 use Rattle.scrub_report.specs.Locators.{AreLocatorLines, locator_lines}
+use Rattle.scrub_report.specs.Manifest.{IsManifest, manifest_text}
 use Rattle.scrub_report.specs.Report.{report_text}
 use Rattle.scrub_report.specs.Scrubbed.{Scrubbed, IsScrubbed, is_clean, is_in_doubt}
 use Rattle.scrub_report.proofs.OneIndex.{one_list_of_runs, one_list_of_checked, read_runs_are_runs}
@@ -95,3 +96,8 @@ pub one_listing : (image : Image) (a b : List ℕ) → AreLocatorLines image a �
 one_listing image a b x y =
     x.text_is ∙ ap (λ (s : Scrubbed). locator_lines s.checked) (one_scrub image x.found y.found x.scrubbed y.scrubbed)
     ∙ sym y.text_is
+
+-- and one manifest
+pub one_manifest_lem : (image : Image) (a b : List ℕ) → IsManifest image a → IsManifest image b → a ≡ b
+one_manifest_lem image a b x y =
+    x.text_is ∙ ap manifest_text (one_scrub image x.found y.found x.scrubbed y.scrubbed) ∙ sym y.text_is

@@ -1,8 +1,7 @@
 -- What is named on a disk is the same after a reset of extents that no named locator points into.
-use Rattle.std.proofs.Common.{◌≡◌, ◌≢◌, ◌==◌, ℕ, Bool, true, false, Option, Some, None, MatchBool, MatchOption, List, [], ◌∷◌, ◌++◌, ◌+◌, length, map, get_or, arith, refl, sym, ◌∙◌, ap, subst}
+use Rattle.std.proofs.Common.{◌≡◌, ◌≢◌, ◌==◌, ℕ, Bool, true, false, Option, Some, None, MatchBool, MatchOption, List, [], ◌∷◌, ◌++◌, ◌+◌, length, get_or, arith, refl, sym, ◌∙◌, ap, subst}
 use Rattle.std.proofs.Math.Path.{ap₂, fun_ext}
 use Rattle.std.specs.List.{All, AllZip, Contains, flat_map, list_any}
-use Rattle.std.proofs.lemmas.Bool.{eq-eqb}
 use Rattle.std.proofs.lemmas.List.Elements.{All-contains, All-contains_itself, All-cons, All-head, All-map, All-tail}
 use Rattle.scrub_disk.specs.declared.geometry.Geometry.{Geometry}
 use Rattle.scrub_disk.specs.Image.{Image, byte}
@@ -12,6 +11,7 @@ use Rattle.scrub_super.specs.Plan.{PlanValue, pointer_of}
 use Rattle.scrub_super.proofs.Laws.{one_choice_lem}
 use Rattle.scrub_scan.specs.Extent.{Extent, extent_of, FrameAt, NoFrameAt, HasGap}
 use Rattle.scrub_run.specs.Entry.{EntryValue}
+use Rattle.scrub_run.specs.Run.{run_bytes}
 use Rattle.scrub_merge.specs.Binding.{BindingValue}
 use Rattle.scrub_merge.proofs.Maps.{one_shard_map_lem}
 use Rattle.scrub_check.specs.declared.named.Named.{Named}
@@ -22,14 +22,17 @@ use Rattle.scrub_check.specs.declared.statuses.checked.Checked.{Checked}
 use Rattle.scrub_check.specs.declared.statuses.status.Status.{Status}
 use Rattle.scrub_check.specs.declared.statuses.status.Status.TheVariants.{OutOfRange, Retired, PastPointer, Unreadable, NoFrame, WrongUuid, WrongLength, WrongDigest, Hidden, Sound}
 use Rattle.scrub_check.specs.Candidates.{CandidateValue}
-use Rattle.scrub_check.specs.Checked.{AreChecked, HaveStatuses, named_of}
+use Rattle.scrub_check.specs.Checked.{AreChecked, named_of}
 use Rattle.scrub_check.specs.Named.{named, named_by_runs, named_by_shard}
 use Rattle.scrub_check.specs.Runs.{AreReadRuns, HasRunState, HasRunStateIn, IsLostInRetired, IsRunIn, IsRunOf, NamesRun}
 use Rattle.scrub_check.specs.Status.{BeginsAt, CanStand, FindsFrame, HasStatus, HasStatusIn, HasStatusInRetired, HasUnreadableByte, InRange, NamesChunk, is_retired}
 use Rattle.scrub_check.proofs.OneList.{one_shared, one_broken}
 use Rattle.scrub_report.specs.declared.doubts.Accepted.{Accepted}
+use Rattle.scrub_report.specs.Index.{IsIndex, index_entries}
+use Rattle.scrub_report.specs.Locators.{AreLocatorLines, locator_lines}
+use Rattle.scrub_report.specs.Manifest.{IsManifest, retired_line, shard_lines}
 use Rattle.scrub_report.specs.Reclaimable.{IsMoved, moves, reclaimed}
-use Rattle.scrub_report.specs.Reset.{IsAfterReset, IsListedWithoutMoves, IsPlanAfterReset, IsPlanIn, NameTheSame}
+use Rattle.scrub_report.specs.Reset.{IsAfterReset, IsListedWithoutMoves, IsPlanAfterReset, IsPlanIn, IsReclaimed, NameTheSame}
 use Rattle.scrub_report.specs.Scrubbed.{Scrubbed, IsScrubbed}
 use Rattle.scrub_report.proofs.Clear.{safe_to_reclaim}
 use Rattle.scrub_report.proofs.OneIndex.{one_list_of_runs, one_list_of_checked, read_runs_are_runs}
@@ -322,12 +325,36 @@ module _ (before after : Image) (found rest : Scrubbed) (x : IsScrubbed before f
     broken = one_broken found.checked rest.broken found.broken (rw checked at y.broken) x.broken;
   }
 
-pub a_reset_loses_nothing_lem : (before after : Image) (accepted : Accepted) (extents : List ℕ) (found rest : Scrubbed) →
-    All (IsListedWithoutMoves before accepted) extents → IsAfterReset extents before after →
-    IsScrubbed before found → IsScrubbed after rest → NameTheSame found rest
-a_reset_loses_nothing_lem before after accepted extents found rest listed r x y =
-    name_the_same before after found rest x y plans.runs plans.retired
-    (all_the_same extents before after found rest x y r accepted listed)
-  where
-    plans : IsPlanAfterReset extents found.plan rest.plan
-    plans = plans_of extents before after found rest x y r
+-- ---- the law
+
+module _ (accepted : Accepted) (extents : List ℕ) (before after : Image) where
+  pub the_same_named : (found rest : Scrubbed) → IsReclaimed accepted extents before after → IsScrubbed before found →
+      IsScrubbed after rest → NameTheSame found rest
+  the_same_named found rest r x y =
+      let plans = plans_of extents before after found rest x y r.reset in
+      name_the_same before after found rest x y plans.runs plans.retired
+      (all_the_same extents before after found rest x y r.reset accepted r.listed)
+
+  pub the_same_manifest : (a b : List ℕ) → IsReclaimed accepted extents before after → IsManifest before a →
+      IsManifest after b → a ≡ b
+  the_same_manifest a b r x y =
+      let same = the_same_named x.found y.found r x.scrubbed y.scrubbed in
+      let of : List ℕ → List Checked → List BindingValue → List ℕ =
+      λ retired checked bindings. flat_map retired_line retired ++ flat_map (λ v. shard_lines checked v.id) bindings in
+      x.text_is
+      ∙ ap (λ (rs : List ℕ). of rs x.found.checked x.found.bindings) (sym same.retired)
+      ∙ ap₂ (of y.found.plan.retired) (sym same.checked) (sym same.bindings)
+      ∙ sym y.text_is
+
+  pub the_same_lines : (a b : List ℕ) → IsReclaimed accepted extents before after → AreLocatorLines before a →
+      AreLocatorLines after b → a ≡ b
+  the_same_lines a b r x y =
+      x.text_is ∙ ap locator_lines (sym (the_same_named x.found y.found r x.scrubbed y.scrubbed).checked) ∙ sym y.text_is
+
+  pub the_same_index : (a b : List ℕ) → IsReclaimed accepted extents before after → IsIndex before a →
+      IsIndex after b → a ≡ b
+  the_same_index a b r x y =
+      let same = the_same_named x.found y.found r x.scrubbed y.scrubbed in
+      x.bytes_are
+      ∙ ap₂ (λ (checked : List Checked) (bindings : List BindingValue). run_bytes (index_entries checked bindings)) (sym same.checked) (sym same.bindings)
+      ∙ sym y.bytes_are

@@ -6,6 +6,7 @@ pub mod Texts
 pub mod Report
 pub mod Index
 pub mod Locators
+pub mod Manifest
 pub mod Superblocks
 pub mod Sizes
 pub mod Answer

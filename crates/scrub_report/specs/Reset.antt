@@ -48,6 +48,11 @@ pub record IsAfterReset (extents : List ℕ) (before after : Image) : Type 0 whe
   pub is : IsPlanIn after new
   pub plans : IsPlanAfterReset extents old new
 
+-- these extents were reset, and each had been listed among those to reclaim with nothing to move out of it first
+pub record IsReclaimed (accepted : Accepted) (extents : List ℕ) (before after : Image) : Type 0 where
+  pub listed : All (IsListedWithoutMoves before accepted) extents
+  pub reset : IsAfterReset extents before after
+
 -- ---- what is the same
 
 -- the same is named in what is found before and after: the retired extents, the index runs, what was read of them, the

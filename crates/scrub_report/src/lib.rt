@@ -13,6 +13,7 @@ mod json_values;
 mod keys;
 pub mod listing;
 mod locators;
+pub mod manifest;
 mod moves;
 mod object;
 pub mod output;
@@ -36,11 +37,12 @@ pub use answer::{
 pub use clean::are_clean_items;
 pub use doubts::Accepted;
 pub use listing::{LocatorListing, list_locators, one_locator_listing};
+pub use manifest::{ManifestListing, list_manifest, one_manifest};
 pub use output::{WriteFault, write_out};
 pub use page_ranges::neighbouring_pages_are_joined;
 pub use reclaiming::{
-    ReclaimListing, a_reset_loses_nothing, list_reclaimable, one_reclaim_listing, reclaimed_are_candidates,
-    reclaiming_is_safe,
+    ReclaimListing, a_reset_loses_nothing, list_reclaimable, one_reclaim_listing,
+    reclaimed_are_candidates, reclaiming_is_safe,
 };
 pub use sizes_listing::{SizesListing, list_sizes, one_sizes_listing};
 pub use superblocks::{SuperblockListing, list_superblocks, one_superblock_listing};

@@ -1,7 +1,7 @@
 //! What can be reclaimed of a disk, as lines: the doubts, and if all are accepted the extents, each with the chunks to move
 //! first.
 
-ghost use Rattle.std.specs.Prelude.{◌≡◌, ◌+◌, ◌++◌, ◌≤◌, ℕ, [], All, Bool, List, IfOk, OnOk, length, map, string_bytes, if◌then◌else◌};
+ghost use Rattle.std.specs.Prelude.{◌≡◌, ◌+◌, ◌++◌, ◌≤◌, ℕ, [], Bool, List, IfOk, OnOk, length, map, string_bytes, if◌then◌else◌};
 ghost use Rattle.std.specs.List.{flat_map};
 ghost use Rattle.scrub_disk.specs.Image.{Image};
 ghost use Rattle.scrub_super.specs.declared.pages.SuperblockPage.{SuperblockPage};
@@ -9,11 +9,14 @@ ghost use Rattle.scrub_super.specs.Pages.{AreSuperblockPages};
 ghost use Rattle.scrub_check.specs.declared.statuses.checked.Checked.{Checked};
 ghost use Rattle.scrub_report.specs.declared.doubts.Accepted.{Accepted};
 ghost use Rattle.scrub_report.specs.Answer.{IsPartitionOfPlanned, IsCountOfPlanned};
+ghost use Rattle.scrub_report.specs.Index.{IsIndex};
+ghost use Rattle.scrub_report.specs.Locators.{AreLocatorLines};
+ghost use Rattle.scrub_report.specs.Manifest.{IsManifest};
 ghost use Rattle.scrub_report.specs.Moves.{AreRisingPlaces, PointAlike};
 ghost use Rattle.scrub_report.specs.Parts.{IsScan};
 ghost use Rattle.scrub_report.specs.Reclaimable.{AreMoved, AreOfCandidates, AreReclaimLines, IsClear, all_candidate_lines, candidate_lines, move_line, pointing_to, reclaim_line, reclaimed};
 ghost use Rattle.scrub_report.specs.Report.{IsReport};
-ghost use Rattle.scrub_report.specs.Reset.{IsAfterReset, IsListedWithoutMoves, NameTheSame};
+ghost use Rattle.scrub_report.specs.Reset.{IsReclaimed, NameTheSame};
 ghost use Rattle.scrub_report.specs.Scrubbed.{Scrubbed, IsScrubbed};
 
 use crate::answer::ScrubFault;
@@ -235,9 +238,14 @@ pub fn reclaiming_is_safe()
 
 /// A law: a reset loses nothing that is named. Let extents be listed without a `move` line, and be reset. Then the same index
 /// runs are read, with the same bindings, and each named locator has the same status as before, whatever these extents hold
-/// now.
+/// now. So the image has the same manifest, the same lines of locators and the same index as before.
 pub fn a_reset_loses_nothing()
-    ensures { (before after : Image) (accepted : Accepted) (extents : List ℕ) (found rest : Scrubbed) →
-        All (IsListedWithoutMoves before accepted) extents → IsAfterReset extents before after →
-        IsScrubbed before found → IsScrubbed after rest → NameTheSame found rest }
+    ensures named { (accepted : Accepted) (extents : List ℕ) (before after : Image) (found rest : Scrubbed) →
+        IsReclaimed accepted extents before after → IsScrubbed before found → IsScrubbed after rest → NameTheSame found rest }
+    ensures manifest { (accepted : Accepted) (extents : List ℕ) (before after : Image) (a b : List ℕ) →
+        IsReclaimed accepted extents before after → IsManifest before a → IsManifest after b → a ≡ b }
+    ensures locators { (accepted : Accepted) (extents : List ℕ) (before after : Image) (a b : List ℕ) →
+        IsReclaimed accepted extents before after → AreLocatorLines before a → AreLocatorLines after b → a ≡ b }
+    ensures index { (accepted : Accepted) (extents : List ℕ) (before after : Image) (a b : List ℕ) →
+        IsReclaimed accepted extents before after → IsIndex before a → IsIndex after b → a ≡ b }
 {}

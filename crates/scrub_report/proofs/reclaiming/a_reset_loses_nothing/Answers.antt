@@ -1,6 +1,15 @@
 -- No named locator points into these extents, and all others have the status that they had.
-use Rattle.scrub_report.proofs.Reset.{a_reset_loses_nothing_lem}
+use Rattle.scrub_report.proofs.Reset.{the_same_index, the_same_lines, the_same_manifest, the_same_named}
 use Rattle.scrub_report.proofs.reclaiming.a_reset_loses_nothing.Goals as goal
 
-pub returns : goal.returns
-returns c = a_reset_loses_nothing_lem
+pub returns-clause-named : goal.returns-clause-named
+returns-clause-named c = the_same_named
+
+pub returns-clause-manifest : goal.returns-clause-manifest
+returns-clause-manifest c = the_same_manifest
+
+pub returns-clause-locators : goal.returns-clause-locators
+returns-clause-locators c = the_same_lines
+
+pub returns-clause-index : goal.returns-clause-index
+returns-clause-index c = the_same_index

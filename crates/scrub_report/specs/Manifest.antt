@@ -1,0 +1,39 @@
+-- The manifest of a disk: its retired extents, and what the locators of each shard name, wherever that lies.
+use Rattle.std.specs.Prelude.{◌≡◌, ◌++◌, ◌∷◌, [], ℕ, List, codes}
+use Rattle.std.specs.Fmt.{decimal}
+use Rattle.std.specs.List.{enumerate_from, filter, flat_map}
+use Rattle.hex.specs.Hex.{encode_lower}
+use Rattle.scrub_disk.specs.Image.{Image}
+use Rattle.scrub_run.specs.declared.shard_id.ShardId.{ShardId}
+use Rattle.scrub_scan.specs.Line.{spaced}
+use Rattle.scrub_check.specs.declared.statuses.checked.Checked.{Checked}
+use Rattle.scrub_check.specs.Checked.{is_owned_by}
+use Rattle.scrub_report.specs.Scrubbed.{Scrubbed, IsScrubbed}
+use Rattle.scrub_report.specs.Texts.{owner_text, status_text}
+
+-- the line of a retired extent: `retired EXTENT` and a line feed
+abbrev pub retired_line : ℕ → List ℕ
+retired_line e = codes "retired" ++ spaced (decimal e) ++ 10 ∷ []
+
+-- the line of a shard's locator of this number: `shard ID NUMBER LENGTH DIGEST STATUS` and a line feed
+abbrev pub numbered_line : ℕ → Checked → List ℕ
+numbered_line number c =
+    owner_text c.owner ++ spaced (decimal number) ++ spaced (decimal c.locator.length) ++ spaced (encode_lower c.locator.digest) ++ spaced (status_text c.status) ++ 10 ∷ []
+
+-- the lines of some locators, numbered from 0
+abbrev pub numbered_lines : List Checked → List ℕ
+numbered_lines some = flat_map (λ p. numbered_line p.0 p.1) (enumerate_from 0 some)
+
+-- the lines of a shard: its locators among all named ones, in their order
+abbrev pub shard_lines : List Checked → ShardId → List ℕ
+shard_lines checked id = numbered_lines (filter (λ c. is_owned_by id c.owner) checked)
+
+-- the lines of the retired extents, rising, and then those of each shard of the shard map
+abbrev pub manifest_text : Scrubbed → List ℕ
+manifest_text s = flat_map retired_line s.plan.retired ++ flat_map (λ b. shard_lines s.checked b.id) s.bindings
+
+-- the text is the manifest of what is found in an image
+pub record IsManifest (image : Image) (text : List ℕ) : Type 0 where
+  pub found : Scrubbed
+  pub scrubbed : IsScrubbed image found
+  pub text_is : text ≡ manifest_text found
