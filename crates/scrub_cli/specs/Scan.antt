@@ -1,4 +1,5 @@
--- What the commands `scan`, `index`, `locators` and `reclaimable` answer for an image file, and why they don't.
+-- What the commands `scan`, `index`, `locators`, `manifest` and `reclaimable` answer for an image file, and why they
+-- don't.
 use Rattle.std.specs.Prelude.{◌≡◌, ℕ, List, Bool}
 use Rattle.scrub_disk.specs.declared.geometry.Geometry.{Geometry as Sizes}
 use Rattle.scrub_disk.specs.Faults.{HasSizes, IsFirstBroken}
@@ -6,11 +7,12 @@ use Rattle.scrub_disk.specs.Image.{Image}
 use Rattle.scrub_report.specs.Answer.{IsPartitionOfPlanned}
 use Rattle.scrub_report.specs.Index.{IsIndex}
 use Rattle.scrub_report.specs.Locators.{AreLocatorLines}
+use Rattle.scrub_report.specs.Manifest.{IsManifest}
 use Rattle.scrub_report.specs.declared.doubts.Accepted.{Accepted}
 use Rattle.scrub_report.specs.Reclaimable.{AreReclaimLines, IsClear}
 use Rattle.scrub_report.specs.Report.{IsReport}
 use Rattle.scrub_cli.specs.declared.commands.answer.Wanted.{Wanted}
-use Rattle.scrub_cli.specs.declared.commands.answer.Wanted.TheVariants.{Report, Index, Locators, Reclaimable}
+use Rattle.scrub_cli.specs.declared.commands.answer.Wanted.TheVariants.{Report, Index, Locators, Manifest, Reclaimable}
 use Rattle.scrub_cli.specs.declared.process.fault.Fault.{Fault}
 use Rattle.scrub_cli.specs.declared.process.fault.Fault.TheVariants.{Geometry, OutOfMemory}
 use Rattle.scrub_cli.specs.declared.words.ImageWords.{ImageWords}
@@ -31,12 +33,13 @@ pub record IsStatusOfDoubts (image : Image) (accepted : Accepted) (status : ℕ)
   pub verdict : IsClear image accepted is_clear
   pub ended : status ≡ status_of_clean is_clear
 
--- the text is what is wanted of the image: its report, its index, the lines of its named locators, or those of what may
--- be reclaimed
+-- the text is what is wanted of the image: its report, its index, the lines of its named locators, its manifest, or the
+-- lines of what may be reclaimed
 abbrev pub Tells : Wanted → Image → List ℕ → Type 0
 Tells Report image text = IsReport image text
 Tells Index image text = IsIndex image text
 Tells Locators image text = AreLocatorLines image text
+Tells Manifest image text = IsManifest image text
 Tells (Reclaimable accepted) image text = AreReclaimLines image accepted text
 
 -- the status is that of the image, or for what may be reclaimed that of its doubts
@@ -44,6 +47,7 @@ abbrev pub IsStatusOf : Wanted → Image → ℕ → Type 0
 IsStatusOf Report image status = IsStatusOfImage image status
 IsStatusOf Index image status = IsStatusOfImage image status
 IsStatusOf Locators image status = IsStatusOfImage image status
+IsStatusOf Manifest image status = IsStatusOfImage image status
 IsStatusOf (Reclaimable accepted) image status = IsStatusOfDoubts image accepted status
 
 -- the text is what is wanted of an image, with its status

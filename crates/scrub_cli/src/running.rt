@@ -63,6 +63,7 @@ fn answer<'a, R: Threads + Wait + Sync, I: Images>(
         Request::Scan(words) => scan_answer(rt, alloc, &words, images, Wanted::Report),
         Request::Index(words) => scan_answer(rt, alloc, &words, images, Wanted::Index),
         Request::Locators(words) => scan_answer(rt, alloc, &words, images, Wanted::Locators),
+        Request::Manifest(words) => scan_answer(rt, alloc, &words, images, Wanted::Manifest),
         Request::Reclaimable(words) => {
             scan_answer(
                 rt,

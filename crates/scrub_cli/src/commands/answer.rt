@@ -15,8 +15,8 @@ use crate::words::command::VERSION;
 use scrub_disk::{OutOfMemory, PageSource, RawImage};
 use scrub_pool::{NoGate, Takings};
 use scrub_report::{
-    Accepted, ScrubFault, are_clean_items, list_locators, list_reclaimable, list_sizes,
-    list_superblocks, scrub,
+    Accepted, ScrubFault, are_clean_items, list_locators, list_manifest, list_reclaimable,
+    list_sizes, list_superblocks, scrub,
 };
 use scrub_scan::{Item, item_line};
 use std::alloc::Global;
@@ -52,6 +52,8 @@ pub enum Wanted {
     Index,
     /// The named locators, each with its status.
     Locators,
+    /// What the disk holds, wherever it lies.
+    Manifest,
     /// What may be reclaimed, with these kinds of doubts accepted.
     Reclaimable(Accepted),
 }
@@ -139,6 +141,10 @@ pub fn disk_answer<R: Threads + Wait + Sync, D: PageSource>(
         Wanted::Locators => {
             let (listing, takings) = list_locators(rt, alloc, disk, workers, &NoGate)?;
             Ok((Answer::new(listing.text, listing.is_clean), takings))
+        }
+        Wanted::Manifest => {
+            let (manifest, takings) = list_manifest(rt, alloc, disk, workers, &NoGate)?;
+            Ok((Answer::new(manifest.text, manifest.is_clean), takings))
         }
         Wanted::Reclaimable(accepted) => {
             let (listing, takings) = list_reclaimable(rt, alloc, disk, workers, &NoGate, accepted)?;

@@ -1,7 +1,7 @@
 -- The answer or the fault of a request is that of the arguments that ask for it.
 use Rattle.std.proofs.Common.{rules, map}
 use Rattle.scrub_cli.specs.Words.{AskFor}
-use Rattle.scrub_cli.specs.declared.words.Request.TheVariants.{Items, Scan, Index, Locators, Reclaimable, Superblocks, Sizes}
+use Rattle.scrub_cli.specs.declared.words.Request.TheVariants.{Items, Scan, Index, Locators, Manifest, Reclaimable, Superblocks, Sizes}
 use Rattle.scrub_cli.proofs.RunAnswers.{answered}
 use Rattle.scrub_cli.proofs.WordsFound.{few_workers}
 use Rattle.scrub_cli.proofs.running.answer.Goals as goal
@@ -30,6 +30,12 @@ scan_answer-requires-in-Locators g c =
     rw c.in-Locators.is at c.in_ok-read_words.ensures in
     (search rules, (search rules, few_workers asked.1.0 c.in-Locators.words.workers asked.1.2.workers))
 
+pub scan_answer-requires-in-Manifest : goal.scan_answer-requires-in-Manifest
+scan_answer-requires-in-Manifest g c =
+    let asked : AskFor (map (λ word. word.now) c.args.words.now) (Manifest c.in-Manifest.words) =
+    rw c.in-Manifest.is at c.in_ok-read_words.ensures in
+    (search rules, few_workers asked.1.0 c.in-Manifest.words.workers asked.1.2.workers)
+
 pub returns-in-Scan : goal.returns-in-Scan
 returns-in-Scan g c =
     answered (g.I.Images.known c.args.images.now) (g.I.Images.known_map c.args.images.now)
@@ -47,6 +53,12 @@ returns-in-Locators g c =
     answered (g.I.Images.known c.args.images.now) (g.I.Images.known_map c.args.images.now)
     (map (λ word. word.now) c.args.words.now) (Locators c.in-Locators.words) c.scan_answer-in-Locators.result
     (rw c.in-Locators.is at c.in_ok-read_words.ensures) c.scan_answer-in-Locators.ensures
+
+pub returns-in-Manifest : goal.returns-in-Manifest
+returns-in-Manifest g c =
+    answered (g.I.Images.known c.args.images.now) (g.I.Images.known_map c.args.images.now)
+    (map (λ word. word.now) c.args.words.now) (Manifest c.in-Manifest.words) c.scan_answer-in-Manifest.result
+    (rw c.in-Manifest.is at c.in_ok-read_words.ensures) c.scan_answer-in-Manifest.ensures
 
 pub returns-in-Superblocks : goal.returns-in-Superblocks
 returns-in-Superblocks g c =

@@ -10,6 +10,7 @@ returns c =
     let scan = c.in_ok-disk_command.ensures in
     let index = c.in_ok-disk_command-2.ensures in
     let locators = c.in_ok-disk_command-3.ensures in
+    let manifest = c.in_ok-disk_command-4.ensures in
     let reclaimable = c.in_ok-reclaimable_command.ensures in
     let superblocks = c.in_ok-superblocks_command.ensures in
     let sizes = c.in_ok-sizes_command.ensures in
@@ -24,15 +25,19 @@ returns c =
     c.in_ok-subcommand-3.ensures.shape (no_globals _ _ _ _ (ap (λ s. s.is_plain) locators))
     ∙ ap₂ with_subcommand two locators in
     let four =
-    c.in_ok-subcommand-4.ensures.shape (no_globals _ _ _ _ (ap (λ s. s.is_plain) reclaimable))
-    ∙ ap₂ with_subcommand three reclaimable in
+    c.in_ok-subcommand-4.ensures.shape (no_globals _ _ _ _ (ap (λ s. s.is_plain) manifest))
+    ∙ ap₂ with_subcommand three manifest in
     let five =
-    c.in_ok-subcommand-5.ensures.shape (no_globals _ _ _ _ (ap (λ s. s.is_plain) superblocks))
-    ∙ ap₂ with_subcommand four superblocks in
+    c.in_ok-subcommand-5.ensures.shape (no_globals _ _ _ _ (ap (λ s. s.is_plain) reclaimable))
+    ∙ ap₂ with_subcommand four reclaimable in
     let six =
-    c.in_ok-subcommand-6.ensures.shape (no_globals _ _ _ _ (ap (λ s. s.is_plain) sizes)) ∙ ap₂ with_subcommand five sizes in
+    c.in_ok-subcommand-6.ensures.shape (no_globals _ _ _ _ (ap (λ s. s.is_plain) superblocks))
+    ∙ ap₂ with_subcommand five superblocks in
     let seven =
-    c.in_ok-subcommand-7.ensures.shape (no_globals _ _ _ _ (ap (λ s. s.is_plain) items)) ∙ ap₂ with_subcommand six items in
-    IfOk-weaker c.subcommand-8.result _ _
-    (λ r added. added.shape (no_globals _ _ _ _ (ap (λ s. s.is_plain) demo)) ∙ ap₂ with_subcommand seven demo)
-    c.subcommand-8.ensures
+    c.in_ok-subcommand-7.ensures.shape (no_globals _ _ _ _ (ap (λ s. s.is_plain) sizes)) ∙ ap₂ with_subcommand six sizes in
+    let eight =
+    c.in_ok-subcommand-8.ensures.shape (no_globals _ _ _ _ (ap (λ s. s.is_plain) items))
+    ∙ ap₂ with_subcommand seven items in
+    IfOk-weaker c.subcommand-9.result _ _
+    (λ r added. added.shape (no_globals _ _ _ _ (ap (λ s. s.is_plain) demo)) ∙ ap₂ with_subcommand eight demo)
+    c.subcommand-9.ensures
