@@ -489,6 +489,7 @@ fn help_is_printed_on_the_error_stream(rt: HostRuntime) -> Result<(), Fail> {
         ("scan --help", "Prints a report of the whole disk"),
         ("index --help", "Prints the index that can be recovered"),
         ("locators --help", "Lists the named locators"),
+        ("manifest --help", "Lists what the disk holds"),
         (
             "reclaimable --help",
             "Lists the extents that may be reclaimed",

@@ -67,7 +67,7 @@ fn items_with_all_options(rt: HostRuntime) -> Result<(), Fail> {
 }
 
 #[test]
-fn scan_index_and_locators_with_their_arguments(rt: HostRuntime) -> Result<(), Fail> {
+fn scan_index_locators_and_manifest_with_their_arguments(rt: HostRuntime) -> Result<(), Fail> {
     let words = "scan --page 64 --pages 4 --extents 3 disk.img 1:3 x 2:0";
     let split: Vec<&str> = words.split_whitespace().collect(rt.alloc())?;
     let Request::Scan(scan) = read_words(rt.alloc(), &split)? else {
@@ -89,6 +89,13 @@ fn scan_index_and_locators_with_their_arguments(rt: HostRuntime) -> Result<(), F
     };
     check_image(&rt, &locators.image);
     assert!(rt; locators.workers == 0);
+    let words = "manifest --page 64 --extents 3 --pages 4 --workers 2 disk.img 1:3 x 2:0";
+    let split: Vec<&str> = words.split_whitespace().collect(rt.alloc())?;
+    let Request::Manifest(manifest) = read_words(rt.alloc(), &split)? else {
+        panic!(rt; "not manifest");
+    };
+    check_image(&rt, &manifest.image);
+    assert!(rt; manifest.workers == 2);
     Ok(())
 }
 
@@ -184,6 +191,7 @@ fn the_help_of_the_program_and_of_each_command(rt: HostRuntime) -> Result<(), Fa
             "\n  scan ",
             "\n  index ",
             "\n  locators ",
+            "\n  manifest ",
             "\n  reclaimable ",
             "\n  superblocks ",
             "\n  sizes ",
@@ -270,6 +278,19 @@ fn the_help_of_the_commands_on_a_disk(rt: HostRuntime) -> Result<(), Fail> {
             "Exit status",
             "\n  shardscrub locators --page 64 --pages 4 --extents 3 examples/one-shard.img",
             "\n  shard 00000000000000000000000000000001 1 0 3 11111111-1111-1111-1111-111111111111 sound\n",
+        ],
+    )?;
+    check_help(
+        &rt,
+        "manifest --help",
+        &[
+            "Usage: shardscrub manifest",
+            "--workers <COUNT>",
+            "[EXTENT:PAGE]...",
+            "\n  retired EXTENT\n",
+            "shard ID NUMBER LENGTH DIGEST STATUS",
+            "Exit status",
+            "\n  shardscrub manifest --page 64 --pages 4 --extents 3 examples/one-shard.img",
         ],
     )
 }

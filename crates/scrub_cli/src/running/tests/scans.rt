@@ -141,6 +141,36 @@ fn the_locators_of_a_disk_with_one_shard(rt: HostRuntime) -> Result<(), Fail> {
     Ok(())
 }
 
+/// A shard has a line for its locator, an index run has none. The digest is that of `abc`, from FIPS 180-4.
+#[test]
+fn the_manifest_of_a_disk_with_one_shard(rt: HostRuntime) -> Result<(), Fail> {
+    let (disk, _) = one_shard(rt.alloc())?;
+    for (words, wanted) in [
+        (
+            "manifest --page 64 --pages 4 --extents 3 disk.img",
+            (
+                0,
+                "shard 00000000000000000000000000000001 0 3 ba7816bf8f01cfea414140de5dae2223b00361a396177a9cb410ff61f20015ad sound\n",
+            ),
+        ),
+        (
+            "manifest --page 64 --pages 4 --extents 3 --workers 3 disk.img 1:0",
+            (
+                1,
+                "shard 00000000000000000000000000000001 0 3 ba7816bf8f01cfea414140de5dae2223b00361a396177a9cb410ff61f20015ad unreadable\n",
+            ),
+        ),
+        (
+            "manifest --page 64 --pages 4 --extents 3 disk.img 0:0",
+            (1, ""),
+        ),
+    ] {
+        let (status, lines) = wanted;
+        check(&rt, rt.alloc(), words, image(&disk), (status, lines, ""))?;
+    }
+    Ok(())
+}
+
 /// A locator that dangles is listed with its reason. What only a lost run had isn't listed.
 #[test]
 fn the_locators_of_a_disk_with_an_unreadable_page(rt: HostRuntime) -> Result<(), Fail> {
