@@ -21,4 +21,5 @@ pub mod ByPlace
 pub mod Clear
 pub mod ShardLines
 pub mod Reset
+pub mod Room
 pub mod SizesLists

@@ -4,9 +4,12 @@
 ghost use Rattle.std.specs.Prelude.{◌≡◌, ◌+◌, ◌++◌, ◌≤◌, ℕ, [], Bool, List, IfOk, OnOk, length, map, string_bytes, if◌then◌else◌};
 ghost use Rattle.std.specs.List.{flat_map};
 ghost use Rattle.scrub_disk.specs.Image.{Image};
+ghost use Rattle.scrub_frame.specs.declared.locator.Locator.{Locator};
 ghost use Rattle.scrub_super.specs.declared.pages.SuperblockPage.{SuperblockPage};
 ghost use Rattle.scrub_super.specs.Pages.{AreSuperblockPages};
 ghost use Rattle.scrub_check.specs.declared.statuses.checked.Checked.{Checked};
+ghost use Rattle.scrub_check.specs.declared.statuses.status.Status.TheVariants.{Sound};
+ghost use Rattle.scrub_check.specs.Status.{HasStatus, InRange};
 ghost use Rattle.scrub_report.specs.declared.doubts.Accepted.{Accepted};
 ghost use Rattle.scrub_report.specs.Answer.{IsPartitionOfPlanned, IsCountOfPlanned};
 ghost use Rattle.scrub_report.specs.Index.{IsIndex};
@@ -17,6 +20,7 @@ ghost use Rattle.scrub_report.specs.Parts.{IsScan};
 ghost use Rattle.scrub_report.specs.Reclaimable.{AreMoved, AreOfCandidates, AreReclaimLines, IsClear, all_candidate_lines, candidate_lines, move_line, pointing_to, reclaim_line, reclaimed};
 ghost use Rattle.scrub_report.specs.Report.{IsReport};
 ghost use Rattle.scrub_report.specs.Reset.{IsReclaimed, NameTheSame};
+ghost use Rattle.scrub_report.specs.Room.{IsPut, IsRoom};
 ghost use Rattle.scrub_report.specs.Scrubbed.{Scrubbed, IsScrubbed};
 
 use crate::answer::ScrubFault;
@@ -248,4 +252,13 @@ pub fn a_reset_loses_nothing()
         IsReclaimed accepted extents before after → AreLocatorLines before a → AreLocatorLines after b → a ≡ b }
     ensures index { (accepted : Accepted) (extents : List ℕ) (before after : Image) (a b : List ℕ) →
         IsReclaimed accepted extents before after → IsIndex before a → IsIndex after b → a ≡ b }
+{}
+
+/// A law: a chunk that is put into room is found, and each sound locator into the extent stays sound. For `before` and `after`,
+/// and the write pointers `w` and `v` of the extent.
+pub fn a_chunk_put_into_room_is_found()
+    ensures found { (before after : Image) (w v : ℕ) (l : Locator) → IsRoom before l.extent w l.offset → IsPut l before after w v →
+        InRange after.geometry l → HasStatus after v l Sound }
+    ensures kept { (before after : Image) (w v : ℕ) (l other : Locator) → IsRoom before l.extent w l.offset →
+        IsPut l before after w v → other.extent ≡ l.extent → HasStatus before w other Sound → HasStatus after v other Sound }
 {}
