@@ -21,5 +21,6 @@ pub mod ByPlace
 pub mod Clear
 pub mod ShardLines
 pub mod Reset
-pub mod Room
+pub mod NextPlaces
+pub mod RoomLines
 pub mod SizesLists

@@ -21,4 +21,5 @@ pub mod Values
 pub mod Kept
 pub mod Moves
 pub mod PageRanges
+pub mod RoomSteps
 pub mod SizesSteps

@@ -15,6 +15,7 @@ use Rattle.scrub_report.specs.declared.doubts.Doubt.TheVariants.{NoSuperblock, T
 use Rattle.scrub_report.specs.Doubts.{are_accepted, doubts, is_accepted}
 use Rattle.scrub_report.specs.Locators.{place_text}
 use Rattle.scrub_report.specs.Report.{report_text}
+use Rattle.scrub_report.specs.Room.{room_lines}
 use Rattle.scrub_report.specs.Scrubbed.{Scrubbed, IsScrubbed}
 use Rattle.scrub_report.specs.Texts.{owner_text, state_text}
 
@@ -87,12 +88,17 @@ is_clear accepted pages found = are_accepted accepted (doubts pages found)
 abbrev pub reclaimed : Accepted → List SuperblockPage → Scrubbed → List CandidateValue
 reclaimed accepted pages found = if is_clear accepted pages found then found.candidates else []
 
--- the lines of the doubts, and then those of the extents to reclaim
+-- the lines of the extents with room, if each doubt is of an accepted kind, or else nothing
+abbrev pub rooms_if : Bool → Scrubbed → List ℕ
+rooms_if clear found = if clear then room_lines found.plan.geometry found.all found.checked found.candidates else []
+
+-- the lines of the doubts, then those of the extents to reclaim, and then those of the extents with room
 abbrev pub reclaim_text : Accepted → List SuperblockPage → Scrubbed → List ℕ
 reclaim_text accepted pages found =
     doubt_lines accepted (doubts pages found) ++ all_candidate_lines found.checked (reclaimed accepted pages found)
+    ++ rooms_if (is_clear accepted pages found) found
 
--- the text is the lines of the doubts and then of the extents to reclaim, of what is found in an image
+-- the text is the lines of the doubts, of the extents to reclaim and of those with room, of what is found in an image
 pub record AreReclaimLines (image : Image) (accepted : Accepted) (text : List ℕ) : Type 0 where
   pub found : Scrubbed
   pub scrubbed : IsScrubbed image found
@@ -111,7 +117,7 @@ pub record IsClear (image : Image) (accepted : Accepted) (clear : Bool) : Type 0
 -- ---- what follows
 
 -- the extents to reclaim are the candidates of a report of the same image, all of them in its order if it is clear, or
--- else none
+-- else none; the lines of the extents with room follow
 pub record AreOfCandidates (image : Image) (accepted : Accepted) (report text : List ℕ) (clear : Bool) : Type 0 where
   pub found : Scrubbed
   pub scrubbed : IsScrubbed image found
@@ -119,7 +125,7 @@ pub record AreOfCandidates (image : Image) (accepted : Accepted) (report text : 
   pub held : AreSuperblockPages image pages
   pub report_is : report ≡ report_text found
   pub text_is :
-      text ≡ doubt_lines accepted (doubts pages found) ++ all_candidate_lines found.checked (if clear then found.candidates else [])
+      text ≡ doubt_lines accepted (doubts pages found) ++ all_candidate_lines found.checked (if clear then found.candidates else []) ++ rooms_if clear found
 
 -- a named locator is sound, points to a chunk that a candidate keeps, and has a line among its moves
 pub record IsMoved (checked : List Checked) (a : CandidateValue) (c : Checked) : Type 0 where

@@ -1,17 +1,23 @@
 -- Where the next frame can be put in an extent, and that it is found there.
-use Rattle.std.specs.Prelude.{◌≡◌, ◌<◌, ◌+◌, ◌*◌, ◌/◌, ◌%◌, ◌==◌, ◌||◌, ℕ, Bool, true, false, List, [], ◌∷◌, if◌then◌else◌}
+use Rattle.std.specs.Prelude.{◌≡◌, ◌<◌, ◌+◌, ◌-◌, ◌*◌, ◌/◌, ◌%◌, ◌==◌, ◌&&◌, ◌||◌, ◌++◌, ℕ, Bool, true, false, not, nat_lt, List, [], ◌∷◌, codes, if◌then◌else◌}
 use Rattle.std.specs.Prelude.{length as len}
-use Rattle.std.specs.List.{list_all}
+use Rattle.std.specs.Fmt.{decimal}
+use Rattle.std.specs.List.{flat_map, list_all, list_any}
 use Rattle.sha2.specs.Sha256.{sha256}
-use Rattle.scrub_disk.specs.Image.{Image, byte}
+use Rattle.scrub_disk.specs.declared.geometry.Geometry.{Geometry}
+use Rattle.scrub_disk.specs.Image.{Image, byte, extent_bytes}
 use Rattle.scrub_frame.specs.declared.form.Form.{Form}
 use Rattle.scrub_frame.specs.declared.locator.Locator.{Locator}
-use Rattle.scrub_frame.specs.Frame.{frame_overhead}
+use Rattle.scrub_frame.specs.Frame.{frame_overhead, least_overhead}
 use Rattle.scrub_scan.specs.declared.item.Item.{Item}
 use Rattle.scrub_scan.specs.Extent.{extent_of, FrameAt}
+use Rattle.scrub_scan.specs.Line.{spaced}
+use Rattle.scrub_scan.specs.Scanned.{Scanned}
 use Rattle.scrub_scan.specs.Tiling.{IsTiling}
+use Rattle.scrub_check.specs.declared.statuses.checked.Checked.{Checked}
+use Rattle.scrub_check.specs.Candidates.{CandidateValue, has_sound_alone}
 use Rattle.scrub_check.specs.Live.{is_chunk}
-use Rattle.scrub_report.specs.Scrubbed.{is_clean_item}
+use Rattle.scrub_report.specs.Scrubbed.{is_clean_extent, is_clean_item}
 
 -- the last of some items is a chunk, of either form
 abbrev pub ends_in_chunk : List Item → Bool
@@ -23,6 +29,41 @@ ends_in_chunk (item ∷ next ∷ items) = ends_in_chunk (next ∷ items)
 -- page bound or directly behind a chunk, or else the next page bound
 abbrev pub next_place : ℕ → ℕ → List Item → ℕ
 next_place page w items = if (w % page == 0) || ends_in_chunk items then w else (w / page + 1) * page
+
+-- ---- the lines
+
+-- a chunk can be put into a scanned extent: each page can be read, each item is a chunk or zeros, each named locator with its
+-- number is sound, and it isn't one of these candidates
+abbrev pub may_grow : List Checked → List CandidateValue → Scanned → Bool
+may_grow checked candidates f =
+    is_clean_extent f && has_sound_alone checked f && not (list_any (λ a. a.extent == f.extent) candidates)
+
+-- the place for the next frame in a scanned extent
+abbrev pub place_in : Geometry → Scanned → ℕ
+place_in g f = next_place g.page f.pointer f.findings.items
+
+-- how many bytes there are from that place to the end of the extent
+abbrev pub room_in : Geometry → Scanned → ℕ
+room_in g f = extent_bytes g - place_in g f
+
+-- the line of an extent with room: `room EXTENT OFFSET BYTES` and a line feed
+abbrev pub room_line : ℕ → ℕ → ℕ → List ℕ
+room_line extent place bytes =
+    codes "room" ++ spaced (decimal extent) ++ spaced (decimal place) ++ spaced (decimal bytes) ++ 10 ∷ []
+
+-- the line of a scanned extent in which a frame of no payload fits, or else nothing
+abbrev pub room_text : Geometry → Scanned → List ℕ
+room_text g f = if nat_lt (room_in g f) least_overhead then [] else room_line f.extent (place_in g f) (room_in g f)
+
+-- the line of a scanned extent, if a chunk can be put into it, or else nothing
+abbrev pub room_if : Geometry → List Checked → List CandidateValue → Scanned → List ℕ
+room_if g checked candidates f = if may_grow checked candidates f then room_text g f else []
+
+-- the lines of all scanned extents with room, rising
+abbrev pub room_lines : Geometry → List Scanned → List Checked → List CandidateValue → List ℕ
+room_lines g all checked candidates = flat_map (room_if g checked candidates) all
+
+-- ---- a chunk that is put there
 
 -- in extent e under the pointer w each item is a chunk or zeros, and this is the place for the next frame
 pub record IsRoom (image : Image) (e w place : ℕ) : Type 0 where

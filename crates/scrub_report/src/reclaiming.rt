@@ -1,7 +1,7 @@
 //! What can be reclaimed of a disk, as lines: the doubts, and if all are accepted the extents, each with the chunks to move
 //! first.
 
-ghost use Rattle.std.specs.Prelude.{◌≡◌, ◌+◌, ◌++◌, ◌≤◌, ℕ, [], Bool, List, IfOk, OnOk, length, map, string_bytes, if◌then◌else◌};
+ghost use Rattle.std.specs.Prelude.{◌≡◌, ◌+◌, ◌++◌, ◌≤◌, ℕ, [], All, Bool, true, List, IfOk, OnOk, length, map, string_bytes, if◌then◌else◌};
 ghost use Rattle.std.specs.List.{flat_map};
 ghost use Rattle.scrub_disk.specs.Image.{Image};
 ghost use Rattle.scrub_frame.specs.declared.locator.Locator.{Locator};
@@ -20,7 +20,7 @@ ghost use Rattle.scrub_report.specs.Parts.{IsScan};
 ghost use Rattle.scrub_report.specs.Reclaimable.{AreMoved, AreOfCandidates, AreReclaimLines, IsClear, all_candidate_lines, candidate_lines, move_line, pointing_to, reclaim_line, reclaimed};
 ghost use Rattle.scrub_report.specs.Report.{IsReport};
 ghost use Rattle.scrub_report.specs.Reset.{IsReclaimed, NameTheSame};
-ghost use Rattle.scrub_report.specs.Room.{IsPut, IsRoom};
+ghost use Rattle.scrub_report.specs.Room.{IsPut, IsRoom, may_grow, place_in};
 ghost use Rattle.scrub_report.specs.Scrubbed.{Scrubbed, IsScrubbed};
 
 use crate::answer::ScrubFault;
@@ -28,6 +28,7 @@ use crate::doubting::doubts_of;
 use crate::doubts::{Accepted, are_accepted, doubt_lines};
 use crate::listing::place_text;
 use crate::moves::{by_place, pointing_to};
+use crate::room::append_rooms;
 use crate::scanning::{Scan, scan_chosen};
 use crate::scrubbing::parts_of;
 use crate::texts::owner_text;
@@ -45,8 +46,10 @@ use std::thread::Threads;
 pub struct ReclaimListing {
     /// A line for each doubt, by kind. It begins with `accepted` if its kind was accepted, or else with `doubt`. If no line
     /// begins with `doubt`, then `reclaim EXTENT FREE` for each candidate of the report, in its order, and behind each of them
-    /// `move EXTENT OFFSET LENGTH UUID OWNER` for each named locator into it, by the chunk that it points to. The numbers are
-    /// in decimal; free, offset and length are in bytes. The UUID is as RFC 9562 writes it, in lower case.
+    /// `move EXTENT OFFSET LENGTH UUID OWNER` for each named locator into it, by the chunk that it points to. At the end
+    /// `room EXTENT OFFSET BYTES` for each extent that a chunk can be put into, with the place for it and the bytes from there
+    /// on. The numbers are in decimal; free, offset, length and bytes are in bytes. The UUID is as RFC 9562 writes it, in
+    /// lower case.
     pub text: Vec<u8>,
     /// Whether no line begins with `doubt`.
     pub is_clear: bool,
@@ -192,6 +195,15 @@ fn listing_of<R: Threads + Sync, D: PageSource>(
     let mut text = doubt_lines(alloc, accepted, &doubts)?;
     let candidates = &parts.liveness.candidates;
     append_reclaimed(alloc, &mut text, is_clear, &parts.checked, candidates)?;
+    append_rooms(
+        alloc,
+        &mut text,
+        is_clear,
+        parts.plan.geometry(),
+        &parts.all,
+        &parts.checked,
+        candidates,
+    )?;
     Ok(ReclaimListing { text, is_clear })
 }
 
@@ -254,8 +266,15 @@ pub fn a_reset_loses_nothing()
         IsReclaimed accepted extents before after → IsIndex before a → IsIndex after b → a ≡ b }
 {}
 
-/// A law: a chunk that is put into room is found, and each sound locator into the extent stays sound. For `before` and `after`,
-/// and the write pointers `w` and `v` of the extent.
+/// A law: an extent that a chunk can be put into has room at the place of its line.
+pub fn a_line_shows_room()
+    ensures { (image : Image) (found : Scrubbed) → IsScrubbed image found →
+        All (λ f. may_grow found.checked found.candidates f ≡ true →
+        IsRoom image f.extent f.pointer (place_in found.plan.geometry f)) found.all }
+{}
+
+/// A law: a chunk that is put into room is found, and each sound locator into the extent stays sound. `w` and `v` are the
+/// write pointers of the extent before and after.
 pub fn a_chunk_put_into_room_is_found()
     ensures found { (before after : Image) (w v : ℕ) (l : Locator) → IsRoom before l.extent w l.offset → IsPut l before after w v →
         InRange after.geometry l → HasStatus after v l Sound }

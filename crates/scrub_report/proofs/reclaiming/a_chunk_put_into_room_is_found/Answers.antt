@@ -1,5 +1,5 @@
 -- The frame is an item of the new tiling, and so is each that was one.
-use Rattle.scrub_report.proofs.Room.{found_there, sound_still}
+use Rattle.scrub_report.proofs.NextPlaces.{found_there, sound_still}
 use Rattle.scrub_report.proofs.reclaiming.a_chunk_put_into_room_is_found.Goals as goal
 
 pub returns-clause-found : goal.returns-clause-found

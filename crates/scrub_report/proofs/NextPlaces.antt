@@ -10,7 +10,7 @@ use Rattle.std.proofs.lemmas.Nat.{div-add-mod'}
 use Rattle.std.proofs.lemmas.Option.{none-some}
 use Rattle.sha2.specs.Sha256.{sha256}
 use Rattle.scrub_disk.specs.declared.geometry.Geometry.{Geometry}
-use Rattle.scrub_disk.specs.Image.{Image, byte, AreBytesAt}
+use Rattle.scrub_disk.specs.Image.{Image, byte}
 use Rattle.scrub_frame.specs.declared.locator.Locator.{Locator}
 use Rattle.scrub_frame.specs.declared.form.Form.{Form}
 use Rattle.scrub_frame.specs.declared.form.Form.TheVariants.{Plain, Sealed}
@@ -19,8 +19,8 @@ use Rattle.scrub_frame.proofs.Frames.{length-frame}
 use Rattle.scrub_merge.proofs.Elements.{Contains-behind, Contains-cases}
 use Rattle.scrub_scan.specs.declared.item.Item.{Item}
 use Rattle.scrub_scan.specs.declared.item.Item.TheVariants.{Chunk, Pad, Torn, Noise, Lost}
-use Rattle.scrub_scan.specs.Extent.{Extent, extent_of, FrameAt, NoFrameAt, HasMagic, IsUnreadableAt, IsZero, bound}
-use Rattle.scrub_scan.specs.Item.{start_of, stop_of, IsItem, IsChunk, Fits}
+use Rattle.scrub_scan.specs.Extent.{Extent, extent_of, FrameAt, NoFrameAt, HasMagic, IsUnreadableAt, bound}
+use Rattle.scrub_scan.specs.Item.{start_of, stop_of, IsItem, IsChunk}
 use Rattle.scrub_scan.specs.Tiling.{Joins, IsTiling}
 use Rattle.scrub_scan.proofs.Tilings.{advances, one_tiling}
 use Rattle.scrub_check.specs.declared.statuses.status.Status.TheVariants.{Sound}

@@ -1,0 +1,207 @@
+//! Where a chunk can be put: the room of each extent that isn't named for reclaiming, as lines. `reclaiming` writes them behind
+//! the candidates.
+
+ghost use Rattle.std.specs.Prelude.{◌≡◌, ◌<◌, ◌++◌, ◌==◌, [], List, IfOk, OnOk, map, not, if◌then◌else◌};
+ghost use Rattle.std.specs.Ordering.{nat_cmp};
+ghost use Rattle.std.specs.List.{filter, list_any};
+ghost use Rattle.std.specs.List.Sorted.{IsPermutation, IsSorted};
+ghost use Rattle.scrub_scan.specs.Scanned.{scanned};
+ghost use Rattle.scrub_check.specs.declared.statuses.checked.Checked.{Checked};
+ghost use Rattle.scrub_check.specs.Candidates.{CandidateValue};
+ghost use Rattle.scrub_check.specs.Checked.{is_sound};
+ghost use Rattle.scrub_check.specs.Live.{is_chunk};
+ghost use Rattle.scrub_report.specs.Room.{ends_in_chunk, next_place, room_if, room_line, room_lines, room_text};
+ghost use Rattle.scrub_report.specs.RoomSteps.{AreBarred, AreSorted, may_grow_by};
+
+use crate::clean::is_clean_extent;
+use scrub_check::{Candidate, Checked};
+use scrub_disk::{Geometry, OutOfMemory, PageSource};
+use scrub_frame::Form;
+use scrub_scan::{AllFindings, ExtentResult, Item};
+use std::alloc::Global;
+
+/// The extents that no chunk is put into, by number: those into which an unsound locator points, and the candidates.
+#[derive(Drop)]
+pub(crate) struct Barred {
+    unsound: Vec<u32>,
+    candidates: Vec<u32>,
+}
+
+/// The extents of the locators that aren't sound, in the order of the locators.
+fn unsound_extents(alloc: Global, checked: &[Checked]) -> Result<Vec<u32>, OutOfMemory>
+    ensures { IfOk result (λ v. v.items ≡ map (λ c. c.locator.extent) (filter (λ c. not (is_sound c.status)) checked.now)) }
+{
+    checked
+        .iter()
+        .filter(|one| !one.status.is_sound())
+        .map(|one| one.locator.extent)
+        .collect(alloc)
+}
+
+/// The extents of candidates, in their order.
+fn candidate_extents(alloc: Global, candidates: &[Candidate]) -> Result<Vec<u32>, OutOfMemory>
+    ensures { IfOk result (λ v. v.items ≡ map (λ a. a.extent) candidates.now) }
+{
+    candidates.iter().map(|one| one.extent()).collect(alloc)
+}
+
+/// Numbers in order.
+fn sorted(mut numbers: Vec<u32>) -> Result<Vec<u32>, OutOfMemory>
+    ensures sorted { IfOk result (λ v. IsSorted nat_cmp v.items) }
+    ensures same { IfOk result (λ v. IsPermutation numbers.items v.items) }
+{
+    numbers.sort()?;
+    Ok(numbers)
+}
+
+/// Whether a number is among sorted ones.
+fn has_number(numbers: &[u32], number: u32) -> bool
+    requires { IsSorted nat_cmp numbers.now }
+    ensures { result ≡ list_any (λ n. n == number) numbers.now }
+{
+    numbers.binary_search(&number).is_ok()
+}
+
+/// The extents that no chunk is put into.
+fn barred_by(
+    alloc: Global,
+    checked: &[Checked],
+    candidates: &[Candidate],
+) -> Result<Barred, OutOfMemory>
+    ensures sorted { IfOk result AreSorted }
+    ensures barred { IfOk result (AreBarred checked.now candidates.now) }
+{
+    let unsound = sorted(unsound_extents(alloc, checked)?)?;
+    let candidates = sorted(candidate_extents(alloc, candidates)?)?;
+    Ok(Barred {
+        unsound,
+        candidates,
+    })
+}
+
+/// Whether a chunk can be put into an extent.
+fn may_grow<D: PageSource>(barred: &Barred, found: &ExtentResult<'_, D>) -> bool
+    requires { AreSorted barred.now }
+    ensures { result ≡ may_grow_by barred.now (scanned found.now) }
+{
+    is_clean_extent(found)
+        && !has_number(&barred.unsound, found.extent())
+        && !has_number(&barred.candidates, found.extent())
+}
+
+/// Whether an item is a chunk.
+fn is_chunk(item: &Item) -> bool
+    ensures { result ≡ is_chunk item.now }
+{
+    matches!(item, Item::Chunk { .. })
+}
+
+/// Whether the last of some items is a chunk.
+fn ends_in_chunk(items: &[Item]) -> bool
+    ensures { result ≡ ends_in_chunk items.now }
+{
+    match items.last() {
+        Some(item) => is_chunk(item),
+        None => false,
+    }
+}
+
+/// The place for the next frame, by the bytes of a page, the write pointer and the items below it.
+fn next_place(page: u32, pointer: u32, items: &[Item]) -> u64
+    requires { 0 < page }
+    ensures { result ≡ next_place page pointer items.now }
+{
+    let (page, pointer) = (page as u64, pointer as u64);
+    if pointer % page == 0 || ends_in_chunk(items) {
+        return pointer;
+    }
+    (pointer / page + 1) * page
+}
+
+/// Appends the line of an extent with room.
+fn append_line(
+    alloc: Global,
+    text: &mut Vec<u8>,
+    extent: u32,
+    place: u64,
+    bytes: u64,
+) -> Result<(), OutOfMemory>
+    ensures { OnOk result (text.new.items ≡ text.old.items ++ room_line extent place bytes) }
+{
+    let line = format!(in alloc; "room {extent} {place} {bytes}\n")?;
+    text.extend_from_slice(line.as_bytes())?;
+    Ok(())
+}
+
+/// Appends the line of an extent that a chunk can be put into, if a frame of no payload fits.
+fn append_room<D: PageSource>(
+    alloc: Global,
+    text: &mut Vec<u8>,
+    geometry: Geometry,
+    found: &ExtentResult<'_, D>,
+) -> Result<(), OutOfMemory>
+    ensures { OnOk result (text.new.items ≡ text.old.items ++ room_text geometry (scanned found.now)) }
+{
+    let place = next_place(geometry.page, found.pointer(), found.findings().items());
+    let bytes = (geometry.extent_bytes() as u64).saturating_sub(place);
+    if bytes < Form::Plain.overhead() as u64 {
+        return Ok(());
+    }
+    append_line(alloc, text, found.extent(), place, bytes)
+}
+
+/// Appends the line of an extent, if a chunk can be put into it.
+fn append_room_if<D: PageSource>(
+    alloc: Global,
+    text: &mut Vec<u8>,
+    geometry: Geometry,
+    barred: &Barred,
+    found: &ExtentResult<'_, D>,
+) -> Result<(), OutOfMemory>
+    requires { AreSorted barred.now }
+    ensures { (checked : List Checked) (candidates : List CandidateValue) → AreBarred checked candidates barred.now →
+        OnOk result (text.new.items ≡ text.old.items ++ room_if geometry checked candidates (scanned found.now)) }
+{
+    if !may_grow(barred, found) {
+        return Ok(());
+    }
+    append_room(alloc, text, geometry, found)
+}
+
+/// Appends the lines of the extents with room, rising.
+fn append_all_rooms<D: PageSource>(
+    alloc: Global,
+    text: &mut Vec<u8>,
+    geometry: Geometry,
+    barred: &Barred,
+    all: &AllFindings<'_, D>,
+) -> Result<(), OutOfMemory>
+    requires { AreSorted barred.now }
+    ensures { (checked : List Checked) (candidates : List CandidateValue) → AreBarred checked candidates barred.now →
+        OnOk result (text.new.items ≡ text.old.items ++ room_lines geometry all.now.extents checked candidates) }
+{
+    for i in 0..all.len() {
+        append_room_if(alloc, text, geometry, barred, all.result_at(i))?;
+    }
+    Ok(())
+}
+
+/// Appends the lines of the extents with room: of all of them if `is_clear`, or else of none.
+pub(crate) fn append_rooms<D: PageSource>(
+    alloc: Global,
+    text: &mut Vec<u8>,
+    is_clear: bool,
+    geometry: Geometry,
+    all: &AllFindings<'_, D>,
+    checked: &[Checked],
+    candidates: &[Candidate],
+) -> Result<(), OutOfMemory>
+    ensures { OnOk result (text.new.items ≡
+        text.old.items ++ (if is_clear then room_lines geometry all.now.extents checked.now candidates.now else [])) }
+{
+    if !is_clear {
+        return Ok(());
+    }
+    let barred = barred_by(alloc, checked, candidates)?;
+    append_all_rooms(alloc, text, geometry, &barred, all)
+}
