@@ -168,7 +168,7 @@ countable image s x =
     )
 
 -- each binding is an entry
-entries_are : (image : Image) (s : Scrubbed) → IsScrubbed image s → All (λ b. IsEntry (indexed b)) s.bindings
+pub entries_are : (image : Image) (s : Scrubbed) → IsScrubbed image s → All (λ b. IsEntry (indexed b)) s.bindings
 entries_are image s x k d hk = entry (get_or s.bindings k d) (x.bindings.newest k d hk)
   where
     entry : (b : BindingValue) → IsNewestBinding s.read.runs b → IsEntry (indexed b)

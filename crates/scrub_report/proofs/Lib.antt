@@ -23,4 +23,5 @@ pub mod ShardLines
 pub mod Reset
 pub mod NextPlaces
 pub mod RoomLines
+pub mod ManifestTexts
 pub mod SizesLists

@@ -325,7 +325,7 @@ module _ (x y : Extent) (f : Form) (u b : List ℕ) (o : ℕ) (pos : 0 < x.page)
 -- ---- on a disk
 
 -- a test of all elements
-all_pass : {X : Type 0} (p : X → Bool) (xs : List X) → list_all p xs ≡ true → All (λ x. p x ≡ true) xs
+pub all_pass : {X : Type 0} (p : X → Bool) (xs : List X) → list_all p xs ≡ true → All (λ x. p x ≡ true) xs
 all_pass p [] passes = All-nil (λ x. p x ≡ true)
 all_pass p (x ∷ xs) passes =
     All-cons (λ v. p v ≡ true) x xs (first (p x) (list_all p xs) passes)

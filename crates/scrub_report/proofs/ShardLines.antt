@@ -21,7 +21,7 @@ use Rattle.scrub_check.specs.declared.named.Owner.TheVariants.{Run, Shard}
 use Rattle.scrub_check.specs.declared.statuses.checked.Checked.{Checked}
 use Rattle.scrub_check.specs.Checked.{is_owned_by, named_of}
 use Rattle.scrub_check.specs.Named.{named, named_by_runs, named_by_shard}
-use Rattle.scrub_report.specs.Manifest.{manifest_text, numbered_line, numbered_lines, retired_line, shard_lines}
+use Rattle.scrub_report.specs.Manifest.{is_of_shard, manifest_text, numbered_line, numbered_lines, retired_line, shard_lines}
 use Rattle.scrub_report.specs.Scrubbed.{Scrubbed, IsScrubbed}
 use Rattle.scrub_report.proofs.FlatLists.{flat_all, flat_more}
 
@@ -56,23 +56,23 @@ not_below a b below =
     sym (is_eq-slice_cmp b.0 a.0) ∙ ap is_eq (id_cmp_total.antisymm b a ∙ ap ordering_reverse below)
 
 -- what holds of what is made of each element holds of the elements
-unmapped : {X Y : Type 0} (P : Y → Type 0) (f : X → Y) (xs : List X) → All P (map f xs) → All (λ (x : X). P (f x)) xs
+pub unmapped : {X Y : Type 0} (P : Y → Type 0) (f : X → Y) (xs : List X) → All P (map f xs) → All (λ (x : X). P (f x)) xs
 unmapped P f [] all = λ i d below. absurd (omega (arith, below))
 unmapped {X} P f (x ∷ xs) all =
     All-cons (λ (y : X). P (f y)) x xs (All-head P (f x) (map f xs) all)
     (unmapped P f xs (All-tail P (f x) (map f xs) all))
 
 -- what holds of the owner of some names holds of the owners of the locators with these names
-abbrev Owners : (Owner → Type 0) → List Checked → Type 0
+abbrev pub Owners : (Owner → Type 0) → List Checked → Type 0
 Owners K cs = All (λ (c : Checked). K c.owner) cs
 
-of_names : (K : Owner → Type 0) (cs : List Checked) (ns : List Named) → map named_of cs ≡ ns →
+pub of_names : (K : Owner → Type 0) (cs : List Checked) (ns : List Named) → map named_of cs ≡ ns →
     All (λ (n : Named). K n.owner) ns → Owners K cs
 of_names K cs ns same all =
     unmapped (λ (n : Named). K n.owner) named_of cs
     (subst (λ (names : List Named). All (λ (n : Named). K n.owner) names) (sym same) all)
 
-of_shard : (K : Owner → Type 0) (b : BindingValue) → K (Shard b.id) → All (λ (n : Named). K n.owner) (named_by_shard b)
+pub of_shard : (K : Owner → Type 0) (b : BindingValue) → K (Shard b.id) → All (λ (n : Named). K n.owner) (named_by_shard b)
 of_shard K b k =
     All-map (λ (n : Named). K n.owner) (λ (l : Locator). record { owner = Shard b.id; locator = l }) b.locators
     (λ i d below. k)
@@ -103,7 +103,7 @@ lines_along (b ∷ bs) cs = numbered_lines (take (length b.locators) cs) ++ line
 abbrev pub AreAlong : List BindingValue → List Checked → Type 0
 AreAlong bs cs = map named_of cs ≡ flat_map named_by_shard bs
 
-abbrev Rising : List BindingValue → Type 0
+abbrev pub Rising : List BindingValue → Type 0
 Rising bs = AllPairs (λ b c. IsBelow b.id c.id) bs
 
 length_named : (b : BindingValue) → length (named_by_shard b) ≡ length b.locators
@@ -241,9 +241,29 @@ module _ (runs : List Locator) (bs : List BindingValue) (checked : List Checked)
       (λ k d below. of_names (λ o. is_owned_by (get_or bs k d).id o ≡ false) (take n checked) (named_by_runs 0 runs) (named_front (named_by_runs 0 runs) (flat_map named_by_shard bs) checked n (length_runs 0 runs) same) (of_runs (λ o. is_owned_by (get_or bs k d).id o ≡ false) (λ r. refl) 0 runs))
       ∙ ap (λ (us : List Checked). flat_map (λ b. shard_lines us b.id) bs) (take-append-drop n checked)
 
+-- the locators of shards, among all
+of_shard_owner : (K : Owner → Type 0) → ((id : ShardId) → K (Shard id)) → (bs : List BindingValue) →
+    All (λ (n : Named). K n.owner) (flat_map named_by_shard bs)
+of_shard_owner K shard bs = of_shards K bs (λ k d below. shard (get_or bs k d).id)
+
+pub shards_part : (runs : List Locator) (bs : List BindingValue) (checked : List Checked) → map named_of checked ≡ named runs bs →
+    filter (λ c. is_of_shard c.owner) checked ≡ drop (length runs) checked
+shards_part runs bs checked same =
+    ap (filter p) (sym (take-append-drop n checked))
+    ∙ filter-append p (take n checked) (drop n checked)
+    ∙ ap (λ (us : List Checked). us ++ filter p (drop n checked))
+    (filter_none p (take n checked) (of_names (λ o. is_of_shard o ≡ false) (take n checked) (named_by_runs 0 runs) (named_front (named_by_runs 0 runs) (flat_map named_by_shard bs) checked n (length_runs 0 runs) same) (of_runs (λ o. is_of_shard o ≡ false) (λ k. refl) 0 runs)))
+    ∙ filter_all p (drop n checked) (of_names (λ o. is_of_shard o ≡ true) (drop n checked) (flat_map named_by_shard bs) (along_runs runs bs checked same) (of_shard_owner (λ o. is_of_shard o ≡ true) (λ id. refl) bs))
+  where
+    p : Checked → Bool
+    p c = is_of_shard c.owner
+
+    n : ℕ
+    n = length runs
+
 -- ---- what the code has written
 
-abbrev line_of : ℕ × Checked → List ℕ
+abbrev pub line_of : ℕ × Checked → List ℕ
 line_of p = numbered_line p.0 p.1
 
 -- one more locator of a shard

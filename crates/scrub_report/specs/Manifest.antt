@@ -1,12 +1,15 @@
 -- The manifest of a disk: its retired extents, and what the locators of each shard name, wherever that lies.
-use Rattle.std.specs.Prelude.{◌≡◌, ◌++◌, ◌∷◌, [], ℕ, List, codes}
+use Rattle.std.specs.Prelude.{◌≡◌, ◌++◌, ◌∷◌, [], ℕ, Bool, true, false, List, codes, map}
 use Rattle.std.specs.Fmt.{decimal}
 use Rattle.std.specs.List.{enumerate_from, filter, flat_map}
 use Rattle.hex.specs.Hex.{encode_lower}
 use Rattle.scrub_disk.specs.Image.{Image}
 use Rattle.scrub_run.specs.declared.shard_id.ShardId.{ShardId}
 use Rattle.scrub_scan.specs.Line.{spaced}
+use Rattle.scrub_check.specs.declared.named.Owner.{Owner}
+use Rattle.scrub_check.specs.declared.named.Owner.TheVariants.{Run, Shard}
 use Rattle.scrub_check.specs.declared.statuses.checked.Checked.{Checked}
+use Rattle.scrub_check.specs.declared.statuses.status.Status.{Status}
 use Rattle.scrub_check.specs.Checked.{is_owned_by}
 use Rattle.scrub_report.specs.Scrubbed.{Scrubbed, IsScrubbed}
 use Rattle.scrub_report.specs.Texts.{owner_text, status_text}
@@ -37,3 +40,30 @@ pub record IsManifest (image : Image) (text : List ℕ) : Type 0 where
   pub found : Scrubbed
   pub scrubbed : IsScrubbed image found
   pub text_is : text ≡ manifest_text found
+
+-- ---- what a manifest says
+
+-- what a manifest says of a shard's locator: the texts of owner and digest, the length and the status
+pub record HeldValue : Type 0 where
+  pub owner : List ℕ
+  pub length : ℕ
+  pub digest : List ℕ
+  pub status : Status
+
+-- what a manifest says of a locator
+abbrev pub held : Checked → HeldValue
+held c = record { owner = owner_text c.owner; length = c.locator.length; digest = encode_lower c.locator.digest; status = c.status }
+
+-- a shard names the locator
+abbrev pub is_of_shard : Owner → Bool
+is_of_shard (Shard id) = true
+is_of_shard (Run number) = false
+
+-- what a manifest says of the shards' locators among the named ones, in their order
+abbrev pub all_held : List Checked → List HeldValue
+all_held checked = map held (filter (λ c. is_of_shard c.owner) checked)
+
+-- the same is held on two disks: they have the same retired extents, and the same is said of the shards' locators
+pub record HoldTheSame (s t : Scrubbed) : Type 0 where
+  pub retired : s.plan.retired ≡ t.plan.retired
+  pub shards : all_held s.checked ≡ all_held t.checked
