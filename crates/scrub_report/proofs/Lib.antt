@@ -24,4 +24,5 @@ pub mod Reset
 pub mod NextPlaces
 pub mod RoomLines
 pub mod ManifestTexts
+pub mod ManifestBytes
 pub mod SizesLists

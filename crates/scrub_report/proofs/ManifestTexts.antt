@@ -58,7 +58,7 @@ cut c (a ∷ u) (b ∷ v) x y hu hv e =
     (ap₂ (λ (h : ℕ) (t : List ℕ). h ∷ t) (heads a b (u ++ c ∷ x) (v ++ c ∷ y) e) rest.0, rest.1)
 
 -- the same front can be taken away
-same_behind : (u x y : List ℕ) → u ++ x ≡ u ++ y → x ≡ y
+pub same_behind : (u x y : List ℕ) → u ++ x ≡ u ++ y → x ≡ y
 same_behind [] x y e = e
 same_behind (a ∷ u) x y e = same_behind u x y (tails a a (u ++ x) (u ++ y) e)
 

@@ -1,9 +1,9 @@
 -- The manifest of a disk: its retired extents, and what the locators of each shard name, wherever that lies.
-use Rattle.std.specs.Prelude.{◌≡◌, ◌++◌, ◌∷◌, [], ℕ, Bool, true, false, List, codes, map}
+use Rattle.std.specs.Prelude.{◌≡◌, ◌<◌, ◌++◌, ◌∷◌, [], ℕ, Bool, true, false, List, Some, codes, map}
 use Rattle.std.specs.Fmt.{decimal}
 use Rattle.std.specs.List.{enumerate_from, filter, flat_map}
 use Rattle.hex.specs.Hex.{encode_lower}
-use Rattle.scrub_disk.specs.Image.{Image}
+use Rattle.scrub_disk.specs.Image.{Image, byte}
 use Rattle.scrub_run.specs.declared.shard_id.ShardId.{ShardId}
 use Rattle.scrub_scan.specs.Line.{spaced}
 use Rattle.scrub_check.specs.declared.named.Owner.{Owner}
@@ -67,3 +67,22 @@ all_held checked = map held (filter (λ c. is_of_shard c.owner) checked)
 pub record HoldTheSame (s t : Scrubbed) : Type 0 where
   pub retired : s.plan.retired ≡ t.plan.retired
   pub shards : all_held s.checked ≡ all_held t.checked
+
+-- each byte of the image that can be read is below 256
+abbrev pub HoldsBytes : Image → Type 0
+HoldsBytes image = (e p b : ℕ) → byte image e p ≡ Some b → b < 256
+
+-- a locator without its place and UUID: who names it, the length and the digest of its chunk, and its status
+pub record Unplaced : Type 0 where
+  pub owner : Owner
+  pub length : ℕ
+  pub digest : List ℕ
+  pub status : Status
+
+-- a locator without its place and UUID
+abbrev pub unplaced : Checked → Unplaced
+unplaced c = record { owner = c.owner; length = c.locator.length; digest = c.locator.digest; status = c.status }
+
+-- the shards' locators among the named ones, in their order, without their places and UUIDs
+abbrev pub all_unplaced : List Checked → List Unplaced
+all_unplaced checked = map unplaced (filter (λ c. is_of_shard c.owner) checked)

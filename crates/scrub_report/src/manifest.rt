@@ -7,7 +7,7 @@ ghost use Rattle.scrub_run.specs.Entry.{IsBelow};
 ghost use Rattle.scrub_check.specs.Checked.{named_of};
 ghost use Rattle.scrub_check.specs.Named.{named_by_shard};
 ghost use Rattle.scrub_report.specs.Answer.{IsPartitionOfPlanned, IsCountOfPlanned};
-ghost use Rattle.scrub_report.specs.Manifest.{HoldTheSame, IsManifest, numbered_line, numbered_lines, retired_line, shard_lines};
+ghost use Rattle.scrub_report.specs.Manifest.{HoldTheSame, HoldsBytes, IsManifest, all_unplaced, numbered_line, numbered_lines, retired_line, shard_lines};
 ghost use Rattle.scrub_report.specs.Parts.{IsScan};
 ghost use Rattle.scrub_report.specs.Scrubbed.{IsCleanImage};
 
@@ -149,9 +149,11 @@ pub fn one_manifest()
     ensures { (image : Image) (a b : List ℕ) → IsManifest image a → IsManifest image b → a ≡ b }
 {}
 
-/// A law: two disks with one manifest have the same retired extents and the same shards, with the same lengths, digests and
-/// statuses in order.
+/// A law: two disks with one manifest have the same retired extents, and the same is said of the shards' locators. If the
+/// images are of bytes, they have the same shards, with the same lengths, digests and statuses in order.
 pub fn one_manifest_holds_the_same()
-    ensures { (image other : Image) (text : List ℕ) (x : IsManifest image text) (y : IsManifest other text) →
+    ensures said { (image other : Image) (text : List ℕ) (x : IsManifest image text) (y : IsManifest other text) →
         HoldTheSame x.found y.found }
+    ensures shards { (image other : Image) (text : List ℕ) (x : IsManifest image text) (y : IsManifest other text) →
+        HoldsBytes image → HoldsBytes other → all_unplaced x.found.checked ≡ all_unplaced y.found.checked }
 {}
