@@ -1,17 +1,20 @@
 -- Two disks with one manifest hold the same: its lines can be cut in one way only.
-use Rattle.std.proofs.Common.{◌≡◌, ◌≢◌, ◌<◌, ◌≤◌, ◌+◌, ◌/◌, ◌%◌, ◌^◌, ◌++◌, ◌∷◌, ◌==◌, ◌&&◌, [], ℕ, Bool, true, false, not, Option, Some, None, List, length, map, take, drop, get_or, arith, refl, sym, ◌∙◌, ap, subst, append_assoc, inl, inr, MatchOption, if◌then◌else◌}
+use Rattle.std.proofs.Common.{◌≡◌, ◌≢◌, ◌<◌, ◌≤◌, ◌+◌, ◌-◌, ◌*◌, ◌/◌, ◌%◌, ◌^◌, ◌++◌, ◌∷◌, ◌==◌, ◌&&◌, [], ℕ, zero, suc, Bool, true, false, not, is_none, nat_lt, Option, Some, None, List, length, map, take, drop, get_or, arith, refl, sym, ◌∙◌, ap, subst, append-nil, append_assoc, inl, inr, MatchOption, if◌then◌else◌}
 use Rattle.std.specs.Prelude.{codes, slice_index}
 use Rattle.std.specs.Option.{unwrap_or}
 use Rattle.std.specs.Prelude.{IfSome}
 use Rattle.std.specs.Fmt.{decimal}
 use Rattle.std.specs.Str.{bytes_eq}
-use Rattle.std.specs.List.{All, enumerate_from, flat_map, list_all}
+use Rattle.std.specs.List.{All, count_by, enumerate_from, flat_map, list_all}
 use Rattle.std.proofs.Math.Path.{ap₂}
 use Rattle.std.proofs.lemmas.Bool.{cases_lt, eq-eqb, false≢true}
+use Rattle.std.proofs.lemmas.Option.{none-some}
+use Rattle.std.proofs.lemmas.List.Sums.{count_by-le-length}
+use Rattle.uuid.specs.Text.{by_index, digit_place, hex_digit, hyphen, is_hyphen_place, lower, nibble}
 use Rattle.std.proofs.lemmas.Fmt.{decimal_by_steps, decimal_injective}
-use Rattle.std.proofs.lemmas.List.{get_or_past, length-take-le, map-append, take-append-drop}
+use Rattle.std.proofs.lemmas.List.{get_or_past, length-append, length-map, length-take-le, map-append, take-append-drop}
 use Rattle.std.proofs.lemmas.List.Concat.{flat_map-append}
-use Rattle.std.proofs.lemmas.List.Folds.{flat_map-map}
+use Rattle.std.proofs.lemmas.List.Folds.{flat_map-map, list_all-map}
 use Rattle.std.proofs.lemmas.Simd.{map-map}
 use Rattle.std.proofs.lemmas.List.Elements.{All-append, All-cons, All-drop, All-head, All-map, All-nil, All-push, All-tail, All-take, All-weaker}
 use Rattle.scrub_disk.specs.Image.{Image}
@@ -22,7 +25,8 @@ use Rattle.scrub_super.specs.Contents.{Contents}
 use Rattle.scrub_super.specs.Plan.{IsPlanBy, IsPlanWithout}
 use Rattle.scrub_super.specs.Planned.{AreRetired}
 use Rattle.scrub_run.specs.Entry.{IsEntry}
-use Rattle.scrub_merge.specs.Binding.{BindingValue}
+use Rattle.scrub_merge.specs.Binding.{BindingValue, IsNewestBinding, Runs}
+use Rattle.scrub_scan.specs.Line.{spaced}
 use Rattle.hex.specs.Hex.{encode_lower, encode_with, lower_digits}
 use Rattle.scrub_check.specs.declared.statuses.status.Status.{Status}
 use Rattle.scrub_check.specs.declared.statuses.status.Status.TheVariants.{OutOfRange, Retired, PastPointer, Unreadable, NoFrame, WrongUuid, WrongLength, WrongDigest, Hidden, Sound}
@@ -31,16 +35,16 @@ use Rattle.scrub_check.specs.declared.named.Owner.{Owner}
 use Rattle.scrub_check.specs.declared.named.Owner.TheVariants.{Shard}
 use Rattle.scrub_check.specs.declared.statuses.checked.Checked.{Checked}
 use Rattle.scrub_check.specs.declared.named.Named.{Named}
-use Rattle.scrub_check.specs.Checked.{named_of}
-use Rattle.scrub_check.specs.Named.{named_by_shard}
+use Rattle.scrub_check.specs.Checked.{is_hidden, is_sound, named_of}
+use Rattle.scrub_check.specs.Named.{named, named_by_shard}
 use Rattle.scrub_report.specs.Index.{indexed}
-use Rattle.scrub_report.specs.Manifest.{HeldValue, HoldTheSame, all_held, held, manifest_text, numbered_lines, shard_lines}
+use Rattle.scrub_report.specs.Manifest.{HeldValue, HoldTheSame, all_held, held, hidden_runs, is_of_read_run, is_whole, is_whole_by, lost_runs, manifest_text, numbered_lines, of_shards, place_unless_sound, shard_lines, text_by, two_digits}
 use Rattle.scrub_report.specs.Scrubbed.{Scrubbed, IsScrubbed}
-use Rattle.scrub_report.specs.Texts.{owner_text, status_text}
-use Rattle.scrub_report.proofs.Indexable.{entries_are, entries_fit}
+use Rattle.scrub_report.specs.Texts.{owner_text, status_text, uuid_text}
+use Rattle.scrub_report.proofs.Indexable.{countable, entries_are, entries_fit}
 use Rattle.scrub_report.proofs.NextPlaces.{all_pass}
 use Rattle.scrub_report.proofs.OneReader.{heads, no_tail, tails}
-use Rattle.scrub_report.proofs.ShardLines.{AreAlong, along_behind, along_fits, along_runs, line_of, lines_along, lines_are, lines_behind_runs, of_names, of_shard, own_first, shards_part, unmapped}
+use Rattle.scrub_report.proofs.ShardLines.{AreAlong, along_behind, along_fits, along_runs, hidden_few, line_of, lines_along, lines_are, of_names, of_shard, own_first, shards_part, unmapped}
 
 -- ---- one cut
 
@@ -85,6 +89,11 @@ decimal_word : (n : ℕ) → n < 2 ^ 64 → All IsWordByte (decimal n)
 decimal_word n small =
     All-weaker (λ b. 48 ≤ b) IsWordByte (λ b h. (λ is. absurd (omega (arith, h, is)), λ is. absurd (omega (arith, h, is)))) (decimal n)
     (decimal_by_steps (λ m ds. All (λ b. 48 ≤ b) ds) (λ m h. All-cons (λ b. 48 ≤ b) (48 + m) [] (omega arith) (All-nil (λ b. 48 ≤ b))) (λ m ds h all. All-push (λ b. 48 ≤ b) ds (48 + m % 10) all (omega arith)) n small)
+
+two_digits_word : (n : ℕ) → n < 2 ^ 64 → All IsWordByte (two_digits n)
+two_digits_word n small =
+    All-append IsWordByte (decimal (n / 10)) (decimal (n % 10)) (decimal_word (n / 10) (omega (arith, small)))
+    (decimal_word (n % 10) (omega arith))
 
 table_word : All IsWordByte lower_digits
 unfolding is_word_byte
@@ -145,27 +154,57 @@ status_back Sound = refl
 same_status : (s t : Status) → status_text s ≡ status_text t → s ≡ t
 same_status s t e = sym (status_back s) ∙ ap status_of e ∙ status_back t
 
+-- a UUID's text is a word
+hex_digit_word : (n : ℕ) → IsWordByte (hex_digit lower n)
+hex_digit_word n = by (nat_lt n 10)
+  where
+    by : (b : Bool) → IsWordByte (if b then 48 + n else lower + n - 10)
+    by true = (λ is. absurd (omega (arith, is)), λ is. absurd (omega (arith, is)))
+    by false = (λ is. absurd (omega (arith, is)), λ is. absurd (omega (arith, is)))
+
+by_index_word : (n : ℕ) (f : ℕ → ℕ) → ((k : ℕ) → IsWordByte (f k)) → All IsWordByte (by_index n f)
+unfolding by_index
+by_index_word zero f h = All-nil IsWordByte
+by_index_word (suc n) f h = All-push IsWordByte (by_index n f) (f n) (by_index_word n f h) (h n)
+
+uuid_word : (uuid : List ℕ) → All IsWordByte (uuid_text uuid)
+uuid_word uuid =
+    by_index_word 36 (λ k. if is_hyphen_place k then hyphen else hex_digit lower (nibble uuid (digit_place k)))
+    (λ k. either (is_hyphen_place k) k)
+  where
+    either : (b : Bool) (k : ℕ) → IsWordByte (if b then hyphen else hex_digit lower (nibble uuid (digit_place k)))
+    either true k = (λ is. absurd (let e : 45 ≡ 10 = is in omega (arith, e)), λ is. absurd (let e : 45 ≡ 32 = is in omega (arith, e)))
+    either false k = hex_digit_word (nibble uuid (digit_place k))
+
 -- ---- lines
 
+-- no part has the byte c, and each ends with it
+abbrev Free : ℕ → List ℕ → Type 0
+Free c part = All (λ b. b ≢ c) part
+
+abbrev closed : ℕ → List ℕ → List ℕ
+closed c part = part ++ c ∷ []
+
 abbrev IsLine : List ℕ → Type 0
-IsLine body = All (λ b. b ≢ 10) body
+IsLine body = Free 10 body
 
 abbrev ended : List ℕ → List ℕ
 ended body = body ++ 10 ∷ []
 
-never_empty : (y rest : List ℕ) → [] ≡ (y ++ 10 ∷ []) ++ rest → ⊥
-never_empty [] rest e = no_tail 10 rest e
-never_empty (a ∷ y) rest e = no_tail a ((y ++ 10 ∷ []) ++ rest) e
+never_empty : (c : ℕ) (y rest : List ℕ) → [] ≡ (y ++ c ∷ []) ++ rest → ⊥
+never_empty c [] rest e = no_tail c rest e
+never_empty c (a ∷ y) rest e = no_tail a ((y ++ c ∷ []) ++ rest) e
 
-same_lines : (xs ys : List (List ℕ)) → All IsLine xs → All IsLine ys → flat_map ended xs ≡ flat_map ended ys → xs ≡ ys
-same_lines [] [] hx hy e = refl
-same_lines [] (y ∷ ys) hx hy e = absurd (never_empty y (flat_map ended ys) e)
-same_lines (x ∷ xs) [] hx hy e = absurd (never_empty x (flat_map ended xs) (sym e))
-same_lines (x ∷ xs) (y ∷ ys) hx hy e =
-    let both = cut 10 x y (flat_map ended xs) (flat_map ended ys) (All-head IsLine x xs hx) (All-head IsLine y ys hy)
-    (sym (append_assoc x (10 ∷ []) (flat_map ended xs)) ∙ e ∙ append_assoc y (10 ∷ []) (flat_map ended ys)) in
+same_closed : (c : ℕ) (xs ys : List (List ℕ)) → All (Free c) xs → All (Free c) ys →
+    flat_map (closed c) xs ≡ flat_map (closed c) ys → xs ≡ ys
+same_closed c [] [] hx hy e = refl
+same_closed c [] (y ∷ ys) hx hy e = absurd (never_empty c y (flat_map (closed c) ys) e)
+same_closed c (x ∷ xs) [] hx hy e = absurd (never_empty c x (flat_map (closed c) xs) (sym e))
+same_closed c (x ∷ xs) (y ∷ ys) hx hy e =
+    let both = cut c x y (flat_map (closed c) xs) (flat_map (closed c) ys) (All-head (Free c) x xs hx) (All-head (Free c) y ys hy)
+    (sym (append_assoc x (c ∷ []) (flat_map (closed c) xs)) ∙ e ∙ append_assoc y (c ∷ []) (flat_map (closed c) ys)) in
     ap₂ (λ (h : List ℕ) (t : List (List ℕ)). h ∷ t) both.0
-    (same_lines xs ys (All-tail IsLine x xs hx) (All-tail IsLine y ys hy) both.1)
+    (same_closed c xs ys (All-tail (Free c) x xs hx) (All-tail (Free c) y ys hy) both.1)
 
 -- a literal without a line feed
 line_of_literal : (u : List ℕ) → list_all (λ b. not (b == 10)) u ≡ true → IsLine u
@@ -182,19 +221,88 @@ spaced_line u word = All-cons (λ b. b ≢ 10) 32 u (λ is. absurd (let e : 32 �
 not_space : (u : List ℕ) → All IsWordByte u → All (λ b. b ≢ 32) u
 not_space u word = All-weaker IsWordByte (λ b. b ≢ 32) (λ b h. h.1) u word
 
--- ---- the line of a retired extent
+joined : (u v : List ℕ) → IsLine u → IsLine v → IsLine (u ++ v)
+joined u v hu hv = All-append (λ b. b ≢ 10) u v hu hv
 
-abbrev retired_body : ℕ → List ℕ
-retired_body e = codes "retired" ++ (32 ∷ decimal e)
+-- ---- the line of the retired extents
 
-retired_free : (e : ℕ) → e < 2 ^ 64 → IsLine (retired_body e)
-retired_free e small =
-    All-append (λ b. b ≢ 10) (codes "retired") (32 ∷ decimal e) (line_of_literal (codes "retired") refl)
-    (spaced_line (decimal e) (decimal_word e small))
+abbrev IsSmallNumber : ℕ → Type 0
+IsSmallNumber n = n < 2 ^ 64
 
-same_retired : (e f : ℕ) → e < 2 ^ 64 → f < 2 ^ 64 → retired_body e ≡ retired_body f → e ≡ f
-same_retired e f he hf is =
-    decimal_injective e f he hf (tails 32 32 (decimal e) (decimal f) (same_behind (codes "retired") (32 ∷ decimal e) (32 ∷ decimal f) is))
+abbrev spaced_number : ℕ → List ℕ
+spaced_number e = 32 ∷ decimal e
+
+abbrev retired_body : List ℕ → List ℕ
+retired_body es = codes "retired" ++ flat_map spaced_number es
+
+retired_free : (es : List ℕ) → All IsSmallNumber es → IsLine (retired_body es)
+retired_free es small = joined (codes "retired") (flat_map spaced_number es) (line_of_literal (codes "retired") refl) (each es small)
+  where
+    each : (ns : List ℕ) → All IsSmallNumber ns → IsLine (flat_map spaced_number ns)
+    each [] h = All-nil (λ b. b ≢ 10)
+    each (n ∷ ns) h =
+        joined (32 ∷ decimal n) (flat_map spaced_number ns) (spaced_line (decimal n) (decimal_word n (All-head IsSmallNumber n ns h)))
+        (each ns (All-tail IsSmallNumber n ns h))
+
+-- numbers with a space before each, and with a space behind each
+shifted : (es : List ℕ) → flat_map spaced_number es ++ 32 ∷ [] ≡ 32 ∷ flat_map (closed 32) (map decimal es)
+shifted [] = refl
+shifted (e ∷ es) =
+    append_assoc (32 ∷ decimal e) (flat_map spaced_number es) (32 ∷ [])
+    ∙ ap (λ (u : List ℕ). (32 ∷ decimal e) ++ u) (shifted es)
+    ∙ ap (λ (u : List ℕ). 32 ∷ u) (sym (append_assoc (decimal e) (32 ∷ []) (flat_map (closed 32) (map decimal es))))
+
+same_numbers : (es fs : List ℕ) → All IsSmallNumber es → All IsSmallNumber fs → map decimal es ≡ map decimal fs → es ≡ fs
+same_numbers [] [] he hf is = refl
+same_numbers [] (f ∷ fs) he hf is = absurd (no_tail (decimal f) (map decimal fs) is)
+same_numbers (e ∷ es) [] he hf is = absurd (no_tail (decimal e) (map decimal es) (sym is))
+same_numbers (e ∷ es) (f ∷ fs) he hf is =
+    ap₂ (λ (h : ℕ) (t : List ℕ). h ∷ t)
+    (decimal_injective e f (All-head IsSmallNumber e es he) (All-head IsSmallNumber f fs hf) (heads (decimal e) (decimal f) (map decimal es) (map decimal fs) is))
+    (same_numbers es fs (All-tail IsSmallNumber e es he) (All-tail IsSmallNumber f fs hf) (tails (decimal e) (decimal f) (map decimal es) (map decimal fs) is))
+
+same_retired : (es fs : List ℕ) → All IsSmallNumber es → All IsSmallNumber fs → retired_body es ≡ retired_body fs → es ≡ fs
+same_retired es fs he hf is =
+    let numbers : flat_map spaced_number es ≡ flat_map spaced_number fs =
+    same_behind (codes "retired") (flat_map spaced_number es) (flat_map spaced_number fs) is in
+    let behind : (32 ∷ flat_map (closed 32) (map decimal es)) ≡ (32 ∷ flat_map (closed 32) (map decimal fs)) =
+    sym (shifted es) ∙ ap (λ (u : List ℕ). u ++ 32 ∷ []) numbers ∙ shifted fs in
+    same_numbers es fs he hf
+    (same_closed 32 (map decimal es) (map decimal fs) (words es he) (words fs hf)
+    (tails 32 32 (flat_map (closed 32) (map decimal es)) (flat_map (closed 32) (map decimal fs)) behind))
+  where
+    words : (ns : List ℕ) → All IsSmallNumber ns → All (Free 32) (map decimal ns)
+    words ns small =
+        All-map (Free 32) decimal ns
+        (All-weaker IsSmallNumber (λ n. Free 32 (decimal n)) (λ n h. not_space (decimal n) (decimal_word n h)) ns small)
+
+-- ---- the line of the runs
+
+abbrev runs_body : ℕ → ℕ → List ℕ
+runs_body lost hidden = codes "runs lost" ++ (32 ∷ decimal lost) ++ codes " hidden" ++ (32 ∷ decimal hidden)
+
+runs_free : (l h : ℕ) → IsSmallNumber l → IsSmallNumber h → IsLine (runs_body l h)
+runs_free l h hl hh =
+    joined ((codes "runs lost" ++ (32 ∷ decimal l)) ++ codes " hidden") (32 ∷ decimal h)
+    (joined (codes "runs lost" ++ (32 ∷ decimal l)) (codes " hidden")
+    (joined (codes "runs lost") (32 ∷ decimal l) (line_of_literal (codes "runs lost") refl) (spaced_line (decimal l) (decimal_word l hl)))
+    (line_of_literal (codes " hidden") refl))
+    (spaced_line (decimal h) (decimal_word h hh))
+
+runs_grouped : (l h : List ℕ) →
+    codes "runs lost" ++ (32 ∷ l) ++ codes " hidden" ++ (32 ∷ h) ≡ codes "runs lost " ++ (l ++ (32 ∷ (codes "hidden " ++ h)))
+runs_grouped l h =
+    append_assoc ((codes "runs lost" ++ (32 ∷ l))) (codes " hidden") (32 ∷ h)
+    ∙ append_assoc (codes "runs lost") (32 ∷ l) (codes " hidden" ++ (32 ∷ h))
+
+same_runs : (l h l' h' : ℕ) → IsSmallNumber l → IsSmallNumber h → IsSmallNumber l' → IsSmallNumber h' →
+    runs_body l h ≡ runs_body l' h' → (l ≡ l') × (h ≡ h')
+same_runs l h l' h' sl sh sl' sh' e =
+    let start = same_behind (codes "runs lost ") (decimal l ++ (32 ∷ (codes "hidden " ++ decimal h))) (decimal l' ++ (32 ∷ (codes "hidden " ++ decimal h')))
+    (sym (runs_grouped (decimal l) (decimal h)) ∙ e ∙ runs_grouped (decimal l') (decimal h')) in
+    let both = cut 32 (decimal l) (decimal l') (codes "hidden " ++ decimal h) (codes "hidden " ++ decimal h') (not_space (decimal l) (decimal_word l sl)) (not_space (decimal l') (decimal_word l' sl')) start in
+    (decimal_injective l l' sl sl' both.0,
+     decimal_injective h h' sh sh' (same_behind (codes "hidden ") (decimal h) (decimal h') both.1))
 
 -- ---- the line of a shard's locator
 
@@ -204,39 +312,50 @@ record IsHeld (p : ℕ × Checked) : Type 0 where
   owner : p.1.owner ≡ Shard id
   number : p.0 < 2 ^ 64
   size : p.1.locator.length < 2 ^ 64
+  extent : p.1.locator.extent < 2 ^ 64
+  offset : p.1.locator.offset < 2 ^ 64
 
-abbrev body_of : List ℕ → List ℕ → List ℕ → List ℕ → List ℕ → List ℕ
-body_of o n l d s = o ++ (32 ∷ n) ++ (32 ∷ l) ++ (32 ∷ d) ++ (32 ∷ s)
+abbrev body_of : List ℕ → List ℕ → List ℕ → List ℕ → List ℕ → List ℕ → List ℕ
+body_of o n l d s r = o ++ (32 ∷ n) ++ (32 ∷ l) ++ (32 ∷ d) ++ (32 ∷ s) ++ r
 
 abbrev held_body : ℕ × Checked → List ℕ
 held_body p =
-    body_of (owner_text p.1.owner) (decimal p.0) (decimal p.1.locator.length) (encode_lower p.1.locator.digest) (status_text p.1.status)
+    body_of (owner_text p.1.owner) (two_digits p.0) (decimal p.1.locator.length) (encode_lower p.1.locator.digest) (status_text p.1.status) (place_unless_sound p.1)
 
 -- the body by the text of the identifier
 by_id : (p : ℕ × Checked) (h : IsHeld p) →
-    held_body p ≡ body_of (codes "shard " ++ encode_lower h.id.0) (decimal p.0) (decimal p.1.locator.length) (encode_lower p.1.locator.digest) (status_text p.1.status)
+    held_body p ≡ body_of (codes "shard " ++ encode_lower h.id.0) (two_digits p.0) (decimal p.1.locator.length) (encode_lower p.1.locator.digest) (status_text p.1.status) (place_unless_sound p.1)
 by_id p h =
-    ap (λ (o : Owner). body_of (owner_text o) (decimal p.0) (decimal p.1.locator.length) (encode_lower p.1.locator.digest) (status_text p.1.status))
-    h.owner
+    ap (λ (o : Owner). body_of (owner_text o) (two_digits p.0) (decimal p.1.locator.length) (encode_lower p.1.locator.digest) (status_text p.1.status) (place_unless_sound p.1)) h.owner
+
+place_free : (b : Bool) (e f : ℕ) (u : List ℕ) → IsSmallNumber e → IsSmallNumber f →
+    IsLine (if b then [] else (32 ∷ decimal e) ++ (32 ∷ decimal f) ++ (32 ∷ uuid_text u))
+place_free true e f u he hf = All-nil (λ b. b ≢ 10)
+place_free false e f u he hf =
+    joined ((32 ∷ decimal e) ++ (32 ∷ decimal f)) (32 ∷ uuid_text u)
+    (joined (32 ∷ decimal e) (32 ∷ decimal f) (spaced_line (decimal e) (decimal_word e he)) (spaced_line (decimal f) (decimal_word f hf)))
+    (spaced_line (uuid_text u) (uuid_word u))
 
 held_free : (p : ℕ × Checked) → IsHeld p → IsLine (held_body p)
 held_free p h =
     subst IsLine (sym (by_id p h))
-    (joined (codes "shard " ++ id ++ (32 ∷ n) ++ (32 ∷ l) ++ (32 ∷ d)) (32 ∷ s)
-    (joined (codes "shard " ++ id ++ (32 ∷ n) ++ (32 ∷ l)) (32 ∷ d)
-    (joined (codes "shard " ++ id ++ (32 ∷ n)) (32 ∷ l)
+    (joined ((((((codes "shard " ++ id)) ++ (32 ∷ n)) ++ (32 ∷ l)) ++ (32 ∷ d)) ++ (32 ∷ s)) (place_unless_sound p.1)
+    (joined ((((codes "shard " ++ id) ++ (32 ∷ n)) ++ (32 ∷ l)) ++ (32 ∷ d)) (32 ∷ s)
+    (joined (((codes "shard " ++ id) ++ (32 ∷ n)) ++ (32 ∷ l)) (32 ∷ d)
+    (joined ((codes "shard " ++ id) ++ (32 ∷ n)) (32 ∷ l)
     (joined (codes "shard " ++ id) (32 ∷ n)
     (joined (codes "shard ") id (line_of_literal (codes "shard ") refl) (word_line id (hex_word h.id.0)))
-    (spaced_line n (decimal_word p.0 h.number)))
+    (spaced_line n (two_digits_word p.0 h.number)))
     (spaced_line l (decimal_word p.1.locator.length h.size)))
     (spaced_line d (hex_word p.1.locator.digest)))
     (spaced_line s (status_word p.1.status)))
+    (place_free (is_sound p.1.status) p.1.locator.extent p.1.locator.offset p.1.locator.uuid h.extent h.offset))
   where
     id : List ℕ
     id = encode_lower h.id.0
 
     n : List ℕ
-    n = decimal p.0
+    n = two_digits p.0
 
     l : List ℕ
     l = decimal p.1.locator.length
@@ -247,39 +366,61 @@ held_free p h =
     s : List ℕ
     s = status_text p.1.status
 
-    joined : (u v : List ℕ) → IsLine u → IsLine v → IsLine (u ++ v)
-    joined u v hu hv = All-append (λ b. b ≢ 10) u v hu hv
+-- a place begins with a space
+place_tail : (c : Checked) → (t : List ℕ) × (place_unless_sound c ++ 32 ∷ [] ≡ 32 ∷ t)
+place_tail c = by (is_sound c.status) (decimal c.locator.extent) (spaced (decimal c.locator.offset)) (spaced (uuid_text c.locator.uuid))
+  where
+    by : (b : Bool) (x y z : List ℕ) → (t : List ℕ) × ((if b then [] else (32 ∷ x) ++ y ++ z) ++ 32 ∷ [] ≡ 32 ∷ t)
+    by true x y z = ([], refl)
+    by false x y z = (((x ++ y) ++ z) ++ 32 ∷ [], refl)
 
-regroup : (o n l d s : List ℕ) → body_of o n l d s ≡ o ++ (32 ∷ (n ++ (32 ∷ (l ++ (32 ∷ (d ++ (32 ∷ s)))))))
-regroup o n l d s = simp append_assoc
+regroup : (o n l d s r t : List ℕ) → r ++ 32 ∷ [] ≡ 32 ∷ t →
+    body_of o n l d s r ++ 32 ∷ [] ≡ o ++ (32 ∷ (n ++ (32 ∷ (l ++ (32 ∷ (d ++ (32 ∷ (s ++ (32 ∷ t)))))))))
+regroup o n l d s r t e =
+    append_assoc (o ++ (32 ∷ n) ++ (32 ∷ l) ++ (32 ∷ d) ++ (32 ∷ s)) r (32 ∷ [])
+    ∙ ap (λ (u : List ℕ). (o ++ (32 ∷ n) ++ (32 ∷ l) ++ (32 ∷ d) ++ (32 ∷ s)) ++ u) e
+    ∙ all
+  where
+    all : (o ++ (32 ∷ n) ++ (32 ∷ l) ++ (32 ∷ d) ++ (32 ∷ s)) ++ (32 ∷ t) ≡ o ++ (32 ∷ (n ++ (32 ∷ (l ++ (32 ∷ (d ++ (32 ∷ (s ++ (32 ∷ t)))))))))
+    all =
+        append_assoc (o ++ (32 ∷ n) ++ (32 ∷ l) ++ (32 ∷ d)) (32 ∷ s) (32 ∷ t)
+        ∙ append_assoc (o ++ (32 ∷ n) ++ (32 ∷ l)) (32 ∷ d) (32 ∷ (s ++ (32 ∷ t)))
+        ∙ append_assoc (o ++ (32 ∷ n)) (32 ∷ l) (32 ∷ (d ++ (32 ∷ (s ++ (32 ∷ t)))))
+        ∙ append_assoc o (32 ∷ n) (32 ∷ (l ++ (32 ∷ (d ++ (32 ∷ (s ++ (32 ∷ t)))))))
 
--- five words are cut in one way
-five : (h n l d s h' n' l' d' s' : List ℕ) → All IsWordByte h → All IsWordByte n → All IsWordByte l → All IsWordByte d →
-    All IsWordByte h' → All IsWordByte n' → All IsWordByte l' → All IsWordByte d' →
-    body_of (codes "shard " ++ h) n l d s ≡ body_of (codes "shard " ++ h') n' l' d' s' →
+-- the words are cut in one way
+words_cut : (h n l d s r t h' n' l' d' s' r' t' : List ℕ) → All IsWordByte h → All IsWordByte n → All IsWordByte l → All IsWordByte d →
+    All IsWordByte s →
+    All IsWordByte h' → All IsWordByte n' → All IsWordByte l' → All IsWordByte d' → All IsWordByte s' →
+    r ++ 32 ∷ [] ≡ 32 ∷ t → r' ++ 32 ∷ [] ≡ 32 ∷ t' →
+    body_of (codes "shard " ++ h) n l d s r ≡ body_of (codes "shard " ++ h') n' l' d' s' r' →
     (h ≡ h') × (l ≡ l') × (d ≡ d') × (s ≡ s')
-five h n l d s h' n' l' d' s' wh wn wl wd wh' wn' wl' wd' e =
-    let behind : List ℕ → List ℕ → List ℕ → List ℕ → List ℕ = λ x y z w. 32 ∷ (x ++ (32 ∷ (y ++ (32 ∷ (z ++ (32 ∷ w)))))) in
-    let all : (codes "shard " ++ h) ++ behind n l d s ≡ (codes "shard " ++ h') ++ behind n' l' d' s' =
-    sym (regroup (codes "shard " ++ h) n l d s) ∙ e ∙ regroup (codes "shard " ++ h') n' l' d' s' in
-    let start : h ++ behind n l d s ≡ h' ++ behind n' l' d' s' =
-    same_behind (codes "shard ") (h ++ behind n l d s) (h' ++ behind n' l' d' s')
-    (sym (append_assoc (codes "shard ") h (behind n l d s)) ∙ all ∙ append_assoc (codes "shard ") h' (behind n' l' d' s')) in
+words_cut h n l d s r t h' n' l' d' s' r' t' wh wn wl wd ws wh' wn' wl' wd' ws' et et' e =
+    let behind : List ℕ → List ℕ → List ℕ → List ℕ → List ℕ → List ℕ = λ x y z w v. 32 ∷ (x ++ (32 ∷ (y ++ (32 ∷ (z ++ (32 ∷ (w ++ (32 ∷ v)))))))) in
+    let all : (codes "shard " ++ h) ++ behind n l d s t ≡ (codes "shard " ++ h') ++ behind n' l' d' s' t' =
+    sym (regroup (codes "shard " ++ h) n l d s r t et) ∙ ap (λ (u : List ℕ). u ++ 32 ∷ []) e ∙ regroup (codes "shard " ++ h') n' l' d' s' r' t' et' in
+    let start : h ++ behind n l d s t ≡ h' ++ behind n' l' d' s' t' =
+    same_behind (codes "shard ") (h ++ behind n l d s t) (h' ++ behind n' l' d' s' t')
+    (sym (append_assoc (codes "shard ") h (behind n l d s t)) ∙ all ∙ append_assoc (codes "shard ") h' (behind n' l' d' s' t')) in
     let first = cut 32 h h' _ _ (not_space h wh) (not_space h' wh') start in
     let second = cut 32 n n' _ _ (not_space n wn) (not_space n' wn') first.1 in
     let third = cut 32 l l' _ _ (not_space l wl) (not_space l' wl') second.1 in
     let fourth = cut 32 d d' _ _ (not_space d wd) (not_space d' wd') third.1 in
-    (first.0, third.0, fourth.0, fourth.1)
+    let fifth = cut 32 s s' _ _ (not_space s ws) (not_space s' ws') fourth.1 in
+    (first.0, third.0, fourth.0, fifth.0)
 
 same_value : (u v : HeldValue) → u.owner ≡ v.owner → u.length ≡ v.length → u.digest ≡ v.digest → u.status ≡ v.status → u ≡ v
 same_value u v ho hl hd hs = λ i. record { owner = ho i; length = hl i; digest = hd i; status = hs i }
 
 same_held : (p q : ℕ × Checked) → IsHeld p → IsHeld q → held_body p ≡ held_body q → held p.1 ≡ held q.1
 same_held p q hp hq e =
-    let parts = five (encode_lower hp.id.0) (decimal p.0) (decimal p.1.locator.length) (encode_lower p.1.locator.digest) (status_text p.1.status)
-    (encode_lower hq.id.0) (decimal q.0) (decimal q.1.locator.length) (encode_lower q.1.locator.digest) (status_text q.1.status)
-    (hex_word hp.id.0) (decimal_word p.0 hp.number) (decimal_word p.1.locator.length hp.size) (hex_word p.1.locator.digest)
-    (hex_word hq.id.0) (decimal_word q.0 hq.number) (decimal_word q.1.locator.length hq.size) (hex_word q.1.locator.digest)
+    let parts = words_cut (encode_lower hp.id.0) (two_digits p.0) (decimal p.1.locator.length) (encode_lower p.1.locator.digest) (status_text p.1.status)
+    (place_unless_sound p.1) (place_tail p.1).0
+    (encode_lower hq.id.0) (two_digits q.0) (decimal q.1.locator.length) (encode_lower q.1.locator.digest) (status_text q.1.status)
+    (place_unless_sound q.1) (place_tail q.1).0
+    (hex_word hp.id.0) (two_digits_word p.0 hp.number) (decimal_word p.1.locator.length hp.size) (hex_word p.1.locator.digest) (status_word p.1.status)
+    (hex_word hq.id.0) (two_digits_word q.0 hq.number) (decimal_word q.1.locator.length hq.size) (hex_word q.1.locator.digest) (status_word q.1.status)
+    (place_tail p.1).1 (place_tail q.1).1
     (sym (by_id p hp) ∙ e ∙ by_id q hq) in
     same_value (held p.1) (held q.1)
     (ap owner_text hp.owner ∙ ap (λ (h : List ℕ). codes "shard " ++ h) parts.0 ∙ sym (ap owner_text hq.owner))
@@ -287,45 +428,38 @@ same_held p q hp hq e =
     parts.2
     (same_status p.1.status q.1.status parts.3)
 
--- the two kinds of lines differ in their first byte
-kinds_differ : (e : ℕ) (p : ℕ × Checked) → IsHeld p → retired_body e ≡ held_body p → ⊥
-kinds_differ e p h is =
-    let first : 114 ≡ 115 = ap (λ (u : List ℕ). get_or u 0 0) (is ∙ by_id p h) in
+-- ---- the last line
+
+abbrev total_body : ℕ → ℕ → List ℕ
+total_body shards locators = codes "total" ++ (32 ∷ decimal shards) ++ (32 ∷ decimal locators)
+
+-- a text whose first byte is b
+first_byte : List ℕ → ℕ
+first_byte u = get_or u 0 0
+
+-- the last line differs from that of a shard's locator in the first byte
+not_last : (p : ℕ × Checked) (n m : ℕ) → IsHeld p → held_body p ≡ total_body n m → ⊥
+not_last p n m h is =
+    let first : 115 ≡ 116 = ap (λ (u : List ℕ). get_or u 0 0) (sym (by_id p h) ∙ is) in
     omega (arith, first)
 
 -- ---- all lines
 
--- what follows from the same bodies
-same_bodies : (rs rs' : List ℕ) (ps ps' : List (ℕ × Checked)) → All (λ e. e < 2 ^ 64) rs → All (λ e. e < 2 ^ 64) rs' →
-    All IsHeld ps → All IsHeld ps' → map retired_body rs ++ map held_body ps ≡ map retired_body rs' ++ map held_body ps' →
-    (rs ≡ rs') × (map (λ p. held p.1) ps ≡ map (λ p. held p.1) ps')
-same_bodies [] [] [] [] hr hr' hp hp' e = (refl, refl)
-same_bodies [] [] [] (q ∷ qs) hr hr' hp hp' e = absurd (no_tail (held_body q) (map held_body qs) e)
-same_bodies [] [] (p ∷ ps) [] hr hr' hp hp' e = absurd (no_tail (held_body p) (map held_body ps) (sym e))
-same_bodies [] [] (p ∷ ps) (q ∷ qs) hr hr' hp hp' e =
-    let rest = same_bodies [] [] ps qs hr hr' (All-tail IsHeld p ps hp) (All-tail IsHeld q qs hp')
-    (tails (held_body p) (held_body q) (map held_body ps) (map held_body qs) e) in (
-      refl,
-      ap₂ (λ (h : HeldValue) (t : List HeldValue). h ∷ t)
-          (same_held p q (All-head IsHeld p ps hp) (All-head IsHeld q qs hp') (heads (held_body p) (held_body q) (map held_body ps) (map held_body qs) e))
-          rest.1,
-    )
-same_bodies [] (f ∷ fs) [] ps' hr hr' hp hp' e = absurd (no_tail (retired_body f) (map retired_body fs ++ map held_body ps') e)
-same_bodies [] (f ∷ fs) (p ∷ ps) ps' hr hr' hp hp' e =
-    absurd (kinds_differ f p (All-head IsHeld p ps hp)
-    (sym (heads (held_body p) (retired_body f) (map held_body ps) (map retired_body fs ++ map held_body ps') e)))
-same_bodies (e ∷ es) [] ps [] hr hr' hp hp' is = absurd (no_tail (retired_body e) (map retired_body es ++ map held_body ps) (sym is))
-same_bodies (e ∷ es) [] ps (q ∷ qs) hr hr' hp hp' is =
-    absurd (kinds_differ e q (All-head IsHeld q qs hp')
-    (heads (retired_body e) (held_body q) (map retired_body es ++ map held_body ps) (map held_body qs) is))
-same_bodies (e ∷ es) (f ∷ fs) ps ps' hr hr' hp hp' is =
-    let rest = same_bodies es fs ps ps' (All-tail (λ n. n < 2 ^ 64) e es hr) (All-tail (λ n. n < 2 ^ 64) f fs hr') hp hp'
-    (tails (retired_body e) (retired_body f) (map retired_body es ++ map held_body ps) (map retired_body fs ++ map held_body ps') is) in (
-      ap₂ (λ (h : ℕ) (t : List ℕ). h ∷ t)
-          (same_retired e f (All-head (λ n. n < 2 ^ 64) e es hr) (All-head (λ n. n < 2 ^ 64) f fs hr') (heads (retired_body e) (retired_body f) (map retired_body es ++ map held_body ps) (map retired_body fs ++ map held_body ps') is))
-          rest.0,
-      rest.1,
-    )
+-- what follows from the same lines of shards and the same last line
+same_bodies : (t t' : ℕ × ℕ) (ps ps' : List (ℕ × Checked)) → All IsHeld ps → All IsHeld ps' →
+    map held_body ps ++ total_body t.0 t.1 ∷ [] ≡ map held_body ps' ++ total_body t'.0 t'.1 ∷ [] →
+    map (λ p. held p.1) ps ≡ map (λ p. held p.1) ps'
+same_bodies t t' [] [] hp hp' e = refl
+same_bodies t t' [] (q ∷ qs) hp hp' e =
+    absurd (not_last q t.0 t.1 (All-head IsHeld q qs hp') (sym (heads (total_body t.0 t.1) (held_body q) [] (map held_body qs ++ total_body t'.0 t'.1 ∷ []) e)))
+same_bodies t t' (p ∷ ps) [] hp hp' e =
+    absurd (not_last p t'.0 t'.1 (All-head IsHeld p ps hp) (heads (held_body p) (total_body t'.0 t'.1) (map held_body ps ++ total_body t.0 t.1 ∷ []) [] e))
+same_bodies t t' (p ∷ ps) (q ∷ qs) hp hp' e =
+    let us = map held_body ps ++ total_body t.0 t.1 ∷ [] in
+    let vs = map held_body qs ++ total_body t'.0 t'.1 ∷ [] in
+    ap₂ (λ (h : HeldValue) (t : List HeldValue). h ∷ t)
+    (same_held p q (All-head IsHeld p ps hp) (All-head IsHeld q qs hp') (heads (held_body p) (held_body q) us vs e))
+    (same_bodies t t' ps qs (All-tail IsHeld p ps hp) (All-tail IsHeld q qs hp') (tails (held_body p) (held_body q) us vs e))
 
 -- ---- the text by its lines
 
@@ -353,16 +487,22 @@ all_paired (b ∷ bs) cs same =
     ∙ ap₂ (λ (xs ys : List Checked). xs ++ ys) (enumerated 0 (take n cs)) (all_paired bs (drop n cs) (along_behind b bs cs same))
     ∙ take-append-drop n cs
 
--- each is a shard's, and its number and its length are small
+-- the numbers of a locator are small
+record HasSmallNumbers (l : Locator) : Type 0 where
+  extent : l.extent < 2 ^ 64
+  offset : l.offset < 2 ^ 64
+  length : l.length < 2 ^ 64
+
+-- each is a shard's, and its numbers are small
 abbrev IsSmall : Checked → Type 0
-IsSmall c = c.locator.length < 2 ^ 64
+IsSmall c = HasSmallNumbers c.locator
 
 held_from : (id : ShardId) (k : ℕ) (xs : List Checked) → k + length xs < 2 ^ 64 → All (λ c. c.owner ≡ Shard id) xs → All IsSmall xs →
     All IsHeld (enumerate_from k xs)
 held_from id k [] few owned small = All-nil IsHeld
 held_from id k (x ∷ xs) few owned small =
     All-cons IsHeld (k, x) (enumerate_from (k + 1) xs)
-    (record { id = id; owner = All-head (λ c. c.owner ≡ Shard id) x xs owned; number = omega (arith, few); size = All-head IsSmall x xs small })
+    (record { id = id; owner = All-head (λ c. c.owner ≡ Shard id) x xs owned; number = omega (arith, few); size = (All-head IsSmall x xs small).length; extent = (All-head IsSmall x xs small).extent; offset = (All-head IsSmall x xs small).offset })
     (held_from id (k + 1) xs (omega (arith, few)) (All-tail (λ c. c.owner ≡ Shard id) x xs owned) (All-tail IsSmall x xs small))
 
 held_along : (bs : List BindingValue) (cs : List Checked) → All (λ b. length b.locators ≤ 64) bs → AreAlong bs cs →
@@ -377,21 +517,39 @@ held_along (b ∷ bs) cs few same small =
     (All-take IsSmall n cs small))
     (held_along bs (drop n cs) (All-tail (λ v. length v.locators ≤ 64) b bs few) (along_behind b bs cs same) (All-drop IsSmall n cs small))
 
--- the text is that of these lines
-abbrev bodies : List ℕ → List (ℕ × Checked) → List (List ℕ)
-bodies retired pairs = map retired_body retired ++ map held_body pairs
+-- the text with a superblock is that of these lines
+abbrev bodies : List ℕ → ℕ → ℕ → List (ℕ × Checked) → ℕ × ℕ → List (List ℕ)
+bodies retired lost hidden pairs total =
+    retired_body retired ∷ runs_body lost hidden ∷ map held_body pairs ++ total_body total.0 total.1 ∷ []
 
-text_of : (image : Image) (s : Scrubbed) → IsScrubbed image s →
-    manifest_text s ≡ flat_map ended (bodies s.plan.retired (pairs_along s.bindings (drop (length s.plan.runs) s.checked)))
-text_of image s x =
+joined_bodies : (a b t : List ℕ) (xs : List (List ℕ)) →
+    ended a ++ ended b ++ flat_map ended xs ++ ended t ≡ flat_map ended (a ∷ b ∷ xs ++ t ∷ [])
+joined_bodies a b t xs =
+    append_assoc (ended a ++ ended b) (flat_map ended xs) (ended t)
+    ∙ append_assoc (ended a) (ended b) (flat_map ended xs ++ ended t)
+    ∙ ap (λ (u : List ℕ). ended a ++ (ended b ++ (flat_map ended xs ++ u))) (sym (append-nil (ended t)))
+    ∙ ap (λ (u : List ℕ). ended a ++ (ended b ++ u)) (sym (flat_map-append ended xs (t ∷ [])))
+
+abbrev pairs_of : Scrubbed → List (ℕ × Checked)
+pairs_of s = pairs_along s.bindings (drop (length s.plan.runs) s.checked)
+
+abbrev total_of : Scrubbed → ℕ × ℕ
+total_of s = (length s.bindings, length (of_shards s.checked))
+
+text_of : (image : Image) (s : Scrubbed) → IsScrubbed image s → (b : Bool) → b ≡ true →
+    text_by b s.plan.retired (lost_runs s) (hidden_runs s) s.bindings (of_shards s.checked)
+    ≡ flat_map ended (bodies s.plan.retired (lost_runs s) (hidden_runs s) (pairs_of s) (total_of s))
+text_of image s x false e = absurd (false≢true e)
+text_of image s x true e =
     let cs = drop (length s.plan.runs) s.checked in
-    let pairs = pairs_along s.bindings cs in
-    let shards : flat_map (λ b. shard_lines s.checked b.id) s.bindings ≡ flat_map ended (map held_body pairs) =
-    sym (lines_behind_runs s.plan.runs s.bindings s.checked x.checked.same x.bindings.bindings_of_map.rising)
+    let start = ended (retired_body s.plan.retired) ++ ended (runs_body (lost_runs s) (hidden_runs s)) in
+    let last = ended (total_body (length s.bindings) (length (of_shards s.checked))) in
+    let shards : flat_map (λ b. shard_lines (of_shards s.checked) b.id) s.bindings ≡ flat_map ended (map held_body (pairs_of s)) =
+    ap (λ (us : List Checked). flat_map (λ b. shard_lines us b.id) s.bindings) (shards_part s.plan.runs s.bindings s.checked x.checked.same)
     ∙ sym (lines_are s.bindings cs x.bindings.bindings_of_map.rising (along_runs s.plan.runs s.bindings s.checked x.checked.same))
-    ∙ sym (lines_paired s.bindings cs) ∙ sym (flat_map-map ended held_body pairs) in
-    ap₂ (λ (u v : List ℕ). u ++ v) (sym (flat_map-map ended retired_body s.plan.retired)) shards
-    ∙ sym (flat_map-append ended (map retired_body s.plan.retired) (map held_body pairs))
+    ∙ sym (lines_paired s.bindings cs) ∙ sym (flat_map-map ended held_body (pairs_of s)) in
+    ap (λ (u : List ℕ). start ++ u ++ last) shards
+    ∙ joined_bodies (retired_body s.plan.retired) (runs_body (lost_runs s) (hidden_runs s)) (total_body (length s.bindings) (length (of_shards s.checked))) (map held_body (pairs_of s))
 
 -- ---- sizes
 
@@ -411,21 +569,101 @@ retired_small image s x = planned s.choice.superblock s.choice.page x.choice.cho
     planned (Some c) (Some q) chosen by =
         subst (λ (es : List ℕ). All (λ e. e < 2 ^ 64) es) (sym by.retired) (listed c.retired chosen.stands.contents.retired)
 
-lengths_small : (bs : List BindingValue) → All (λ b. IsEntry (indexed b)) bs →
-    All (λ (n : Named). n.locator.length < 2 ^ 64) (flat_map named_by_shard bs)
-lengths_small [] each = All-nil (λ (n : Named). n.locator.length < 2 ^ 64)
-lengths_small (b ∷ bs) each =
-    All-append (λ (n : Named). n.locator.length < 2 ^ 64) (named_by_shard b) (flat_map named_by_shard bs)
-    (All-map (λ (n : Named). n.locator.length < 2 ^ 64) (λ (l : Locator). record { owner = Shard b.id; locator = l }) b.locators
-    (All-weaker IsLocator (λ l. l.length < 2 ^ 64) (λ l is. omega (arith, is.size)) b.locators
+numbers_small : (bs : List BindingValue) → All (λ b. IsEntry (indexed b)) bs →
+    All (λ (n : Named). HasSmallNumbers n.locator) (flat_map named_by_shard bs)
+numbers_small [] each = All-nil (λ (n : Named). HasSmallNumbers n.locator)
+numbers_small (b ∷ bs) each =
+    All-append (λ (n : Named). HasSmallNumbers n.locator) (named_by_shard b) (flat_map named_by_shard bs)
+    (All-map (λ (n : Named). HasSmallNumbers n.locator) (λ (l : Locator). record { owner = Shard b.id; locator = l }) b.locators
+    (All-weaker IsLocator HasSmallNumbers (λ l is. record { extent = omega (arith, is.extent); offset = omega (arith, is.offset); length = omega (arith, is.size) }) b.locators
     (All-head (λ v. IsEntry (indexed v)) b bs each).each))
-    (lengths_small bs (All-tail (λ v. IsEntry (indexed v)) b bs each))
+    (numbers_small bs (All-tail (λ v. IsEntry (indexed v)) b bs each))
 
 small : (image : Image) (s : Scrubbed) → IsScrubbed image s → All IsSmall (drop (length s.plan.runs) s.checked)
 small image s x =
-    unmapped (λ (n : Named). n.locator.length < 2 ^ 64) named_of (drop (length s.plan.runs) s.checked)
-    (subst (λ (ns : List Named). All (λ (n : Named). n.locator.length < 2 ^ 64) ns)
-    (sym (along_runs s.plan.runs s.bindings s.checked x.checked.same)) (lengths_small s.bindings (entries_are image s x)))
+    unmapped (λ (n : Named). HasSmallNumbers n.locator) named_of (drop (length s.plan.runs) s.checked)
+    (subst (λ (ns : List Named). All (λ (n : Named). HasSmallNumbers n.locator) ns)
+    (sym (along_runs s.plan.runs s.bindings s.checked x.checked.same)) (numbers_small s.bindings (entries_are image s x)))
+
+-- a plan has few runs
+runs_few : (image : Image) (s : Scrubbed) → IsScrubbed image s → length s.plan.runs ≤ 32
+runs_few image s x = planned s.choice.superblock s.choice.page x.choice.chosen x.plan.by
+  where
+    planned : (c : Option Contents) (q : Option ℕ) → IsChosen image c q →
+        MatchOption c (IsPlanWithout s.plan s.choice.geometry) (IsPlanBy s.plan) → length s.plan.runs ≤ 32
+    planned None q chosen by = omega (arith, ap (λ (ls : List Locator). length ls) by.runs)
+    planned (Some c) None chosen by = absurd chosen
+    planned (Some c) (Some q) chosen by =
+        omega (arith, ap (λ (ls : List Locator). length ls) by.runs, chosen.stands.contents.runs.count)
+
+lost_small : (image : Image) (s : Scrubbed) → IsScrubbed image s → IsSmallNumber (lost_runs s)
+lost_small image s x =
+    omega (arith, count_by-le-length is_none s.read.runs, x.read.count, runs_few image s x)
+
+hidden_small : (image : Image) (s : Scrubbed) → IsScrubbed image s → IsSmallNumber (hidden_runs s)
+hidden_small image s x =
+    omega (
+      arith,
+      hidden_few s.plan.runs s.bindings s.checked is_hidden (is_of_read_run s.read.runs) x.checked.same (λ id. refl),
+      runs_few image s x,
+    )
+
+names_few : (bs : List BindingValue) → All (λ b. length b.locators ≤ 64) bs → length (flat_map named_by_shard bs) ≤ 64 * length bs
+names_few [] few = omega arith
+names_few (b ∷ bs) few =
+    let rest = names_few bs (All-tail (λ v. length v.locators ≤ 64) b bs few) in
+    let one : length b.locators ≤ 64 = All-head (λ v. length v.locators ≤ 64) b bs few in
+    let own : length (named_by_shard b) ≡ length b.locators =
+    length-map {B = Named} b.locators (λ (l : Locator). record { owner = Shard b.id; locator = l }) in
+    omega (arith, rest, one, own, length-append (named_by_shard b) (flat_map named_by_shard bs))
+
+locators_few : (image : Image) (s : Scrubbed) → IsScrubbed image s → IsSmallNumber (length (of_shards s.checked))
+locators_few image s x =
+    let cs = drop (length s.plan.runs) s.checked in
+    let part : length (of_shards s.checked) ≡ length cs =
+    ap (λ (us : List Checked). length us) (shards_part s.plan.runs s.bindings s.checked x.checked.same) in
+    let names : length (map named_of cs) ≡ length (flat_map named_by_shard s.bindings) =
+    ap (λ (ns : List Named). length ns) (along_runs s.plan.runs s.bindings s.checked x.checked.same) in
+    let same : length (map named_of cs) ≡ length cs = length-map cs named_of in
+    let few : length (flat_map named_by_shard s.bindings) ≤ 64 * length s.bindings = names_few s.bindings (entries_fit image s x) in
+    let most : length s.bindings < 2 ^ 32 = countable image s x in
+    omega (arith, part, names, same, few, most)
+
+total_free : (image : Image) (s : Scrubbed) → IsScrubbed image s →
+    IsLine (total_body (length s.bindings) (length (of_shards s.checked)))
+total_free image s x =
+    let n = length s.bindings in
+    let m = length (of_shards s.checked) in
+    let most : n < 2 ^ 32 = countable image s x in
+    joined (codes "total" ++ (32 ∷ decimal n)) (32 ∷ decimal m)
+    (joined (codes "total") (32 ∷ decimal n) (line_of_literal (codes "total") refl) (spaced_line (decimal n) (decimal_word n (omega (arith, most)))))
+    (spaced_line (decimal m) (decimal_word m (locators_few image s x)))
+
+-- ---- without a superblock nothing is named
+
+no_names : (runs : List Locator) (read : Runs) (bs : List BindingValue) (cs : List Checked) → runs ≡ [] →
+    length read ≡ length runs → All (IsNewestBinding read) bs → map named_of cs ≡ named runs bs → (read ≡ []) × (cs ≡ [])
+no_names (l ∷ ls) read bs cs none count newest same = absurd (no_tail l ls (sym none))
+no_names [] (r ∷ rs) bs cs none count newest same = absurd (omega (arith, count))
+no_names [] [] (b ∷ bs) cs none count newest same =
+    absurd (none-some _ (All-head (IsNewestBinding []) b bs newest).entry.is_read)
+no_names [] [] [] [] none count newest same = (refl, refl)
+no_names [] [] [] (c ∷ cs) none count newest same = absurd (no_tail (named_of c) (map named_of cs) (sym same))
+
+-- what is found without a superblock
+record IsBare (s : Scrubbed) : Type 0 where
+  retired : s.plan.retired ≡ []
+  read : s.read.runs ≡ []
+  checked : s.checked ≡ []
+
+bare : (image : Image) (s : Scrubbed) → IsScrubbed image s → s.plan.has_superblock ≡ false → IsBare s
+bare image s x none = by s.choice.superblock x.plan.by
+  where
+    by : (c : Option Contents) → MatchOption c (IsPlanWithout s.plan s.choice.geometry) (IsPlanBy s.plan) → IsBare s
+    by None p =
+        let names = no_names s.plan.runs s.read.runs s.bindings s.checked p.runs x.read.count x.bindings.newest x.checked.same in
+        record { retired = p.retired; read = names.0; checked = names.1 }
+    by (Some c) p = absurd (false≢true (sym none ∙ p.has))
 
 -- ---- the law
 
@@ -438,24 +676,88 @@ said image s x =
     ∙ ap (map held) (all_paired s.bindings cs (along_runs s.plan.runs s.bindings s.checked x.checked.same)
     ∙ sym (shards_part s.plan.runs s.bindings s.checked x.checked.same))
 
-all_lines : (retired : List ℕ) (pairs : List (ℕ × Checked)) → All (λ e. e < 2 ^ 64) retired → All IsHeld pairs →
-    All IsLine (bodies retired pairs)
-all_lines retired pairs hr hp =
-    All-append IsLine (map retired_body retired) (map held_body pairs)
-    (All-map IsLine retired_body retired (All-weaker (λ e. e < 2 ^ 64) (λ e. IsLine (retired_body e)) retired_free retired hr))
-    (All-map IsLine held_body pairs (All-weaker IsHeld (λ p. IsLine (held_body p)) held_free pairs hp))
+held_all : (image : Image) (s : Scrubbed) → IsScrubbed image s → All IsHeld (pairs_of s)
+held_all image s x =
+    held_along s.bindings (drop (length s.plan.runs) s.checked) (entries_fit image s x)
+    (along_runs s.plan.runs s.bindings s.checked x.checked.same) (small image s x)
 
-pub same_content : (image other : Image) (s t : Scrubbed) → IsScrubbed image s → IsScrubbed other t →
-    manifest_text s ≡ manifest_text t → HoldTheSame s t
-same_content image other s t x y e =
-    let ps = pairs_along s.bindings (drop (length s.plan.runs) s.checked) in
-    let qs = pairs_along t.bindings (drop (length t.plan.runs) t.checked) in
-    let hp : All IsHeld ps =
-    held_along s.bindings (drop (length s.plan.runs) s.checked) (entries_fit image s x) (along_runs s.plan.runs s.bindings s.checked x.checked.same) (small image s x) in
-    let hq : All IsHeld qs =
-    held_along t.bindings (drop (length t.plan.runs) t.checked) (entries_fit other t y) (along_runs t.plan.runs t.bindings t.checked y.checked.same) (small other t y) in
-    let lines : bodies s.plan.retired ps ≡ bodies t.plan.retired qs =
-    same_lines (bodies s.plan.retired ps) (bodies t.plan.retired qs) (all_lines s.plan.retired ps (retired_small image s x) hp) (all_lines t.plan.retired qs (retired_small other t y) hq)
-    (sym (text_of image s x) ∙ e ∙ text_of other t y) in
-    let both = same_bodies s.plan.retired t.plan.retired ps qs (retired_small image s x) (retired_small other t y) hp hq lines in
-    record { retired = both.0; shards = sym (said image s x) ∙ both.1 ∙ said other t y }
+all_lines : (image : Image) (s : Scrubbed) → IsScrubbed image s →
+    All IsLine (bodies s.plan.retired (lost_runs s) (hidden_runs s) (pairs_of s) (total_of s))
+all_lines image s x =
+    let l = lost_runs s in
+    let h = hidden_runs s in
+    let rest = map held_body (pairs_of s) ++ total_body (length s.bindings) (length (of_shards s.checked)) ∷ [] in
+    All-cons IsLine (retired_body s.plan.retired) (runs_body l h ∷ rest) (retired_free s.plan.retired (retired_small image s x))
+    (All-cons IsLine (runs_body l h) rest (runs_free l h (lost_small image s x) (hidden_small image s x))
+    (All-append IsLine (map held_body (pairs_of s)) (total_body (length s.bindings) (length (of_shards s.checked)) ∷ [])
+    (All-map IsLine held_body (pairs_of s) (All-weaker IsHeld (λ p. IsLine (held_body p)) held_free (pairs_of s) (held_all image s x)))
+    (All-cons IsLine (total_body (length s.bindings) (length (of_shards s.checked))) [] (total_free image s x) (All-nil IsLine))))
+
+-- the text without a superblock
+abbrev bare_text : List ℕ
+bare_text = codes "no-superblock" ++ 10 ∷ []
+
+-- a text with a superblock begins with another byte than one without
+never_bare : (xs rest : List ℕ) → bare_text ≡ (codes "retired" ++ xs ++ 10 ∷ []) ++ rest → ⊥
+never_bare xs rest e =
+    let first : 110 ≡ 114 = ap (λ (u : List ℕ). get_or u 0 0) e in
+    omega (arith, first)
+
+module _ (image other : Image) (s t : Scrubbed) (x : IsScrubbed image s) (y : IsScrubbed other t) where
+  with_superblocks : s.plan.has_superblock ≡ true → t.plan.has_superblock ≡ true →
+      flat_map ended (bodies s.plan.retired (lost_runs s) (hidden_runs s) (pairs_of s) (total_of s))
+      ≡ flat_map ended (bodies t.plan.retired (lost_runs t) (hidden_runs t) (pairs_of t) (total_of t)) →
+      HoldTheSame s t
+  with_superblocks hs ht e =
+      let ps = map held_body (pairs_of s) ++ total_body (length s.bindings) (length (of_shards s.checked)) ∷ [] in
+      let qs = map held_body (pairs_of t) ++ total_body (length t.bindings) (length (of_shards t.checked)) ∷ [] in
+      let rs = runs_body (lost_runs s) (hidden_runs s) in
+      let rt = runs_body (lost_runs t) (hidden_runs t) in
+      let lines = same_closed 10 (retired_body s.plan.retired ∷ rs ∷ ps) (retired_body t.plan.retired ∷ rt ∷ qs) (all_lines image s x) (all_lines other t y) e in
+      let behind = tails (retired_body s.plan.retired) (retired_body t.plan.retired) (rs ∷ ps) (rt ∷ qs) lines in
+      let runs = same_runs (lost_runs s) (hidden_runs s) (lost_runs t) (hidden_runs t) (lost_small image s x) (hidden_small image s x) (lost_small other t y) (hidden_small other t y) (heads rs rt ps qs behind) in
+      record {
+        superblock = hs ∙ sym ht;
+        retired = same_retired s.plan.retired t.plan.retired (retired_small image s x) (retired_small other t y) (heads (retired_body s.plan.retired) (retired_body t.plan.retired) (rs ∷ ps) (rt ∷ qs) lines);
+        lost = runs.0;
+        hidden = runs.1;
+        shards = sym (said image s x) ∙ same_bodies (total_of s) (total_of t) (pairs_of s) (pairs_of t) (held_all image s x) (held_all other t y) (tails rs rt ps qs behind) ∙ said other t y;
+      }
+
+  without : s.plan.has_superblock ≡ false → t.plan.has_superblock ≡ false → HoldTheSame s t
+  without hs ht =
+      let bs = bare image s x hs in
+      let bt = bare other t y ht in
+      record {
+        superblock = hs ∙ sym ht;
+        retired = bs.retired ∙ sym bt.retired;
+        lost = ap (count_by is_none) (bs.read ∙ sym bt.read);
+        hidden = none s bs ∙ sym (none t bt);
+        shards = ap all_held (bs.checked ∙ sym bt.checked);
+      }
+    where
+      none : (u : Scrubbed) → IsBare u → hidden_runs u ≡ 0
+      none u b = ap (λ (cs : List Checked). count_by (λ c. is_hidden c.status && is_of_read_run u.read.runs c.owner) cs) b.checked
+
+  by_superblock : (b c : Bool) → s.plan.has_superblock ≡ b → t.plan.has_superblock ≡ c →
+      text_by b s.plan.retired (lost_runs s) (hidden_runs s) s.bindings (of_shards s.checked)
+      ≡ text_by c t.plan.retired (lost_runs t) (hidden_runs t) t.bindings (of_shards t.checked) → HoldTheSame s t
+  by_superblock true true hs ht e = with_superblocks hs ht (sym (text_of image s x true refl) ∙ e ∙ text_of other t y true refl)
+  by_superblock true false hs ht e =
+      absurd (never_bare (flat_map spaced_number s.plan.retired) _ (sym e ∙ text_of image s x true refl))
+  by_superblock false true hs ht e =
+      absurd (never_bare (flat_map spaced_number t.plan.retired) _ (e ∙ text_of other t y true refl))
+  by_superblock false false hs ht e = without hs ht
+
+  pub same_content : manifest_text s ≡ manifest_text t → HoldTheSame s t
+  same_content e = by_superblock s.plan.has_superblock t.plan.has_superblock refl refl e
+
+-- what is held says whether anything is missing
+held_sound : (cs : List Checked) → list_all (λ (c : Checked). is_sound c.status) cs ≡ list_all (λ (h : HeldValue). is_sound h.status) (map held cs)
+held_sound cs = sym (list_all-map (λ (h : HeldValue). is_sound h.status) held cs)
+
+pub same_verdict : (s t : Scrubbed) → HoldTheSame s t → is_whole s ≡ is_whole t
+same_verdict s t h =
+    ap (λ (b : Bool). s.plan.has_superblock && lost_runs s == 0 && hidden_runs s == 0 && b) (held_sound (of_shards s.checked))
+    ∙ (λ i. h.superblock i && h.lost i == 0 && h.hidden i == 0 && list_all (λ (v : HeldValue). is_sound v.status) (h.shards i))
+    ∙ ap (λ (b : Bool). t.plan.has_superblock && lost_runs t == 0 && hidden_runs t == 0 && b) (sym (held_sound (of_shards t.checked)))

@@ -1,7 +1,7 @@
 -- What is named on a disk is the same after a reset of extents that no named locator points into.
-use Rattle.std.proofs.Common.{◌≡◌, ◌≢◌, ◌==◌, ℕ, Bool, true, false, Option, Some, None, MatchBool, MatchOption, List, [], ◌∷◌, ◌++◌, ◌+◌, length, get_or, arith, refl, sym, ◌∙◌, ap, subst}
+use Rattle.std.proofs.Common.{◌≡◌, ◌≢◌, ◌==◌, ◌&&◌, ℕ, Bool, is_none, true, false, Option, Some, None, MatchBool, MatchOption, List, [], ◌∷◌, ◌++◌, ◌+◌, length, get_or, arith, refl, sym, ◌∙◌, ap, subst}
 use Rattle.std.proofs.Math.Path.{ap₂, fun_ext}
-use Rattle.std.specs.List.{All, AllZip, Contains, flat_map, list_any}
+use Rattle.std.specs.List.{All, AllZip, Contains, count_by, flat_map, list_any}
 use Rattle.std.proofs.lemmas.List.Elements.{All-contains, All-contains_itself, All-cons, All-head, All-map, All-tail}
 use Rattle.scrub_disk.specs.declared.geometry.Geometry.{Geometry}
 use Rattle.scrub_disk.specs.Image.{Image, byte}
@@ -22,15 +22,15 @@ use Rattle.scrub_check.specs.declared.statuses.checked.Checked.{Checked}
 use Rattle.scrub_check.specs.declared.statuses.status.Status.{Status}
 use Rattle.scrub_check.specs.declared.statuses.status.Status.TheVariants.{OutOfRange, Retired, PastPointer, Unreadable, NoFrame, WrongUuid, WrongLength, WrongDigest, Hidden, Sound}
 use Rattle.scrub_check.specs.Candidates.{CandidateValue}
-use Rattle.scrub_check.specs.Checked.{AreChecked, named_of}
+use Rattle.scrub_check.specs.Checked.{AreChecked, is_hidden, named_of}
 use Rattle.scrub_check.specs.Named.{named, named_by_runs, named_by_shard}
-use Rattle.scrub_check.specs.Runs.{AreReadRuns, HasRunState, HasRunStateIn, IsLostInRetired, IsRunIn, IsRunOf, NamesRun}
+use Rattle.scrub_check.specs.Runs.{AreReadRuns, ReadRunsValue, HasRunState, HasRunStateIn, IsLostInRetired, IsRunIn, IsRunOf, NamesRun}
 use Rattle.scrub_check.specs.Status.{BeginsAt, CanStand, FindsFrame, HasStatus, HasStatusIn, HasStatusInRetired, HasUnreadableByte, InRange, NamesChunk, is_retired}
 use Rattle.scrub_check.proofs.OneList.{one_shared, one_broken}
 use Rattle.scrub_report.specs.declared.doubts.Accepted.{Accepted}
 use Rattle.scrub_report.specs.Index.{IsIndex, index_entries}
 use Rattle.scrub_report.specs.Locators.{AreLocatorLines, locator_lines}
-use Rattle.scrub_report.specs.Manifest.{IsManifest, retired_line, shard_lines}
+use Rattle.scrub_report.specs.Manifest.{IsManifest, is_of_read_run, manifest_text, of_shards, text_by}
 use Rattle.scrub_report.specs.Reclaimable.{IsMoved, moves, reclaimed}
 use Rattle.scrub_report.specs.Reset.{IsAfterReset, IsListedWithoutMoves, IsPlanAfterReset, IsPlanIn, IsReclaimed, NameTheSame}
 use Rattle.scrub_report.specs.Scrubbed.{Scrubbed, IsScrubbed}
@@ -269,7 +269,7 @@ module _ (extents : List ℕ) (before after : Image) (found rest : Scrubbed) (x 
 -- ---- what is named is the same
 
 module _ (before after : Image) (found rest : Scrubbed) (x : IsScrubbed before found) (y : IsScrubbed after rest)
-    (runs : rest.plan.runs ≡ found.plan.runs) (retired : rest.plan.retired ≡ found.plan.retired)
+    (has : rest.plan.has_superblock ≡ found.plan.has_superblock) (runs : rest.plan.runs ≡ found.plan.runs) (retired : rest.plan.retired ≡ found.plan.retired)
     (same : All (λ (c : Checked). IsTheSame before after found.plan rest.plan c.locator.extent) found.checked) where
   abbrev Same : Locator → Type 0
   Same l = IsTheSame before after found.plan rest.plan l.extent
@@ -316,6 +316,7 @@ module _ (before after : Image) (found rest : Scrubbed) (x : IsScrubbed before f
 
   name_the_same : NameTheSame found rest
   name_the_same = record {
+    superblock = has;
     runs = runs;
     retired = retired;
     read = read;
@@ -325,6 +326,15 @@ module _ (before after : Image) (found rest : Scrubbed) (x : IsScrubbed before f
     broken = one_broken found.checked rest.broken found.broken (rw checked at y.broken) x.broken;
   }
 
+-- the same manifest
+same_text : (found rest : Scrubbed) → NameTheSame found rest → manifest_text rest ≡ manifest_text found
+same_text found rest same i =
+    of (same.superblock i) (same.retired i) (same.read i) (same.bindings i) (same.checked i)
+  where
+    of : Bool → List ℕ → ReadRunsValue → List BindingValue → List Checked → List ℕ
+    of has retired read bindings checked =
+        text_by has retired (count_by is_none read.runs) (count_by (λ c. is_hidden c.status && is_of_read_run read.runs c.owner) checked) bindings (of_shards checked)
+
 -- ---- the law
 
 module _ (accepted : Accepted) (extents : List ℕ) (before after : Image) where
@@ -332,19 +342,14 @@ module _ (accepted : Accepted) (extents : List ℕ) (before after : Image) where
       IsScrubbed after rest → NameTheSame found rest
   the_same_named found rest r x y =
       let plans = plans_of extents before after found rest x y r.reset in
-      name_the_same before after found rest x y plans.runs plans.retired
+      name_the_same before after found rest x y plans.has plans.runs plans.retired
       (all_the_same extents before after found rest x y r.reset accepted r.listed)
 
   pub the_same_manifest : (a b : List ℕ) → IsReclaimed accepted extents before after → IsManifest before a →
       IsManifest after b → a ≡ b
   the_same_manifest a b r x y =
       let same = the_same_named x.found y.found r x.scrubbed y.scrubbed in
-      let of : List ℕ → List Checked → List BindingValue → List ℕ =
-      λ retired checked bindings. flat_map retired_line retired ++ flat_map (λ v. shard_lines checked v.id) bindings in
-      x.text_is
-      ∙ ap (λ (rs : List ℕ). of rs x.found.checked x.found.bindings) (sym same.retired)
-      ∙ ap₂ (of y.found.plan.retired) (sym same.checked) (sym same.bindings)
-      ∙ sym y.text_is
+      x.text_is ∙ sym (same_text x.found y.found same) ∙ sym y.text_is
 
   pub the_same_lines : (a b : List ℕ) → IsReclaimed accepted extents before after → AreLocatorLines before a →
       AreLocatorLines after b → a ≡ b

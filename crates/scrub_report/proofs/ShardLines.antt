@@ -1,15 +1,15 @@
 -- The lines of a manifest, one shard after another, are those of each shard's locators among all named ones.
-use Rattle.std.proofs.Common.{◌≡◌, ◌<◌, ◌≤◌, ◌+◌, ◌++◌, ◌∷◌, [], ℕ, zero, suc, Bool, true, false, cond, List, length, map, take, drop, get_or, AllPairs, arith, refl, sym, ◌∙◌, ap, subst, append-nil, append_assoc}
+use Rattle.std.proofs.Common.{◌≡◌, ◌<◌, ◌≤◌, ◌+◌, ◌&&◌, ◌++◌, ◌∷◌, [], ℕ, zero, suc, Bool, true, false, cond, List, length, map, take, drop, get_or, AllPairs, arith, refl, sym, ◌∙◌, ap, subst, append-nil, append_assoc}
 use Rattle.std.specs.Ordering.{is_eq, ordering_reverse}
-use Rattle.std.specs.List.{All, enumerate_from, filter, flat_map, take-map}
+use Rattle.std.specs.List.{All, count_by, enumerate_from, filter, flat_map, take-map}
 use Rattle.std.proofs.Math.ListN.{drop_of_length-le}
 use Rattle.std.proofs.Math.Path.{ap₂}
 use Rattle.std.proofs.Math.Seq.{drop-append_seam, drop-cons, take-append_seam}
-use Rattle.std.proofs.lemmas.List.{drop-map, length-append, length-map, take-append-drop}
+use Rattle.std.proofs.lemmas.List.{drop-map, length-append, length-map, length-take-le, take-append-drop}
 use Rattle.std.proofs.lemmas.List.Elements.{All-append, All-cons, All-head, All-map, All-tail, filter-append}
 use Rattle.std.proofs.lemmas.List.FromFn.{get_or-enumerate_from, length-enumerate_from}
+use Rattle.std.proofs.lemmas.List.Sums.{count_by-le-length, length-filter}
 use Rattle.std.proofs.lemmas.Map.Text.{is_eq-slice_cmp}
-use Rattle.scrub_disk.specs.Image.{Image}
 use Rattle.scrub_frame.specs.declared.locator.Locator.{Locator}
 use Rattle.scrub_run.specs.declared.shard_id.ShardId.{ShardId}
 use Rattle.scrub_run.specs.Entry.{IsBelow}
@@ -19,10 +19,10 @@ use Rattle.scrub_check.specs.declared.named.Named.{Named}
 use Rattle.scrub_check.specs.declared.named.Owner.{Owner}
 use Rattle.scrub_check.specs.declared.named.Owner.TheVariants.{Run, Shard}
 use Rattle.scrub_check.specs.declared.statuses.checked.Checked.{Checked}
+use Rattle.scrub_check.specs.declared.statuses.status.Status.{Status}
 use Rattle.scrub_check.specs.Checked.{is_owned_by, named_of}
 use Rattle.scrub_check.specs.Named.{named, named_by_runs, named_by_shard}
-use Rattle.scrub_report.specs.Manifest.{is_of_shard, manifest_text, numbered_line, numbered_lines, retired_line, shard_lines}
-use Rattle.scrub_report.specs.Scrubbed.{Scrubbed, IsScrubbed}
+use Rattle.scrub_report.specs.Manifest.{is_of_shard, numbered_line, numbered_lines, shard_lines}
 use Rattle.scrub_report.proofs.FlatLists.{flat_all, flat_more}
 
 -- ---- filters that keep all or none
@@ -231,20 +231,10 @@ module _ (runs : List Locator) (bs : List BindingValue) (checked : List Checked)
         length_runs 0 runs,
       )
 
-  -- no locator of a run is a shard's
-  pub lines_behind_runs : Rising bs →
-      flat_map (λ b. shard_lines (drop (length runs) checked) b.id) bs ≡ flat_map (λ b. shard_lines checked b.id) bs
-  lines_behind_runs rising =
-      let n = length runs in
-      sym (lines_are bs (drop n checked) rising along_runs)
-      ∙ lines_of_all (take n checked) bs (drop n checked) rising along_runs
-      (λ k d below. of_names (λ o. is_owned_by (get_or bs k d).id o ≡ false) (take n checked) (named_by_runs 0 runs) (named_front (named_by_runs 0 runs) (flat_map named_by_shard bs) checked n (length_runs 0 runs) same) (of_runs (λ o. is_owned_by (get_or bs k d).id o ≡ false) (λ r. refl) 0 runs))
-      ∙ ap (λ (us : List Checked). flat_map (λ b. shard_lines us b.id) bs) (take-append-drop n checked)
-
 -- the locators of shards, among all
-of_shard_owner : (K : Owner → Type 0) → ((id : ShardId) → K (Shard id)) → (bs : List BindingValue) →
+of_shard_owner : (K : Owner → Type 0) (bs : List BindingValue) → ((id : ShardId) → K (Shard id)) →
     All (λ (n : Named). K n.owner) (flat_map named_by_shard bs)
-of_shard_owner K shard bs = of_shards K bs (λ k d below. shard (get_or bs k d).id)
+of_shard_owner K bs shard = of_shards K bs (λ k d below. shard (get_or bs k d).id)
 
 pub shards_part : (runs : List Locator) (bs : List BindingValue) (checked : List Checked) → map named_of checked ≡ named runs bs →
     filter (λ c. is_of_shard c.owner) checked ≡ drop (length runs) checked
@@ -253,7 +243,7 @@ shards_part runs bs checked same =
     ∙ filter-append p (take n checked) (drop n checked)
     ∙ ap (λ (us : List Checked). us ++ filter p (drop n checked))
     (filter_none p (take n checked) (of_names (λ o. is_of_shard o ≡ false) (take n checked) (named_by_runs 0 runs) (named_front (named_by_runs 0 runs) (flat_map named_by_shard bs) checked n (length_runs 0 runs) same) (of_runs (λ o. is_of_shard o ≡ false) (λ k. refl) 0 runs)))
-    ∙ filter_all p (drop n checked) (of_names (λ o. is_of_shard o ≡ true) (drop n checked) (flat_map named_by_shard bs) (along_runs runs bs checked same) (of_shard_owner (λ o. is_of_shard o ≡ true) (λ id. refl) bs))
+    ∙ filter_all p (drop n checked) (of_names (λ o. is_of_shard o ≡ true) (drop n checked) (flat_map named_by_shard bs) (along_runs runs bs checked same) (of_shard_owner (λ o. is_of_shard o ≡ true) bs (λ id. refl)))
   where
     p : Checked → Bool
     p c = is_of_shard c.owner
@@ -326,20 +316,27 @@ shards_all bindings checked rest i old mid rising same end so_far =
     ∙ so_far
     ∙ ap (λ (u : List ℕ). old ++ u) (lines_are bindings checked rising same)
 
--- the text is the manifest of what was found
-pub manifest_found : (image : Image) (s : Scrubbed) → IsScrubbed image s →
-    (retired : List ℕ) (runs : List Locator) (bindings : List BindingValue) (checked of_shards : List Checked) (first text : List ℕ) →
-    retired ≡ s.plan.retired → runs ≡ s.plan.runs → bindings ≡ s.bindings → checked ≡ s.checked →
-    of_shards ≡ drop (length runs) checked → first ≡ flat_map retired_line retired →
-    text ≡ first ++ flat_map (λ b. shard_lines of_shards b.id) bindings → text ≡ manifest_text s
-manifest_found image s x retired runs bindings checked of_shards first text hr hn hb hc ho hf ht =
-    ht
-    ∙ ap (λ (u : List ℕ). u ++ flat_map (λ b. shard_lines of_shards b.id) bindings) (hf ∙ ap (flat_map retired_line) hr)
-    ∙ ap (λ (bs : List BindingValue). start ++ flat_map (λ b. shard_lines of_shards b.id) bs) hb
-    ∙ ap (λ (cs : List Checked). start ++ flat_map (λ b. shard_lines cs b.id) s.bindings)
-    (ho ∙ ap₂ (λ (ls : List Locator) (cs : List Checked). drop (length ls) cs) hn hc)
-    ∙ ap (λ (u : List ℕ). start ++ u)
-    (lines_behind_runs s.plan.runs s.bindings s.checked x.checked.same x.bindings.bindings_of_map.rising)
+-- no more runs are hidden than there are
+pub hidden_few : (runs : List Locator) (bs : List BindingValue) (checked : List Checked) (p : Status → Bool) (q : Owner → Bool) →
+    map named_of checked ≡ named runs bs → ((id : ShardId) → q (Shard id) ≡ false) →
+    count_by (λ (c : Checked). p c.status && q c.owner) checked ≤ length runs
+hidden_few runs bs checked p q same none =
+    let n = length runs in
+    let r : Checked → Bool = λ c. p c.status && q c.owner in
+    let part : length (filter r checked) ≡ length (filter r (take n checked)) =
+    ap (λ (us : List Checked). length (filter r us)) (sym (take-append-drop n checked))
+    ∙ ap (λ (us : List Checked). length us) (filter-append r (take n checked) (drop n checked)
+    ∙ ap (λ (us : List Checked). filter r (take n checked) ++ us) (filter_none r (drop n checked) (λ k d below. and_false (p (get_or (drop n checked) k d).status) (q (get_or (drop n checked) k d).owner) (of_names (λ o. q o ≡ false) (drop n checked) (flat_map named_by_shard bs) (along_runs runs bs checked same) (of_shard_owner (λ o. q o ≡ false) bs none) k d below)))
+    ∙ append-nil (filter r (take n checked))) in
+    omega (
+      arith,
+      part,
+      length-filter r checked,
+      length-filter r (take n checked),
+      count_by-le-length r (take n checked),
+      length-take-le n checked (runs_fit runs bs checked same),
+    )
   where
-    start : List ℕ
-    start = flat_map retired_line s.plan.retired
+    and_false : (a b : Bool) → b ≡ false → (a && b) ≡ false
+    and_false true b e = e
+    and_false false b e = refl

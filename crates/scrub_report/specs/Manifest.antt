@@ -1,27 +1,49 @@
--- The manifest of a disk: its retired extents, and what the locators of each shard name, wherever that lies.
-use Rattle.std.specs.Prelude.{◌≡◌, ◌<◌, ◌++◌, ◌∷◌, [], ℕ, Bool, true, false, List, Some, codes, map}
+-- The manifest of a disk: its retired extents, its index runs that aren't read as usual, and what the locators of each
+-- shard name, wherever that lies.
+use Rattle.std.specs.Prelude.{◌≡◌, ◌<◌, ◌/◌, ◌%◌, ◌==◌, ◌&&◌, ◌++◌, ◌∷◌, [], ℕ, Bool, true, false, List, Some, codes, is_none, is_some, length, map, if◌then◌else◌}
 use Rattle.std.specs.Fmt.{decimal}
-use Rattle.std.specs.List.{enumerate_from, filter, flat_map}
+use Rattle.std.specs.List.{count_by, enumerate_from, filter, flat_map, list_all, slice_get}
+use Rattle.std.specs.Option.{option_map_or}
 use Rattle.hex.specs.Hex.{encode_lower}
 use Rattle.scrub_disk.specs.Image.{Image, byte}
 use Rattle.scrub_run.specs.declared.shard_id.ShardId.{ShardId}
 use Rattle.scrub_scan.specs.Line.{spaced}
+use Rattle.scrub_merge.specs.Binding.{BindingValue, Runs}
 use Rattle.scrub_check.specs.declared.named.Owner.{Owner}
 use Rattle.scrub_check.specs.declared.named.Owner.TheVariants.{Run, Shard}
 use Rattle.scrub_check.specs.declared.statuses.checked.Checked.{Checked}
 use Rattle.scrub_check.specs.declared.statuses.status.Status.{Status}
-use Rattle.scrub_check.specs.Checked.{is_owned_by}
+use Rattle.scrub_check.specs.Checked.{is_hidden, is_owned_by, is_sound}
 use Rattle.scrub_report.specs.Scrubbed.{Scrubbed, IsScrubbed}
-use Rattle.scrub_report.specs.Texts.{owner_text, status_text}
+use Rattle.scrub_report.specs.Texts.{owner_text, status_text, uuid_text}
 
--- the line of a retired extent: `retired EXTENT` and a line feed
-abbrev pub retired_line : ℕ → List ℕ
-retired_line e = codes "retired" ++ spaced (decimal e) ++ 10 ∷ []
+-- ---- the lines
 
--- the line of a shard's locator of this number: `shard ID NUMBER LENGTH DIGEST STATUS` and a line feed
+-- the line of the retired extents: `retired` and each of them, with a space before each, and a line feed
+abbrev pub retired_line : List ℕ → List ℕ
+retired_line retired = codes "retired" ++ flat_map (λ e. spaced (decimal e)) retired ++ 10 ∷ []
+
+-- the line of the index runs: `runs lost L hidden H` and a line feed
+abbrev pub runs_line : ℕ → ℕ → List ℕ
+runs_line lost hidden = codes "runs lost" ++ spaced (decimal lost) ++ codes " hidden" ++ spaced (decimal hidden) ++ 10 ∷ []
+
+-- a number below 100 in two digits
+abbrev pub two_digits : ℕ → List ℕ
+two_digits n = decimal (n / 10) ++ decimal (n % 10)
+
+-- where a chunk that isn't sound is looked for: ` EXTENT OFFSET UUID`; nothing for a sound one
+abbrev pub place_unless_sound : Checked → List ℕ
+place_unless_sound c =
+    if is_sound c.status then [] else spaced (decimal c.locator.extent) ++ spaced (decimal c.locator.offset) ++ spaced (uuid_text c.locator.uuid)
+
+-- what the line of a shard's locator of this number begins with: `shard ID NUMBER LENGTH DIGEST STATUS`
+abbrev pub numbered_text : ℕ → Checked → List ℕ
+numbered_text number c =
+    owner_text c.owner ++ spaced (two_digits number) ++ spaced (decimal c.locator.length) ++ spaced (encode_lower c.locator.digest) ++ spaced (status_text c.status)
+
+-- the line of a shard's locator of this number: that, its place unless it is sound, and a line feed
 abbrev pub numbered_line : ℕ → Checked → List ℕ
-numbered_line number c =
-    owner_text c.owner ++ spaced (decimal number) ++ spaced (decimal c.locator.length) ++ spaced (encode_lower c.locator.digest) ++ spaced (status_text c.status) ++ 10 ∷ []
+numbered_line number c = numbered_text number c ++ place_unless_sound c ++ 10 ∷ []
 
 -- the lines of some locators, numbered from 0
 abbrev pub numbered_lines : List Checked → List ℕ
@@ -31,15 +53,73 @@ numbered_lines some = flat_map (λ p. numbered_line p.0 p.1) (enumerate_from 0 s
 abbrev pub shard_lines : List Checked → ShardId → List ℕ
 shard_lines checked id = numbered_lines (filter (λ c. is_owned_by id c.owner) checked)
 
--- the lines of the retired extents, rising, and then those of each shard of the shard map
+-- the last line: `total`, how many shards and how many locators of shards, and a line feed
+abbrev pub total_line : ℕ → ℕ → List ℕ
+total_line shards locators = codes "total" ++ spaced (decimal shards) ++ spaced (decimal locators) ++ 10 ∷ []
+
+-- ---- what is counted
+
+-- a shard names the locator
+abbrev pub is_of_shard : Owner → Bool
+is_of_shard (Shard id) = true
+is_of_shard (Run number) = false
+
+-- the locators of all shards, in the order of named locators
+abbrev pub of_shards : List Checked → List Checked
+of_shards checked = filter (λ c. is_of_shard c.owner) checked
+
+-- an index run that is read names the locator
+abbrev pub is_of_read_run : Runs → Owner → Bool
+is_of_read_run runs (Run number) = option_map_or is_some (slice_get runs number) false
+is_of_read_run runs (Shard id) = false
+
+-- how many index runs are lost
+abbrev pub lost_runs : Scrubbed → ℕ
+lost_runs s = count_by is_none s.read.runs
+
+-- how many index runs are read whose locator is hidden
+abbrev pub hidden_runs : Scrubbed → ℕ
+hidden_runs s = count_by (λ c. is_hidden c.status && is_of_read_run s.read.runs c.owner) s.checked
+
+-- ---- the whole text
+
+-- the lines of a manifest, by whether there is a superblock, the retired extents, the numbers of lost and of hidden runs,
+-- the bindings and the locators of shards
+abbrev pub text_by : Bool → List ℕ → ℕ → ℕ → List BindingValue → List Checked → List ℕ
+text_by has_superblock retired lost hidden bindings shards =
+    if has_superblock then retired_line retired
+    ++ runs_line lost hidden
+    ++ flat_map (λ b. shard_lines shards b.id) bindings
+    ++ total_line (length bindings) (length shards) else codes "no-superblock" ++ 10 ∷ []
+
+-- the retired extents, the runs that aren't read as usual, each locator of each shard of the shard map, and how many there
+-- are; or that there is no superblock
 abbrev pub manifest_text : Scrubbed → List ℕ
-manifest_text s = flat_map retired_line s.plan.retired ++ flat_map (λ b. shard_lines s.checked b.id) s.bindings
+manifest_text s = text_by s.plan.has_superblock s.plan.retired (lost_runs s) (hidden_runs s) s.bindings (of_shards s.checked)
 
 -- the text is the manifest of what is found in an image
 pub record IsManifest (image : Image) (text : List ℕ) : Type 0 where
   pub found : Scrubbed
   pub scrubbed : IsScrubbed image found
   pub text_is : text ≡ manifest_text found
+
+-- each of these locators is sound
+abbrev pub are_sound : List Checked → Bool
+are_sound checked = list_all (λ c. is_sound c.status) checked
+
+-- nothing is missing: there is a superblock, no run is lost or hidden, and each locator of a shard is sound
+abbrev pub is_whole_by : Bool → ℕ → ℕ → List Checked → Bool
+is_whole_by has_superblock lost hidden shards = has_superblock && lost == 0 && hidden == 0 && are_sound shards
+
+-- nothing is missing of what is found
+abbrev pub is_whole : Scrubbed → Bool
+is_whole s = is_whole_by s.plan.has_superblock (lost_runs s) (hidden_runs s) (of_shards s.checked)
+
+-- the truth value says whether nothing is missing of what is found in the image
+pub record IsWholeImage (image : Image) (whole : Bool) : Type 0 where
+  pub found : Scrubbed
+  pub scrubbed : IsScrubbed image found
+  pub verdict : whole ≡ is_whole found
 
 -- ---- what a manifest says
 
@@ -54,18 +134,17 @@ pub record HeldValue : Type 0 where
 abbrev pub held : Checked → HeldValue
 held c = record { owner = owner_text c.owner; length = c.locator.length; digest = encode_lower c.locator.digest; status = c.status }
 
--- a shard names the locator
-abbrev pub is_of_shard : Owner → Bool
-is_of_shard (Shard id) = true
-is_of_shard (Run number) = false
-
 -- what a manifest says of the shards' locators among the named ones, in their order
 abbrev pub all_held : List Checked → List HeldValue
-all_held checked = map held (filter (λ c. is_of_shard c.owner) checked)
+all_held checked = map held (of_shards checked)
 
--- the same is held on two disks: they have the same retired extents, and the same is said of the shards' locators
+-- the same is held on two disks: both have a superblock or none, they have the same retired extents, as many runs are lost
+-- and as many hidden, and the same is said of the shards' locators
 pub record HoldTheSame (s t : Scrubbed) : Type 0 where
+  pub superblock : s.plan.has_superblock ≡ t.plan.has_superblock
   pub retired : s.plan.retired ≡ t.plan.retired
+  pub lost : lost_runs s ≡ lost_runs t
+  pub hidden : hidden_runs s ≡ hidden_runs t
   pub shards : all_held s.checked ≡ all_held t.checked
 
 -- each byte of the image that can be read is below 256
@@ -85,4 +164,4 @@ unplaced c = record { owner = c.owner; length = c.locator.length; digest = c.loc
 
 -- the shards' locators among the named ones, in their order, without their places and UUIDs
 abbrev pub all_unplaced : List Checked → List Unplaced
-all_unplaced checked = map unplaced (filter (λ c. is_of_shard c.owner) checked)
+all_unplaced checked = map unplaced (of_shards checked)

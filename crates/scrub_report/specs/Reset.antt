@@ -31,8 +31,10 @@ pub record IsPlanIn (image : Image) (plan : PlanValue) : Type 0 where
   pub chosen : IsChoice image choice
   pub follows : IsPlanOf choice plan
 
--- the new plan names the same runs and the same retired extents, and all extents but these have the same write pointer
+-- the new plan comes from a superblock just if the old one does, it names the same runs and the same retired extents, and
+-- all extents but these have the same write pointer
 pub record IsPlanAfterReset (extents : List ℕ) (old new : PlanValue) : Type 0 where
+  pub has : new.has_superblock ≡ old.has_superblock
   pub runs : new.runs ≡ old.runs
   pub retired : new.retired ≡ old.retired
   pub pointers : (x : ℕ) → ¬ Contains extents x → pointer_of new x ≡ pointer_of old x
@@ -55,9 +57,10 @@ pub record IsReclaimed (accepted : Accepted) (extents : List ℕ) (before after 
 
 -- ---- what is the same
 
--- the same is named in what is found before and after: the retired extents, the index runs, what was read of them, the
--- bindings, each named locator with its status, the shared places and the broken shards
+-- the same is named in what is found before and after: whether there is a superblock, the retired extents, the index runs,
+-- what was read of them, the bindings, each named locator with its status, the shared places and the broken shards
 pub record NameTheSame (before after : Scrubbed) : Type 0 where
+  pub superblock : after.plan.has_superblock ≡ before.plan.has_superblock
   pub runs : after.plan.runs ≡ before.plan.runs
   pub retired : after.plan.retired ≡ before.plan.retired
   pub read : after.read ≡ before.read

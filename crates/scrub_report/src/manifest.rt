@@ -1,24 +1,29 @@
-//! The manifest of a disk: its retired extents, and what the locators of each shard name, wherever that lies.
+//! The manifest of a disk: its retired extents, its index runs that aren't read as usual, and what the locators of each shard
+//! name, wherever that lies.
 
-ghost use Rattle.std.specs.Prelude.{◌≡◌, ◌+◌, ◌++◌, ◌≤◌, List, ℕ, AllPairs, IfOk, OnOk, length, map};
-ghost use Rattle.std.specs.List.{flat_map};
+ghost use Rattle.std.specs.Prelude.{◌≡◌, ◌+◌, ◌++◌, ◌≤◌, ◌&&◌, Bool, List, ℕ, AllPairs, IfOk, OnOk, is_none, length, map};
+ghost use Rattle.std.specs.Fmt.{decimal};
+ghost use Rattle.std.specs.List.{count_by, flat_map};
 ghost use Rattle.scrub_disk.specs.Image.{Image};
 ghost use Rattle.scrub_run.specs.Entry.{IsBelow};
-ghost use Rattle.scrub_check.specs.Checked.{named_of};
+ghost use Rattle.scrub_scan.specs.Line.{spaced};
+ghost use Rattle.scrub_check.specs.Checked.{is_hidden, named_of};
 ghost use Rattle.scrub_check.specs.Named.{named_by_shard};
 ghost use Rattle.scrub_report.specs.Answer.{IsPartitionOfPlanned, IsCountOfPlanned};
-ghost use Rattle.scrub_report.specs.Manifest.{HoldTheSame, HoldsBytes, IsManifest, all_unplaced, numbered_line, numbered_lines, retired_line, shard_lines};
-ghost use Rattle.scrub_report.specs.Parts.{IsScan};
-ghost use Rattle.scrub_report.specs.Scrubbed.{IsCleanImage};
+ghost use Rattle.scrub_report.specs.Manifest.{HoldTheSame, HoldsBytes, IsManifest, IsWholeImage, all_unplaced, is_whole_by, numbered_line, numbered_lines, numbered_text, place_unless_sound, retired_line, runs_line, shard_lines, text_by, total_line};
+ghost use Rattle.scrub_report.specs.Parts.{IsScan, is_of_read_row};
 
 use crate::answer::ScrubFault;
+use crate::runs::RunRow;
 use crate::scanning::{Scan, scan_by};
-use crate::scrubbing::{is_clean, parts_of};
+use crate::scrubbing::{are_sound, parts_of};
 use crate::texts::{owner_text, status_text};
-use scrub_check::Checked;
+use scrub_check::{Checked, Owner};
 use scrub_disk::{OutOfMemory, PageSource};
+use scrub_frame::Locator;
 use scrub_merge::Binding;
 use scrub_pool::{Gate, Takings};
+use scrub_super::Plan;
 use std::alloc::Global;
 use std::sync::Wait;
 use std::thread::Threads;
@@ -26,31 +31,95 @@ use std::thread::Threads;
 /// What a disk holds, wherever it lies, as lines that can be kept, compared and signed.
 #[derive(Drop)]
 pub struct ManifestListing {
-    /// First `retired EXTENT` for each retired extent, rising. Then for each shard of the shard map, by identifier, and each of
-    /// its locators, in their order: `shard ID NUMBER LENGTH DIGEST STATUS`. The number is that of the locator among the
-    /// shard's, from 0, and the length is that of the payload in bytes, both in decimal. Identifier and digest (SHA-256) are in
-    /// hexadecimal digits, in lower case. The status has the report's words.
+    /// First `retired` with the retired extents, rising, and `runs lost L hidden H` with the numbers of index runs that are
+    /// lost, and that are read though their locator is hidden. Then for each shard of the shard map, by identifier, and each of
+    /// its locators, in their order: `shard ID NUMBER LENGTH DIGEST STATUS`, and behind it ` EXTENT OFFSET UUID` unless the
+    /// locator is sound. The number is that of the locator among the shard's, from 00, always in two digits. The length, that
+    /// of the payload, and the offset are in bytes. Identifier and digest (SHA-256) are in hexadecimal digits, in lower case.
+    /// The status has the report's words. At the end `total` with the numbers of shards and of their locators. Without a
+    /// superblock there is one line `no-superblock` alone.
     pub text: Vec<u8>,
-    /// Whether the disk is clean.
-    pub is_clean: bool,
+    /// Whether a superblock counts, no index run is lost or hidden, and each locator of a shard is sound.
+    pub is_whole: bool,
 }
 
-/// Appends the line of a retired extent.
+/// Appends the number of a retired extent, with a space before it.
 fn append_extent(alloc: Global, text: &mut Vec<u8>, extent: u32) -> Result<(), OutOfMemory>
-    ensures { OnOk result (text.new.items ≡ text.old.items ++ retired_line extent) }
+    ensures { OnOk result (text.new.items ≡ text.old.items ++ spaced (decimal extent)) }
 {
-    let line = format!(in alloc; "retired {extent}\n")?;
-    text.extend_from_slice(line.as_bytes())?;
+    let word = format!(in alloc; " {extent}")?;
+    text.extend_from_slice(word.as_bytes())?;
     Ok(())
 }
 
-/// Appends the lines of these retired extents.
-fn append_retired(alloc: Global, text: &mut Vec<u8>, retired: &[u32]) -> Result<(), OutOfMemory>
-    ensures { OnOk result (text.new.items ≡ text.old.items ++ flat_map retired_line retired.now) }
+/// Appends the numbers of these retired extents.
+fn append_extents(alloc: Global, text: &mut Vec<u8>, retired: &[u32]) -> Result<(), OutOfMemory>
+    ensures { OnOk result (text.new.items ≡ text.old.items ++ flat_map (λ e. spaced (decimal e)) retired.now) }
 {
     for extent in retired {
         append_extent(alloc, text, *extent)?;
     }
+    Ok(())
+}
+
+/// Appends the line of the retired extents.
+fn append_retired(alloc: Global, text: &mut Vec<u8>, retired: &[u32]) -> Result<(), OutOfMemory>
+    ensures { OnOk result (text.new.items ≡ text.old.items ++ retired_line retired.now) }
+{
+    text.extend_from_slice(b"retired")?;
+    append_extents(alloc, text, retired)?;
+    text.push(b'\n')?;
+    Ok(())
+}
+
+/// Appends the line of the index runs.
+fn append_runs(
+    alloc: Global,
+    text: &mut Vec<u8>,
+    lost: usize,
+    hidden: usize,
+) -> Result<(), OutOfMemory>
+    ensures { OnOk result (text.new.items ≡ text.old.items ++ runs_line lost hidden) }
+{
+    let line = format!(in alloc; "runs lost {lost} hidden {hidden}\n")?;
+    text.extend_from_slice(line.as_bytes())?;
+    Ok(())
+}
+
+/// Appends what the line of a shard's locator of this number begins with.
+fn append_text(
+    alloc: Global,
+    text: &mut Vec<u8>,
+    number: usize,
+    one: &Checked,
+) -> Result<(), OutOfMemory>
+    ensures { OnOk result (text.new.items ≡ text.old.items ++ numbered_text number one.now) }
+{
+    let owner = owner_text(alloc, one.owner)?;
+    let (tens, ones) = (number / 10, number % 10);
+    let length = one.locator.length;
+    let digest = hex::encode(alloc, one.locator.digest)?;
+    let status = status_text(one.status);
+    let line = format!(in alloc; "{owner} {tens}{ones} {length} {digest} {status}")?;
+    text.extend_from_slice(line.as_bytes())?;
+    Ok(())
+}
+
+/// Appends where a locator points, unless it is sound.
+fn append_place(alloc: Global, text: &mut Vec<u8>, one: &Checked) -> Result<(), OutOfMemory>
+    ensures { OnOk result (text.new.items ≡ text.old.items ++ place_unless_sound one.now) }
+{
+    if one.status.is_sound() {
+        return Ok(());
+    }
+    let Locator {
+        extent,
+        offset,
+        uuid,
+        ..
+    } = one.locator;
+    let place = format!(in alloc; " {extent} {offset} {uuid}")?;
+    text.extend_from_slice(place.as_bytes())?;
     Ok(())
 }
 
@@ -63,12 +132,9 @@ fn append_numbered(
 ) -> Result<(), OutOfMemory>
     ensures { OnOk result (text.new.items ≡ text.old.items ++ numbered_line number one.now) }
 {
-    let owner = owner_text(alloc, one.owner)?;
-    let length = one.locator.length;
-    let digest = hex::encode(alloc, one.locator.digest)?;
-    let status = status_text(one.status);
-    let line = format!(in alloc; "{owner} {number} {length} {digest} {status}\n")?;
-    text.extend_from_slice(line.as_bytes())?;
+    append_text(alloc, text, number, one)?;
+    append_place(alloc, text, one)?;
+    text.push(b'\n')?;
     Ok(())
 }
 
@@ -103,6 +169,81 @@ fn append_shards(
     Ok(())
 }
 
+/// Appends the last line.
+fn append_total(
+    alloc: Global,
+    text: &mut Vec<u8>,
+    shards: usize,
+    locators: usize,
+) -> Result<(), OutOfMemory>
+    ensures { OnOk result (text.new.items ≡ text.old.items ++ total_line shards locators) }
+{
+    let line = format!(in alloc; "total {shards} {locators}\n")?;
+    text.extend_from_slice(line.as_bytes())?;
+    Ok(())
+}
+
+/// The text by the plan, the numbers of lost and of hidden runs, the bindings, and the named locators of their shards.
+fn text_by(
+    alloc: Global,
+    plan: &Plan,
+    lost: usize,
+    hidden: usize,
+    bindings: &[Binding],
+    shards: &[Checked],
+) -> Result<Vec<u8>, OutOfMemory>
+    requires rising { AllPairs (λ b c. IsBelow b.id c.id) bindings.now }
+    requires along { map named_of shards.now ≡ flat_map named_by_shard bindings.now }
+    ensures { IfOk result (λ text. text.items ≡ text_by plan.now.has_superblock plan.now.retired lost hidden bindings.now shards.now) }
+{
+    if !plan.has_superblock() {
+        return Ok(Vec::from_slice(alloc, b"no-superblock\n")?);
+    }
+    let mut text = Vec::new(alloc);
+    append_retired(alloc, &mut text, plan.retired())?;
+    append_runs(alloc, &mut text, lost, hidden)?;
+    append_shards(alloc, &mut text, bindings, shards)?;
+    append_total(alloc, &mut text, bindings.len(), shards.len())?;
+    Ok(text)
+}
+
+/// How many index runs are lost.
+fn lost_runs(runs: &[RunRow]) -> usize
+    ensures { result ≡ count_by (λ r. is_none r.entries) runs.now }
+{
+    runs.iter().filter(|run| run.entries.is_none()).count()
+}
+
+/// Whether an index run that is read names a locator.
+fn is_of_read_run(runs: &[RunRow], owner: Owner) -> bool
+    ensures { result ≡ is_of_read_row runs.now owner }
+{
+    match owner {
+        Owner::Run(number) => match runs.get(number as usize) {
+            Some(run) => run.entries.is_some(),
+            None => false,
+        },
+        Owner::Shard(_) => false,
+    }
+}
+
+/// How many of these locators are hidden, and named by an index run that is read.
+fn hidden_runs(runs: &[RunRow], checked: &[Checked]) -> usize
+    ensures { result ≡ count_by (λ c. is_hidden c.status && is_of_read_row runs.now c.owner) checked.now }
+{
+    checked
+        .iter()
+        .filter(|one| one.status.is_hidden() && is_of_read_run(runs, one.owner))
+        .count()
+}
+
+/// Whether nothing is missing, by the plan, the numbers of lost and of hidden runs, and the locators of shards.
+fn is_whole_by(plan: &Plan, lost: usize, hidden: usize, shards: &[Checked]) -> bool
+    ensures { result ≡ is_whole_by plan.now.has_superblock lost hidden shards.now }
+{
+    plan.has_superblock() && lost == 0 && hidden == 0 && are_sound(shards)
+}
+
 /// The manifest of a scanned disk.
 fn manifest_of<R: Threads + Sync, D: PageSource>(
     rt: &R,
@@ -111,15 +252,15 @@ fn manifest_of<R: Threads + Sync, D: PageSource>(
 ) -> Result<ManifestListing, OutOfMemory>
     requires { IsScan (D.image scan.disk.now) scan.chosen scan.plan scan.all.extents }
     ensures text { IfOk result (λ m. IsManifest (D.image scan.entry.disk.now) m.text.items) }
-    ensures clean { IfOk result (λ m. IsCleanImage (D.image scan.entry.disk.now) m.is_clean) }
+    ensures whole { IfOk result (λ m. IsWholeImage (D.image scan.entry.disk.now) m.is_whole) }
 {
     let parts = parts_of(rt, alloc, scan)?;
-    let mut text = Vec::new(alloc);
-    append_retired(alloc, &mut text, parts.plan.retired())?;
-    let (_runs, of_shards) = parts.checked.split_at(parts.plan.runs().len());
-    append_shards(alloc, &mut text, parts.map.bindings(), of_shards)?;
-    let is_clean = is_clean(&parts);
-    Ok(ManifestListing { text, is_clean })
+    let (_runs, shards) = parts.checked.split_at(parts.plan.runs().len());
+    let lost = lost_runs(&parts.runs);
+    let hidden = hidden_runs(&parts.runs, &parts.checked);
+    let text = text_by(alloc, &parts.plan, lost, hidden, parts.map.bindings(), shards)?;
+    let is_whole = is_whole_by(&parts.plan, lost, hidden, shards);
+    Ok(ManifestListing { text, is_whole })
 }
 
 /// Lists what a disk holds, wherever it lies, and returns which extents the caller and each worker took. It scans as `scrub`
@@ -134,7 +275,7 @@ pub fn list_manifest<D: PageSource, G: Gate, R: Threads + Wait + Sync>(
 ) -> Result<(ManifestListing, Takings), ScrubFault>
     requires { workers ≤ 64 }
     ensures text { IfOk result (λ r. IsManifest (D.image disk.now) r.0.text.items) }
-    ensures clean { IfOk result (λ r. IsCleanImage (D.image disk.now) r.0.is_clean) }
+    ensures whole { IfOk result (λ r. IsWholeImage (D.image disk.now) r.0.is_whole) }
     ensures workers { IfOk result (λ r. length r.1.lists ≡ workers + 1) }
     ensures partition { IfOk result (λ r. IsPartitionOfPlanned (D.image disk.now) r.1.lists) }
     ensures counted { IfOk result (λ r. IsCountOfPlanned (D.image disk.now) r.1.counted) }
@@ -149,11 +290,14 @@ pub fn one_manifest()
     ensures { (image : Image) (a b : List ℕ) → IsManifest image a → IsManifest image b → a ≡ b }
 {}
 
-/// A law: two disks with one manifest have the same retired extents, and the same is said of the shards' locators. If the
-/// images are of bytes, they have the same shards, with the same lengths, digests and statuses in order.
+/// A law: two disks with one manifest both have a superblock or none, they have the same retired extents, as many index runs
+/// are lost or hidden, and the same is said of the shards' locators, so that they have one exit status. If the images are of
+/// bytes, they have the same shards, with the same lengths, digests and statuses in order.
 pub fn one_manifest_holds_the_same()
     ensures said { (image other : Image) (text : List ℕ) (x : IsManifest image text) (y : IsManifest other text) →
         HoldTheSame x.found y.found }
+    ensures whole { (image other : Image) (text : List ℕ) (a b : Bool) → IsManifest image text → IsManifest other text →
+        IsWholeImage image a → IsWholeImage other b → a ≡ b }
     ensures shards { (image other : Image) (text : List ℕ) (x : IsManifest image text) (y : IsManifest other text) →
         HoldsBytes image → HoldsBytes other → all_unplaced x.found.checked ≡ all_unplaced y.found.checked }
 {}

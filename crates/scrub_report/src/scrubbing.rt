@@ -168,7 +168,7 @@ pub(crate) fn parts_and_twins<'d, R: Threads + Sync, D: PageSource>(
 }
 
 /// Whether each locator is sound.
-fn are_sound(checked: &[Checked]) -> bool
+pub(crate) fn are_sound(checked: &[Checked]) -> bool
     ensures { result ≡ list_all (λ c. is_sound c.status) checked.now }
 {
     checked.iter().all(|one| one.status.is_sound())

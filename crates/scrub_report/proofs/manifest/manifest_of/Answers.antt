@@ -1,10 +1,17 @@
 -- The text and the verdict are those of what was found.
-use Rattle.std.proofs.Common.{◌++◌, ℕ, List, ap, ◌∙◌}
-use Rattle.std.specs.List.{flat_map}
-use Rattle.scrub_report.specs.Manifest.{retired_line}
-use Rattle.scrub_report.specs.Parts.{found_in}
-use Rattle.scrub_report.proofs.KeptRuns.{clean_found}
-use Rattle.scrub_report.proofs.ShardLines.{along_runs, manifest_found, runs_fit}
+use Rattle.std.proofs.Common.{◌≡◌, ◌&&◌, Bool, drop, is_none, length, ap, sym, ◌∙◌}
+use Rattle.std.specs.List.{count_by}
+use Rattle.std.proofs.Math.Path.{fun_ext}
+use Rattle.scrub_check.specs.declared.named.Owner.{Owner}
+use Rattle.scrub_check.specs.declared.statuses.checked.Checked.{Checked}
+use Rattle.scrub_check.specs.Checked.{is_hidden}
+use Rattle.scrub_report.specs.declared.runs.RunRow.{RunRow}
+use Rattle.scrub_report.specs.Manifest.{hidden_runs, is_whole_by, lost_runs, of_shards, text_by}
+use Rattle.scrub_report.specs.Parts.{found_in, is_of_read_row}
+use Rattle.scrub_report.specs.Scrubbed.{Scrubbed}
+use Rattle.scrub_report.proofs.KeptRuns.{lost_found, read_found}
+use Rattle.scrub_report.proofs.ShardLines.{along_runs, runs_fit, shards_part}
+use Rattle.scrub_report.proofs.manifest.manifest_of.Given.{Over}
 use Rattle.scrub_report.proofs.manifest.manifest_of.Goals as goal
 
 pub split_at-requires : goal.split_at-requires
@@ -13,33 +20,51 @@ split_at-requires g c =
     rw (c.runs.ensures.runs, c.deref.ensures.value)
     (runs_fit parts.plan.runs parts.map parts.checked.items c.in_ok-parts.ensures.scrubbed.checked.same)
 
-pub append_shards-requires-clause-along : goal.append_shards-requires-clause-along
-append_shards-requires-clause-along g c =
+pub text_by-requires-clause-along : goal.text_by-requires-clause-along
+text_by-requires-clause-along g c =
     let parts = c.in_ok-parts.parts in
     rw (c.split_at.ensures.back, c.runs.ensures.runs, c.deref.ensures.value, c.bindings.ensures.bindings)
     (along_runs parts.plan.runs parts.map parts.checked.items c.in_ok-parts.ensures.scrubbed.checked.same)
 
+-- what was counted and cut off is what was found
+module _ (g : Over) (c : goal.After-drop-parts-18 g) where
+  abbrev parts_found : Scrubbed
+  parts_found = found_in c.in_ok-parts.parts c.in_ok-parts.ensures.read
+
+  lost_is : c.lost_runs-lost.result ≡ lost_runs parts_found
+  lost_is =
+      c.lost_runs-lost.ensures
+      ∙ ap (count_by (λ (r : RunRow). is_none r.entries)) c.deref-2.ensures.value
+      ∙ lost_found c.in_ok-parts.parts.plan.runs c.in_ok-parts.ensures.read c.in_ok-parts.parts.runs.items c.in_ok-parts.ensures.rows
+
+  hidden_is : c.hidden_runs-hidden.result ≡ hidden_runs parts_found
+  hidden_is =
+      c.hidden_runs-hidden.ensures
+      ∙ (λ i. count_by (λ (one : Checked). is_hidden one.status && is_of_read_row (c.deref-3.ensures.value i) one.owner) (c.deref-4.ensures.value i))
+      ∙ ap (λ (p : Owner → Bool). count_by (λ (one : Checked). is_hidden one.status && p one.owner) c.in_ok-parts.parts.checked.items) (fun_ext (read_found c.in_ok-parts.parts.plan.runs c.in_ok-parts.ensures.read c.in_ok-parts.parts.runs.items c.in_ok-parts.ensures.rows))
+
+  shards_are : c.split_at.result.1.now ≡ of_shards c.in_ok-parts.parts.checked.items
+  shards_are =
+      c.split_at.ensures.back
+      ∙ (λ i. drop (length (c.runs.ensures.runs i)) (c.deref.ensures.value i))
+      ∙ sym (shards_part c.in_ok-parts.parts.plan.runs c.in_ok-parts.parts.map c.in_ok-parts.parts.checked.items c.in_ok-parts.ensures.scrubbed.checked.same)
+
 pub returns-clause-text : goal.returns-clause-text
 returns-clause-text g c =
-    let are = c.in_ok-parts.ensures in
-    let first =
-    c.in_ok-append_retired.ensures
-    ∙ ap (λ (u : List ℕ). u ++ flat_map retired_line c.retired.result.now) c.new-text.ensures.items in
     record {
-      found = found_in c.in_ok-parts.parts are.read;
-      scrubbed = are.scrubbed;
+      found = parts_found g c;
+      scrubbed = c.in_ok-parts.ensures.scrubbed;
       text_is =
-          manifest_found (g.D.PageSource.image c.args.scan.disk.now) (found_in c.in_ok-parts.parts are.read) are.scrubbed c.retired.result.now
-          c.runs.result.now c.bindings.result.now c.deref.result.now c.split_at.result.1.now
-          c.append_retired.new.text.items c.append_shards.new.text.items c.retired.ensures.retired c.runs.ensures.runs
-          c.bindings.ensures.bindings c.deref.ensures.value c.split_at.ensures.back first c.in_ok-append_shards.ensures;
+          c.in_ok-text.ensures
+          ∙ (λ i. text_by c.in_ok-parts.parts.plan.has_superblock c.in_ok-parts.parts.plan.retired (lost_is g c i) (hidden_is g c i) (c.bindings.ensures.bindings i) (shards_are g c i));
     }
 
-pub returns-clause-clean : goal.returns-clause-clean
-returns-clause-clean g c =
-    let are = c.in_ok-parts.ensures in
+pub returns-clause-whole : goal.returns-clause-whole
+returns-clause-whole g c =
     record {
-      found = found_in c.in_ok-parts.parts are.read;
-      scrubbed = are.scrubbed;
-      verdict = c.is_clean-is_clean.ensures ∙ clean_found c.in_ok-parts.parts are.read are.rows;
+      found = parts_found g c;
+      scrubbed = c.in_ok-parts.ensures.scrubbed;
+      verdict =
+          c.is_whole_by-is_whole.ensures
+          ∙ (λ i. is_whole_by c.in_ok-parts.parts.plan.has_superblock (lost_is g c i) (hidden_is g c i) (shards_are g c i));
     }
