@@ -7,7 +7,7 @@ use Rattle.scrub_disk.specs.Image.{Image}
 use Rattle.scrub_report.specs.Answer.{IsPartitionOfPlanned}
 use Rattle.scrub_report.specs.Index.{IsIndex}
 use Rattle.scrub_report.specs.Locators.{AreLocatorLines}
-use Rattle.scrub_report.specs.Manifest.{IsManifest}
+use Rattle.scrub_report.specs.Manifest.{IsManifest, IsWholeImage}
 use Rattle.scrub_report.specs.declared.doubts.Accepted.{Accepted}
 use Rattle.scrub_report.specs.Reclaimable.{AreReclaimLines, IsClear}
 use Rattle.scrub_report.specs.Report.{IsReport}
@@ -27,6 +27,12 @@ pub record IsStatusOfImage (image : Image) (status : ℕ) : Type 0 where
   pub verdict : IsCleanImage image is_clean
   pub ended : status ≡ status_of_clean is_clean
 
+-- the status of a manifest: 0 if nothing is missing of what is found in the image, and 1 if something is
+pub record IsStatusOfManifest (image : Image) (status : ℕ) : Type 0 where
+  pub is_whole : Bool
+  pub verdict : IsWholeImage image is_whole
+  pub ended : status ≡ status_of_clean is_whole
+
 -- the status of the doubts of an image: 0 if each is accepted, and 1 if one isn't
 pub record IsStatusOfDoubts (image : Image) (accepted : Accepted) (status : ℕ) : Type 0 where
   pub is_clear : Bool
@@ -42,12 +48,12 @@ Tells Locators image text = AreLocatorLines image text
 Tells Manifest image text = IsManifest image text
 Tells (Reclaimable accepted) image text = AreReclaimLines image accepted text
 
--- the status is that of the image, or for what may be reclaimed that of its doubts
+-- the status is that of the image, for a manifest that of what is missing, or for what may be reclaimed that of its doubts
 abbrev pub IsStatusOf : Wanted → Image → ℕ → Type 0
 IsStatusOf Report image status = IsStatusOfImage image status
 IsStatusOf Index image status = IsStatusOfImage image status
 IsStatusOf Locators image status = IsStatusOfImage image status
-IsStatusOf Manifest image status = IsStatusOfImage image status
+IsStatusOf Manifest image status = IsStatusOfManifest image status
 IsStatusOf (Reclaimable accepted) image status = IsStatusOfDoubts image accepted status
 
 -- the text is what is wanted of an image, with its status

@@ -144,7 +144,7 @@ pub fn disk_answer<R: Threads + Wait + Sync, D: PageSource>(
         }
         Wanted::Manifest => {
             let (manifest, takings) = list_manifest(rt, alloc, disk, workers, &NoGate)?;
-            Ok((Answer::new(manifest.text, manifest.is_clean), takings))
+            Ok((Answer::new(manifest.text, manifest.is_whole), takings))
         }
         Wanted::Reclaimable(accepted) => {
             let (listing, takings) = list_reclaimable(rt, alloc, disk, workers, &NoGate, accepted)?;

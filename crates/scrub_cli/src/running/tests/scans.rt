@@ -150,19 +150,19 @@ fn the_manifest_of_a_disk_with_one_shard(rt: HostRuntime) -> Result<(), Fail> {
             "manifest --page 64 --pages 4 --extents 3 disk.img",
             (
                 0,
-                "shard 00000000000000000000000000000001 0 3 ba7816bf8f01cfea414140de5dae2223b00361a396177a9cb410ff61f20015ad sound\n",
+                "retired\nruns lost 0 hidden 0\nshard 00000000000000000000000000000001 00 3 ba7816bf8f01cfea414140de5dae2223b00361a396177a9cb410ff61f20015ad sound\ntotal 1 1\n",
             ),
         ),
         (
             "manifest --page 64 --pages 4 --extents 3 --workers 3 disk.img 1:0",
             (
                 1,
-                "shard 00000000000000000000000000000001 0 3 ba7816bf8f01cfea414140de5dae2223b00361a396177a9cb410ff61f20015ad unreadable\n",
+                "retired\nruns lost 0 hidden 0\nshard 00000000000000000000000000000001 00 3 ba7816bf8f01cfea414140de5dae2223b00361a396177a9cb410ff61f20015ad unreadable 1 0 11111111-1111-1111-1111-111111111111\ntotal 1 1\n",
             ),
         ),
         (
             "manifest --page 64 --pages 4 --extents 3 disk.img 0:0",
-            (1, ""),
+            (1, "no-superblock\n"),
         ),
     ] {
         let (status, lines) = wanted;
