@@ -20,7 +20,7 @@ use Rattle.scrub_report.specs.declared.doubts.Doubt.{Doubt}
 use Rattle.scrub_report.specs.declared.parts.Parts.{Parts}
 use Rattle.scrub_report.specs.Doubts.{are_accepted, doubts, doubts_in}
 use Rattle.scrub_report.specs.Parts.{AreRowsOf, found_in, run_states}
-use Rattle.scrub_report.specs.Reclaimable.{AreMoved, AreOfCandidates, AreReclaimLines, IsClear, IsMoved, candidate_lines, doubt_line, is_clear, pointing_to, points_to, reclaim_text, reclaimed, rooms_if}
+use Rattle.scrub_report.specs.Reclaimable.{AreMoved, AreOfCandidates, AreReclaimLines, IsClear, IsMoved, candidate_lines, doubt_line, is_clear, pointing_to, points_to, reclaim_text, reclaimed, rooms_for, rooms_kept}
 use Rattle.scrub_report.specs.Report.{IsReport, report_text}
 use Rattle.scrub_report.specs.Scrubbed.{Scrubbed, IsScrubbed, is_in_doubt}
 use Rattle.scrub_report.proofs.OneReport.{one_scrub}
@@ -45,15 +45,15 @@ module _ {D : Type 0} {s : _} (p : Parts D s) (read : ReadRunsValue) (rows : Are
   pub lines_found : (list : List Doubt) (clear : Bool) (lines text : List ℕ) →
       list ≡ doubts_in p.chosen pages (run_states p.runs.items) p.plan.geometry.page p.all.extents →
       clear ≡ are_accepted accepted list → lines ≡ flat_map (doubt_line accepted) list →
-      text ≡ lines ++ flat_map (candidate_lines p.checked.items) (if clear then p.liveness.candidates.items else []) ++ rooms_if clear (found_in p read) →
+      text ≡ lines ++ flat_map (candidate_lines p.checked.items) (if clear then p.liveness.candidates.items else []) ++ rooms_kept clear p →
       text ≡ reclaim_text accepted pages (found_in p read)
   lines_found list clear lines text are is first all =
       all
       ∙ ap
-      (λ (u : List ℕ). u ++ flat_map (candidate_lines p.checked.items) (if clear then p.liveness.candidates.items else []) ++ rooms_if clear (found_in p read))
+      (λ (u : List ℕ). u ++ flat_map (candidate_lines p.checked.items) (if clear then p.liveness.candidates.items else []) ++ rooms_kept clear p)
       (first ∙ ap (flat_map (doubt_line accepted)) (are ∙ doubts_found))
       ∙ ap
-      (λ (b : Bool). flat_map (doubt_line accepted) (doubts pages (found_in p read)) ++ flat_map (candidate_lines p.checked.items) (if b then p.liveness.candidates.items else []) ++ rooms_if b (found_in p read))
+      (λ (b : Bool). flat_map (doubt_line accepted) (doubts pages (found_in p read)) ++ flat_map (candidate_lines p.checked.items) (if b then p.liveness.candidates.items else []) ++ rooms_kept b p)
       (clear_found list clear are is)
 
 -- ---- one text, and one verdict
@@ -96,7 +96,7 @@ module _ (image : Image) (accepted : Accepted) where
     text_is =
         t.text_is
         ∙ ap
-        (λ (b : Bool). flat_map (doubt_line accepted) (doubts t.pages t.found) ++ flat_map (candidate_lines t.found.checked) (if b then t.found.candidates else []) ++ rooms_if b t.found)
+        (λ (b : Bool). flat_map (doubt_line accepted) (doubts t.pages t.found) ++ flat_map (candidate_lines t.found.checked) (if b then t.found.candidates else []) ++ rooms_for (if b then t.found.candidates else []) t.found)
         (sym (v.verdict ∙ same_verdict v.found t.found v.pages t.pages (one_scrub image v.found t.found v.scrubbed t.scrubbed) (one_list_of_pages image v.pages t.pages v.held t.held)));
   }
 

@@ -38,7 +38,7 @@ use Rattle.scrub_check.specs.declared.named.Named.{Named}
 use Rattle.scrub_check.specs.Checked.{is_hidden, is_sound, named_of}
 use Rattle.scrub_check.specs.Named.{named, named_by_shard}
 use Rattle.scrub_report.specs.Index.{indexed}
-use Rattle.scrub_report.specs.Manifest.{HeldValue, HoldTheSame, all_held, held, hidden_runs, is_of_read_run, is_whole, is_whole_by, lost_runs, manifest_text, numbered_lines, of_shards, place_unless_sound, shard_lines, text_by, two_digits}
+use Rattle.scrub_report.specs.Manifest.{HeldValue, HoldTheSame, all_held, held, hidden_runs, is_of_read_run, is_whole, lost_runs, manifest_text, numbered_lines, of_shards, place_unless_sound, shard_lines, text_by, two_digits}
 use Rattle.scrub_report.specs.Scrubbed.{Scrubbed, IsScrubbed}
 use Rattle.scrub_report.specs.Texts.{owner_text, status_text, uuid_text}
 use Rattle.scrub_report.proofs.Indexable.{countable, entries_are, entries_fit}

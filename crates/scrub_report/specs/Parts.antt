@@ -1,5 +1,5 @@
 -- What the code keeps of a disk until the report is written.
-use Rattle.std.specs.Prelude.{◌≡◌, ◌&&◌, ℕ, Bool, false, List, is_some, map}
+use Rattle.std.specs.Prelude.{◌≡◌, ◌&&◌, Bool, false, List, is_some, map}
 use Rattle.std.specs.List.{list_all, slice_get}
 use Rattle.std.specs.Option.{option_map_or}
 use Rattle.scrub_disk.specs.Image.{Image}

@@ -1,5 +1,5 @@
 -- The lines that say which extents can be reclaimed, and what must be moved first.
-use Rattle.std.specs.Prelude.{◌≡◌, ◌++◌, ◌∷◌, ◌==◌, ◌&&◌, [], ℕ, Bool, List, All, Contains, codes, if◌then◌else◌}
+use Rattle.std.specs.Prelude.{◌≡◌, ◌++◌, ◌∷◌, ◌==◌, ◌&&◌, [], ℕ, Bool, List, All, Contains, codes, length, if◌then◌else◌}
 use Rattle.std.specs.Fmt.{decimal}
 use Rattle.std.specs.List.{filter, flat_map}
 use Rattle.scrub_disk.specs.Image.{Image}
@@ -12,6 +12,7 @@ use Rattle.scrub_check.specs.Candidates.{CandidateValue}
 use Rattle.scrub_report.specs.declared.doubts.Accepted.{Accepted}
 use Rattle.scrub_report.specs.declared.doubts.Doubt.{Doubt}
 use Rattle.scrub_report.specs.declared.doubts.Doubt.TheVariants.{NoSuperblock, Tie, SuperblockLost, SuperblockDamaged, SuperblockStray, RunLost, Tail, TailLost}
+use Rattle.scrub_report.specs.declared.parts.Parts.{Parts}
 use Rattle.scrub_report.specs.Doubts.{are_accepted, doubts, is_accepted}
 use Rattle.scrub_report.specs.Locators.{place_text}
 use Rattle.scrub_report.specs.Report.{report_text}
@@ -88,15 +89,20 @@ is_clear accepted pages found = are_accepted accepted (doubts pages found)
 abbrev pub reclaimed : Accepted → List SuperblockPage → Scrubbed → List CandidateValue
 reclaimed accepted pages found = if is_clear accepted pages found then found.candidates else []
 
--- the lines of the extents with room, if each doubt is of an accepted kind, or else nothing
-abbrev pub rooms_if : Bool → Scrubbed → List ℕ
-rooms_if clear found = if clear then room_lines found.plan.geometry found.all found.checked found.candidates else []
+-- the lines of the extents with room, if there are extents to reclaim, or else nothing
+abbrev pub rooms_for : List CandidateValue → Scrubbed → List ℕ
+rooms_for candidates found = if length candidates == 0 then [] else room_lines found.plan.geometry found.all found.checked
+
+module _ {D : Type 0} {s : _} where
+  -- the lines of the extents with room by the parts that the code keeps, if it is clear
+  abbrev pub rooms_kept : Bool → Parts D s → List ℕ
+  rooms_kept clear p = if length (if clear then p.liveness.candidates.items else []) == 0 then [] else room_lines p.plan.geometry p.all.extents p.checked.items
 
 -- the lines of the doubts, then those of the extents to reclaim, and then those of the extents with room
 abbrev pub reclaim_text : Accepted → List SuperblockPage → Scrubbed → List ℕ
 reclaim_text accepted pages found =
     doubt_lines accepted (doubts pages found) ++ all_candidate_lines found.checked (reclaimed accepted pages found)
-    ++ rooms_if (is_clear accepted pages found) found
+    ++ rooms_for (reclaimed accepted pages found) found
 
 -- the text is the lines of the doubts, of the extents to reclaim and of those with room, of what is found in an image
 pub record AreReclaimLines (image : Image) (accepted : Accepted) (text : List ℕ) : Type 0 where
@@ -125,7 +131,7 @@ pub record AreOfCandidates (image : Image) (accepted : Accepted) (report text : 
   pub held : AreSuperblockPages image pages
   pub report_is : report ≡ report_text found
   pub text_is :
-      text ≡ doubt_lines accepted (doubts pages found) ++ all_candidate_lines found.checked (if clear then found.candidates else []) ++ rooms_if clear found
+      text ≡ doubt_lines accepted (doubts pages found) ++ all_candidate_lines found.checked (if clear then found.candidates else []) ++ rooms_for (if clear then found.candidates else []) found
 
 -- a named locator is sound, points to a chunk that a candidate keeps, and has a line among its moves
 pub record IsMoved (checked : List Checked) (a : CandidateValue) (c : Checked) : Type 0 where

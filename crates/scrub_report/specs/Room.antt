@@ -1,8 +1,8 @@
 -- Where the next frame can be put in an extent, and that it is found there.
-use Rattle.std.specs.Prelude.{◌≡◌, ◌<◌, ◌+◌, ◌-◌, ◌*◌, ◌/◌, ◌%◌, ◌==◌, ◌&&◌, ◌||◌, ◌++◌, ℕ, Bool, true, false, not, nat_lt, List, [], ◌∷◌, codes, if◌then◌else◌}
+use Rattle.std.specs.Prelude.{◌≡◌, ◌<◌, ◌+◌, ◌-◌, ◌*◌, ◌/◌, ◌%◌, ◌==◌, ◌&&◌, ◌||◌, ◌++◌, ℕ, Bool, true, false, nat_lt, List, [], ◌∷◌, codes, if◌then◌else◌}
 use Rattle.std.specs.Prelude.{length as len}
 use Rattle.std.specs.Fmt.{decimal}
-use Rattle.std.specs.List.{flat_map, list_all, list_any}
+use Rattle.std.specs.List.{flat_map, list_all}
 use Rattle.sha2.specs.Sha256.{sha256}
 use Rattle.scrub_disk.specs.declared.geometry.Geometry.{Geometry}
 use Rattle.scrub_disk.specs.Image.{Image, byte, extent_bytes}
@@ -15,7 +15,7 @@ use Rattle.scrub_scan.specs.Line.{spaced}
 use Rattle.scrub_scan.specs.Scanned.{Scanned}
 use Rattle.scrub_scan.specs.Tiling.{IsTiling}
 use Rattle.scrub_check.specs.declared.statuses.checked.Checked.{Checked}
-use Rattle.scrub_check.specs.Candidates.{CandidateValue, has_sound_alone}
+use Rattle.scrub_check.specs.Candidates.{has_sound_alone}
 use Rattle.scrub_check.specs.Live.{is_chunk}
 use Rattle.scrub_report.specs.Scrubbed.{is_clean_extent, is_clean_item}
 
@@ -32,11 +32,10 @@ next_place page w items = if (w % page == 0) || ends_in_chunk items then w else 
 
 -- ---- the lines
 
--- a chunk can be put into a scanned extent: each page can be read, each item is a chunk or zeros, each named locator with its
--- number is sound, and it isn't one of these candidates
-abbrev pub may_grow : List Checked → List CandidateValue → Scanned → Bool
-may_grow checked candidates f =
-    is_clean_extent f && has_sound_alone checked f && not (list_any (λ a. a.extent == f.extent) candidates)
+-- a chunk can be put into a scanned extent: each page can be read, each item is a chunk or zeros, and each named locator with
+-- its number is sound
+abbrev pub may_grow : List Checked → Scanned → Bool
+may_grow checked f = is_clean_extent f && has_sound_alone checked f
 
 -- the place for the next frame in a scanned extent
 abbrev pub place_in : Geometry → Scanned → ℕ
@@ -56,12 +55,12 @@ abbrev pub room_text : Geometry → Scanned → List ℕ
 room_text g f = if nat_lt (room_in g f) least_overhead then [] else room_line f.extent (place_in g f) (room_in g f)
 
 -- the line of a scanned extent, if a chunk can be put into it, or else nothing
-abbrev pub room_if : Geometry → List Checked → List CandidateValue → Scanned → List ℕ
-room_if g checked candidates f = if may_grow checked candidates f then room_text g f else []
+abbrev pub room_if : Geometry → List Checked → Scanned → List ℕ
+room_if g checked f = if may_grow checked f then room_text g f else []
 
 -- the lines of all scanned extents with room, rising
-abbrev pub room_lines : Geometry → List Scanned → List Checked → List CandidateValue → List ℕ
-room_lines g all checked candidates = flat_map (room_if g checked candidates) all
+abbrev pub room_lines : Geometry → List Scanned → List Checked → List ℕ
+room_lines g all checked = flat_map (room_if g checked) all
 
 -- ---- a chunk that is put there
 

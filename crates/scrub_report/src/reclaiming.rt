@@ -17,7 +17,7 @@ ghost use Rattle.scrub_report.specs.Locators.{AreLocatorLines};
 ghost use Rattle.scrub_report.specs.Manifest.{IsManifest};
 ghost use Rattle.scrub_report.specs.Moves.{AreRisingPlaces, PointAlike};
 ghost use Rattle.scrub_report.specs.Parts.{IsScan};
-ghost use Rattle.scrub_report.specs.Reclaimable.{AreMoved, AreOfCandidates, AreReclaimLines, IsClear, all_candidate_lines, candidate_lines, move_line, pointing_to, reclaim_line, reclaimed};
+ghost use Rattle.scrub_report.specs.Reclaimable.{AreMoved, AreOfCandidates, AreReclaimLines, IsClear, all_candidate_lines, candidate_lines, move_line, pointing_to, reclaim_line, reclaimed, rooms_kept};
 ghost use Rattle.scrub_report.specs.Report.{IsReport};
 ghost use Rattle.scrub_report.specs.Reset.{IsReclaimed, NameTheSame};
 ghost use Rattle.scrub_report.specs.Room.{IsPut, IsRoom, may_grow, place_in};
@@ -28,6 +28,7 @@ use crate::doubting::doubts_of;
 use crate::doubts::{Accepted, are_accepted, doubt_lines};
 use crate::listing::place_text;
 use crate::moves::{by_place, pointing_to};
+use crate::parts::Parts;
 use crate::room::append_rooms;
 use crate::scanning::{Scan, scan_chosen};
 use crate::scrubbing::parts_of;
@@ -46,9 +47,9 @@ use std::thread::Threads;
 pub struct ReclaimListing {
     /// A line for each doubt, by kind. It begins with `accepted` if its kind was accepted, or else with `doubt`. If no line
     /// begins with `doubt`, then `reclaim EXTENT FREE` for each candidate of the report, in its order, and behind each of them
-    /// `move EXTENT OFFSET LENGTH UUID OWNER` for each named locator into it, by the chunk that it points to. At the end
-    /// `room EXTENT OFFSET BYTES` for each extent that a chunk can be put into, with the place for it and the bytes from there
-    /// on. The numbers are in decimal; free, offset, length and bytes are in bytes. The UUID is as RFC 9562 writes it, in
+    /// `move EXTENT OFFSET LENGTH UUID OWNER` for each named locator into it, by the chunk that it points to. At the end, if
+    /// there is a candidate, `room EXTENT OFFSET BYTES` for each extent that a chunk can be put into, be it a candidate or not,
+    /// with the place for it and the bytes from there on. The numbers are in decimal; free, offset, length and bytes are in bytes. The UUID is as RFC 9562 writes it, in
     /// lower case.
     pub text: Vec<u8>,
     /// Whether no line begins with `doubt`.
@@ -176,6 +177,22 @@ fn append_reclaimed(
     append_candidates(alloc, text, checked, candidates)
 }
 
+/// Appends the lines of the extents with room, if `is_clear` and there is a candidate.
+fn append_rooms_for<D: PageSource>(
+    alloc: Global,
+    text: &mut Vec<u8>,
+    is_clear: bool,
+    parts: &Parts<'_, D>,
+) -> Result<(), OutOfMemory>
+    ensures { OnOk result (text.new.items ≡ text.old.items ++ rooms_kept is_clear parts.now) }
+{
+    if !is_clear || parts.liveness.candidates.is_empty() {
+        return Ok(());
+    }
+    let geometry = parts.plan.geometry();
+    append_rooms(alloc, text, geometry, &parts.all, &parts.checked)
+}
+
 /// What can be reclaimed of a scanned disk, whose extent 0 has these pages.
 fn listing_of<R: Threads + Sync, D: PageSource>(
     rt: &R,
@@ -195,15 +212,7 @@ fn listing_of<R: Threads + Sync, D: PageSource>(
     let mut text = doubt_lines(alloc, accepted, &doubts)?;
     let candidates = &parts.liveness.candidates;
     append_reclaimed(alloc, &mut text, is_clear, &parts.checked, candidates)?;
-    append_rooms(
-        alloc,
-        &mut text,
-        is_clear,
-        parts.plan.geometry(),
-        &parts.all,
-        &parts.checked,
-        candidates,
-    )?;
+    append_rooms_for(alloc, &mut text, is_clear, &parts)?;
     Ok(ReclaimListing { text, is_clear })
 }
 
@@ -269,7 +278,7 @@ pub fn a_reset_loses_nothing()
 /// A law: an extent that a chunk can be put into has room at the place of its line.
 pub fn a_line_shows_room()
     ensures { (image : Image) (found : Scrubbed) → IsScrubbed image found →
-        All (λ f. may_grow found.checked found.candidates f ≡ true →
+        All (λ f. may_grow found.checked f ≡ true →
         IsRoom image f.extent f.pointer (place_in found.plan.geometry f)) found.all }
 {}
 

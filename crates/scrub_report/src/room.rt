@@ -1,31 +1,23 @@
-//! Where a chunk can be put: the room of each extent that isn't named for reclaiming, as lines. `reclaiming` writes them behind
-//! the candidates.
+//! Where a chunk can be put: the room of each extent, as lines. `reclaiming` writes them behind the candidates.
 
-ghost use Rattle.std.specs.Prelude.{◌≡◌, ◌<◌, ◌++◌, ◌==◌, [], List, IfOk, OnOk, map, not, if◌then◌else◌};
+ghost use Rattle.std.specs.Prelude.{◌≡◌, ◌<◌, ◌++◌, ◌==◌, List, IfOk, OnOk, map, not};
 ghost use Rattle.std.specs.Ordering.{nat_cmp};
 ghost use Rattle.std.specs.List.{filter, list_any};
 ghost use Rattle.std.specs.List.Sorted.{IsPermutation, IsSorted};
 ghost use Rattle.scrub_scan.specs.Scanned.{scanned};
 ghost use Rattle.scrub_check.specs.declared.statuses.checked.Checked.{Checked};
-ghost use Rattle.scrub_check.specs.Candidates.{CandidateValue};
 ghost use Rattle.scrub_check.specs.Checked.{is_sound};
 ghost use Rattle.scrub_check.specs.Live.{is_chunk};
+ghost use Rattle.scrub_check.specs.LocatorIndex.{AreBarredExtents};
 ghost use Rattle.scrub_report.specs.Room.{ends_in_chunk, next_place, room_if, room_line, room_lines, room_text};
-ghost use Rattle.scrub_report.specs.RoomSteps.{AreBarred, AreSorted, may_grow_by};
+ghost use Rattle.scrub_report.specs.RoomSteps.{may_grow_by};
 
 use crate::clean::is_clean_extent;
-use scrub_check::{Candidate, Checked};
+use scrub_check::Checked;
 use scrub_disk::{Geometry, OutOfMemory, PageSource};
 use scrub_frame::Form;
 use scrub_scan::{AllFindings, ExtentResult, Item};
 use std::alloc::Global;
-
-/// The extents that no chunk is put into, by number: those into which an unsound locator points, and the candidates.
-#[derive(Drop)]
-pub(crate) struct Barred {
-    unsound: Vec<u32>,
-    candidates: Vec<u32>,
-}
 
 /// The extents of the locators that aren't sound, in the order of the locators.
 fn unsound_extents(alloc: Global, checked: &[Checked]) -> Result<Vec<u32>, OutOfMemory>
@@ -36,13 +28,6 @@ fn unsound_extents(alloc: Global, checked: &[Checked]) -> Result<Vec<u32>, OutOf
         .filter(|one| !one.status.is_sound())
         .map(|one| one.locator.extent)
         .collect(alloc)
-}
-
-/// The extents of candidates, in their order.
-fn candidate_extents(alloc: Global, candidates: &[Candidate]) -> Result<Vec<u32>, OutOfMemory>
-    ensures { IfOk result (λ v. v.items ≡ map (λ a. a.extent) candidates.now) }
-{
-    candidates.iter().map(|one| one.extent()).collect(alloc)
 }
 
 /// Numbers in order.
@@ -62,31 +47,12 @@ fn has_number(numbers: &[u32], number: u32) -> bool
     numbers.binary_search(&number).is_ok()
 }
 
-/// The extents that no chunk is put into.
-fn barred_by(
-    alloc: Global,
-    checked: &[Checked],
-    candidates: &[Candidate],
-) -> Result<Barred, OutOfMemory>
-    ensures sorted { IfOk result AreSorted }
-    ensures barred { IfOk result (AreBarred checked.now candidates.now) }
+/// Whether a chunk can be put into an extent; `unsound` has the sorted numbers of those into which an unsound locator points.
+fn may_grow<D: PageSource>(unsound: &[u32], found: &ExtentResult<'_, D>) -> bool
+    requires { IsSorted nat_cmp unsound.now }
+    ensures { result ≡ may_grow_by unsound.now (scanned found.now) }
 {
-    let unsound = sorted(unsound_extents(alloc, checked)?)?;
-    let candidates = sorted(candidate_extents(alloc, candidates)?)?;
-    Ok(Barred {
-        unsound,
-        candidates,
-    })
-}
-
-/// Whether a chunk can be put into an extent.
-fn may_grow<D: PageSource>(barred: &Barred, found: &ExtentResult<'_, D>) -> bool
-    requires { AreSorted barred.now }
-    ensures { result ≡ may_grow_by barred.now (scanned found.now) }
-{
-    is_clean_extent(found)
-        && !has_number(&barred.unsound, found.extent())
-        && !has_number(&barred.candidates, found.extent())
+    is_clean_extent(found) && !has_number(unsound, found.extent())
 }
 
 /// Whether an item is a chunk.
@@ -155,14 +121,14 @@ fn append_room_if<D: PageSource>(
     alloc: Global,
     text: &mut Vec<u8>,
     geometry: Geometry,
-    barred: &Barred,
+    unsound: &[u32],
     found: &ExtentResult<'_, D>,
 ) -> Result<(), OutOfMemory>
-    requires { AreSorted barred.now }
-    ensures { (checked : List Checked) (candidates : List CandidateValue) → AreBarred checked candidates barred.now →
-        OnOk result (text.new.items ≡ text.old.items ++ room_if geometry checked candidates (scanned found.now)) }
+    requires { IsSorted nat_cmp unsound.now }
+    ensures { (checked : List Checked) → AreBarredExtents checked unsound.now →
+        OnOk result (text.new.items ≡ text.old.items ++ room_if geometry checked (scanned found.now)) }
 {
-    if !may_grow(barred, found) {
+    if !may_grow(unsound, found) {
         return Ok(());
     }
     append_room(alloc, text, geometry, found)
@@ -173,35 +139,29 @@ fn append_all_rooms<D: PageSource>(
     alloc: Global,
     text: &mut Vec<u8>,
     geometry: Geometry,
-    barred: &Barred,
+    unsound: &[u32],
     all: &AllFindings<'_, D>,
 ) -> Result<(), OutOfMemory>
-    requires { AreSorted barred.now }
-    ensures { (checked : List Checked) (candidates : List CandidateValue) → AreBarred checked candidates barred.now →
-        OnOk result (text.new.items ≡ text.old.items ++ room_lines geometry all.now.extents checked candidates) }
+    requires { IsSorted nat_cmp unsound.now }
+    ensures { (checked : List Checked) → AreBarredExtents checked unsound.now →
+        OnOk result (text.new.items ≡ text.old.items ++ room_lines geometry all.now.extents checked) }
 {
     for i in 0..all.len() {
-        append_room_if(alloc, text, geometry, barred, all.result_at(i))?;
+        append_room_if(alloc, text, geometry, unsound, all.result_at(i))?;
     }
     Ok(())
 }
 
-/// Appends the lines of the extents with room: of all of them if `is_clear`, or else of none.
+/// Appends the lines of the extents with room.
 pub(crate) fn append_rooms<D: PageSource>(
     alloc: Global,
     text: &mut Vec<u8>,
-    is_clear: bool,
     geometry: Geometry,
     all: &AllFindings<'_, D>,
     checked: &[Checked],
-    candidates: &[Candidate],
 ) -> Result<(), OutOfMemory>
-    ensures { OnOk result (text.new.items ≡
-        text.old.items ++ (if is_clear then room_lines geometry all.now.extents checked.now candidates.now else [])) }
+    ensures { OnOk result (text.new.items ≡ text.old.items ++ room_lines geometry all.now.extents checked.now) }
 {
-    if !is_clear {
-        return Ok(());
-    }
-    let barred = barred_by(alloc, checked, candidates)?;
-    append_all_rooms(alloc, text, geometry, &barred, all)
+    let unsound = sorted(unsound_extents(alloc, checked)?)?;
+    append_all_rooms(alloc, text, geometry, &unsound, all)
 }

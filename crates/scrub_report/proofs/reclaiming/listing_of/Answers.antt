@@ -1,14 +1,9 @@
 -- The text and the verdict are those of what was found.
 use Rattle.std.proofs.Common.{◌≡◌, ◌++◌, [], ℕ, List, ap, ◌∙◌, rules, if◌then◌else◌}
 use Rattle.std.specs.List.{flat_map}
-use Rattle.std.proofs.Math.Path.{ap₂}
-use Rattle.scrub_disk.specs.declared.geometry.Geometry.{Geometry}
-use Rattle.scrub_check.specs.declared.statuses.checked.Checked.{Checked}
-use Rattle.scrub_check.specs.Candidates.{CandidateValue}
 use Rattle.scrub_report.specs.Doubts.{are_accepted}
 use Rattle.scrub_report.specs.Parts.{found_in}
-use Rattle.scrub_report.specs.Room.{room_lines}
-use Rattle.scrub_report.specs.Reclaimable.{candidate_lines, doubt_line, rooms_if}
+use Rattle.scrub_report.specs.Reclaimable.{candidate_lines, doubt_line, rooms_kept}
 use Rattle.scrub_report.proofs.Clear.{clear_found, lines_found}
 use Rattle.scrub_report.proofs.reclaiming.listing_of.Goals as goal
 
@@ -20,19 +15,13 @@ returns-clause-text g c =
     let list = c.in_ok-doubts.doubts.items in
     let clear = c.are_accepted-is_clear.result in
     let lines = c.in_ok-text.text.items in
-    let text = c.append_rooms.new.text.items in
+    let text = c.append_rooms_for.new.text.items in
     let is : clear ≡ are_accepted accepted list = search rules in
     let first : lines ≡ flat_map (doubt_line accepted) list = search rules in
     let named = c.append_reclaimed.new.text.items in
     let candidates : named ≡ lines ++ flat_map (candidate_lines parts.checked.items) (if clear then parts.liveness.candidates.items else []) = search rules in
-    let rooms : text ≡ named ++ rooms_if clear (found_in parts are.read) =
-    c.in_ok-append_rooms.ensures
-    ∙ ap (λ (sizes : Geometry). named ++ (if clear then room_lines sizes parts.all.extents c.deref-5.result.now c.deref-6.result.now else [])) c.geometry.ensures
-    ∙ ap₂
-    (λ (checked : List Checked) (candidates : List CandidateValue). named ++ (if clear then room_lines parts.plan.geometry parts.all.extents checked candidates else []))
-    c.deref-5.ensures.value c.deref-6.ensures.value in
-    let all : text ≡ lines ++ flat_map (candidate_lines parts.checked.items) (if clear then parts.liveness.candidates.items else []) ++ rooms_if clear (found_in parts are.read) =
-    rooms ∙ ap (λ (u : List ℕ). u ++ rooms_if clear (found_in parts are.read)) candidates in
+    let all : text ≡ lines ++ flat_map (candidate_lines parts.checked.items) (if clear then parts.liveness.candidates.items else []) ++ rooms_kept clear parts =
+    c.in_ok-append_rooms_for.ensures ∙ ap (λ (u : List ℕ). u ++ rooms_kept clear parts) candidates in
     record {
       found = found_in parts are.read;
       scrubbed = are.scrubbed;

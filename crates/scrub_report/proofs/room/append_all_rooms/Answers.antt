@@ -7,17 +7,17 @@ use Rattle.scrub_report.proofs.FlatLists.{flat_all, flat_more}
 use Rattle.scrub_report.proofs.room.append_all_rooms.Goals as goal
 
 pub loop-i-preserved : goal.loop-i-preserved
-loop-i-preserved g c checked candidates are =
+loop-i-preserved g c checked are =
     let all = c.args.all.now.extents in
     let i = c.loop-i.i in
     let found = scanned c.result_at.result.now in
     let at = c.result_at.ensures.result in
-    let part = room_if c.args.geometry checked candidates in
+    let part = room_if c.args.geometry checked in
     flat_more part c.args.text.now.items c.loop-i.text.items c.append_room_if.new.text.items all i found (part found)
     (slice_get_within all i found at) (ap part (sym (get_or_from_slice_get all i found found at)))
-    (c.loop-i.invariant checked candidates are) (c.in_ok-append_room_if.ensures checked candidates are)
+    (c.loop-i.invariant checked are) (c.in_ok-append_room_if.ensures checked are)
 
 pub returns : goal.returns
-returns g c checked candidates are =
-    flat_all (room_if c.args.geometry checked candidates) c.args.text.now.items c.loop-i.text.items c.args.all.now.extents c.loop-i.i
-    (omega (arith, c.len-i-end.ensures.count, c.loop-i-test.false)) (c.loop-i.invariant checked candidates are)
+returns g c checked are =
+    flat_all (room_if c.args.geometry checked) c.args.text.now.items c.loop-i.text.items c.args.all.now.extents c.loop-i.i
+    (omega (arith, c.len-i-end.ensures.count, c.loop-i-test.false)) (c.loop-i.invariant checked are)
