@@ -1,4 +1,6 @@
 pub mod Searches
+pub mod Between
+pub mod SpareCopies
 pub mod Counts
 pub mod Distinct
 pub mod SharedPlaces

@@ -30,7 +30,7 @@ place_total = then_total (on_total (λ s. s.extent) nat_cmp_total) (on_total (λ
 pub same_number : (a b : ℕ) → is_eq (nat_cmp a b) ≡ (a == b)
 same_number a b = grind (arith, common_steps)
 
-both : (r q : Ordering) → is_eq (ordering_then r q) ≡ (is_eq r && is_eq q)
+pub both : (r q : Ordering) → is_eq (ordering_then r q) ≡ (is_eq r && is_eq q)
 both Less q = refl
 both Equal q = refl
 both Greater q = refl

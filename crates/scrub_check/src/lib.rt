@@ -16,6 +16,7 @@ pub use lists::liveness::{Liveness, liveness_of};
 pub use lists::place::{Place, SharedPlace};
 pub use lists::reclaiming::{candidates, candidates_are_safe, one_list_of_candidates};
 pub use lists::shared_places::{one_list_of_shared_places, shared};
+pub use lists::spares::{Content, Spares};
 pub use named::{Named, Owner, named_locators};
 pub use runs::{ReadRuns, RunState, read_all_runs, read_runs};
 pub use statuses::checked::{Checked, check_all, check_named, dangling, hidden};

@@ -13,3 +13,4 @@ pub mod place;
 pub mod reclaiming;
 pub(crate) mod shared_places;
 pub(crate) mod sound_places;
+pub mod spares;
