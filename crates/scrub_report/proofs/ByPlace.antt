@@ -15,7 +15,7 @@ use Rattle.scrub_check.specs.declared.statuses.status.Status.TheVariants.{Sound}
 use Rattle.scrub_check.proofs.SortedPlaces.{same_number}
 use Rattle.scrub_report.specs.Moves.{PointAlike, place_cmp, place_named}
 use Rattle.scrub_report.specs.Reclaimable.{points_to, pointing_to}
-use Rattle.scrub_report.proofs.Between.{filter_between, filter_mapped}
+use Rattle.scrub_check.proofs.Between.{filter_between, filter_mapped}
 
 -- the locator behind a reference, and its place
 abbrev pub shown : Bor Checked → Checked

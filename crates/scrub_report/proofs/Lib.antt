@@ -16,10 +16,10 @@ pub mod KeptRuns
 pub mod PageRanges
 pub mod JoinedPages
 pub mod FlatLists
-pub mod Between
 pub mod ByPlace
 pub mod Clear
 pub mod ShardLines
+pub mod SpareLines
 pub mod Reset
 pub mod NextPlaces
 pub mod RoomLines

@@ -94,7 +94,7 @@ one_answer image a b x y =
 -- and one listing of its named locators
 pub one_listing : (image : Image) (a b : List ℕ) → AreLocatorLines image a → AreLocatorLines image b → a ≡ b
 one_listing image a b x y =
-    x.text_is ∙ ap (λ (s : Scrubbed). locator_lines s.checked) (one_scrub image x.found y.found x.scrubbed y.scrubbed)
+    x.text_is ∙ ap (λ (s : Scrubbed). locator_lines s.all s.checked) (one_scrub image x.found y.found x.scrubbed y.scrubbed)
     ∙ sym y.text_is
 
 -- and one manifest

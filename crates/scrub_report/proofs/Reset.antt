@@ -29,7 +29,6 @@ use Rattle.scrub_check.specs.Status.{BeginsAt, CanStand, FindsFrame, HasStatus, 
 use Rattle.scrub_check.proofs.OneList.{one_shared, one_broken}
 use Rattle.scrub_report.specs.declared.doubts.Accepted.{Accepted}
 use Rattle.scrub_report.specs.Index.{IsIndex, index_entries}
-use Rattle.scrub_report.specs.Locators.{AreLocatorLines, locator_lines}
 use Rattle.scrub_report.specs.Manifest.{IsManifest, is_of_read_run, manifest_text, of_shards, text_by}
 use Rattle.scrub_report.specs.Reclaimable.{IsMoved, moves, reclaimed}
 use Rattle.scrub_report.specs.Reset.{IsAfterReset, IsListedWithoutMoves, IsPlanAfterReset, IsPlanIn, IsReclaimed, NameTheSame}
@@ -350,11 +349,6 @@ module _ (accepted : Accepted) (extents : List ℕ) (before after : Image) where
   the_same_manifest a b r x y =
       let same = the_same_named x.found y.found r x.scrubbed y.scrubbed in
       x.text_is ∙ sym (same_text x.found y.found same) ∙ sym y.text_is
-
-  pub the_same_lines : (a b : List ℕ) → IsReclaimed accepted extents before after → AreLocatorLines before a →
-      AreLocatorLines after b → a ≡ b
-  the_same_lines a b r x y =
-      x.text_is ∙ ap locator_lines (sym (the_same_named x.found y.found r x.scrubbed y.scrubbed).checked) ∙ sym y.text_is
 
   pub the_same_index : (a b : List ℕ) → IsReclaimed accepted extents before after → IsIndex before a →
       IsIndex after b → a ≡ b

@@ -3,7 +3,8 @@
 ghost use Rattle.std.specs.Prelude.{◌≡◌, ◌+◌, ◌++◌, ◌≤◌, List, ℕ, IfOk, OnOk, length, string_bytes};
 ghost use Rattle.scrub_disk.specs.Image.{Image};
 ghost use Rattle.scrub_report.specs.Answer.{IsPartitionOfPlanned, IsCountOfPlanned};
-ghost use Rattle.scrub_report.specs.Locators.{AreLocatorLines, locator_line, locator_lines, place_text};
+ghost use Rattle.std.specs.List.{flat_map};
+ghost use Rattle.scrub_report.specs.Locators.{AreLocatorLines, lines_by, locator_line, place_text, spare_line};
 ghost use Rattle.scrub_report.specs.Parts.{IsScan};
 ghost use Rattle.scrub_report.specs.Scrubbed.{IsCleanImage};
 
@@ -11,10 +12,11 @@ use crate::answer::ScrubFault;
 use crate::scanning::{Scan, scan_by};
 use crate::scrubbing::{is_clean, parts_of};
 use crate::texts::{owner_text, status_text};
-use scrub_check::Checked;
+use scrub_check::{Checked, Spares};
 use scrub_disk::{OutOfMemory, PageSource};
 use scrub_frame::Locator;
 use scrub_pool::{Gate, Takings};
+use scrub_scan::Standing;
 use std::alloc::Global;
 use std::fmt;
 use std::sync::Wait;
@@ -78,13 +80,59 @@ fn append_line(alloc: Global, text: &mut Vec<u8>, one: &Checked) -> Result<(), O
     Ok(())
 }
 
-/// The lines of named locators, in their order.
-fn locator_lines(alloc: Global, checked: &[Checked]) -> Result<Vec<u8>, OutOfMemory>
-    ensures { IfOk result (λ text. text.items ≡ locator_lines checked.now) }
+/// Appends the line of a spare, with its line feed.
+fn append_spare(alloc: Global, text: &mut Vec<u8>, spare: &Standing) -> Result<(), OutOfMemory>
+    ensures { OnOk result (text.new.items ≡ text.old.items ++ spare_line spare.now) }
+{
+    let Standing {
+        extent,
+        offset,
+        length,
+        uuid,
+        ..
+    } = *spare;
+    let line = format!(in alloc; "spare {extent} {offset} {length} {uuid}\n")?;
+    text.extend_from_slice(line.as_bytes())?;
+    Ok(())
+}
+
+/// Appends the lines of spares, in their order.
+fn append_spares(alloc: Global, text: &mut Vec<u8>, some: &[Standing]) -> Result<(), OutOfMemory>
+    ensures { OnOk result (text.new.items ≡ text.old.items ++ flat_map spare_line some.now) }
+{
+    for spare in some {
+        append_spare(alloc, text, spare)?;
+    }
+    Ok(())
+}
+
+/// Appends the line of a named locator, and if it dangles those of its spares.
+fn append_one(
+    alloc: Global,
+    text: &mut Vec<u8>,
+    spares: &Spares,
+    one: &Checked,
+) -> Result<(), OutOfMemory>
+    ensures { OnOk result (text.new.items ≡ text.old.items ++ lines_by spares.now one.now) }
+{
+    append_line(alloc, text, one)?;
+    if !one.status.is_dangling() {
+        return Ok(());
+    }
+    append_spares(alloc, text, spares.copies(&one.locator))
+}
+
+/// The lines of named locators and of their spares, in their order.
+fn locator_lines(
+    alloc: Global,
+    spares: &Spares,
+    checked: &[Checked],
+) -> Result<Vec<u8>, OutOfMemory>
+    ensures { IfOk result (λ text. text.items ≡ flat_map (lines_by spares.now) checked.now) }
 {
     let mut text = Vec::new(alloc);
     for one in checked {
-        append_line(alloc, &mut text, one)?;
+        append_one(alloc, &mut text, spares, one)?;
     }
     Ok(text)
 }
@@ -100,7 +148,8 @@ fn listing_of<R: Threads + Sync, D: PageSource>(
     ensures clean { IfOk result (λ l. IsCleanImage (D.image scan.entry.disk.now) l.is_clean) }
 {
     let parts = parts_of(rt, alloc, scan)?;
-    let text = locator_lines(alloc, &parts.checked)?;
+    let spares = Spares::of(alloc, &parts.all, &parts.checked)?;
+    let text = locator_lines(alloc, &spares, &parts.checked)?;
     let is_clean = is_clean(&parts);
     Ok(LocatorListing { text, is_clean })
 }

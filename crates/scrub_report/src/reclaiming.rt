@@ -13,7 +13,6 @@ ghost use Rattle.scrub_check.specs.Status.{HasStatus, InRange};
 ghost use Rattle.scrub_report.specs.declared.doubts.Accepted.{Accepted};
 ghost use Rattle.scrub_report.specs.Answer.{IsPartitionOfPlanned, IsCountOfPlanned};
 ghost use Rattle.scrub_report.specs.Index.{IsIndex};
-ghost use Rattle.scrub_report.specs.Locators.{AreLocatorLines};
 ghost use Rattle.scrub_report.specs.Manifest.{IsManifest};
 ghost use Rattle.scrub_report.specs.Moves.{AreRisingPlaces, PointAlike};
 ghost use Rattle.scrub_report.specs.Parts.{IsScan};
@@ -263,14 +262,12 @@ pub fn reclaiming_is_safe()
 
 /// A law: a reset loses nothing that is named. Let extents be listed without a `move` line, and be reset. Then the same index
 /// runs are read, with the same bindings, and each named locator has the same status as before, whatever these extents hold
-/// now. So the image has the same manifest, the same lines of locators and the same index as before.
+/// now. So the image has the same manifest and the same index as before.
 pub fn a_reset_loses_nothing()
     ensures named { (accepted : Accepted) (extents : List ℕ) (before after : Image) (found rest : Scrubbed) →
         IsReclaimed accepted extents before after → IsScrubbed before found → IsScrubbed after rest → NameTheSame found rest }
     ensures manifest { (accepted : Accepted) (extents : List ℕ) (before after : Image) (a b : List ℕ) →
         IsReclaimed accepted extents before after → IsManifest before a → IsManifest after b → a ≡ b }
-    ensures locators { (accepted : Accepted) (extents : List ℕ) (before after : Image) (a b : List ℕ) →
-        IsReclaimed accepted extents before after → AreLocatorLines before a → AreLocatorLines after b → a ≡ b }
     ensures index { (accepted : Accepted) (extents : List ℕ) (before after : Image) (a b : List ℕ) →
         IsReclaimed accepted extents before after → IsIndex before a → IsIndex after b → a ≡ b }
 {}

@@ -1,5 +1,5 @@
 -- No named locator points into these extents, and all others have the status that they had.
-use Rattle.scrub_report.proofs.Reset.{the_same_index, the_same_lines, the_same_manifest, the_same_named}
+use Rattle.scrub_report.proofs.Reset.{the_same_index, the_same_manifest, the_same_named}
 use Rattle.scrub_report.proofs.reclaiming.a_reset_loses_nothing.Goals as goal
 
 pub returns-clause-named : goal.returns-clause-named
@@ -7,9 +7,6 @@ returns-clause-named c = the_same_named
 
 pub returns-clause-manifest : goal.returns-clause-manifest
 returns-clause-manifest c = the_same_manifest
-
-pub returns-clause-locators : goal.returns-clause-locators
-returns-clause-locators c = the_same_lines
 
 pub returns-clause-index : goal.returns-clause-index
 returns-clause-index c = the_same_index
