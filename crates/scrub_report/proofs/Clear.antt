@@ -30,20 +30,20 @@ use Rattle.scrub_report.proofs.OneReport.{one_scrub}
 module _ {D : Type 0} {s : _} (p : Parts D s) (read : ReadRunsValue) (rows : AreRowsOf p.plan.runs read p.runs.items)
     (pages : List SuperblockPage) (accepted : Accepted) where
   -- the doubts of the rows are those of the runs
-  pub doubts_found : doubts_in p.chosen pages (run_states p.runs.items) p.plan.geometry.page p.all.extents ≡ doubts pages (found_in p read)
+  pub doubts_found : doubts_in p.chosen pages (run_states p.runs.items) p.plan.geometry.page p.all.extents p.checked.items p.liveness.candidates.items ≡ doubts pages (found_in p read)
   doubts_found =
-      ap (λ (states : List RunState). doubts_in p.chosen pages states p.plan.geometry.page p.all.extents)
+      ap (λ (states : List RunState). doubts_in p.chosen pages states p.plan.geometry.page p.all.extents p.checked.items p.liveness.candidates.items)
       rows.states_are
 
   -- the verdict is that of what was found
   pub clear_found : (list : List Doubt) (clear : Bool) →
-      list ≡ doubts_in p.chosen pages (run_states p.runs.items) p.plan.geometry.page p.all.extents →
+      list ≡ doubts_in p.chosen pages (run_states p.runs.items) p.plan.geometry.page p.all.extents p.checked.items p.liveness.candidates.items →
       clear ≡ are_accepted accepted list → clear ≡ is_clear accepted pages (found_in p read)
   clear_found list clear are is = is ∙ ap (are_accepted accepted) (are ∙ doubts_found)
 
   -- the text is that of what was found
   pub lines_found : (list : List Doubt) (clear : Bool) (lines text : List ℕ) →
-      list ≡ doubts_in p.chosen pages (run_states p.runs.items) p.plan.geometry.page p.all.extents →
+      list ≡ doubts_in p.chosen pages (run_states p.runs.items) p.plan.geometry.page p.all.extents p.checked.items p.liveness.candidates.items →
       clear ≡ are_accepted accepted list → lines ≡ flat_map (doubt_line accepted) list →
       text ≡ lines ++ flat_map (candidate_lines p.checked.items) (if clear then p.liveness.candidates.items else []) ++ rooms_kept clear p →
       text ≡ reclaim_text accepted pages (found_in p read)

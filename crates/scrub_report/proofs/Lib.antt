@@ -20,6 +20,7 @@ pub mod ByPlace
 pub mod Clear
 pub mod ShardLines
 pub mod SpareLines
+pub mod SpareDoubts
 pub mod Reset
 pub mod NextPlaces
 pub mod RoomLines

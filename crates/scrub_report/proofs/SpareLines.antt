@@ -27,7 +27,7 @@ lines_more r found c copies old mid new b is dangles are first later =
     (appended_ok r old mid new (locator_line c) (flat_map spare_line copies) first later)
 
 -- lists that are the same for each element
-flat_same : {X A : Type 0} (f g : X → List A) (xs : List X) → All (λ x. f x ≡ g x) xs → flat_map f xs ≡ flat_map g xs
+pub flat_same : {X A : Type 0} (f g : X → List A) (xs : List X) → All (λ x. f x ≡ g x) xs → flat_map f xs ≡ flat_map g xs
 flat_same f g [] same = refl
 flat_same {X} {A} f g (x ∷ xs) same =
     ap₂ (λ (u v : List A). u ++ v) (All-head (λ y. f y ≡ g y) x xs same) (flat_same f g xs (All-tail (λ y. f y ≡ g y) x xs same))

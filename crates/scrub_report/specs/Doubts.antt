@@ -1,17 +1,24 @@
 -- What may have hidden a newer superblock, a newer binding, or a chunk behind a write pointer: the doubts of a disk, in the
 -- order of their lines.
-use Rattle.std.specs.Prelude.{◌≡◌, ◌≢◌, ◌≤◌, ◌+◌, ◌-◌, ◌*◌, ◌==◌, ℕ, ⊤, All, Bool, false, List, [], ◌∷◌, ◌++◌, Option, Some, None, is_none, nat_lt, map, if◌then◌else◌}
+use Rattle.std.specs.Prelude.{◌≡◌, ◌≢◌, ◌≤◌, ◌+◌, ◌-◌, ◌*◌, ◌==◌, ◌&&◌, ℕ, ⊤, All, Bool, false, not, List, [], ◌∷◌, ◌++◌, Option, Some, None, is_none, nat_lt, map, if◌then◌else◌}
 use Rattle.std.specs.Option.{option_map, option_to_list}
-use Rattle.std.specs.List.{enumerate_from, filter, filter_map, flat_map, list_all, range_with_len}
+use Rattle.std.specs.List.{enumerate_from, filter, filter_map, flat_map, list_all, list_any, range_with_len}
 use Rattle.scrub_super.specs.declared.pages.SuperblockPage.{SuperblockPage}
 use Rattle.scrub_super.specs.declared.pages.SuperblockPage.TheVariants.{Lost, Damaged, Stray}
 use Rattle.scrub_super.specs.Chosen.{Choice}
 use Rattle.scrub_scan.specs.Scanned.{Scanned}
+use Rattle.scrub_scan.specs.declared.standing.Standing.{Standing}
+use Rattle.scrub_check.specs.declared.named.Owner.{Owner}
+use Rattle.scrub_check.specs.declared.statuses.checked.Checked.{Checked}
+use Rattle.scrub_check.specs.Candidates.{CandidateValue}
+use Rattle.scrub_check.specs.Checked.{is_dangling}
+use Rattle.scrub_check.specs.Live.{has_sound_at}
+use Rattle.scrub_check.specs.Spares.{is_copy_of, spares_of}
 use Rattle.scrub_check.specs.declared.runs.RunState.{RunState}
 use Rattle.scrub_check.specs.declared.runs.RunState.TheVariants.{Read}
 use Rattle.scrub_report.specs.declared.doubts.Accepted.{Accepted}
 use Rattle.scrub_report.specs.declared.doubts.Doubt.{Doubt}
-use Rattle.scrub_report.specs.declared.doubts.Doubt.TheVariants.{NoSuperblock, Tie, SuperblockLost, SuperblockDamaged, SuperblockStray, RunLost, Tail, TailLost}
+use Rattle.scrub_report.specs.declared.doubts.Doubt.TheVariants.{NoSuperblock, Tie, SuperblockLost, SuperblockDamaged, SuperblockStray, RunLost, Spare, Tail, TailLost}
 use Rattle.scrub_report.specs.declared.page_ranges.PageRange.{PageRange}
 use Rattle.scrub_report.specs.Scrubbed.{Scrubbed}
 
@@ -101,23 +108,47 @@ range_doubts extent ranges = map (λ r. TailLost extent r.first r.last) ranges
 abbrev pub tail_lost_doubts : ℕ → Scanned → List Doubt
 tail_lost_doubts page f = range_doubts f.extent (page_ranges (lost_past page f))
 
+-- ---- spares
+
+-- a reset might take the spare: it isn't live, and its extent is among these
+abbrev pub is_at_risk : List Checked → List ℕ → Standing → Bool
+is_at_risk checked extents s = not (has_sound_at checked s.extent s.offset) && list_any (λ n. n == s.extent) extents
+
+-- the doubt that a spare of this owner's locator makes if a reset might take it
+abbrev pub spare_doubt : List Checked → List ℕ → Owner → Standing → List Doubt
+spare_doubt checked extents owner s = if is_at_risk checked extents s then Spare s.extent s.offset s.length s.uuid owner ∷ [] else []
+
+-- the doubts of the spares of a named locator
+abbrev pub spare_doubts_of : List Scanned → List Checked → List ℕ → Checked → List Doubt
+spare_doubts_of all checked extents c = flat_map (spare_doubt checked extents c.owner) (spares_of all c)
+
+-- the doubts of the spares in candidates, by named locator, and then by extent and offset
+abbrev pub spare_doubts : List Scanned → List Checked → List CandidateValue → List Doubt
+spare_doubts all checked candidates = flat_map (spare_doubts_of all checked (map (λ a. a.extent) candidates)) checked
+
+-- the same of one locator by the chunks among which the spares are
+abbrev pub spare_doubts_by : List Standing → List Checked → List ℕ → Checked → List Doubt
+spare_doubts_by found checked extents c =
+    flat_map (spare_doubt checked extents c.owner) (if is_dangling c.status then filter (is_copy_of c.locator) found else [])
+
 -- ---- all of them
 
--- all doubts, by kind, from a choice, the pages of extent 0, the states of the runs, the bytes of a page, and the scanned
--- extents
-abbrev pub doubts_in : Choice → List SuperblockPage → List RunState → ℕ → List Scanned → List Doubt
-doubts_in choice pages states page all =
+-- all doubts, by kind, from a choice, the pages of extent 0, the states of the runs, the bytes of a page, the scanned extents,
+-- the named locators and the candidates
+abbrev pub doubts_in : Choice → List SuperblockPage → List RunState → ℕ → List Scanned → List Checked → List CandidateValue → List Doubt
+doubts_in choice pages states page all checked candidates =
     choice_doubts choice
     ++ page_doubts superblock_lost pages
     ++ page_doubts superblock_damaged pages
     ++ page_doubts superblock_stray pages
     ++ run_doubts states
+    ++ spare_doubts all checked candidates
     ++ flat_map tail_doubts all
     ++ flat_map (tail_lost_doubts page) all
 
 -- all doubts of what was found on a disk: by kind, and within a kind by page, run, or extent and page
 abbrev pub doubts : List SuperblockPage → Scrubbed → List Doubt
-doubts pages found = doubts_in found.choice pages found.read.states found.plan.geometry.page found.all
+doubts pages found = doubts_in found.choice pages found.read.states found.plan.geometry.page found.all found.checked found.candidates
 
 -- ---- accepted kinds
 
@@ -125,6 +156,7 @@ doubts pages found = doubts_in found.choice pages found.read.states found.plan.g
 abbrev pub is_accepted : Accepted → Doubt → Bool
 is_accepted accepted (SuperblockDamaged q) = accepted.superblock_damaged
 is_accepted accepted (SuperblockStray q) = accepted.superblock_stray
+is_accepted accepted (Spare extent offset size uuid owner) = accepted.spare
 is_accepted accepted (Tail extent first count) = accepted.tail
 is_accepted accepted (TailLost extent first last) = accepted.tail_lost
 is_accepted accepted _ = false

@@ -21,6 +21,10 @@ place_text l = decimal l.extent ++ spaced (decimal l.offset) ++ spaced (decimal 
 abbrev pub locator_line : Checked → List ℕ
 locator_line c = owner_text c.owner ++ spaced (place_text c.locator) ++ spaced (status_text c.status) ++ 10 ∷ []
 
+-- a place, a length and a UUID: `EXTENT OFFSET LENGTH UUID`
+abbrev pub place_words : ℕ → ℕ → ℕ → List ℕ → List ℕ
+place_words extent offset size uuid = decimal extent ++ spaced (decimal offset) ++ spaced (decimal size) ++ spaced (uuid_text uuid)
+
 -- the line of a spare: `spare EXTENT OFFSET LENGTH UUID` and a line feed
 abbrev pub spare_line : Standing → List ℕ
 spare_line s =

@@ -11,10 +11,10 @@ use Rattle.scrub_check.specs.declared.statuses.status.Status.TheVariants.{Sound}
 use Rattle.scrub_check.specs.Candidates.{CandidateValue}
 use Rattle.scrub_report.specs.declared.doubts.Accepted.{Accepted}
 use Rattle.scrub_report.specs.declared.doubts.Doubt.{Doubt}
-use Rattle.scrub_report.specs.declared.doubts.Doubt.TheVariants.{NoSuperblock, Tie, SuperblockLost, SuperblockDamaged, SuperblockStray, RunLost, Tail, TailLost}
+use Rattle.scrub_report.specs.declared.doubts.Doubt.TheVariants.{NoSuperblock, Tie, SuperblockLost, SuperblockDamaged, SuperblockStray, RunLost, Spare, Tail, TailLost}
 use Rattle.scrub_report.specs.declared.parts.Parts.{Parts}
 use Rattle.scrub_report.specs.Doubts.{are_accepted, doubts, is_accepted}
-use Rattle.scrub_report.specs.Locators.{place_text}
+use Rattle.scrub_report.specs.Locators.{place_text, place_words}
 use Rattle.scrub_report.specs.Report.{report_text}
 use Rattle.scrub_report.specs.Room.{room_lines}
 use Rattle.scrub_report.specs.Scrubbed.{Scrubbed, IsScrubbed}
@@ -30,6 +30,8 @@ doubt_text (SuperblockLost q) = codes "superblock-lost" ++ spaced (decimal q)
 doubt_text (SuperblockDamaged q) = codes "superblock-damaged" ++ spaced (decimal q)
 doubt_text (SuperblockStray q) = codes "superblock-stray" ++ spaced (decimal q)
 doubt_text (RunLost k state) = codes "run-lost" ++ spaced (decimal k) ++ spaced (state_text state)
+doubt_text (Spare extent offset size uuid owner) =
+    codes "spare" ++ spaced (place_words extent offset size uuid) ++ spaced (owner_text owner)
 doubt_text (Tail extent first count) = codes "tail" ++ spaced (decimal extent) ++ spaced (decimal first) ++ spaced (decimal count)
 doubt_text (TailLost extent first last) = codes "tail-lost" ++ spaced (decimal extent) ++ spaced (decimal first) ++ spaced (decimal last)
 

@@ -10,6 +10,7 @@ use crate::doubts::Doubt;
 use crate::page_ranges::{PageRange, join_pages};
 use crate::parts::Parts;
 use crate::runs::RunRow;
+use crate::spare_doubts::add_spares;
 use scrub_check::RunState;
 use scrub_disk::{OutOfMemory, PageSource};
 use scrub_scan::{AllFindings, ExtentResult};
@@ -221,7 +222,7 @@ pub(crate) fn doubts_of<D: PageSource>(
 ) -> Result<Vec<Doubt>, OutOfMemory>
     ensures { IfOk result (λ v.
         v.items ≡ doubts_in parts.now.chosen pages.now (run_states parts.now.runs.items)
-        parts.now.plan.geometry.page parts.now.all.extents) }
+        parts.now.plan.geometry.page parts.now.all.extents parts.now.checked.items parts.now.liveness.candidates.items) }
 {
     let page = parts.plan.geometry().page();
     let mut doubts = choice_doubts(alloc, &parts.chosen)?;
@@ -229,6 +230,8 @@ pub(crate) fn doubts_of<D: PageSource>(
     doubts.extend_from_slice(&damaged_pages(alloc, pages)?)?;
     doubts.extend_from_slice(&stray_pages(alloc, pages)?)?;
     doubts.extend_from_slice(&lost_runs(alloc, &parts.runs)?)?;
+    let candidates = &parts.liveness.candidates;
+    add_spares(alloc, &mut doubts, &parts.all, &parts.checked, candidates)?;
     add_tails(&mut doubts, &parts.all)?;
     add_lost_tails(alloc, &mut doubts, page, &parts.all)?;
     Ok(doubts)

@@ -1,15 +1,17 @@
 //! Doubts: what may have hidden a newer superblock, a newer binding, or a chunk behind a write pointer; and which kinds of them
 //! were accepted. `doubting` finds them.
 
-ghost use Rattle.std.specs.Prelude.{◌≡◌, ◌++◌, IfOk, OnOk};
+ghost use Rattle.std.specs.Prelude.{◌≡◌, ◌++◌, IfOk, OnOk, string_bytes};
+ghost use Rattle.scrub_report.specs.declared.doubts.Doubt.TheVariants.{Spare};
 ghost use Rattle.scrub_report.specs.Doubts.{are_accepted, is_accepted};
-ghost use Rattle.scrub_report.specs.Reclaimable.{doubt_line, doubt_lines, doubt_word};
+ghost use Rattle.scrub_report.specs.Reclaimable.{doubt_line, doubt_lines, doubt_text, doubt_word};
 
-use crate::texts::state_text;
-use scrub_check::RunState;
+use crate::texts::{owner_text, state_text};
+use scrub_check::{Owner, RunState};
 use scrub_disk::OutOfMemory;
 use std::alloc::Global;
 use std::fmt;
+use uuid::Uuid;
 
 /// What may have hidden something that a disk holds.
 #[derive(Clone, Copy)]
@@ -35,6 +37,14 @@ pub(crate) enum Doubt {
         number: usize,
         state: RunState,
     },
+    /// A chunk of an extent that may be reclaimed has what a dangling locator of this owner asks for, and isn't live.
+    Spare {
+        extent: u32,
+        offset: u32,
+        length: u32,
+        uuid: Uuid,
+        owner: Owner,
+    },
     /// An extent has this many nonzero bytes at or behind its write pointer, the first of them at this offset.
     Tail {
         extent: u32,
@@ -50,33 +60,143 @@ pub(crate) enum Doubt {
     },
 }
 
-impl fmt::Display for Doubt {
-    ghost use Rattle.std.specs.Prelude.{Some};
-    ghost use Rattle.scrub_report.specs.Reclaimable.{doubt_text};
+/// The place of a spare, its length and its UUID.
+#[derive(Drop)]
+struct SparePlace {
+    extent: u32,
+    offset: u32,
+    length: u32,
+    uuid: Uuid,
+}
 
-    ghost output = { λ doubt. Some (doubt_text doubt) };
+impl fmt::Display for SparePlace {
+    ghost use Rattle.std.specs.Prelude.{Some};
+    ghost use Rattle.scrub_report.specs.Locators.{place_words};
+
+    ghost output = { λ p. Some (place_words p.extent p.offset p.length p.uuid) };
 
     fn fmt<W: fmt::Write>(&self, f: &mut fmt::Formatter<W>) -> fmt::Result {
-        match *self {
-            Doubt::NoSuperblock => write!(f, "no-superblock"),
-            Doubt::Tie => write!(f, "tie"),
-            Doubt::SuperblockLost { page } => write!(f, "superblock-lost {page}"),
-            Doubt::SuperblockDamaged { page } => write!(f, "superblock-damaged {page}"),
-            Doubt::SuperblockStray { page } => write!(f, "superblock-stray {page}"),
-            Doubt::RunLost { number, state } => {
-                let state = state_text(state);
-                write!(f, "run-lost {number} {state}")
-            }
-            Doubt::Tail {
+        let SparePlace {
+            extent,
+            offset,
+            length,
+            uuid,
+        } = self;
+        write!(f, "{extent} {offset} {length} {uuid}")
+    }
+}
+
+/// The text of the doubt that a tail makes.
+#[derive(Drop)]
+struct TailText {
+    extent: u32,
+    offset: u32,
+    bytes: u32,
+}
+
+impl fmt::Display for TailText {
+    ghost use Rattle.std.specs.Prelude.{Some};
+    ghost use Rattle.scrub_report.specs.declared.doubts.Doubt.TheVariants.{Tail};
+    ghost use Rattle.scrub_report.specs.Reclaimable.{doubt_text};
+
+    ghost output = { λ t. Some (doubt_text (Tail t.extent t.offset t.bytes)) };
+
+    fn fmt<W: fmt::Write>(&self, f: &mut fmt::Formatter<W>) -> fmt::Result {
+        let TailText {
+            extent,
+            offset,
+            bytes,
+        } = self;
+        write!(f, "tail {extent} {offset} {bytes}")
+    }
+}
+
+/// The text of the doubt that unreadable pages make.
+#[derive(Drop)]
+struct LostText {
+    extent: u32,
+    first: u32,
+    last: u32,
+}
+
+impl fmt::Display for LostText {
+    ghost use Rattle.std.specs.Prelude.{Some};
+    ghost use Rattle.scrub_report.specs.declared.doubts.Doubt.TheVariants.{TailLost};
+    ghost use Rattle.scrub_report.specs.Reclaimable.{doubt_text};
+
+    ghost output = { λ t. Some (doubt_text (TailLost t.extent t.first t.last)) };
+
+    fn fmt<W: fmt::Write>(&self, f: &mut fmt::Formatter<W>) -> fmt::Result {
+        let LostText {
+            extent,
+            first,
+            last,
+        } = self;
+        write!(f, "tail-lost {extent} {first} {last}")
+    }
+}
+
+/// The text of the doubt that a spare at this place makes.
+fn spare_text(alloc: Global, place: &SparePlace, owner: Owner) -> Result<String, OutOfMemory>
+    ensures { IfOk result (λ text. string_bytes text ≡
+        doubt_text (Spare place.now.extent place.now.offset place.now.length place.now.uuid owner)) }
+{
+    let owner = owner_text(alloc, owner)?;
+    format!(in alloc; "spare {place} {owner}")
+}
+
+/// A doubt's kind and its numbers.
+fn doubt_text(alloc: Global, doubt: &Doubt) -> Result<String, OutOfMemory>
+    ensures { IfOk result (λ text. string_bytes text ≡ doubt_text doubt.now) }
+{
+    match *doubt {
+        Doubt::NoSuperblock => format!(in alloc; "no-superblock"),
+        Doubt::Tie => format!(in alloc; "tie"),
+        Doubt::SuperblockLost { page } => format!(in alloc; "superblock-lost {page}"),
+        Doubt::SuperblockDamaged { page } => format!(in alloc; "superblock-damaged {page}"),
+        Doubt::SuperblockStray { page } => format!(in alloc; "superblock-stray {page}"),
+        Doubt::RunLost { number, state } => {
+            let state = state_text(state);
+            format!(in alloc; "run-lost {number} {state}")
+        }
+        Doubt::Spare {
+            extent,
+            offset,
+            length,
+            uuid,
+            owner,
+        } => {
+            let place = SparePlace {
+                extent,
+                offset,
+                length,
+                uuid,
+            };
+            spare_text(alloc, &place, owner)
+        }
+        Doubt::Tail {
+            extent,
+            offset,
+            bytes,
+        } => {
+            let text = TailText {
                 extent,
                 offset,
                 bytes,
-            } => write!(f, "tail {extent} {offset} {bytes}"),
-            Doubt::TailLost {
+            };
+            format!(in alloc; "{text}")
+        }
+        Doubt::TailLost {
+            extent,
+            first,
+            last,
+        } => {
+            let text = LostText {
                 extent,
                 first,
                 last,
-            } => write!(f, "tail-lost {extent} {first} {last}"),
+            };
+            format!(in alloc; "{text}")
         }
     }
 }
@@ -88,6 +208,8 @@ pub struct Accepted {
     pub superblock_damaged: bool,
     /// Pages of extent 0 with a nonzero byte, which don't begin like a superblock and are no part of a superblock.
     pub superblock_stray: bool,
+    /// Chunks that have what a dangling locator asks for, and that a reset might take.
+    pub spare: bool,
     /// Nonzero bytes at or behind a write pointer.
     pub tail: bool,
     /// Unreadable pages with a byte at or behind a write pointer.
@@ -101,6 +223,7 @@ fn is_accepted(accepted: Accepted, doubt: &Doubt) -> bool
     match doubt {
         Doubt::SuperblockDamaged { .. } => accepted.superblock_damaged,
         Doubt::SuperblockStray { .. } => accepted.superblock_stray,
+        Doubt::Spare { .. } => accepted.spare,
         Doubt::Tail { .. } => accepted.tail,
         Doubt::TailLost { .. } => accepted.tail_lost,
         Doubt::NoSuperblock | Doubt::Tie | Doubt::SuperblockLost { .. } | Doubt::RunLost { .. } =>
@@ -136,6 +259,7 @@ fn append_doubt(
     ensures { OnOk result (text.new.items ≡ text.old.items ++ doubt_line accepted doubt.now) }
 {
     let word = doubt_word(accepted, doubt);
+    let doubt = doubt_text(alloc, doubt)?;
     let line = format!(in alloc; "{word} {doubt}\n")?;
     text.extend_from_slice(line.as_bytes())?;
     Ok(())

@@ -28,6 +28,7 @@ mod scrubbing;
 mod shards;
 mod sizes;
 pub mod sizes_listing;
+mod spare_doubts;
 pub mod superblocks;
 mod texts;
 

@@ -31,7 +31,7 @@ fn unsound_extents(alloc: Global, checked: &[Checked]) -> Result<Vec<u32>, OutOf
 }
 
 /// Numbers in order.
-fn sorted(mut numbers: Vec<u32>) -> Result<Vec<u32>, OutOfMemory>
+pub(crate) fn sorted(mut numbers: Vec<u32>) -> Result<Vec<u32>, OutOfMemory>
     ensures sorted { IfOk result (λ v. IsSorted nat_cmp v.items) }
     ensures same { IfOk result (λ v. IsPermutation numbers.items v.items) }
 {
@@ -40,7 +40,7 @@ fn sorted(mut numbers: Vec<u32>) -> Result<Vec<u32>, OutOfMemory>
 }
 
 /// Whether a number is among sorted ones.
-fn has_number(numbers: &[u32], number: u32) -> bool
+pub(crate) fn has_number(numbers: &[u32], number: u32) -> bool
     requires { IsSorted nat_cmp numbers.now }
     ensures { result ≡ list_any (λ n. n == number) numbers.now }
 {

@@ -1,0 +1,18 @@
+-- The sorted locators and extents say what all of them say.
+use Rattle.std.proofs.Common.{◌≡◌, ◌++◌, List, OnOk, map, rules, subst}
+use Rattle.std.specs.List.Sorted.{IsPermutation}
+use Rattle.scrub_check.specs.Spares.{AreSpares}
+use Rattle.scrub_report.specs.Moves.{PointAlike}
+use Rattle.scrub_report.specs.declared.doubts.Doubt.{Doubt}
+use Rattle.scrub_report.proofs.SpareDoubts.{all_alike}
+use Rattle.scrub_report.proofs.spare_doubts.add_spares.Goals as goal
+
+pub returns : goal.returns
+returns g c =
+    let checked = c.args.checked.now in
+    let places : PointAlike checked c.deref.result.now = rw c.deref.ensures.value c.in_ok-places.ensures.same in
+    let numbers : IsPermutation (map (λ a. a.extent) c.args.candidates.now) c.deref-2.result.now =
+    rw c.deref-2.ensures.value (rw c.in_ok-candidate_extents.ensures at c.in_ok-extents.ensures.same) in
+    subst (λ (ds : List Doubt). OnOk c.add_all.result (c.add_all.new.doubts.items ≡ c.args.doubts.now.items ++ ds))
+    (all_alike c.args.all.now.extents checked c.in_ok-spares.spares c.in_ok-spares.ensures (map (λ a. a.extent) c.args.candidates.now) c.deref-2.result.now numbers)
+    (c.add_all.ensures checked places)
