@@ -21,6 +21,7 @@ pub mod Clear
 pub mod ShardLines
 pub mod SpareLines
 pub mod SpareDoubts
+pub mod SpareLaw
 pub mod Reset
 pub mod NextPlaces
 pub mod RoomLines

@@ -1,5 +1,5 @@
 -- The lines that say which extents can be reclaimed, and what must be moved first.
-use Rattle.std.specs.Prelude.{◌≡◌, ◌++◌, ◌∷◌, ◌==◌, ◌&&◌, [], ℕ, Bool, List, All, Contains, codes, length, if◌then◌else◌}
+use Rattle.std.specs.Prelude.{◌≡◌, ◌++◌, ◌∷◌, ◌==◌, ◌&&◌, [], ℕ, Bool, true, List, All, Contains, codes, length, if◌then◌else◌}
 use Rattle.std.specs.Fmt.{decimal}
 use Rattle.std.specs.List.{filter, flat_map}
 use Rattle.scrub_disk.specs.Image.{Image}
@@ -8,7 +8,11 @@ use Rattle.scrub_super.specs.Pages.{AreSuperblockPages}
 use Rattle.scrub_scan.specs.Line.{spaced}
 use Rattle.scrub_check.specs.declared.statuses.checked.Checked.{Checked}
 use Rattle.scrub_check.specs.declared.statuses.status.Status.TheVariants.{Sound}
+use Rattle.scrub_scan.specs.declared.standing.Standing.{Standing}
 use Rattle.scrub_check.specs.Candidates.{CandidateValue}
+use Rattle.scrub_check.specs.Checked.{is_dangling}
+use Rattle.scrub_check.specs.Live.{has_sound_at}
+use Rattle.scrub_check.specs.Spares.{copies_of}
 use Rattle.scrub_report.specs.declared.doubts.Accepted.{Accepted}
 use Rattle.scrub_report.specs.declared.doubts.Doubt.{Doubt}
 use Rattle.scrub_report.specs.declared.doubts.Doubt.TheVariants.{NoSuperblock, Tie, SuperblockLost, SuperblockDamaged, SuperblockStray, RunLost, Spare, Tail, TailLost}
@@ -144,3 +148,9 @@ pub record IsMoved (checked : List Checked) (a : CandidateValue) (c : Checked) :
 -- each named locator into one of these extents is sound, points to a chunk to keep, and has a line among the moves
 abbrev pub AreMoved : List Checked → List CandidateValue → Type 0
 AreMoved checked candidates = All (λ a. All (λ c. c.locator.extent ≡ a.extent → IsMoved checked a c) checked) candidates
+
+-- each chunk of an extent that has what a dangling locator asks for is live: a sound locator points to it
+abbrev pub KeepsSpares : Scrubbed → CandidateValue → Type 0
+KeepsSpares found a =
+    (c : Checked) (s : Standing) → Contains found.checked c → is_dangling c.status ≡ true →
+    Contains (copies_of found.all c.locator) s → s.extent ≡ a.extent → has_sound_at found.checked s.extent s.offset ≡ true

@@ -1,7 +1,7 @@
 //! What can be reclaimed of a disk, as lines: the doubts, and if all are accepted the extents, each with the chunks to move
 //! first.
 
-ghost use Rattle.std.specs.Prelude.{◌≡◌, ◌+◌, ◌++◌, ◌≤◌, ℕ, [], All, Bool, true, List, IfOk, OnOk, length, map, string_bytes, if◌then◌else◌};
+ghost use Rattle.std.specs.Prelude.{◌≡◌, ◌+◌, ◌++◌, ◌≤◌, ℕ, [], All, Bool, false, true, List, IfOk, OnOk, length, map, string_bytes, if◌then◌else◌};
 ghost use Rattle.std.specs.List.{flat_map};
 ghost use Rattle.scrub_disk.specs.Image.{Image};
 ghost use Rattle.scrub_frame.specs.declared.locator.Locator.{Locator};
@@ -16,7 +16,7 @@ ghost use Rattle.scrub_report.specs.Index.{IsIndex};
 ghost use Rattle.scrub_report.specs.Manifest.{IsManifest};
 ghost use Rattle.scrub_report.specs.Moves.{AreRisingPlaces, PointAlike};
 ghost use Rattle.scrub_report.specs.Parts.{IsScan};
-ghost use Rattle.scrub_report.specs.Reclaimable.{AreMoved, AreOfCandidates, AreReclaimLines, IsClear, all_candidate_lines, candidate_lines, move_line, pointing_to, reclaim_line, reclaimed, rooms_kept};
+ghost use Rattle.scrub_report.specs.Reclaimable.{KeepsSpares, AreMoved, AreOfCandidates, AreReclaimLines, IsClear, all_candidate_lines, candidate_lines, move_line, pointing_to, reclaim_line, reclaimed, rooms_kept};
 ghost use Rattle.scrub_report.specs.Report.{IsReport};
 ghost use Rattle.scrub_report.specs.Reset.{IsReclaimed, NameTheSame};
 ghost use Rattle.scrub_report.specs.Room.{IsPut, IsRoom, may_grow, place_in};
@@ -258,6 +258,13 @@ pub fn reclaimed_are_candidates()
 pub fn reclaiming_is_safe()
     ensures { (image : Image) (accepted : Accepted) (pages : List SuperblockPage) (found : Scrubbed) → IsScrubbed image found →
         AreMoved found.checked (reclaimed accepted pages found) }
+{}
+
+/// A law: where spares aren't accepted, no extent to reclaim has a spare that isn't live. Each of its chunks that has the length
+/// and the digest that a dangling named locator asks for is one that a sound locator points to.
+pub fn no_spare_is_taken()
+    ensures { (accepted : Accepted) (pages : List SuperblockPage) (found : Scrubbed) → accepted.spare ≡ false →
+        All (KeepsSpares found) (reclaimed accepted pages found) }
 {}
 
 /// A law: a reset loses nothing that is named. Let extents be listed without a `move` line, and be reset. Then the same index
