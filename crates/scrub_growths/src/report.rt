@@ -99,6 +99,7 @@ pub fn list_reclaimable<R: Threads + Wait + Sync>(
     let accepted = Accepted {
         superblock_damaged: false,
         superblock_stray: false,
+        spare: false,
         tail: false,
         tail_lost: false,
     };

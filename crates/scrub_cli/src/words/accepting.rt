@@ -12,6 +12,8 @@ const DAMAGED: &str = "superblock-damaged";
 
 const STRAY: &str = "superblock-stray";
 
+const SPARE: &str = "spare";
+
 const TAIL: &str = "tail";
 
 const TAIL_LOST: &str = "tail-lost";
@@ -20,7 +22,7 @@ const TAIL_LOST: &str = "tail-lost";
 fn is_kind(word: &str) -> bool
     ensures { result ≡ is_kind word.now }
 {
-    word == DAMAGED || word == STRAY || word == TAIL || word == TAIL_LOST
+    word == DAMAGED || word == STRAY || word == SPARE || word == TAIL || word == TAIL_LOST
 }
 
 /// The first text that is no such kind.
@@ -56,6 +58,7 @@ pub fn accepted(words: &[&str]) -> Accepted
     Accepted {
         superblock_damaged: has_kind(words, DAMAGED),
         superblock_stray: has_kind(words, STRAY),
+        spare: has_kind(words, SPARE),
         tail: has_kind(words, TAIL),
         tail_lost: has_kind(words, TAIL_LOST),
     }

@@ -317,7 +317,7 @@ fn the_help_of_the_commands_on_superblocks_and_on_what_may_be_reclaimed(
         &[
             "Usage: shardscrub reclaimable",
             "--accept <KIND>",
-            "superblock-damaged, superblock-stray, tail or tail-lost",
+            "superblock-damaged, superblock-stray, spare, tail or tail-lost",
             "doubt tail EXTENT OFFSET BYTES",
             "move EXTENT OFFSET LENGTH UUID OWNER",
             "room EXTENT OFFSET BYTES",

@@ -33,6 +33,7 @@ pub(crate) struct Listing {
 pub(crate) const NONE: Accepted = Accepted {
     superblock_damaged: false,
     superblock_stray: false,
+    spare: false,
     tail: false,
     tail_lost: false,
 };
