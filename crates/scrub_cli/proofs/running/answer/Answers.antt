@@ -34,7 +34,7 @@ pub scan_answer-requires-in-Manifest : goal.scan_answer-requires-in-Manifest
 scan_answer-requires-in-Manifest g c =
     let asked : AskFor (map (λ word. word.now) c.args.words.now) (Manifest c.in-Manifest.words) =
     rw c.in-Manifest.is at c.in_ok-read_words.ensures in
-    (search rules, few_workers asked.1.0 c.in-Manifest.words.workers asked.1.2.workers)
+    (search rules, (search rules, few_workers asked.1.0 c.in-Manifest.words.workers asked.1.2.workers))
 
 pub returns-in-Scan : goal.returns-in-Scan
 returns-in-Scan g c =
