@@ -18,14 +18,15 @@ use Rattle.scrub_scan.specs.Extent.{Extent, extent_of, FrameAt}
 use Rattle.scrub_scan.specs.Item.{start_of, IsItem, Fits}
 use Rattle.scrub_scan.specs.Findings.{IsFindings}
 use Rattle.scrub_scan.specs.Scanned.{Scanned}
+use Rattle.scrub_check.specs.declared.lists.kept_chunk.KeptChunk.{KeptChunk}
 use Rattle.scrub_check.specs.declared.statuses.checked.Checked.{Checked}
 use Rattle.scrub_check.specs.declared.statuses.status.Status.{Status}
 use Rattle.scrub_check.specs.declared.statuses.status.Status.TheVariants.{OutOfRange, Retired, PastPointer, Unreadable, NoFrame, WrongUuid, WrongLength, WrongDigest, Hidden, Sound}
 use Rattle.scrub_check.specs.Checked.{is_sound, HaveStatuses}
 use Rattle.scrub_check.specs.Status.{HasStatus, HasStatusIn}
-use Rattle.scrub_check.specs.Live.{is_sound_at, has_sound_at, is_chunk, is_live}
+use Rattle.scrub_check.specs.Live.{is_sound_at, has_sound_at, is_chunk, is_live, live_chunks}
 use Rattle.scrub_check.specs.WholeScan.{IsWholeScan}
-use Rattle.scrub_check.specs.Candidates.{CandidateValue, has_sound_alone, is_readable, is_half_garbage, is_reclaimable, candidate_of, reclaimable, AreCandidates}
+use Rattle.scrub_check.specs.Candidates.{CandidateValue, has_sound_alone, is_readable, is_half_garbage, is_reclaimable, candidate_of, kept_of, reclaimable, AreCandidates}
 use Rattle.scrub_check.specs.Kept.{IsKept, AreSafe}
 use Rattle.scrub_check.proofs.Starts.{begins_among}
 use Rattle.scrub_check.proofs.RunStates.{named_in_use}
@@ -115,6 +116,11 @@ kept_there image w f checked c found h there sound =
     found.tiled.each h.0.found.frame (names_its_place checked c there sound)
     (begins_among x f.findings.items c.locator.offset (omega (arith, image.geometry.page_size.least)) found.tiled h.1)
 
+-- the starts of the chunks to keep
+starts_kept : (items : List Item) → map (λ (k : KeptChunk). k.start) (map kept_of items) ≡ map start_of items
+starts_kept [] = refl
+starts_kept (item ∷ items) = ap (λ (ns : List ℕ). start_of item ∷ ns) (starts_kept items)
+
 kept : (image : Image) (plan : PlanValue) (all : List Scanned) (checked : List Checked) (f : Scanned) (c : Checked) →
     IsWholeScan image plan all → HaveStatuses image plan checked →
     Contains all f → has_sound_alone checked f ≡ true → Contains checked c → c.locator.extent ≡ f.extent →
@@ -132,8 +138,9 @@ kept image plan all checked f c whole statuses among alone there same =
     sound (named_in_use image plan c.locator c.status (inl sound) status).1 in
     record {
       sound = sound;
-      kept = rw same at
-          (kept_there image f.pointer f checked c (rw same found) under there sound);
+      kept =
+          subst (λ (ns : List ℕ). Contains ns c.locator.offset) (sym (starts_kept (live_chunks checked f)))
+          (rw same at (kept_there image f.pointer f checked c (rw same found) under there sound));
     }
 
 third : (a b c d : Bool) → (a && b && c && d) ≡ true → c ≡ true

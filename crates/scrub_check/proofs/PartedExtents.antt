@@ -24,7 +24,7 @@ use Rattle.scrub_check.specs.declared.lists.live_and_orphans.LiveChunks.{LiveChu
 use Rattle.scrub_check.specs.declared.lists.live_and_orphans.LiveAndOrphans.{LiveAndOrphans}
 use Rattle.scrub_check.specs.Live.{size_of, live_bytes, has_sound_at}
 use Rattle.scrub_check.specs.Chunks.{place_of, chunks_in, chunks, orphans}
-use Rattle.scrub_check.specs.Candidates.{is_reclaimable, candidate_of}
+use Rattle.scrub_check.specs.Candidates.{is_reclaimable, candidate_of, kept_of}
 use Rattle.scrub_check.specs.LocatorIndex.{reclaimable_by}
 use Rattle.scrub_check.specs.SoundPlaces.{AreSoundPlaces}
 use Rattle.scrub_check.specs.LiveAndOrphans.{HasPassed, orphans_by, AreLiveBy, AreLiveChunks, AreLiveAndOrphans}
@@ -45,8 +45,8 @@ pub live_of_extent : (checked : List Checked) (starts : List ChunkAt) (f : Scann
     AreLiveBy starts e items live → AreLiveChunks checked f live
 live_of_extent checked starts f e items live are number its h = record {
   sizes = parted_of_live (sum_by size_of) live.bytes checked starts e f.extent items f.findings.items are number its h.sizes;
-  begins =
-      parted_of_live (map start_of) live.starts.items checked starts e f.extent items f.findings.items are number its h.begins;
+  kept =
+      parted_of_live (map kept_of) live.kept.items checked starts e f.extent items f.findings.items are number its h.kept;
 }
 
 -- the orphans of one more extent

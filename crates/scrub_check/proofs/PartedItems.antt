@@ -14,6 +14,7 @@ use Rattle.scrub_check.specs.declared.lists.place.Place.{Place}
 use Rattle.scrub_check.specs.declared.places.chunk_at.ChunkAt.{ChunkAt}
 use Rattle.scrub_check.specs.declared.lists.live_and_orphans.LiveChunks.{LiveChunks}
 use Rattle.scrub_check.specs.Live.{size_of}
+use Rattle.scrub_check.specs.Candidates.{kept_of}
 use Rattle.scrub_check.specs.Chunks.{place_of}
 use Rattle.scrub_check.specs.Places.{is_place}
 use Rattle.scrub_check.specs.SoundPlaces.{is_live_by, is_named_by}
@@ -40,9 +41,9 @@ a_chunk starts e (Lost start stop) chunk named is known = absurd (cc)
 -- one more item, which is live
 pub live_more : (starts : List ChunkAt) (e : ℕ) (items : List Item) (item : Item) (old new : LiveChunks) →
     AreLiveBy starts e items old → live_by starts e (item ∷ []) ≡ item ∷ [] →
-    new.bytes ≡ old.bytes + size_of item → new.starts.items ≡ old.starts.items ++ start_of item ∷ [] →
+    new.bytes ≡ old.bytes + size_of item → new.kept.items ≡ old.kept.items ++ kept_of item ∷ [] →
     AreLiveBy starts e (items ++ item ∷ []) new
-live_more starts e items item old new known live bytes begins =
+live_more starts e items item old new known live bytes kept =
     let grown : live_by starts e (items ++ item ∷ []) ≡ live_by starts e items ++ item ∷ [] =
     filter-append (is_live_by starts e) items (item ∷ []) ∙ ap (λ is. live_by starts e items ++ is) live in
     let both : sum_by size_of (live_by starts e items ++ item ∷ []) ≡ sum_by size_of (live_by starts e items) + sum_by size_of (item ∷ []) =
@@ -53,22 +54,22 @@ live_more starts e items item old new known live bytes begins =
     omega (arith, bytes, known.sizes, both, one, none) in
     record {
       sizes = size ∙ ap (sum_by size_of) (sym grown);
-      begins =
-          begins ∙ ap (λ ns. ns ++ start_of item ∷ []) known.begins
-          ∙ sym (map-append start_of (live_by starts e items) (item ∷ [])) ∙ ap (map start_of) (sym grown);
+      kept =
+          kept ∙ ap (λ ks. ks ++ kept_of item ∷ []) known.kept
+          ∙ sym (map-append kept_of (live_by starts e items) (item ∷ [])) ∙ ap (map kept_of) (sym grown);
     }
 
 -- and which isn't
 pub other_more : (starts : List ChunkAt) (e : ℕ) (items : List Item) (item : Item) (old new : LiveChunks) →
     AreLiveBy starts e items old → live_by starts e (item ∷ []) ≡ [] →
-    new.bytes ≡ old.bytes → new.starts.items ≡ old.starts.items → AreLiveBy starts e (items ++ item ∷ []) new
-other_more starts e items item old new known live bytes begins =
+    new.bytes ≡ old.bytes → new.kept.items ≡ old.kept.items → AreLiveBy starts e (items ++ item ∷ []) new
+other_more starts e items item old new known live bytes kept =
     let grown : live_by starts e (items ++ item ∷ []) ≡ live_by starts e items =
     filter-append (is_live_by starts e) items (item ∷ []) ∙ ap (λ is. live_by starts e items ++ is) live
     ∙ append-nil (live_by starts e items) in
     record {
       sizes = bytes ∙ known.sizes ∙ ap (sum_by size_of) (sym grown);
-      begins = begins ∙ known.begins ∙ ap (map start_of) (sym grown);
+      kept = kept ∙ known.kept ∙ ap (map kept_of) (sym grown);
     }
 
 -- the next item's bytes fit, as those of all items do

@@ -6,17 +6,23 @@ use Rattle.std.specs.List.{filter, list_all}
 use Rattle.std.specs.List.Sorted.{IsPermutation, IsStrictlySortedBy}
 use Rattle.scrub_disk.specs.declared.geometry.Geometry.{Geometry}
 use Rattle.scrub_super.specs.Plan.{PlanValue}
+use Rattle.scrub_scan.specs.declared.item.Item.{Item}
 use Rattle.scrub_scan.specs.Item.{start_of}
 use Rattle.scrub_scan.specs.Scanned.{Scanned}
+use Rattle.scrub_check.specs.declared.lists.kept_chunk.KeptChunk.{KeptChunk}
 use Rattle.scrub_check.specs.declared.statuses.checked.Checked.{Checked}
 use Rattle.scrub_check.specs.Checked.{is_sound}
-use Rattle.scrub_check.specs.Live.{live_chunks, live_bytes}
+use Rattle.scrub_check.specs.Live.{live_chunks, live_bytes, size_of}
 
--- an extent to reclaim, how many bytes that frees, and the starts of its live chunks, which are kept, rising
+-- an extent to reclaim, how many bytes that frees, and its live chunks, which are kept, rising
 pub record CandidateValue : Type 0 where
   pub extent : ℕ
   pub free : ℕ
-  pub keep : List ℕ
+  pub keep : List KeptChunk
+
+-- a chunk to keep: where it begins, and how many bytes its frame takes
+abbrev pub kept_of : Item → KeptChunk
+kept_of item = record { start = start_of item; bytes = size_of item }
 
 -- no unreadable page of the extent has a byte below its write pointer
 abbrev pub is_readable : Geometry → Scanned → Bool
@@ -37,7 +43,7 @@ is_reclaimable g checked f = nat_lt 0 f.pointer && is_readable g f && has_sound_
 
 -- an extent as a candidate
 abbrev pub candidate_of : List Checked → Scanned → CandidateValue
-candidate_of checked f = record { extent = f.extent; free = f.pointer - live_bytes checked f; keep = map start_of (live_chunks checked f) }
+candidate_of checked f = record { extent = f.extent; free = f.pointer - live_bytes checked f; keep = map kept_of (live_chunks checked f) }
 
 -- the order of candidates: by what they free, falling, and then by number
 abbrev pub by_free : CandidateValue → CandidateValue → Ordering

@@ -14,6 +14,7 @@ use Rattle.scrub_check.specs.declared.places.chunk_at.ChunkAt.{ChunkAt}
 use Rattle.scrub_check.specs.declared.lists.live_and_orphans.LiveChunks.{LiveChunks}
 use Rattle.scrub_check.specs.declared.lists.live_and_orphans.LiveAndOrphans.{LiveAndOrphans}
 use Rattle.scrub_check.specs.Live.{size_of, live_chunks, live_bytes}
+use Rattle.scrub_check.specs.Candidates.{kept_of}
 use Rattle.scrub_check.specs.Chunks.{place_of, orphans}
 use Rattle.scrub_check.specs.Places.{place_cmp}
 use Rattle.scrub_check.specs.SoundPlaces.{is_live_by, is_named_by}
@@ -47,15 +48,15 @@ live_by starts e items = filter (is_live_by starts e) items
 abbrev pub orphans_by : List ChunkAt → ℕ → List Item → List Place
 orphans_by starts e items = filter (λ p. not (is_named_by starts p)) (filter_map (place_of e) items)
 
--- how many bytes the chunks at one of these places take, and where they begin
+-- how many bytes the chunks at one of these places take, and where each lies
 pub record AreLiveBy (starts : List ChunkAt) (e : ℕ) (items : List Item) (l : LiveChunks) : Type 0 where
   pub sizes : l.bytes ≡ sum_by size_of (live_by starts e items)
-  pub begins : l.starts.items ≡ map start_of (live_by starts e items)
+  pub kept : l.kept.items ≡ map kept_of (live_by starts e items)
 
--- how many bytes the live chunks of an extent take, and where they begin
+-- how many bytes the live chunks of an extent take, and where each lies
 pub record AreLiveChunks (checked : List Checked) (f : Scanned) (l : LiveChunks) : Type 0 where
   pub sizes : l.bytes ≡ live_bytes checked f
-  pub begins : l.starts.items ≡ map start_of (live_chunks checked f)
+  pub kept : l.kept.items ≡ map kept_of (live_chunks checked f)
 
 -- the live bytes of some extents, their orphans, and, if the sizes are given, which of them may be reclaimed
 pub record AreLiveAndOrphans (g : Option Geometry) (checked : List Checked) (extents : List Scanned) (t : LiveAndOrphans) : Type 0 where

@@ -11,6 +11,7 @@ pub mod statuses;
 pub use lists::broken::{broken_shards, one_list_of_broken_shards};
 pub use lists::candidate::Candidate;
 pub use lists::chunks::{orphans, twins};
+pub use lists::kept_chunk::KeptChunk;
 pub use lists::live::live_bytes;
 pub use lists::liveness::{Liveness, liveness_of};
 pub use lists::place::{Place, SharedPlace};

@@ -3,7 +3,7 @@
 use crate::calls::Trial;
 use crate::disks::{names_with_status, nine_locators, twins_and_shared};
 use crate::ending::{Stop, Wanted, right};
-use scrub_check::{Candidate, Place, SharedPlace};
+use scrub_check::{Candidate, KeptChunk, Place, SharedPlace};
 use scrub_fakes::{ONES, SHARD, plan_of};
 use scrub_scan::scan_in_order;
 use std::alloc::Global;
@@ -85,10 +85,16 @@ pub fn shared(alloc: Global, wanted: Wanted) -> Result<(), Stop> {
     right(shared.as_slice() == [SHARED].as_slice())
 }
 
+/// The chunk that two locators name.
+const KEPT: KeptChunk = KeptChunk {
+    start: 41,
+    bytes: 41,
+};
+
 /// Whether the extent that is half live is the one candidate.
 fn is_half_live(candidates: &[Candidate]) -> bool {
     match candidates {
-        [one] => one.extent() == 1 && one.free() == 41 && one.keep() == [41].as_slice(),
+        [one] => one.extent() == 1 && one.free() == 41 && one.keep() == [KEPT].as_slice(),
         _ => false,
     }
 }

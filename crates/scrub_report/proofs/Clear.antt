@@ -1,13 +1,15 @@
 -- The lines of what can be reclaimed are those of what was found, an image has one such text, and reclaiming is safe.
-use Rattle.std.proofs.Common.{◌≡◌, ◌++◌, ◌==◌, ◌&&◌, ℕ, Bool, true, false, List, [], ◌∷◌, get_or, arith, refl, sym, ap, ◌∙◌, inl, inr, if◌then◌else◌}
+use Rattle.std.proofs.Common.{◌≡◌, ◌++◌, ◌==◌, ◌&&◌, ℕ, Bool, true, false, List, [], ◌∷◌, get_or, map, subst, arith, refl, sym, ap, ◌∙◌, inl, inr, if◌then◌else◌}
 use Rattle.std.specs.List.{Contains, flat_map}
 use Rattle.std.proofs.lemmas.Bool.{eq-eqb}
 use Rattle.std.proofs.lemmas.List.Elements.{Contains-append_left, Contains-append_right, All-contains_itself}
+use Rattle.std.proofs.lemmas.List.Folds.{flat_map-map}
 use Rattle.scrub_disk.specs.Image.{Image}
 use Rattle.scrub_super.specs.declared.pages.SuperblockPage.{SuperblockPage}
 use Rattle.scrub_super.specs.Planned.{extents_in_use}
 use Rattle.scrub_super.proofs.PageLaws.{one_list_of_pages}
 use Rattle.scrub_merge.proofs.Elements.{Contains-cases, Contains-filter}
+use Rattle.scrub_check.specs.declared.lists.kept_chunk.KeptChunk.{KeptChunk}
 use Rattle.scrub_check.specs.declared.statuses.checked.Checked.{Checked}
 use Rattle.scrub_check.specs.declared.runs.RunState.{RunState}
 use Rattle.scrub_check.specs.Candidates.{CandidateValue}
@@ -123,8 +125,9 @@ moved : (checked : List Checked) (a : CandidateValue) (c : Checked) → Contains
 moved checked a c there same k = record {
   sound = k.sound;
   kept = k.kept;
-  line = among_parts (pointing_to checked a.extent) a.keep c.locator.offset c k.kept
-      (Contains-filter (points_to a.extent c.locator.offset) checked c (own_place c a.extent same) there);
+  line = subst (λ (cs : List Checked). Contains cs c) (flat_map-map (pointing_to checked a.extent) (λ (chunk : KeptChunk). chunk.start) a.keep)
+      (among_parts (pointing_to checked a.extent) (map (λ chunk. chunk.start) a.keep) c.locator.offset c k.kept
+      (Contains-filter (points_to a.extent c.locator.offset) checked c (own_place c a.extent same) there));
 }
 
 all_moved : (checked : List Checked) (candidates : List CandidateValue) → AreSafe checked candidates →

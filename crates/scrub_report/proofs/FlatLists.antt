@@ -3,7 +3,6 @@ use Rattle.std.proofs.Common.{◌≡◌, ◌==◌, ◌+◌, ◌<◌, ◌≤◌, 
 use Rattle.std.specs.List.{flat_map}
 use Rattle.std.proofs.lemmas.List.{flat_map_more, take_all, take_more}
 use Rattle.std.proofs.lemmas.Bool.{eqb-true}
-use Rattle.std.proofs.lemmas.List.Concat.{flat_map-append}
 
 module _ {X A : Type 0} (f : X → List A) (old mid new : List A) (xs : List X) (i : ℕ) where
   -- the part of one more element
@@ -29,15 +28,6 @@ flat_none f old [] e = sym (append-nil old)
 flat_none f old (x ∷ xs) e =
     let none : length (x ∷ xs) ≡ 0 = eqb-true (length (x ∷ xs)) 0 e in
     absurd (omega (arith, none))
-
-abbrev pub flat_part : {X Y A : Type 0} → (Y → List A) → (X → List Y) → X → List A
-flat_part f g x = flat_map f (g x)
-
--- lists of lists, joined twice
-pub flat_twice : {X Y A : Type 0} (f : Y → List A) (g : X → List Y) (xs : List X) →
-    flat_map f (flat_map g xs) ≡ flat_map (flat_part f g) xs
-flat_twice f g [] = refl
-flat_twice f g (x ∷ xs) = flat_map-append f (g x) (flat_map g xs) ∙ ap (λ u. flat_map f (g x) ++ u) (flat_twice f g xs)
 
 -- two steps of appending are one
 pub appended_ok : {A E : Type 0} (r : Result (Unit {0}) E) (old mid new xs ys : List A) → mid ≡ old ++ xs →

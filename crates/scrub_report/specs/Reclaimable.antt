@@ -1,11 +1,12 @@
 -- The lines that say which extents can be reclaimed, and what must be moved first.
-use Rattle.std.specs.Prelude.{◌≡◌, ◌++◌, ◌∷◌, ◌==◌, ◌&&◌, [], ℕ, Bool, true, List, All, Contains, codes, length, if◌then◌else◌}
+use Rattle.std.specs.Prelude.{◌≡◌, ◌++◌, ◌∷◌, ◌==◌, ◌&&◌, [], ℕ, Bool, true, List, All, Contains, codes, length, map, if◌then◌else◌}
 use Rattle.std.specs.Fmt.{decimal}
 use Rattle.std.specs.List.{filter, flat_map}
 use Rattle.scrub_disk.specs.Image.{Image}
 use Rattle.scrub_super.specs.declared.pages.SuperblockPage.{SuperblockPage}
 use Rattle.scrub_super.specs.Pages.{AreSuperblockPages}
 use Rattle.scrub_scan.specs.Line.{spaced}
+use Rattle.scrub_check.specs.declared.lists.kept_chunk.KeptChunk.{KeptChunk}
 use Rattle.scrub_check.specs.declared.statuses.checked.Checked.{Checked}
 use Rattle.scrub_check.specs.declared.statuses.status.Status.TheVariants.{Sound}
 use Rattle.scrub_scan.specs.declared.standing.Standing.{Standing}
@@ -63,11 +64,15 @@ pointing_to checked e p = filter (points_to e p) checked
 
 -- the named locators that point to the chunks that a candidate keeps, by rising chunk
 abbrev pub moves : List Checked → CandidateValue → List Checked
-moves checked a = flat_map (pointing_to checked a.extent) a.keep
+moves checked a = flat_map (λ k. pointing_to checked a.extent k.start) a.keep
 
--- the line of a move: `move EXTENT OFFSET LENGTH UUID OWNER` and a line feed
-abbrev pub move_line : Checked → List ℕ
-move_line c = codes "move" ++ spaced (place_text c.locator) ++ spaced (owner_text c.owner) ++ 10 ∷ []
+-- the line of a move of a frame of so many bytes: `move EXTENT OFFSET LENGTH UUID OWNER BYTES` and a line feed
+abbrev pub move_line : ℕ → Checked → List ℕ
+move_line bytes c = codes "move" ++ spaced (place_text c.locator) ++ spaced (owner_text c.owner) ++ spaced (decimal bytes) ++ 10 ∷ []
+
+-- the lines of the named locators that point to a chunk to keep of extent e
+abbrev pub kept_lines : List Checked → ℕ → KeptChunk → List ℕ
+kept_lines checked e k = flat_map (move_line k.bytes) (pointing_to checked e k.start)
 
 -- the text of an extent to reclaim: `reclaim EXTENT FREE`
 abbrev pub freed_text : ℕ → ℕ → List ℕ
@@ -77,9 +82,9 @@ freed_text extent free = codes "reclaim" ++ spaced (decimal extent) ++ spaced (d
 abbrev pub reclaim_line : CandidateValue → List ℕ
 reclaim_line a = freed_text a.extent a.free ++ 10 ∷ []
 
--- a candidate's line and those of its moves
+-- a candidate's line and those of its moves, by rising chunk
 abbrev pub candidate_lines : List Checked → CandidateValue → List ℕ
-candidate_lines checked a = reclaim_line a ++ flat_map move_line (moves checked a)
+candidate_lines checked a = reclaim_line a ++ flat_map (kept_lines checked a.extent) a.keep
 
 -- the lines of some candidates and their moves, in their order
 abbrev pub all_candidate_lines : List Checked → List CandidateValue → List ℕ
@@ -142,7 +147,7 @@ pub record AreOfCandidates (image : Image) (accepted : Accepted) (report text : 
 -- a named locator is sound, points to a chunk that a candidate keeps, and has a line among its moves
 pub record IsMoved (checked : List Checked) (a : CandidateValue) (c : Checked) : Type 0 where
   pub sound : c.status ≡ Sound
-  pub kept : Contains a.keep c.locator.offset
+  pub kept : Contains (map (λ k. k.start) a.keep) c.locator.offset
   pub line : Contains (moves checked a) c
 
 -- each named locator into one of these extents is sound, points to a chunk to keep, and has a line among the moves

@@ -114,7 +114,7 @@ shared_data s = with_keys ((codes "count", natural s.count) ∷ (codes "extent",
 
 -- one of `candidates`: an extent, how many bytes reclaiming it frees, and the starts of the chunks to move first
 abbrev pub candidate_data : CandidateValue → Data
-candidate_data c = with_keys ((codes "extent", natural c.extent) ∷ (codes "free", natural c.free) ∷ (codes "keep", numbers_data c.keep) ∷ [])
+candidate_data c = with_keys ((codes "extent", natural c.extent) ∷ (codes "free", natural c.free) ∷ (codes "keep", numbers_data (map (λ k. k.start) c.keep)) ∷ [])
 
 -- the value of `extents`: each scanned extent, with its live bytes
 abbrev pub extents_data : List Checked → List Scanned → Data

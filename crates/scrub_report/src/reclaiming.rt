@@ -16,7 +16,7 @@ ghost use Rattle.scrub_report.specs.Index.{IsIndex};
 ghost use Rattle.scrub_report.specs.Manifest.{IsManifest};
 ghost use Rattle.scrub_report.specs.Moves.{AreRisingPlaces, PointAlike};
 ghost use Rattle.scrub_report.specs.Parts.{IsScan};
-ghost use Rattle.scrub_report.specs.Reclaimable.{KeepsSpares, AreMoved, AreOfCandidates, AreReclaimLines, IsClear, all_candidate_lines, candidate_lines, move_line, pointing_to, reclaim_line, reclaimed, rooms_kept};
+ghost use Rattle.scrub_report.specs.Reclaimable.{KeepsSpares, AreMoved, AreOfCandidates, AreReclaimLines, IsClear, all_candidate_lines, candidate_lines, kept_lines, move_line, reclaim_line, reclaimed, rooms_kept};
 ghost use Rattle.scrub_report.specs.Report.{IsReport};
 ghost use Rattle.scrub_report.specs.Reset.{IsReclaimed, NameTheSame};
 ghost use Rattle.scrub_report.specs.Room.{IsPut, IsRoom, may_grow, place_in};
@@ -32,7 +32,7 @@ use crate::room::append_rooms;
 use crate::scanning::{Scan, scan_chosen};
 use crate::scrubbing::parts_of;
 use crate::texts::owner_text;
-use scrub_check::{Candidate, Checked};
+use scrub_check::{Candidate, Checked, KeptChunk};
 use scrub_disk::{OutOfMemory, PageSource};
 use scrub_pool::{Gate, Takings};
 use scrub_super::{SuperblockPage, choose_with_pages};
@@ -46,7 +46,8 @@ use std::thread::Threads;
 pub struct ReclaimListing {
     /// A line for each doubt, by kind. It begins with `accepted` if its kind was accepted, or else with `doubt`. If no line
     /// begins with `doubt`, then `reclaim EXTENT FREE` for each candidate of the report, in its order, and behind each of them
-    /// `move EXTENT OFFSET LENGTH UUID OWNER` for each named locator into it, by the chunk that it points to. At the end, if
+    /// `move EXTENT OFFSET LENGTH UUID OWNER BYTES` for each named locator into it, by the chunk that it points to, whose
+    /// payload takes LENGTH and whose frame takes BYTES. At the end, if
     /// there is a candidate, `room EXTENT OFFSET BYTES` for each extent that a chunk can be put into, be it a candidate or not,
     /// with the place for it and the bytes from there on. The numbers are in decimal; free, offset, length and bytes are in bytes. The UUID is as RFC 9562 writes it, in
     /// lower case.
@@ -55,23 +56,33 @@ pub struct ReclaimListing {
     pub is_clear: bool,
 }
 
-/// Appends the line of a named locator to a chunk that must be moved.
-fn append_move(alloc: Global, text: &mut Vec<u8>, one: &Checked) -> Result<(), OutOfMemory>
-    ensures { OnOk result (text.new.items ≡ text.old.items ++ move_line one.now) }
+/// Appends the line of a named locator to a chunk that must be moved, and whose frame takes so many bytes.
+fn append_move(
+    alloc: Global,
+    text: &mut Vec<u8>,
+    one: &Checked,
+    bytes: u32,
+) -> Result<(), OutOfMemory>
+    ensures { OnOk result (text.new.items ≡ text.old.items ++ move_line bytes one.now) }
 {
     let place = place_text(alloc, one.locator)?;
     let owner = owner_text(alloc, one.owner)?;
-    let line = format!(in alloc; "move {place} {owner}\n")?;
+    let line = format!(in alloc; "move {place} {owner} {bytes}\n")?;
     text.extend_from_slice(line.as_bytes())?;
     Ok(())
 }
 
-/// Appends the lines of these named locators, in their order.
-fn append_moves(alloc: Global, text: &mut Vec<u8>, some: &[&Checked]) -> Result<(), OutOfMemory>
-    ensures { OnOk result (text.new.items ≡ text.old.items ++ flat_map move_line (map (λ one. one.now) some.now)) }
+/// Appends the lines of these named locators to a chunk, in their order.
+fn append_moves(
+    alloc: Global,
+    text: &mut Vec<u8>,
+    some: &[&Checked],
+    bytes: u32,
+) -> Result<(), OutOfMemory>
+    ensures { OnOk result (text.new.items ≡ text.old.items ++ flat_map (move_line bytes) (map (λ one. one.now) some.now)) }
 {
     for one in some {
-        append_move(alloc, text, *one)?;
+        append_move(alloc, text, *one, bytes)?;
     }
     Ok(())
 }
@@ -82,14 +93,15 @@ fn append_kept(
     text: &mut Vec<u8>,
     sorted: &[&Checked],
     extent: u32,
-    keep: &[u32],
+    keep: &[KeptChunk],
 ) -> Result<(), OutOfMemory>
     requires { AreRisingPlaces sorted.now }
     ensures { (checked : List Checked) → PointAlike checked sorted.now →
-        OnOk result (text.new.items ≡ text.old.items ++ flat_map move_line (flat_map (pointing_to checked extent) keep.now)) }
+        OnOk result (text.new.items ≡ text.old.items ++ flat_map (kept_lines checked extent) keep.now) }
 {
-    for offset in keep {
-        append_moves(alloc, text, pointing_to(sorted, extent, *offset))?;
+    for chunk in keep {
+        let some = pointing_to(sorted, extent, chunk.start);
+        append_moves(alloc, text, some, chunk.bytes)?;
     }
     Ok(())
 }

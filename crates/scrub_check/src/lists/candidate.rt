@@ -2,6 +2,7 @@
 
 ghost use Rattle.std.specs.Prelude.{◌≡◌};
 
+use crate::lists::kept_chunk::KeptChunk;
 use std::marker::Model;
 
 /// An extent that may be reclaimed once the chunks to keep are moved.
@@ -9,7 +10,7 @@ use std::marker::Model;
 pub struct Candidate {
     extent: u32,
     free: u32,
-    keep: Vec<u32>,
+    keep: Vec<KeptChunk>,
 }
 
 impl Model for Candidate {
@@ -22,7 +23,7 @@ impl Model for Candidate {
 
 impl Candidate {
     /// A candidate of these parts.
-    pub(crate) fn new(extent: u32, free: u32, keep: Vec<u32>) -> Candidate
+    pub(crate) fn new(extent: u32, free: u32, keep: Vec<KeptChunk>) -> Candidate
         ensures { result ≡ record { extent = extent; free = free; keep = keep.items } }
     {
         Candidate { extent, free, keep }
@@ -42,8 +43,8 @@ impl Candidate {
         self.free
     }
 
-    /// The bytes of the extent that the live chunks begin at, rising.
-    pub fn keep(&self) -> &[u32]
+    /// The live chunks, rising.
+    pub fn keep(&self) -> &[KeptChunk]
         ensures { result.now ≡ self.now.keep }
     {
         self.keep.as_slice()

@@ -15,6 +15,7 @@ ghost use Rattle.scrub_check.specs.LiveAndOrphans.{HasPassed, AreLiveBy, AreLive
 use crate::lists::candidate::Candidate;
 use crate::lists::chunks::place_of;
 use crate::lists::cursor::Cursor;
+use crate::lists::kept_chunk::KeptChunk;
 use crate::lists::live::size_of;
 use crate::lists::locator_index::LocatorIndex;
 use crate::lists::place::Place;
@@ -29,8 +30,8 @@ use std::alloc::Global;
 pub(crate) struct LiveChunks {
     /// How many bytes they take.
     pub bytes: u32,
-    /// The bytes of the extent that they begin at, rising.
-    pub starts: Vec<u32>,
+    /// Where each lies, rising.
+    pub kept: Vec<KeptChunk>,
 }
 
 /// What is known of some extents.
@@ -69,8 +70,12 @@ fn put_item(
         orphans.push(chunk)?;
         return Ok(());
     }
-    live.bytes += size_of(item);
-    live.starts.push(offset)?;
+    let bytes = size_of(item);
+    live.bytes += bytes;
+    live.kept.push(KeptChunk {
+        start: offset,
+        bytes,
+    })?;
     Ok(())
 }
 
@@ -92,7 +97,7 @@ fn live_among(
 {
     let mut live = LiveChunks {
         bytes: 0,
-        starts: Vec::new(alloc),
+        kept: Vec::new(alloc),
     };
     for item in items {
         put_item(extent, item, cursor, &mut live, orphans)?;

@@ -83,7 +83,7 @@ fn candidate_of<D: PageSource>(found: &ExtentResult<'_, D>, live: LiveChunks) ->
     ensures { (checked : List Checked) → AreLiveChunks checked (scanned found.now) live →
         result ≡ candidate_of checked (scanned found.now) }
 {
-    Candidate::new(found.extent(), free_bytes(found, live.bytes), live.starts)
+    Candidate::new(found.extent(), free_bytes(found, live.bytes), live.kept)
 }
 
 /// Adds an extent of these live chunks to the candidates, if the sizes of the disk are given and it may be reclaimed.

@@ -320,7 +320,7 @@ fn the_help_of_the_commands_on_superblocks_and_on_what_may_be_reclaimed(
             "--accept <KIND>",
             "superblock-damaged, superblock-stray, spare, tail or tail-lost",
             "doubt tail EXTENT OFFSET BYTES",
-            "move EXTENT OFFSET LENGTH UUID OWNER",
+            "move EXTENT OFFSET LENGTH UUID OWNER BYTES",
             "room EXTENT OFFSET BYTES",
             "Exit status",
         ],

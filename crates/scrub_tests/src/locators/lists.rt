@@ -6,7 +6,7 @@ use crate::support::disks::{
 };
 use crate::support::reported::lists_of;
 use scrub_check::{
-    Candidate, Checked, Found, Owner, Place, Status, dangling, find_start, hidden, live_bytes,
+    Candidate, Checked, Found, KeptChunk, Owner, Place, Status, dangling, find_start, hidden, live_bytes,
 };
 use scrub_disk::MemDisk;
 use scrub_fakes::{ENDS_IN_MAGIC, ONES, abc_at, plan_of};
@@ -145,7 +145,7 @@ fn check_candidate(
     candidates: &[Candidate],
     extent: u32,
     free: u32,
-    keep: &[u32],
+    keep: &[KeptChunk],
 ) {
     assert!(rt; candidates.len() == 1);
     let first = &candidates[0];
@@ -168,7 +168,11 @@ fn a_half_live_extent_may_be_reclaimed_and_keeps_its_live_chunk(
 ) -> Result<(), Fail> {
     let disk = half_garbage(rt.alloc())?;
     let found = lists_of(&rt, rt.alloc(), &disk)?;
-    check_candidate(&rt, &found.candidates, 1, 41, &[41]);
+    let kept = KeptChunk {
+        start: 41,
+        bytes: 41,
+    };
+    check_candidate(&rt, &found.candidates, 1, 41, &[kept]);
     Ok(())
 }
 

@@ -11,7 +11,7 @@ use crate::support::compare::same;
 use crate::support::disks::{Worked, nine_locators};
 use crate::support::reported::checked_of;
 use scrub_check::{
-    Candidate, Checked, Place, SharedPlace, Status, candidates, find_start, orphans, shared, twins,
+    Candidate, Checked, KeptChunk, Place, SharedPlace, Status, candidates, find_start, orphans, shared, twins,
 };
 use scrub_disk::{MemDisk, PageSource};
 use scrub_fakes::{mark_bad, plan_of, put};
@@ -112,30 +112,32 @@ fn add_shared(
     Ok(())
 }
 
-/// An extent that may be reclaimed: its number, the bytes that it frees, and the starts of the chunks that it keeps.
+/// An extent that may be reclaimed: its number, the bytes that it frees, and the chunks that it keeps.
 #[derive(Debug, PartialEq, Eq, Drop)]
 struct Reclaimed {
     extent: u32,
     free: u32,
-    keep: Vec<u32>,
+    keep: Vec<KeptChunk>,
 }
 
-/// The starts of the live chunks of an extent, and their bytes in all.
+/// The live chunks of an extent, and their bytes in all.
 fn walk_live(
     alloc: Global,
     found: &ExtentResult<'_, MemDisk>,
     checked: &[Checked],
-) -> Result<(Vec<u32>, u32), Fail> {
-    let mut starts = Vec::new(alloc);
-    let mut bytes: u32 = 0;
+) -> Result<(Vec<KeptChunk>, u32), Fail> {
+    let mut kept = Vec::new(alloc);
+    let mut total: u32 = 0;
     for item in found.findings().items() {
         let is_chunk = matches!(item, Item::Chunk { .. });
         if is_chunk && sound_at(checked, found.extent(), item.start()) > 0 {
-            starts.push(item.start())?;
-            bytes = bytes.saturating_add(item.stop().saturating_sub(item.start()));
+            let start = item.start();
+            let bytes = item.stop().saturating_sub(start);
+            kept.push(KeptChunk { start, bytes })?;
+            total = total.saturating_add(bytes);
         }
     }
-    Ok((starts, bytes))
+    Ok((kept, total))
 }
 
 /// Whether an extent has bytes below its pointer, all of them readable, and only sound locators name the extent.

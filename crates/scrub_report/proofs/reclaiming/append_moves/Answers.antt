@@ -9,5 +9,5 @@ use Rattle.scrub_report.proofs.reclaiming.append_moves.Goals as goal
 
 pub returns : goal.returns
 returns c =
-    flat_all (λ (one : Bor Checked). move_line one.now) c.args.text.now.items c.loop-one.text.items c.args.some.now c.loop-one.one-index c.loop-one-test.false c.loop-one.invariant
-    ∙ ap (λ (u : List ℕ). c.args.text.now.items ++ u) (sym (flat_map-map move_line (λ (one : Bor Checked). one.now) c.args.some.now))
+    flat_all (λ (one : Bor Checked). move_line c.args.bytes one.now) c.args.text.now.items c.loop-one.text.items c.args.some.now c.loop-one.one-index c.loop-one-test.false c.loop-one.invariant
+    ∙ ap (λ (u : List ℕ). c.args.text.now.items ++ u) (sym (flat_map-map (move_line c.args.bytes) (λ (one : Bor Checked). one.now) c.args.some.now))

@@ -8,7 +8,7 @@ use Rattle.scrub_check.proofs.lists.live_and_orphans.live_among.Goals as goal
 
 pub loop-item-init : goal.loop-item-init
 loop-item-init c = record {
-  known = record { sizes = refl; begins = c.new.ensures.items };
+  known = record { sizes = refl; kept = c.new.ensures.items };
   left = sym (append-nil c.args.orphans.now.items);
   same = refl;
   passed = passed_first c.args.cursor.now c.args.extent c.args.items.now c.requires.passed;
