@@ -1,5 +1,5 @@
 -- Frames sorted by what their payloads are told by, and the copies of what a locator asks for among them.
-use Rattle.std.proofs.Common.{◌≡◌, ◌<◌, ◌≤◌, ◌+◌, ◌-◌, ◌&&◌, ◌||◌, ◌++◌, ℕ, zero, suc, Bool, true, false, not, cond, List, [], ◌∷◌, length, get_or, map, take, drop, arith, refl, sym, ◌∙◌, ap, append_assoc, nat_lt, Option, Ordering, Less, Equal, Greater, nat_cmp, is_eq, is_lt, is_le}
+use Rattle.std.proofs.Common.{◌≡◌, ◌<◌, ◌≤◌, ◌+◌, ◌-◌, ◌&&◌, ◌||◌, ◌++◌, ℕ, zero, suc, Bool, true, false, not, cond, List, [], ◌∷◌, length, get_or, map, take, drop, arith, refl, sym, ◌∙◌, ap, append_assoc, nat_lt, if◌then◌else◌, Option, Ordering, Less, Equal, Greater, nat_cmp, is_eq, is_lt, is_le}
 use Rattle.std.proofs.Math.Path.{ap₂}
 use Rattle.std.specs.Ordering.{ordering_reverse}
 use Rattle.std.specs.Cmp.{IsTotalOrder, nat_cmp_total}
@@ -20,8 +20,7 @@ use Rattle.scrub_scan.specs.declared.standing.Standing.{Standing}
 use Rattle.scrub_scan.specs.Scanned.{Scanned}
 use Rattle.scrub_check.specs.declared.lists.spares.Content.{Content}
 use Rattle.scrub_check.specs.declared.statuses.checked.Checked.{Checked}
-use Rattle.scrub_check.specs.Checked.{dangling, is_dangling}
-use Rattle.scrub_check.specs.Spares.{AreSpares, AreWanted, HaveTheSameCopies, content_cmp, content_named, content_of, frames, is_copy_of, is_wanted}
+use Rattle.scrub_check.specs.Spares.{AreSpares, AreWanted, HaveTheSameCopies, asks_for_spares, content_cmp, content_named, content_of, copies_of, frames, is_copy_of, is_wanted}
 use Rattle.scrub_check.proofs.Between.{filter_between, filter_in, filter_out}
 use Rattle.scrub_check.proofs.Counts.{BelowAt, ThroughAt, any_counts, count_map}
 use Rattle.scrub_check.proofs.SortedPlaces.{both, same_number}
@@ -123,14 +122,14 @@ turned Less = refl
 turned Equal = refl
 turned Greater = refl
 
--- a copy of what a dangling locator asks for is wanted
+-- a copy of what a named locator asks for is wanted
 copy_wanted : (checked : List Checked) (wanted : List Content) (c : Checked) (s : Standing) → AreWanted checked wanted →
-    Contains checked c → is_dangling c.status ≡ true → is_copy_of c.locator s ≡ true → is_wanted wanted s ≡ true
-copy_wanted checked wanted c s are there dangles copy =
+    Contains checked c → asks_for_spares c ≡ true → is_copy_of c.locator s ≡ true → is_wanted wanted s ≡ true
+copy_wanted checked wanted c s are there asks copy =
     ap (λ n. nat_lt 0 n)
-    (sum_by-IsPermutation (λ other. cond (test other) 1 0) (map content_named (dangling checked)) wanted are ∙ count_map test content_named (dangling checked))
-    ∙ sym (any_counts (λ d. test (content_named d)) (dangling checked))
-    ∙ any_kept (λ d. test (content_named d)) (λ d. is_dangling d.status) checked there.0 c there.1 there.2 dangles
+    (sum_by-IsPermutation (λ other. cond (test other) 1 0) (map content_named (filter asks_for_spares checked)) wanted are ∙ count_map test content_named (filter asks_for_spares checked))
+    ∙ sym (any_counts (λ d. test (content_named d)) (filter asks_for_spares checked))
+    ∙ any_kept (λ d. test (content_named d)) asks_for_spares checked there.0 c there.1 there.2 asks
     (ap is_eq (content_total.antisymm (content_named c) (content_of s)) ∙ turned (content_cmp (content_of s) (content_named c)) ∙ sym (copy_there c.locator s) ∙ copy)
   where
     test : Content → Bool
@@ -140,10 +139,18 @@ copy_wanted checked wanted c s are there dangles copy =
 pub spares_found : (all : List Scanned) (checked : List Checked) (wanted : List Content) (found spares : List Standing) →
     AreWanted checked wanted → found ≡ filter (is_wanted wanted) (frames all) → HaveTheSameCopies found spares →
     AreSpares all checked spares
-spares_found all checked wanted found spares are is same c there dangles =
-    same c.locator
-    ∙ ap (filter (is_copy_of c.locator)) is
-    ∙ kept (is_copy_of c.locator) (is_wanted wanted) (frames all) (λ s copy. copy_wanted checked wanted c s are there dangles copy)
+spares_found all checked wanted found spares are is same c there = by (asks_for_spares c) refl
+  where
+    by : (b : Bool) → asks_for_spares c ≡ b →
+        (if asks_for_spares c then filter (is_copy_of c.locator) spares else []) ≡ (if asks_for_spares c then copies_of all c.locator else [])
+    by true asks =
+        ap (λ (ss : List Standing). if asks_for_spares c then ss else [])
+        (same c.locator
+        ∙ ap (filter (is_copy_of c.locator)) is
+        ∙ kept (is_copy_of c.locator) (is_wanted wanted) (frames all) (λ s copy. copy_wanted checked wanted c s are there asks copy))
+    by false none =
+        ap (λ (b : Bool). if b then filter (is_copy_of c.locator) spares else []) none
+        ∙ sym (ap (λ (b : Bool). if b then copies_of all c.locator else []) none)
 
 -- one more item
 pub item_more : {X Y : Type 0} (p : Y → Bool) (f : X → Option Y) (xs : List X) (i : ℕ) (x : X) (old mid new : List Y) → i < length xs →

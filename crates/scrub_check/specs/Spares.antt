@@ -1,5 +1,5 @@
--- Spare copies: chunks whose payload has the length and the digest that a dangling locator asks for.
-use Rattle.std.specs.Prelude.{◌≡◌, ◌==◌, ◌&&◌, Bool, true, List, [], Contains, nat_lt, map, if◌then◌else◌}
+-- Spare copies: chunks whose payload has the length and the digest that a dangling locator asks for. An empty payload needs none.
+use Rattle.std.specs.Prelude.{◌≡◌, ◌==◌, ◌&&◌, Bool, List, [], Contains, nat_lt, map, if◌then◌else◌}
 use Rattle.std.specs.Str.{bytes_eq}
 use Rattle.std.specs.declared.cmp.Ordering.{Ordering}
 use Rattle.std.specs.Ordering.{nat_cmp, ordering_then, is_eq}
@@ -11,7 +11,7 @@ use Rattle.scrub_scan.specs.declared.standing.Standing.{Standing}
 use Rattle.scrub_scan.specs.Scanned.{Scanned}
 use Rattle.scrub_check.specs.declared.lists.spares.Content.{Content}
 use Rattle.scrub_check.specs.declared.statuses.checked.Checked.{Checked}
-use Rattle.scrub_check.specs.Checked.{dangling, is_dangling}
+use Rattle.scrub_check.specs.Checked.{is_dangling}
 use Rattle.scrub_check.specs.Chunks.{frame_of_item}
 
 -- ---- what a spare is
@@ -32,15 +32,21 @@ is_copy_of l s = bytes_eq s.digest l.digest && (s.length == l.length)
 abbrev pub copies_of : List Scanned → Locator → List Standing
 copies_of all l = filter (is_copy_of l) (frames all)
 
--- the spares of a named locator: if it dangles, the chunks that have what it asks for
-abbrev pub spares_of : List Scanned → Checked → List Standing
-spares_of all c = if is_dangling c.status then copies_of all c.locator else []
+-- a named locator asks for spares: it dangles, and its payload isn't empty
+abbrev pub asks_for_spares : Checked → Bool
+asks_for_spares c = is_dangling c.status && nat_lt 0 c.locator.length
 
--- these have the spares of each of the named locators
+-- the spares of a named locator: if it asks for some, the chunks that have what it asks for
+abbrev pub spares_of : List Scanned → Checked → List Standing
+spares_of all c = if asks_for_spares c then copies_of all c.locator else []
+
+-- the same among some chunks
+abbrev pub spares_by : List Standing → Checked → List Standing
+spares_by found c = if asks_for_spares c then filter (is_copy_of c.locator) found else []
+
+-- the spares of each of the named locators are among these chunks, in their order
 abbrev pub AreSpares : List Scanned → List Checked → List Standing → Type 0
-AreSpares all checked spares =
-    (c : Checked) → Contains checked c → is_dangling c.status ≡ true →
-    filter (is_copy_of c.locator) spares ≡ copies_of all c.locator
+AreSpares all checked found = (c : Checked) → Contains checked c → spares_by found c ≡ spares_of all c
 
 -- ---- how they are found
 
@@ -56,9 +62,9 @@ content_named c = record { digest = c.locator.digest; length = c.locator.length 
 abbrev pub content_cmp : Content → Content → Ordering
 content_cmp a b = ordering_then (slice_cmp nat_cmp a.digest b.digest) (nat_cmp a.length b.length)
 
--- what the dangling ones of some locators ask for, each as often as one does, in some order
+-- what some named locators ask for, each as often as one does, in some order
 abbrev pub AreWanted : List Checked → List Content → Type 0
-AreWanted checked wanted = IsPermutation (map content_named (dangling checked)) wanted
+AreWanted checked wanted = IsPermutation (map content_named (filter asks_for_spares checked)) wanted
 
 -- the frame's payload is among these
 abbrev pub is_wanted : List Content → Standing → Bool

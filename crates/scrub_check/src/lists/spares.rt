@@ -1,11 +1,11 @@
-//! Spare copies: the chunks whose payload has the length and the digest that a dangling locator asks for.
+//! Spare copies: the chunks whose payload has the length and the digest that a dangling locator asks for. An empty payload
+//! needs none.
 
 ghost use Rattle.std.specs.Prelude.{◌≡◌, ◌++◌, ◌∷◌, [], IfOk, OnOk, map};
 ghost use Rattle.std.specs.List.{filter, filter_map};
 ghost use Rattle.std.specs.List.Sorted.{IsSorted};
-ghost use Rattle.scrub_check.specs.Checked.{dangling};
 ghost use Rattle.scrub_check.specs.Chunks.{frame_of_item};
-ghost use Rattle.scrub_check.specs.Spares.{AreByContent, AreSpares, HaveTheSameCopies, content_cmp, content_named, content_of, frames, is_copy_of, is_wanted};
+ghost use Rattle.scrub_check.specs.Spares.{AreByContent, AreSpares, HaveTheSameCopies, asks_for_spares, content_cmp, content_named, content_of, frames, is_copy_of, is_wanted, spares_by};
 
 use crate::places::item_frames::frame_of_item;
 use crate::places::sorted_list::{count_of, sorted};
@@ -25,8 +25,8 @@ pub struct Content {
     pub length: u32,
 }
 
-/// The chunks that have what a dangling locator asks for, sorted by digest and length; those of one content by extent and
-/// then offset.
+/// Chunks sorted by the digest and the length of their payloads. Those of one content are in the order in which they were
+/// found.
 #[derive(Drop)]
 pub struct Spares {
     found: Vec<Standing>,
@@ -54,13 +54,20 @@ fn content_of(frame: &Standing) -> Content
     }
 }
 
-/// What the dangling ones of these locators ask for, in their order.
+/// Whether a named locator asks for spares: it dangles, and its payload isn't empty.
+fn asks_for_spares(one: &Checked) -> bool
+    ensures { result ≡ asks_for_spares one.now }
+{
+    one.status.is_dangling() && one.locator.length > 0
+}
+
+/// What those of these locators that do ask for, in their order.
 fn wanted_by(alloc: Global, checked: &[Checked]) -> Result<Vec<Content>, OutOfMemory>
-    ensures { IfOk result (λ v. v.items ≡ map content_named (dangling checked.now)) }
+    ensures { IfOk result (λ v. v.items ≡ map content_named (filter asks_for_spares checked.now)) }
 {
     checked
         .iter()
-        .filter(|one| one.status.is_dangling())
+        .filter(|one| asks_for_spares(one))
         .map(|one| Content {
             digest: one.locator.digest,
             length: one.locator.length,
@@ -140,8 +147,8 @@ fn by_content(mut found: Vec<Standing>) -> Result<Vec<Standing>, OutOfMemory>
 }
 
 impl Spares {
-    /// The spares of the dangling ones of these locators. If none dangles, no chunk is looked at; else each is, once, and it is
-    /// searched for among what the dangling ones ask for.
+    /// The spares of these named locators. If none asks for any, no chunk is looked at; else each is, once, and it is searched
+    /// for among what the locators ask for.
     pub fn of<D: PageSource>(
         alloc: Global,
         all: &AllFindings<'_, D>,
@@ -159,8 +166,33 @@ impl Spares {
         Ok(Spares { found })
     }
 
-    /// Those that have what a locator asks for, by extent and then offset.
-    pub fn copies(&self, locator: &Locator) -> &[Standing]
+    /// Of these chunks.
+    pub fn among(found: Vec<Standing>) -> Result<Spares, OutOfMemory>
+        ensures { IfOk result (HaveTheSameCopies found.items) }
+    {
+        let found = by_content(found)?;
+        Ok(Spares { found })
+    }
+
+    /// All of them.
+    pub fn all(&self) -> &[Standing]
+        ensures { result.now ≡ self.now }
+    {
+        self.found.as_slice()
+    }
+
+    /// The spares of a named locator, by extent and then offset.
+    pub fn of_one(&self, one: &Checked) -> &[Standing]
+        ensures { result.now ≡ spares_by self.now one.now }
+    {
+        if !asks_for_spares(one) {
+            return &self.found[0..0];
+        }
+        self.copies(&one.locator)
+    }
+
+    /// Those that have what a locator asks for, in their order.
+    fn copies(&self, locator: &Locator) -> &[Standing]
         ensures { result.now ≡ filter (is_copy_of locator.now) self.now }
     {
         let content = Content {
