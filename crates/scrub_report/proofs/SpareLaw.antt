@@ -1,21 +1,24 @@
--- Where spares aren't accepted and nothing is in doubt, no extent to reclaim has a spare that isn't live.
-use Rattle.std.proofs.Common.{◌≡◌, ◌<◌, ◌==◌, ◌&&◌, ◌||◌, ◌++◌, ◌∷◌, [], ℕ, zero, suc, Bool, true, false, not, List, length, get_or, map, arith, refl, sym, ◌∙◌, ap, subst, if◌then◌else◌}
+-- Where spares aren't accepted and nothing is in doubt, each locator that has a spare keeps one.
+use Rattle.std.proofs.Common.{◌≡◌, ◌≢◌, ◌⊎◌, inl, inr, ◌<◌, ◌==◌, ◌&&◌, ◌||◌, ◌++◌, ◌∷◌, [], ℕ, zero, suc, Bool, true, false, not, List, length, get_or, map, arith, refl, sym, ◌∙◌, ap, subst, if◌then◌else◌}
 use Rattle.std.proofs.Math.Path.{ap₂}
 use Rattle.std.specs.List.{All, Contains, flat_map, list_all, list_any}
 use Rattle.std.proofs.lemmas.Bool.{and_parts, eq-eqb, false≢true, or_right}
+use Rattle.std.proofs.lemmas.List.Elements.{All-contains_itself, All-filter, filter_passes}
+use Rattle.scrub_frame.specs.declared.form.Form.TheVariants.{Plain}
 use Rattle.scrub_super.specs.declared.pages.SuperblockPage.{SuperblockPage}
 use Rattle.scrub_scan.specs.declared.standing.Standing.{Standing}
 use Rattle.scrub_check.specs.declared.statuses.checked.Checked.{Checked}
 use Rattle.scrub_check.specs.Candidates.{CandidateValue}
-use Rattle.scrub_check.specs.Checked.{is_dangling}
 use Rattle.scrub_check.specs.Live.{has_sound_at}
-use Rattle.scrub_check.specs.Spares.{copies_of}
+use Rattle.scrub_check.specs.Spares.{spares_of}
 use Rattle.scrub_report.specs.declared.doubts.Accepted.{Accepted}
-use Rattle.scrub_report.specs.declared.doubts.Doubt.{Doubt}
-use Rattle.scrub_report.specs.declared.doubts.Doubt.TheVariants.{Spare}
-use Rattle.scrub_report.specs.Doubts.{are_accepted, choice_doubts, is_accepted, is_at_risk, page_doubts, run_doubts, spare_doubt, spare_doubts, spare_doubts_of, superblock_damaged, superblock_lost, superblock_stray, tail_doubts, tail_lost_doubts}
-use Rattle.scrub_report.specs.Reclaimable.{KeepsSpares, is_clear, reclaimed}
+use Rattle.scrub_report.specs.Doubts.{are_accepted, choice_doubts, is_accepted, is_at_risk, page_doubts, run_doubts, spare_doubt, spare_doubts, spare_doubts_of, staying, superblock_damaged, superblock_lost, superblock_stray, tail_doubts, tail_lost_doubts}
+use Rattle.scrub_report.specs.Reclaimable.{HasSafeSpare, KeepsSpares, is_clear, reclaimed}
 use Rattle.scrub_report.specs.Scrubbed.{Scrubbed}
+
+not_true : (b : Bool) → not b ≡ true → b ≡ false
+not_true true e = absurd (false≢true e)
+not_true false e = refl
 
 -- both parts pass
 split : {X : Type 0} (p : X → Bool) (xs ys : List X) → list_all p (xs ++ ys) ≡ true → (list_all p xs ≡ true) × (list_all p ys ≡ true)
@@ -42,6 +45,12 @@ numbered (a ∷ candidates) (suc k) d below =
     or_right (a.extent == (get_or candidates k d).extent) (list_any (λ n. n == (get_or candidates k d).extent) (map (λ b. b.extent) candidates))
     (numbered candidates k d (omega (arith, below)))
 
+-- so those that aren't among them are others
+others : (candidates : List CandidateValue) (e : ℕ) → list_any (λ n. n == e) (map (λ a. a.extent) candidates) ≡ false →
+    All (λ a. a.extent ≢ e) candidates
+others candidates e none k d below same =
+    false≢true (sym none ∙ subst (λ (n : ℕ). list_any (λ m. m == n) (map (λ a. a.extent) candidates) ≡ true) same (numbered candidates k d below))
+
 module _ (accepted : Accepted) (pages : List SuperblockPage) (found : Scrubbed) (refused : accepted.spare ≡ false) where
   abbrev numbers : List ℕ
   numbers = map (λ a. a.extent) found.candidates
@@ -57,30 +66,64 @@ module _ (accepted : Accepted) (pages : List SuperblockPage) (found : Scrubbed) 
       let lost = flat_map (tail_lost_doubts page) found.all in
       (split p front spares (split p (front ++ spares) tails (split p (front ++ spares ++ tails) lost clear).0).0).1
 
-  kept : is_clear accepted pages found ≡ true → (k : ℕ) (d : CandidateValue) → k < length found.candidates →
-      KeepsSpares found (get_or found.candidates k d)
-  kept clear k d below c s there dangles copy into = by (has_sound_at found.checked s.extent s.offset) refl
+  -- one of those that stay
+  one_stays : (c : Checked) → 0 < length (staying found.checked numbers (spares_of found.all c)) → HasSafeSpare found found.candidates c
+  one_stays c some = record {
+    spare = s;
+    among = All-filter p (Contains (spares_of found.all c)) (spares_of found.all c) (All-contains_itself (spares_of found.all c)) 0 d some;
+    stays = by (has_sound_at found.checked s.extent s.offset) refl (filter_passes p (spares_of found.all c) 0 d some);
+  }
     where
-      passes : list_all (is_accepted accepted) (spare_doubt found.checked numbers c.owner s) ≡ true
+      p : Standing → Bool
+      p = λ s. not (is_at_risk found.checked numbers s)
+
+      d : Standing
+      d = record { extent = 0; offset = 0; form = Plain; uuid = []; length = 0; digest = [] }
+
+      s : Standing
+      s = get_or (staying found.checked numbers (spares_of found.all c)) 0 d
+
+      by : (b : Bool) → has_sound_at found.checked s.extent s.offset ≡ b →
+          not (not (has_sound_at found.checked s.extent s.offset) && list_any (λ n. n == s.extent) numbers) ≡ true →
+          (has_sound_at found.checked s.extent s.offset ≡ true) ⊎ All (λ a. a.extent ≢ s.extent) found.candidates
+      by true live passes = inl live
+      by false dead passes =
+          inr
+          (others found.candidates s.extent
+          (not_true (list_any (λ n. n == s.extent) numbers) (ap (λ (t : Bool). not (not t && list_any (λ n. n == s.extent) numbers)) (sym dead) ∙ passes)))
+
+  kept : is_clear accepted pages found ≡ true → KeepsSpares found found.candidates
+  kept clear k d below has = by (spares_of found.all c) (staying found.checked numbers (spares_of found.all c)) refl refl passes
+    where
+      c : Checked
+      c = get_or found.checked k d
+
+      passes : list_all (is_accepted accepted) (spare_doubt c.owner (spares_of found.all c) (staying found.checked numbers (spares_of found.all c))) ≡ true
       passes =
-          each_part (is_accepted accepted) (spare_doubt found.checked numbers c.owner) (copies_of found.all c.locator) copy.0 s copy.1 copy.2
-          (subst (λ (t : Bool). list_all (is_accepted accepted) (flat_map (spare_doubt found.checked numbers c.owner) (if t then copies_of found.all c.locator else [])) ≡ true) dangles
-          (each_part (is_accepted accepted) (spare_doubts_of found.all found.checked numbers) found.checked there.0 c there.1 there.2 (of_spares clear)))
+          let there : Contains found.checked c = All-contains_itself found.checked k d below in
+          each_part (is_accepted accepted) (spare_doubts_of found.all found.checked numbers) found.checked there.0 c there.1 there.2 (of_spares clear)
 
-      among : list_any (λ n. n == s.extent) numbers ≡ true
-      among = subst (λ (e : ℕ). list_any (λ n. n == e) numbers ≡ true) (sym into) (numbered found.candidates k d below)
+      by : (ss ts : List Standing) → spares_of found.all c ≡ ss → staying found.checked numbers (spares_of found.all c) ≡ ts →
+          list_all (is_accepted accepted) (spare_doubt c.owner ss ts) ≡ true → HasSafeSpare found found.candidates c
+      by [] ts none stay all = absurd (has none)
+      by (s ∷ ss) (t ∷ ts) some stay all = one_stays c (let e : length (staying found.checked numbers (spares_of found.all c)) ≡ suc (length ts) = ap length stay in omega (arith, e))
+      by (s ∷ ss) [] some stay all = absurd (false≢true (sym (ap (λ (t : Bool). t && true) refused) ∙ all))
 
-      by : (b : Bool) → has_sound_at found.checked s.extent s.offset ≡ b → has_sound_at found.checked s.extent s.offset ≡ true
-      by true e = e
-      by false e =
-          let risk : is_at_risk found.checked numbers s ≡ true = ap₂ (λ (a b : Bool). not a && b) e among in
-          let doubted : (accepted.spare && true) ≡ true =
-          subst (λ (t : Bool). list_all (is_accepted accepted) (if t then Spare s.extent s.offset s.length s.uuid c.owner ∷ [] else []) ≡ true) risk passes in
-          absurd (false≢true (sym (ap (λ (t : Bool). t && true) refused) ∙ doubted))
+  -- without extents to reclaim any will do
+  any_will_do : KeepsSpares found []
+  any_will_do k d below has = by (spares_of found.all (get_or found.checked k d)) refl
+    where
+      by : (ss : List Standing) → spares_of found.all (get_or found.checked k d) ≡ ss → HasSafeSpare found [] (get_or found.checked k d)
+      by [] none = absurd (has none)
+      by (s ∷ ss) some = record {
+        spare = s;
+        among = subst (λ (xs : List Standing). Contains xs s) (sym some) (0, omega arith, refl);
+        stays = inr (λ j e within. absurd (omega (arith, within)));
+      }
 
-  pub spares_kept : All (KeepsSpares found) (reclaimed accepted pages found)
+  pub spares_kept : KeepsSpares found (reclaimed accepted pages found)
   spares_kept = by (is_clear accepted pages found) refl
     where
-      by : (b : Bool) → is_clear accepted pages found ≡ b → All (KeepsSpares found) (if b then found.candidates else [])
-      by true e = λ k d below. kept e k d below
-      by false e = λ k d below. absurd (omega (arith, below))
+      by : (b : Bool) → is_clear accepted pages found ≡ b → KeepsSpares found (if b then found.candidates else [])
+      by true e = kept e
+      by false e = any_will_do

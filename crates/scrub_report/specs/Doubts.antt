@@ -3,6 +3,7 @@
 use Rattle.std.specs.Prelude.{◌≡◌, ◌≢◌, ◌≤◌, ◌+◌, ◌-◌, ◌*◌, ◌==◌, ◌&&◌, ℕ, ⊤, All, Bool, false, not, List, [], ◌∷◌, ◌++◌, Option, Some, None, is_none, nat_lt, map, if◌then◌else◌}
 use Rattle.std.specs.Option.{option_map, option_to_list}
 use Rattle.std.specs.List.{enumerate_from, filter, filter_map, flat_map, list_all, list_any, range_with_len}
+use Rattle.scrub_frame.specs.Frame.{frame_overhead}
 use Rattle.scrub_super.specs.declared.pages.SuperblockPage.{SuperblockPage}
 use Rattle.scrub_super.specs.declared.pages.SuperblockPage.TheVariants.{Lost, Damaged, Stray}
 use Rattle.scrub_super.specs.Chosen.{Choice}
@@ -11,9 +12,8 @@ use Rattle.scrub_scan.specs.declared.standing.Standing.{Standing}
 use Rattle.scrub_check.specs.declared.named.Owner.{Owner}
 use Rattle.scrub_check.specs.declared.statuses.checked.Checked.{Checked}
 use Rattle.scrub_check.specs.Candidates.{CandidateValue}
-use Rattle.scrub_check.specs.Checked.{is_dangling}
 use Rattle.scrub_check.specs.Live.{has_sound_at}
-use Rattle.scrub_check.specs.Spares.{is_copy_of, spares_of}
+use Rattle.scrub_check.specs.Spares.{spares_by, spares_of}
 use Rattle.scrub_check.specs.declared.runs.RunState.{RunState}
 use Rattle.scrub_check.specs.declared.runs.RunState.TheVariants.{Read}
 use Rattle.scrub_report.specs.declared.doubts.Accepted.{Accepted}
@@ -114,22 +114,31 @@ tail_lost_doubts page f = range_doubts f.extent (page_ranges (lost_past page f))
 abbrev pub is_at_risk : List Checked → List ℕ → Standing → Bool
 is_at_risk checked extents s = not (has_sound_at checked s.extent s.offset) && list_any (λ n. n == s.extent) extents
 
--- the doubt that a spare of this owner's locator makes if a reset might take it
-abbrev pub spare_doubt : List Checked → List ℕ → Owner → Standing → List Doubt
-spare_doubt checked extents owner s = if is_at_risk checked extents s then Spare s.extent s.offset s.length s.uuid owner ∷ [] else []
+-- the spares that no reset of these extents takes
+abbrev pub staying : List Checked → List ℕ → List Standing → List Standing
+staying checked extents ss = filter (λ s. not (is_at_risk checked extents s)) ss
 
--- the doubts of the spares of a named locator
+-- how many bytes the frame takes
+abbrev pub frame_bytes : Standing → ℕ
+frame_bytes s = s.length + frame_overhead s.form
+
+-- the doubt that the spares of this owner's locator make if none of them stays: the first of them
+abbrev pub spare_doubt : Owner → List Standing → List Standing → List Doubt
+spare_doubt owner [] stay = []
+spare_doubt owner (s ∷ ss) [] = Spare s.extent s.offset s.length s.uuid owner (frame_bytes s) ∷ []
+spare_doubt owner (s ∷ ss) (t ∷ ts) = []
+
+-- the doubt that the spares of a named locator make if these extents are reset
 abbrev pub spare_doubts_of : List Scanned → List Checked → List ℕ → Checked → List Doubt
-spare_doubts_of all checked extents c = flat_map (spare_doubt checked extents c.owner) (spares_of all c)
+spare_doubts_of all checked extents c = spare_doubt c.owner (spares_of all c) (staying checked extents (spares_of all c))
 
--- the doubts of the spares in candidates, by named locator, and then by extent and offset
+-- the doubts that spares make if the candidates are reset, by named locator
 abbrev pub spare_doubts : List Scanned → List Checked → List CandidateValue → List Doubt
 spare_doubts all checked candidates = flat_map (spare_doubts_of all checked (map (λ a. a.extent) candidates)) checked
 
--- the same of one locator by the chunks among which the spares are
-abbrev pub spare_doubts_by : List Standing → List Checked → List ℕ → Checked → List Doubt
-spare_doubts_by found checked extents c =
-    flat_map (spare_doubt checked extents c.owner) (if is_dangling c.status then filter (is_copy_of c.locator) found else [])
+-- the same of one locator by the chunks among which its spares are, and those that stay
+abbrev pub spare_doubts_by : List Standing → List Standing → Checked → List Doubt
+spare_doubts_by found stay c = spare_doubt c.owner (spares_by found c) (spares_by stay c)
 
 -- ---- all of them
 
@@ -156,7 +165,7 @@ doubts pages found = doubts_in found.choice pages found.read.states found.plan.g
 abbrev pub is_accepted : Accepted → Doubt → Bool
 is_accepted accepted (SuperblockDamaged q) = accepted.superblock_damaged
 is_accepted accepted (SuperblockStray q) = accepted.superblock_stray
-is_accepted accepted (Spare extent offset size uuid owner) = accepted.spare
+is_accepted accepted (Spare extent offset size uuid owner bytes) = accepted.spare
 is_accepted accepted (Tail extent first count) = accepted.tail
 is_accepted accepted (TailLost extent first last) = accepted.tail_lost
 is_accepted accepted _ = false

@@ -1,14 +1,13 @@
--- The lines of the named locators: owner, place and status, and the places of their spares.
-use Rattle.std.specs.Prelude.{◌≡◌, ◌++◌, ◌∷◌, [], ℕ, List, codes, if◌then◌else◌}
+-- The lines of the named locators: owner, place and status, and of each that has spares the first one and how many.
+use Rattle.std.specs.Prelude.{◌≡◌, ◌++◌, ◌∷◌, [], ℕ, List, codes, length}
 use Rattle.std.specs.Fmt.{decimal}
-use Rattle.std.specs.List.{filter, flat_map}
+use Rattle.std.specs.List.{flat_map}
 use Rattle.scrub_disk.specs.Image.{Image}
 use Rattle.scrub_frame.specs.declared.locator.Locator.{Locator}
 use Rattle.scrub_scan.specs.declared.standing.Standing.{Standing}
 use Rattle.scrub_scan.specs.Line.{spaced}
 use Rattle.scrub_scan.specs.Scanned.{Scanned}
-use Rattle.scrub_check.specs.Checked.{is_dangling}
-use Rattle.scrub_check.specs.Spares.{is_copy_of, spares_of}
+use Rattle.scrub_check.specs.Spares.{spares_by, spares_of}
 use Rattle.scrub_check.specs.declared.statuses.checked.Checked.{Checked}
 use Rattle.scrub_report.specs.Scrubbed.{Scrubbed, IsScrubbed}
 use Rattle.scrub_report.specs.Texts.{owner_text, status_text, uuid_text}
@@ -25,14 +24,18 @@ locator_line c = owner_text c.owner ++ spaced (place_text c.locator) ++ spaced (
 abbrev pub place_words : ℕ → ℕ → ℕ → List ℕ → List ℕ
 place_words extent offset size uuid = decimal extent ++ spaced (decimal offset) ++ spaced (decimal size) ++ spaced (uuid_text uuid)
 
--- the line of a spare: `spare EXTENT OFFSET LENGTH UUID` and a line feed
-abbrev pub spare_line : Standing → List ℕ
-spare_line s =
-    codes "spare" ++ spaced (decimal s.extent) ++ spaced (decimal s.offset) ++ spaced (decimal s.length) ++ spaced (uuid_text s.uuid) ++ 10 ∷ []
+-- the line of the first of some spares and of how many they are: `spare EXTENT OFFSET LENGTH UUID COUNT` and a line feed
+abbrev pub count_line : Standing → ℕ → List ℕ
+count_line s count = codes "spare" ++ spaced (place_words s.extent s.offset s.length s.uuid) ++ spaced (decimal count) ++ 10 ∷ []
 
--- the line of a named locator, and behind it those of its spares
+-- that line, if there are spares, or else nothing
+abbrev pub spare_line : List Standing → List ℕ
+spare_line [] = []
+spare_line (s ∷ ss) = count_line s (length (s ∷ ss))
+
+-- the line of a named locator, and behind it that of its spares
 abbrev pub lines_of_one : List Scanned → Checked → List ℕ
-lines_of_one all c = locator_line c ++ flat_map spare_line (spares_of all c)
+lines_of_one all c = locator_line c ++ spare_line (spares_of all c)
 
 -- the lines of some named locators, in their order
 abbrev pub locator_lines : List Scanned → List Checked → List ℕ
@@ -40,7 +43,7 @@ locator_lines all checked = flat_map (lines_of_one all) checked
 
 -- the same by the chunks among which the spares are
 abbrev pub lines_by : List Standing → Checked → List ℕ
-lines_by found c = locator_line c ++ flat_map spare_line (if is_dangling c.status then filter (is_copy_of c.locator) found else [])
+lines_by found c = locator_line c ++ spare_line (spares_by found c)
 
 -- the text is the lines of the named locators of what is found in an image
 pub record AreLocatorLines (image : Image) (text : List ℕ) : Type 0 where

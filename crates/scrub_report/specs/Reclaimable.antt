@@ -1,5 +1,5 @@
 -- The lines that say which extents can be reclaimed, and what must be moved first.
-use Rattle.std.specs.Prelude.{◌≡◌, ◌++◌, ◌∷◌, ◌==◌, ◌&&◌, [], ℕ, Bool, true, List, All, Contains, codes, length, map, if◌then◌else◌}
+use Rattle.std.specs.Prelude.{◌≡◌, ◌≢◌, ◌⊎◌, ◌++◌, ◌∷◌, ◌==◌, ◌&&◌, [], ℕ, Bool, true, List, All, Contains, codes, length, map, if◌then◌else◌}
 use Rattle.std.specs.Fmt.{decimal}
 use Rattle.std.specs.List.{filter, flat_map}
 use Rattle.scrub_disk.specs.Image.{Image}
@@ -11,9 +11,8 @@ use Rattle.scrub_check.specs.declared.statuses.checked.Checked.{Checked}
 use Rattle.scrub_check.specs.declared.statuses.status.Status.TheVariants.{Sound}
 use Rattle.scrub_scan.specs.declared.standing.Standing.{Standing}
 use Rattle.scrub_check.specs.Candidates.{CandidateValue}
-use Rattle.scrub_check.specs.Checked.{is_dangling}
 use Rattle.scrub_check.specs.Live.{has_sound_at}
-use Rattle.scrub_check.specs.Spares.{copies_of}
+use Rattle.scrub_check.specs.Spares.{spares_of}
 use Rattle.scrub_report.specs.declared.doubts.Accepted.{Accepted}
 use Rattle.scrub_report.specs.declared.doubts.Doubt.{Doubt}
 use Rattle.scrub_report.specs.declared.doubts.Doubt.TheVariants.{NoSuperblock, Tie, SuperblockLost, SuperblockDamaged, SuperblockStray, RunLost, Spare, Tail, TailLost}
@@ -35,8 +34,8 @@ doubt_text (SuperblockLost q) = codes "superblock-lost" ++ spaced (decimal q)
 doubt_text (SuperblockDamaged q) = codes "superblock-damaged" ++ spaced (decimal q)
 doubt_text (SuperblockStray q) = codes "superblock-stray" ++ spaced (decimal q)
 doubt_text (RunLost k state) = codes "run-lost" ++ spaced (decimal k) ++ spaced (state_text state)
-doubt_text (Spare extent offset size uuid owner) =
-    codes "spare" ++ spaced (place_words extent offset size uuid) ++ spaced (owner_text owner)
+doubt_text (Spare extent offset size uuid owner bytes) =
+    codes "spare" ++ spaced (place_words extent offset size uuid) ++ spaced (owner_text owner) ++ spaced (decimal bytes)
 doubt_text (Tail extent first count) = codes "tail" ++ spaced (decimal extent) ++ spaced (decimal first) ++ spaced (decimal count)
 doubt_text (TailLost extent first last) = codes "tail-lost" ++ spaced (decimal extent) ++ spaced (decimal first) ++ spaced (decimal last)
 
@@ -154,8 +153,12 @@ pub record IsMoved (checked : List Checked) (a : CandidateValue) (c : Checked) :
 abbrev pub AreMoved : List Checked → List CandidateValue → Type 0
 AreMoved checked candidates = All (λ a. All (λ c. c.locator.extent ≡ a.extent → IsMoved checked a c) checked) candidates
 
--- each chunk of an extent that has what a dangling locator asks for is live: a sound locator points to it
-abbrev pub KeepsSpares : Scrubbed → CandidateValue → Type 0
-KeepsSpares found a =
-    (c : Checked) (s : Standing) → Contains found.checked c → is_dangling c.status ≡ true →
-    Contains (copies_of found.all c.locator) s → s.extent ≡ a.extent → has_sound_at found.checked s.extent s.offset ≡ true
+-- a named locator has a spare that is live or in none of these extents
+pub record HasSafeSpare (found : Scrubbed) (listed : List CandidateValue) (c : Checked) : Type 0 where
+  pub spare : Standing
+  pub among : Contains (spares_of found.all c) spare
+  pub stays : (has_sound_at found.checked spare.extent spare.offset ≡ true) ⊎ All (λ a. a.extent ≢ spare.extent) listed
+
+-- each named locator that has a spare has one that is live or in none of these extents
+abbrev pub KeepsSpares : Scrubbed → List CandidateValue → Type 0
+KeepsSpares found listed = All (λ c. spares_of found.all c ≢ [] → HasSafeSpare found listed c) found.checked

@@ -6,6 +6,7 @@ ghost use Rattle.scrub_report.specs.declared.doubts.Doubt.TheVariants.{Spare};
 ghost use Rattle.scrub_report.specs.Doubts.{are_accepted, is_accepted};
 ghost use Rattle.scrub_report.specs.Reclaimable.{doubt_line, doubt_lines, doubt_text, doubt_word};
 
+use crate::listing::ChunkText;
 use crate::texts::{owner_text, state_text};
 use scrub_check::{Owner, RunState};
 use scrub_disk::OutOfMemory;
@@ -37,13 +38,15 @@ pub(crate) enum Doubt {
         number: usize,
         state: RunState,
     },
-    /// A chunk of an extent that may be reclaimed has what a dangling locator of this owner asks for, and isn't live.
+    /// The spares of this owner's locator, the first of which is this chunk with its frame of so many bytes, aren't live and
+    /// are in extents that may be reclaimed.
     Spare {
         extent: u32,
         offset: u32,
         length: u32,
         uuid: Uuid,
         owner: Owner,
+        bytes: u64,
     },
     /// An extent has this many nonzero bytes at or behind its write pointer, the first of them at this offset.
     Tail {
@@ -58,32 +61,6 @@ pub(crate) enum Doubt {
         first: u32,
         last: u32,
     },
-}
-
-/// The place of a spare, its length and its UUID.
-#[derive(Drop)]
-struct SparePlace {
-    extent: u32,
-    offset: u32,
-    length: u32,
-    uuid: Uuid,
-}
-
-impl fmt::Display for SparePlace {
-    ghost use Rattle.std.specs.Prelude.{Some};
-    ghost use Rattle.scrub_report.specs.Locators.{place_words};
-
-    ghost output = { λ p. Some (place_words p.extent p.offset p.length p.uuid) };
-
-    fn fmt<W: fmt::Write>(&self, f: &mut fmt::Formatter<W>) -> fmt::Result {
-        let SparePlace {
-            extent,
-            offset,
-            length,
-            uuid,
-        } = self;
-        write!(f, "{extent} {offset} {length} {uuid}")
-    }
 }
 
 /// The text of the doubt that a tail makes.
@@ -136,13 +113,20 @@ impl fmt::Display for LostText {
     }
 }
 
-/// The text of the doubt that a spare at this place makes.
-fn spare_text(alloc: Global, place: &SparePlace, owner: Owner) -> Result<String, OutOfMemory>
+/// The text of the doubt that this chunk, a spare with a frame of so many bytes, makes.
+fn spare_text(
+    alloc: Global,
+    chunk: &ChunkText,
+    owner: Owner,
+    bytes: u64,
+) -> Result<String, OutOfMemory>
     ensures { IfOk result (λ text. string_bytes text ≡
-        doubt_text (Spare place.now.extent place.now.offset place.now.length place.now.uuid owner)) }
+        doubt_text (Spare chunk.now.extent chunk.now.offset chunk.now.length chunk.now.uuid owner bytes)) }
 {
+    let place = format!(in alloc; "{chunk}")?;
     let owner = owner_text(alloc, owner)?;
-    format!(in alloc; "spare {place} {owner}")
+    let text = format!(in alloc; "spare {place} {owner} {bytes}")?;
+    Ok(text)
 }
 
 /// A doubt's kind and its numbers.
@@ -165,14 +149,15 @@ fn doubt_text(alloc: Global, doubt: &Doubt) -> Result<String, OutOfMemory>
             length,
             uuid,
             owner,
+            bytes,
         } => {
-            let place = SparePlace {
+            let chunk = ChunkText {
                 extent,
                 offset,
                 length,
                 uuid,
             };
-            spare_text(alloc, &place, owner)
+            spare_text(alloc, &chunk, owner, bytes)
         }
         Doubt::Tail {
             extent,
@@ -208,7 +193,7 @@ pub struct Accepted {
     pub superblock_damaged: bool,
     /// Pages of extent 0 with a nonzero byte, which don't begin like a superblock and are no part of a superblock.
     pub superblock_stray: bool,
-    /// Chunks that have what a dangling locator asks for, and that a reset might take.
+    /// Spares, the last of a locator, that a reset might take.
     pub spare: bool,
     /// Nonzero bytes at or behind a write pointer.
     pub tail: bool,

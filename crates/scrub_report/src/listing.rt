@@ -4,7 +4,7 @@ ghost use Rattle.std.specs.Prelude.{◌≡◌, ◌+◌, ◌++◌, ◌≤◌, Lis
 ghost use Rattle.scrub_disk.specs.Image.{Image};
 ghost use Rattle.scrub_report.specs.Answer.{IsPartitionOfPlanned, IsCountOfPlanned};
 ghost use Rattle.std.specs.List.{flat_map};
-ghost use Rattle.scrub_report.specs.Locators.{AreLocatorLines, lines_by, locator_line, place_text, spare_line};
+ghost use Rattle.scrub_report.specs.Locators.{AreLocatorLines, count_line, lines_by, locator_line, place_text, spare_line};
 ghost use Rattle.scrub_report.specs.Parts.{IsScan};
 ghost use Rattle.scrub_report.specs.Scrubbed.{IsCleanImage};
 
@@ -21,13 +21,15 @@ use std::alloc::Global;
 use std::fmt;
 use std::sync::Wait;
 use std::thread::Threads;
+use uuid::Uuid;
 
 /// The named locators of a disk, as lines.
 #[derive(Drop)]
 pub struct LocatorListing {
-    /// A line for each named locator, in their order: `OWNER EXTENT OFFSET LENGTH UUID STATUS`. Owner and status have the
-    /// report's words. The numbers are in decimal, offset and length in bytes. The UUID is as RFC 9562 writes it, in lower
-    /// case.
+    /// A line for each named locator, in their order: `OWNER EXTENT OFFSET LENGTH UUID STATUS`. Behind that of one that has
+    /// spares stands `spare EXTENT OFFSET LENGTH UUID COUNT`: the first of them by extent and offset, and how many there are.
+    /// Owner and status have the report's words. The numbers are in decimal, offset and length in bytes. The UUID is as
+    /// RFC 9562 writes it, in lower case.
     pub text: Vec<u8>,
     /// Whether the disk is clean.
     pub is_clean: bool,
@@ -80,33 +82,63 @@ fn append_line(alloc: Global, text: &mut Vec<u8>, one: &Checked) -> Result<(), O
     Ok(())
 }
 
-/// Appends the line of a spare, with its line feed.
-fn append_spare(alloc: Global, text: &mut Vec<u8>, spare: &Standing) -> Result<(), OutOfMemory>
-    ensures { OnOk result (text.new.items ≡ text.old.items ++ spare_line spare.now) }
+/// A chunk's place, the length of its payload and its UUID, as `EXTENT OFFSET LENGTH UUID`.
+#[derive(Drop)]
+pub(crate) struct ChunkText {
+    pub extent: u32,
+    pub offset: u32,
+    pub length: u32,
+    pub uuid: Uuid,
+}
+
+impl fmt::Display for ChunkText {
+    ghost use Rattle.std.specs.Prelude.{Some};
+    ghost use Rattle.scrub_report.specs.Locators.{place_words};
+
+    ghost output = { λ p. Some (place_words p.extent p.offset p.length p.uuid) };
+
+    fn fmt<W: fmt::Write>(&self, f: &mut fmt::Formatter<W>) -> fmt::Result {
+        let ChunkText {
+            extent,
+            offset,
+            length,
+            uuid,
+        } = self;
+        write!(f, "{extent} {offset} {length} {uuid}")
+    }
+}
+
+/// Appends the line of the first of so many spares, with its line feed.
+fn append_count(
+    alloc: Global,
+    text: &mut Vec<u8>,
+    first: &Standing,
+    count: usize,
+) -> Result<(), OutOfMemory>
+    ensures { OnOk result (text.new.items ≡ text.old.items ++ count_line first.now count) }
 {
-    let Standing {
-        extent,
-        offset,
-        length,
-        uuid,
-        ..
-    } = *spare;
-    let line = format!(in alloc; "spare {extent} {offset} {length} {uuid}\n")?;
+    let place = ChunkText {
+        extent: first.extent,
+        offset: first.offset,
+        length: first.length,
+        uuid: first.uuid,
+    };
+    let line = format!(in alloc; "spare {place} {count}\n")?;
     text.extend_from_slice(line.as_bytes())?;
     Ok(())
 }
 
-/// Appends the lines of spares, in their order.
+/// Appends the line of some spares, if there is one.
 fn append_spares(alloc: Global, text: &mut Vec<u8>, some: &[Standing]) -> Result<(), OutOfMemory>
-    ensures { OnOk result (text.new.items ≡ text.old.items ++ flat_map spare_line some.now) }
+    ensures { OnOk result (text.new.items ≡ text.old.items ++ spare_line some.now) }
 {
-    for spare in some {
-        append_spare(alloc, text, spare)?;
+    match some.first() {
+        Some(first) => append_count(alloc, text, first, some.len()),
+        None => Ok(()),
     }
-    Ok(())
 }
 
-/// Appends the line of a named locator, and if it dangles those of its spares.
+/// Appends the line of a named locator, and that of its spares.
 fn append_one(
     alloc: Global,
     text: &mut Vec<u8>,
@@ -116,10 +148,7 @@ fn append_one(
     ensures { OnOk result (text.new.items ≡ text.old.items ++ lines_by spares.now one.now) }
 {
     append_line(alloc, text, one)?;
-    if !one.status.is_dangling() {
-        return Ok(());
-    }
-    append_spares(alloc, text, spares.copies(&one.locator))
+    append_spares(alloc, text, spares.of_one(one))
 }
 
 /// The lines of named locators and of their spares, in their order.

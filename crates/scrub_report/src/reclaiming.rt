@@ -272,11 +272,11 @@ pub fn reclaiming_is_safe()
         AreMoved found.checked (reclaimed accepted pages found) }
 {}
 
-/// A law: where spares aren't accepted, no extent to reclaim has a spare that isn't live. Each of its chunks that has the length
-/// and the digest that a dangling named locator asks for is one that a sound locator points to.
+/// A law: where spares aren't accepted, each named locator that has a spare has one that is live or in an extent that isn't to
+/// be reclaimed. So the last copy of nothing is reset.
 pub fn no_spare_is_taken()
     ensures { (accepted : Accepted) (pages : List SuperblockPage) (found : Scrubbed) → accepted.spare ≡ false →
-        All (KeepsSpares found) (reclaimed accepted pages found) }
+        KeepsSpares found (reclaimed accepted pages found) }
 {}
 
 /// A law: a reset loses nothing that is named. Let extents be listed without a `move` line, and be reset. Then the same index

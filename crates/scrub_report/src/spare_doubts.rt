@@ -1,13 +1,13 @@
-//! The doubts that spares make: the chunks that have what a dangling locator asks for, and that a reset might take.
+//! The doubts that spares make: of each locator whose spares a reset might all take, the first one.
 
-ghost use Rattle.std.specs.Prelude.{◌≡◌, ◌++◌, ◌==◌, ◌&&◌, List, IfOk, OnOk, map, not};
+ghost use Rattle.std.specs.Prelude.{◌≡◌, ◌++◌, ◌∷◌, ◌==◌, ◌&&◌, [], List, IfOk, OnOk, map, not};
 ghost use Rattle.std.specs.Ordering.{nat_cmp};
 ghost use Rattle.std.specs.List.{flat_map, list_any};
 ghost use Rattle.std.specs.List.Sorted.{IsPermutation, IsSorted};
 ghost use Rattle.scrub_check.specs.declared.statuses.checked.Checked.{Checked};
 ghost use Rattle.scrub_check.specs.Checked.{is_sound};
 ghost use Rattle.scrub_check.specs.Live.{has_sound_at};
-ghost use Rattle.scrub_report.specs.Doubts.{is_at_risk, spare_doubt, spare_doubts, spare_doubts_by};
+ghost use Rattle.scrub_report.specs.Doubts.{frame_bytes, is_at_risk, spare_doubt, spare_doubts, spare_doubts_by, staying};
 ghost use Rattle.scrub_report.specs.Moves.{AreRisingPlaces, PointAlike};
 
 use crate::doubts::Doubt;
@@ -50,85 +50,95 @@ fn is_at_risk(sorted: &[&Checked], extents: &[u32], spare: &Standing) -> bool
     is_risk(is_live(sorted, spare), has_number(extents, spare.extent))
 }
 
-/// Adds the doubt that a spare of this owner's locator makes, if a reset of these extents might take it.
-fn add_spare(
-    doubts: &mut Vec<Doubt>,
+/// Adds a chunk, unless a reset of these extents might take it.
+fn add_staying(
+    stay: &mut Vec<Standing>,
     sorted: &[&Checked],
     extents: &[u32],
-    owner: Owner,
     spare: &Standing,
 ) -> Result<(), OutOfMemory>
     requires places { AreRisingPlaces sorted.now }
     requires extents { IsSorted nat_cmp extents.now }
     ensures { (checked : List Checked) → PointAlike checked sorted.now →
-        OnOk result (doubts.new.items ≡ doubts.old.items ++ spare_doubt checked extents.now owner spare.now) }
+        OnOk result (stay.new.items ≡ stay.old.items ++ staying checked extents.now (spare.now ∷ [])) }
 {
-    if !is_at_risk(sorted, extents, spare) {
+    if is_at_risk(sorted, extents, spare) {
         return Ok(());
     }
+    stay.push(*spare)?;
+    Ok(())
+}
+
+/// Those of some chunks that no reset of these extents takes, in their order.
+fn staying(
+    alloc: Global,
+    sorted: &[&Checked],
+    extents: &[u32],
+    some: &[Standing],
+) -> Result<Vec<Standing>, OutOfMemory>
+    requires places { AreRisingPlaces sorted.now }
+    requires extents { IsSorted nat_cmp extents.now }
+    ensures { (checked : List Checked) → PointAlike checked sorted.now →
+        IfOk result (λ v. v.items ≡ staying checked extents.now some.now) }
+{
+    let mut stay = Vec::new(alloc);
+    for spare in some {
+        add_staying(&mut stay, sorted, extents, spare)?;
+    }
+    Ok(stay)
+}
+
+/// How many bytes a frame takes.
+fn frame_bytes(spare: &Standing) -> u64
+    ensures { result ≡ frame_bytes spare.now }
+{
+    spare.length as u64 + spare.form.overhead() as u64
+}
+
+/// Adds the doubt that this spare of an owner's locator makes.
+fn add_doubt(doubts: &mut Vec<Doubt>, owner: Owner, spare: &Standing) -> Result<(), OutOfMemory>
+    ensures { OnOk result (doubts.new.items ≡ doubts.old.items ++ spare_doubt owner (spare.now ∷ []) []) }
+{
     doubts.push(Doubt::Spare {
         extent: spare.extent,
         offset: spare.offset,
         length: spare.length,
         uuid: spare.uuid,
         owner,
+        bytes: frame_bytes(spare),
     })?;
     Ok(())
 }
 
-/// Adds those of the spares of one locator, in their order.
-fn add_each(
-    doubts: &mut Vec<Doubt>,
-    sorted: &[&Checked],
-    extents: &[u32],
-    owner: Owner,
-    some: &[Standing],
-) -> Result<(), OutOfMemory>
-    requires places { AreRisingPlaces sorted.now }
-    requires extents { IsSorted nat_cmp extents.now }
-    ensures { (checked : List Checked) → PointAlike checked sorted.now →
-        OnOk result (doubts.new.items ≡ doubts.old.items ++ flat_map (spare_doubt checked extents.now owner) some.now) }
-{
-    for spare in some {
-        add_spare(doubts, sorted, extents, owner, spare)?;
-    }
-    Ok(())
-}
-
-/// Adds the doubts of the spares of a named locator, if it dangles.
+/// Adds the doubt that the spares of an owner's locator make, unless one of them stays.
 fn add_one(
     doubts: &mut Vec<Doubt>,
-    sorted: &[&Checked],
-    extents: &[u32],
-    spares: &Spares,
-    one: &Checked,
+    owner: Owner,
+    some: &[Standing],
+    stay: &[Standing],
 ) -> Result<(), OutOfMemory>
-    requires places { AreRisingPlaces sorted.now }
-    requires extents { IsSorted nat_cmp extents.now }
-    ensures { (checked : List Checked) → PointAlike checked sorted.now →
-        OnOk result (doubts.new.items ≡ doubts.old.items ++ spare_doubts_by spares.now checked extents.now one.now) }
+    ensures { OnOk result (doubts.new.items ≡ doubts.old.items ++ spare_doubt owner some.now stay.now) }
 {
-    if !one.status.is_dangling() {
+    if !stay.is_empty() {
         return Ok(());
     }
-    add_each(doubts, sorted, extents, one.owner, spares.copies(&one.locator))
+    match some.first() {
+        Some(first) => add_doubt(doubts, owner, first),
+        None => Ok(()),
+    }
 }
 
-/// Adds the doubts of the spares of all named locators, in their order.
+/// Adds the doubts that the spares of named locators make, in their order, by the spares and those that stay.
 fn add_all(
     doubts: &mut Vec<Doubt>,
-    sorted: &[&Checked],
-    extents: &[u32],
     spares: &Spares,
+    stay: &Spares,
     all: &[Checked],
 ) -> Result<(), OutOfMemory>
-    requires places { AreRisingPlaces sorted.now }
-    requires extents { IsSorted nat_cmp extents.now }
-    ensures { (checked : List Checked) → PointAlike checked sorted.now →
-        OnOk result (doubts.new.items ≡ doubts.old.items ++ flat_map (spare_doubts_by spares.now checked extents.now) all.now) }
+    ensures { OnOk result (doubts.new.items ≡ doubts.old.items ++ flat_map (spare_doubts_by spares.now stay.now) all.now) }
 {
     for one in all {
-        add_one(doubts, sorted, extents, spares, one)?;
+        add_one(doubts, one.owner, spares.of_one(one), stay.of_one(one))?;
     }
     Ok(())
 }
@@ -140,7 +150,7 @@ fn candidate_extents(alloc: Global, candidates: &[Candidate]) -> Result<Vec<u32>
     candidates.iter().map(|one| one.extent()).collect(alloc)
 }
 
-/// Adds the doubts that spares in candidates make. The locators and the extents are sorted once.
+/// Adds the doubts that spares make if the candidates are reset. Each spare is looked at once.
 pub(crate) fn add_spares<D: PageSource>(
     alloc: Global,
     doubts: &mut Vec<Doubt>,
@@ -153,5 +163,6 @@ pub(crate) fn add_spares<D: PageSource>(
     let spares = Spares::of(alloc, all, checked)?;
     let places = by_place(alloc, checked)?;
     let extents = sorted(candidate_extents(alloc, candidates)?)?;
-    add_all(doubts, &places, &extents, &spares, checked)
+    let stay = Spares::among(staying(alloc, &places, &extents, spares.all())?)?;
+    add_all(doubts, &spares, &stay, checked)
 }

@@ -1,14 +1,14 @@
--- A locator that doesn't dangle has its own line alone.
-use Rattle.scrub_report.proofs.SpareLines.{line_alone, lines_more}
+-- The line of the locator, and then that of its spares.
+use Rattle.std.proofs.Common.{◌≡◌, ◌++◌, List, ℕ, OnOk, subst}
+use Rattle.scrub_scan.specs.declared.standing.Standing.{Standing}
+use Rattle.scrub_report.specs.Locators.{locator_line, spare_line}
+use Rattle.scrub_report.proofs.FlatLists.{appended_ok}
 use Rattle.scrub_report.proofs.listing.append_one.Goals as goal
-
-pub returns-then-not-is_dangling : goal.returns-then-not-is_dangling
-returns-then-not-is_dangling c =
-    line_alone c.args.spares.now c.args.one.now c.args.text.now.items c.append_line.new.text.items c.is_dangling.result c.is_dangling.ensures
-    c.if-not-is_dangling.true c.in_ok-append_line.ensures
 
 pub returns : goal.returns
 returns c =
-    lines_more c.append_spares.result c.args.spares.now c.args.one.now c.copies.result.now c.args.text.now.items c.append_line.new.text.items
-    c.append_spares.new.text.items c.is_dangling.result c.is_dangling.ensures c.if-not-is_dangling.false c.copies.ensures
-    c.in_ok-append_line.ensures c.append_spares.ensures
+    let old = c.args.text.now.items in
+    let new = c.append_spares.new.text.items in
+    subst (λ (ss : List Standing). OnOk c.append_spares.result (new ≡ old ++ (locator_line c.args.one.now ++ spare_line ss))) c.of_one.ensures
+    (appended_ok c.append_spares.result old c.append_line.new.text.items new (locator_line c.args.one.now) (spare_line c.of_one.result.now)
+    c.in_ok-append_line.ensures c.append_spares.ensures)

@@ -1,14 +1,16 @@
--- A locator that doesn't dangle has no spares.
-use Rattle.scrub_report.proofs.SpareDoubts.{each_of, none_of}
+-- The first one, if none stays.
+use Rattle.std.proofs.Common.{sym, ◌∙◌}
+use Rattle.scrub_report.proofs.SpareDoubts.{first_doubted, no_spare, none_taken}
 use Rattle.scrub_report.proofs.spare_doubts.add_one.Goals as goal
 
-pub returns-then-not-is_dangling : goal.returns-then-not-is_dangling
-returns-then-not-is_dangling c checked same =
-    none_of c.args.spares.now checked c.args.extents.now c.args.one.now c.is_dangling.result c.args.doubts.now.items c.is_dangling.ensures
-    c.if-not-is_dangling.true
+pub returns-then-not-is_empty : goal.returns-then-not-is_empty
+returns-then-not-is_empty c =
+    none_taken c.args.owner c.args.some.now c.args.stay.now c.args.doubts.now.items (sym c.is_empty.ensures ∙ c.if-not-is_empty.true)
 
-pub returns : goal.returns
-returns c checked same =
-    each_of c.add_each.result c.args.spares.now checked c.args.extents.now c.args.one.now c.copies.result.now c.is_dangling.result
-    c.args.doubts.now.items c.add_each.new.doubts.items c.is_dangling.ensures c.if-not-is_dangling.false c.copies.ensures
-    (c.add_each.ensures checked same)
+pub returns-in-Some : goal.returns-in-Some
+returns-in-Some c =
+    first_doubted c.add_doubt.result c.args.owner c.args.some.now c.args.stay.now c.in-Some.first.now c.args.doubts.now.items c.add_doubt.new.doubts.items
+    (sym c.is_empty.ensures ∙ c.if-not-is_empty.false) (sym c.in-Some.ensures.value) c.add_doubt.ensures
+
+pub returns-in-None : goal.returns-in-None
+returns-in-None c = no_spare c.args.owner c.args.some.now c.args.stay.now c.args.doubts.now.items (sym c.in-None.ensures.value)
