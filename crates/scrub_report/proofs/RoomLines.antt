@@ -1,7 +1,10 @@
 -- What the code finds of an extent's room, by sorted numbers and by the last item.
-use Rattle.std.proofs.Common.{◌≡◌, ◌==◌, ◌&&◌, ◌++◌, ◌-◌, ℕ, suc, Bool, true, false, Some, None, List, [], ◌∷◌, length, get_or, arith, refl, sym, ◌∙◌, ap, append-nil, if◌then◌else◌}
-use Rattle.std.specs.List.{All, list_all, slice_get}
+use Rattle.std.proofs.Common.{◌≡◌, ◌==◌, ◌&&◌, ◌++◌, ◌-◌, ◌<◌, ◌≤◌, ◌+◌, ℕ, suc, Bool, true, false, Some, None, OnOk, Result, List, [], ◌∷◌, length, get_or, arith, refl, sym, ◌∙◌, ap, subst, append-nil, length-append, if◌then◌else◌}
+use Rattle.std.specs.List.{All, flat_map, list_all, list_any, slice_get}
+use Rattle.std.specs.List.Sorted.{IsPermutation}
 use Rattle.std.proofs.lemmas.Bool.{false≢true}
+use Rattle.std.proofs.lemmas.List.Sorted.{list_any-IsPermutation}
+use Rattle.std.proofs.lemmas.Grind.{common_steps}
 use Rattle.std.proofs.lemmas.Option.{none-some, same_Some}
 use Rattle.scrub_disk.specs.declared.geometry.Geometry.{Geometry}
 use Rattle.scrub_disk.specs.Image.{Image}
@@ -13,7 +16,7 @@ use Rattle.scrub_check.specs.Candidates.{has_sound_alone}
 use Rattle.scrub_check.specs.Live.{is_chunk}
 use Rattle.scrub_check.proofs.Reclaimable.{named_by_sound_alone}
 use Rattle.scrub_check.specs.LocatorIndex.{AreBarredExtents}
-use Rattle.scrub_report.specs.Room.{IsRoom, ends_in_chunk, may_grow, place_in, room_if, room_text}
+use Rattle.scrub_report.specs.Room.{IsRoom, ends_in_chunk, may_grow, or_else, place_in, room_if, room_text, room_unless, rooms_but}
 use Rattle.scrub_report.specs.RoomSteps.{may_grow_by}
 use Rattle.scrub_report.specs.Scrubbed.{Scrubbed, IsScrubbed, is_clean_extent, is_clean_item}
 
@@ -36,6 +39,51 @@ pub open_line : (g : Geometry) (checked : List Checked) (unsound : List ℕ) (f 
     AreBarredExtents checked unsound → r ≡ may_grow_by unsound f → r ≡ true → room_text g f ≡ room_if g checked f
 open_line g checked unsound f r are is free =
     ap (λ (t : Bool). if t then room_text g f else []) (sym free ∙ is ∙ grows_by checked unsound f are)
+
+-- an extent among those that are passed over has no line
+pub passed_over : (g : Geometry) (checked : List Checked) (skipped : List ℕ) (f : Scanned) (e : ℕ) (r : Bool) (old : List ℕ) →
+    e ≡ f.extent → r ≡ list_any (λ n. n == e) skipped → r ≡ true → old ≡ old ++ room_unless g checked skipped f
+passed_over g checked skipped f e r old number is over =
+    sym (append-nil old)
+    ∙ ap (λ (t : Bool). old ++ (if t then [] else room_if g checked f)) (sym over ∙ is ∙ ap (λ (m : ℕ). list_any (λ n. n == m) skipped) number)
+
+-- and any other one may
+pub taken_in : (g : Geometry) (checked : List Checked) (skipped : List ℕ) (f : Scanned) (e : ℕ) (r : Bool) →
+    e ≡ f.extent → r ≡ list_any (λ n. n == e) skipped → r ≡ false → room_if g checked f ≡ room_unless g checked skipped f
+taken_in g checked skipped f e r number is other =
+    ap (λ (t : Bool). if t then [] else room_if g checked f) (sym other ∙ is ∙ ap (λ (m : ℕ). list_any (λ n. n == m) skipped) number)
+
+-- the order of the numbers that are passed over doesn't matter
+pub in_any_order : (g : Geometry) (all : List Scanned) (checked : List Checked) (numbers sorted : List ℕ) → IsPermutation numbers sorted →
+    rooms_but g all checked sorted ≡ rooms_but g all checked numbers
+in_any_order g all checked numbers sorted same =
+    let among : (e : ℕ) → list_any (λ n. n == e) sorted ≡ list_any (λ n. n == e) numbers =
+    λ e. sym (list_any-IsPermutation (λ n. n == e) numbers sorted same) in
+    λ i. flat_map (λ f. if among f.extent i then [] else room_if g checked f) all
+
+-- a text that isn't empty
+some_first : (x : ℕ) (xs second : List ℕ) → or_else (x ∷ xs) second ≡ x ∷ xs
+some_first x xs second = ap (λ (t : Bool). if t then second else x ∷ xs) (not_none x xs)
+  where
+    not_none : (y : ℕ) (ys : List ℕ) → (length (y ∷ ys) == 0) ≡ false
+    not_none y ys = grind (arith, common_steps)
+
+-- those of the others are enough
+pub first_enough : (first second old new : List ℕ) (before after : ℕ) → before ≡ length old → after ≡ length new → new ≡ old ++ first →
+    before < after → new ≡ old ++ or_else first second
+first_enough [] second old new before after was is grown more =
+    let same : length new ≡ length old = ap length (grown ∙ append-nil old) in absurd (omega (arith, was, is, same, more))
+first_enough (x ∷ xs) second old new before after was is grown more = grown ∙ ap (λ (u : List ℕ). old ++ u) (sym (some_first x xs second))
+
+-- or there is none
+pub second_too : {E : Type 0} (r : Result (Unit {0}) E) (first second old mid new : List ℕ) (before after : ℕ) → before ≡ length old →
+    after ≡ length mid → mid ≡ old ++ first → after ≤ before → OnOk r (new ≡ mid ++ second) → OnOk r (new ≡ old ++ or_else first second)
+second_too r [] second old mid new before after was is grown none later =
+    subst (λ (u : List ℕ). OnOk r (new ≡ u ++ second)) (grown ∙ append-nil old) later
+second_too r (x ∷ xs) second old mid new before after was is grown none later =
+    let more : length mid ≡ length old + length (x ∷ xs) = ap length grown ∙ length-append old (x ∷ xs) in
+    let some : 0 < length (x ∷ xs) = omega arith in
+    absurd (omega (arith, was, is, more, none, some))
 
 -- ---- the last item
 

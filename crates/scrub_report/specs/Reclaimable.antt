@@ -99,16 +99,18 @@ is_clear accepted pages found = are_accepted accepted (doubts pages found)
 abbrev pub reclaimed : Accepted → List SuperblockPage → Scrubbed → List CandidateValue
 reclaimed accepted pages found = if is_clear accepted pages found then found.candidates else []
 
--- the lines of the extents with room, if there are extents to reclaim, or else nothing
+-- the lines of extents with room, if there are extents to reclaim, or else nothing
 abbrev pub rooms_for : List CandidateValue → Scrubbed → List ℕ
-rooms_for candidates found = if length candidates == 0 then [] else room_lines found.plan.geometry found.all found.checked
+rooms_for candidates found = if length candidates == 0 then [] else room_lines found.plan.geometry found.all found.checked candidates
 
 module _ {D : Type 0} {s : _} where
   -- the lines of the extents with room by the parts that the code keeps, if it is clear
   abbrev pub rooms_kept : Bool → Parts D s → List ℕ
-  rooms_kept clear p = if length (if clear then p.liveness.candidates.items else []) == 0 then [] else room_lines p.plan.geometry p.all.extents p.checked.items
+  rooms_kept clear p =
+      if length (if clear then p.liveness.candidates.items else []) == 0 then []
+      else room_lines p.plan.geometry p.all.extents p.checked.items (if clear then p.liveness.candidates.items else [])
 
--- the lines of the doubts, then those of the extents to reclaim, and then those of the extents with room
+-- the lines of the doubts, then those of the extents to reclaim, and then those of extents with room
 abbrev pub reclaim_text : Accepted → List SuperblockPage → Scrubbed → List ℕ
 reclaim_text accepted pages found =
     doubt_lines accepted (doubts pages found) ++ all_candidate_lines found.checked (reclaimed accepted pages found)

@@ -1,8 +1,8 @@
 -- Where the next frame can be put in an extent, and that it is found there.
-use Rattle.std.specs.Prelude.{◌≡◌, ◌<◌, ◌+◌, ◌-◌, ◌*◌, ◌/◌, ◌%◌, ◌==◌, ◌&&◌, ◌||◌, ◌++◌, ℕ, Bool, true, false, nat_lt, List, [], ◌∷◌, codes, if◌then◌else◌}
+use Rattle.std.specs.Prelude.{◌≡◌, ◌<◌, ◌+◌, ◌-◌, ◌*◌, ◌/◌, ◌%◌, ◌==◌, ◌&&◌, ◌||◌, ◌++◌, ℕ, Bool, true, false, nat_lt, List, [], ◌∷◌, codes, map, if◌then◌else◌}
 use Rattle.std.specs.Prelude.{length as len}
 use Rattle.std.specs.Fmt.{decimal}
-use Rattle.std.specs.List.{flat_map, list_all}
+use Rattle.std.specs.List.{flat_map, list_all, list_any}
 use Rattle.sha2.specs.Sha256.{sha256}
 use Rattle.scrub_disk.specs.declared.geometry.Geometry.{Geometry}
 use Rattle.scrub_disk.specs.Image.{Image, byte, extent_bytes}
@@ -15,7 +15,7 @@ use Rattle.scrub_scan.specs.Line.{spaced}
 use Rattle.scrub_scan.specs.Scanned.{Scanned}
 use Rattle.scrub_scan.specs.Tiling.{IsTiling}
 use Rattle.scrub_check.specs.declared.statuses.checked.Checked.{Checked}
-use Rattle.scrub_check.specs.Candidates.{has_sound_alone}
+use Rattle.scrub_check.specs.Candidates.{CandidateValue, has_sound_alone}
 use Rattle.scrub_check.specs.Live.{is_chunk}
 use Rattle.scrub_report.specs.Scrubbed.{is_clean_extent, is_clean_item}
 
@@ -58,9 +58,22 @@ room_text g f = if nat_lt (room_in g f) least_overhead then [] else room_line f.
 abbrev pub room_if : Geometry → List Checked → Scanned → List ℕ
 room_if g checked f = if may_grow checked f then room_text g f else []
 
--- the lines of all scanned extents with room, rising
-abbrev pub room_lines : Geometry → List Scanned → List Checked → List ℕ
-room_lines g all checked = flat_map (room_if g checked) all
+-- the line of a scanned extent that isn't among these, if a chunk can be put into it, or else nothing
+abbrev pub room_unless : Geometry → List Checked → List ℕ → Scanned → List ℕ
+room_unless g checked extents f = if list_any (λ n. n == f.extent) extents then [] else room_if g checked f
+
+-- the lines of the scanned extents with room that aren't among these, rising
+abbrev pub rooms_but : Geometry → List Scanned → List Checked → List ℕ → List ℕ
+rooms_but g all checked extents = flat_map (room_unless g checked extents) all
+
+-- the first text, unless it is empty, or else the second one
+abbrev pub or_else : List ℕ → List ℕ → List ℕ
+or_else first second = if len first == 0 then second else first
+
+-- the lines of the extents with room that aren't candidates; or if there is none, those of candidates, which are all then
+abbrev pub room_lines : Geometry → List Scanned → List Checked → List CandidateValue → List ℕ
+room_lines g all checked candidates =
+    or_else (rooms_but g all checked (map (λ a. a.extent) candidates)) (rooms_but g all checked [])
 
 -- ---- a chunk that is put there
 

@@ -48,9 +48,9 @@ pub struct ReclaimListing {
     /// begins with `doubt`, then `reclaim EXTENT FREE` for each candidate of the report, in its order, and behind each of them
     /// `move EXTENT OFFSET LENGTH UUID OWNER BYTES` for each named locator into it, by the chunk that it points to, whose
     /// payload takes LENGTH and whose frame takes BYTES. At the end, if
-    /// there is a candidate, `room EXTENT OFFSET BYTES` for each extent that a chunk can be put into, be it a candidate or not,
-    /// with the place for it and the bytes from there on. The numbers are in decimal; free, offset, length and bytes are in bytes. The UUID is as RFC 9562 writes it, in
-    /// lower case.
+    /// there is a candidate, `room EXTENT OFFSET BYTES` for each extent that a chunk can be put into, with the place for it and
+    /// the bytes from there on: for those that aren't candidates, or if there is none for candidates. The numbers are in
+    /// decimal; free, offset, length and bytes are in bytes. The UUID is as RFC 9562 writes it, in lower case.
     pub text: Vec<u8>,
     /// Whether no line begins with `doubt`.
     pub is_clear: bool,
@@ -201,7 +201,15 @@ fn append_rooms_for<D: PageSource>(
         return Ok(());
     }
     let geometry = parts.plan.geometry();
-    append_rooms(alloc, text, geometry, &parts.all, &parts.checked)
+    let candidates = &parts.liveness.candidates;
+    append_rooms(
+        alloc,
+        text,
+        geometry,
+        &parts.all,
+        &parts.checked,
+        candidates,
+    )
 }
 
 /// What can be reclaimed of a scanned disk, whose extent 0 has these pages.

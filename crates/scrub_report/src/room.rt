@@ -9,11 +9,11 @@ ghost use Rattle.scrub_check.specs.declared.statuses.checked.Checked.{Checked};
 ghost use Rattle.scrub_check.specs.Checked.{is_sound};
 ghost use Rattle.scrub_check.specs.Live.{is_chunk};
 ghost use Rattle.scrub_check.specs.LocatorIndex.{AreBarredExtents};
-ghost use Rattle.scrub_report.specs.Room.{ends_in_chunk, next_place, room_if, room_line, room_lines, room_text};
+ghost use Rattle.scrub_report.specs.Room.{ends_in_chunk, next_place, room_if, room_line, room_lines, room_text, room_unless, rooms_but};
 ghost use Rattle.scrub_report.specs.RoomSteps.{may_grow_by};
 
 use crate::clean::is_clean_extent;
-use scrub_check::Checked;
+use scrub_check::{Candidate, Checked};
 use scrub_disk::{Geometry, OutOfMemory, PageSource};
 use scrub_frame::Form;
 use scrub_scan::{AllFindings, ExtentResult, Item};
@@ -134,34 +134,74 @@ fn append_room_if<D: PageSource>(
     append_room(alloc, text, geometry, found)
 }
 
-/// Appends the lines of the extents with room, rising.
-fn append_all_rooms<D: PageSource>(
+/// Appends the line of an extent that isn't among these sorted numbers, if a chunk can be put into it.
+fn append_room_unless<D: PageSource>(
     alloc: Global,
     text: &mut Vec<u8>,
     geometry: Geometry,
     unsound: &[u32],
+    skipped: &[u32],
+    found: &ExtentResult<'_, D>,
+) -> Result<(), OutOfMemory>
+    requires unsound { IsSorted nat_cmp unsound.now }
+    requires skipped { IsSorted nat_cmp skipped.now }
+    ensures { (checked : List Checked) → AreBarredExtents checked unsound.now →
+        OnOk result (text.new.items ≡ text.old.items ++ room_unless geometry checked skipped.now (scanned found.now)) }
+{
+    if has_number(skipped, found.extent()) {
+        return Ok(());
+    }
+    append_room_if(alloc, text, geometry, unsound, found)
+}
+
+/// Appends the lines of the extents with room that aren't among these sorted numbers, rising.
+fn append_rooms_but<D: PageSource>(
+    alloc: Global,
+    text: &mut Vec<u8>,
+    geometry: Geometry,
+    unsound: &[u32],
+    skipped: &[u32],
     all: &AllFindings<'_, D>,
 ) -> Result<(), OutOfMemory>
-    requires { IsSorted nat_cmp unsound.now }
+    requires unsound { IsSorted nat_cmp unsound.now }
+    requires skipped { IsSorted nat_cmp skipped.now }
     ensures { (checked : List Checked) → AreBarredExtents checked unsound.now →
-        OnOk result (text.new.items ≡ text.old.items ++ room_lines geometry all.now.extents checked) }
+        OnOk result (text.new.items ≡ text.old.items ++ rooms_but geometry all.now.extents checked skipped.now) }
 {
     for i in 0..all.len() {
-        append_room_if(alloc, text, geometry, unsound, all.result_at(i))?;
+        append_room_unless(alloc, text, geometry, unsound, skipped, all.result_at(i))?;
     }
     Ok(())
 }
 
-/// Appends the lines of the extents with room.
+/// The extents of candidates, in their order.
+pub(crate) fn candidate_extents(
+    alloc: Global,
+    candidates: &[Candidate],
+) -> Result<Vec<u32>, OutOfMemory>
+    ensures { IfOk result (λ v. v.items ≡ map (λ a. a.extent) candidates.now) }
+{
+    candidates.iter().map(|one| one.extent()).collect(alloc)
+}
+
+/// Appends the lines of the extents with room that aren't candidates; if there is none, those of the candidates.
 pub(crate) fn append_rooms<D: PageSource>(
     alloc: Global,
     text: &mut Vec<u8>,
     geometry: Geometry,
     all: &AllFindings<'_, D>,
     checked: &[Checked],
+    candidates: &[Candidate],
 ) -> Result<(), OutOfMemory>
-    ensures { OnOk result (text.new.items ≡ text.old.items ++ room_lines geometry all.now.extents checked.now) }
+    ensures { OnOk result (text.new.items ≡
+        text.old.items ++ room_lines geometry all.now.extents checked.now candidates.now) }
 {
     let unsound = sorted(unsound_extents(alloc, checked)?)?;
-    append_all_rooms(alloc, text, geometry, &unsound, all)
+    let skipped = sorted(candidate_extents(alloc, candidates)?)?;
+    let before = text.len();
+    append_rooms_but(alloc, text, geometry, &unsound, &skipped, all)?;
+    if text.len() > before {
+        return Ok(());
+    }
+    append_rooms_but(alloc, text, geometry, &unsound, &[], all)
 }

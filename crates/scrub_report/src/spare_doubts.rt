@@ -12,7 +12,7 @@ ghost use Rattle.scrub_report.specs.Moves.{AreRisingPlaces, PointAlike};
 
 use crate::doubts::Doubt;
 use crate::moves::{by_place, pointing_to};
-use crate::room::{has_number, sorted};
+use crate::room::{candidate_extents, has_number, sorted};
 use scrub_check::{Candidate, Checked, Owner, Spares};
 use scrub_disk::{OutOfMemory, PageSource};
 use scrub_scan::{AllFindings, Standing};
@@ -141,13 +141,6 @@ fn add_all(
         add_one(doubts, one.owner, spares.of_one(one), stay.of_one(one))?;
     }
     Ok(())
-}
-
-/// The extents of candidates, in their order.
-fn candidate_extents(alloc: Global, candidates: &[Candidate]) -> Result<Vec<u32>, OutOfMemory>
-    ensures { IfOk result (λ v. v.items ≡ map (λ a. a.extent) candidates.now) }
-{
-    candidates.iter().map(|one| one.extent()).collect(alloc)
 }
 
 /// Adds the doubts that spares make if the candidates are reset. Each spare is looked at once.

@@ -2,9 +2,9 @@
 use Rattle.std.proofs.Common.{arith, sym, ap}
 use Rattle.std.proofs.lemmas.Option.{slice_get_within, get_or_from_slice_get}
 use Rattle.scrub_scan.specs.Scanned.{scanned}
-use Rattle.scrub_report.specs.Room.{room_if}
+use Rattle.scrub_report.specs.Room.{room_unless}
 use Rattle.scrub_report.proofs.FlatLists.{flat_all, flat_more}
-use Rattle.scrub_report.proofs.room.append_all_rooms.Goals as goal
+use Rattle.scrub_report.proofs.room.append_rooms_but.Goals as goal
 
 pub loop-i-preserved : goal.loop-i-preserved
 loop-i-preserved g c checked are =
@@ -12,12 +12,12 @@ loop-i-preserved g c checked are =
     let i = c.loop-i.i in
     let found = scanned c.result_at.result.now in
     let at = c.result_at.ensures.result in
-    let part = room_if c.args.geometry checked in
-    flat_more part c.args.text.now.items c.loop-i.text.items c.append_room_if.new.text.items all i found (part found)
+    let part = room_unless c.args.geometry checked c.args.skipped.now in
+    flat_more part c.args.text.now.items c.loop-i.text.items c.append_room_unless.new.text.items all i found (part found)
     (slice_get_within all i found at) (ap part (sym (get_or_from_slice_get all i found found at)))
-    (c.loop-i.invariant checked are) (c.in_ok-append_room_if.ensures checked are)
+    (c.loop-i.invariant checked are) (c.in_ok-append_room_unless.ensures checked are)
 
 pub returns : goal.returns
 returns g c checked are =
-    flat_all (room_if c.args.geometry checked) c.args.text.now.items c.loop-i.text.items c.args.all.now.extents c.loop-i.i
+    flat_all (room_unless c.args.geometry checked c.args.skipped.now) c.args.text.now.items c.loop-i.text.items c.args.all.now.extents c.loop-i.i
     (omega (arith, c.len-i-end.ensures.count, c.loop-i-test.false)) (c.loop-i.invariant checked are)
