@@ -191,7 +191,7 @@ fn the_locators_of_a_disk_with_an_unreadable_page(rt: HostRuntime) -> Result<(),
     Ok(())
 }
 
-/// Behind a locator that dangles stand the chunks that have what it asks for, be it at its own place.
+/// Behind a locator that dangles stands the first chunk that has what it asks for, be it at its own place, and how many do.
 #[test]
 fn the_spares_of_a_locator_of_another_chunk(rt: HostRuntime) -> Result<(), Fail> {
     let alloc = rt.alloc();
@@ -199,11 +199,11 @@ fn the_spares_of_a_locator_of_another_chunk(rt: HostRuntime) -> Result<(), Fail>
     let frames: [(u32, [u8; 16], &[u8]); 2] = [(0, TWOS, b"abc"), (41, ONES, b"abc")];
     let disk = disk_with_run(alloc, &frames, &payload, [82, 155])?;
     let lines =
-        "run 0 2 0 117 22222222-2222-2222-2222-222222222222 sound\nshard 00000000000000000000000000000001 1 0 3 11111111-1111-1111-1111-111111111111 wrong_uuid\nspare 1 0 3 22222222-2222-2222-2222-222222222222\nspare 1 41 3 11111111-1111-1111-1111-111111111111\n";
+        "run 0 2 0 117 22222222-2222-2222-2222-222222222222 sound\nshard 00000000000000000000000000000001 1 0 3 11111111-1111-1111-1111-111111111111 wrong_uuid\nspare 1 0 3 22222222-2222-2222-2222-222222222222 2\n";
     check(&rt, alloc, LOCATORS, image(&disk), (1, lines, ""))
 }
 
-/// A chunk that nothing names, in an extent that may be reclaimed, has what a locator past a pointer asks for.
+/// A chunk that nothing names, in an extent that may be reclaimed, alone has what a locator past a pointer asks for.
 #[test]
 fn a_spare_that_a_reset_might_take(rt: HostRuntime) -> Result<(), Fail> {
     let alloc = rt.alloc();
@@ -213,12 +213,12 @@ fn a_spare_that_a_reset_might_take(rt: HostRuntime) -> Result<(), Fail> {
         (
             "reclaimable --page 64 --pages 4 --extents 3 disk.img",
             1,
-            "doubt spare 1 0 3 11111111-1111-1111-1111-111111111111 shard 00000000000000000000000000000001\n",
+            "doubt spare 1 0 3 11111111-1111-1111-1111-111111111111 shard 00000000000000000000000000000001 41\n",
         ),
         (
             "reclaimable --page 64 --pages 4 --extents 3 disk.img --accept spare",
             0,
-            "accepted spare 1 0 3 11111111-1111-1111-1111-111111111111 shard 00000000000000000000000000000001\nreclaim 1 41\nroom 1 41 215\n",
+            "accepted spare 1 0 3 11111111-1111-1111-1111-111111111111 shard 00000000000000000000000000000001 41\nreclaim 1 41\nroom 1 41 215\n",
         ),
     ] {
         check(&rt, alloc, words, image(&disk), (status, lines, ""))?;
