@@ -67,6 +67,7 @@ module _ (xs ys : List Row) (same : AreSame xs ys) where
   reclaim_same words read = record {
     scan = scan_same words.scan read.scan;
     accepted = rw (all_same xs ys same (codes "accept")) at read.accepted;
+    acceptable = rw (all_same xs ys same (codes "accept")) at read.acceptable;
   }
 
   sizes_same : (words : SizesWords) → AreSizesWords xs words → AreSizesWords ys words

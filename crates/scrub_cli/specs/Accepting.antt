@@ -1,26 +1,22 @@
--- The kinds of doubts that arguments accept.
-use Rattle.std.specs.Prelude.{◌≡◌, ◌||◌, Bool, true, List, codes}
-use Rattle.std.specs.List.{list_all, list_any}
+-- The kinds and the lines of doubts that arguments accept.
+use Rattle.std.specs.Prelude.{◌||◌, Bool, codes, nat_eq}
+use Rattle.std.specs.List.{starts_with}
 use Rattle.std.specs.Str.{bytes_eq}
 use Rattle.clap.specs.Words.{Text}
-use Rattle.scrub_report.specs.declared.doubts.Accepted.{Accepted}
 
--- the word is one of the five kinds of doubts that can be accepted
+-- the text is one of the four kinds of doubts that can be accepted as a whole
 abbrev pub is_kind : Text → Bool
-is_kind word =
-    bytes_eq word (codes "superblock-damaged") || (bytes_eq word (codes "superblock-stray")
-    || (bytes_eq word (codes "spare")
-    || (bytes_eq word (codes "tail") || bytes_eq word (codes "tail-lost"))))
+is_kind text =
+    bytes_eq text (codes "superblock-damaged") || (bytes_eq text (codes "superblock-stray")
+    || (bytes_eq text (codes "tail") || bytes_eq text (codes "tail-lost")))
 
--- the word is among these
-abbrev pub has_kind : Text → List Text → Bool
-has_kind kind words = list_any (λ word. bytes_eq word kind) words
+-- the text begins as the line of a doubt of these kinds, or of one that spares make, does behind `doubt`
+abbrev pub is_line : Text → Bool
+is_line text =
+    starts_with nat_eq text (codes "superblock-damaged ") || (starts_with nat_eq text (codes "superblock-stray ")
+    || (starts_with nat_eq text (codes "spare ")
+    || (starts_with nat_eq text (codes "tail ") || starts_with nat_eq text (codes "tail-lost "))))
 
--- each of the words is a kind, and just those that are among them are accepted
-pub record AreAccepted (words : List Text) (accepted : Accepted) : Type 0 where
-  pub all : list_all is_kind words ≡ true
-  pub superblock_damaged : accepted.superblock_damaged ≡ has_kind (codes "superblock-damaged") words
-  pub superblock_stray : accepted.superblock_stray ≡ has_kind (codes "superblock-stray") words
-  pub spare : accepted.spare ≡ has_kind (codes "spare") words
-  pub tail : accepted.tail ≡ has_kind (codes "tail") words
-  pub tail_lost : accepted.tail_lost ≡ has_kind (codes "tail-lost") words
+-- the text can be accepted: a kind, or a line
+abbrev pub is_acceptable : Text → Bool
+is_acceptable text = is_kind text || is_line text

@@ -8,7 +8,7 @@ use Rattle.scrub_report.specs.Answer.{IsPartitionOfPlanned}
 use Rattle.scrub_report.specs.Index.{IsIndex}
 use Rattle.scrub_report.specs.Locators.{AreLocatorLines}
 use Rattle.scrub_report.specs.Manifest.{IsManifest, IsWholeImage}
-use Rattle.scrub_report.specs.declared.doubts.Accepted.{Accepted}
+use Rattle.scrub_report.specs.Doubts.{Accepted}
 use Rattle.scrub_report.specs.Reclaimable.{AreReclaimLines, IsClear}
 use Rattle.scrub_report.specs.Report.{IsReport}
 use Rattle.scrub_cli.specs.declared.commands.answer.Wanted.{Wanted}

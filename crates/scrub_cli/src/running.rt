@@ -14,7 +14,7 @@ use crate::commands::sizes::sizes;
 use crate::process::fault::Fault;
 use crate::process::images::Images;
 use crate::words::{Request, ScanWords, read_words};
-use scrub_report::{ScrubFault, write_out};
+use scrub_report::{Accepted, ScrubFault, write_out};
 use std::alloc::Global;
 use std::io::Write;
 use std::sync::Wait;
@@ -34,11 +34,11 @@ fn scan_answer<'a, R: Threads + Wait + Sync, I: Images>(
     alloc: Global,
     words: &ScanWords<'a>,
     images: &mut I,
-    wanted: Wanted,
+    wanted: Wanted<'_, '_>,
 ) -> Result<Answer, Fault<'a>>
     requires { words.now.workers ≤ 64 }
     ensures { MatchResult result
-        (λ a. IsScanAnswer wanted (I.known images.old words.now.image.name.now) (I.known_map images.old) words.now.image
+        (λ a. IsScanAnswer wanted.entry (I.known images.old words.now.image.name.now) (I.known_map images.old) words.now.image
         a.text.items a.status)
         (IsScanFault (I.known images.old words.now.image.name.now) (I.known_map images.old) words.now.image) }
 {
@@ -65,13 +65,8 @@ fn answer<'a, R: Threads + Wait + Sync, I: Images>(
         Request::Locators(words) => scan_answer(rt, alloc, &words, images, Wanted::Locators),
         Request::Manifest(words) => scan_answer(rt, alloc, &words, images, Wanted::Manifest),
         Request::Reclaimable(words) => {
-            scan_answer(
-                rt,
-                alloc,
-                &words.scan,
-                images,
-                Wanted::Reclaimable(words.accepted),
-            )
+            let wanted = Wanted::Reclaimable(Accepted::new(&words.accepted));
+            scan_answer(rt, alloc, &words.scan, images, wanted)
         }
         Request::Superblocks(words) => superblocks(rt, alloc, &words, images),
         Request::Sizes(words) => sizes(alloc, &words, images),

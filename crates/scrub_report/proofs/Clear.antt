@@ -17,7 +17,7 @@ use Rattle.scrub_check.specs.Kept.{IsKept, AreSafe}
 use Rattle.scrub_check.specs.Runs.{ReadRunsValue}
 use Rattle.scrub_check.specs.WholeScan.{IsWholeScan}
 use Rattle.scrub_check.proofs.KeptChunks.{candidates_safe}
-use Rattle.scrub_report.specs.declared.doubts.Accepted.{Accepted}
+use Rattle.scrub_report.specs.Doubts.{Accepted}
 use Rattle.scrub_report.specs.declared.doubts.Doubt.{Doubt}
 use Rattle.scrub_report.specs.declared.parts.Parts.{Parts}
 use Rattle.scrub_report.specs.Doubts.{are_accepted, doubts, doubts_in}

@@ -27,7 +27,7 @@ use Rattle.scrub_check.specs.Named.{named, named_by_runs, named_by_shard}
 use Rattle.scrub_check.specs.Runs.{AreReadRuns, ReadRunsValue, HasRunState, HasRunStateIn, IsLostInRetired, IsRunIn, IsRunOf, NamesRun}
 use Rattle.scrub_check.specs.Status.{BeginsAt, CanStand, FindsFrame, HasStatus, HasStatusIn, HasStatusInRetired, HasUnreadableByte, InRange, NamesChunk, is_retired}
 use Rattle.scrub_check.proofs.OneList.{one_shared, one_broken}
-use Rattle.scrub_report.specs.declared.doubts.Accepted.{Accepted}
+use Rattle.scrub_report.specs.Doubts.{Accepted}
 use Rattle.scrub_report.specs.Index.{IsIndex, index_entries}
 use Rattle.scrub_report.specs.Manifest.{IsManifest, is_of_read_run, manifest_text, of_shards, text_by}
 use Rattle.scrub_report.specs.Reclaimable.{IsMoved, moves, reclaimed}

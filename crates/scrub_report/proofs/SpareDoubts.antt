@@ -21,7 +21,7 @@ use Rattle.scrub_report.specs.Doubts.{is_at_risk, spare_doubt, spare_doubts_by, 
 use Rattle.scrub_report.specs.Reclaimable.{pointing_to}
 use Rattle.scrub_report.proofs.SpareLines.{flat_same}
 
-any_mapped : {X Y : Type 0} (p : Y → Bool) (f : X → Y) (xs : List X) → list_any p (map f xs) ≡ list_any (λ x. p (f x)) xs
+pub any_mapped : {X Y : Type 0} (p : Y → Bool) (f : X → Y) (xs : List X) → list_any p (map f xs) ≡ list_any (λ x. p (f x)) xs
 any_mapped p f [] = refl
 any_mapped p f (x ∷ xs) = ap (λ (t : Bool). p (f x) || t) (any_mapped p f xs)
 

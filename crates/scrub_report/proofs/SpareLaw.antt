@@ -1,4 +1,4 @@
--- Where spares aren't accepted and nothing is in doubt, each locator that has a spare keeps one.
+-- Where no spare is accepted and nothing is in doubt, each locator that has a spare keeps one.
 use Rattle.std.proofs.Common.{◌≡◌, ◌≢◌, ◌⊎◌, inl, inr, ◌<◌, ◌==◌, ◌&&◌, ◌||◌, ◌++◌, ◌∷◌, [], ℕ, zero, suc, Bool, true, false, not, List, length, get_or, map, arith, refl, sym, ◌∙◌, ap, subst, if◌then◌else◌}
 use Rattle.std.proofs.Math.Path.{ap₂}
 use Rattle.std.specs.List.{All, Contains, flat_map, list_all, list_any}
@@ -11,14 +11,21 @@ use Rattle.scrub_check.specs.declared.statuses.checked.Checked.{Checked}
 use Rattle.scrub_check.specs.Candidates.{CandidateValue}
 use Rattle.scrub_check.specs.Live.{has_sound_at}
 use Rattle.scrub_check.specs.Spares.{spares_of}
-use Rattle.scrub_report.specs.declared.doubts.Accepted.{Accepted}
+use Rattle.scrub_report.specs.Doubts.{Accepted, doubts, frame_bytes, is_spare}
+use Rattle.scrub_report.specs.declared.doubts.Doubt.{Doubt}
+use Rattle.scrub_report.specs.declared.doubts.Doubt.TheVariants.{Spare}
 use Rattle.scrub_report.specs.Doubts.{are_accepted, choice_doubts, is_accepted, is_at_risk, page_doubts, run_doubts, spare_doubt, spare_doubts, spare_doubts_of, staying, superblock_damaged, superblock_lost, superblock_stray, tail_doubts, tail_lost_doubts}
-use Rattle.scrub_report.specs.Reclaimable.{HasSafeSpare, KeepsSpares, is_clear, reclaimed}
+use Rattle.scrub_report.specs.Reclaimable.{AcceptsNoSpare, HasSafeSpare, KeepsSpares, is_clear, reclaimed}
 use Rattle.scrub_report.specs.Scrubbed.{Scrubbed}
 
 not_true : (b : Bool) → not b ≡ true → b ≡ false
 not_true true e = absurd (false≢true e)
 not_true false e = refl
+
+-- what is accepted isn't unaccepted
+clash : (b : Bool) → (b && true) ≡ true → (not (true && b) && true) ≡ true → ⊥
+clash true e f = false≢true f
+clash false e f = false≢true e
 
 -- both parts pass
 split : {X : Type 0} (p : X → Bool) (xs ys : List X) → list_all p (xs ++ ys) ≡ true → (list_all p xs ≡ true) × (list_all p ys ≡ true)
@@ -51,14 +58,13 @@ others : (candidates : List CandidateValue) (e : ℕ) → list_any (λ n. n == e
 others candidates e none k d below same =
     false≢true (sym none ∙ subst (λ (n : ℕ). list_any (λ m. m == n) (map (λ a. a.extent) candidates) ≡ true) same (numbered candidates k d below))
 
-module _ (accepted : Accepted) (pages : List SuperblockPage) (found : Scrubbed) (refused : accepted.spare ≡ false) where
+module _ (accepted : Accepted) (pages : List SuperblockPage) (found : Scrubbed) (refused : AcceptsNoSpare accepted pages found) where
   abbrev numbers : List ℕ
   numbers = map (λ a. a.extent) found.candidates
 
-  -- the doubts of spares are accepted
-  of_spares : is_clear accepted pages found ≡ true → list_all (is_accepted accepted) (spare_doubts found.all found.checked found.candidates) ≡ true
-  of_spares clear =
-      let p = is_accepted accepted in
+  -- what holds of all doubts holds of those that spares make
+  of_spares : (p : Doubt → Bool) → list_all p (doubts pages found) ≡ true → list_all p (spare_doubts found.all found.checked found.candidates) ≡ true
+  of_spares p clear =
       let page = found.plan.geometry.page in
       let front = choice_doubts found.choice ++ page_doubts superblock_lost pages ++ page_doubts superblock_damaged pages ++ page_doubts superblock_stray pages ++ run_doubts found.read.states in
       let spares = spare_doubts found.all found.checked found.candidates in
@@ -93,21 +99,25 @@ module _ (accepted : Accepted) (pages : List SuperblockPage) (found : Scrubbed) 
           (not_true (list_any (λ n. n == s.extent) numbers) (ap (λ (t : Bool). not (not t && list_any (λ n. n == s.extent) numbers)) (sym dead) ∙ passes)))
 
   kept : is_clear accepted pages found ≡ true → KeepsSpares found found.candidates
-  kept clear k d below has = by (spares_of found.all c) (staying found.checked numbers (spares_of found.all c)) refl refl passes
+  kept clear k d below has = by (spares_of found.all c) (staying found.checked numbers (spares_of found.all c)) refl refl (of_one (is_accepted accepted) clear)
+      (of_one (λ x. not (is_spare x && is_accepted accepted x)) refused)
     where
       c : Checked
       c = get_or found.checked k d
 
-      passes : list_all (is_accepted accepted) (spare_doubt c.owner (spares_of found.all c) (staying found.checked numbers (spares_of found.all c))) ≡ true
-      passes =
+      of_one : (p : Doubt → Bool) → list_all p (doubts pages found) ≡ true →
+          list_all p (spare_doubt c.owner (spares_of found.all c) (staying found.checked numbers (spares_of found.all c))) ≡ true
+      of_one p all =
           let there : Contains found.checked c = All-contains_itself found.checked k d below in
-          each_part (is_accepted accepted) (spare_doubts_of found.all found.checked numbers) found.checked there.0 c there.1 there.2 (of_spares clear)
+          each_part p (spare_doubts_of found.all found.checked numbers) found.checked there.0 c there.1 there.2 (of_spares p all)
 
       by : (ss ts : List Standing) → spares_of found.all c ≡ ss → staying found.checked numbers (spares_of found.all c) ≡ ts →
-          list_all (is_accepted accepted) (spare_doubt c.owner ss ts) ≡ true → HasSafeSpare found found.candidates c
-      by [] ts none stay all = absurd (has none)
-      by (s ∷ ss) (t ∷ ts) some stay all = one_stays c (let e : length (staying found.checked numbers (spares_of found.all c)) ≡ suc (length ts) = ap length stay in omega (arith, e))
-      by (s ∷ ss) [] some stay all = absurd (false≢true (sym (ap (λ (t : Bool). t && true) refused) ∙ all))
+          list_all (is_accepted accepted) (spare_doubt c.owner ss ts) ≡ true →
+          list_all (λ x. not (is_spare x && is_accepted accepted x)) (spare_doubt c.owner ss ts) ≡ true → HasSafeSpare found found.candidates c
+      by [] ts none stay all not_one = absurd (has none)
+      by (s ∷ ss) (t ∷ ts) some stay all not_one = one_stays c (let e : length (staying found.checked numbers (spares_of found.all c)) ≡ suc (length ts) = ap length stay in omega (arith, e))
+      by (s ∷ ss) [] some stay all not_one =
+          absurd (clash (is_accepted accepted (Spare s.extent s.offset s.length s.uuid c.owner (frame_bytes s))) all not_one)
 
   -- without extents to reclaim any will do
   any_will_do : KeepsSpares found []

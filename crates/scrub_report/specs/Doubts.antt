@@ -1,6 +1,9 @@
 -- What may have hidden a newer superblock, a newer binding, or a chunk behind a write pointer: the doubts of a disk, in the
 -- order of their lines.
-use Rattle.std.specs.Prelude.{◌≡◌, ◌≢◌, ◌≤◌, ◌+◌, ◌-◌, ◌*◌, ◌==◌, ◌&&◌, ℕ, ⊤, All, Bool, false, not, List, [], ◌∷◌, ◌++◌, Option, Some, None, is_none, nat_lt, map, if◌then◌else◌}
+use Rattle.std.specs.Prelude.{◌≡◌, ◌≢◌, ◌≤◌, ◌+◌, ◌-◌, ◌*◌, ◌==◌, ◌&&◌, ◌||◌, ℕ, ⊤, All, Bool, true, false, not, codes, List, [], ◌∷◌, ◌++◌, Option, Some, None, is_none, nat_lt, map, if◌then◌else◌}
+use Rattle.std.specs.Fmt.{decimal}
+use Rattle.std.specs.Str.{bytes_eq}
+use Rattle.scrub_scan.specs.Line.{spaced}
 use Rattle.std.specs.Option.{option_map, option_to_list}
 use Rattle.std.specs.List.{enumerate_from, filter, filter_map, flat_map, list_all, list_any, range_with_len}
 use Rattle.scrub_frame.specs.Frame.{frame_overhead}
@@ -16,11 +19,12 @@ use Rattle.scrub_check.specs.Live.{has_sound_at}
 use Rattle.scrub_check.specs.Spares.{spares_by, spares_of}
 use Rattle.scrub_check.specs.declared.runs.RunState.{RunState}
 use Rattle.scrub_check.specs.declared.runs.RunState.TheVariants.{Read}
-use Rattle.scrub_report.specs.declared.doubts.Accepted.{Accepted}
 use Rattle.scrub_report.specs.declared.doubts.Doubt.{Doubt}
 use Rattle.scrub_report.specs.declared.doubts.Doubt.TheVariants.{NoSuperblock, Tie, SuperblockLost, SuperblockDamaged, SuperblockStray, RunLost, Spare, Tail, TailLost}
 use Rattle.scrub_report.specs.declared.page_ranges.PageRange.{PageRange}
+use Rattle.scrub_report.specs.Locators.{place_words}
 use Rattle.scrub_report.specs.Scrubbed.{Scrubbed}
+use Rattle.scrub_report.specs.Texts.{owner_text, state_text}
 
 -- ---- neighbouring pages
 
@@ -159,17 +163,57 @@ doubts_in choice pages states page all checked candidates =
 abbrev pub doubts : List SuperblockPage → Scrubbed → List Doubt
 doubts pages found = doubts_in found.choice pages found.read.states found.plan.geometry.page found.all found.checked found.candidates
 
--- ---- accepted kinds
+-- ---- their texts
 
--- the doubt is of an accepted kind
+-- a doubt's kind and its numbers
+abbrev pub doubt_text : Doubt → List ℕ
+doubt_text NoSuperblock = codes "no-superblock"
+doubt_text Tie = codes "tie"
+doubt_text (SuperblockLost q) = codes "superblock-lost" ++ spaced (decimal q)
+doubt_text (SuperblockDamaged q) = codes "superblock-damaged" ++ spaced (decimal q)
+doubt_text (SuperblockStray q) = codes "superblock-stray" ++ spaced (decimal q)
+doubt_text (RunLost k state) = codes "run-lost" ++ spaced (decimal k) ++ spaced (state_text state)
+doubt_text (Spare extent offset size uuid owner bytes) =
+    codes "spare" ++ spaced (place_words extent offset size uuid) ++ spaced (owner_text owner) ++ spaced (decimal bytes)
+doubt_text (Tail extent first count) = codes "tail" ++ spaced (decimal extent) ++ spaced (decimal first) ++ spaced (decimal count)
+doubt_text (TailLost extent first last) = codes "tail-lost" ++ spaced (decimal extent) ++ spaced (decimal first) ++ spaced (decimal last)
+
+-- ---- what was accepted
+
+-- kinds of doubts, and texts of single doubts
+abbrev pub Accepted : Type 0
+Accepted = List (List ℕ)
+
+-- the doubt is one that spares make
+abbrev pub is_spare : Doubt → Bool
+is_spare (Spare extent offset size uuid owner bytes) = true
+is_spare _ = false
+
+-- the doubt may be accepted
+abbrev pub may_be_accepted : Doubt → Bool
+may_be_accepted (SuperblockDamaged q) = true
+may_be_accepted (SuperblockStray q) = true
+may_be_accepted (Spare extent offset size uuid owner bytes) = true
+may_be_accepted (Tail extent first count) = true
+may_be_accepted (TailLost extent first last) = true
+may_be_accepted _ = false
+
+-- the word is the kind of the doubt, and one that may be accepted as a whole; a spare may not
+abbrev pub is_kind_of : Doubt → List ℕ → Bool
+is_kind_of (SuperblockDamaged q) word = bytes_eq word (codes "superblock-damaged")
+is_kind_of (SuperblockStray q) word = bytes_eq word (codes "superblock-stray")
+is_kind_of (Tail extent first count) word = bytes_eq word (codes "tail")
+is_kind_of (TailLost extent first last) word = bytes_eq word (codes "tail-lost")
+is_kind_of _ word = false
+
+-- the word accepts the doubt, whose text is given: it is its kind, or its text
+abbrev pub accepts : Doubt → List ℕ → List ℕ → Bool
+accepts doubt text word = is_kind_of doubt word || (may_be_accepted doubt && bytes_eq word text)
+
+-- one of the words accepts the doubt
 abbrev pub is_accepted : Accepted → Doubt → Bool
-is_accepted accepted (SuperblockDamaged q) = accepted.superblock_damaged
-is_accepted accepted (SuperblockStray q) = accepted.superblock_stray
-is_accepted accepted (Spare extent offset size uuid owner bytes) = accepted.spare
-is_accepted accepted (Tail extent first count) = accepted.tail
-is_accepted accepted (TailLost extent first last) = accepted.tail_lost
-is_accepted accepted _ = false
+is_accepted accepted doubt = list_any (accepts doubt (doubt_text doubt)) accepted
 
--- each of these doubts is of an accepted kind
+-- each of these doubts was accepted
 abbrev pub are_accepted : Accepted → List Doubt → Bool
 are_accepted accepted list = list_all (is_accepted accepted) list

@@ -1,7 +1,7 @@
 -- The lines that say which extents can be reclaimed, and what must be moved first.
-use Rattle.std.specs.Prelude.{◌≡◌, ◌≢◌, ◌⊎◌, ◌++◌, ◌∷◌, ◌==◌, ◌&&◌, [], ℕ, Bool, true, List, All, Contains, codes, length, map, if◌then◌else◌}
+use Rattle.std.specs.Prelude.{◌≡◌, ◌≢◌, ◌⊎◌, ◌++◌, ◌∷◌, ◌==◌, ◌&&◌, [], ℕ, Bool, true, List, All, Contains, codes, length, map, not, if◌then◌else◌}
 use Rattle.std.specs.Fmt.{decimal}
-use Rattle.std.specs.List.{filter, flat_map}
+use Rattle.std.specs.List.{filter, flat_map, list_all}
 use Rattle.scrub_disk.specs.Image.{Image}
 use Rattle.scrub_super.specs.declared.pages.SuperblockPage.{SuperblockPage}
 use Rattle.scrub_super.specs.Pages.{AreSuperblockPages}
@@ -13,33 +13,18 @@ use Rattle.scrub_scan.specs.declared.standing.Standing.{Standing}
 use Rattle.scrub_check.specs.Candidates.{CandidateValue}
 use Rattle.scrub_check.specs.Live.{has_sound_at}
 use Rattle.scrub_check.specs.Spares.{spares_of}
-use Rattle.scrub_report.specs.declared.doubts.Accepted.{Accepted}
 use Rattle.scrub_report.specs.declared.doubts.Doubt.{Doubt}
-use Rattle.scrub_report.specs.declared.doubts.Doubt.TheVariants.{NoSuperblock, Tie, SuperblockLost, SuperblockDamaged, SuperblockStray, RunLost, Spare, Tail, TailLost}
 use Rattle.scrub_report.specs.declared.parts.Parts.{Parts}
-use Rattle.scrub_report.specs.Doubts.{are_accepted, doubts, is_accepted}
-use Rattle.scrub_report.specs.Locators.{place_text, place_words}
+use Rattle.scrub_report.specs.Doubts.{Accepted, are_accepted, doubt_text, doubts, is_accepted, is_spare}
+use Rattle.scrub_report.specs.Locators.{place_text}
 use Rattle.scrub_report.specs.Report.{report_text}
 use Rattle.scrub_report.specs.Room.{room_lines}
 use Rattle.scrub_report.specs.Scrubbed.{Scrubbed, IsScrubbed}
-use Rattle.scrub_report.specs.Texts.{owner_text, state_text}
+use Rattle.scrub_report.specs.Texts.{owner_text}
 
 -- ---- the lines of doubts
 
--- a doubt's kind and its numbers
-abbrev pub doubt_text : Doubt → List ℕ
-doubt_text NoSuperblock = codes "no-superblock"
-doubt_text Tie = codes "tie"
-doubt_text (SuperblockLost q) = codes "superblock-lost" ++ spaced (decimal q)
-doubt_text (SuperblockDamaged q) = codes "superblock-damaged" ++ spaced (decimal q)
-doubt_text (SuperblockStray q) = codes "superblock-stray" ++ spaced (decimal q)
-doubt_text (RunLost k state) = codes "run-lost" ++ spaced (decimal k) ++ spaced (state_text state)
-doubt_text (Spare extent offset size uuid owner bytes) =
-    codes "spare" ++ spaced (place_words extent offset size uuid) ++ spaced (owner_text owner) ++ spaced (decimal bytes)
-doubt_text (Tail extent first count) = codes "tail" ++ spaced (decimal extent) ++ spaced (decimal first) ++ spaced (decimal count)
-doubt_text (TailLost extent first last) = codes "tail-lost" ++ spaced (decimal extent) ++ spaced (decimal first) ++ spaced (decimal last)
-
--- the first word of a doubt's line: `accepted` if its kind was accepted, or else `doubt`
+-- the first word of a doubt's line: `accepted` if it was accepted, or else `doubt`
 abbrev pub doubt_word : Accepted → Doubt → List ℕ
 doubt_word accepted doubt = if is_accepted accepted doubt then codes "accepted" else codes "doubt"
 
@@ -91,11 +76,11 @@ all_candidate_lines checked candidates = flat_map (candidate_lines checked) cand
 
 -- ---- the whole text
 
--- each doubt is of an accepted kind
+-- each doubt was accepted
 abbrev pub is_clear : Accepted → List SuperblockPage → Scrubbed → Bool
 is_clear accepted pages found = are_accepted accepted (doubts pages found)
 
--- the extents to reclaim: all candidates if each doubt is of an accepted kind, or else none
+-- the extents to reclaim: all candidates if each doubt was accepted, or else none
 abbrev pub reclaimed : Accepted → List SuperblockPage → Scrubbed → List CandidateValue
 reclaimed accepted pages found = if is_clear accepted pages found then found.candidates else []
 
@@ -124,7 +109,7 @@ pub record AreReclaimLines (image : Image) (accepted : Accepted) (text : List �
   pub held : AreSuperblockPages image pages
   pub text_is : text ≡ reclaim_text accepted pages found
 
--- the truth value says whether each doubt of an image is of an accepted kind, so that no line begins with `doubt`
+-- the truth value says whether each doubt of an image was accepted, so that no line begins with `doubt`
 pub record IsClear (image : Image) (accepted : Accepted) (clear : Bool) : Type 0 where
   pub found : Scrubbed
   pub scrubbed : IsScrubbed image found
@@ -154,6 +139,10 @@ pub record IsMoved (checked : List Checked) (a : CandidateValue) (c : Checked) :
 -- each named locator into one of these extents is sound, points to a chunk to keep, and has a line among the moves
 abbrev pub AreMoved : List Checked → List CandidateValue → Type 0
 AreMoved checked candidates = All (λ a. All (λ c. c.locator.extent ≡ a.extent → IsMoved checked a c) checked) candidates
+
+-- no spare was accepted: no line begins with `accepted spare`
+abbrev pub AcceptsNoSpare : Accepted → List SuperblockPage → Scrubbed → Type 0
+AcceptsNoSpare accepted pages found = list_all (λ d. not (is_spare d && is_accepted accepted d)) (doubts pages found) ≡ true
 
 -- a named locator has a spare that is live or in none of these extents
 pub record HasSafeSpare (found : Scrubbed) (listed : List CandidateValue) (c : Checked) : Type 0 where

@@ -6,7 +6,7 @@ use Rattle.scrub_super.specs.Chosen.{Choice, IsChoice}
 use Rattle.scrub_super.specs.Pages.{AreSuperblockPages}
 use Rattle.scrub_super.specs.Plan.{PlanValue, IsPlanOf, pointer_of}
 use Rattle.scrub_check.specs.Candidates.{CandidateValue}
-use Rattle.scrub_report.specs.declared.doubts.Accepted.{Accepted}
+use Rattle.scrub_report.specs.Doubts.{Accepted}
 use Rattle.scrub_report.specs.Reclaimable.{moves, reclaimed}
 use Rattle.scrub_report.specs.Scrubbed.{Scrubbed, IsScrubbed}
 

@@ -1,10 +1,11 @@
-//! Doubts: what may have hidden a newer superblock, a newer binding, or a chunk behind a write pointer; and which kinds of them
-//! were accepted. `doubting` finds them.
+//! Doubts: what may have hidden a newer superblock, a newer binding, or a chunk behind a write pointer; and which of them were
+//! accepted. `doubting` finds them.
 
-ghost use Rattle.std.specs.Prelude.{◌≡◌, ◌++◌, IfOk, OnOk, string_bytes};
+ghost use Rattle.std.specs.Prelude.{◌≡◌, ◌++◌, IfOk, OnOk, map, string_bytes};
+ghost use Rattle.std.specs.List.{list_any};
 ghost use Rattle.scrub_report.specs.declared.doubts.Doubt.TheVariants.{Spare};
-ghost use Rattle.scrub_report.specs.Doubts.{are_accepted, is_accepted};
-ghost use Rattle.scrub_report.specs.Reclaimable.{doubt_line, doubt_lines, doubt_text, doubt_word};
+ghost use Rattle.scrub_report.specs.Doubts.{accepts, are_accepted, doubt_text, is_accepted, is_kind_of, may_be_accepted};
+ghost use Rattle.scrub_report.specs.Reclaimable.{doubt_line, doubt_lines, doubt_word};
 
 use crate::listing::ChunkText;
 use crate::texts::{owner_text, state_text};
@@ -12,6 +13,7 @@ use scrub_check::{Owner, RunState};
 use scrub_disk::OutOfMemory;
 use std::alloc::Global;
 use std::fmt;
+use std::marker::Model;
 use uuid::Uuid;
 
 /// What may have hidden something that a disk holds.
@@ -74,7 +76,7 @@ struct TailText {
 impl fmt::Display for TailText {
     ghost use Rattle.std.specs.Prelude.{Some};
     ghost use Rattle.scrub_report.specs.declared.doubts.Doubt.TheVariants.{Tail};
-    ghost use Rattle.scrub_report.specs.Reclaimable.{doubt_text};
+    ghost use Rattle.scrub_report.specs.Doubts.{doubt_text};
 
     ghost output = { λ t. Some (doubt_text (Tail t.extent t.offset t.bytes)) };
 
@@ -99,7 +101,7 @@ struct LostText {
 impl fmt::Display for LostText {
     ghost use Rattle.std.specs.Prelude.{Some};
     ghost use Rattle.scrub_report.specs.declared.doubts.Doubt.TheVariants.{TailLost};
-    ghost use Rattle.scrub_report.specs.Reclaimable.{doubt_text};
+    ghost use Rattle.scrub_report.specs.Doubts.{doubt_text};
 
     ghost output = { λ t. Some (doubt_text (TailLost t.extent t.first t.last)) };
 
@@ -186,48 +188,107 @@ fn doubt_text(alloc: Global, doubt: &Doubt) -> Result<String, OutOfMemory>
     }
 }
 
-/// The kinds of doubts that a person accepted, knowing what made them.
-#[derive(Debug, Clone, Copy, PartialEq, Eq)]
-pub struct Accepted {
-    /// Pages of extent 0 that begin like a superblock, and are no part of one.
-    pub superblock_damaged: bool,
-    /// Pages of extent 0 with a nonzero byte, which don't begin like a superblock and are no part of a superblock.
-    pub superblock_stray: bool,
-    /// Spares, the last of a locator, that a reset might take.
-    pub spare: bool,
-    /// Nonzero bytes at or behind a write pointer.
-    pub tail: bool,
-    /// Unreadable pages with a byte at or behind a write pointer.
-    pub tail_lost: bool,
+/// What a person accepted, knowing what made the doubts: kinds of doubts, and single doubts by what their lines have behind
+/// `doubt`.
+#[derive(Drop)]
+pub struct Accepted<'v, 'a> {
+    words: &'v [&'a str],
 }
 
-/// Whether a doubt is of a kind that was accepted.
-fn is_accepted(accepted: Accepted, doubt: &Doubt) -> bool
-    ensures { result ≡ is_accepted accepted doubt.now }
+impl<'v, 'a> Model for Accepted<'v, 'a> {
+    ghost use Rattle.std.specs.Prelude.{List, ℕ, map};
+
+    ghost Value = { List (List ℕ) };
+
+    ghost view = { λ a. map (λ word. word.now) a.words.now };
+}
+
+impl<'v, 'a> Accepted<'v, 'a> {
+    /// These kinds and these single doubts. A spare is accepted alone, and what has to be mended first is not at all.
+    pub fn new(words: &'v [&'a str]) -> Accepted<'v, 'a>
+        ensures { result ≡ map (λ word. word.now) words.now }
+    {
+        Accepted { words }
+    }
+}
+
+/// Whether a doubt may be accepted.
+fn may_be_accepted(doubt: &Doubt) -> bool
+    ensures { result ≡ may_be_accepted doubt.now }
 {
     match doubt {
-        Doubt::SuperblockDamaged { .. } => accepted.superblock_damaged,
-        Doubt::SuperblockStray { .. } => accepted.superblock_stray,
-        Doubt::Spare { .. } => accepted.spare,
-        Doubt::Tail { .. } => accepted.tail,
-        Doubt::TailLost { .. } => accepted.tail_lost,
+        Doubt::SuperblockDamaged { .. }
+        | Doubt::SuperblockStray { .. }
+        | Doubt::Spare { .. }
+        | Doubt::Tail { .. }
+        | Doubt::TailLost { .. } => true,
         Doubt::NoSuperblock | Doubt::Tie | Doubt::SuperblockLost { .. } | Doubt::RunLost { .. } =>
             false,
     }
 }
 
-/// Whether each of these doubts is of a kind that was accepted.
-pub(crate) fn are_accepted(accepted: Accepted, doubts: &[Doubt]) -> bool
-    ensures { result ≡ are_accepted accepted doubts.now }
+/// Whether a word is the kind of a doubt, and one that may be accepted as a whole.
+fn is_kind_of(doubt: &Doubt, word: &str) -> bool
+    ensures { result ≡ is_kind_of doubt.now word.now }
 {
-    doubts.iter().all(|doubt| is_accepted(accepted, doubt))
+    match doubt {
+        Doubt::SuperblockDamaged { .. } => word == "superblock-damaged",
+        Doubt::SuperblockStray { .. } => word == "superblock-stray",
+        Doubt::Tail { .. } => word == "tail",
+        Doubt::TailLost { .. } => word == "tail-lost",
+        Doubt::NoSuperblock
+        | Doubt::Tie
+        | Doubt::SuperblockLost { .. }
+        | Doubt::RunLost { .. }
+        | Doubt::Spare { .. } => false,
+    }
 }
 
-/// The first word of a doubt's line.
-fn doubt_word(accepted: Accepted, doubt: &Doubt) -> &'static str
-    ensures { result.now ≡ doubt_word accepted doubt.now }
+/// Whether a word accepts a doubt, whose text is given.
+fn accepts(doubt: &Doubt, text: &str, word: &str) -> bool
+    ensures { result ≡ accepts doubt.now text.now word.now }
 {
-    if is_accepted(accepted, doubt) {
+    is_kind_of(doubt, word) || (may_be_accepted(doubt) && word == text)
+}
+
+/// Whether one of these words accepts a doubt, whose text is given.
+fn is_among(words: &[&str], doubt: &Doubt, text: &str) -> bool
+    ensures { result ≡ list_any (λ word. accepts doubt.now text.now word.now) words.now }
+{
+    words.iter().any(|word| accepts(doubt, text, word))
+}
+
+/// Whether a doubt, whose text is given, was accepted.
+fn is_accepted(accepted: &Accepted<'_, '_>, doubt: &Doubt, text: &str) -> bool
+    requires { text.now ≡ doubt_text doubt.now }
+    ensures { result ≡ is_accepted accepted.now doubt.now }
+{
+    is_among(accepted.words, doubt, text)
+}
+
+/// Whether each of these doubts was accepted.
+pub(crate) fn are_accepted(
+    alloc: Global,
+    accepted: &Accepted<'_, '_>,
+    doubts: &[Doubt],
+) -> Result<bool, OutOfMemory>
+    ensures { IfOk result (λ all. all ≡ are_accepted accepted.now doubts.now) }
+{
+    for doubt in doubts {
+        let text = doubt_text(alloc, doubt)?;
+        if !is_accepted(accepted, doubt, &text) {
+            return Ok(false);
+        }
+    }
+    Ok(true)
+}
+
+/// The first word of the line of a doubt, whose text is given.
+fn doubt_word(accepted: &Accepted<'_, '_>, doubt: &Doubt, text: &str) -> &'static str
+    requires { text.now ≡ doubt_text doubt.now }
+    ensures { result.now ≡ doubt_word accepted.now doubt.now }
+{
+    if is_accepted(accepted, doubt, text) {
         "accepted"
     } else {
         "doubt"
@@ -237,26 +298,26 @@ fn doubt_word(accepted: Accepted, doubt: &Doubt) -> &'static str
 /// Appends a doubt's line, with its line feed.
 fn append_doubt(
     alloc: Global,
-    text: &mut Vec<u8>,
-    accepted: Accepted,
+    lines: &mut Vec<u8>,
+    accepted: &Accepted<'_, '_>,
     doubt: &Doubt,
 ) -> Result<(), OutOfMemory>
-    ensures { OnOk result (text.new.items ≡ text.old.items ++ doubt_line accepted doubt.now) }
+    ensures { OnOk result (lines.new.items ≡ lines.old.items ++ doubt_line accepted.now doubt.now) }
 {
-    let word = doubt_word(accepted, doubt);
-    let doubt = doubt_text(alloc, doubt)?;
-    let line = format!(in alloc; "{word} {doubt}\n")?;
-    text.extend_from_slice(line.as_bytes())?;
+    let text = doubt_text(alloc, doubt)?;
+    let word = doubt_word(accepted, doubt, &text);
+    let line = format!(in alloc; "{word} {text}\n")?;
+    lines.extend_from_slice(line.as_bytes())?;
     Ok(())
 }
 
-/// The lines of doubts, in their order: `doubt` or `accepted`, the kind, and its numbers.
+/// The lines of doubts, in their order: `doubt` or `accepted`, the kind, and what else it says.
 pub(crate) fn doubt_lines(
     alloc: Global,
-    accepted: Accepted,
+    accepted: &Accepted<'_, '_>,
     doubts: &[Doubt],
 ) -> Result<Vec<u8>, OutOfMemory>
-    ensures { IfOk result (λ text. text.items ≡ doubt_lines accepted doubts.now) }
+    ensures { IfOk result (λ text. text.items ≡ doubt_lines accepted.now doubts.now) }
 {
     let mut text = Vec::new(alloc);
     for doubt in doubts {

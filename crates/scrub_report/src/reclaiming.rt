@@ -10,13 +10,13 @@ ghost use Rattle.scrub_super.specs.Pages.{AreSuperblockPages};
 ghost use Rattle.scrub_check.specs.declared.statuses.checked.Checked.{Checked};
 ghost use Rattle.scrub_check.specs.declared.statuses.status.Status.TheVariants.{Sound};
 ghost use Rattle.scrub_check.specs.Status.{HasStatus, InRange};
-ghost use Rattle.scrub_report.specs.declared.doubts.Accepted.{Accepted};
+ghost use Rattle.scrub_report.specs.Doubts.{Accepted};
 ghost use Rattle.scrub_report.specs.Answer.{IsPartitionOfPlanned, IsCountOfPlanned};
 ghost use Rattle.scrub_report.specs.Index.{IsIndex};
 ghost use Rattle.scrub_report.specs.Manifest.{IsManifest};
 ghost use Rattle.scrub_report.specs.Moves.{AreRisingPlaces, PointAlike};
 ghost use Rattle.scrub_report.specs.Parts.{IsScan};
-ghost use Rattle.scrub_report.specs.Reclaimable.{KeepsSpares, AreMoved, AreOfCandidates, AreReclaimLines, IsClear, all_candidate_lines, candidate_lines, kept_lines, move_line, reclaim_line, reclaimed, rooms_kept};
+ghost use Rattle.scrub_report.specs.Reclaimable.{AcceptsNoSpare, KeepsSpares, AreMoved, AreOfCandidates, AreReclaimLines, IsClear, all_candidate_lines, candidate_lines, kept_lines, move_line, reclaim_line, reclaimed, rooms_kept};
 ghost use Rattle.scrub_report.specs.Report.{IsReport};
 ghost use Rattle.scrub_report.specs.Reset.{IsReclaimed, NameTheSame};
 ghost use Rattle.scrub_report.specs.Room.{IsPut, IsRoom, may_grow, place_in};
@@ -44,7 +44,7 @@ use std::thread::Threads;
 /// What can be reclaimed of a disk, as lines.
 #[derive(Drop)]
 pub struct ReclaimListing {
-    /// A line for each doubt, by kind. It begins with `accepted` if its kind was accepted, or else with `doubt`. If no line
+    /// A line for each doubt, by kind. It begins with `accepted` if it was accepted, or else with `doubt`. If no line
     /// begins with `doubt`, then `reclaim EXTENT FREE` for each candidate of the report, in its order, and behind each of them
     /// `move EXTENT OFFSET LENGTH UUID OWNER BYTES` for each named locator into it, by the chunk that it points to, whose
     /// payload takes LENGTH and whose frame takes BYTES. At the end, if
@@ -218,16 +218,16 @@ fn listing_of<R: Threads + Sync, D: PageSource>(
     alloc: Global,
     scan: Scan<'_, D>,
     pages: &[SuperblockPage],
-    accepted: Accepted,
+    accepted: &Accepted<'_, '_>,
 ) -> Result<ReclaimListing, OutOfMemory>
     requires scan { IsScan (D.image scan.disk.now) scan.chosen scan.plan scan.all.extents }
     requires pages { AreSuperblockPages (D.image scan.disk.now) pages.now }
-    ensures text { IfOk result (λ l. AreReclaimLines (D.image scan.entry.disk.now) accepted l.text.items) }
-    ensures clear { IfOk result (λ l. IsClear (D.image scan.entry.disk.now) accepted l.is_clear) }
+    ensures text { IfOk result (λ l. AreReclaimLines (D.image scan.entry.disk.now) accepted.now l.text.items) }
+    ensures clear { IfOk result (λ l. IsClear (D.image scan.entry.disk.now) accepted.now l.is_clear) }
 {
     let parts = parts_of(rt, alloc, scan)?;
     let doubts = doubts_of(alloc, pages, &parts)?;
-    let is_clear = are_accepted(accepted, &doubts);
+    let is_clear = are_accepted(alloc, accepted, &doubts)?;
     let mut text = doubt_lines(alloc, accepted, &doubts)?;
     let candidates = &parts.liveness.candidates;
     append_reclaimed(alloc, &mut text, is_clear, &parts.checked, candidates)?;
@@ -244,11 +244,11 @@ pub fn list_reclaimable<D: PageSource, G: Gate, R: Threads + Wait + Sync>(
     disk: &D,
     workers: u32,
     gate: &G,
-    accepted: Accepted,
+    accepted: &Accepted<'_, '_>,
 ) -> Result<(ReclaimListing, Takings), ScrubFault>
     requires { workers ≤ 64 }
-    ensures text { IfOk result (λ r. AreReclaimLines (D.image disk.now) accepted r.0.text.items) }
-    ensures clear { IfOk result (λ r. IsClear (D.image disk.now) accepted r.0.is_clear) }
+    ensures text { IfOk result (λ r. AreReclaimLines (D.image disk.now) accepted.now r.0.text.items) }
+    ensures clear { IfOk result (λ r. IsClear (D.image disk.now) accepted.now r.0.is_clear) }
     ensures workers { IfOk result (λ r. length r.1.lists ≡ workers + 1) }
     ensures partition { IfOk result (λ r. IsPartitionOfPlanned (D.image disk.now) r.1.lists) }
     ensures counted { IfOk result (λ r. IsCountOfPlanned (D.image disk.now) r.1.counted) }
@@ -280,11 +280,11 @@ pub fn reclaiming_is_safe()
         AreMoved found.checked (reclaimed accepted pages found) }
 {}
 
-/// A law: where spares aren't accepted, each named locator that has a spare has one that is live or in an extent that isn't to
+/// A law: where no line begins with `accepted spare`, each named locator that has a spare has one that is live or in an extent that isn't to
 /// be reclaimed. So the last copy of nothing is reset.
 pub fn no_spare_is_taken()
-    ensures { (accepted : Accepted) (pages : List SuperblockPage) (found : Scrubbed) → accepted.spare ≡ false →
-        KeepsSpares found (reclaimed accepted pages found) }
+    ensures { (accepted : Accepted) (pages : List SuperblockPage) (found : Scrubbed) →
+        AcceptsNoSpare accepted pages found → KeepsSpares found (reclaimed accepted pages found) }
 {}
 
 /// A law: a reset loses nothing that is named. Let extents be listed without a `move` line, and be reset. Then the same index

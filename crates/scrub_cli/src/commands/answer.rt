@@ -44,8 +44,8 @@ impl Answer {
 }
 
 /// What a command on the whole disk prints.
-#[derive(Debug, Clone, Copy)]
-pub enum Wanted {
+#[derive(Drop)]
+pub enum Wanted<'v, 'a> {
     /// The report.
     Report,
     /// The index that can be recovered.
@@ -54,8 +54,8 @@ pub enum Wanted {
     Locators,
     /// What the disk holds, wherever it lies.
     Manifest,
-    /// What may be reclaimed, with these kinds of doubts accepted.
-    Reclaimable(Accepted),
+    /// What may be reclaimed, with these doubts accepted.
+    Reclaimable(Accepted<'v, 'a>),
 }
 
 /// The program's name and version.
@@ -120,10 +120,10 @@ pub fn disk_answer<R: Threads + Wait + Sync, D: PageSource>(
     alloc: Global,
     disk: &D,
     workers: u32,
-    wanted: Wanted,
+    wanted: Wanted<'_, '_>,
 ) -> Result<(Answer, Takings), ScrubFault>
     requires { workers ≤ 64 }
-    ensures answer { IfOk result (λ r. IsDiskAnswer wanted (D.image disk.now) r.0.text.items r.0.status) }
+    ensures answer { IfOk result (λ r. IsDiskAnswer wanted.entry (D.image disk.now) r.0.text.items r.0.status) }
     ensures workers { IfOk result (λ r. length r.1.lists ≡ workers + 1) }
     ensures partition { IfOk result (λ r. IsPartitionOfPlanned (D.image disk.now) r.1.lists) }
 {
@@ -147,7 +147,7 @@ pub fn disk_answer<R: Threads + Wait + Sync, D: PageSource>(
             Ok((Answer::new(manifest.text, manifest.is_whole), takings))
         }
         Wanted::Reclaimable(accepted) => {
-            let (listing, takings) = list_reclaimable(rt, alloc, disk, workers, &NoGate, accepted)?;
+            let (listing, takings) = list_reclaimable(rt, alloc, disk, workers, &NoGate, &accepted)?;
             Ok((Answer::new(listing.text, listing.is_clear), takings))
         }
     }

@@ -39,16 +39,16 @@ pub fn scan<'a, R: Threads + Wait + Sync, I: Images>(
     alloc: Global,
     words: &ScanWords<'a>,
     images: &mut I,
-    wanted: Wanted,
+    wanted: Wanted<'_, '_>,
 ) -> Result<(Answer, Takings), Fault<'a>>
     requires { words.now.workers ≤ 64 }
     ensures answer { MatchResult result
-        (λ r. IsScanAnswer wanted (I.known images.old words.now.image.name.now) (I.known_map images.old) words.now.image
+        (λ r. IsScanAnswer wanted.entry (I.known images.old words.now.image.name.now) (I.known_map images.old) words.now.image
         r.0.text.items r.0.status)
         (IsScanFault (I.known images.old words.now.image.name.now) (I.known_map images.old) words.now.image) }
     ensures workers { IfOk result (λ r. length r.1.lists ≡ words.now.workers + 1) }
     ensures takings { IfOk result
-        (λ r. AreTakingsOf wanted (I.known images.old words.now.image.name.now) (I.known_map images.old) words.now.image
+        (λ r. AreTakingsOf wanted.entry (I.known images.old words.now.image.name.now) (I.known_map images.old) words.now.image
         r.0.text.items r.0.status r.1.lists) }
 {
     let disk = disk_of(rt, alloc, &words.image, images)?;

@@ -76,14 +76,25 @@ fn check(
     rt: &(impl Abort + Threads + Wait + Sync),
     alloc: Global,
     words: &str,
+    images: OneImage<'_>,
+    wanted: (u8, &str, &str),
+) -> Result<(), Fail> {
+    let split: Vec<&str> = words.split_whitespace().collect(alloc)?;
+    check_words(rt, alloc, &split, images, wanted)
+}
+
+/// Runs these arguments, and compares the status and both streams.
+fn check_words(
+    rt: &(impl Abort + Threads + Wait + Sync),
+    alloc: Global,
+    words: &[&str],
     mut images: OneImage<'_>,
     wanted: (u8, &str, &str),
 ) -> Result<(), Fail> {
     let (mut out, mut err) = (Vec::new(alloc), Vec::new(alloc));
-    let split: Vec<&str> = words.split_whitespace().collect(alloc)?;
-    let status = run(rt, alloc, &split, &mut images, &mut out, &mut err);
+    let status = run(rt, alloc, words, &mut images, &mut out, &mut err);
     let (out, err) = (str::from_utf8(&out)?, str::from_utf8(&err)?);
-    assert_eq!(rt; (status, out, err), wanted, "{words}");
+    assert_eq!(rt; (status, out, err), wanted, "{words:?}");
     Ok(())
 }
 

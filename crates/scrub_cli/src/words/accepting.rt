@@ -1,65 +1,54 @@
-//! The kinds of doubts that `--accept` may name.
+//! The kinds and the lines of doubts that `--accept` may name.
 
-ghost use Rattle.std.specs.Prelude.{◌≡◌, MatchOption, false, true};
-ghost use Rattle.std.specs.List.{list_all, list_any};
-ghost use Rattle.std.specs.Str.{bytes_eq};
-ghost use Rattle.scrub_cli.specs.Accepting.{AreAccepted, has_kind, is_kind};
-ghost use Rattle.scrub_cli.specs.Words.{texts};
+ghost use Rattle.std.specs.Prelude.{◌≡◌, MatchOption, false, nat_eq, true};
+ghost use Rattle.std.specs.List.{list_all, starts_with};
+ghost use Rattle.scrub_cli.specs.Accepting.{is_acceptable, is_kind, is_line};
 
-use scrub_report::Accepted;
-
-const DAMAGED: &str = "superblock-damaged";
-
-const STRAY: &str = "superblock-stray";
-
-const SPARE: &str = "spare";
-
-const TAIL: &str = "tail";
-
-const TAIL_LOST: &str = "tail-lost";
-
-/// Whether the text is a kind of doubts that can be accepted.
-fn is_kind(word: &str) -> bool
-    ensures { result ≡ is_kind word.now }
+/// Whether the text is a kind of doubts that can be accepted as a whole.
+fn is_kind(text: &str) -> bool
+    ensures { result ≡ is_kind text.now }
 {
-    word == DAMAGED || word == STRAY || word == SPARE || word == TAIL || word == TAIL_LOST
+    text == "superblock-damaged"
+        || text == "superblock-stray"
+        || text == "tail"
+        || text == "tail-lost"
 }
 
-/// The first text that is no such kind.
-pub fn unknown_kind<'a>(words: &[&'a str]) -> Option<&'a str>
-    ensures { MatchOption result (list_all (λ word. is_kind word.now) words.now ≡ true)
-        (λ _. list_all (λ word. is_kind word.now) words.now ≡ false) }
+/// Whether a text begins with another one.
+fn begins(text: &[u8], front: &[u8]) -> bool
+    ensures { result ≡ starts_with nat_eq text.now front.now }
+{
+    text.starts_with(front)
+}
+
+/// Whether the text begins as the line of a doubt that can be accepted does behind `doubt`.
+fn is_line(text: &str) -> bool
+    ensures { result ≡ is_line text.now }
+{
+    let text = text.as_bytes();
+    begins(text, b"superblock-damaged ")
+        || begins(text, b"superblock-stray ")
+        || begins(text, b"spare ")
+        || begins(text, b"tail ")
+        || begins(text, b"tail-lost ")
+}
+
+/// Whether the text can be accepted.
+fn is_acceptable(text: &str) -> bool
+    ensures { result ≡ is_acceptable text.now }
+{
+    is_kind(text) || is_line(text)
+}
+
+/// The first text that can't be accepted.
+pub fn unacceptable<'a>(words: &[&'a str]) -> Option<&'a str>
+    ensures { MatchOption result (list_all (λ word. is_acceptable word.now) words.now ≡ true)
+        (λ _. list_all (λ word. is_acceptable word.now) words.now ≡ false) }
 {
     for word in words {
-        if !is_kind(word) {
+        if !is_acceptable(word) {
             return Some(word);
         }
     }
     None
-}
-
-/// Whether the kind is among these texts.
-fn has_kind(words: &[&str], kind: &str) -> bool
-    ensures { result ≡ list_any (λ word. bytes_eq word.now kind.now) words.now }
-{
-    for word in words {
-        if *word == kind {
-            return true;
-        }
-    }
-    false
-}
-
-/// The kinds of doubts that these texts accept.
-pub fn accepted(words: &[&str]) -> Accepted
-    requires { list_all (λ word. is_kind word.now) words.now ≡ true }
-    ensures { AreAccepted (texts words.now) result }
-{
-    Accepted {
-        superblock_damaged: has_kind(words, DAMAGED),
-        superblock_stray: has_kind(words, STRAY),
-        spare: has_kind(words, SPARE),
-        tail: has_kind(words, TAIL),
-        tail_lost: has_kind(words, TAIL_LOST),
-    }
 }

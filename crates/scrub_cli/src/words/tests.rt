@@ -116,9 +116,7 @@ fn superblocks_reclaimable_and_sizes_with_their_arguments(rt: HostRuntime) -> Re
     };
     check_image(&rt, &reclaim.scan.image);
     assert!(rt; reclaim.scan.workers == 1 && reclaim.scan.image.map.is_none());
-    let accepted = reclaim.accepted;
-    assert!(rt; accepted.tail && accepted.superblock_stray);
-    assert!(rt; !accepted.tail_lost && !accepted.superblock_damaged);
+    assert!(rt; reclaim.accepted.as_slice() == ["tail", "superblock-stray"].as_slice());
     let words = ["sizes", "disk.img", "--map=disk.map"];
     let Request::Sizes(sizes) = read_words(rt.alloc(), &words)? else {
         panic!(rt; "not sizes");
@@ -169,6 +167,10 @@ fn a_refusal_says_what_is_wrong(rt: HostRuntime) -> Result<(), Fail> {
         (
             "reclaimable --page 64 --pages 4 --extents 3 --accept tail --accept tie x",
             "invalid value 'tie' for '--accept <KIND>'",
+        ),
+        (
+            "reclaimable --page 64 --pages 4 --extents 3 --accept spare x",
+            "invalid value 'spare' for '--accept <KIND>'",
         ),
         ("sizes --map disk.map", "<IMAGE>"),
         ("demo --version", "--version"),
@@ -318,7 +320,7 @@ fn the_help_of_the_commands_on_superblocks_and_on_what_may_be_reclaimed(
         &[
             "Usage: shardscrub reclaimable",
             "--accept <KIND>",
-            "superblock-damaged, superblock-stray, spare, tail or tail-lost",
+            "superblock-damaged, superblock-stray, tail or tail-lost, or one line",
             "doubt tail EXTENT OFFSET BYTES",
             "move EXTENT OFFSET LENGTH UUID OWNER BYTES",
             "room EXTENT OFFSET BYTES",

@@ -1,6 +1,9 @@
 -- The answer or the fault of a request is that of the arguments that ask for it.
-use Rattle.std.proofs.Common.{rules, map}
-use Rattle.scrub_cli.specs.Words.{AskFor}
+use Rattle.std.proofs.Common.{◌≡◌, ◌∙◌, List, MatchResult, ap, map, rules, subst}
+use Rattle.clap.specs.Words.{Text}
+use Rattle.scrub_cli.specs.declared.commands.answer.Wanted.TheVariants.{Reclaimable as what_is_reclaimable}
+use Rattle.scrub_cli.specs.Scan.{IsScanAnswer, IsScanFault}
+use Rattle.scrub_cli.specs.Words.{AskFor, texts}
 use Rattle.scrub_cli.specs.declared.words.Request.TheVariants.{Items, Scan, Index, Locators, Manifest, Reclaimable, Superblocks, Sizes}
 use Rattle.scrub_cli.proofs.RunAnswers.{answered}
 use Rattle.scrub_cli.proofs.WordsFound.{few_workers}
@@ -80,7 +83,14 @@ scan_answer-requires-in-Reclaimable g c =
 
 pub returns-in-Reclaimable : goal.returns-in-Reclaimable
 returns-in-Reclaimable g c =
-    answered (g.I.Images.known c.args.images.now) (g.I.Images.known_map c.args.images.now)
-    (map (λ word. word.now) c.args.words.now) (Reclaimable c.in-Reclaimable.words)
+    let known = g.I.Images.known c.args.images.now in
+    let maps = g.I.Images.known_map c.args.images.now in
+    let image = c.in-Reclaimable.words.scan.image in
+    let given : c.new.result ≡ texts c.in-Reclaimable.words.accepted.items = c.new.ensures ∙ ap texts c.deref.ensures.value in
+    answered known maps (map (λ word. word.now) c.args.words.now) (Reclaimable c.in-Reclaimable.words)
     c.scan_answer-in-Reclaimable.result (rw c.in-Reclaimable.is at c.in_ok-read_words.ensures)
-    c.scan_answer-in-Reclaimable.ensures
+    (subst
+    (λ (words : List Text). MatchResult c.scan_answer-in-Reclaimable.result
+    (λ a. IsScanAnswer (what_is_reclaimable words) (known image.name.now) maps image a.text.items a.status)
+    (IsScanFault (known image.name.now) maps image))
+    given c.scan_answer-in-Reclaimable.ensures)

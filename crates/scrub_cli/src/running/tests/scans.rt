@@ -1,7 +1,7 @@
 //! Whole runs of the commands on a disk and of `demo`: the published reports byte for byte, the index and the listings, and
 //! what is reported if a page is lost, the output fails or the arguments are wrong.
 
-use super::{check, image, with_map};
+use super::{check, check_words, image, with_map};
 use crate::running::run;
 use scrub_disk::{MemDisk, PageSource};
 use scrub_fakes::published::{COLLISION, NO_SHARDS, ONE_SHARD, TWINS, ZEROS};
@@ -209,21 +209,15 @@ fn a_spare_that_a_reset_might_take(rt: HostRuntime) -> Result<(), Fail> {
     let alloc = rt.alloc();
     let payload = run_of(alloc, SHARD, &[abc_at(2, 200)])?;
     let disk = disk_with_run(alloc, &[(0, ONES, b"abc")], &payload, [41, 155])?;
-    for (words, status, lines) in [
-        (
-            "reclaimable --page 64 --pages 4 --extents 3 disk.img",
-            1,
-            "doubt spare 1 0 3 11111111-1111-1111-1111-111111111111 shard 00000000000000000000000000000001 41\n",
-        ),
-        (
-            "reclaimable --page 64 --pages 4 --extents 3 disk.img --accept spare",
-            0,
-            "accepted spare 1 0 3 11111111-1111-1111-1111-111111111111 shard 00000000000000000000000000000001 41\nreclaim 1 41\nroom 1 41 215\n",
-        ),
-    ] {
-        check(&rt, alloc, words, image(&disk), (status, lines, ""))?;
-    }
-    Ok(())
+    let line = "spare 1 0 3 11111111-1111-1111-1111-111111111111 shard 00000000000000000000000000000001 41";
+    let mut words = vec![in alloc;
+        "reclaimable", "--page=64", "--pages=4", "--extents=3", "disk.img"
+    ]?;
+    let doubt = format!(in alloc; "doubt {line}\n")?;
+    check_words(&rt, alloc, &words, image(&disk), (1, &doubt, ""))?;
+    words.extend_from_slice(&["--accept", line])?;
+    let accepted = format!(in alloc; "accepted {line}\nreclaim 1 41\nroom 1 41 215\n")?;
+    check_words(&rt, alloc, &words, image(&disk), (0, &accepted, ""))
 }
 
 /// One superblock record on pages 0 and 1 of extent 0.

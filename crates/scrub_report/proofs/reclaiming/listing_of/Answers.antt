@@ -11,9 +11,9 @@ pub returns-clause-text : goal.returns-clause-text
 returns-clause-text g c =
     let are = c.in_ok-parts.ensures in
     let parts = c.in_ok-parts.parts in
-    let accepted = c.args.accepted in
+    let accepted = c.args.accepted.now in
     let list = c.in_ok-doubts.doubts.items in
-    let clear = c.are_accepted-is_clear.result in
+    let clear = c.in_ok-is_clear.is_clear in
     let lines = c.in_ok-text.text.items in
     let text = c.append_rooms_for.new.text.items in
     let is : clear ≡ are_accepted accepted list = search rules in
@@ -34,9 +34,9 @@ pub returns-clause-clear : goal.returns-clause-clear
 returns-clause-clear g c =
     let are = c.in_ok-parts.ensures in
     let parts = c.in_ok-parts.parts in
-    let accepted = c.args.accepted in
+    let accepted = c.args.accepted.now in
     let list = c.in_ok-doubts.doubts.items in
-    let clear = c.are_accepted-is_clear.result in
+    let clear = c.in_ok-is_clear.is_clear in
     let is : clear ≡ are_accepted accepted list = search rules in
     record {
       found = found_in parts are.read;
