@@ -25,7 +25,7 @@ from pathlib import Path
 from typing import NamedTuple
 from disks import MAGIC, Disk, run, sealed_frame, shard, uuid
 from hold import Made
-from reference import Image, doubts_of, scrub
+from reference import Image, doubts_of, scrub_all
 
 TOP = Path(__file__).resolve().parent.parent
 SUMMARY, CHANGES = TOP / "view/summary.jq", TOP / "view/changes.jq"
@@ -229,8 +229,9 @@ def small_disks():
 
 def by_reference(name, made, unreadable):
     image = Image(bytes(made.raw), made.p, made.n, made.e, unreadable)
-    report = json.loads(json.dumps(scrub(image)[0]))
-    return Scanned(name, report, in_report([list(map(str, words)) for words in doubts_of(image, report)]))
+    report, *_, spares = scrub_all(image)
+    report = json.loads(json.dumps(report))
+    return Scanned(name, report, in_report([list(map(str, words)) for words in doubts_of(image, report, spares)]))
 
 
 # How numbers and lists are written

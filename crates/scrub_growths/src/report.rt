@@ -21,8 +21,9 @@ shard 00000000000000000000000000000001 1 0 3 11111111-1111-1111-1111-11111111111
 
 /// What may be reclaimed on the disk of twins and a shared place: two shards name the one chunk to move.
 const RECLAIMABLE: &str = "reclaim 1 41
-move 1 41 3 11111111-1111-1111-1111-111111111111 shard 00000000000000000000000000000001
-move 1 41 3 11111111-1111-1111-1111-111111111111 shard 00000000000000000000000000000002
+move 1 41 3 11111111-1111-1111-1111-111111111111 shard 00000000000000000000000000000001 41
+move 1 41 3 11111111-1111-1111-1111-111111111111 shard 00000000000000000000000000000002 41
+room 1 82 174
 ";
 
 /// Whether an answer has this report and index, and is clean or not.
@@ -96,16 +97,10 @@ pub fn list_reclaimable<R: Threads + Wait + Sync>(
     requires { workers ≤ 64 }
 {
     let (disk, _) = twins_and_shared(alloc)?;
-    let accepted = Accepted {
-        superblock_damaged: false,
-        superblock_stray: false,
-        spare: false,
-        tail: false,
-        tail_lost: false,
-    };
+    let accepted = Accepted::new(&[]);
     wanted.made()?;
     let (listing, takings) = scrub_report::list_reclaimable(
-        rt, alloc, &disk, workers, &NoGate, accepted,
+        rt, alloc, &disk, workers, &NoGate, &accepted,
     )?;
     right(
         listing.text.as_slice() == RECLAIMABLE.as_bytes()

@@ -6,7 +6,8 @@ use crate::support::disks::{
 };
 use crate::support::reported::lists_of;
 use scrub_check::{
-    Candidate, Checked, Found, KeptChunk, Owner, Place, Status, dangling, find_start, hidden, live_bytes,
+    Candidate, Checked, Found, KeptChunk, Owner, Place, Status, dangling, find_start, hidden,
+    live_bytes,
 };
 use scrub_disk::MemDisk;
 use scrub_fakes::{ENDS_IN_MAGIC, ONES, abc_at, plan_of};

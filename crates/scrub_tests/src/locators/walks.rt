@@ -11,7 +11,8 @@ use crate::support::compare::same;
 use crate::support::disks::{Worked, nine_locators};
 use crate::support::reported::checked_of;
 use scrub_check::{
-    Candidate, Checked, KeptChunk, Place, SharedPlace, Status, candidates, find_start, orphans, shared, twins,
+    Candidate, Checked, KeptChunk, Place, SharedPlace, Status, candidates, find_start, orphans,
+    shared, twins,
 };
 use scrub_disk::{MemDisk, PageSource};
 use scrub_fakes::{mark_bad, plan_of, put};

@@ -15,8 +15,8 @@ use std::thread::Threads;
 pub(crate) enum Which {
     /// The named locators.
     Locators,
-    /// What may be reclaimed, with these kinds of doubt accepted.
-    Reclaimable(Accepted),
+    /// What may be reclaimed, with these kinds and lines of doubts accepted.
+    Reclaimable(&'static [&'static str]),
 }
 
 /// A listing, and which worker took which extents for it.
@@ -29,14 +29,8 @@ pub(crate) struct Listing {
     pub(crate) takings: Takings,
 }
 
-/// No kind of doubt.
-pub(crate) const NONE: Accepted = Accepted {
-    superblock_damaged: false,
-    superblock_stray: false,
-    spare: false,
-    tail: false,
-    tail_lost: false,
-};
+/// No doubt.
+pub(crate) const NONE: &[&str] = &[];
 
 /// A listing of a disk, by `workers` workers and the caller.
 fn answer<D: PageSource, G: Gate, R: Threads + Wait + Sync>(
@@ -59,7 +53,14 @@ fn answer<D: PageSource, G: Gate, R: Threads + Wait + Sync>(
             })
         }
         Which::Reclaimable(accepted) => {
-            let (listing, takings) = list_reclaimable(rt, alloc, disk, workers, gate, accepted)?;
+            let (listing, takings) = list_reclaimable(
+                rt,
+                alloc,
+                disk,
+                workers,
+                gate,
+                &Accepted::new(accepted),
+            )?;
             Ok(Listing {
                 text: listing.text,
                 is_good: listing.is_clear,

@@ -6,19 +6,18 @@ use crate::support::disks::{Worked, put_run};
 use scrub_disk::MemDisk;
 use scrub_fakes::{ONES, TWOS, put_chunk, put_superblock, small_disk};
 use scrub_pool::NoGate;
-use scrub_report::Accepted;
 use std::alloc::Global;
 use std::process::Abort;
 use std::sync::Wait;
 use std::test::Fail;
 use std::thread::Threads;
 
-/// Checks the lines of a disk, with these kinds of doubt accepted.
+/// Checks the lines of a disk, with these kinds and lines of doubts accepted.
 fn check<R: Threads + Wait + Abort + Sync>(
     rt: &R,
     alloc: Global,
     disk: &MemDisk,
-    accepted: Accepted,
+    accepted: &'static [&'static str],
     text: &str,
 ) -> Result<(), Fail> {
     let listing = listing_of(rt, alloc, disk, 1, &NoGate, Which::Reclaimable(accepted))?;
@@ -41,7 +40,8 @@ fn each_owner_of_a_run_to_keep_has_a_line(rt: HostRuntime) -> Result<(), Fail> {
     let lines = concat!(
         "reclaim 2 98\n",
         "move 2 98 57 22222222-2222-2222-2222-222222222222 run 0 95\n",
-        "move 2 98 57 22222222-2222-2222-2222-222222222222 run 1 95\n"
+        "move 2 98 57 22222222-2222-2222-2222-222222222222 run 1 95\n",
+        "room 1 0 256\n"
     );
     check(
         &rt,
@@ -52,22 +52,15 @@ fn each_owner_of_a_run_to_keep_has_a_line(rt: HostRuntime) -> Result<(), Fail> {
     )
 }
 
-const DAMAGED: Accepted = Accepted {
-    superblock_damaged: true,
-    ..NONE
-};
+const DAMAGED: &[&str] = &["superblock-damaged"];
 
-const DAMAGED_OR_STRAY: Accepted = Accepted {
-    superblock_stray: true,
-    ..DAMAGED
-};
+const DAMAGED_OR_STRAY: &[&str] = &["superblock-damaged", "superblock-stray"];
 
-const TAIL: Accepted = Accepted { tail: true, ..NONE };
+const TAIL: &[&str] = &["tail"];
 
-const TAIL_LOST: Accepted = Accepted {
-    tail_lost: true,
-    ..NONE
-};
+const TAIL_LOST: &[&str] = &["tail-lost"];
+
+const ONE_RANGE: &[&str] = &["tail-lost 1 3 3"];
 
 /// A disk with one chunk past the pointer.
 const WRITTEN: Worked = Worked::PastThePointer;
@@ -75,10 +68,10 @@ const WRITTEN: Worked = Worked::PastThePointer;
 /// A disk with unreadable pages past the pointer of extent 1.
 const UNREADABLE: Worked = Worked::Without(1, &[0, 1, 3]);
 
-/// A disk, the accepted kinds of doubt, and the lines.
-type Row = (Worked, Accepted, &'static str);
+/// A disk, the accepted kinds and lines of doubts, and the lines.
+type Row = (Worked, &'static [&'static str], &'static str);
 
-const ROWS: [Row; 17] = [
+const ROWS: [Row; 18] = [
     // Each owner of a chunk to keep has a line.
     (
         Worked::TwinsAndShared,
@@ -86,7 +79,8 @@ const ROWS: [Row; 17] = [
         concat!(
             "reclaim 1 41\n",
             "move 1 41 3 11111111-1111-1111-1111-111111111111 shard 00000000000000000000000000000001 41\n",
-            "move 1 41 3 11111111-1111-1111-1111-111111111111 shard 00000000000000000000000000000002 41\n"
+            "move 1 41 3 11111111-1111-1111-1111-111111111111 shard 00000000000000000000000000000002 41\n",
+            "room 1 82 174\n"
         ),
     ),
     (
@@ -94,10 +88,15 @@ const ROWS: [Row; 17] = [
         NONE,
         concat!(
             "reclaim 1 41\n",
-            "move 1 41 3 11111111-1111-1111-1111-111111111111 shard 00000000000000000000000000000001 41\n"
+            "move 1 41 3 11111111-1111-1111-1111-111111111111 shard 00000000000000000000000000000001 41\n",
+            "room 2 155 101\n"
         ),
     ),
-    (Worked::DeletedInTheNewestRun, NONE, "reclaim 1 41\n"),
+    (
+        Worked::DeletedInTheNewestRun,
+        NONE,
+        "reclaim 1 41\nroom 3 155 101\n",
+    ),
     // With a superblock in doubt, nothing may be reclaimed.
     (Worked::Zeros, NONE, "doubt no-superblock\n"),
     (Worked::TwoSuperblocks(7), NONE, "doubt tie\n"),
@@ -141,6 +140,11 @@ const ROWS: [Row; 17] = [
         UNREADABLE,
         TAIL,
         "doubt tail-lost 1 0 1\ndoubt tail-lost 1 3 3\n",
+    ),
+    (
+        UNREADABLE,
+        ONE_RANGE,
+        "doubt tail-lost 1 0 1\naccepted tail-lost 1 3 3\n",
     ),
     (
         UNREADABLE,

@@ -33,7 +33,8 @@ fn halved(rt: &impl Abort, alloc: Global) -> Result<MemDisk, Fail> {
     Ok(disk)
 }
 
-/// The lines of that disk: its run and its shards, or its extents to reclaim, each with the chunk to move.
+/// The lines of that disk: its run and its shards, or its extents to reclaim, each with the chunk to move, and the room behind
+/// its run.
 fn lines(alloc: Global, which: Which) -> Result<String, Fail> {
     let mut text = match which {
         Which::Locators => {
@@ -49,10 +50,13 @@ fn lines(alloc: Global, which: Which) -> Result<String, Fail> {
         let line = match which {
             Which::Locators => format!(in alloc; "shard {byte:032x} {byte} 0 3 {uuid} sound\n")?,
             Which::Reclaimable(_) => {
-                format!(in alloc; "reclaim {byte} 41\nmove {byte} 0 3 {uuid} shard {byte:032x}\n")?
+                format!(in alloc; "reclaim {byte} 41\nmove {byte} 0 3 {uuid} shard {byte:032x} 41\n")?
             }
         };
         text.push_str(&line)?;
+    }
+    if matches!(which, Which::Reclaimable(_)) {
+        text.push_str("room 39 3004 1092\n")?;
     }
     Ok(text)
 }
