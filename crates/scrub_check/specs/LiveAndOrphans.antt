@@ -5,7 +5,6 @@ use Rattle.std.specs.List.{filter, filter_map, sum_by}
 use Rattle.std.specs.List.Sorted.{IsSorted}
 use Rattle.scrub_disk.specs.declared.geometry.Geometry.{Geometry}
 use Rattle.scrub_scan.specs.declared.item.Item.{Item}
-use Rattle.scrub_scan.specs.Item.{start_of}
 use Rattle.scrub_scan.specs.Scanned.{Scanned}
 use Rattle.scrub_check.specs.declared.statuses.checked.Checked.{Checked}
 use Rattle.scrub_check.specs.declared.lists.cursor.Cursor.{Cursor}

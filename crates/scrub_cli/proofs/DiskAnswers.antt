@@ -1,5 +1,5 @@
 -- Why no disk is loaded from an image file, or what is, from what the parts of `load_disk` give.
-use Rattle.std.proofs.Common.{◌≡◌, arith, ◌<◌, ◌≤◌, ◌-◌, ℕ, List, length, Option, IfSome}
+use Rattle.std.proofs.Common.{◌≡◌, arith, ◌<◌, ◌≤◌, ℕ, List, length, Option, IfSome}
 use Rattle.std.specs.Borrow.{Bor}
 use Rattle.scrub_disk.specs.declared.geometry.Geometry.{Geometry as Sizes}
 use Rattle.scrub_disk.specs.declared.loading.LoadFault.{LoadFault}

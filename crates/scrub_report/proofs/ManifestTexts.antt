@@ -300,9 +300,10 @@ same_runs : (l h l' h' : ℕ) → IsSmallNumber l → IsSmallNumber h → IsSmal
 same_runs l h l' h' sl sh sl' sh' e =
     let start = same_behind (codes "runs lost ") (decimal l ++ (32 ∷ (codes "hidden " ++ decimal h))) (decimal l' ++ (32 ∷ (codes "hidden " ++ decimal h')))
     (sym (runs_grouped (decimal l) (decimal h)) ∙ e ∙ runs_grouped (decimal l') (decimal h')) in
-    let both = cut 32 (decimal l) (decimal l') (codes "hidden " ++ decimal h) (codes "hidden " ++ decimal h') (not_space (decimal l) (decimal_word l sl)) (not_space (decimal l') (decimal_word l' sl')) start in
-    (decimal_injective l l' sl sl' both.0,
-     decimal_injective h h' sh sh' (same_behind (codes "hidden ") (decimal h) (decimal h') both.1))
+    let both = cut 32 (decimal l) (decimal l') (codes "hidden " ++ decimal h) (codes "hidden " ++ decimal h') (not_space (decimal l) (decimal_word l sl)) (not_space (decimal l') (decimal_word l' sl')) start in (
+      decimal_injective l l' sl sl' both.0,
+      decimal_injective h h' sh sh' (same_behind (codes "hidden ") (decimal h) (decimal h') both.1),
+    )
 
 -- ---- the line of a shard's locator
 

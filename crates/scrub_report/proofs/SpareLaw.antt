@@ -14,7 +14,7 @@ use Rattle.scrub_check.specs.Spares.{spares_of}
 use Rattle.scrub_report.specs.Doubts.{Accepted, doubts, frame_bytes, is_spare}
 use Rattle.scrub_report.specs.declared.doubts.Doubt.{Doubt}
 use Rattle.scrub_report.specs.declared.doubts.Doubt.TheVariants.{Spare}
-use Rattle.scrub_report.specs.Doubts.{are_accepted, choice_doubts, is_accepted, is_at_risk, page_doubts, run_doubts, spare_doubt, spare_doubts, spare_doubts_of, staying, superblock_damaged, superblock_lost, superblock_stray, tail_doubts, tail_lost_doubts}
+use Rattle.scrub_report.specs.Doubts.{choice_doubts, is_accepted, is_at_risk, page_doubts, run_doubts, spare_doubt, spare_doubts, spare_doubts_of, staying, superblock_damaged, superblock_lost, superblock_stray, tail_doubts, tail_lost_doubts}
 use Rattle.scrub_report.specs.Reclaimable.{AcceptsNoSpare, HasSafeSpare, KeepsSpares, is_clear, reclaimed}
 use Rattle.scrub_report.specs.Scrubbed.{Scrubbed}
 

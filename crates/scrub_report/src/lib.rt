@@ -44,7 +44,8 @@ pub use output::{WriteFault, write_out};
 pub use page_ranges::neighbouring_pages_are_joined;
 pub use reclaiming::{
     ReclaimListing, a_chunk_put_into_room_is_found, a_line_shows_room, a_reset_loses_nothing,
-    list_reclaimable, no_spare_is_taken, one_reclaim_listing, reclaimed_are_candidates, reclaiming_is_safe,
+    list_reclaimable, no_spare_is_taken, one_reclaim_listing, reclaimed_are_candidates,
+    reclaiming_is_safe,
 };
 pub use sizes_listing::{SizesListing, list_sizes, one_sizes_listing};
 pub use superblocks::{SuperblockListing, list_superblocks, one_superblock_listing};

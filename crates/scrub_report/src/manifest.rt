@@ -258,7 +258,14 @@ fn manifest_of<R: Threads + Sync, D: PageSource>(
     let (_runs, shards) = parts.checked.split_at(parts.plan.runs().len());
     let lost = lost_runs(&parts.runs);
     let hidden = hidden_runs(&parts.runs, &parts.checked);
-    let text = text_by(alloc, &parts.plan, lost, hidden, parts.map.bindings(), shards)?;
+    let text = text_by(
+        alloc,
+        &parts.plan,
+        lost,
+        hidden,
+        parts.map.bindings(),
+        shards,
+    )?;
     let is_whole = is_whole_by(&parts.plan, lost, hidden, shards);
     Ok(ManifestListing { text, is_whole })
 }

@@ -199,8 +199,12 @@ impl Spares {
             digest: locator.digest,
             length: locator.length,
         };
-        let below = self.found.partition_point(|one| content_of(one).cmp(&content).is_lt());
-        let through = self.found.partition_point(|one| content_of(one).cmp(&content).is_le());
+        let below = self
+            .found
+            .partition_point(|one| content_of(one).cmp(&content).is_lt());
+        let through = self
+            .found
+            .partition_point(|one| content_of(one).cmp(&content).is_le());
         &self.found[below..through]
     }
 }

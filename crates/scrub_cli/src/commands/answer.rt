@@ -147,7 +147,9 @@ pub fn disk_answer<R: Threads + Wait + Sync, D: PageSource>(
             Ok((Answer::new(manifest.text, manifest.is_whole), takings))
         }
         Wanted::Reclaimable(accepted) => {
-            let (listing, takings) = list_reclaimable(rt, alloc, disk, workers, &NoGate, &accepted)?;
+            let (listing, takings) = list_reclaimable(
+                rt, alloc, disk, workers, &NoGate, &accepted,
+            )?;
             Ok((Answer::new(listing.text, listing.is_clear), takings))
         }
     }

@@ -209,9 +209,14 @@ fn a_spare_that_a_reset_might_take(rt: HostRuntime) -> Result<(), Fail> {
     let alloc = rt.alloc();
     let payload = run_of(alloc, SHARD, &[abc_at(2, 200)])?;
     let disk = disk_with_run(alloc, &[(0, ONES, b"abc")], &payload, [41, 155])?;
-    let line = "spare 1 0 3 11111111-1111-1111-1111-111111111111 shard 00000000000000000000000000000001 41";
+    let line =
+        "spare 1 0 3 11111111-1111-1111-1111-111111111111 shard 00000000000000000000000000000001 41";
     let mut words = vec![in alloc;
-        "reclaimable", "--page=64", "--pages=4", "--extents=3", "disk.img"
+        "reclaimable",
+        "--page=64",
+        "--pages=4",
+        "--extents=3",
+        "disk.img",
     ]?;
     let doubt = format!(in alloc; "doubt {line}\n")?;
     check_words(&rt, alloc, &words, image(&disk), (1, &doubt, ""))?;
@@ -257,11 +262,7 @@ fn what_may_be_reclaimed_on_a_disk_with_one_shard(rt: HostRuntime) -> Result<(),
         (" 1:0", 1, "doubt tail-lost 1 0 0\n"),
         (" 1:1 1:2", 1, "doubt tail-lost 1 1 2\n"),
         (" 1:1 --accept tail", 1, "doubt tail-lost 1 1 1\n"),
-        (
-            " 1:1 --accept tail-lost",
-            0,
-            "accepted tail-lost 1 1 1\n",
-        ),
+        (" 1:1 --accept tail-lost", 0, "accepted tail-lost 1 1 1\n"),
     ] {
         let words = format!(in rt.alloc();
             "reclaimable --page 64 --pages 4 --extents 3 disk.img{words}"

@@ -1,5 +1,5 @@
 -- The line of the locator, and then that of its spares.
-use Rattle.std.proofs.Common.{◌≡◌, ◌++◌, List, ℕ, OnOk, subst}
+use Rattle.std.proofs.Common.{◌≡◌, ◌++◌, List, OnOk, subst}
 use Rattle.scrub_scan.specs.declared.standing.Standing.{Standing}
 use Rattle.scrub_report.specs.Locators.{locator_line, spare_line}
 use Rattle.scrub_report.proofs.FlatLists.{appended_ok}

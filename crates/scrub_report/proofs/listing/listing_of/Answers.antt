@@ -10,10 +10,14 @@ use Rattle.scrub_report.proofs.listing.listing_of.Goals as goal
 pub returns-clause-text : goal.returns-clause-text
 returns-clause-text g c =
     let are = c.in_ok-parts.ensures in
-    record { found = found_in c.in_ok-parts.parts are.read; scrubbed = are.scrubbed; text_is =
+    record {
+      found = found_in c.in_ok-parts.parts are.read;
+      scrubbed = are.scrubbed;
+      text_is =
           c.in_ok-text.ensures
           ∙ ap (flat_map (lines_by c.in_ok-spares.spares)) c.deref-2.ensures.value
-          ∙ all_with_spares c.in_ok-parts.parts.all.extents c.in_ok-parts.parts.checked.items c.in_ok-spares.spares (rw c.deref.ensures.value at c.in_ok-spares.ensures) }
+          ∙ all_with_spares c.in_ok-parts.parts.all.extents c.in_ok-parts.parts.checked.items c.in_ok-spares.spares (rw c.deref.ensures.value at c.in_ok-spares.ensures);
+    }
 
 pub returns-clause-clean : goal.returns-clause-clean
 returns-clause-clean g c =

@@ -1,5 +1,5 @@
 -- One more chunk, and at the end all.
-use Rattle.std.proofs.Common.{◌++◌, List, ℕ, get_or, refl, sym, ap, ◌∙◌}
+use Rattle.std.proofs.Common.{◌++◌, List, get_or, refl, ap, ◌∙◌}
 use Rattle.std.specs.List.{flat_map}
 use Rattle.scrub_check.specs.declared.lists.kept_chunk.KeptChunk.{KeptChunk}
 use Rattle.scrub_check.specs.declared.statuses.checked.Checked.{Checked}

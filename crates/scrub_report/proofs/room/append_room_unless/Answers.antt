@@ -1,6 +1,5 @@
 -- The sorted numbers say whether the extent is passed over.
-use Rattle.std.proofs.Common.{◌≡◌, ◌++◌, ◌==◌, ◌∙◌, ℕ, List, OnOk, ap, subst, sym}
-use Rattle.std.specs.List.{list_any}
+use Rattle.std.proofs.Common.{◌≡◌, ◌++◌, ℕ, List, OnOk, subst}
 use Rattle.scrub_scan.specs.Scanned.{scanned}
 use Rattle.scrub_report.proofs.RoomLines.{passed_over, taken_in}
 use Rattle.scrub_report.proofs.room.append_room_unless.Goals as goal

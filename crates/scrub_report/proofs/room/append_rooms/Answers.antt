@@ -1,5 +1,5 @@
 -- The lines of extents that aren't candidates, or if there is none those of all.
-use Rattle.std.proofs.Common.{◌≡◌, ◌≤◌, ◌++◌, ◌∙◌, [], List, ℕ, ap, arith, map}
+use Rattle.std.proofs.Common.{◌≡◌, ◌++◌, ◌∙◌, [], List, ℕ, ap, arith, map}
 use Rattle.std.specs.List.Sorted.{IsPermutation}
 use Rattle.scrub_check.specs.LocatorIndex.{AreBarredExtents}
 use Rattle.scrub_report.specs.Room.{rooms_but}

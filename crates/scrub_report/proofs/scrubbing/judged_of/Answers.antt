@@ -1,5 +1,5 @@
 -- The rows are those of the runs that were read.
-use Rattle.std.proofs.Common.{rules, ◌∙◌}
+use Rattle.std.proofs.Common.{rules}
 use Rattle.scrub_report.proofs.scrubbing.judged_of.Goals as goal
 
 pub check_named-requires-clause-statuses : goal.check_named-requires-clause-statuses

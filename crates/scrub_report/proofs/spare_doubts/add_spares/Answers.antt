@@ -1,7 +1,6 @@
 -- The sorted locators and extents say what all of them say.
 use Rattle.std.proofs.Common.{◌≡◌, ◌++◌, ◌∙◌, List, OnOk, ap, map, subst}
 use Rattle.std.specs.List.Sorted.{IsPermutation}
-use Rattle.scrub_scan.specs.declared.standing.Standing.{Standing}
 use Rattle.scrub_report.specs.Doubts.{staying}
 use Rattle.scrub_report.specs.Moves.{PointAlike}
 use Rattle.scrub_report.specs.declared.doubts.Doubt.{Doubt}

@@ -1,5 +1,5 @@
 -- Each way out of `load_disk`, in the order of the code.
-use Rattle.std.proofs.Common.{◌∙◌, ap, refl, Err, List}
+use Rattle.std.proofs.Common.{ap, refl, Err, List}
 use Rattle.std.proofs.lemmas.Result.{err_from_is_err_and}
 use Rattle.scrub_disk.specs.Parted.{image_of}
 use Rattle.scrub_cli.specs.DiskImage.{AreReadBefore}

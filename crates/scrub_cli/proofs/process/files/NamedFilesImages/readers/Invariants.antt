@@ -1,5 +1,5 @@
 -- The readers so far are fewer than the next number, and none has read.
-use Rattle.std.proofs.Common.{◌≡◌, ◌≤◌, ◌<◌, ◌+◌, ◌*◌, All, sum_by, vec_len}
+use Rattle.std.proofs.Common.{◌≡◌, ◌≤◌, ◌+◌, ◌*◌, All, sum_by, vec_len}
 use Rattle.scrub_cli.proofs.process.files.NamedFilesImages.readers.Given as goal
 
 abbrev pub invariant-loop : goal.invariant-loop
