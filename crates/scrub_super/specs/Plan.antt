@@ -1,5 +1,6 @@
 -- The contents of a plan, and how it follows from the superblock that counts, or from there being none.
-use Rattle.std.specs.Prelude.{◌≡◌, ◌-◌, ◌*◌, ◌==◌, ℕ, List, [], All, Bool, true, false, Option, None, MatchOption, if◌then◌else◌, replicate, slice_get}
+use Rattle.std.specs.Prelude.{◌≡◌, ◌+◌, ◌-◌, ◌*◌, ◌==◌, ℕ, List, [], All, Bool, true, false, Option, None, MatchOption, if◌then◌else◌, map, replicate, slice_get}
+use Rattle.std.specs.List.{enumerate_from, list_any}
 use Rattle.scrub_disk.specs.declared.geometry.Geometry.{Geometry}
 use Rattle.scrub_frame.specs.declared.locator.Locator.{Locator}
 use Rattle.scrub_super.specs.Planned.{ArePlanned, AreRetired, extents_in_use, is_in_use}
@@ -56,5 +57,22 @@ pub record IsRestricted (old : PlanValue) (extents : List ℕ) (new : PlanValue)
   pub geometry : new.geometry ≡ old.geometry
   pub retired : new.retired ≡ old.retired
   pub pointers : new.pointers ≡ old.pointers
+  pub runs : new.runs ≡ old.runs
+  pub has : new.has_superblock ≡ old.has_superblock
+
+-- the write pointer of the extent behind the i-th, but 0 if it is one of these extents
+abbrev pub pointer_reset : List ℕ → ℕ × ℕ → ℕ
+pointer_reset extents p = if list_any (λ e. e == p.0 + 1) extents then 0 else p.1
+
+-- the write pointers of extents 1, 2 and so on, but 0 for each of these extents
+abbrev pub pointers_reset : List ℕ → List ℕ → List ℕ
+pointers_reset extents pointers = map (pointer_reset extents) (enumerate_from 0 pointers)
+
+-- the same plan, but as if each of these extents had the write pointer 0
+pub record IsReset (old : PlanValue) (extents : List ℕ) (new : PlanValue) : Type 0 where
+  pub planned : new.planned ≡ old.planned
+  pub geometry : new.geometry ≡ old.geometry
+  pub retired : new.retired ≡ old.retired
+  pub pointers : new.pointers ≡ pointers_reset extents old.pointers
   pub runs : new.runs ≡ old.runs
   pub has : new.has_superblock ≡ old.has_superblock

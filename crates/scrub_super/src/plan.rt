@@ -1,8 +1,9 @@
 //! The plan of a scan: what to scan, and what the superblock says about it. `scrub_scan` follows it.
 
-ghost use Rattle.std.specs.Prelude.{◌≡◌, ◌==◌, ◌<◌, ◌≤◌, ◌*◌, All, Contains, IfOk, Some, true};
+ghost use Rattle.std.specs.Prelude.{◌≡◌, ◌==◌, ◌<◌, ◌≤◌, ◌-◌, ◌*◌, ◌^◌, All, Contains, IfOk, Some, length, true};
 ghost use Rattle.std.specs.List.{list_any};
 ghost use Rattle.std.specs.List.Sorted.{IsStrictlyIncreasing};
+ghost use Rattle.scrub_super.specs.Plan.{pointer_reset, pointers_reset};
 ghost use Rattle.scrub_super.specs.Planned.{extents_in_use};
 
 use crate::chosen::Chosen;
@@ -49,7 +50,7 @@ impl Model for Plan {
 impl Plan {
     ghost use Rattle.scrub_super.specs.Planned.{ArePlanned, AreRetired, is_in_use};
     ghost use Rattle.scrub_super.specs.Record.{AreRunLocators};
-    ghost use Rattle.scrub_super.specs.Plan.{pointer_of, IsPlanOf, IsRestricted};
+    ghost use Rattle.scrub_super.specs.Plan.{pointer_of, IsPlanOf, IsReset, IsRestricted};
 
     /// The plan of all extents except extent 0 and the retired ones, from the chosen superblock. If there is no superblock,
     /// each extent counts as full, none is retired, and there are no index runs.
@@ -88,6 +89,21 @@ impl Plan {
             planned: Vec::from_slice(alloc, extents)?,
             retired: Vec::from_slice(alloc, &self.retired)?,
             pointers: Vec::from_slice(alloc, &self.pointers)?,
+            runs: Vec::from_slice(alloc, &self.runs)?,
+            has_superblock: self.has_superblock,
+        })
+    }
+
+    /// The same plan, but as if each of these extents, which rise, had the write pointer 0. A retired extent stays retired.
+    pub fn with_resets(&self, alloc: Global, extents: &[u32]) -> Result<Plan, OutOfMemory>
+        requires rising { IsStrictlyIncreasing extents.now }
+        ensures { IfOk result (IsReset self.now extents.now) }
+    {
+        Ok(Plan {
+            geometry: self.geometry,
+            planned: Vec::from_slice(alloc, &self.planned)?,
+            retired: Vec::from_slice(alloc, &self.retired)?,
+            pointers: pointers_reset(alloc, extents, &self.pointers)?,
             runs: Vec::from_slice(alloc, &self.runs)?,
             has_superblock: self.has_superblock,
         })
@@ -159,6 +175,36 @@ fn has_extent(extents: &[u32], extent: u32) -> bool
     ensures { result ≡ list_any (λ e. e == extent) extents.now }
 {
     extents.binary_search(&extent).is_ok()
+}
+
+/// The write pointer of the extent behind the `i`th, but 0 if it is one of these extents, which rise.
+fn pointer_reset(extents: &[u32], i: usize, pointer: u32) -> u32
+    requires rising { IsStrictlyIncreasing extents.now }
+    requires small { i < 2 ^ 32 - 1 }
+    ensures { result ≡ pointer_reset extents.now (i, pointer) }
+{
+    if has_extent(extents, i as u32 + 1) {
+        0
+    } else {
+        pointer
+    }
+}
+
+/// The write pointers of extents 1, 2 and so on, but 0 for each of these extents, which rise.
+fn pointers_reset(
+    alloc: Global,
+    extents: &[u32],
+    pointers: &[u32],
+) -> Result<Vec<u32>, OutOfMemory>
+    requires rising { IsStrictlyIncreasing extents.now }
+    requires small { length pointers.now < 2 ^ 32 - 1 }
+    ensures { IfOk result (λ v. v.items ≡ pointers_reset extents.now pointers.now) }
+{
+    let mut reset = Vec::with_capacity(alloc, pointers.len())?;
+    for (i, pointer) in pointers.iter().enumerate() {
+        reset.push(pointer_reset(extents, i, *pointer))?;
+    }
+    Ok(reset)
 }
 
 /// All extents except extent 0 and the retired ones, rising.
