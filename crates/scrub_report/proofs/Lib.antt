@@ -7,6 +7,7 @@ pub mod ExtentTexts
 pub mod LocatorValues
 pub mod KeptEntries
 pub mod OneReader
+pub mod ResetPlans
 pub mod OneIndex
 pub mod OneReport
 pub mod Indexable

@@ -19,7 +19,7 @@ use Rattle.scrub_scan.proofs.Tilings.{one_tiling}
 
 -- ---- one plan
 
-same_plan : (p q : PlanValue) → p.geometry ≡ q.geometry → p.planned ≡ q.planned → p.retired ≡ q.retired →
+pub same_plan : (p q : PlanValue) → p.geometry ≡ q.geometry → p.planned ≡ q.planned → p.retired ≡ q.retired →
     p.pointers ≡ q.pointers → p.runs ≡ q.runs → p.has_superblock ≡ q.has_superblock → p ≡ q
 same_plan p q hg hp ht hw hr hs = λ i. record {
   geometry = hg i;

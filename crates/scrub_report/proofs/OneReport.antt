@@ -1,5 +1,5 @@
 -- An image has one report, one index and one verdict whether it is clean, since what is found on it is unique.
-use Rattle.std.proofs.Common.{◌≡◌, ℕ, List, sym, ◌∙◌, ap}
+use Rattle.std.proofs.Common.{◌≡◌, [], ℕ, List, sym, ◌∙◌, ap}
 use Rattle.scrub_disk.specs.Image.{Image}
 use Rattle.scrub_super.specs.Plan.{PlanValue}
 use Rattle.scrub_super.proofs.Laws.{one_choice_lem}
@@ -11,11 +11,12 @@ use Rattle.scrub_check.proofs.OneList.{one_list, one_shared, one_broken}
 use Rattle.scrub_report.specs.Answer.{AnswerValue, IsScrubAnswer, ArePlannedExtents}
 use Rattle.scrub_report.specs.Index.{index_entries}
 use Rattle.scrub_report.specs.Locators.{AreLocatorLines, locator_lines}
-use Rattle.scrub_report.specs.Manifest.{IsManifest, manifest_text}
+use Rattle.scrub_report.specs.Manifest.{IsManifestBut, manifest_text}
 use Rattle.scrub_report.specs.Report.{report_text}
-use Rattle.scrub_report.specs.Scrubbed.{Scrubbed, IsScrubbed, is_clean, is_in_doubt}
+use Rattle.scrub_report.specs.Scrubbed.{Scrubbed, IsScrubbed, IsScrubbedBut, is_clean, is_in_doubt}
 use Rattle.scrub_report.proofs.OneIndex.{one_list_of_runs, one_list_of_checked, read_runs_are_runs}
 use Rattle.scrub_report.proofs.OneReader.{one_plan, one_reader}
+use Rattle.scrub_report.proofs.ResetPlans.{one_plan_but}
 
 -- the same parts make the same whole
 same_parts : (s t : Scrubbed) → s.choice ≡ t.choice → s.plan ≡ t.plan → s.all ≡ t.all → s.read ≡ t.read →
@@ -34,14 +35,14 @@ same_parts s t hc hp ha hr hb hk hs hx hd = λ i. record {
 }
 
 -- each part is determined by those before it
-pub one_scrub : (image : Image) (s t : Scrubbed) → IsScrubbed image s → IsScrubbed image t → s ≡ t
-one_scrub image s t x y = same_parts s t choice plan all read bindings checked shared broken candidates
+pub one_scrub_but : (resets : List ℕ) (image : Image) (s t : Scrubbed) → IsScrubbedBut resets image s → IsScrubbedBut resets image t → s ≡ t
+one_scrub_but resets image s t x y = same_parts s t choice plan all read bindings checked shared broken candidates
   where
     choice : s.choice ≡ t.choice
     choice = one_choice_lem image s.choice t.choice x.choice y.choice
 
     plan : s.plan ≡ t.plan
-    plan = one_plan t.choice s.plan t.plan (rw choice at x.plan) y.plan
+    plan = one_plan_but resets t.choice s.plan t.plan (rw choice at x.plan) y.plan
 
     all : s.all ≡ t.all
     all = one_reader image t.plan s.all t.all (rw plan at x.all) y.all
@@ -73,6 +74,9 @@ one_scrub image s t x y = same_parts s t choice plan all read bindings checked s
         one_list t.plan t.all t.checked (is_in_doubt t.choice t.read) s.candidates t.candidates (same x.candidates)
         y.candidates
 
+pub one_scrub : (image : Image) (s t : Scrubbed) → IsScrubbed image s → IsScrubbed image t → s ≡ t
+one_scrub = one_scrub_but []
+
 -- and one list of planned extents
 pub one_planned : (image : Image) (planned others : List ℕ) → ArePlannedExtents image planned →
     ArePlannedExtents image others → planned ≡ others
@@ -97,7 +101,7 @@ one_listing image a b x y =
     x.text_is ∙ ap (λ (s : Scrubbed). locator_lines s.all s.checked) (one_scrub image x.found y.found x.scrubbed y.scrubbed)
     ∙ sym y.text_is
 
--- and one manifest
-pub one_manifest_lem : (image : Image) (a b : List ℕ) → IsManifest image a → IsManifest image b → a ≡ b
-one_manifest_lem image a b x y =
-    x.text_is ∙ ap manifest_text (one_scrub image x.found y.found x.scrubbed y.scrubbed) ∙ sym y.text_is
+-- and one manifest, for each list of resets
+pub one_manifest_lem : (resets : List ℕ) (image : Image) (a b : List ℕ) → IsManifestBut resets image a → IsManifestBut resets image b → a ≡ b
+one_manifest_lem resets image a b x y =
+    x.text_is ∙ ap manifest_text (one_scrub_but resets image x.found y.found x.scrubbed y.scrubbed) ∙ sym y.text_is

@@ -1,13 +1,19 @@
 -- What is named on a disk is the same after a reset of extents that no named locator points into.
-use Rattle.std.proofs.Common.{◌≡◌, ◌≢◌, ◌==◌, ◌&&◌, ℕ, Bool, is_none, true, false, Option, Some, None, MatchBool, MatchOption, List, [], ◌∷◌, ◌++◌, ◌+◌, length, get_or, arith, refl, sym, ◌∙◌, ap, subst}
+use Rattle.std.proofs.Common.{◌≡◌, ◌≢◌, ◌⊎◌, inl, inr, ◌==◌, ◌&&◌, ◌||◌, ◌≤◌, ◌-◌, ℕ, zero, suc, map, if◌then◌else◌, Bool, is_none, true, false, Option, Some, None, MatchBool, MatchOption, List, [], ◌∷◌, ◌++◌, ◌+◌, length, get_or, arith, refl, sym, ◌∙◌, ap, subst}
 use Rattle.std.proofs.Math.Path.{ap₂, fun_ext}
-use Rattle.std.specs.List.{All, AllZip, Contains, count_by, flat_map, list_any}
+use Rattle.std.specs.List.{All, AllZip, Contains, count_by, enumerate_from, flat_map, list_any, slice_get}
+use Rattle.std.specs.Option.{option_map}
+use Rattle.std.proofs.lemmas.Bool.{eq-eqb, eqb-true, false≢true}
+use Rattle.std.proofs.lemmas.List.Folds.{list_any_at}
+use Rattle.std.proofs.lemmas.Option.{same_Some, slice_get-map}
+use Rattle.std.proofs.lemmas.Grind.{common_steps}
 use Rattle.std.proofs.lemmas.List.Elements.{All-contains, All-contains_itself, All-cons, All-head, All-map, All-tail}
 use Rattle.scrub_disk.specs.declared.geometry.Geometry.{Geometry}
 use Rattle.scrub_disk.specs.Image.{Image, byte}
 use Rattle.scrub_frame.specs.Frame.{least_overhead}
 use Rattle.scrub_frame.specs.declared.locator.Locator.{Locator}
-use Rattle.scrub_super.specs.Plan.{PlanValue, pointer_of}
+use Rattle.scrub_super.specs.Chosen.{Choice}
+use Rattle.scrub_super.specs.Plan.{IsPlanOf, IsReset, PlanValue, pointer_of, pointer_reset, pointers_reset}
 use Rattle.scrub_super.proofs.Laws.{one_choice_lem}
 use Rattle.scrub_scan.specs.Extent.{Extent, extent_of, FrameAt, NoFrameAt, HasGap}
 use Rattle.scrub_run.specs.Entry.{EntryValue}
@@ -29,10 +35,10 @@ use Rattle.scrub_check.specs.Status.{BeginsAt, CanStand, FindsFrame, HasStatus, 
 use Rattle.scrub_check.proofs.OneList.{one_shared, one_broken}
 use Rattle.scrub_report.specs.Doubts.{Accepted}
 use Rattle.scrub_report.specs.Index.{IsIndex, index_entries}
-use Rattle.scrub_report.specs.Manifest.{IsManifest, is_of_read_run, manifest_text, of_shards, text_by}
+use Rattle.scrub_report.specs.Manifest.{IsManifest, IsManifestBut, is_of_read_run, manifest_text, of_shards, text_by}
 use Rattle.scrub_report.specs.Reclaimable.{IsMoved, moves, reclaimed}
-use Rattle.scrub_report.specs.Reset.{IsAfterReset, IsListedWithoutMoves, IsPlanAfterReset, IsPlanIn, IsReclaimed, NameTheSame}
-use Rattle.scrub_report.specs.Scrubbed.{Scrubbed, IsScrubbed}
+use Rattle.scrub_report.specs.Reset.{IsAfterReset, IsForeseen, IsListedWithoutMoves, IsPlanAfterReset, IsPlanIn, IsReclaimed, NameTheSame}
+use Rattle.scrub_report.specs.Scrubbed.{IsPlanBut, Scrubbed, IsScrubbed, IsScrubbedBut}
 use Rattle.scrub_report.proofs.Clear.{safe_to_reclaim}
 use Rattle.scrub_report.proofs.OneIndex.{one_list_of_runs, one_list_of_checked, read_runs_are_runs}
 use Rattle.scrub_report.proofs.OneReader.{one_plan}
@@ -132,6 +138,38 @@ loss_in_retired image other l sizes (BadChunk s) h = status_in_retired image oth
 loss_in_retired image other l sizes Read h = h
 loss_in_retired image other l sizes NotARun h = h
 
+-- ---- under the pointer 0
+
+-- no frame ends at or before 0
+no_frame : (l : Locator) → l.offset + l.length + least_overhead ≤ 0 → ⊥
+no_frame l below = omega (arith, below)
+
+status_at_zero : (image other : Image) (l : Locator) → other.geometry ≡ image.geometry → (s : Status) → HasStatus image 0 l s →
+    HasStatus other 0 l s
+status_at_zero image other l sizes OutOfRange h = λ r. h (in_range other.geometry image.geometry l (sym sizes) r)
+status_at_zero image other l sizes Retired h = h
+status_at_zero image other l sizes PastPointer h = (in_range image.geometry other.geometry l sizes h.0, h.1)
+status_at_zero image other l sizes Unreadable h = absurd (no_frame l h.1)
+status_at_zero image other l sizes NoFrame h = absurd (no_frame l h.0.below)
+status_at_zero image other l sizes WrongUuid (u, (b, f, differs)) = absurd (no_frame l f.can.below)
+status_at_zero image other l sizes WrongLength (b, f, differs) = absurd (no_frame l f.can.below)
+status_at_zero image other l sizes WrongDigest (b, f, same, differs) = absurd (no_frame l f.can.below)
+status_at_zero image other l sizes Hidden h = absurd (no_frame l h.0.found.can.below)
+status_at_zero image other l sizes Sound h = absurd (no_frame l h.0.found.can.below)
+
+no_run : {image : Image} (l : Locator) (es : List EntryValue) → NamesRun image 0 l es → ⊥
+no_run l es n = no_frame l n.names.found.can.below
+
+run_at_zero : (image other : Image) (l : Locator) (r : Option (List EntryValue)) → IsRunOf image 0 l r → IsRunOf other 0 l r
+run_at_zero image other l (Some es) h = absurd (no_run l es h)
+run_at_zero image other l None h = λ es n. no_run l es n
+
+state_at_zero : (image other : Image) (l : Locator) → other.geometry ≡ image.geometry → (s : RunState) → HasRunState image 0 l s →
+    HasRunState other 0 l s
+state_at_zero image other l sizes Read h = absurd (no_run l h.0 h.1)
+state_at_zero image other l sizes (BadChunk s) h = (status_at_zero image other l sizes s h.0, λ n. no_frame l n.found.can.below)
+state_at_zero image other l sizes NotARun h = absurd (no_frame l h.0.found.can.below)
+
 -- ---- what rests on one extent of a plan
 
 no_pointer : (plan : PlanValue) (w : ℕ) → pointer_of plan 0 ≡ Some w → ⊥
@@ -141,20 +179,21 @@ no_pointer plan w e = none e
     none h = cc
 
 -- extent e is the same by two plans of two images: it is retired in both or in neither, has the same write pointer, and
--- the same bytes unless it is extent 0
+-- the same bytes unless it is extent 0 or that pointer is 0
 record IsTheSame (image other : Image) (old new : PlanValue) (e : ℕ) : Type 0 where
   sizes : other.geometry ≡ image.geometry
   retired : new.retired ≡ old.retired
   pointer : pointer_of new e ≡ pointer_of old e
-  bytes : e ≢ 0 → byte other e ≡ byte image e
+  bytes : e ≢ 0 → (pointer_of old e ≡ Some 0) ⊎ (byte other e ≡ byte image e)
 
 -- an extent with a write pointer isn't extent 0
 alike : {image other : Image} {old new : PlanValue} {e : ℕ} → IsTheSame image other old new e → (w : ℕ) →
-    pointer_of old e ≡ Some w → AreAlike image other e
-alike {old = old} {e = e} t w is = record {
-  sizes = t.sizes;
-  bytes = t.bytes (λ zero. no_pointer old w (subst (λ n. pointer_of old n ≡ Some w) zero is));
-}
+    pointer_of old e ≡ Some w → (w ≡ 0) ⊎ AreAlike image other e
+alike {image} {other} {old} {new} {e} t w is = by (t.bytes (λ zero. no_pointer old w (subst (λ n. pointer_of old n ≡ Some w) zero is)))
+  where
+    by : (pointer_of old e ≡ Some 0) ⊎ (byte other e ≡ byte image e) → (w ≡ 0) ⊎ AreAlike image other e
+    by (inl none) = inl (same_Some w 0 (sym is ∙ none))
+    by (inr bytes) = inr (record { sizes = t.sizes; bytes = bytes })
 
 -- what is said of an extent by a plan, if it is retired, if it has no pointer, and under its pointer, can be said by the
 -- other
@@ -178,23 +217,32 @@ module _ (R R' N : Type 0) (U U' : ℕ → Type 0) (old new : PlanValue) (e : �
       (sym retired) (by_plan (is_retired old e) h)
 
 module _ {image other : Image} {old new : PlanValue} (l : Locator) (t : IsTheSame image other old new l.extent) where
+  -- under the pointer 0, or with the same bytes
+  under_pointer : (U U' : ℕ → Type 0) → (U 0 → U' 0) → ((w : ℕ) → AreAlike image other l.extent → U w → U' w) → (w : ℕ) →
+      pointer_of old l.extent ≡ Some w → U w → U' w
+  under_pointer U U' at_zero alike_then w is = by (alike t w is)
+    where
+      by : (w ≡ 0) ⊎ AreAlike image other l.extent → U w → U' w
+      by (inl none) h = subst U' (sym none) (at_zero (subst U none h))
+      by (inr a) h = alike_then w a h
+
   status_in : (s : Status) → HasStatusIn image old l s → HasStatusIn other new l s
   status_in s =
       carried (HasStatusInRetired image l s) (HasStatusInRetired other l s) (s ≡ OutOfRange) (λ w. HasStatus image w l s)
       (λ w. HasStatus other w l s) old new l.extent t.retired t.pointer (status_in_retired image other l t.sizes s)
-      (λ w is. status image other w l (alike t w is) s)
+      (under_pointer (λ w. HasStatus image w l s) (λ w. HasStatus other w l s) (status_at_zero image other l t.sizes s) (λ w a. status image other w l a s))
 
   run_in : (r : Option (List EntryValue)) → IsRunIn image old l r → IsRunIn other new l r
   run_in r =
       carried (r ≡ None) (r ≡ None) (r ≡ None) (λ w. IsRunOf image w l r) (λ w. IsRunOf other w l r) old new l.extent t.retired
-      t.pointer (λ h. h) (λ w is. run_of image other w l (alike t w is) r)
+      t.pointer (λ h. h) (under_pointer (λ w. IsRunOf image w l r) (λ w. IsRunOf other w l r) (run_at_zero image other l r) (λ w a. run_of image other w l a r))
 
   state_in : (s : RunState) → HasRunStateIn image old l s → HasRunStateIn other new l s
   state_in s =
       carried (IsLostInRetired image l s) (IsLostInRetired other l s) (s ≡ BadChunk OutOfRange)
       (λ w. HasRunState image w l s) (λ w. HasRunState other w l s) old new l.extent t.retired t.pointer
       (loss_in_retired image other l t.sizes s)
-      (λ w is. state image other w l (alike t w is) s)
+      (under_pointer (λ w. HasRunState image w l s) (λ w. HasRunState other w l s) (state_at_zero image other l t.sizes s) (λ w a. state image other w l a s))
 
 -- ---- lists
 
@@ -248,7 +296,7 @@ module _ (extents : List ℕ) (before after : Image) (found rest : Scrubbed) (x 
     sizes = r.sizes;
     retired = plans_of.retired;
     pointer = plans_of.pointers e other;
-    bytes = λ nonzero. fun_ext (λ p. r.bytes e p nonzero other);
+    bytes = λ nonzero. inr (fun_ext (λ p. r.bytes e p nonzero other));
   }
 
   all_the_same : (accepted : Accepted) → All (IsListedWithoutMoves before accepted) extents →
@@ -267,7 +315,7 @@ module _ (extents : List ℕ) (before after : Image) (found rest : Scrubbed) (x 
 
 -- ---- what is named is the same
 
-module _ (before after : Image) (found rest : Scrubbed) (x : IsScrubbed before found) (y : IsScrubbed after rest)
+module _ (resets : List ℕ) (before after : Image) (found rest : Scrubbed) (x : IsScrubbedBut resets before found) (y : IsScrubbed after rest)
     (has : rest.plan.has_superblock ≡ found.plan.has_superblock) (runs : rest.plan.runs ≡ found.plan.runs) (retired : rest.plan.retired ≡ found.plan.retired)
     (same : All (λ (c : Checked). IsTheSame before after found.plan rest.plan c.locator.extent) found.checked) where
   abbrev Same : Locator → Type 0
@@ -334,6 +382,140 @@ same_text found rest same i =
     of has retired read bindings checked =
         text_by has retired (count_by is_none read.runs) (count_by (λ c. is_hidden c.status && is_of_read_run read.runs c.owner) checked) bindings (of_shards checked)
 
+-- ---- a reset that is foreseen
+
+-- whether a number is among these
+among_cases : (extents : List ℕ) (e : ℕ) →
+    (list_any (λ n. n == e) extents ≡ true) ⊎ ((list_any (λ n. n == e) extents ≡ false) × (¬ Contains extents e))
+among_cases extents e = by (list_any (λ n. n == e) extents) refl
+  where
+    by : (b : Bool) → list_any (λ n. n == e) extents ≡ b →
+        (list_any (λ n. n == e) extents ≡ true) ⊎ ((list_any (λ n. n == e) extents ≡ false) × (¬ Contains extents e))
+    by true is = inl is
+    by false is = inr (is, λ there. false≢true (sym is ∙ list_any_at (λ n. n == e) extents there.0 e there.1 (eq-eqb (get_or extents there.0 e) e there.2)))
+
+-- what an element passes, all that is said of each element says of it
+said_of : (P : ℕ → Type 0) (extents : List ℕ) (e : ℕ) → All P extents → list_any (λ n. n == e) extents ≡ true → P e
+said_of P [] e all is = absurd (false≢true is)
+said_of P (n ∷ ns) e all is = by (n == e) refl is (said_of P ns e (All-tail P n ns all))
+  where
+    by : (b : Bool) → (n == e) ≡ b → (b || list_any (λ m. m == e) ns) ≡ true → (list_any (λ m. m == e) ns ≡ true → P e) → P e
+    by true same is rest = subst P (eqb-true n e same) (All-head P n ns all)
+    by false other is rest = rest is
+
+-- the pointer of an extent in a plan with resets
+reset_pointer : (extents pointers : List ℕ) (k : ℕ) →
+    slice_get (pointers_reset extents pointers) k ≡ option_map (λ w. if list_any (λ n. n == k + 1) extents then 0 else w) (slice_get pointers k)
+reset_pointer extents pointers k =
+    slice_get-map (pointer_reset extents) (enumerate_from 0 pointers) k ∙ ap (option_map (pointer_reset extents))
+    (numbered 0 pointers k ∙ ap (λ (n : ℕ). option_map (λ (w : ℕ). (n, w)) (slice_get pointers k)) (let e : 0 + k ≡ k = omega arith in e))
+    ∙ joined (slice_get pointers k)
+  where
+    numbered : (m : ℕ) (ws : List ℕ) (i : ℕ) → slice_get (enumerate_from m ws) i ≡ option_map (λ w. (m + i, w)) (slice_get ws i)
+    numbered m [] i = refl
+    numbered m (w ∷ ws) zero = ap (λ (n : ℕ). Some (n, w)) (let e : m ≡ m + 0 = omega arith in e)
+    numbered m (w ∷ ws) (suc i) = numbered (m + 1) ws i ∙ ap (λ (n : ℕ). option_map (λ v. (n, v)) (slice_get ws i)) (let e : (m + 1) + i ≡ m + suc i = omega arith in e)
+
+    joined : (o : Option ℕ) → option_map (pointer_reset extents) (option_map (λ w. (k, w)) o) ≡ option_map (λ w. if list_any (λ n. n == k + 1) extents then 0 else w) o
+    joined None = refl
+    joined (Some w) = refl
+
+-- the pointer of an extent but 0
+pointer_behind : (plan : PlanValue) (k : ℕ) → pointer_of plan (suc k) ≡ slice_get plan.pointers k
+pointer_behind plan k =
+    ap (λ (b : Bool). if b then None else slice_get plan.pointers (suc k - 1)) (not_zero k)
+    ∙ ap (slice_get plan.pointers) (let e : suc k - 1 ≡ k = omega arith in e)
+  where
+    not_zero : (n : ℕ) → (suc n == 0) ≡ false
+    not_zero n = grind (arith, common_steps)
+
+module _ (extents : List ℕ) (old plan : PlanValue) (r : IsReset old extents plan) where
+  -- others keep theirs
+  kept_pointer : (e : ℕ) → list_any (λ n. n == e) extents ≡ false → pointer_of plan e ≡ pointer_of old e
+  kept_pointer zero other = refl
+  kept_pointer (suc k) other =
+      pointer_behind plan k
+      ∙ ap (λ (ws : List ℕ). slice_get ws k) r.pointers
+      ∙ reset_pointer extents old.pointers k
+      ∙ ap (λ (b : Bool). option_map (λ w. if b then 0 else w) (slice_get old.pointers k))
+      (ap (λ (m : ℕ). list_any (λ n. n == m) extents) (let e : k + 1 ≡ suc k = omega arith in e) ∙ other)
+      ∙ same (slice_get old.pointers k)
+      ∙ sym (pointer_behind old k)
+    where
+      same : (o : Option ℕ) → option_map (λ w. if false then 0 else w) o ≡ o
+      same None = refl
+      same (Some w) = refl
+
+  -- and these have 0, if they have one
+  zero_pointer : (e w : ℕ) → list_any (λ n. n == e) extents ≡ true → pointer_of old e ≡ Some w → pointer_of plan e ≡ Some 0
+  zero_pointer zero w among is = absurd (no_pointer old w is)
+  zero_pointer (suc k) w among is =
+      pointer_behind plan k
+      ∙ ap (λ (ws : List ℕ). slice_get ws k) r.pointers
+      ∙ reset_pointer extents old.pointers k
+      ∙ ap (λ (b : Bool). option_map (λ v. if b then 0 else v) (slice_get old.pointers k))
+      (ap (λ (m : ℕ). list_any (λ n. n == m) extents) (let e : k + 1 ≡ suc k = omega arith in e) ∙ among)
+      ∙ ap (option_map (λ (v : ℕ). if true then 0 else v)) (sym (pointer_behind old k) ∙ is)
+
+-- no resets are resets too
+none_kept : (m : ℕ) (ws : List ℕ) → ws ≡ map (pointer_reset []) (enumerate_from m ws)
+none_kept m [] = refl
+none_kept m (w ∷ ws) = ap (λ (vs : List ℕ). w ∷ vs) (none_kept (m + 1) ws)
+
+reset_of : (resets : List ℕ) (choice : Choice) (plan : PlanValue) → IsPlanBut resets choice plan →
+    (old : PlanValue) × IsPlanOf choice old × IsReset old resets plan
+reset_of [] choice plan is = (
+  plan,
+  is,
+  record { planned = refl; geometry = refl; retired = refl; pointers = none_kept 0 plan.pointers; runs = refl; has = refl },
+)
+reset_of (e ∷ es) choice plan is = is
+
+module _ (extents : List ℕ) (before after : Image) (found rest : Scrubbed) (x : IsScrubbedBut extents before found) (y : IsScrubbed after rest)
+    (f : IsForeseen extents before after) where
+  without : (old : PlanValue) × IsPlanOf found.choice old × IsReset old extents found.plan
+  without = reset_of extents found.choice found.plan x.plan
+
+  was : f.reset.old ≡ without.0
+  was = one_plan_in before f.reset.old without.0 f.reset.was (record { choice = found.choice; chosen = x.choice; follows = without.1 })
+
+  is_now : f.reset.new ≡ rest.plan
+  is_now = one_plan_in after f.reset.new rest.plan f.reset.is (record { choice = rest.choice; chosen = y.choice; follows = y.plan })
+
+  plans : IsPlanAfterReset extents without.0 rest.plan
+  plans =
+      subst (λ (p : PlanValue). IsPlanAfterReset extents p rest.plan) was
+      (subst (λ (q : PlanValue). IsPlanAfterReset extents f.reset.old q) is_now f.reset.plans)
+
+  foreseen : (e : ℕ) → IsTheSame before after found.plan rest.plan e
+  foreseen e = by (among_cases extents e)
+    where
+      by : (list_any (λ n. n == e) extents ≡ true) ⊎ ((list_any (λ n. n == e) extents ≡ false) × (¬ Contains extents e)) →
+          IsTheSame before after found.plan rest.plan e
+      by (inl among) =
+          let had : (w : ℕ) × (pointer_of without.0 e ≡ Some w) =
+          subst (λ (p : PlanValue). (w : ℕ) × (pointer_of p e ≡ Some w)) was (said_of (λ n. (w : ℕ) × (pointer_of f.reset.old n ≡ Some w)) extents e f.were among) in
+          let none : pointer_of found.plan e ≡ Some 0 = zero_pointer extents without.0 found.plan without.2 e had.0 among had.1 in
+          let now : pointer_of rest.plan e ≡ Some 0 =
+          subst (λ (p : PlanValue). pointer_of p e ≡ Some 0) is_now (said_of (λ n. pointer_of f.reset.new n ≡ Some 0) extents e f.are among) in
+          record { sizes = f.reset.sizes; retired = plans.retired ∙ sym without.2.retired; pointer = now ∙ sym none; bytes = λ nonzero. inl none }
+      by (inr (other, apart)) = record {
+        sizes = f.reset.sizes;
+        retired = plans.retired ∙ sym without.2.retired;
+        pointer = plans.pointers e apart ∙ sym (kept_pointer extents without.0 found.plan without.2 e other);
+        bytes = λ nonzero. inr (fun_ext (λ p. f.reset.bytes e p nonzero apart));
+      }
+
+  named_as_foreseen : NameTheSame found rest
+  named_as_foreseen =
+      name_the_same extents before after found rest x y (plans.has ∙ sym without.2.has) (plans.runs ∙ sym without.2.runs)
+      (plans.retired ∙ sym without.2.retired) (λ i d below. foreseen (get_or found.checked i d).locator.extent)
+
+pub as_foreseen : (extents : List ℕ) (before after : Image) (a b : List ℕ) → IsForeseen extents before after →
+    IsManifestBut extents before a → IsManifest after b → a ≡ b
+as_foreseen extents before after a b f x y =
+    x.text_is ∙ sym (same_text x.found y.found (named_as_foreseen extents before after x.found y.found x.scrubbed y.scrubbed f)) ∙ sym y.text_is
+
 -- ---- the law
 
 module _ (accepted : Accepted) (extents : List ℕ) (before after : Image) where
@@ -341,7 +523,7 @@ module _ (accepted : Accepted) (extents : List ℕ) (before after : Image) where
       IsScrubbed after rest → NameTheSame found rest
   the_same_named found rest r x y =
       let plans = plans_of extents before after found rest x y r.reset in
-      name_the_same before after found rest x y plans.has plans.runs plans.retired
+      name_the_same [] before after found rest x y plans.has plans.runs plans.retired
       (all_the_same extents before after found rest x y r.reset accepted r.listed)
 
   pub the_same_manifest : (a b : List ℕ) → IsReclaimed accepted extents before after → IsManifest before a →

@@ -1,11 +1,11 @@
 -- What the code keeps of a disk until the report is written.
-use Rattle.std.specs.Prelude.{◌≡◌, ◌&&◌, Bool, false, List, is_some, map}
+use Rattle.std.specs.Prelude.{◌≡◌, ◌&&◌, ℕ, Bool, false, List, [], is_some, map}
 use Rattle.std.specs.List.{list_all, slice_get}
 use Rattle.std.specs.Option.{option_map_or}
 use Rattle.scrub_disk.specs.Image.{Image}
 use Rattle.scrub_frame.specs.declared.locator.Locator.{Locator}
 use Rattle.scrub_super.specs.Chosen.{Choice, IsChoice}
-use Rattle.scrub_super.specs.Plan.{PlanValue, IsPlanOf}
+use Rattle.scrub_super.specs.Plan.{PlanValue}
 use Rattle.scrub_scan.specs.Scanned.{Scanned}
 use Rattle.scrub_scan.specs.AllFindings.{AreAllFindings}
 use Rattle.scrub_check.specs.declared.named.Owner.{Owner}
@@ -19,18 +19,24 @@ use Rattle.scrub_check.specs.Chunks.{orphans}
 use Rattle.scrub_check.specs.Live.{live_bytes}
 use Rattle.scrub_check.specs.Named.{named}
 use Rattle.scrub_check.specs.Shared.{AreShared}
+use Rattle.scrub_check.specs.WholeScan.{IsWholeScan}
 use Rattle.scrub_merge.specs.ShardMap.{IsShardMap}
 use Rattle.scrub_report.specs.declared.parts.Judged.{Judged}
 use Rattle.scrub_report.specs.declared.parts.Parts.{Parts}
 use Rattle.scrub_report.specs.declared.runs.RunRow.{RunRow}
 use Rattle.scrub_report.specs.Report.{entry_counts}
-use Rattle.scrub_report.specs.Scrubbed.{IsScrubbed, Scrubbed, is_clean_choice, is_clean_extent, is_clean_list, is_in_doubt}
+use Rattle.scrub_report.specs.Scrubbed.{IsPlanBut, IsScrubbedBut, Scrubbed, is_clean_choice, is_clean_extent, is_clean_list, is_in_doubt}
 
--- what was chosen, planned and scanned is as it is in the image
-pub record IsScan (image : Image) (choice : Choice) (plan : PlanValue) (all : List Scanned) : Type 0 where
+-- what was chosen, planned and scanned is as it is in the image, as if these extents had been reset
+pub record IsScanBut (resets : List ℕ) (image : Image) (choice : Choice) (plan : PlanValue) (all : List Scanned) : Type 0 where
   pub chosen : IsChoice image choice
-  pub planned : IsPlanOf choice plan
+  pub planned : IsPlanBut resets choice plan
   pub scanned : AreAllFindings image plan all
+  pub whole : IsWholeScan image plan all
+
+-- the same without resets
+abbrev pub IsScan : Image → Choice → PlanValue → List Scanned → Type 0
+IsScan image choice plan all = IsScanBut [] image choice plan all
 
 -- what became of the runs of some rows
 abbrev pub run_states : List RunRow → List RunState
@@ -49,13 +55,14 @@ is_of_read_row rows (Run number) = option_map_or (λ r. is_some r.entries) (slic
 is_of_read_row rows (Shard id) = false
 
 module _ {D : Type 0} where
-  -- the locators are judged as they are in an image, and the rows are those of the runs that were read
-  pub record AreJudgedOf (image : Image) (j : Judged D) : Type 0 where
+  -- the locators are judged as they are in an image, as if these extents had been reset, and the rows are those of the runs
+  -- that were read
+  pub record AreJudgedBut (resets : List ℕ) (image : Image) (j : Judged D) : Type 0 where
     pub read : ReadRunsValue
     pub rows : AreRowsOf j.plan.runs read j.runs.items
     pub doubt : j.in_doubt ≡ is_in_doubt j.chosen read
     pub choice : IsChoice image j.chosen
-    pub plan : IsPlanOf j.chosen j.plan
+    pub plan : IsPlanBut resets j.chosen j.plan
     pub all : AreAllFindings image j.plan j.all.extents
     pub read_are : AreReadRuns image j.plan read
     pub bindings : IsShardMap read.runs j.map
@@ -88,8 +95,12 @@ module _ {D : Type 0} {s : _} where
   is_clean_kept p =
       is_clean_choice p.chosen && list_all is_clean_extent p.all.extents && list_all (λ r. is_some r.entries) p.runs.items && is_clean_list p.checked.items p.liveness.shared.items
 
-  -- with the runs that the rows are of, the parts are what is found in the image
-  pub record ArePartsOf (image : Image) (p : Parts D s) : Type 0 where
+  -- with the runs that the rows are of, the parts are what is found in the image, as if these extents had been reset
+  pub record ArePartsBut (resets : List ℕ) (image : Image) (p : Parts D s) : Type 0 where
     pub read : ReadRunsValue
     pub rows : AreRowsOf p.plan.runs read p.runs.items
-    pub scrubbed : IsScrubbed image (found_in p read)
+    pub scrubbed : IsScrubbedBut resets image (found_in p read)
+
+  -- the same without resets
+  abbrev pub ArePartsOf : Image → Parts D s → Type 0
+  ArePartsOf image p = ArePartsBut [] image p

@@ -1,5 +1,5 @@
 -- Resetting extents: what an image keeps then, and what is the same in what is found on it before and after.
-use Rattle.std.specs.Prelude.{◌≡◌, ◌≢◌, ℕ, List, [], All, Contains}
+use Rattle.std.specs.Prelude.{◌≡◌, ◌≢◌, ℕ, List, [], Some, All, Contains}
 use Rattle.scrub_disk.specs.Image.{Image, byte}
 use Rattle.scrub_super.specs.declared.pages.SuperblockPage.{SuperblockPage}
 use Rattle.scrub_super.specs.Chosen.{Choice, IsChoice}
@@ -49,6 +49,12 @@ pub record IsAfterReset (extents : List ℕ) (before after : Image) : Type 0 whe
   pub was : IsPlanIn before old
   pub is : IsPlanIn after new
   pub plans : IsPlanAfterReset extents old new
+
+-- these extents were reset, each of them is an extent of the disk, and each has the write pointer 0 now
+pub record IsForeseen (extents : List ℕ) (before after : Image) : Type 0 where
+  pub reset : IsAfterReset extents before after
+  pub were : All (λ e. (w : ℕ) × (pointer_of reset.old e ≡ Some w)) extents
+  pub are : All (λ e. pointer_of reset.new e ≡ Some 0) extents
 
 -- these extents were reset, and each had been listed among those to reclaim with nothing to move out of it first
 pub record IsReclaimed (accepted : Accepted) (extents : List ℕ) (before after : Image) : Type 0 where

@@ -176,7 +176,7 @@ fn listing_of<R: Threads + Sync, D: PageSource>(
     ensures text { IfOk result (λ l. AreLocatorLines (D.image scan.entry.disk.now) l.text.items) }
     ensures clean { IfOk result (λ l. IsCleanImage (D.image scan.entry.disk.now) l.is_clean) }
 {
-    let parts = parts_of(rt, alloc, scan)?;
+    let parts = parts_of(rt, alloc, scan, &[])?;
     let spares = Spares::of(alloc, &parts.all, &parts.checked)?;
     let text = locator_lines(alloc, &spares, &parts.checked)?;
     let is_clean = is_clean(&parts);

@@ -4,18 +4,20 @@
 ghost use Rattle.std.specs.Prelude.{◌≡◌, ◌+◌, ◌++◌, ◌≤◌, ◌&&◌, Bool, List, ℕ, AllPairs, IfOk, OnOk, is_none, length, map};
 ghost use Rattle.std.specs.Fmt.{decimal};
 ghost use Rattle.std.specs.List.{count_by, flat_map};
+ghost use Rattle.std.specs.List.Sorted.{IsStrictlyIncreasing};
 ghost use Rattle.scrub_disk.specs.Image.{Image};
 ghost use Rattle.scrub_run.specs.Entry.{IsBelow};
 ghost use Rattle.scrub_scan.specs.Line.{spaced};
 ghost use Rattle.scrub_check.specs.Checked.{is_hidden, named_of};
 ghost use Rattle.scrub_check.specs.Named.{named_by_shard};
 ghost use Rattle.scrub_report.specs.Answer.{IsPartitionOfPlanned, IsCountOfPlanned};
-ghost use Rattle.scrub_report.specs.Manifest.{HoldTheSame, HoldsBytes, IsManifest, IsWholeImage, all_unplaced, is_whole_by, numbered_line, numbered_lines, numbered_text, place_unless_sound, retired_line, runs_line, shard_lines, text_by, total_line};
-ghost use Rattle.scrub_report.specs.Parts.{IsScan, is_of_read_row};
+ghost use Rattle.scrub_report.specs.Manifest.{HoldTheSame, HoldsBytes, IsManifest, IsManifestBut, IsWholeBut, IsWholeImage, all_unplaced, is_whole_by, numbered_line, numbered_lines, numbered_text, place_unless_sound, retired_line, runs_line, shard_lines, text_by, total_line};
+ghost use Rattle.scrub_report.specs.Reset.{IsForeseen};
+ghost use Rattle.scrub_report.specs.Parts.{IsScanBut, is_of_read_row};
 
 use crate::answer::ScrubFault;
 use crate::runs::RunRow;
-use crate::scanning::{Scan, scan_by};
+use crate::scanning::{Scan, scan_with_resets};
 use crate::scrubbing::{are_sound, parts_of};
 use crate::texts::{owner_text, status_text};
 use scrub_check::{Checked, Owner};
@@ -23,7 +25,7 @@ use scrub_disk::{OutOfMemory, PageSource};
 use scrub_frame::Locator;
 use scrub_merge::Binding;
 use scrub_pool::{Gate, Takings};
-use scrub_super::Plan;
+use scrub_super::{Plan, choose};
 use std::alloc::Global;
 use std::sync::Wait;
 use std::thread::Threads;
@@ -244,17 +246,18 @@ fn is_whole_by(plan: &Plan, lost: usize, hidden: usize, shards: &[Checked]) -> b
     plan.has_superblock() && lost == 0 && hidden == 0 && are_sound(shards)
 }
 
-/// The manifest of a scanned disk.
+/// The manifest of a scanned disk, as if these extents had been reset.
 fn manifest_of<R: Threads + Sync, D: PageSource>(
     rt: &R,
     alloc: Global,
     scan: Scan<'_, D>,
+    resets: &[u32],
 ) -> Result<ManifestListing, OutOfMemory>
-    requires { IsScan (D.image scan.disk.now) scan.chosen scan.plan scan.all.extents }
-    ensures text { IfOk result (λ m. IsManifest (D.image scan.entry.disk.now) m.text.items) }
-    ensures whole { IfOk result (λ m. IsWholeImage (D.image scan.entry.disk.now) m.is_whole) }
+    requires { IsScanBut resets.now (D.image scan.disk.now) scan.chosen scan.plan scan.all.extents }
+    ensures text { IfOk result (λ m. IsManifestBut resets.now (D.image scan.entry.disk.now) m.text.items) }
+    ensures whole { IfOk result (λ m. IsWholeBut resets.now (D.image scan.entry.disk.now) m.is_whole) }
 {
-    let parts = parts_of(rt, alloc, scan)?;
+    let parts = parts_of(rt, alloc, scan, resets)?;
     let (_runs, shards) = parts.checked.split_at(parts.plan.runs().len());
     let lost = lost_runs(&parts.runs);
     let hidden = hidden_runs(&parts.runs, &parts.checked);
@@ -270,31 +273,41 @@ fn manifest_of<R: Threads + Sync, D: PageSource>(
     Ok(ManifestListing { text, is_whole })
 }
 
-/// Lists what a disk holds, wherever it lies, and returns which extents the caller and each worker took. It scans as `scrub`
-/// does, with this many workers (0 to 64) beside the caller. The only fault is `OutOfMemory`, returned once every started
-/// worker has ended.
+/// Lists what a disk holds, wherever it lies, as if these extents, which rise, had been reset: as if their write pointers were
+/// 0. Returns which extents the caller and each worker took. It scans as `scrub` does, with this many workers (0 to 64) beside
+/// the caller. The only fault is `OutOfMemory`, returned once every started worker has ended.
 pub fn list_manifest<D: PageSource, G: Gate, R: Threads + Wait + Sync>(
     rt: &R,
     alloc: Global,
     disk: &D,
     workers: u32,
     gate: &G,
+    resets: &[u32],
 ) -> Result<(ManifestListing, Takings), ScrubFault>
-    requires { workers ≤ 64 }
-    ensures text { IfOk result (λ r. IsManifest (D.image disk.now) r.0.text.items) }
-    ensures whole { IfOk result (λ r. IsWholeImage (D.image disk.now) r.0.is_whole) }
+    requires workers { workers ≤ 64 }
+    requires rising { IsStrictlyIncreasing resets.now }
+    ensures text { IfOk result (λ r. IsManifestBut resets.now (D.image disk.now) r.0.text.items) }
+    ensures whole { IfOk result (λ r. IsWholeBut resets.now (D.image disk.now) r.0.is_whole) }
     ensures workers { IfOk result (λ r. length r.1.lists ≡ workers + 1) }
     ensures partition { IfOk result (λ r. IsPartitionOfPlanned (D.image disk.now) r.1.lists) }
     ensures counted { IfOk result (λ r. IsCountOfPlanned (D.image disk.now) r.1.counted) }
 {
-    let (scan, takings) = scan_by(rt, alloc, disk, workers, gate)?;
-    let manifest = manifest_of(rt, alloc, scan)?;
+    let chosen = choose(alloc, disk)?;
+    let (scan, takings) = scan_with_resets(rt, alloc, disk, chosen, workers, gate, resets)?;
+    let manifest = manifest_of(rt, alloc, scan, resets)?;
     Ok((manifest, takings))
 }
 
-/// A law: an image has one manifest.
+/// A law: an image has one manifest, for each list of extents to be reset.
 pub fn one_manifest()
-    ensures { (image : Image) (a b : List ℕ) → IsManifest image a → IsManifest image b → a ≡ b }
+    ensures { (resets : List ℕ) (image : Image) (a b : List ℕ) → IsManifestBut resets image a → IsManifestBut resets image b → a ≡ b }
+{}
+
+/// A law: a reset is foreseen. Once extents have been reset, and their write pointers are 0, the manifest is the one that the
+/// image had before as if they had been reset, whatever these extents hold now.
+pub fn a_reset_is_foreseen()
+    ensures { (extents : List ℕ) (before after : Image) (a b : List ℕ) → IsForeseen extents before after →
+        IsManifestBut extents before a → IsManifest after b → a ≡ b }
 {}
 
 /// A law: two disks with one manifest both have a superblock or none, they have the same retired extents, as many index runs

@@ -225,7 +225,7 @@ fn listing_of<R: Threads + Sync, D: PageSource>(
     ensures text { IfOk result (λ l. AreReclaimLines (D.image scan.entry.disk.now) accepted.now l.text.items) }
     ensures clear { IfOk result (λ l. IsClear (D.image scan.entry.disk.now) accepted.now l.is_clear) }
 {
-    let parts = parts_of(rt, alloc, scan)?;
+    let parts = parts_of(rt, alloc, scan, &[])?;
     let doubts = doubts_of(alloc, pages, &parts)?;
     let is_clear = are_accepted(alloc, accepted, &doubts)?;
     let mut text = doubt_lines(alloc, accepted, &doubts)?;

@@ -3,10 +3,12 @@
 ghost use Rattle.std.specs.Prelude.{◌≡◌, ◌+◌, ◌≤◌, length, IfOk};
 ghost use Rattle.scrub_super.specs.Chosen.{IsChoice};
 ghost use Rattle.scrub_report.specs.Answer.{IsPartitionOfPlanned, IsCountOfPlanned};
-ghost use Rattle.scrub_report.specs.Parts.{IsScan};
+ghost use Rattle.scrub_report.specs.Parts.{IsScan, IsScanBut};
+ghost use Rattle.scrub_report.specs.Scrubbed.{IsPlanBut};
+ghost use Rattle.std.specs.List.Sorted.{IsStrictlyIncreasing};
 
 use crate::answer::ScrubFault;
-use scrub_disk::{OutOfMemory, PageSource};
+use scrub_disk::{Geometry, OutOfMemory, PageSource};
 use scrub_pool::{ExtentQueue, Gate, Takings, scan_all};
 use scrub_scan::{AllFindings, scan_in_order};
 use scrub_super::{Chosen, Plan, choose};
@@ -65,6 +67,24 @@ pub(crate) fn scan_by<'d, D: PageSource, G: Gate, R: Threads + Wait + Sync>(
     scan_chosen(rt, alloc, disk, chosen, workers, gate)
 }
 
+/// The plan that follows from a choice, as if these extents, which rise, had been reset.
+fn plan_but(
+    alloc: Global,
+    chosen: &Chosen,
+    geometry: Geometry,
+    resets: &[u32],
+) -> Result<Plan, OutOfMemory>
+    requires same_geometry { chosen.now.geometry ≡ geometry }
+    requires rising { IsStrictlyIncreasing resets.now }
+    ensures { IfOk result (IsPlanBut resets.now chosen.now) }
+{
+    let plan = Plan::make(alloc, chosen, geometry)?;
+    if resets.is_empty() {
+        return Ok(plan);
+    }
+    plan.with_resets(alloc, resets)
+}
+
 /// Does the same if it is known which superblock counts.
 pub(crate) fn scan_chosen<'d, D: PageSource, G: Gate, R: Threads + Wait + Sync>(
     rt: &R,
@@ -82,7 +102,29 @@ pub(crate) fn scan_chosen<'d, D: PageSource, G: Gate, R: Threads + Wait + Sync>(
     ensures partition { IfOk result (λ r. IsPartitionOfPlanned (D.image disk.now) r.1.lists) }
     ensures counted { IfOk result (λ r. IsCountOfPlanned (D.image disk.now) r.1.counted) }
 {
-    let plan = Plan::make(alloc, &chosen, disk.geometry())?;
+    scan_with_resets(rt, alloc, disk, chosen, workers, gate, &[])
+}
+
+/// Does the same, as if these extents, which rise, had been reset.
+pub(crate) fn scan_with_resets<'d, D: PageSource, G: Gate, R: Threads + Wait + Sync>(
+    rt: &R,
+    alloc: Global,
+    disk: &'d D,
+    chosen: Chosen,
+    workers: u32,
+    gate: &G,
+    resets: &[u32],
+) -> Result<(Scan<'d, D>, Takings), ScrubFault>
+    requires workers { workers ≤ 64 }
+    requires choice { IsChoice (D.image disk.now) chosen }
+    requires rising { IsStrictlyIncreasing resets.now }
+    ensures image { IfOk result (λ r. D.image r.0.disk.now ≡ D.image disk.now) }
+    ensures scan { IfOk result (λ r. IsScanBut resets.now (D.image r.0.disk.now) r.0.chosen r.0.plan r.0.all.extents) }
+    ensures workers { IfOk result (λ r. length r.1.lists ≡ workers + 1) }
+    ensures partition { IfOk result (λ r. IsPartitionOfPlanned (D.image disk.now) r.1.lists) }
+    ensures counted { IfOk result (λ r. IsCountOfPlanned (D.image disk.now) r.1.counted) }
+{
+    let plan = plan_but(alloc, &chosen, disk.geometry(), resets)?;
     let (queue, mut first) = ExtentQueue::new(rt, alloc, &plan)?;
     let (all, takings) = scan_all(rt, alloc, disk, &plan, &queue, &mut first, workers, gate)?;
     let scan = Scan {

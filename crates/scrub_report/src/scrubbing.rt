@@ -1,11 +1,11 @@
 //! Finds what is on a whole disk, part by part. `report`, `index` and `listing` write it.
 
-ghost use Rattle.std.specs.Prelude.{◌≡◌, IfOk, is_none, is_some};
+ghost use Rattle.std.specs.Prelude.{◌≡◌, ℕ, IfOk, List, is_none, is_some};
 ghost use Rattle.std.specs.List.{list_all, list_any};
 ghost use Rattle.scrub_disk.specs.Image.{Image};
 ghost use Rattle.scrub_check.specs.Checked.{is_sound};
 ghost use Rattle.scrub_check.specs.Chunks.{twins};
-ghost use Rattle.scrub_report.specs.Parts.{AreJudgedOf, ArePartsOf, IsLivenessOf, IsScan, is_clean_kept};
+ghost use Rattle.scrub_report.specs.Parts.{AreJudgedBut, ArePartsBut, ArePartsOf, IsLivenessOf, IsScan, IsScanBut, is_clean_kept};
 ghost use Rattle.scrub_report.specs.Scrubbed.{is_clean_list, is_in_doubt};
 
 use crate::clean::{are_clean_extents, is_clean_choice};
@@ -36,15 +36,16 @@ fn is_in_doubt(chosen: &Chosen, read: &ReadRuns) -> bool
     chosen.tie() || !chosen.bad_pages().is_empty() || has_lost_run(read)
 }
 
-/// What is found on a scanned disk, up to the status of each named locator. Once the runs are merged their entries are in the
+/// What is found on a scanned disk, as if these extents had been reset, up to the status of each named locator. Once the runs are merged their entries are in the
 /// map, so only what the report needs of the runs is kept.
 fn judged_of<'d, R: Threads + Sync, D: PageSource>(
     rt: &R,
     alloc: Global,
     scan: Scan<'d, D>,
+    resets: &[u32],
 ) -> Result<Judged<'d, D>, OutOfMemory>
-    requires { IsScan (D.image scan.disk.now) scan.chosen scan.plan scan.all.extents }
-    ensures { IfOk result (AreJudgedOf (D.image scan.entry.disk.now)) }
+    requires { IsScanBut resets.now (D.image scan.disk.now) scan.chosen scan.plan scan.all.extents }
+    ensures { IfOk result (AreJudgedBut resets.now (D.image scan.entry.disk.now)) }
 {
     let Scan {
         disk,
@@ -113,7 +114,8 @@ fn parts_from<'d, D: PageSource>(
     liveness: Liveness,
 ) -> Result<Parts<'d, D>, OutOfMemory>
     requires { IsLivenessOf judged liveness }
-    ensures parts { (image : Image) → AreJudgedOf image judged.entry → IfOk result (ArePartsOf image) }
+    ensures parts { (resets : List ℕ) (image : Image) → AreJudgedBut resets image judged.entry →
+        IfOk result (ArePartsBut resets image) }
     ensures all { IfOk result (λ parts. parts.all.extents ≡ judged.entry.all.extents) }
 {
     let Judged {
@@ -137,16 +139,17 @@ fn parts_from<'d, D: PageSource>(
     })
 }
 
-/// What is found on a scanned disk.
+/// What is found on a scanned disk, as if these extents had been reset.
 pub(crate) fn parts_of<'d, R: Threads + Sync, D: PageSource>(
     rt: &R,
     alloc: Global,
     scan: Scan<'d, D>,
+    resets: &[u32],
 ) -> Result<Parts<'d, D>, OutOfMemory>
-    requires { IsScan (D.image scan.disk.now) scan.chosen scan.plan scan.all.extents }
-    ensures { IfOk result (ArePartsOf (D.image scan.entry.disk.now)) }
+    requires { IsScanBut resets.now (D.image scan.disk.now) scan.chosen scan.plan scan.all.extents }
+    ensures { IfOk result (ArePartsBut resets.now (D.image scan.entry.disk.now)) }
 {
-    let judged = judged_of(rt, alloc, scan)?;
+    let judged = judged_of(rt, alloc, scan, resets)?;
     let liveness = liveness_in(alloc, &judged)?;
     parts_from(alloc, judged, liveness)
 }
@@ -161,7 +164,7 @@ pub(crate) fn parts_and_twins<'d, R: Threads + Sync, D: PageSource>(
     ensures parts { IfOk result (λ r. ArePartsOf (D.image scan.entry.disk.now) r.0) }
     ensures twins { IfOk result (λ r. r.1.items ≡ twins r.0.all.extents) }
 {
-    let judged = judged_of(rt, alloc, scan)?;
+    let judged = judged_of(rt, alloc, scan, &[])?;
     let (liveness, twin_chunks) = liveness_and_twins(rt, alloc, &judged)?;
     let parts = parts_from(alloc, judged, liveness)?;
     Ok((parts, twin_chunks))

@@ -143,7 +143,7 @@ pub fn disk_answer<R: Threads + Wait + Sync, D: PageSource>(
             Ok((Answer::new(listing.text, listing.is_clean), takings))
         }
         Wanted::Manifest => {
-            let (manifest, takings) = list_manifest(rt, alloc, disk, workers, &NoGate)?;
+            let (manifest, takings) = list_manifest(rt, alloc, disk, workers, &NoGate, &[])?;
             Ok((Answer::new(manifest.text, manifest.is_whole), takings))
         }
         Wanted::Reclaimable(accepted) => {

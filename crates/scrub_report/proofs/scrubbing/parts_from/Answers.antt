@@ -6,7 +6,7 @@ pub invariant_of-result : goal.invariant_of-result
 invariant_of-result g c = record { live_found = c.requires.live; orphans_found = c.requires.orphans_are }
 
 pub returns-clause-parts : goal.returns-clause-parts
-returns-clause-parts g c = λ image are.
+returns-clause-parts g c = λ resets image are.
     record {
       read = are.read;
       rows = are.rows;

@@ -1,0 +1,6 @@
+-- Under the pointer 0 the bytes don't matter.
+use Rattle.scrub_report.proofs.Reset.{as_foreseen}
+use Rattle.scrub_report.proofs.manifest.a_reset_is_foreseen.Goals as goal
+
+pub returns : goal.returns
+returns c = as_foreseen
