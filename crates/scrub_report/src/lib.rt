@@ -39,7 +39,9 @@ pub use answer::{
 pub use clean::are_clean_items;
 pub use doubts::Accepted;
 pub use listing::{LocatorListing, list_locators, one_locator_listing};
-pub use manifest::{ManifestListing, a_reset_is_foreseen, list_manifest, one_manifest, one_manifest_holds_the_same};
+pub use manifest::{
+    ManifestListing, a_reset_is_foreseen, list_manifest, one_manifest, one_manifest_holds_the_same,
+};
 pub use output::{WriteFault, write_out};
 pub use page_ranges::neighbouring_pages_are_joined;
 pub use reclaiming::{
