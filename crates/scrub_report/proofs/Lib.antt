@@ -29,3 +29,7 @@ pub mod RoomLines
 pub mod ManifestTexts
 pub mod ManifestBytes
 pub mod SizesLists
+pub mod Summaries
+pub mod SoundDisks
+pub mod SummaryLines
+pub mod SummaryChunks

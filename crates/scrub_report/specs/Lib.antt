@@ -13,6 +13,7 @@ pub mod Answer
 pub mod Doubts
 pub mod Reclaimable
 pub mod Reset
+pub mod Summary
 pub mod Room
 -- Steps of the code.
 pub mod Parts

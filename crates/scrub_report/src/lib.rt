@@ -29,6 +29,7 @@ mod shards;
 mod sizes;
 pub mod sizes_listing;
 mod spare_doubts;
+mod summary;
 pub mod superblocks;
 mod texts;
 
@@ -50,4 +51,5 @@ pub use reclaiming::{
     reclaiming_is_safe,
 };
 pub use sizes_listing::{SizesListing, list_sizes, one_sizes_listing};
+pub use summary::{SummaryListing, a_sound_disk_is_all_right, list_summary, one_summary};
 pub use superblocks::{SuperblockListing, list_superblocks, one_superblock_listing};

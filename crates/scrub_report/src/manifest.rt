@@ -210,7 +210,7 @@ fn text_by(
 }
 
 /// How many index runs are lost.
-fn lost_runs(runs: &[RunRow]) -> usize
+pub(crate) fn lost_runs(runs: &[RunRow]) -> usize
     ensures { result ≡ count_by (λ r. is_none r.entries) runs.now }
 {
     runs.iter().filter(|run| run.entries.is_none()).count()
