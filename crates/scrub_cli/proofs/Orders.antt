@@ -22,7 +22,7 @@ use Rattle.scrub_cli.specs.declared.words.ScanWords.{ScanWords}
 use Rattle.scrub_cli.specs.declared.words.ReclaimWords.{ReclaimWords}
 use Rattle.scrub_cli.specs.declared.words.SizesWords.{SizesWords}
 use Rattle.scrub_cli.specs.declared.words.Request.{Request}
-use Rattle.scrub_cli.specs.declared.words.Request.TheVariants.{Demo, Items, Scan, Index, Locators, Manifest, Reclaimable, Superblocks, Sizes, Version}
+use Rattle.scrub_cli.specs.declared.words.Request.TheVariants.{Demo, Items, Scan, Index, Locators, Manifest, Summary, Reclaimable, Superblocks, Sizes, Version}
 use Rattle.scrub_cli.specs.CommandLine.{shardscrub_app}
 use Rattle.scrub_cli.specs.Order.{AreExchanged, HasOptions}
 use Rattle.scrub_cli.specs.Words.{AreImageWords, AreItemsWords, AreReclaimWords, AreScanWords, AreSizesWords, IsAskedBy, IsNumberOf, IsWorkersOf, NameCommand}
@@ -134,6 +134,11 @@ module _ (xs ys : List Row) (same : AreSame xs ys) where
     ys,
     renamed name (codes "manifest") asked.0 asked.1,
     scan_same words (rw (pair_rows name (codes "manifest") xs asked.0 asked.1) at asked.2),
+  )
+  asked_same name (Summary words) asked = (
+    ys,
+    renamed name (codes "summary") asked.0 asked.1,
+    scan_same words (rw (pair_rows name (codes "summary") xs asked.0 asked.1) at asked.2),
   )
   asked_same name Version asked = absurd asked
 
@@ -281,6 +286,10 @@ enters_manifest : Enters (codes "manifest") (disk (codes "manifest"))
 unfolding clap_on_literals
 enters_manifest = record { first = refl; clean = refl; faults = λ words. refl; rows = λ words. refl }
 
+enters_summary : Enters (codes "summary") (disk (codes "summary"))
+unfolding clap_on_literals
+enters_summary = record { first = refl; clean = refl; faults = λ words. refl; rows = λ words. refl }
+
 enters_reclaimable : Enters (codes "reclaimable") built_reclaimable
 unfolding clap_on_literals
 enters_reclaimable = record { first = refl; clean = refl; faults = λ words. refl; rows = λ words. refl }
@@ -353,13 +362,16 @@ order_is_free words others request x asked = go x.options
     go (inr (inr (inr (inl manifest)))) =
         exchanged (codes "manifest") (disk (codes "manifest")) enters_manifest (plain (disk_by_name (codes "manifest")) refl)
         words others x manifest request asked
-    go (inr (inr (inr (inr (inl reclaimable))))) =
+    go (inr (inr (inr (inr (inl summary))))) =
+        exchanged (codes "summary") (disk (codes "summary")) enters_summary (plain (disk_by_name (codes "summary")) refl)
+        words others x summary request asked
+    go (inr (inr (inr (inr (inr (inl reclaimable)))))) =
         exchanged (codes "reclaimable") built_reclaimable enters_reclaimable (plain reclaimable_by_name refl) words others x
         reclaimable request asked
-    go (inr (inr (inr (inr (inr (inl superblocks)))))) =
+    go (inr (inr (inr (inr (inr (inr (inl superblocks))))))) =
         exchanged (codes "superblocks") built_superblocks enters_superblocks (plain superblocks_by_name refl) words others x
         superblocks request asked
-    go (inr (inr (inr (inr (inr (inr (inl sizes))))))) =
+    go (inr (inr (inr (inr (inr (inr (inr (inl sizes)))))))) =
         exchanged (codes "sizes") built_sizes enters_sizes (plain sizes_by_name refl) words others x sizes request asked
-    go (inr (inr (inr (inr (inr (inr (inr items))))))) =
+    go (inr (inr (inr (inr (inr (inr (inr (inr items)))))))) =
         exchanged (codes "items") built_items enters_items (plain items_by_name refl) words others x items request asked

@@ -1,4 +1,4 @@
--- Why `scan`, `index`, `locators`, `manifest` and `reclaimable` give no answer, from what their parts give.
+-- Why `scan`, `index`, `locators`, `manifest`, `summary` and `reclaimable` give no answer, from what their parts give.
 use Rattle.scrub_disk.specs.declared.geometry.Geometry.{Geometry as Sizes}
 use Rattle.scrub_disk.specs.Faults.{HasSizes}
 use Rattle.scrub_cli.specs.declared.process.fault.Fault.{Fault}

@@ -36,7 +36,7 @@ pub record HasImage (found : List Row) : Type 0 where
   pub extents : HasNumber found (codes "extents")
   pub image : HasImageName found
 
--- what `clap` found has all that `scan`, `index`, `locators`, `manifest` and `reclaimable` need
+-- what `clap` found has all that `scan`, `index`, `locators`, `manifest`, `summary` and `reclaimable` need
 pub record HasScan (found : List Row) : Type 0 where
   pub disk : HasImage found
   pub workers : (one_of (codes "workers") found ≡ None) ⊎ HasNumberTo 64 found (codes "workers")
@@ -51,14 +51,15 @@ pub record HasItems (found : List Row) : Type 0 where
 abbrev pub IsDiskCommand : Text → Type 0
 IsDiskCommand name =
     (name ≡ codes "scan") ⊎ (name ≡ codes "index") ⊎ (name ≡ codes "locators") ⊎ (name ≡ codes "manifest")
-    ⊎ (name ≡ codes "reclaimable")
+    ⊎ (name ≡ codes "summary") ⊎ (name ≡ codes "reclaimable")
 
 -- whether the command is one on the whole disk
 abbrev pub is_disk_command : Text → Bool
 is_disk_command name =
     bytes_eq name (codes "scan") || (bytes_eq name (codes "index")
     || (bytes_eq name (codes "locators")
-    || (bytes_eq name (codes "manifest") || bytes_eq name (codes "reclaimable"))))
+    || (bytes_eq name (codes "manifest")
+    || (bytes_eq name (codes "summary") || bytes_eq name (codes "reclaimable")))))
 
 -- what a command needs, by the first of these that it is: one on the whole disk, `superblocks`, `sizes`, `items`, `demo`
 abbrev pub HasNeeds : (disk superblocks sizes items demo : Bool) → List Row → Type 0

@@ -64,6 +64,7 @@ fn answer<'a, R: Threads + Wait + Sync, I: Images>(
         Request::Index(words) => scan_answer(rt, alloc, &words, images, Wanted::Index),
         Request::Locators(words) => scan_answer(rt, alloc, &words, images, Wanted::Locators),
         Request::Manifest(words) => scan_answer(rt, alloc, &words, images, Wanted::Manifest),
+        Request::Summary(words) => scan_answer(rt, alloc, &words, images, Wanted::Summary),
         Request::Reclaimable(words) => {
             let wanted = Wanted::Reclaimable(Accepted::new(&words.accepted));
             scan_answer(rt, alloc, &words.scan, images, wanted)

@@ -16,7 +16,7 @@ use scrub_disk::{OutOfMemory, PageSource, RawImage};
 use scrub_pool::{NoGate, Takings};
 use scrub_report::{
     Accepted, ScrubFault, are_clean_items, list_locators, list_manifest, list_reclaimable,
-    list_sizes, list_superblocks, scrub,
+    list_sizes, list_summary, list_superblocks, scrub,
 };
 use scrub_scan::{Item, item_line};
 use std::alloc::Global;
@@ -54,6 +54,8 @@ pub enum Wanted<'v, 'a> {
     Locators,
     /// What the disk holds, wherever it lies.
     Manifest,
+    /// A verdict, and numbers by their names.
+    Summary,
     /// What may be reclaimed, with these doubts accepted.
     Reclaimable(Accepted<'v, 'a>),
 }
@@ -145,6 +147,10 @@ pub fn disk_answer<R: Threads + Wait + Sync, D: PageSource>(
         Wanted::Manifest => {
             let (manifest, takings) = list_manifest(rt, alloc, disk, workers, &NoGate, &[])?;
             Ok((Answer::new(manifest.text, manifest.is_whole), takings))
+        }
+        Wanted::Summary => {
+            let (summary, takings) = list_summary(rt, alloc, disk, workers, &NoGate)?;
+            Ok((Answer::new(summary.text, summary.is_sound), takings))
         }
         Wanted::Reclaimable(accepted) => {
             let (listing, takings) = list_reclaimable(

@@ -1,5 +1,5 @@
-//! The commands on a whole disk in an image file: `scan`, `index`, `locators`, `manifest` and `reclaimable`, which scan it,
-//! and `superblocks`, which reads its extent 0.
+//! The commands on a whole disk in an image file: `scan`, `index`, `locators`, `manifest`, `summary` and `reclaimable`, which
+//! scan it, and `superblocks`, which reads its extent 0.
 
 ghost use Rattle.std.specs.Prelude.{◌≡◌, ◌+◌, ◌≤◌, IfOk, MatchResult, length};
 ghost use Rattle.scrub_disk.specs.Parted.{image_of};

@@ -501,6 +501,7 @@ fn help_is_printed_on_the_error_stream(rt: HostRuntime) -> Result<(), Fail> {
         ("index --help", "Prints the index that can be recovered"),
         ("locators --help", "Lists the named locators"),
         ("manifest --help", "Lists what the disk holds"),
+        ("summary --help", "Prints one word on whether the disk"),
         (
             "reclaimable --help",
             "Lists the extents that may be reclaimed",

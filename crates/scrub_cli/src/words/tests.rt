@@ -67,7 +67,9 @@ fn items_with_all_options(rt: HostRuntime) -> Result<(), Fail> {
 }
 
 #[test]
-fn scan_index_locators_and_manifest_with_their_arguments(rt: HostRuntime) -> Result<(), Fail> {
+fn scan_index_locators_manifest_and_summary_with_their_arguments(
+    rt: HostRuntime,
+) -> Result<(), Fail> {
     let words = "scan --page 64 --pages 4 --extents 3 disk.img 1:3 x 2:0";
     let split: Vec<&str> = words.split_whitespace().collect(rt.alloc())?;
     let Request::Scan(scan) = read_words(rt.alloc(), &split)? else {
@@ -96,6 +98,13 @@ fn scan_index_locators_and_manifest_with_their_arguments(rt: HostRuntime) -> Res
     };
     check_image(&rt, &manifest.image);
     assert!(rt; manifest.workers == 2);
+    let words = "summary --page 64 --workers=3 --extents 3 --pages 4 disk.img 1:3 x 2:0";
+    let split: Vec<&str> = words.split_whitespace().collect(rt.alloc())?;
+    let Request::Summary(summary) = read_words(rt.alloc(), &split)? else {
+        panic!(rt; "not summary");
+    };
+    check_image(&rt, &summary.image);
+    assert!(rt; summary.workers == 3);
     Ok(())
 }
 
@@ -190,6 +199,7 @@ fn the_help_of_the_program_and_of_each_command(rt: HostRuntime) -> Result<(), Fa
         "--help",
         &[
             "Usage: shardscrub [COMMAND]",
+            "\n  summary ",
             "\n  scan ",
             "\n  index ",
             "\n  locators ",
@@ -294,6 +304,20 @@ fn the_help_of_the_commands_on_a_disk(rt: HostRuntime) -> Result<(), Fail> {
             "shard ID NUMBER LENGTH DIGEST STATUS",
             "Exit status",
             "\n  shardscrub manifest --page 64 --pages 4 --extents 3 examples/one-shard.img",
+        ],
+    )?;
+    check_help(
+        &rt,
+        "summary --help",
+        &[
+            "Usage: shardscrub summary",
+            "--workers <COUNT>",
+            "[EXTENT:PAGE]...",
+            "\n  verdict WORD ",
+            "\n  candidates candidate_bytes chunks_to_move\n",
+            "Exit status",
+            "\n  shardscrub summary --page 64 --pages 4 --extents 3 examples/one-shard.img",
+            "\n  verdict sound\n",
         ],
     )
 }

@@ -4,7 +4,7 @@ use Rattle.clap.specs.Words.{Text}
 use Rattle.scrub_cli.specs.declared.commands.answer.Wanted.TheVariants.{Reclaimable as what_is_reclaimable}
 use Rattle.scrub_cli.specs.Scan.{IsScanAnswer, IsScanFault}
 use Rattle.scrub_cli.specs.Words.{AskFor, texts}
-use Rattle.scrub_cli.specs.declared.words.Request.TheVariants.{Items, Scan, Index, Locators, Manifest, Reclaimable, Superblocks, Sizes}
+use Rattle.scrub_cli.specs.declared.words.Request.TheVariants.{Items, Scan, Index, Locators, Manifest, Summary, Reclaimable, Superblocks, Sizes}
 use Rattle.scrub_cli.proofs.RunAnswers.{answered}
 use Rattle.scrub_cli.proofs.WordsFound.{few_workers}
 use Rattle.scrub_cli.proofs.running.answer.Goals as goal
@@ -39,6 +39,12 @@ scan_answer-requires-in-Manifest g c =
     rw c.in-Manifest.is at c.in_ok-read_words.ensures in
     (search rules, (search rules, few_workers asked.1.0 c.in-Manifest.words.workers asked.1.2.workers))
 
+pub scan_answer-requires-in-Summary : goal.scan_answer-requires-in-Summary
+scan_answer-requires-in-Summary g c =
+    let asked : AskFor (map (λ word. word.now) c.args.words.now) (Summary c.in-Summary.words) =
+    rw c.in-Summary.is at c.in_ok-read_words.ensures in
+    (search rules, (search rules, few_workers asked.1.0 c.in-Summary.words.workers asked.1.2.workers))
+
 pub returns-in-Scan : goal.returns-in-Scan
 returns-in-Scan g c =
     answered (g.I.Images.known c.args.images.now) (g.I.Images.known_map c.args.images.now)
@@ -62,6 +68,12 @@ returns-in-Manifest g c =
     answered (g.I.Images.known c.args.images.now) (g.I.Images.known_map c.args.images.now)
     (map (λ word. word.now) c.args.words.now) (Manifest c.in-Manifest.words) c.scan_answer-in-Manifest.result
     (rw c.in-Manifest.is at c.in_ok-read_words.ensures) c.scan_answer-in-Manifest.ensures
+
+pub returns-in-Summary : goal.returns-in-Summary
+returns-in-Summary g c =
+    answered (g.I.Images.known c.args.images.now) (g.I.Images.known_map c.args.images.now)
+    (map (λ word. word.now) c.args.words.now) (Summary c.in-Summary.words) c.scan_answer-in-Summary.result
+    (rw c.in-Summary.is at c.in_ok-read_words.ensures) c.scan_answer-in-Summary.ensures
 
 pub returns-in-Superblocks : goal.returns-in-Superblocks
 returns-in-Superblocks g c =

@@ -171,6 +171,21 @@ fn the_manifest_of_a_disk_with_one_shard(rt: HostRuntime) -> Result<(), Fail> {
     Ok(())
 }
 
+/// The numbers were counted by hand: a chunk of 41 bytes and an index run of 155 bytes, each with a sound locator.
+#[test]
+fn the_summary_of_a_disk_with_one_shard(rt: HostRuntime) -> Result<(), Fail> {
+    let (disk, _) = one_shard(rt.alloc())?;
+    let text =
+        "verdict sound\npage_bytes 64\nextent_pages 4\nextents 3\nretired_extents 0\nsuperblocks 1\nsuperblock_generation 1\nsuperblock_tie 0\nsuperblocks_damaged 0\nsuperblocks_stray 0\nunreadable_pages 0\nruns 1\nruns_lost 0\nshards 1\nshards_broken 0\nshards_doubtful 0\nlocators 2\nlocators_hidden 0\nlocators_dangling 0\nspares 0\nchunks 2\nchunk_bytes 196\nlive_chunks 2\nlive_bytes 196\norphans 0\norphan_bytes 0\ntwins 0\nshared_places 0\ntorn_items 0\nnoise_items 0\nlost_items 0\ntails 0\ntail_bytes 0\ncandidates 0\ncandidate_bytes 0\nchunks_to_move 0\n";
+    for words in [
+        "summary --page 64 --pages 4 --extents 3 disk.img",
+        "summary --page 64 --pages 4 --extents 3 --workers 0 disk.img",
+    ] {
+        check(&rt, rt.alloc(), words, image(&disk), (0, text, ""))?;
+    }
+    Ok(())
+}
+
 /// A locator that dangles is listed with its reason. What only a lost run had isn't listed.
 #[test]
 fn the_locators_of_a_disk_with_an_unreadable_page(rt: HostRuntime) -> Result<(), Fail> {
