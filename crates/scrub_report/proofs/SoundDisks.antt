@@ -33,15 +33,19 @@ use Rattle.scrub_check.specs.Candidates.{CandidateValue}
 use Rattle.scrub_check.specs.Spares.{copies_of, spares_of}
 use Rattle.scrub_scan.specs.declared.standing.Standing.{Standing}
 use Rattle.scrub_check.specs.Status.{is_retired}
+use Rattle.scrub_report.specs.declared.doubts.Accepted.{Accepted}
 use Rattle.scrub_report.specs.declared.doubts.Doubt.{Doubt}
 use Rattle.scrub_report.specs.declared.doubts.Doubt.TheVariants.{NoSuperblock, Tail, Tie}
 use Rattle.scrub_report.specs.declared.summary.Verdict.{Verdict}
 use Rattle.scrub_report.specs.declared.summary.Verdict.TheVariants.{Sound, InDoubt, Wrong}
-use Rattle.scrub_report.specs.Doubts.{choice_doubts, doubts, ends_past, page_doubts, page_ranges, range_doubts, run_doubts, run_lost, spare_doubt, spare_doubts, spare_doubts_of, staying, superblock_damaged, superblock_lost, superblock_stray, tail_doubts, tail_lost_doubts}
-use Rattle.scrub_report.specs.Manifest.{are_sound, hidden_runs, is_of_read_run, is_of_shard, is_whole, lost_runs, of_shards}
-use Rattle.scrub_report.specs.Scrubbed.{IsScrubbed, Scrubbed, is_clean, is_clean_choice, is_clean_extent, is_clean_item, is_clean_list}
-use Rattle.scrub_report.specs.Summary.{IsAllRight, is_odd, one_if, is_quiet, is_sound_verdict, is_tail, verdict, verdict_by}
+use Rattle.scrub_report.specs.Doubts.{is_accepted, choice_doubts, doubts, ends_past, page_doubts, page_ranges, range_doubts, run_doubts, run_lost, spare_doubt, spare_doubts, spare_doubts_of, staying, superblock_damaged, superblock_lost, superblock_stray, tail_doubts, tail_lost_doubts}
+use Rattle.scrub_report.specs.Manifest.{IsWholeImage, are_sound, hidden_runs, is_of_read_run, is_of_shard, is_whole, lost_runs, of_shards}
+use Rattle.scrub_report.specs.Scrubbed.{IsCleanImage, IsScrubbed, Scrubbed, is_clean, is_clean_choice, is_clean_extent, is_clean_item, is_clean_list}
+use Rattle.scrub_report.specs.Summary.{IsAllRight, IsSoundImage, is_odd, one_if, is_quiet, is_sound_verdict, is_tail, verdict, verdict_by}
+use Rattle.scrub_report.specs.Reclaimable.{IsClear, is_clear}
 use Rattle.scrub_report.proofs.CleanLists.{sound_alone}
+use Rattle.scrub_report.proofs.OneReport.{one_scrub}
+use Rattle.scrub_super.proofs.PageLaws.{one_list_of_pages}
 
 -- ---- lists whose elements pass
 
@@ -311,3 +315,25 @@ sound_is_right image pages found x held is = by (is_clean found) (list_any is_od
     by true true c o e = absurd (false≢true e)
     by true false c o e = all_right image pages found x held c o
     by false odd c o e = absurd (false≢true e)
+
+-- ---- what the commands say of it
+
+right : (image : Image) (x : IsSoundImage image true) → IsAllRight x.pages x.found
+right image x = sound_is_right image x.pages x.found x.scrubbed x.held (sym x.verdict_is)
+
+pub sound_is_clean : (image : Image) → IsSoundImage image true → IsCleanImage image true
+sound_is_clean image x = record { found = x.found; scrubbed = x.scrubbed; verdict = sym (right image x).clean }
+
+pub sound_is_whole : (image : Image) → IsSoundImage image true → IsWholeImage image true
+sound_is_whole image x = record { found = x.found; scrubbed = x.scrubbed; verdict = sym (right image x).whole }
+
+tail_accepted : (accepted : Accepted) → accepted.tail ≡ true → (d : Doubt) → is_tail d ≡ true → is_accepted accepted d ≡ true
+tail_accepted accepted yes' (Tail extent first count) e = yes'
+tail_accepted accepted yes' _ e = absurd (false≢true e)
+
+pub sound_is_clear : (image : Image) (accepted : Accepted) (clear : Bool) → IsSoundImage image true → accepted.tail ≡ true →
+    IsClear image accepted clear → clear ≡ true
+sound_is_clear image accepted clear x yes' c =
+    c.verdict
+    ∙ (λ i. is_clear accepted (one_list_of_pages image c.pages x.pages c.held x.held i) (one_scrub image c.found x.found c.scrubbed x.scrubbed i))
+    ∙ all_weaker is_tail (is_accepted accepted) (doubts x.pages x.found) (tail_accepted accepted yes') (right image x).tails

@@ -14,7 +14,10 @@ ghost use Rattle.scrub_check.specs.Live.{is_chunk, live_bytes, size_of};
 ghost use Rattle.scrub_check.specs.Runs.{ReadRunsValue};
 ghost use Rattle.scrub_report.specs.Answer.{IsPartitionOfPlanned, IsCountOfPlanned};
 ghost use Rattle.scrub_report.specs.Parts.{AreRowsOf, IsScan, found_in};
-ghost use Rattle.scrub_report.specs.Scrubbed.{IsScrubbed, Scrubbed};
+ghost use Rattle.scrub_report.specs.declared.doubts.Accepted.{Accepted};
+ghost use Rattle.scrub_report.specs.Manifest.{IsWholeImage};
+ghost use Rattle.scrub_report.specs.Reclaimable.{IsClear};
+ghost use Rattle.scrub_report.specs.Scrubbed.{IsCleanImage, IsScrubbed, Scrubbed};
 ghost use Rattle.scrub_report.specs.Summary.{IsAllRight, IsSoundImage, IsSummary, candidate_numbers, chunk_numbers, disk_numbers, has_spare_by, is_damaged, is_lost, is_noise, is_odd, is_sound_verdict, is_stray, is_torn, item_numbers, number_line, number_lines, numbers_by, one_if, reading_numbers, shard_numbers, superblock_numbers, tally_in, verdict, verdict_by, verdict_line, verdict_text};
 
 use crate::answer::ScrubFault;
@@ -629,8 +632,13 @@ pub fn one_summary()
 {}
 
 /// A law: a disk that is sound is clean, nothing is missing of it, no page of its extent 0 is lost, damaged or stray, and each
-/// doubt of what may be reclaimed is a tail.
+/// doubt of what may be reclaimed is a tail. So for its image `scan` and `manifest` end with status 0, and so does
+/// `reclaimable` if tails are accepted.
 pub fn a_sound_disk_is_all_right()
-    ensures { (image : Image) (pages : List SuperblockPage) (found : Scrubbed) → IsScrubbed image found →
+    ensures found { (image : Image) (pages : List SuperblockPage) (found : Scrubbed) → IsScrubbed image found →
         AreSuperblockPages image pages → is_sound_verdict (verdict found pages) ≡ true → IsAllRight pages found }
+    ensures clean { (image : Image) → IsSoundImage image true → IsCleanImage image true }
+    ensures whole { (image : Image) → IsSoundImage image true → IsWholeImage image true }
+    ensures clear { (image : Image) (accepted : Accepted) (clear : Bool) → IsSoundImage image true → accepted.tail ≡ true →
+        IsClear image accepted clear → clear ≡ true }
 {}
