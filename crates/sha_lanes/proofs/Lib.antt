@@ -1,0 +1,2 @@
+mod LaneByLane
+mod Maj

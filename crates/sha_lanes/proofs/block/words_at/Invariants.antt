@@ -1,0 +1,6 @@
+use Rattle.std.proofs.Common.{◌≡◌, ℕ, ◌<◌, [], length, slice_index, slice_index_or}
+use Rattle.sha2.specs.Sha256.{word_at}
+use Rattle.sha_lanes.proofs.block.words_at.Given as goal
+
+abbrev pub invariant-lanes : goal.invariant-lanes
+invariant-lanes l = (length l.words ≡ 4) × ((j : ℕ) → j < l.l → slice_index l.words j ≡ word_at (slice_index_or l.blocks j []) l.at)

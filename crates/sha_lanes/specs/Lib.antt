@@ -1,0 +1,2 @@
+-- For public clauses.
+pub mod Lanes
