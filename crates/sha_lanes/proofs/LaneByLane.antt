@@ -1,5 +1,5 @@
 -- What an operation on vectors does in one lane.
-use Rattle.std.proofs.Common.{◌≡◌, ℕ, ◌<◌, List, length, slice_index, slice_index_or, slice_set, map, [], replicate, refl, ap, ap₂, ◌∙◌, arith}
+use Rattle.std.proofs.Common.{◌≡◌, ℕ, ◌<◌, List, length, slice_index, slice_index_or, slice_set, map, [], ◌∷◌, replicate, refl, ap, ap₂, ◌∙◌, arith}
 use Rattle.std.proofs.lemmas.List.{get_or-map, get_or-replicate, length-map, length-replicate, map-set}
 use Rattle.std.proofs.lemmas.Simd.{length-zip2, get_or-zip2}
 use Rattle.std.specs.Simd.Lanes.{zip2}
@@ -57,3 +57,18 @@ column_set l i rows row = map-set (λ row. slice_index row l) rows i row
 -- the same round, spelled another way
 pub rounds_at : (h ws : List ℕ) {v : List ℕ} {n k : ℕ} → n ≡ k → v ≡ rounds h ws n → v ≡ rounds h ws k
 rounds_at h ws e held = rw (← e) held
+
+-- the words of a list of eight
+pub eight : (xs : List ℕ) → length xs ≡ 8 →
+    slice_index xs 0 ∷ slice_index xs 1 ∷ slice_index xs 2 ∷ slice_index xs 3
+    ∷ slice_index xs 4 ∷ slice_index xs 5 ∷ slice_index xs 6 ∷ slice_index xs 7 ∷ [] ≡ xs
+eight (a ∷ b ∷ c ∷ d ∷ e ∷ f ∷ g ∷ h ∷ []) long = refl
+eight [] long = absurd (omega arith)
+eight (a ∷ []) long = absurd (omega arith)
+eight (a ∷ b ∷ []) long = absurd (omega arith)
+eight (a ∷ b ∷ c ∷ []) long = absurd (omega arith)
+eight (a ∷ b ∷ c ∷ d ∷ []) long = absurd (omega arith)
+eight (a ∷ b ∷ c ∷ d ∷ e ∷ []) long = absurd (omega arith)
+eight (a ∷ b ∷ c ∷ d ∷ e ∷ f ∷ []) long = absurd (omega arith)
+eight (a ∷ b ∷ c ∷ d ∷ e ∷ f ∷ g ∷ []) long = absurd (omega arith)
+eight (a ∷ b ∷ c ∷ d ∷ e ∷ f ∷ g ∷ h ∷ i ∷ xs) long = absurd (omega arith)

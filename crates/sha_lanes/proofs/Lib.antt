@@ -1,2 +1,4 @@
+mod Carrying
 mod LaneByLane
 mod Maj
+mod Placing

@@ -1,5 +1,6 @@
-//! SHA-256 of several messages at once, one in each lane of the vectors.
+//! SHA-256 of several messages at once, one in each lane of the processor's vectors.
 #![tactic(auto)]
 
 mod block;
 mod consts;
+mod lanes;

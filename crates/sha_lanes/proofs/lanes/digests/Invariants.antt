@@ -1,0 +1,18 @@
+use Rattle.std.proofs.Common.{◌≡◌, ◌<◌, ℕ, length}
+use Rattle.sha_lanes.specs.Lanes.{AreLanes}
+use Rattle.sha_lanes.proofs.Placing.{IsPlaced}
+use Rattle.sha_lanes.proofs.lanes.digests.Given as goal
+
+abbrev pub invariant-spans : goal.invariant-spans
+invariant-spans l = record {
+  size : length l.digests.items ≡ length l.spans;
+  lanes : AreLanes l.bytes l.spans l.lanes;
+  placed : (i : ℕ) → i < l.i → IsPlaced l.bytes l.spans l.lanes.index l.digests.items 0 i;
+}
+
+abbrev pub invariant-rest : goal.invariant-rest
+invariant-rest l = record {
+  size : length l.digests.items ≡ length l.spans;
+  lanes : AreLanes l.bytes l.spans l.lanes;
+  placed : (i : ℕ) → i < length l.spans → IsPlaced l.bytes l.spans l.lanes.index l.digests.items l.l i;
+}
