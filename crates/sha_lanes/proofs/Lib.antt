@@ -1,4 +1,5 @@
 mod Carrying
+mod Gathering
 mod LaneByLane
 mod Maj
 mod Placing

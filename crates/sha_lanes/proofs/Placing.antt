@@ -1,5 +1,5 @@
 -- Which spans are in a lane, and which digests are written.
-use Rattle.std.proofs.Common.{◌≡◌, ◌≢◌, ◌<◌, ◌≤◌, ◌⊎◌, ℕ, List, [], length, slice_index, slice_index_or, ◌∙◌, sym, ap, arith, inl, inr}
+use Rattle.std.proofs.Common.{◌≡◌, ◌≢◌, ◌<◌, ◌≤◌, ◌⊎◌, ℕ, List, [], length, slice_index, slice_index_or, ◌∙◌, sym, inl, inr}
 use Rattle.std.proofs.lemmas.Bool.{cases_eq}
 use Rattle.sha_lanes.specs.declared.lanes.Span.{Span}
 use Rattle.sha_lanes.specs.Lanes.{digest_of}

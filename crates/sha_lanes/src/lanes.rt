@@ -182,7 +182,11 @@ impl Lanes {
 }
 
 /// The digests of the blocks of each span, hashed from the initial hash value.
-pub(crate) fn digests(alloc: Global, bytes: &[u8], spans: &[Span]) -> Result<Vec<[u8; 32]>, AllocError>
+pub(crate) fn digests(
+    alloc: Global,
+    bytes: &[u8],
+    spans: &[Span],
+) -> Result<Vec<[u8; 32]>, AllocError>
     requires { All (IsWithin bytes.now) spans.now }
     ensures { IfOk result (λ all. all.items ≡ map (digest_of bytes.now) spans.now) }
 {

@@ -1,5 +1,5 @@
 use Rattle.std.proofs.Common.{arith}
-use Rattle.sha_lanes.proofs.LaneByLane.{known, read, both, splat}
+use Rattle.sha_lanes.proofs.LaneByLane.{known, both}
 use Rattle.sha_lanes.proofs.block.big_sigma0.Goals as goal
 
 pub returns : goal.returns

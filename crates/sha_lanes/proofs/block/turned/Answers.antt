@@ -1,4 +1,4 @@
-use Rattle.std.proofs.Common.{◌≡◌, ◌-◌, ◌%◌, ◌∙◌, refl, arith, slice_index}
+use Rattle.std.proofs.Common.{◌≡◌, ◌-◌, ◌%◌, arith}
 use Rattle.sha_lanes.proofs.LaneByLane.{read, both, splat}
 use Rattle.sha_lanes.proofs.block.turned.Goals as goal
 

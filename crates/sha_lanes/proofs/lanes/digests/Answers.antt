@@ -1,9 +1,9 @@
-use Rattle.std.proofs.Common.{◌≡◌, ◌<◌, ◌++◌, ◌∙◌, arith, inl, inr, refl, sym, ap, drop, take, length, slice_index, slice_index_or, slice_set, map, [], List, ℕ, ◌+◌}
-use Rattle.std.proofs.lemmas.Bool.{cases_lt, cases_eq}
-use Rattle.std.proofs.lemmas.List.{get_or-map, get_or-set_same, get_or-set_other, get_or_default, length-map, same_lists, take_at}
+use Rattle.std.proofs.Common.{◌≡◌, ◌<◌, ◌++◌, ◌∙◌, arith, inl, inr, sym, ap, drop, take, length, slice_index, slice_index_or, map, [], List, ℕ, ◌+◌}
+use Rattle.std.proofs.lemmas.Bool.{cases_lt}
+use Rattle.std.proofs.lemmas.List.{get_or-map, get_or_default, length-map, same_lists, take_at}
 use Rattle.sha_lanes.specs.Lanes.{digest_of}
 use Rattle.sha_lanes.specs.declared.lanes.Span.{Span}
-use Rattle.sha_lanes.proofs.Placing.{IsPlaced, placed_on}
+use Rattle.sha_lanes.proofs.Placing.{placed_on}
 use Rattle.sha_lanes.proofs.lanes.digests.Goals as goal
 
 pub spans-preserved : goal.spans-preserved

@@ -1,7 +1,6 @@
-use Rattle.std.proofs.Common.{◌≡◌, ◌∙◌, arith, inl, inr, sym, refl, slice_index, slice_set}
+use Rattle.std.proofs.Common.{◌≡◌, ◌∙◌, arith, inl, inr, sym, slice_index, slice_set}
 use Rattle.std.proofs.lemmas.Bool.{cases_eq}
 use Rattle.std.proofs.lemmas.List.{get_or-set_same, get_or-set_other, get_or_default}
-use Rattle.sha_lanes.specs.Lanes.{Carries}
 use Rattle.sha_lanes.proofs.Carrying.{Carries_begun, Carries_same}
 use Rattle.sha_lanes.proofs.lanes.Lanes.begin.Goals as goal
 

@@ -1,4 +1,4 @@
-use Rattle.std.proofs.Common.{◌≡◌, ◌<◌, arith, slice_index}
+use Rattle.std.proofs.Common.{◌<◌, arith, slice_index}
 use Rattle.sha_lanes.proofs.Carrying.{block_within}
 use Rattle.sha_lanes.proofs.lanes.Lanes.end.Goals as goal
 

@@ -1,4 +1,4 @@
-use Rattle.std.proofs.Common.{◌≡◌, ◌<◌, ◌≤◌, ◌+◌, ◌-◌, ℕ, length, slice_index}
+use Rattle.std.proofs.Common.{◌≡◌, ◌<◌, ◌≤◌, ◌+◌, ℕ, length, slice_index}
 use Rattle.sha_lanes.specs.Lanes.{lane}
 use Rattle.sha_lanes.proofs.Carrying.{IsStepped}
 use Rattle.sha_lanes.proofs.lanes.Lanes.step.Given as goal
