@@ -71,6 +71,28 @@ bytes_stand at p n whole k below =
     (λ none. whole (record { place = p + k; low = omega arith; high = omega (arith, few); unreadable = none }))
     ∙ ap Some (sym (get_or-map-range_with_len (λ i. byte_or_zero (at i)) p n k (p + k) 0 few refl))
 
+-- a plain frame is there, if bytes of its length are between its two ends
+pub plain_frame_of : (x : Extent) (p : ℕ) (h : Head) (b : List ℕ) → IsClaimedAt x p h → h.form ≡ Plain →
+    h.length ≡ length b → AreBytesAt x.byte (p + head_size) b → FrameAt x p Plain h.uuid b
+plain_frame_of x p h b claim is size between =
+    let start : AreBytesAt x.byte p (head Plain h.uuid (length b)) =
+    subst (λ (m : ℕ). AreBytesAt x.byte p (head Plain h.uuid m)) size
+    (subst (λ (f : Form). AreBytesAt x.byte p (head f h.uuid h.length)) is claim.head_stands) in
+    let stop : AreBytesAt x.byte (p + head_size + h.length) (h.uuid ++ mark Plain) =
+    subst (λ (q : ℕ). AreBytesAt x.byte q (h.uuid ++ mark Plain))
+    (let e : p + h.length + head_size ≡ p + head_size + h.length = omega arith in e) (rw is at claim.close_stands) in
+    let round : frame_overhead h.form ≡ frame_overhead Plain = ap frame_overhead is in
+    let behind : AreBytesAt x.byte (p + head_size) (b ++ (h.uuid ++ mark Plain)) =
+    bytes_joined x.byte (p + head_size) (p + head_size + h.length) b (h.uuid ++ mark Plain) (omega (arith, size)) between
+    stop in
+    record {
+      has_frame = record { sixteen = claim.sixteen; short = omega (arith, size, claim.short) };
+      fits = omega (arith, size, round, claim.fits);
+      stands =
+          bytes_joined x.byte p (p + head_size) (head Plain h.uuid (length b)) (b ++ (h.uuid ++ mark Plain))
+          (omega (arith, length-head_of Plain h.uuid (length b) claim.sixteen)) start behind;
+    }
+
 -- so a plain frame is there, if all its bytes can be read
 pub plain_frame : (x : Extent) (p : ℕ) (h : Head) → IsClaimedAt x p h → h.form ≡ Plain →
     ¬ HasGap x.byte p (h.length + frame_overhead h.form) → HasPlainFrame x p h
@@ -78,27 +100,8 @@ plain_frame x p h claim is whole =
     let n = h.length in
     let b = bytes_from x.byte (p + head_size) n in
     let size : length b ≡ n = length-map-range_with_len (λ i. byte_or_zero (x.byte i)) (p + head_size) n in
-    let start : AreBytesAt x.byte p (head Plain h.uuid (length b)) =
-    subst (λ (m : ℕ). AreBytesAt x.byte p (head Plain h.uuid m)) (sym size)
-    (subst (λ (f : Form). AreBytesAt x.byte p (head f h.uuid n)) is claim.head_stands) in
-    let stop : AreBytesAt x.byte (p + head_size + n) (h.uuid ++ mark Plain) =
-    subst (λ (q : ℕ). AreBytesAt x.byte q (h.uuid ++ mark Plain))
-    (let e : p + n + head_size ≡ p + head_size + n = omega arith in e) (rw is at claim.close_stands) in
     let round : frame_overhead h.form ≡ frame_overhead Plain = ap frame_overhead is in
     let between : AreBytesAt x.byte (p + head_size) b =
     bytes_stand x.byte (p + head_size) n
     (λ gap. whole (record { place = gap.place; low = omega (arith, gap.low); high = omega (arith, gap.high, round); unreadable = gap.unreadable })) in
-    let behind : AreBytesAt x.byte (p + head_size) (b ++ (h.uuid ++ mark Plain)) =
-    bytes_joined x.byte (p + head_size) (p + head_size + n) b (h.uuid ++ mark Plain) (omega (arith, size)) between
-    stop in
-    record {
-      payload = b;
-      frame = record {
-        has_frame = record { sixteen = claim.sixteen; short = omega (arith, size, claim.short) };
-        fits = omega (arith, size, round, claim.fits);
-        stands =
-            bytes_joined x.byte p (p + head_size) (head Plain h.uuid (length b)) (b ++ (h.uuid ++ mark Plain))
-            (omega (arith, length-head_of Plain h.uuid (length b) claim.sixteen)) start behind;
-      };
-      length = sym size;
-    }
+    record { payload = b; frame = plain_frame_of x p h b claim is (sym size) between; length = sym size }

@@ -1,5 +1,5 @@
 -- Two pages of an extent in buffers, and what is scanned through them.
-use Rattle.std.specs.Prelude.{◌≡◌, ◌<◌, ◌≤◌, ◌+◌, ◌-◌, ◌/◌, ◌⊎◌, ◌++◌, ℕ, List, Option, Some, None, IfSome, ◌^◌, if◌then◌else◌, nat_lt, length}
+use Rattle.std.specs.Prelude.{◌≡◌, ◌<◌, ◌≤◌, ◌+◌, ◌-◌, ◌/◌, ◌⊎◌, ℕ, List, Option, Some, None, IfSome, ◌^◌, if◌then◌else◌, nat_lt, length}
 use Rattle.std.specs.Option.{option_map_or}
 use Rattle.std.specs.List.{Contains}
 use Rattle.scrub_disk.specs.Image.{Image, extent_bytes, AreBytesAt}
@@ -10,7 +10,7 @@ use Rattle.scrub_scan.specs.declared.pages.Target.{Target}
 use Rattle.scrub_scan.specs.declared.scanner.Scanner.{Scanner}
 use Rattle.scrub_scan.specs.declared.scanner.Found.{Found}
 use Rattle.scrub_frame.specs.declared.form.Form.{Form}
-use Rattle.scrub_frame.specs.Frame.{head, mark, close_size, frame_overhead}
+use Rattle.scrub_frame.specs.Frame.{frame_overhead}
 use Rattle.scrub_frame.specs.declared.matcher.Matcher.{Matcher}
 use Rattle.scrub_frame.specs.declared.matcher.Fed.{Fed}
 use Rattle.scrub_frame.specs.declared.matcher.Fed.TheVariants.{More, Whole, No}
@@ -103,12 +103,3 @@ abbrev pub IsPassed : Extent → ℕ → ℕ → Matcher → Fed → Type 0
 IsPassed x start stop m More = Passes x start stop m × (stop < x.pointer)
 IsPassed x start stop m (Whole used f u n d) = IsFound x start (record { form = f; uuid = u; length = n; digest = d }) × (start + n + frame_overhead f ≤ stop)
 IsPassed x start stop m No = NoFrameAt x start
-
--- a head is at p, the frame that it claims would end at or before the pointer, and what closes it is where it would end
-pub record Claims (x : Extent) (p : ℕ) : Type 0 where
-  pub form : Form
-  pub uuid : List ℕ
-  pub size : ℕ
-  pub head_stands : AreBytesAt x.byte p (head form uuid size)
-  pub fits : p + size + frame_overhead form ≤ x.pointer
-  pub close : AreBytesAt x.byte (p + (size + frame_overhead form) - close_size form) (uuid ++ mark form)

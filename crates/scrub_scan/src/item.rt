@@ -62,6 +62,7 @@ impl Model for Items {
 
 impl Item {
     ghost use Rattle.scrub_scan.specs.Item.{span_of, start_of, stop_of};
+    ghost use Rattle.scrub_scan.specs.Gathering.{with_digest};
 
     /// The byte of the extent at which the item begins, and the one behind its last.
     fn span(&self) -> (u32, u32)
@@ -73,6 +74,32 @@ impl Item {
             Item::Torn { start, stop } => (*start, *stop),
             Item::Noise { start, stop } => (*start, *stop),
             Item::Lost { start, stop } => (*start, *stop),
+        }
+    }
+
+    /// The item with another digest, if it is a chunk.
+    pub(crate) fn with_digest(self, digest: [u8; DIGEST_BYTES]) -> Item
+        ensures { result ≡ with_digest self digest }
+    {
+        match self {
+            Item::Chunk {
+                form,
+                start,
+                stop,
+                uuid,
+                length,
+                ..
+            } => {
+                Item::Chunk {
+                    form,
+                    start,
+                    stop,
+                    uuid,
+                    length,
+                    digest,
+                }
+            }
+            _ => self,
         }
     }
 

@@ -1,6 +1,7 @@
 //! Finds the item at a place of an extent, reading one page at a time. `tiling` decides which places to look at.
 
-ghost use Rattle.std.specs.Prelude.{◌≡◌, ◌+◌, ◌-◌, ◌*◌, ◌/◌, ◌^◌, ◌<◌, ◌≤◌, ◌↔◌, ◌∷◌, [], ℕ, List, true, false, None, Some, IsTrue, IfOk, IfSome, IfNone, length, slice_index};
+ghost use Rattle.std.specs.Prelude.{◌≡◌, ◌+◌, ◌-◌, ◌*◌, ◌/◌, ◌^◌, ◌<◌, ◌≤◌, ◌↔◌, ◌++◌, ◌∷◌, [], ℕ, List, true, false, None, Some, IsTrue, IfOk, IfSome, IfNone, min, length, slice_index, slice_range, option_map};
+ghost use Rattle.scrub_disk.specs.Limits.{max_extent_bytes};
 ghost use Rattle.scrub_disk.specs.Image.{Image, byte, extent_bytes, AreBytesAt};
 ghost use Rattle.scrub_frame.specs.declared.form.Form.{Form};
 ghost use Rattle.scrub_frame.specs.Frame.{magic, frame_overhead};
@@ -8,7 +9,10 @@ ghost use Rattle.scrub_frame.specs.Matching.{left};
 ghost use Rattle.scrub_scan.specs.declared.pages.Target.{Target};
 ghost use Rattle.scrub_scan.specs.Extent.{Extent, FrameAt, NoFrameAt, HasGap, bound};
 ghost use Rattle.scrub_scan.specs.Item.{start_of, stop_of, IsItem};
-ghost use Rattle.scrub_scan.specs.Pages.{HoldBoth, IsTarget, target_of, Scans, IsFound, Passes, IsPassed, Claims, AskedBy, HasRead, KeepsNear, Reaches, place_behind, last_page, frame_cost};
+ghost use Rattle.scrub_scan.specs.Pages.{HoldBoth, IsTarget, target_of, Scans, IsFound, Passes, IsPassed, AskedBy, HasRead, KeepsNear, Reaches, place_behind, last_page, frame_cost};
+ghost use Rattle.scrub_scan.specs.Standing.{IsClaimedAt};
+ghost use Rattle.scrub_scan.specs.Gathering.{IsMet, IsReached, with_digest};
+ghost use Rattle.sha_lanes.specs.Gathered.{Gathers};
 
 use crate::counted_source::{CountedSource, PagesAsked};
 use crate::item::Item;
@@ -16,8 +20,9 @@ use crate::pages::{Target, TwoPages};
 use crate::zeros::is_zero;
 use scrub_disk::{OutOfMemory, PageSource};
 use scrub_frame::{
-    CLOSE_BYTES, DIGEST_BYTES, Fed, Form, HEAD_BYTES, LEAST_OVERHEAD, Matcher, put_part, read_head,
+    CLOSE_BYTES, DIGEST_BYTES, Fed, Form, HEAD_BYTES, Head, LEAST_OVERHEAD, Matcher, put_part, read_head,
 };
+use sha_lanes::Batch;
 use std::alloc::Global;
 use uuid::Uuid;
 
@@ -30,6 +35,23 @@ pub(crate) struct Found {
     pub length: u32,
     /// The SHA-256 of its payload.
     pub digest: [u8; DIGEST_BYTES],
+}
+
+/// The longest payload that is gathered in a batch, to be hashed beside others; a longer one is hashed at once.
+pub(crate) const LONGEST_GATHERED: u32 = 1_048_576;
+
+/// An item that was found, and whether its payload is in the batch, so that it has no digest yet.
+#[derive(Clone, Copy)]
+pub(crate) struct Reached {
+    pub item: Item,
+    pub is_gathered: bool,
+}
+
+/// A frame that was found, and whether its payload is in the batch, so that it has no digest yet.
+#[derive(Clone, Copy)]
+pub(crate) struct Met {
+    pub found: Found,
+    pub is_gathered: bool,
 }
 
 /// Reads an extent page by page. It keeps two pages, the running digest of the current frame, and the number of one
@@ -69,6 +91,17 @@ fn readable_item(part: &[u8], start: u32, stop: u32) -> Item
     }
 }
 
+/// The bytes of a part that are between two places of the extent. The part begins at `place`.
+fn payload_in(part: &[u8], place: usize, first: usize, last: usize) -> &[u8]
+    requires order { first ≤ last }
+    requires small { place + length part.now ≤ max_extent_bytes }
+    ensures { result.now ≡ slice_range part.now (min (length part.now) (first - place)) (min (length part.now) (last - place)) }
+{
+    let from = first.saturating_sub(place).min(part.len());
+    let to = last.saturating_sub(place).min(part.len());
+    &part[from..to]
+}
+
 impl Scanner {
     /// A scanner that has read nothing.
     pub fn new(alloc: Global, page: usize, asked: PagesAsked) -> Result<Scanner, OutOfMemory>
@@ -95,29 +128,102 @@ impl Scanner {
         asked
     }
 
-    /// The item that begins at a place below the pointer.
+    /// The item that begins at a place below the pointer. If it is a chunk, its payload may be added to the batch in place
+    /// of being hashed.
     pub fn item_at<D: PageSource>(
         &mut self,
         disk: &CountedSource<'_, D>,
         target: &Target,
         start: usize,
-    ) -> Item
+        batch: &mut Batch,
+    ) -> Result<Reached, OutOfMemory>
         requires target { IsTarget (D.image disk.now) target.now }
         requires scans { Scans (D.image disk.now) target.now self.old }
         requires below { start < target.now.pointer }
-        ensures scans { Scans (D.image disk.now) target.now self.new }
-        ensures start { start_of result ≡ start }
-        ensures item { IsItem (target_of (D.image disk.now) target.now) result }
+        ensures scans { IfOk result (λ _. Scans (D.image disk.now) target.now self.new) }
+        ensures start { IfOk result (λ r. start_of r.item ≡ start) }
+        ensures item { (messages : List (List ℕ)) → Gathers batch.old messages [] →
+            IfOk result (λ r. IsReached (target_of (D.image disk.now) target.now) r messages batch.new) }
         ensures asked { (n : ℕ) → AskedBy self.old.pages (start / target.now.page) n →
-            self.new.pages.asked ≤ n + 4 + (D.image disk.now).geometry.pages }
-        ensures asked_next { (n : ℕ) → AskedBy self.old.pages (start / target.now.page) n → stop_of result < target.now.pointer →
-            AskedBy self.new.pages (stop_of result / target.now.page) (n + (stop_of result / target.now.page - start / target.now.page) * ((D.image disk.now).geometry.pages + 5)) }
-        ensures read { HasRead self.old.pages (start / target.now.page) → HasRead self.new.pages (stop_of result / target.now.page) }
+            IfOk result (λ _. self.new.pages.asked ≤ n + 4 + (D.image disk.now).geometry.pages) }
+        ensures asked_next { (n : ℕ) → AskedBy self.old.pages (start / target.now.page) n →
+            IfOk result (λ r. stop_of r.item < target.now.pointer →
+            AskedBy self.new.pages (stop_of r.item / target.now.page) (n + (stop_of r.item / target.now.page - start / target.now.page) * ((D.image disk.now).geometry.pages + 5))) }
+        ensures read { HasRead self.old.pages (start / target.now.page) →
+            IfOk result (λ r. HasRead self.new.pages (stop_of r.item / target.now.page)) }
     {
-        match self.frame_at(disk, target, start) {
-            Some(found) => self.chunk_of(target, start, found),
-            None => self.unframed_at(target, start),
+        let met = self.meet_frame(disk, target, start, batch)?;
+        match met {
+            Some(met) => {
+                Ok(Reached {
+                    item: self.chunk_of(target, start, met.found),
+                    is_gathered: met.is_gathered,
+                })
+            }
+            None => {
+                Ok(Reached {
+                    item: self.unframed_at(target, start),
+                    is_gathered: false,
+                })
+            }
         }
+    }
+
+    /// The frame at a place below the pointer, if there is one. The page of the place becomes the near one. A short payload
+    /// of a plain frame is added to the batch in place of being hashed.
+    fn meet_frame<D: PageSource>(
+        &mut self,
+        disk: &CountedSource<'_, D>,
+        target: &Target,
+        start: usize,
+        batch: &mut Batch,
+    ) -> Result<Option<Met>, OutOfMemory>
+        requires target { IsTarget (D.image disk.now) target.now }
+        requires scans { Scans (D.image disk.now) target.now self.old }
+        requires below { start < target.now.pointer }
+        ensures scans { IfOk result (λ _. Scans (D.image disk.now) target.now self.new) }
+        ensures near { IfOk result (λ _. self.new.pages.near.number ≡ Some (start / target.now.page)) }
+        ensures found { (messages : List (List ℕ)) → Gathers batch.old messages [] → IfOk result (λ found.
+            IfSome found (λ m. IsMet (target_of (D.image disk.now) target.now) start m messages batch.new)) }
+        ensures fits { IfOk result (λ found. IfSome found (λ m.
+            start + m.found.length + frame_overhead m.found.form ≤ target.now.pointer)) }
+        ensures none { (messages : List (List ℕ)) → Gathers batch.old messages [] → IfOk result (λ found.
+            IfNone found (NoFrameAt (target_of (D.image disk.now) target.now) start × Gathers batch.new messages [])) }
+        ensures asked_found { (n : ℕ) → AskedBy self.old.pages (start / target.now.page) n → IfOk result (λ found.
+            IfSome found (λ m. self.new.pages.asked ≤ n + 1 + frame_cost (start / target.now.page) (last_page target.now start m.found.form m.found.length))) }
+        ensures asked_none { (n : ℕ) → AskedBy self.old.pages (start / target.now.page) n → IfOk result (λ found.
+            IfNone found (self.new.pages.asked ≤ n + 4 + (D.image disk.now).geometry.pages)) }
+        ensures read { HasRead self.old.pages (start / target.now.page) → IfOk result (λ found.
+            HasRead self.new.pages (place_behind start (option_map (λ m. m.found) found) / target.now.page)) }
+    {
+        self.pages
+            .approach(disk, target.extent, (start / target.page) as u32);
+        let Some(head) = self.may_stand(disk, target, start) else {
+            return Ok(None);
+        };
+        if head.form == Form::Sealed || head.length > LONGEST_GATHERED {
+            return match self.pass_frame(disk, target, start) {
+                Some(found) => {
+                    Ok(Some(Met {
+                        found,
+                        is_gathered: false,
+                    }))
+                }
+                None => Ok(None),
+            };
+        }
+        if !self.pass_plain(disk, target, start, &head, batch)? {
+            return Ok(None);
+        }
+        Ok(Some(Met {
+            found: Found {
+                form: head.form,
+                uuid: head.uuid,
+                length: head.length,
+                digest: [0; DIGEST_BYTES],
+            },
+            is_gathered: true,
+        }))
     }
 
     /// The frame at a place below the pointer, if there is one. The page of the place becomes the near one.
@@ -143,10 +249,10 @@ impl Scanner {
     {
         self.pages
             .approach(disk, target.extent, (start / target.page) as u32);
-        if !self.may_stand(disk, target, start) {
-            return None;
+        match self.may_stand(disk, target, start) {
+            Some(_) => self.pass_frame(disk, target, start),
+            None => None,
         }
-        self.pass_frame(disk, target, start)
     }
 
     /// The chunk of a frame that was found at a place. If the next item begins on the far page, that becomes the near one.
@@ -157,6 +263,10 @@ impl Scanner {
         ensures start { start_of result ≡ start }
         ensures stop { stop_of result ≡ start + found.length + frame_overhead found.form }
         ensures item { (image : Image) → IsFound (target_of image target.now) start found → IsItem (target_of image target.now) result }
+        ensures chunk { (image : Image) (digest : List ℕ) → IsFound (target_of image target.now) start
+            (record { form = found.form; uuid = found.uuid; length = found.length; digest = digest }) →
+            IsItem (target_of image target.now) (with_digest result digest) }
+        ensures digest { with_digest result found.digest ≡ result }
         ensures near { self.old.pages.near.number ≡ Some (stop_of result / target.now.page) →
             self.new.pages.near.number ≡ Some (stop_of result / target.now.page) }
         ensures asked { self.new.pages.asked ≡ self.old.pages.asked }
@@ -200,49 +310,51 @@ impl Scanner {
         }
     }
 
-    /// Whether a frame may be at a place: its head is there, it doesn't contain the page known to be unreadable, and what
-    /// closes it is there. This is checked before anything is hashed, so a head without its far end costs at most three
+    /// The head of the frame that may be at a place: it is there, it doesn't contain the page known to be unreadable, and
+    /// what closes it is there. This is checked before anything is hashed, so a head without its far end costs at most three
     /// page reads.
     fn may_stand<D: PageSource>(
         &mut self,
         disk: &CountedSource<'_, D>,
         target: &Target,
         start: usize,
-    ) -> bool
+    ) -> Option<Head>
         requires target { IsTarget (D.image disk.now) target.now }
         requires scans { Scans (D.image disk.now) target.now self.old }
         requires below { start < target.now.pointer }
         ensures scans { Scans (D.image disk.now) target.now self.new }
         ensures kept { KeepsNear self.old.pages self.new.pages }
-        ensures claims { result ≡ true → Claims (target_of (D.image disk.now) target.now) start }
-        ensures none { result ≡ false → NoFrameAt (target_of (D.image disk.now) target.now) start }
+        ensures claims { IfSome result (IsClaimedAt (target_of (D.image disk.now) target.now) start) }
+        ensures none { IfNone result (NoFrameAt (target_of (D.image disk.now) target.now) start) }
         ensures asked { self.new.pages.asked ≤ self.old.pages.asked + 4 }
-        ensures known { (f : Form) (u b : List ℕ) → FrameAt (target_of (D.image disk.now) target.now) start f u b →
-            last_page target.now start f (length b) ≤ start / target.now.page →
-            self.old.pages.near.number ≡ Some (start / target.now.page) → self.new.pages.asked ≡ self.old.pages.asked }
+        ensures known { IfSome result (λ h. last_page target.now start h.form h.length ≤ start / target.now.page →
+            self.old.pages.near.number ≡ Some (start / target.now.page) → self.new.pages.asked ≡ self.old.pages.asked) }
     {
         let room = target.pointer - start;
         if room < LEAST_OVERHEAD {
-            return false;
+            return None;
         }
         let mut bytes = [0; HEAD_BYTES];
         if !self.fill(disk, target, start, &mut bytes) {
-            return false;
+            return None;
         }
         let Some(head) = read_head(&bytes) else {
-            return false;
+            return None;
         };
         let size = head.frame_bytes() as usize;
         if room < size || self.has_gap(start / target.page, (start + size - 1) / target.page) {
-            return false;
+            return None;
         }
         let close = head.form.close_bytes();
-        self.has_bytes(
+        if !self.has_bytes(
             disk,
             target,
             start + size - close,
             &head.form.close(&head.uuid)[..close],
-        )
+        ) {
+            return None;
+        }
+        Some(head)
     }
 
     /// Whether the known unreadable page is one of these.
@@ -394,5 +506,58 @@ impl Scanner {
             return Fed::No;
         };
         self.matcher.feed(part)
+    }
+
+    /// Passes a plain frame that is there if all its bytes can be read, and adds its payload to the batch. False if one
+    /// can't be read.
+    fn pass_plain<D: PageSource>(
+        &mut self,
+        disk: &CountedSource<'_, D>,
+        target: &Target,
+        start: usize,
+        head: &Head,
+        batch: &mut Batch,
+    ) -> Result<bool, OutOfMemory>
+        requires target { IsTarget (D.image disk.now) target.now }
+        requires scans { Scans (D.image disk.now) target.now self.old }
+        requires plain { head.now.form ≡ Form.Plain }
+        requires claimed { IsClaimedAt (target_of (D.image disk.now) target.now) start head.now }
+        ensures scans { IfOk result (λ _. Scans (D.image disk.now) target.now self.new) }
+        ensures near { IfOk result (λ _. self.new.pages.near ≡ self.old.pages.near) }
+        ensures found { (messages : List (List ℕ)) → Gathers batch.old messages [] → IfOk result (λ found. found ≡ true →
+            (payload : List ℕ) × FrameAt (target_of (D.image disk.now) target.now) start head.now.form head.now.uuid payload
+            × (head.now.length ≡ length payload) × Gathers batch.new (messages ++ payload ∷ []) []) }
+        ensures none { (messages : List (List ℕ)) → Gathers batch.old messages [] → IfOk result (λ found. found ≡ false →
+            NoFrameAt (target_of (D.image disk.now) target.now) start × Gathers batch.new messages []) }
+        ensures asked_found { self.old.pages.near.number ≡ Some (start / target.now.page) → IfOk result (λ found. found ≡ true →
+            self.new.pages.asked ≤ self.old.pages.asked + (last_page target.now start head.now.form head.now.length - start / target.now.page)) }
+        ensures asked_none { self.old.pages.near.number ≡ Some (start / target.now.page) → IfOk result (λ found. found ≡ false →
+            self.new.pages.asked < self.old.pages.asked + (D.image disk.now).geometry.pages) }
+        ensures read_found { HasRead self.old.pages (start / target.now.page) → IfOk result (λ found. found ≡ true →
+            HasRead self.new.pages ((start + head.now.length + frame_overhead head.now.form) / target.now.page)) }
+        ensures read_none { HasRead self.old.pages (start / target.now.page) → IfOk result (λ found. found ≡ false →
+            HasRead self.new.pages (start / target.now.page)) }
+    {
+        let first = start + HEAD_BYTES;
+        let last = first + head.length as usize;
+        let end = start + head.frame_bytes() as usize;
+        let mut place = start;
+        while place < end {
+            let stop = target.bound(place);
+            let page = (place / target.page) as u32;
+            self.pages.reach(disk, target.extent, page);
+            let Some(part) = self.pages.part(place, stop) else {
+                self.gap = Some(page);
+                batch.cancel();
+                return Ok(false);
+            };
+            batch.append(payload_in(part, place, first, last))?;
+            if end <= stop {
+                batch.end()?;
+                return Ok(true);
+            }
+            place = stop;
+        }
+        Ok(false)
     }
 }

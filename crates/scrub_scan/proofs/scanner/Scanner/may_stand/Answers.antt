@@ -1,24 +1,24 @@
 -- Why there is no frame: its head can't be read or isn't one, it claims too much or a page that can't be read, or what
 -- closes it isn't there.
-use Rattle.std.proofs.Common.{arith, sym, ◌∙◌, ℕ, List, ◌≡◌, ◌<◌, ◌+◌, ◌-◌, ◌*◌, ◌/◌, ◌++◌, length, take, ap, Some}
-use Rattle.scrub_frame.specs.Frame.{head_size, mark, close_size, frame_overhead}
+use Rattle.std.proofs.Common.{arith, sym, ◌∙◌, ℕ, List, ◌≡◌, ◌<◌, ◌+◌, ◌-◌, ◌*◌, ◌/◌, ◌++◌, take, ap, Some}
+use Rattle.scrub_frame.specs.Frame.{head_size, mark, close_size, payload_start, frame_overhead}
 use Rattle.scrub_scan.specs.Pages.{target_of}
 use Rattle.std.proofs.Math.Nat.{div-mul-le_self}
 use Rattle.std.proofs.lemmas.List.{length-take}
 use Rattle.scrub_scan.proofs.PlacePages.{place_in_page, page_of}
 use Rattle.scrub_scan.proofs.Asked.{below_bound}
 use Rattle.scrub_scan.proofs.Passing.{gap_byte}
-use Rattle.scrub_scan.proofs.FrameBytes.{no_gap, claimed_head, claimed_frame, has_magic, close_stands}
+use Rattle.scrub_scan.proofs.FrameBytes.{no_gap, claimed_frame, has_magic, close_stands}
 use Rattle.scrub_scan.proofs.scanner.Scanner.may_stand.Goals as goal
 use Rattle.scrub_scan.proofs.scanner.Scanner.may_stand.Goals.{then-room-size-via-then-room-size, then-room-size-via-else-room-size+then-has_gap}
 
 pub returns-then-not-fill-clause-none : goal.returns-then-not-fill-clause-none
-returns-then-not-fill-clause-none g c = λ _ f u b k.
+returns-then-not-fill-clause-none g c = λ f u b k.
     no_gap (target_of (g.D.PageSource.image c.args.disk.now) c.args.target.now) c.args.start head_size f u b k
     (omega arith) (c.fill.ensures.gap c.if-not-fill.true)
 
 pub returns-in_default-clause-none : goal.returns-in_default-clause-none
-returns-in_default-clause-none g c = λ _ f u b k.
+returns-in_default-clause-none g c = λ f u b k.
     c.in_default.ensures.none f
     (has_magic (target_of (g.D.PageSource.image c.args.disk.now) c.args.target.now) c.args.start f u b c.fill.new.out k (omega arith) (c.fill.ensures.filled c.if-not-fill.false))
 
@@ -27,7 +27,7 @@ closes : (all w : List ℕ) (size n : ℕ) → n ≡ size → take size all ≡ 
 closes all w size n is all_is = ap (λ j. take j all) is ∙ all_is
 
 pub returns-then-room-size-clause-none : goal.returns-then-room-size-clause-none
-returns-then-room-size-clause-none g c = λ _ f u b k.
+returns-then-room-size-clause-none g c = λ f u b k.
     let image = g.D.PageSource.image c.args.disk.now in
     let x = target_of image c.args.target.now in
     let form = c.in-Some.head.form in
@@ -55,8 +55,8 @@ returns-then-room-size-clause-none g c = λ _ f u b k.
           })
     ]
 
-pub returns-clause-none : goal.returns-clause-none
-returns-clause-none g c = λ no f u b k.
+pub returns-then-not-has_bytes-clause-none : goal.returns-then-not-has_bytes-clause-none
+returns-then-not-has_bytes-clause-none g c = λ f u b k.
     let x = target_of (g.D.PageSource.image c.args.disk.now) c.args.target.now in
     let form = c.in-Some.head.form in
     let v = c.in-Some.head.uuid in
@@ -68,36 +68,37 @@ returns-clause-none g c = λ no f u b k.
     let wanted : take c.close_bytes-close.result c.close.result ≡ v ++ mark form =
     closes c.close.result (v ++ mark form) (close_size form) c.close_bytes-close.result
     c.close_bytes-close.ensures.value c.close.ensures in
-    c.has_bytes.ensures.none no
+    c.has_bytes.ensures.none c.if-not-has_bytes.true
     (rw wanted
     (close_stands x c.args.start place form v b same.0 (omega (arith, same.1, c.frame_bytes-size.ensures.value, c.close_bytes-close.ensures.value))))
 
 pub returns-clause-known : goal.returns-clause-known
-returns-clause-known g c = λ f u b k last near.
+returns-clause-known g c = λ last near.
     let t = c.args.target.now in
-    let x = target_of (g.D.PageSource.image c.args.disk.now) t in
     let form = c.in-Some.head.form in
     let n = c.in-Some.head.length in
     let q = c.args.start / t.page in
     let place = c.args.start + c.frame_bytes-size.result - c.close_bytes-close.result in
-    let same =
-    claimed_head x c.args.start f u b form c.in-Some.head.uuid c.fill.new.out n k (omega arith)
-    (c.fill.ensures.filled c.if-not-fill.false) (omega arith) (omega arith) c.in-Some.ensures.found in
-    let round : frame_overhead form ≡ frame_overhead f = ap frame_overhead same.0 in
     let size : c.frame_bytes-size.result ≡ n + frame_overhead form = c.frame_bytes-size.ensures.value in
-    let end : c.args.start + length b + frame_overhead f - 1 < (q + 1) * t.page =
-    below_bound (c.args.start + length b + frame_overhead f - 1) q t.page t.positive last in
+    let end : c.args.start + n + frame_overhead form - 1 < (q + 1) * t.page =
+    below_bound (c.args.start + n + frame_overhead form - 1) q t.page t.positive last in
     let page : place / t.page ≡ q =
     page_of q place t.page t.positive
     (omega (arith, div-mul-le_self c.args.start t.page, size, c.close_bytes-close.ensures.value))
-    (omega (arith, end, same.2, round, size, c.close_bytes-close.ensures.value)) in
+    (omega (arith, end, size, c.close_bytes-close.ensures.value)) in
     let next : (place / t.page + 1) * t.page ≡ (q + 1) * t.page = ap (λ i. (i + 1) * t.page) page in
     c.has_bytes.ensures.known (ap (λ h. h.number) c.fill.ensures.kept.near ∙ near ∙ ap Some (sym page))
-    (omega (arith, next, end, same.2, round, size, c.close_bytes-close.ensures.value, length-take c.close_bytes-close.result c.close.result))
+    (omega (arith, next, end, size, c.close_bytes-close.ensures.value, length-take c.close_bytes-close.result c.close.result))
     ∙ c.fill.ensures.known near (omega (arith, end))
 
+pub returns-then-not-has_bytes-clause-kept : goal.returns-then-not-has_bytes-clause-kept
+returns-then-not-has_bytes-clause-kept g c = record {
+  near = c.has_bytes.ensures.kept.near ∙ c.fill.ensures.kept.near;
+  read = λ n h. c.has_bytes.ensures.kept.read n (c.fill.ensures.kept.read n h);
+}
+
 pub returns-clause-claims : goal.returns-clause-claims
-returns-clause-claims g c = λ holds.
+returns-clause-claims g c =
     let x = target_of (g.D.PageSource.image c.args.disk.now) c.args.target.now in
     let form = c.in-Some.head.form in
     let v = c.in-Some.head.uuid in
@@ -106,13 +107,12 @@ returns-clause-claims g c = λ holds.
     closes c.close.result (v ++ mark form) (close_size form) c.close_bytes-close.result
     c.close_bytes-close.ensures.value c.close.ensures in
     record {
-      form = form;
-      uuid = v;
-      size = n;
+      sixteen = omega arith;
+      short = omega arith;
       head_stands = rw c.in-Some.ensures.found at (c.fill.ensures.filled c.if-not-fill.false);
       fits = omega (arith, c.if-room-size.false, c.frame_bytes-size.ensures.value);
-      close =
+      close_stands =
           rw
-          (← (let e : c.args.start + c.frame_bytes-size.result - c.close_bytes-close.result ≡ c.args.start + (n + frame_overhead form) - close_size form = omega (arith, c.frame_bytes-size.ensures.value, c.close_bytes-close.ensures.value) in e))
-          (rw wanted at (c.has_bytes.ensures.found holds));
+          (← (let e : c.args.start + c.frame_bytes-size.result - c.close_bytes-close.result ≡ c.args.start + n + payload_start form = omega (arith, c.frame_bytes-size.ensures.value, c.close_bytes-close.ensures.value) in e))
+          (rw wanted at (c.has_bytes.ensures.found c.if-not-has_bytes.false));
     }

@@ -1,0 +1,151 @@
+-- A payload that is gathered piece by piece, and digests that are put in later.
+use Rattle.std.proofs.Common.{◌≡◌, ◌<◌, ◌≤◌, ◌+◌, ◌-◌, ℕ, zero, suc, List, All, [], ◌++◌, ◌∷◌, refl, slice_set, slice_index_or, Bool, true, false, length, drop, min, slice_index, arith, sym, ◌∙◌, ap, inl, inr, Option, Some, length-append, length-drop}
+use Rattle.std.proofs.Math.Seq.{get_or-append_right}
+use Rattle.std.proofs.lemmas.Bool.{cases_lt}
+use Rattle.std.proofs.lemmas.List.{get_or_append_left, get_or-take, get_or-drop, length-take-le}
+use Rattle.std.specs.List.{slice_range}
+use Rattle.std.proofs.lemmas.List.Elements.{All-head, All-tail, All-push}
+use Rattle.sha2.specs.Sha256.{sha256}
+use Rattle.sha_lanes.specs.declared.batch.Batch.{Batch}
+use Rattle.scrub_disk.specs.Image.{AreBytesAt}
+use Rattle.scrub_scan.specs.declared.item.Item.{Item}
+use Rattle.scrub_scan.specs.declared.item.Item.TheVariants.{Chunk, Pad, Torn, Noise, Lost}
+use Rattle.scrub_scan.specs.Item.{start_of, stop_of}
+use Rattle.scrub_scan.specs.Gathering.{IsAdded, IsCollected, with_digest, settled_one, settled}
+
+-- the payload so far, with the bytes of one more part that belong to it
+pub payload_more : (at : ℕ → Option ℕ) (place stop first last : ℕ) (next part piece : List ℕ)
+    → place + length part ≡ stop → first ≤ last → AreBytesAt at place part
+    → length next ≡ min place last - first → AreBytesAt at first next
+    → piece ≡ slice_range part (min (length part) (first - place)) (min (length part) (last - place))
+    → (length (next ++ piece) ≡ min stop last - first) × AreBytesAt at first (next ++ piece)
+payload_more at place stop first last next part piece ends order part_is size next_is piece_is =
+    let a = min (length part) (first - place) in
+    let z = min (length part) (last - place) in
+    let long : length piece ≡ z - a =
+    ap length piece_is ∙ length-take-le (z - a) (drop a part) (omega (arith, length-drop a part)) in
+    (
+      omega (arith, length-append next piece, long, size, ends, order),
+      λ k lt. elim (cases_lt k (length next)) [
+        | inl front ↦ next_is k front ∙ ap Some (sym (get_or_append_left next piece 0 k front))
+        | inr behind ↦
+            let j = k - length next in
+            let below : j < z - a = omega (arith, lt, behind, long, length-append next piece) in
+            let here : first + k ≡ place + (a + j) = omega (arith, below, behind, size, order) in
+            let read : slice_index piece j ≡ slice_index part (a + j) =
+            ap (λ (xs : List ℕ). slice_index xs j) piece_is ∙ get_or-take (z - a) (drop a part) j 0 below ∙ get_or-drop a part j 0 in
+            ap at here ∙ part_is (a + j) (omega arith) ∙ ap Some (sym (get_or-append_right next piece k 0 behind ∙ read))
+      ],
+    )
+
+-- ---- digests that are put in later
+
+-- a digest is no part of where an item is
+pub same_places : (item : Item) (digest : List ℕ) → (start_of (with_digest item digest) ≡ start_of item) × (stop_of (with_digest item digest) ≡ stop_of item)
+same_places (Chunk form start stop uuid n old) digest = (refl, refl)
+same_places (Pad start stop) digest = (refl, refl)
+same_places (Torn start stop) digest = (refl, refl)
+same_places (Noise start stop) digest = (refl, refl)
+same_places (Lost start stop) digest = (refl, refl)
+
+pub length-settled_one : (items : List Item) (i : ℕ) (digest : List ℕ) → length (settled_one items i digest) ≡ length items
+length-settled_one [] i digest = refl
+length-settled_one (item ∷ items) zero digest = refl
+length-settled_one (item ∷ items) (suc i) digest = ap suc (length-settled_one items i digest)
+
+pub length-settled : (items : List Item) (pending : List ℕ) (payloads : List (List ℕ)) → length (settled items pending payloads) ≡ length items
+length-settled items [] payloads = refl
+length-settled items (i ∷ pending) [] = refl
+length-settled items (i ∷ pending) (payload ∷ payloads) =
+    length-settled (settled_one items i (sha256 payload)) pending payloads ∙ length-settled_one items i (sha256 payload)
+
+settled_one_push : (items : List Item) (item : Item) (i : ℕ) (digest : List ℕ) → i < length items
+    → settled_one (items ++ item ∷ []) i digest ≡ settled_one items i digest ++ item ∷ []
+settled_one_push [] item i digest lt = absurd (omega arith)
+settled_one_push (first ∷ items) item zero digest lt = refl
+settled_one_push (first ∷ items) item (suc i) digest lt = ap (λ rest. first ∷ rest) (settled_one_push items item i digest (omega arith))
+
+settled_one_last : (items : List Item) (item : Item) (digest : List ℕ)
+    → settled_one (items ++ item ∷ []) (length items) digest ≡ items ++ with_digest item digest ∷ []
+settled_one_last [] item digest = refl
+settled_one_last (first ∷ items) item digest = ap (λ rest. first ∷ rest) (settled_one_last items item digest)
+
+-- an item behind those of these numbers
+settled_push : (items : List Item) (item : Item) (pending : List ℕ) (payloads : List (List ℕ))
+    → All (λ i. i < length items) pending
+    → settled (items ++ item ∷ []) pending payloads ≡ settled items pending payloads ++ item ∷ []
+settled_push items item [] payloads within = refl
+settled_push items item (i ∷ pending) [] within = refl
+settled_push items item (i ∷ pending) (payload ∷ payloads) within =
+    let d = sha256 payload in
+    let rest : All (λ j. j < length (settled_one items i d)) pending =
+    rw (length-settled_one items i d) (All-tail (λ j. j < length items) i pending within) in
+    ap (λ xs. settled xs pending payloads) (settled_one_push items item i d (All-head (λ j. j < length items) i pending within))
+    ∙ settled_push (settled_one items i d) item pending payloads rest
+
+-- one more digest
+pub settled_more : (items : List Item) (pending : List ℕ) (payloads : List (List ℕ)) (i : ℕ) (payload : List ℕ)
+    → length pending ≡ length payloads
+    → settled items (pending ++ i ∷ []) (payloads ++ payload ∷ []) ≡ settled_one (settled items pending payloads) i (sha256 payload)
+settled_more items [] [] i payload same = refl
+settled_more items [] (p ∷ payloads) i payload same = absurd (omega arith)
+settled_more items (j ∷ pending) [] i payload same = absurd (omega arith)
+settled_more items (j ∷ pending) (p ∷ payloads) i payload same =
+    settled_more (settled_one items j (sha256 p)) pending payloads i payload (omega arith)
+
+-- as the code writes it
+pub settled_one_is : (items : List Item) (i : ℕ) (item : Item) (digest : List ℕ) → i < length items
+    → slice_index_or items i item ≡ item → slice_set items i (with_digest item digest) ≡ settled_one items i digest
+settled_one_is [] i item digest lt is = absurd (omega arith)
+settled_one_is (first ∷ items) zero item digest lt is = ap (λ x. with_digest x digest ∷ items) (sym is)
+settled_one_is (first ∷ items) (suc i) item digest lt is = ap (λ rest. first ∷ rest) (settled_one_is items i item digest (omega arith) is)
+
+-- one more item, whose digest is in the batch or was known
+pub collected_more : (items : List Item) (pending later : List ℕ) (old new : Batch) (all : List Item) (item : Item) (gathered : Bool) (digest : List ℕ)
+    → (held : IsCollected items pending old all) → All (λ i. i < length items) pending
+    → (gathered ≡ true → later ≡ pending ++ length items ∷ []) → (gathered ≡ false → later ≡ pending)
+    → IsAdded gathered (with_digest item digest ≡ item) digest held.payloads new
+    → IsCollected (items ++ item ∷ []) later new (all ++ with_digest item digest ∷ [])
+collected_more items pending later old new all item true digest held within more same added =
+    let ps = held.payloads in
+    let b = added.0 in
+    let n : length items ≡ length (settled items pending ps) = sym (length-settled items pending ps) in
+    record {
+      payloads = ps ++ b ∷ [];
+      gathers = added.2;
+      count = omega (arith, ap length (more refl), length-append pending (length items ∷ []), length-append ps (b ∷ []), held.count);
+      all_is =
+          ap (λ xs. xs ++ with_digest item digest ∷ []) held.all_is
+          ∙ ap (λ d. settled items pending ps ++ with_digest item d ∷ []) added.1
+          ∙ sym (
+            ap (λ l. settled (items ++ item ∷ []) l (ps ++ b ∷ [])) (more refl)
+            ∙ settled_more (items ++ item ∷ []) pending ps (length items) b held.count
+            ∙ ap (λ xs. settled_one xs (length items) (sha256 b)) (settled_push items item pending ps within)
+            ∙ ap (λ i. settled_one (settled items pending ps ++ item ∷ []) i (sha256 b)) n
+            ∙ settled_one_last (settled items pending ps) item (sha256 b)
+          );
+    }
+collected_more items pending later old new all item false digest held within more same added =
+    let ps = held.payloads in
+    record {
+      payloads = ps;
+      gathers = added.1;
+      count = ap length (same refl) ∙ held.count;
+      all_is =
+          ap (λ xs. xs ++ with_digest item digest ∷ []) held.all_is
+          ∙ ap (λ x. settled items pending ps ++ x ∷ []) added.0
+          ∙ sym (ap (λ l. settled (items ++ item ∷ []) l ps) (same refl) ∙ settled_push items item pending ps within);
+    }
+
+-- and the numbers are still of items
+pub within_more : (items : List Item) (pending later : List ℕ) (item : Item) (gathered : Bool) → All (λ i. i < length items) pending
+    → (gathered ≡ true → later ≡ pending ++ length items ∷ []) → (gathered ≡ false → later ≡ pending)
+    → All (λ i. i < length (items ++ item ∷ [])) later
+within_more items pending later item true within more same =
+    let long = length-append items (item ∷ []) in
+    rw (more refl)
+    (All-push (λ i. i < length (items ++ item ∷ [])) pending (length items)
+    (λ k d lt. let h = within k d lt in omega arith) (omega arith))
+within_more items pending later item false within more same =
+    let long = length-append items (item ∷ []) in
+    rw (same refl) (λ k d lt. let h = within k d lt in omega arith)

@@ -1,0 +1,127 @@
+-- One more page has passed, the frame has ended, or a page of it can't be read.
+use Rattle.std.proofs.Common.{arith, ap, ◌∙◌, ◌≡◌, ◌<◌, ◌≤◌, ◌+◌, ◌/◌, ◌-◌, ◌++◌, length, Some}
+use Rattle.scrub_frame.specs.Frame.{head_size, frame_overhead}
+use Rattle.scrub_scan.specs.Pages.{target_of, last_page}
+use Rattle.scrub_scan.proofs.PlacePages.{page_rises}
+use Rattle.scrub_scan.proofs.Asked.{next_bound, one_more}
+use Rattle.scrub_scan.proofs.ReadPages.{read_fewer, read_next, next_at_most}
+use Rattle.scrub_scan.proofs.Passing.{gap_byte}
+use Rattle.scrub_scan.proofs.FrameBytes.{no_gap}
+use Rattle.scrub_scan.proofs.Claims.{only_frame, plain_frame_of}
+use Rattle.scrub_scan.proofs.Gathering.{payload_more}
+use Rattle.scrub_scan.proofs.scanner.Scanner.pass_plain.Goals as goal
+
+pub returns-in_default-clause-none : goal.returns-in_default-clause-none
+returns-in_default-clause-none g c = λ messages held _.
+    let image = g.D.PageSource.image c.args.disk.now in
+    let t = c.args.target.now in
+    let x = target_of image t in
+    let h = c.args.head.now in
+    let inv = c.loop-place.invariant in
+    let so_far = inv.gathered messages held in
+    (
+      λ f u b k.
+          let same = only_frame x c.args.start h c.requires.claimed f u b k in
+          let round : frame_overhead h.form ≡ frame_overhead f = ap frame_overhead same.0 in
+          no_gap x c.args.start (length b + frame_overhead f) f u b k (omega arith)
+          (record {
+            place = c.loop-place.place;
+            low = inv.low;
+            high = omega (arith, inv.below, c.frame_bytes.ensures.value, round, same.2);
+            unreadable = gap_byte image t.extent c.loop-place.place c.reach.new.self.page c.reach.ensures.held.size
+                (c.in_default.ensures.gap image t.extent c.reach.ensures.held);
+          }),
+      c.cancel.ensures messages so_far.0 so_far.1,
+    )
+
+pub returns-in_default-clause-read_none : goal.returns-in_default-clause-read_none
+returns-in_default-clause-read_none g c = λ h _.
+    let t = c.args.target.now in
+    let inv = c.loop-place.invariant in
+    read_fewer c.reach.new.self (c.loop-place.place / t.page) (c.args.start / t.page)
+    (page_rises c.args.start c.loop-place.place t.page t.positive inv.low)
+    (c.reach.ensures.read (c.loop-place.place / t.page) (inv.read h))
+
+pub returns-then-end-stop-clause-found : goal.returns-then-end-stop-clause-found
+returns-then-end-stop-clause-found g c = λ messages held _.
+    let image = g.D.PageSource.image c.args.disk.now in
+    let t = c.args.target.now in
+    let x = target_of image t in
+    let h = c.args.head.now in
+    let inv = c.loop-place.invariant in
+    let so_far = inv.gathered messages held in
+    let first = c.args.start + head_size in
+    let more = payload_more x.byte c.loop-place.place c.bound-stop.result first (first + h.length) so_far.0 c.in-Some.part.now c.payload_in.result.now
+    c.in-Some.ensures.size (omega arith) (c.in-Some.ensures.bytes image t.extent c.reach.ensures.held) so_far.2 so_far.3 c.payload_in.ensures in
+    let size : h.length ≡ length (so_far.0 ++ c.payload_in.result.now) =
+    omega (arith, more.0, c.if-end-stop.true, c.frame_bytes.ensures.value) in
+    (
+      so_far.0 ++ c.payload_in.result.now,
+      rw c.requires.plain (plain_frame_of x c.args.start h (so_far.0 ++ c.payload_in.result.now) c.requires.claimed c.requires.plain size more.1),
+      size,
+      c.in_ok-end.ensures messages (so_far.0 ++ c.payload_in.result.now) (c.in_ok-append.ensures messages so_far.0 so_far.1),
+    )
+
+pub returns-then-end-stop-clause-asked_found : goal.returns-then-end-stop-clause-asked_found
+returns-then-end-stop-clause-asked_found g c = λ near _.
+    let t = c.args.target.now in
+    let h = c.args.head.now in
+    let inv = c.loop-place.invariant in
+    let from : c.args.start / t.page ≤ c.loop-place.place / t.page =
+    page_rises c.args.start c.loop-place.place t.page t.positive inv.low in
+    let last : c.loop-place.place / t.page ≤ last_page t c.args.start h.form h.length =
+    page_rises c.loop-place.place (c.args.start + h.length + frame_overhead h.form - 1) t.page
+    t.positive (omega (arith, inv.below, c.frame_bytes.ensures.value)) in
+    let calls = one_more c.args.self.now.pages.asked c.reach.new.self.asked c.loop-place.self.pages.asked (c.args.start / t.page) (c.loop-place.place / t.page) from (inv.asked near) c.reach.ensures.asked
+    (λ same. c.reach.ensures.known (ap (λ p. p.number) inv.near ∙ near ∙ ap Some same)) in
+    omega (arith, calls, last)
+
+pub returns-then-end-stop-clause-read_found : goal.returns-then-end-stop-clause-read_found
+returns-then-end-stop-clause-read_found g c = λ h _.
+    let t = c.args.target.now in
+    let head = c.args.head.now in
+    let r = c.loop-place.place / t.page in
+    let inv = c.loop-place.invariant in
+    let behind = c.args.start + head.length + frame_overhead head.form in
+    read_fewer c.reach.new.self (r + 1) (behind / t.page)
+    (next_at_most c.loop-place.place behind t.page t.positive
+    (omega (arith, c.if-end-stop.true, c.frame_bytes.ensures.value, c.bound-stop.ensures.one_page)))
+    (read_next c.reach.new.self r c.reach.ensures.reached (c.reach.ensures.read r (inv.read h)))
+
+pub loop-place-preserved : goal.loop-place-preserved
+loop-place-preserved g c =
+    let image = g.D.PageSource.image c.args.disk.now in
+    let t = c.args.target.now in
+    let x = target_of image t in
+    let h = c.args.head.now in
+    let inv = c.loop-place.invariant in
+    let first = c.args.start + head_size in
+    let below : c.bound-stop.result < t.pointer =
+    omega (arith, c.if-end-stop.false, c.frame_bytes.ensures.value, c.requires.claimed.fits) in
+    let next : c.bound-stop.result / t.page ≡ c.loop-place.place / t.page + 1 =
+    next_bound c.loop-place.place t.pointer t.page c.bound-stop.result t.positive c.bound-stop.ensures.value below in
+    record {
+      scans = record { pages = c.reach.ensures.held; gap = inv.scans.gap };
+      near = c.reach.ensures.near ∙ inv.near;
+      low = omega (arith, inv.low, c.bound-stop.ensures.above);
+      below = c.if-end-stop.false;
+      gathered = λ messages held.
+          let so_far = inv.gathered messages held in
+          let more = payload_more x.byte c.loop-place.place c.bound-stop.result first (first + h.length) so_far.0 c.in-Some.part.now c.payload_in.result.now
+          c.in-Some.ensures.size (omega arith) (c.in-Some.ensures.bytes image t.extent c.reach.ensures.held) so_far.2 so_far.3 c.payload_in.ensures in
+          (
+            so_far.0 ++ c.payload_in.result.now,
+            c.in_ok-append.ensures messages so_far.0 so_far.1,
+            more.0,
+            more.1,
+          );
+      asked = λ near.
+          let from : c.args.start / t.page ≤ c.loop-place.place / t.page =
+          page_rises c.args.start c.loop-place.place t.page t.positive inv.low in
+          let calls = one_more c.args.self.now.pages.asked c.reach.new.self.asked c.loop-place.self.pages.asked (c.args.start / t.page) (c.loop-place.place / t.page) from (inv.asked near) c.reach.ensures.asked
+          (λ same. c.reach.ensures.known (ap (λ p. p.number) inv.near ∙ near ∙ ap Some same)) in
+          omega (arith, calls, next, from);
+      read = λ held.
+          rw next
+          (read_next c.reach.new.self (c.loop-place.place / t.page) c.reach.ensures.reached (c.reach.ensures.read (c.loop-place.place / t.page) (inv.read held)));
+    }
