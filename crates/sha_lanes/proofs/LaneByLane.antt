@@ -1,8 +1,10 @@
 -- What an operation on vectors does in one lane.
-use Rattle.std.proofs.Common.{◌≡◌, ℕ, ◌<◌, List, length, slice_index, slice_set, map, [], ◌∷◌, replicate, refl, ap, ap₂, ◌∙◌, arith}
+use Rattle.std.proofs.Common.{◌^◌, ◌≡◌, ℕ, ◌<◌, List, length, slice_index, slice_set, map, [], ◌∷◌, replicate, refl, ap, ap₂, ◌∙◌, arith}
 use Rattle.std.proofs.lemmas.List.{get_or-map, get_or-replicate, length-map, length-replicate, map-set}
-use Rattle.std.proofs.lemmas.Simd.{length-zip2, get_or-zip2}
-use Rattle.std.specs.Simd.Lanes.{zip2}
+use Rattle.std.proofs.lemmas.Simd.{Each1-get_or, length-zip2, get_or-zip2}
+use Rattle.std.specs.Simd.Lanes.{Each1, zip2}
+use mir.Syntax.{w32}
+use mir.Val.{Fits}
 use Rattle.sha2.specs.Sha256.{rounds}
 use Rattle.sha_lanes.specs.Lanes.{word_in, column}
 
@@ -72,3 +74,7 @@ eight (a ∷ b ∷ c ∷ d ∷ e ∷ []) long = absurd (omega arith)
 eight (a ∷ b ∷ c ∷ d ∷ e ∷ f ∷ []) long = absurd (omega arith)
 eight (a ∷ b ∷ c ∷ d ∷ e ∷ f ∷ g ∷ []) long = absurd (omega arith)
 eight (a ∷ b ∷ c ∷ d ∷ e ∷ f ∷ g ∷ h ∷ i ∷ xs) long = absurd (omega arith)
+
+-- a word of a vector
+pub below_word : (xs : List ℕ) {n l : ℕ} → length xs ≡ n → Each1 (Fits w32) xs → l < n → slice_index xs l < 2 ^ 32
+below_word xs {n} {l} long fit lt = (Each1-get_or (Fits w32) xs l 0 (omega arith) fit).fits

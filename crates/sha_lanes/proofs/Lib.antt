@@ -3,3 +3,4 @@ mod Gathering
 mod LaneByLane
 mod Maj
 mod Placing
+mod Rotations

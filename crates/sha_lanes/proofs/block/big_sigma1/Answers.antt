@@ -1,10 +1,15 @@
-use Rattle.std.proofs.Common.{arith}
-use Rattle.sha_lanes.proofs.LaneByLane.{known, both}
+use Rattle.std.proofs.Common.{◌∙◌, ap, arith, slice_index}
+use Rattle.std.specs.Int.{w32, rotate_right}
+use Rattle.sha_lanes.proofs.LaneByLane.{known, read, both, below_word}
+use Rattle.sha_lanes.proofs.Rotations.{rotated_three}
 use Rattle.sha_lanes.proofs.block.big_sigma1.Goals as goal
 
 pub returns : goal.returns
 returns c l lt =
-    let first = known (c.turned.ensures l lt) (omega arith) in
-    let second = known (c.turned-2.ensures l lt) (omega arith) in
-    let third = known (c.turned-3.ensures l lt) (omega arith) in
-    (both _ lt (both _ lt first second) third).word
+    let x = read c.fits-x.0 in
+    let fits = below_word c.args.x c.fits-x.0 c.fits-x.1 lt in
+    let inner = both _ lt x (known (c.turned.ensures l lt) (omega arith)) in
+    let second = known (c.turned-2.ensures l lt ∙ ap (λ y. rotate_right w32 y 5) inner.word) (omega arith) in
+    let outer = both _ lt x second in
+    c.turned-3.ensures l lt ∙ ap (λ y. rotate_right w32 y 6) outer.word
+    ∙ rotated_three 32 (slice_index c.args.x l) 6 5 14 (omega arith) fits

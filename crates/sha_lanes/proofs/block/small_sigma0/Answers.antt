@@ -1,10 +1,17 @@
-use Rattle.std.proofs.Common.{arith}
-use Rattle.sha_lanes.proofs.LaneByLane.{known, read, both, splat}
+use Rattle.std.proofs.Common.{◌∙◌, ap, arith, slice_index}
+use Rattle.std.specs.Int.{w32, rotate_right}
+use Rattle.sha_lanes.proofs.LaneByLane.{known, read, both, below_word, splat}
+use Rattle.sha_lanes.proofs.Rotations.{rotated_two}
 use Rattle.sha_lanes.proofs.block.small_sigma0.Goals as goal
 
 pub returns : goal.returns
 returns c l lt =
-    let first = known (c.turned.ensures l lt) (omega arith) in
-    let second = known (c.turned-2.ensures l lt) (omega arith) in
     let x = read c.fits-x.0 in
-    (both _ lt (both _ lt first second) (both _ lt x (splat _ lt))).word
+    let fits = below_word c.args.x c.fits-x.0 c.fits-x.1 lt in
+    let inner = both _ lt x (known (c.turned.ensures l lt) (omega arith)) in
+    let turned =
+    known
+    (c.turned-2.ensures l lt ∙ ap (λ y. rotate_right w32 y 7) inner.word
+    ∙ rotated_two 32 (slice_index c.args.x l) 7 11 (omega arith) fits)
+    (omega arith) in
+    (both _ lt turned (both _ lt x (splat _ lt))).word
