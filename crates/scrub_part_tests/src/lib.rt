@@ -17,6 +17,8 @@ mod frames;
 #[cfg(test)]
 mod geometries;
 #[cfg(test)]
+mod lanes;
+#[cfg(test)]
 mod loading;
 #[cfg(test)]
 mod locators;
