@@ -1,6 +1,6 @@
 //! Hashes the blocks of several messages side by side. A lane that has ended takes the next message.
 
-ghost use Rattle.std.specs.Prelude.{◌≡◌, ◌≢◌, ◌+◌, ◌-◌, ◌*◌, ◌<◌, ◌≤◌, ℕ, List, All, IfOk, length, map, slice_index, slice_index_or, []};
+ghost use Rattle.std.specs.Prelude.{◌≡◌, ◌≢◌, ◌+◌, ◌-◌, ◌*◌, ◌<◌, ◌≤◌, ℕ, List, All, Contains, IfOk, length, map, slice_index, slice_index_or, []};
 ghost use Rattle.sha2.specs.Sha256.{digest_bytes, hash_after, initial_hash_256};
 ghost use Rattle.sha_lanes.specs.Lanes.{AreLanes, Carries, IsWithin, digest_of, lane};
 ghost use Rattle.sha_lanes.specs.declared.lanes.Span.{Span};
@@ -8,6 +8,9 @@ ghost use Rattle.sha_lanes.specs.declared.lanes.Span.{Span};
 use crate::block::{LANES, compress};
 use crate::consts::H256;
 use std::alloc::{AllocError, Global};
+
+/// The most spans that are put in order by their lengths.
+const MOST_SORTED: usize = 64;
 
 /// Some blocks of 64 bytes, one behind another.
 #[derive(Clone, Copy)]
@@ -181,6 +184,26 @@ impl Lanes {
     }
 }
 
+/// The numbers of the spans, in the order in which they are hashed. Of a few spans the longest comes first, so that the lanes
+/// end at about the same time.
+fn in_order(alloc: Global, spans: &[Span]) -> Result<Vec<usize>, AllocError>
+    ensures below { IfOk result (λ order. All (λ i. i < length spans.now) order.items) }
+    ensures each { IfOk result (λ order. (i : ℕ) → i < length spans.now → Contains order.items i) }
+{
+    let mut order = Vec::new(alloc);
+    'numbers: for i in 0..spans.len() {
+        order.push(i)?;
+    }
+    if spans.len() > MOST_SORTED {
+        return Ok(order);
+    }
+    order.sort_by_key(|i| match spans.get(*i) {
+        Some(span) => usize::MAX.saturating_sub(span.blocks),
+        None => 0,
+    })?;
+    Ok(order)
+}
+
 /// The digests of the blocks of each span, hashed from the initial hash value.
 pub(crate) fn digests(
     alloc: Global,
@@ -192,7 +215,9 @@ pub(crate) fn digests(
 {
     let mut digests = vec![in alloc; [0u8; 32]; spans.len()]?;
     let mut lanes = Lanes::new(spans.len());
-    'spans: for i in 0..spans.len() {
+    let order = in_order(alloc, spans)?;
+    'spans: for k in 0..order.len() {
+        let i = order[k];
         let l = shortest(&lanes.left);
         lanes.end(bytes, spans, l, digests.as_mut_slice());
         lanes.begin(l, i, spans[i]);

@@ -1,6 +1,7 @@
 use Rattle.std.proofs.Common.{◌≡◌, ◌<◌, ◌++◌, ◌∙◌, arith, inl, inr, sym, ap, drop, take, length, slice_index, slice_index_or, map, [], List, ℕ, ◌+◌}
 use Rattle.std.proofs.lemmas.Bool.{cases_lt}
 use Rattle.std.proofs.lemmas.List.{get_or-map, get_or_default, length-map, same_lists, take_at}
+use Rattle.std.proofs.lemmas.List.Elements.{All-get_or}
 use Rattle.sha_lanes.specs.Lanes.{digest_of}
 use Rattle.sha_lanes.specs.declared.lanes.Span.{Span}
 use Rattle.sha_lanes.proofs.Placing.{placed_on}
@@ -11,7 +12,13 @@ spans-preserved c =
     let bytes = c.args.bytes.now in
     let spans = c.args.spans.now in
     let inv = c.spans.invariant in
-    let m = c.spans.i in
+    let order = c.in_ok-order.order.items in
+    let m = c.index-i.result.now in
+    let low : c.spans.k < length order = omega arith in
+    let at : m ≡ slice_index order c.spans.k = c.index-i.ensures ∙ get_or_default order c.spans.k m 0 low in
+    let number : (j : ℕ) → j < length order → slice_index order j < length spans =
+    λ j lt. All-get_or (λ i. i < length spans) order j 0 lt c.in_ok-order.ensures.below in
+    let below : m < length spans = omega (arith, at, number c.spans.k low) in
     let l = c.shortest-l.result in
     let was = c.spans.lanes.index in
     let long : length c.end.new.digests ≡ c.spans.digests.len = omega arith in
@@ -20,19 +27,32 @@ spans-preserved c =
     rw whole
     (record {
       size = omega arith;
-      lanes = c.begin.ensures.lanes bytes spans (get_or_default spans m _ (record { start = 0; blocks = 0 }) (omega arith)) (omega arith) c.end.ensures.lanes;
-      placed = λ i lt. elim (cases_lt i m) [
+      lanes = c.begin.ensures.lanes bytes spans (get_or_default spans m _ (record { start = 0; blocks = 0 }) below) below c.end.ensures.lanes;
+      placed = λ i lt. elim (cases_lt i c.spans.k) [
         | inl less ↦
-            placed_on bytes spans was c.begin.new.self.index c.spans.digests.items c.end.new.digests l 0 0 i (omega arith)
+            placed_on bytes spans was c.begin.new.self.index c.spans.digests.items c.end.new.digests l 0 0 (slice_index order i) (number i (omega arith))
             c.end.ensures.written
             (λ k ne. c.end.ensures.others k ne ∙ ap (λ (d : List (List ℕ)). slice_index_or d k []) c.as_mut_slice.ensures.value)
             (λ j _ _ ne. (omega arith, c.begin.ensures.others j ne ∙ ap (λ (xs : List ℕ). slice_index xs j) c.end.ensures.index))
             (inv.placed i less)
         | inr ge ↦ λ span is.
-            let e : m ≡ i = omega arith in
-            inl (l, omega arith, c.shortest-l.ensures, c.begin.ensures.index ∙ e)
+            let e : c.spans.k ≡ i = omega arith in
+            inl (l, omega arith, c.shortest-l.ensures, c.begin.ensures.index ∙ at ∙ ap (λ j. slice_index order j) e)
       ];
     })
+
+pub rest-init : goal.rest-init
+rest-init c =
+    let order = c.in_ok-order.order.items in
+    let inv = c.spans.invariant in
+    record {
+      size = inv.size;
+      lanes = inv.lanes;
+      placed = λ i lt.
+          let found = c.in_ok-order.ensures.each i lt in
+          let is : slice_index order found.0 ≡ i = get_or_default order found.0 0 i found.1 ∙ found.2 in
+          rw is at (inv.placed found.0 (omega (arith, found.1)));
+    }
 
 pub rest-preserved : goal.rest-preserved
 rest-preserved c =
