@@ -1,10 +1,10 @@
 -- A disk that is sound is clean, nothing is missing of it, no page of extent 0 is lost, damaged or stray, and each doubt is a
 -- tail.
-use Rattle.std.proofs.Common.{◌≡◌, ◌<◌, ◌+◌, ◌==◌, ◌&&◌, ◌||◌, ◌++◌, ◌∷◌, [], ℕ, zero, suc, Bool, true, false, not, cond, List, Option, Some, None, MatchBool, MatchOption, is_none, is_some, length, map, nat_lt, arith, refl, sym, ap, ◌∙◌, subst, if◌then◌else◌}
+use Rattle.std.proofs.Common.{bytes_eq, codes, ◌≡◌, ◌<◌, ◌+◌, ◌==◌, ◌&&◌, ◌||◌, ◌++◌, ◌∷◌, [], ℕ, zero, suc, Bool, true, false, not, cond, List, Option, Some, None, MatchBool, MatchOption, is_none, is_some, length, map, nat_lt, arith, refl, sym, ap, ◌∙◌, subst, if◌then◌else◌}
 use Rattle.std.specs.Cmp.Derive.{both_true}
 use Rattle.std.specs.List.{AllZip, Contains, cons_option, count_by, enumerate_from, filter, filter_map, flat_map, list_all, list_any, range_with_len}
 use Rattle.std.specs.Option.{option_map, option_to_list}
-use Rattle.std.proofs.lemmas.Bool.{and_parts, eq-eqb, eqb-true, false≢true, or_parts}
+use Rattle.std.proofs.lemmas.Bool.{and_parts, eq-eqb, eqb-true, false≢true, or_parts, or_right}
 use Rattle.std.proofs.lemmas.List.Folds.{list_all-append}
 use Rattle.std.proofs.lemmas.List.FromFn.{get_or-range_with_len, length-range_with_len}
 use Rattle.std.proofs.lemmas.List.Sums.{sum_by-cons}
@@ -33,12 +33,11 @@ use Rattle.scrub_check.specs.Candidates.{CandidateValue}
 use Rattle.scrub_check.specs.Spares.{copies_of, spares_of}
 use Rattle.scrub_scan.specs.declared.standing.Standing.{Standing}
 use Rattle.scrub_check.specs.Status.{is_retired}
-use Rattle.scrub_report.specs.declared.doubts.Accepted.{Accepted}
 use Rattle.scrub_report.specs.declared.doubts.Doubt.{Doubt}
 use Rattle.scrub_report.specs.declared.doubts.Doubt.TheVariants.{NoSuperblock, Tail, Tie}
 use Rattle.scrub_report.specs.declared.summary.Verdict.{Verdict}
 use Rattle.scrub_report.specs.declared.summary.Verdict.TheVariants.{Sound, InDoubt, Wrong}
-use Rattle.scrub_report.specs.Doubts.{is_accepted, choice_doubts, doubts, ends_past, page_doubts, page_ranges, range_doubts, run_doubts, run_lost, spare_doubt, spare_doubts, spare_doubts_of, staying, superblock_damaged, superblock_lost, superblock_stray, tail_doubts, tail_lost_doubts}
+use Rattle.scrub_report.specs.Doubts.{Accepted, accepts, accepts_tails, doubt_text, is_accepted, choice_doubts, doubts, ends_past, page_doubts, page_ranges, range_doubts, run_doubts, run_lost, spare_doubt, spare_doubts, spare_doubts_of, staying, superblock_damaged, superblock_lost, superblock_stray, tail_doubts, tail_lost_doubts}
 use Rattle.scrub_report.specs.Manifest.{IsWholeImage, are_sound, hidden_runs, is_of_read_run, is_of_shard, is_whole, lost_runs, of_shards}
 use Rattle.scrub_report.specs.Scrubbed.{IsCleanImage, IsScrubbed, Scrubbed, is_clean, is_clean_choice, is_clean_extent, is_clean_item, is_clean_list}
 use Rattle.scrub_report.specs.Summary.{IsAllRight, IsSoundImage, is_odd, one_if, is_quiet, is_sound_verdict, is_tail, verdict, verdict_by}
@@ -327,11 +326,22 @@ sound_is_clean image x = record { found = x.found; scrubbed = x.scrubbed; verdic
 pub sound_is_whole : (image : Image) → IsSoundImage image true → IsWholeImage image true
 sound_is_whole image x = record { found = x.found; scrubbed = x.scrubbed; verdict = sym (right image x).whole }
 
-tail_accepted : (accepted : Accepted) → accepted.tail ≡ true → (d : Doubt) → is_tail d ≡ true → is_accepted accepted d ≡ true
-tail_accepted accepted yes' (Tail extent first count) e = yes'
+-- a test that is weaker passes for some element too
+any_weaker : {X : Type 0} (p q : X → Bool) (xs : List X) → ((x : X) → p x ≡ true → q x ≡ true) → list_any p xs ≡ true → list_any q xs ≡ true
+any_weaker p q [] weaker some = absurd (false≢true some)
+any_weaker p q (x ∷ xs) weaker some = by (λ e. any_weaker p q xs weaker e) (p x) refl some
+  where
+    by : (list_any p xs ≡ true → list_any q xs ≡ true) → (first : Bool) → p x ≡ first → (first || list_any p xs) ≡ true → (q x || list_any q xs) ≡ true
+    by rest true is e = ap (λ b. b || list_any q xs) (weaker x is)
+    by rest false is e = or_right (q x) (list_any q xs) (rest e)
+
+tail_accepted : (accepted : Accepted) → accepts_tails accepted ≡ true → (d : Doubt) → is_tail d ≡ true → is_accepted accepted d ≡ true
+tail_accepted accepted yes' (Tail extent first count) e =
+    any_weaker (λ word. bytes_eq word (codes "tail")) (accepts (Tail extent first count) (doubt_text (Tail extent first count))) accepted
+        (λ word is. ap (λ b. b || bytes_eq word (doubt_text (Tail extent first count))) is) yes'
 tail_accepted accepted yes' _ e = absurd (false≢true e)
 
-pub sound_is_clear : (image : Image) (accepted : Accepted) (clear : Bool) → IsSoundImage image true → accepted.tail ≡ true →
+pub sound_is_clear : (image : Image) (accepted : Accepted) (clear : Bool) → IsSoundImage image true → accepts_tails accepted ≡ true →
     IsClear image accepted clear → clear ≡ true
 sound_is_clear image accepted clear x yes' c =
     c.verdict

@@ -214,6 +214,10 @@ accepts doubt text word = is_kind_of doubt word || (may_be_accepted doubt && byt
 abbrev pub is_accepted : Accepted → Doubt → Bool
 is_accepted accepted doubt = list_any (accepts doubt (doubt_text doubt)) accepted
 
+-- tails are accepted as a kind
+abbrev pub accepts_tails : Accepted → Bool
+accepts_tails accepted = list_any (λ word. bytes_eq word (codes "tail")) accepted
+
 -- each of these doubts was accepted
 abbrev pub are_accepted : Accepted → List Doubt → Bool
 are_accepted accepted list = list_all (is_accepted accepted) list

@@ -14,7 +14,7 @@ ghost use Rattle.scrub_check.specs.Live.{is_chunk, live_bytes, size_of};
 ghost use Rattle.scrub_check.specs.Runs.{ReadRunsValue};
 ghost use Rattle.scrub_report.specs.Answer.{IsPartitionOfPlanned, IsCountOfPlanned};
 ghost use Rattle.scrub_report.specs.Parts.{AreRowsOf, IsScan, found_in};
-ghost use Rattle.scrub_report.specs.declared.doubts.Accepted.{Accepted};
+ghost use Rattle.scrub_report.specs.Doubts.{Accepted, accepts_tails};
 ghost use Rattle.scrub_report.specs.Manifest.{IsWholeImage};
 ghost use Rattle.scrub_report.specs.Reclaimable.{IsClear};
 ghost use Rattle.scrub_report.specs.Scrubbed.{IsCleanImage, IsScrubbed, Scrubbed};
@@ -639,6 +639,7 @@ pub fn a_sound_disk_is_all_right()
         AreSuperblockPages image pages → is_sound_verdict (verdict found pages) ≡ true → IsAllRight pages found }
     ensures clean { (image : Image) → IsSoundImage image true → IsCleanImage image true }
     ensures whole { (image : Image) → IsSoundImage image true → IsWholeImage image true }
-    ensures clear { (image : Image) (accepted : Accepted) (clear : Bool) → IsSoundImage image true → accepted.tail ≡ true →
+    ensures clear { (image : Image) (accepted : Accepted) (clear : Bool) → IsSoundImage image true →
+        accepts_tails accepted ≡ true →
         IsClear image accepted clear → clear ≡ true }
 {}
