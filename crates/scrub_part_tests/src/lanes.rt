@@ -1,7 +1,7 @@
 //! Batches of messages. The expected digests are Python's hashlib's, and those of the kit's scalar hash function.
 
-use sha2::{Digest, Sha256};
 use sha_lanes::Batch;
+use sha2::{Digest, Sha256};
 use std::process::Abort;
 use std::test::Fail;
 
@@ -33,7 +33,12 @@ fn a_message_in_pieces_and_one_that_was_dropped(rt: HostRuntime) -> Result<(), F
 }
 
 /// Checks messages of `count` lengths from `first` on, each `step` greater than the one before.
-fn check_lengths<R: AllocGlobal + Abort>(rt: &R, first: usize, step: usize, count: usize) -> Result<(), Fail> {
+fn check_lengths<R: AllocGlobal + Abort>(
+    rt: &R,
+    first: usize,
+    step: usize,
+    count: usize,
+) -> Result<(), Fail> {
     let mut bytes = [0u8; 1000];
     for i in 0..1000 {
         bytes[i] = (i * 7 % 251) as u8;

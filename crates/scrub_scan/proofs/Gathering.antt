@@ -23,8 +23,7 @@ payload_more at place stop first last next part piece ends order part_is size ne
     let a = min (length part) (first - place) in
     let z = min (length part) (last - place) in
     let long : length piece ≡ z - a =
-    ap length piece_is ∙ length-take-le (z - a) (drop a part) (omega (arith, length-drop a part)) in
-    (
+    ap length piece_is ∙ length-take-le (z - a) (drop a part) (omega (arith, length-drop a part)) in (
       omega (arith, length-append next piece, long, size, ends, order),
       λ k lt. elim (cases_lt k (length next)) [
         | inl front ↦ next_is k front ∙ ap Some (sym (get_or_append_left next piece 0 k front))
@@ -118,11 +117,11 @@ collected_more items pending later old new all item true digest held within more
           ap (λ xs. xs ++ with_digest item digest ∷ []) held.all_is
           ∙ ap (λ d. settled items pending ps ++ with_digest item d ∷ []) added.1
           ∙ sym (
-            ap (λ l. settled (items ++ item ∷ []) l (ps ++ b ∷ [])) (more refl)
-            ∙ settled_more (items ++ item ∷ []) pending ps (length items) b held.count
-            ∙ ap (λ xs. settled_one xs (length items) (sha256 b)) (settled_push items item pending ps within)
-            ∙ ap (λ i. settled_one (settled items pending ps ++ item ∷ []) i (sha256 b)) n
-            ∙ settled_one_last (settled items pending ps) item (sha256 b)
+          ap (λ l. settled (items ++ item ∷ []) l (ps ++ b ∷ [])) (more refl)
+          ∙ settled_more (items ++ item ∷ []) pending ps (length items) b held.count
+          ∙ ap (λ xs. settled_one xs (length items) (sha256 b)) (settled_push items item pending ps within)
+          ∙ ap (λ i. settled_one (settled items pending ps ++ item ∷ []) i (sha256 b)) n
+          ∙ settled_one_last (settled items pending ps) item (sha256 b)
           );
     }
 collected_more items pending later old new all item false digest held within more same added =

@@ -20,7 +20,8 @@ use crate::pages::{Target, TwoPages};
 use crate::zeros::is_zero;
 use scrub_disk::{OutOfMemory, PageSource};
 use scrub_frame::{
-    CLOSE_BYTES, DIGEST_BYTES, Fed, Form, HEAD_BYTES, Head, LEAST_OVERHEAD, Matcher, put_part, read_head,
+    CLOSE_BYTES, DIGEST_BYTES, Fed, Form, HEAD_BYTES, Head, LEAST_OVERHEAD, Matcher, put_part,
+    read_head,
 };
 use sha_lanes::Batch;
 use std::alloc::Global;

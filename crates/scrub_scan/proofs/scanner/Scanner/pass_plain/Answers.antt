@@ -18,8 +18,7 @@ returns-in_default-clause-none g c = λ messages held _.
     let x = target_of image t in
     let h = c.args.head.now in
     let inv = c.loop-place.invariant in
-    let so_far = inv.gathered messages held in
-    (
+    let so_far = inv.gathered messages held in (
       λ f u b k.
           let same = only_frame x c.args.start h c.requires.claimed f u b k in
           let round : frame_overhead h.form ≡ frame_overhead f = ap frame_overhead same.0 in
@@ -54,8 +53,7 @@ returns-then-end-stop-clause-found g c = λ messages held _.
     let more = payload_more x.byte c.loop-place.place c.bound-stop.result first (first + h.length) so_far.0 c.in-Some.part.now c.payload_in.result.now
     c.in-Some.ensures.size (omega arith) (c.in-Some.ensures.bytes image t.extent c.reach.ensures.held) so_far.2 so_far.3 c.payload_in.ensures in
     let size : h.length ≡ length (so_far.0 ++ c.payload_in.result.now) =
-    omega (arith, more.0, c.if-end-stop.true, c.frame_bytes.ensures.value) in
-    (
+    omega (arith, more.0, c.if-end-stop.true, c.frame_bytes.ensures.value) in (
       so_far.0 ++ c.payload_in.result.now,
       rw c.requires.plain (plain_frame_of x c.args.start h (so_far.0 ++ c.payload_in.result.now) c.requires.claimed c.requires.plain size more.1),
       size,
@@ -108,8 +106,7 @@ loop-place-preserved g c =
       gathered = λ messages held.
           let so_far = inv.gathered messages held in
           let more = payload_more x.byte c.loop-place.place c.bound-stop.result first (first + h.length) so_far.0 c.in-Some.part.now c.payload_in.result.now
-          c.in-Some.ensures.size (omega arith) (c.in-Some.ensures.bytes image t.extent c.reach.ensures.held) so_far.2 so_far.3 c.payload_in.ensures in
-          (
+          c.in-Some.ensures.size (omega arith) (c.in-Some.ensures.bytes image t.extent c.reach.ensures.held) so_far.2 so_far.3 c.payload_in.ensures in (
             so_far.0 ++ c.payload_in.result.now,
             c.in_ok-append.ensures messages so_far.0 so_far.1,
             more.0,
