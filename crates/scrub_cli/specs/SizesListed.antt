@@ -1,8 +1,8 @@
 -- What the command `sizes` answers for an image file, and why it doesn't.
-use Rattle.std.specs.Prelude.{◌≡◌, ◌≤◌, ℕ, List, [], Bool, Option, None, Some, IfSome}
+use Rattle.std.specs.Prelude.{◌≡◌, ◌≤◌, ℕ, List, [], Bool, Option, None, Some}
 use Rattle.scrub_map.specs.declared.block.MapBlock.{MapBlock}
 use Rattle.scrub_map.specs.Rescued.{AreLostBlocks}
-use Rattle.scrub_report.specs.Sizes.{IsSizesListing}
+use Rattle.scrub_report.specs.Sizes.{IsSizesListingOf}
 use Rattle.scrub_cli.specs.declared.process.fault.Fault.{Fault}
 use Rattle.scrub_cli.specs.declared.process.fault.Fault.TheVariants.{NoMap, MapLine, NoImage, OutOfMemory}
 use Rattle.scrub_cli.specs.declared.words.SizesWords.{SizesWords}
@@ -16,12 +16,13 @@ abbrev pub AreMarksOf : Option (List MapBlock) → List Bool → Type 0
 AreMarksOf None marks = marks ≡ []
 AreMarksOf (Some blocks) marks = AreLostBlocks blocks 512 131072 marks
 
--- the listing of a raw image of which this is known, with the marked blocks lost, and status 0 if it is clean, else 1
+-- the listing of a raw image of which this is known, with the marked blocks lost, and status 0 if it is clean, else 1; of a
+-- file that is the listing of some bytes
 pub record AreSizesListed (known : KnownRaw) (marks : List Bool) (text : List ℕ) (status : ℕ) : Type 0 where
   pub failures : ℕ
   pub few : failures ≤ known.most_failures
   pub is_clean : Bool
-  pub listed : IfSome known.bytes (λ bytes. IsSizesListing bytes marks failures text is_clean)
+  pub listed : IsSizesListingOf known.bytes marks failures text is_clean
   pub ended : status ≡ status_of_clean is_clean
 
 -- the answer of `sizes`: the listing of the image that is named, with the blocks lost that its map lacks

@@ -1,5 +1,5 @@
 -- Records and lost ranges in one list by rising start, and the lines of raw bytes that it gives.
-use Rattle.std.proofs.Common.{◌≡◌, ◌≢◌, ◌<◌, ◌≤◌, ◌+◌, ◌-◌, ◌*◌, ◌/◌, ◌++◌, ℕ, zero, suc, Bool, true, false, List, [], ◌∷◌, length, take, get_or, arith, refl, sym, ◌∙◌, ap, subst, inl, inr, Option, Some, None, IfSome}
+use Rattle.std.proofs.Common.{◌≡◌, ◌≢◌, ◌<◌, ◌≤◌, ◌+◌, ◌-◌, ◌*◌, ◌/◌, ◌++◌, ℕ, zero, suc, Bool, true, false, List, [], ◌∷◌, length, slice_get, take, get_or, arith, refl, sym, ◌∙◌, ap, subst, inl, inr, Option, Some, None, MatchOption}
 use Rattle.std.specs.Prelude.{◌↔◌, IsTrue}
 use Rattle.std.specs.List.{All, AllPairs, Contains}
 use Rattle.std.proofs.lemmas.Bool.{cases_lt, false≢true}
@@ -9,13 +9,14 @@ use Rattle.scrub_disk.specs.declared.geometry.Geometry.{Geometry}
 use Rattle.scrub_super.specs.declared.anywhere.FoundRecord.{FoundRecord}
 use Rattle.scrub_super.specs.declared.anywhere.LostBytes.{LostBytes}
 use Rattle.scrub_super.specs.Blocks.{byte_left, IsMarked, IsLostRun}
-use Rattle.scrub_super.specs.Anywhere.{IsFoundRecord, AreLostBytes, AreFoundAnywhere, AreFoundWith}
+use Rattle.scrub_super.specs.Anywhere.{IsFoundRecord, AreLostBytes, AreFoundAnywhere, AreFoundInSome}
 use Rattle.scrub_super.proofs.AnywhereSteps.{some_record}
-use Rattle.scrub_super.proofs.BlocksFront.{left_there, mark_within}
+use Rattle.scrub_super.proofs.BlocksFront.{left_at, left_there, mark_within}
+use Rattle.scrub_super.proofs.FoundAnywhere.{same_record}
 use Rattle.scrub_super.proofs.RisingLists.{rises_more, one_rising_by}
 use Rattle.scrub_report.specs.declared.sizes_listing.lines.SizesLine.{SizesLine}
 use Rattle.scrub_report.specs.declared.sizes_listing.lines.SizesLine.TheVariants.{Record, Lost}
-use Rattle.scrub_report.specs.Sizes.{line_start, size_lines, AreSizesInOrder, AreSizesLines, IsCleanFront, IsSizesListing}
+use Rattle.scrub_report.specs.Sizes.{line_start, size_lines, AreSizesBy, AreSizesInOrder, AreSizesLines, AreSizesOf, IsCleanFront, IsSizesListingOf}
 use Rattle.scrub_report.specs.SizesSteps.{CanMerge, AreInOrder, IsNextLine, record_count, AreCleanLists}
 
 -- ---- the merge
@@ -355,23 +356,52 @@ clean_front bytes lost records ranges h = (
 )
 
 pub listing_known : (raw : Option (List ℕ)) (marks : List Bool) (failures : ℕ) (records : List FoundRecord) (ranges : List LostBytes) (lines : List SizesLine) (text : List ℕ) (clean : Bool) →
-    IfSome raw (λ known. AreFoundWith known marks failures records ranges) →
+    AreFoundInSome raw marks failures records ranges →
     (CanMerge records ranges → AreInOrder records ranges lines) → text ≡ size_lines lines →
-    IsTrue clean ↔ AreCleanLists records ranges → IfSome raw (λ known. IsSizesListing known marks failures text clean)
-listing_known None marks failures records ranges lines text clean found merged is answer = tt
-listing_known (Some known) marks failures records ranges lines text clean found merged is answer =
-    let front = clean_front known found.lost records ranges found.found in
+    IsTrue clean ↔ AreCleanLists records ranges → IsSizesListingOf raw marks failures text clean
+listing_known raw marks failures records ranges lines text clean some merged is answer =
+    let bytes = some.bytes in
+    let found = some.found in
+    let front = clean_front bytes found.lost records ranges found.found in
     record {
-      lost = found.lost;
-      loses = found.loses;
-      lines = record {
-        lines = lines;
-        in_order =
-            in_order known found.lost records ranges lines found.found
-            (merged (can_merge known found.lost records ranges found.found));
-        text_is = is;
+      bytes = bytes;
+      known = some.known;
+      listing = record {
+        lost = found.lost;
+        loses = found.loses;
+        lines = record {
+          lines = lines;
+          in_order =
+              in_order bytes found.lost records ranges lines found.found
+              (merged (can_merge bytes found.lost records ranges found.found));
+          text_is = is;
+        };
+        is_clean = ((λ yes'. front.0 (answer.0 yes')), (λ c. answer.1 (front.1 c)));
       };
-      is_clean = ((λ yes'. front.0 (answer.0 yes')), (λ c. answer.1 (front.1 c)));
+    }
+
+-- the sizes of all records in the bytes in which they were found
+pub sizes_known : (raw : Option (List ℕ)) (marks : List Bool) (failures : ℕ) (records : List FoundRecord) (ranges : List LostBytes) →
+    AreFoundInSome raw marks failures records ranges → (o : Option Geometry) →
+    MatchOption o (¬ AreCleanLists records ranges) (λ g. AreCleanLists records ranges × All (λ r. r.geometry ≡ g) records) →
+    AreSizesOf raw marks failures o
+sizes_known raw marks failures records ranges some o answer = record {
+  bytes = some.bytes;
+  known = some.known;
+  lost = some.found.lost;
+  loses = some.found.loses;
+  sizes = by o answer;
+}
+  where
+    by : (p : Option Geometry) →
+        MatchOption p (¬ AreCleanLists records ranges) (λ g. AreCleanLists records ranges × All (λ r. r.geometry ≡ g) records) →
+        MatchOption p (¬ IsCleanFront some.bytes some.found.lost) (AreSizesBy some.bytes some.found.lost)
+    by None none = λ clean. none ((clean_front some.bytes some.found.lost records ranges some.found.found).1 clean)
+    by (Some g) all = record {
+      clean = (clean_front some.bytes some.found.lost records ranges some.found.found).0 all.0;
+      each = λ r f.
+          let c = (some.found.found.records_are.exact r).1 f in
+          ap (λ (x : FoundRecord). x.geometry) (sym c.2) ∙ all.1 c.0 r c.1;
     }
 
 -- all have the sizes of the first
@@ -390,6 +420,13 @@ clean_lists records ranges g clean some none first answer = (
   }),
   (λ c. answer.1 (λ k d hk. c.same_sizes (get_or records k d) (get_or records 0 d) (All-contains_itself records k d hk) (All-contains_itself records 0 d some) ∙ first d)),
 )
+
+-- each has the sizes of the first if all have the same
+pub first_sizes : (records : List FoundRecord) (ranges : List LostBytes) (g : Geometry) → AreCleanLists records ranges →
+    ((d : FoundRecord) → (get_or records 0 d).geometry ≡ g) → All (λ r. r.geometry ≡ g) records
+first_sizes records ranges g c first k d hk =
+    c.same_sizes (get_or records k d) (get_or records 0 d) (All-contains_itself records k d hk) (All-contains_itself records 0 d c.some)
+    ∙ first d
 
 -- ---- the laws
 
@@ -412,3 +449,20 @@ one_verdict bytes lost true true x y = refl
 one_verdict bytes lost false false x y = refl
 one_verdict bytes lost true false x y = sym (y.1 (x.0 refl))
 one_verdict bytes lost false true x y = x.1 (y.0 refl)
+
+-- a record that is found if nothing is lost is found in the same bytes if nothing else is lost
+moved_record : (bytes others : List ℕ) (lost gone : List Bool) (r : FoundRecord) → bytes ≡ others →
+    ((n : ℕ) → ¬ IsMarked lost n) → ((n : ℕ) → ¬ IsMarked gone n) → IsFoundRecord (byte_left bytes lost) r →
+    IsFoundRecord (byte_left others gone) r
+moved_record bytes others lost gone r same none nothing f =
+    same_record (byte_left bytes lost) (byte_left others gone) r
+    (λ i small. left_at bytes lost i (none (i / 512)) ∙ ap (λ (xs : List ℕ). slice_get xs i) same ∙ sym (left_at others gone i (nothing (i / 512))))
+    f
+
+pub one_size_lem : (bytes : List ℕ) (marks others : List Bool) (failures more : ℕ) (g h : Geometry) →
+    AreSizesOf (Some bytes) marks failures (Some g) → AreSizesOf (Some bytes) others more (Some h) → g ≡ h
+one_size_lem bytes marks others failures more g h x y =
+    let one = x.sizes.clean.some in
+    sym (x.sizes.each one.0 one.1)
+    ∙ y.sizes.each one.0
+    (moved_record x.bytes y.bytes x.lost y.lost one.0 (x.known ∙ sym y.known) x.sizes.clean.nothing_lost y.sizes.clean.nothing_lost one.1)

@@ -1,7 +1,8 @@
 -- The lines of the superblock records in raw bytes, of any sizes, and of the lost bytes.
-use Rattle.std.specs.Prelude.{◌≡◌, ◌<◌, ◌↔◌, ◌++◌, ◌∷◌, [], ℕ, List, Bool, AllPairs, Contains, IsTrue, codes}
+use Rattle.std.specs.Prelude.{◌≡◌, ◌<◌, ◌↔◌, ◌++◌, ◌∷◌, [], ℕ, List, Bool, AllPairs, Contains, IfSome, IsTrue, MatchOption, Option, codes}
 use Rattle.std.specs.Fmt.{decimal}
 use Rattle.std.specs.List.{flat_map}
+use Rattle.scrub_disk.specs.declared.geometry.Geometry.{Geometry}
 use Rattle.scrub_scan.specs.Line.{spaced}
 use Rattle.scrub_super.specs.declared.anywhere.FoundRecord.{FoundRecord}
 use Rattle.scrub_super.specs.declared.anywhere.LostBytes.{LostBytes}
@@ -61,3 +62,23 @@ pub record IsSizesListing (bytes : List ℕ) (marks : List Bool) (failures : ℕ
   pub loses : LosesBlocks bytes marks failures lost
   pub lines : AreSizesLines bytes lost text
   pub is_clean : IsTrue clean ↔ IsCleanFront bytes lost
+
+-- the same for some bytes: those of the raw image if they are known, or else any that it may have had when it was read
+pub record IsSizesListingOf (raw : Option (List ℕ)) (marks : List Bool) (failures : ℕ) (text : List ℕ) (clean : Bool) : Type 0 where
+  pub bytes : List ℕ
+  pub known : IfSome raw (λ all. bytes ≡ all)
+  pub listing : IsSizesListing bytes marks failures text clean
+
+-- a disk has these sizes, by raw bytes with these lost blocks: there is a record, all records have them, and nothing is lost
+pub record AreSizesBy (bytes : List ℕ) (lost : List Bool) (g : Geometry) : Type 0 where
+  pub clean : IsCleanFront bytes lost
+  pub each : (r : FoundRecord) → IsFoundRecord (byte_left bytes lost) r → r.geometry ≡ g
+
+-- the sizes of a disk by some bytes, as above, and for some lost blocks that fit these marks and this many failures; or
+-- None if there is no record, not all have the same sizes, or something is lost
+pub record AreSizesOf (raw : Option (List ℕ)) (marks : List Bool) (failures : ℕ) (found : Option Geometry) : Type 0 where
+  pub bytes : List ℕ
+  pub known : IfSome raw (λ all. bytes ≡ all)
+  pub lost : List Bool
+  pub loses : LosesBlocks bytes marks failures lost
+  pub sizes : MatchOption found (¬ IsCleanFront bytes lost) (AreSizesBy bytes lost)

@@ -50,6 +50,6 @@ pub use reclaiming::{
     list_reclaimable, no_spare_is_taken, one_reclaim_listing, reclaimed_are_candidates,
     reclaiming_is_safe,
 };
-pub use sizes_listing::{SizesListing, list_sizes, one_sizes_listing};
+pub use sizes_listing::{SizesListing, find_sizes, list_sizes, one_size, one_sizes_listing};
 pub use summary::{SummaryListing, a_sound_disk_is_all_right, list_summary, one_summary};
 pub use superblocks::{SuperblockListing, list_superblocks, one_superblock_listing};

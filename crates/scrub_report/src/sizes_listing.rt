@@ -1,8 +1,9 @@
 //! The superblock records of a raw image of any sizes, and what is lost of it, as lines.
 
-ghost use Rattle.std.specs.Prelude.{◌≡◌, ◌+◌, ◌-◌, ◌<◌, ◌≤◌, ◌↔◌, ◌^◌, ℕ, All, List, Bool, IfOk, IfSome, IsTrue};
+ghost use Rattle.std.specs.Prelude.{◌≡◌, ◌+◌, ◌-◌, ◌<◌, ◌≤◌, ◌↔◌, ◌^◌, ℕ, All, List, Bool, IfOk, IsTrue, MatchOption, Some};
 ghost use Rattle.scrub_disk.specs.Limits.{max_extent_bytes};
-ghost use Rattle.scrub_report.specs.Sizes.{AreSizesLines, IsCleanFront, IsSizesListing};
+ghost use Rattle.scrub_report.specs.Sizes.{AreSizesLines, AreSizesOf, IsCleanFront, IsSizesListingOf};
+ghost use Rattle.scrub_disk.specs.declared.geometry.Geometry.{Geometry};
 ghost use Rattle.scrub_report.specs.SizesSteps.{AreCleanLists};
 
 mod lines;
@@ -45,6 +46,42 @@ fn is_clean(found: &FoundSuperblocks) -> bool
     have_sizes(&found.records, found.records[0].geometry)
 }
 
+/// The sizes that all records have, if there is a record and nothing is lost.
+fn sizes_in(found: &FoundSuperblocks) -> Option<Geometry>
+    ensures { MatchOption result (¬ AreCleanLists found.now.records.items found.now.lost.items) (λ g.
+        AreCleanLists found.now.records.items found.now.lost.items × All (λ r. r.geometry ≡ g) found.now.records.items) }
+{
+    if !is_clean(found) {
+        return None;
+    }
+    Some(found.records[0].geometry)
+}
+
+/// Finds the sizes of the disk in a raw image: those that all superblock records in its first 67,108,864 bytes have. None if
+/// there is no record, if not all have the same sizes, or if something is lost there. `find_superblocks` reads the image, whose
+/// blocks are marked as for `list_sizes`. The only fault is `OutOfMemory`.
+pub fn find_sizes<R: RawImage>(
+    alloc: Global,
+    raw: &mut R,
+    marked: &[bool],
+) -> Result<Option<Geometry>, OutOfMemory>
+    requires few_reads { R.reads raw.old < 2 ^ 62 }
+    ensures sizes { IfOk result (AreSizesOf (R.bytes raw.old) marked.now (R.failures raw.new - R.failures raw.old)) }
+    ensures failures { R.failures raw.old ≤ R.failures raw.new }
+    ensures same_bytes { R.bytes raw.new ≡ R.bytes raw.old }
+    ensures same_bound { R.most_failures raw.new ≡ R.most_failures raw.old }
+    ensures reads { R.reads raw.new ≤ R.reads raw.old + max_extent_bytes }
+{
+    let found = find_superblocks(alloc, raw, marked)?;
+    Ok(sizes_in(&found))
+}
+
+/// A law: the sizes that are found in given bytes are the same whatever is marked and whichever reads fail.
+pub fn one_size()
+    ensures { (bytes : List ℕ) (marks others : List Bool) (failures more : ℕ) (g h : Geometry) →
+        AreSizesOf (Some bytes) marks failures (Some g) → AreSizesOf (Some bytes) others more (Some h) → g ≡ h }
+{}
+
 /// Lists the superblock records of a raw image, each with its own sizes, and what is lost of the first 67,108,864 bytes.
 /// `find_superblocks` reads the image. `marked` says for each of the first blocks of 512 bytes whether a rescue's map marks it
 /// as lost. The only fault is `OutOfMemory`.
@@ -54,8 +91,8 @@ pub fn list_sizes<R: RawImage>(
     marked: &[bool],
 ) -> Result<SizesListing, OutOfMemory>
     requires few_reads { R.reads raw.old < 2 ^ 62 }
-    ensures listing { IfOk result (λ l. IfSome (R.bytes raw.old) (λ known.
-        IsSizesListing known marked.now (R.failures raw.new - R.failures raw.old) l.text.items l.is_clean)) }
+    ensures listing { IfOk result (λ l.
+        IsSizesListingOf (R.bytes raw.old) marked.now (R.failures raw.new - R.failures raw.old) l.text.items l.is_clean) }
     ensures failures { R.failures raw.old ≤ R.failures raw.new }
     ensures same_bytes { R.bytes raw.new ≡ R.bytes raw.old }
     ensures same_bound { R.most_failures raw.new ≡ R.most_failures raw.old }

@@ -5,10 +5,11 @@ use Rattle.std.proofs.lemmas.Option.{slice_get_within, slice_get-get_or, slice_g
 use Rattle.std.proofs.lemmas.List.{length-take-le, get_or_append_left, get_or-append_right}
 use Rattle.std.proofs.lemmas.List.Elements.{Contains-push, Contains-append_left}
 use Rattle.std.proofs.Math.Seq.{get_or-append_seam}
+use Rattle.std.proofs.lemmas.List.{get_or-append-add}
 use Rattle.scrub_disk.specs.Image.{AreBytesAt}
 use Rattle.scrub_disk.specs.Limits.{max_extent_bytes}
 use Rattle.scrub_super.specs.Blocks.{IsMarked, byte_left, LosesBlocks}
-use Rattle.scrub_super.specs.BlocksRead.{IsBlockRead, AreBlockMarks, AreBlocksRead, AreAllRead}
+use Rattle.scrub_super.specs.BlocksRead.{IsBlockRead, AreBlockMarks, AreBlocksRead, AreAllRead, BeginsWith}
 
 -- ---- one block
 
@@ -153,6 +154,22 @@ module _ {read out new : List ℕ} {lost more : List Bool} {len : ℕ} {is_lost 
         }
       ]
 
+  -- bytes that begin with all begin with those so far
+  pub begins_so_far : (known : List ℕ) → BeginsWith known new → BeginsWith known read
+  begins_so_far known all i low =
+      all i (omega (arith, low, length-next))
+      ∙ ap Some ((let e : get_or new i 0 ≡ get_or (read ++ take len out) i 0 = ap (λ (xs : List ℕ). get_or xs i 0) adds.bytes in e)
+      ∙ get_or_append_left read (take len out) 0 i low)
+
+  -- and they have the block behind them
+  pub block_stands : (known : List ℕ) (start : ℕ) → start ≡ length read → BeginsWith known new →
+      AreBytesAt (slice_get known) start (take len out)
+  block_stands known start place all k hk =
+      all (start + k) (omega (arith, place, hk, length_piece, length-next))
+      ∙ ap Some ((let e : get_or new (start + k) 0 ≡ get_or (read ++ take len out) (start + k) 0 = ap (λ (xs : List ℕ). get_or xs (start + k) 0) adds.bytes in e)
+      ∙ ap (λ (n : ℕ). get_or (read ++ take len out) n 0) (let at : start + k ≡ length read + k = omega (arith, place) in at)
+      ∙ get_or-append-add read (take len out) k 0)
+
   -- the same if the raw image's bytes are known
   module _ {raw was : Option (List ℕ)} (marks : List Bool) {n start : ℕ} (first before after : ℕ) {m : Bool}
       (same : was ≡ raw) (number : length lost ≡ n) (mark : m ≡ get_or marks n false) (size : length read ≡ 512 * n)
@@ -191,6 +208,10 @@ pub all_read_full : (raw : Option (List ℕ)) (marks lost : List Bool) (read : L
     IfSome raw (λ known. AreAllRead known marks failures read lost)
 all_read_full None marks lost read failures full blocks = tt
 all_read_full (Some known) marks lost read failures full blocks = record { blocks = blocks; ended = inr full }
+
+-- bytes begin with themselves
+pub begins_itself : (bytes : List ℕ) → BeginsWith bytes bytes
+begins_itself bytes i low = slice_get-get_or bytes i 0 low
 
 -- ---- the bytes that are left
 

@@ -1,16 +1,16 @@
 -- What was found in the front of a raw image is what the raw image holds, and there is one answer.
-use Rattle.std.proofs.Common.{◌≡◌, ◌<◌, ◌+◌, ℕ, Bool, List, arith, sym, ◌∙◌, Option, Some, None, IfSome}
+use Rattle.std.proofs.Common.{◌≡◌, ◌<◌, ◌+◌, ℕ, Bool, List, arith, refl, sym, ◌∙◌, Option, Some, None, IfSome}
 use Rattle.scrub_disk.specs.Limits.{max_extent_bytes}
 use Rattle.scrub_super.specs.declared.anywhere.FoundRecord.{FoundRecord}
 use Rattle.scrub_super.specs.declared.anywhere.LostBytes.{LostBytes}
 use Rattle.scrub_super.specs.Blocks.{byte_left}
 use Rattle.scrub_super.specs.BlocksRead.{AreBlockMarks, AreAllRead}
-use Rattle.scrub_super.specs.Anywhere.{IsFoundRecord, AreFoundRecords, AreLostRanges, AreFoundAnywhere, AreFoundWith}
+use Rattle.scrub_super.specs.Anywhere.{IsFoundRecord, AreFoundRecords, AreLostRanges, AreFoundAnywhere, AreFoundInSome, AreFoundWith}
 use Rattle.scrub_super.proofs.BlocksFront.{same_left, loses_blocks}
 use Rattle.scrub_super.proofs.RisingLists.{one_rising_by}
 
 -- a record depends only on the bytes below 2^26
-same_record : (at also : ℕ → Option ℕ) (r : FoundRecord) → ((i : ℕ) → i < max_extent_bytes → at i ≡ also i) →
+pub same_record : (at also : ℕ → Option ℕ) (r : FoundRecord) → ((i : ℕ) → i < max_extent_bytes → at i ≡ also i) →
     IsFoundRecord at r → IsFoundRecord also r
 same_record at also r same f = (
   f.0,
@@ -36,15 +36,29 @@ same_records {at} {also} same h = record {
   );
 }
 
-pub found_known : (raw : Option (List ℕ)) (marks : List Bool) (failures : ℕ) {lost : List Bool} {read : List ℕ} {records : List FoundRecord} {ranges : List LostBytes} →
-    IfSome raw (λ known. AreAllRead known marks failures read lost) → AreBlockMarks read lost →
-    AreFoundRecords (byte_left read lost) records → AreLostRanges lost ranges →
-    IfSome raw (λ known. AreFoundWith known marks failures records ranges)
-found_known None marks failures all blocks hr hl = tt
-found_known (Some known) marks failures {lost} all blocks hr hl = record {
+found_in : (known : List ℕ) (marks : List Bool) (failures : ℕ) {lost : List Bool} {read : List ℕ} {records : List FoundRecord} {ranges : List LostBytes} →
+    AreAllRead known marks failures read lost → AreBlockMarks read lost →
+    AreFoundRecords (byte_left read lost) records → AreLostRanges lost ranges → AreFoundWith known marks failures records ranges
+found_in known marks failures {lost} all blocks hr hl = record {
   lost = lost;
   loses = loses_blocks all blocks;
   found = record { records_are = same_records (λ i small. sym (same_left all i small)) hr; ranges_are = hl };
+}
+
+-- in the raw image's bytes if they are known, or else in those that were read
+pub found_known : (raw : Option (List ℕ)) (marks : List Bool) (failures : ℕ) {lost : List Bool} {read : List ℕ} {records : List FoundRecord} {ranges : List LostBytes} →
+    IfSome raw (λ known. AreAllRead known marks failures read lost) → AreBlockMarks read lost →
+    AreFoundRecords (byte_left read lost) records → AreLostRanges lost ranges →
+    AreAllRead read marks failures read lost → AreFoundInSome raw marks failures records ranges
+found_known None marks failures {lost} {read} all blocks hr hl own = record {
+  bytes = read;
+  known = tt;
+  found = found_in read marks failures own blocks hr hl;
+}
+found_known (Some known) marks failures all blocks hr hl own = record {
+  bytes = known;
+  known = refl;
+  found = found_in known marks failures all blocks hr hl;
 }
 
 pub one_answer_lem : (bytes : List ℕ) (lost : List Bool) (a b : List FoundRecord) (r s : List LostBytes) →

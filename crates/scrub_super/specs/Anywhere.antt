@@ -1,5 +1,5 @@
 -- The superblock records of raw bytes, each judged by its own sizes, and the bytes that are lost.
-use Rattle.std.specs.Prelude.{◌≡◌, ◌<◌, ◌≤◌, ◌+◌, ◌*◌, ◌%◌, ◌↔◌, ℕ, List, Bool, Option, AllPairs, Contains}
+use Rattle.std.specs.Prelude.{◌≡◌, ◌<◌, ◌≤◌, ◌+◌, ◌*◌, ◌%◌, ◌↔◌, ℕ, List, Bool, Option, AllPairs, Contains, IfSome}
 use Rattle.std.specs.Prelude.{length as len}
 use Rattle.scrub_disk.specs.declared.geometry.Geometry.{Geometry}
 use Rattle.scrub_disk.specs.Image.{AreBytesAt, extent_bytes}
@@ -48,3 +48,10 @@ pub record AreFoundWith (bytes : List ℕ) (marks : List Bool) (failures : ℕ) 
   pub lost : List Bool
   pub loses : LosesBlocks bytes marks failures lost
   pub found : AreFoundAnywhere bytes lost records ranges
+
+-- the same for some bytes: those of the raw image if they are known, or else any that it may have had when it was read
+pub record AreFoundInSome (raw : Option (List ℕ)) (marks : List Bool) (failures : ℕ) (records : List FoundRecord)
+    (ranges : List LostBytes) : Type 0 where
+  pub bytes : List ℕ
+  pub known : IfSome raw (λ text. bytes ≡ text)
+  pub found : AreFoundWith bytes marks failures records ranges

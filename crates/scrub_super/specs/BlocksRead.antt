@@ -18,6 +18,10 @@ pub record IsBlockRead (bytes : List ℕ) (offset : ℕ) (is_marked : Bool) (bef
   pub marked : is_marked ≡ true → offset < len bytes → is_lost ≡ true
   pub only : is_lost ≡ true → ((offset < len bytes) × (is_marked ≡ true)) ⊎ (before < after)
 
+-- the first list begins with the bytes of the second
+abbrev pub BeginsWith : List ℕ → List ℕ → Type 0
+BeginsWith bytes front = (i : ℕ) → i < len front → slice_get bytes i ≡ Some (slice_index front i)
+
 -- there is a mark for each block of 512 bytes, and none behind the last byte
 pub record AreBlockMarks (bytes : List ℕ) (lost : List Bool) : Type 0 where
   pub all : len bytes ≤ 512 * len lost

@@ -1,10 +1,10 @@
 //! Finds the superblock records of a raw image whose sizes aren't known: each record is judged by its own sizes.
 
-ghost use Rattle.std.specs.Prelude.{◌≡◌, ◌+◌, ◌-◌, ◌<◌, ◌≤◌, ◌^◌, ℕ, List, Bool, IfOk, IfSome};
+ghost use Rattle.std.specs.Prelude.{◌≡◌, ◌+◌, ◌-◌, ◌<◌, ◌≤◌, ◌^◌, ℕ, List, Bool, IfOk};
 ghost use Rattle.scrub_disk.specs.Limits.{max_extent_bytes};
 ghost use Rattle.scrub_super.specs.declared.anywhere.FoundRecord.{FoundRecord};
 ghost use Rattle.scrub_super.specs.declared.anywhere.LostBytes.{LostBytes};
-ghost use Rattle.scrub_super.specs.Anywhere.{AreFoundAnywhere, AreFoundWith};
+ghost use Rattle.scrub_super.specs.Anywhere.{AreFoundAnywhere, AreFoundInSome};
 
 mod blocks;
 mod ranges;
@@ -56,8 +56,8 @@ pub fn find_superblocks<R: RawImage>(
     marked: &[bool],
 ) -> Result<FoundSuperblocks, OutOfMemory>
     requires few_reads { R.reads raw.old < 2 ^ 62 }
-    ensures found { IfOk result (λ f. IfSome (R.bytes raw.old) (λ known.
-        AreFoundWith known marked.now (R.failures raw.new - R.failures raw.old) f.records.items f.lost.items)) }
+    ensures found { IfOk result (λ f.
+        AreFoundInSome (R.bytes raw.old) marked.now (R.failures raw.new - R.failures raw.old) f.records.items f.lost.items) }
     ensures failures { R.failures raw.old ≤ R.failures raw.new }
     ensures same_bytes { R.bytes raw.new ≡ R.bytes raw.old }
     ensures same_bound { R.most_failures raw.new ≡ R.most_failures raw.old }

@@ -1,6 +1,6 @@
 //! Reads the front of a raw image in blocks of 512 bytes, some of which may be lost. `search` looks at the bytes.
 
-ghost use Rattle.std.specs.Prelude.{◌≡◌, ◌+◌, ◌-◌, ◌*◌, ◌<◌, ◌≤◌, ◌^◌, ◌++◌, ◌∷◌, [], true, false, IfOk, IfSome, OnErr, OnOk, length, slice_get, slice_index_or, take};
+ghost use Rattle.std.specs.Prelude.{◌≡◌, ◌+◌, ◌-◌, ◌*◌, ◌<◌, ◌≤◌, ◌^◌, ◌++◌, ◌∷◌, [], true, false, ℕ, List, IfOk, IfSome, OnErr, OnOk, length, slice_get, slice_index_or, take};
 ghost use Rattle.scrub_disk.specs.Limits.{max_extent_bytes};
 ghost use Rattle.scrub_disk.specs.Image.{AreBytesAt};
 ghost use Rattle.scrub_super.specs.BlocksRead.{AreAllRead, AreBlockMarks, IsBlockRead};
@@ -65,6 +65,10 @@ fn read_block<R: RawImage>(raw: &mut R, offset: u64, is_marked: bool, out: &mut 
     ensures lost { result.is_lost ≡ true → 0 < result.len }
     ensures read { IfSome (R.bytes raw.old) (λ bytes.
         IsBlockRead bytes offset is_marked (R.failures raw.old) (R.failures raw.new) out.new result.len result.is_lost) }
+    // The same of any bytes that hold what was read.
+    ensures own { (bytes : List ℕ) → AreBytesAt (slice_get bytes) offset (take result.len out.new) →
+        (result.len < 512 → length bytes ≤ offset + result.len) →
+        IsBlockRead bytes offset is_marked (R.failures raw.old) (R.failures raw.new) out.new result.len result.is_lost }
     ensures failures { R.failures raw.old ≤ R.failures raw.new }
     ensures same_bytes { R.bytes raw.new ≡ R.bytes raw.old }
     ensures same_bound { R.most_failures raw.new ≡ R.most_failures raw.old }
@@ -109,6 +113,9 @@ pub(crate) fn read_blocks<R: RawImage>(
     ensures marks { IfOk result (λ b. AreBlockMarks b.bytes.items b.lost.items) }
     ensures read { IfOk result (λ b. IfSome (R.bytes raw.old) (λ known.
         AreAllRead known marked.now (R.failures raw.new - R.failures raw.old) b.bytes.items b.lost.items)) }
+    // The bytes that were read could be those of the raw image.
+    ensures own { IfOk result (λ b.
+        AreAllRead b.bytes.items marked.now (R.failures raw.new - R.failures raw.old) b.bytes.items b.lost.items) }
     ensures failures { R.failures raw.old ≤ R.failures raw.new }
     ensures same_bytes { R.bytes raw.new ≡ R.bytes raw.old }
     ensures same_bound { R.most_failures raw.new ≡ R.most_failures raw.old }

@@ -8,3 +8,4 @@ returns-clause-found g c =
     c.in_ok-blocks.ensures.marks
     (rw (c.deref.ensures.value, c.deref-2.ensures.value) at c.in_ok-records.ensures)
     (rw c.deref-3.ensures.value at c.in_ok-lost.ensures)
+    c.in_ok-blocks.ensures.own

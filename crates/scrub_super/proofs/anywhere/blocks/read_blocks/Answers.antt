@@ -1,6 +1,6 @@
 -- One more block, in which the image may end.
-use Rattle.std.proofs.Common.{rules, arith, refl, length, ◌≡◌, ◌≤◌}
-use Rattle.scrub_super.proofs.BlocksFront.{AddsBlock, length-next, length-marks, begins_next, blocks_next, blocks_end, all_read_full}
+use Rattle.std.proofs.Common.{rules, arith, refl, length, Some, ◌≡◌, ◌≤◌}
+use Rattle.scrub_super.proofs.BlocksFront.{AddsBlock, length-next, length-marks, begins_itself, begins_next, begins_so_far, block_stands, blocks_next, blocks_end, all_read_full}
 use Rattle.scrub_super.proofs.anywhere.blocks.read_blocks.Goals as goal
 use Rattle.scrub_super.proofs.anywhere.blocks.read_blocks.Goals.{else-loop-number-test, then-loop-number-test+in_ok-add_block+then-block-lt-BLOCK_BYTES}
 
@@ -31,6 +31,13 @@ loop-number-preserved g c =
           blocks_next adds _ _ _ _ c.loop-number.invariant.same_bytes c.loop-number.invariant.marks c.is_marked.ensures
           c.loop-number.invariant.size refl c.loop-number.invariant.failures c.read_block-block.ensures.failures
           c.loop-number.invariant.read c.read_block-block.ensures.read;
+      own = λ known begins.
+          blocks_next adds {raw = Some known} {was = Some known} _ _ _ _ refl c.loop-number.invariant.marks c.is_marked.ensures
+          c.loop-number.invariant.size refl c.loop-number.invariant.failures c.read_block-block.ensures.failures
+          (c.loop-number.invariant.own known (begins_so_far adds known begins))
+          (c.read_block-block.ensures.own known
+          (block_stands adds known _ (omega (arith, c.loop-number.invariant.size)) begins)
+          (λ short. absurd (omega (arith, short, c.if-block-lt-BLOCK_BYTES.false))));
     }
 
 pub returns-clause-read : goal.returns-clause-read
@@ -47,4 +54,26 @@ returns-clause-read g c =
           (blocks_end adds _ _ _ _ c.loop-number.invariant.same_bytes c.loop-number.invariant.marks w.is_marked.ensures
           c.loop-number.invariant.size refl c.loop-number.invariant.failures w.read_block-block.ensures.failures
           c.loop-number.invariant.read w.read_block-block.ensures.read w.if-block-lt-BLOCK_BYTES.true)
+    ]
+
+pub returns-clause-own : goal.returns-clause-own
+returns-clause-own g c =
+    elim c.loop-number-test.branch [
+      | else-loop-number-test w ↦
+          let bytes = c.loop-number.blocks.bytes.items in
+          rw (w.raw-is, w.blocks-is)
+          (all_read_full (Some bytes) c.args.marked.now c.loop-number.blocks.lost.items bytes _ (omega (arith, c.loop-number.invariant.size, w.loop-number-test.false, c.loop-number.auto.number-end)) (c.loop-number.invariant.own bytes (begins_itself bytes)))
+      | then-loop-number-test+in_ok-add_block+then-block-lt-BLOCK_BYTES w ↦
+          let full : length w.read_block-block.new.out ≡ 512 = search rules in
+          let adds : AddsBlock c.loop-number.blocks.bytes.items c.loop-number.blocks.lost.items w.read_block-block.new.out w.read_block-block.result.len w.read_block-block.result.is_lost w.add_block.new.blocks.bytes.items w.add_block.new.blocks.lost.items =
+          record { bytes = w.in_ok-add_block.ensures.bytes; marks = w.in_ok-add_block.ensures.lost; few = w.read_block-block.ensures.within; full = full } in
+          let bytes = w.add_block.new.blocks.bytes.items in
+          rw (w.raw-is, w.blocks-is)
+          (blocks_end adds {raw = Some bytes} {was = Some bytes} _ _ _ _ refl c.loop-number.invariant.marks w.is_marked.ensures
+          c.loop-number.invariant.size refl c.loop-number.invariant.failures w.read_block-block.ensures.failures
+          (c.loop-number.invariant.own bytes (begins_so_far adds bytes (begins_itself bytes)))
+          (w.read_block-block.ensures.own bytes
+          (block_stands adds bytes _ (omega (arith, c.loop-number.invariant.size)) (begins_itself bytes))
+          (λ short. omega (arith, length-next adds, c.loop-number.invariant.size)))
+          w.if-block-lt-BLOCK_BYTES.true)
     ]

@@ -1,7 +1,7 @@
 -- The blocks so far.
-use Rattle.std.proofs.Common.{◌≡◌, ◌<◌, ◌≤◌, ◌+◌, ◌-◌, ◌*◌, ℕ, IfSome, length}
+use Rattle.std.proofs.Common.{◌≡◌, ◌<◌, ◌≤◌, ◌+◌, ◌-◌, ◌*◌, ℕ, List, IfSome, length}
 use Rattle.scrub_super.specs.Blocks.{IsMarked}
-use Rattle.scrub_super.specs.BlocksRead.{AreBlocksRead}
+use Rattle.scrub_super.specs.BlocksRead.{AreBlocksRead, BeginsWith}
 use Rattle.scrub_super.proofs.anywhere.blocks.read_blocks.Given as goal
 
 abbrev pub invariant-loop-number : goal.invariant-loop-number
@@ -16,4 +16,7 @@ invariant-loop-number g l = record {
   read : IfSome (g.R.RawImage.bytes l.initial.raw) (λ known.
       AreBlocksRead known l.marked (g.R.RawImage.failures l.raw - g.R.RawImage.failures l.initial.raw)
       l.blocks.bytes.items l.blocks.lost.items);
+  own : (known : List ℕ) → BeginsWith known l.blocks.bytes.items →
+      AreBlocksRead known l.marked (g.R.RawImage.failures l.raw - g.R.RawImage.failures l.initial.raw)
+      l.blocks.bytes.items l.blocks.lost.items;
 }
