@@ -8,7 +8,7 @@ use Rattle.scrub_disk.specs.Image.{Image, disk_bytes}
 use Rattle.scrub_disk.specs.Raw.{IsLoadedWith}
 use Rattle.scrub_disk.proofs.LostPages.{loaded_with_more}
 use Rattle.scrub_cli.specs.declared.process.fault.Fault.{Fault}
-use Rattle.scrub_cli.specs.declared.process.fault.Fault.TheVariants.{NotUtf8, Help, Words, Geometry, Extent, Pointer, BadPage, NoMap, MapLine, NoImage, TooLong, Output, OutOfMemory}
+use Rattle.scrub_cli.specs.declared.process.fault.Fault.TheVariants.{NotUtf8, Help, Words, Geometry, NoSizes, Extent, Pointer, BadPage, NoMap, MapLine, NoImage, TooLong, Output, OutOfMemory}
 use Rattle.scrub_cli.specs.declared.words.ImageWords.{ImageWords}
 use Rattle.scrub_cli.specs.DiskImage.{AreReadBefore, IsBadPageFault, IsDiskFault, NamePages}
 use Rattle.scrub_cli.specs.Fault.{fault_of_load}
@@ -24,6 +24,7 @@ bad_page_fault known maps words g NotUtf8 first = absurd first
 bad_page_fault known maps words g (Help text) first = absurd first
 bad_page_fault known maps words g (Words text) first = absurd first
 bad_page_fault known maps words g (Geometry fault) first = absurd first
+bad_page_fault known maps words g NoSizes first = absurd first
 bad_page_fault known maps words g Extent first = absurd first
 bad_page_fault known maps words g Pointer first = absurd first
 bad_page_fault known maps words g (NoMap name) first = absurd first
@@ -42,6 +43,7 @@ map_fault known maps words g pages NotUtf8 named why = absurd why
 map_fault known maps words g pages (Help text) named why = absurd why
 map_fault known maps words g pages (Words text) named why = absurd why
 map_fault known maps words g pages (Geometry fault) named why = absurd why
+map_fault known maps words g pages NoSizes named why = absurd why
 map_fault known maps words g pages Extent named why = absurd why
 map_fault known maps words g pages Pointer named why = absurd why
 map_fault known maps words g pages (BadPage word) named why = absurd why
@@ -61,6 +63,7 @@ of_disk_fault Holds known maps words g bad unopened line none long memory NotUtf
 of_disk_fault Holds known maps words g bad unopened line none long memory (Help text) is = absurd is
 of_disk_fault Holds known maps words g bad unopened line none long memory (Words text) is = absurd is
 of_disk_fault Holds known maps words g bad unopened line none long memory (Geometry fault) is = absurd is
+of_disk_fault Holds known maps words g bad unopened line none long memory NoSizes is = absurd is
 of_disk_fault Holds known maps words g bad unopened line none long memory Extent is = absurd is
 of_disk_fault Holds known maps words g bad unopened line none long memory Pointer is = absurd is
 of_disk_fault Holds known maps words g bad unopened line none long memory (BadPage word) is = bad word is

@@ -16,6 +16,7 @@ use Rattle.clap_walk.specs.Rules.{EachRule, IsByName}
 use Rattle.clap_walk.proofs.Walks.{parts}
 use Rattle.clap_walk.proofs.SameRows.{all_same, first_same, one_same}
 use Rattle.clap_walk.proofs.Exchanges.{end_alike, joined}
+use Rattle.scrub_cli.specs.declared.words.GivenSizes.{GivenSizes}
 use Rattle.scrub_cli.specs.declared.words.ImageWords.{ImageWords}
 use Rattle.scrub_cli.specs.declared.words.ItemsWords.{ItemsWords}
 use Rattle.scrub_cli.specs.declared.words.ScanWords.{ScanWords}
@@ -25,8 +26,8 @@ use Rattle.scrub_cli.specs.declared.words.Request.{Request}
 use Rattle.scrub_cli.specs.declared.words.Request.TheVariants.{Demo, Items, Scan, Index, Locators, Manifest, Summary, Reclaimable, Superblocks, Sizes, Version}
 use Rattle.scrub_cli.specs.CommandLine.{shardscrub_app}
 use Rattle.scrub_cli.specs.Order.{AreExchanged, HasOptions}
-use Rattle.scrub_cli.specs.Words.{AreImageWords, AreItemsWords, AreReclaimWords, AreScanWords, AreSizesWords, IsAskedBy, IsNumberOf, IsWorkersOf, NameCommand}
-use Rattle.scrub_cli.proofs.Whole.{built_items, built_reclaimable, built_sizes, built_superblocks, disk}
+use Rattle.scrub_cli.specs.Words.{AreImageWords, AreItemsWords, AreReclaimWords, AreScanWords, AreSizesGiven, AreSizesWords, IsAskedBy, IsNumberOf, IsWorkersOf, NameCommand}
+use Rattle.scrub_cli.proofs.Whole.{built_items, built_reclaimable, built_sizes, built_superblocks, disk, looked}
 
 -- a pair that was found
 pair_names : {A B : Type 0} (a c : A) (b d : B) → ◌≡◌ {A = Option (A × B)} (Some (a, b)) (Some (c, d)) → a ≡ c
@@ -43,11 +44,21 @@ module _ (xs ys : List Row) (same : AreSame xs ys) where
   number_same : (id : Text) (n : ℕ) → IsNumberOf xs id n → IsNumberOf ys id n
   number_same id n read = (read.0, sym (one_same xs ys same id) ∙ read.1, read.2, read.3)
 
+  sizes_given_same : (given : Option GivenSizes) → AreSizesGiven xs given → AreSizesGiven ys given
+  sizes_given_same None none = (
+    sym (one_same xs ys same (codes "page")) ∙ none.0,
+    sym (one_same xs ys same (codes "pages")) ∙ none.1,
+    sym (one_same xs ys same (codes "extents")) ∙ none.2,
+  )
+  sizes_given_same (Some s) read = (
+    number_same (codes "page") s.page read.0,
+    number_same (codes "pages") s.pages read.1,
+    number_same (codes "extents") s.extents read.2,
+  )
+
   image_same : (words : ImageWords) → AreImageWords xs words → AreImageWords ys words
   image_same words read = record {
-    page = number_same (codes "page") words.page read.page;
-    pages = number_same (codes "pages") words.pages read.pages;
-    extents = number_same (codes "extents") words.extents read.extents;
+    sizes = sizes_given_same words.sizes read.sizes;
     name = sym (first_same xs ys same (codes "image")) ∙ read.name;
     bad_pages = read.bad_pages ∙ all_same xs ys same (codes "bad-pages");
     map_name = read.map_name ∙ first_same xs ys same (codes "map");
@@ -146,6 +157,31 @@ module _ (xs ys : List Row) (same : AreSame xs ys) where
 disk_by_name : (name : Text) → EachRule IsByName (disk name).rules
 unfolding clap_on_literals
 disk_by_name name = (
+  (refl, inr refl, refl, refl),
+  (
+    (refl, inr refl, refl, refl),
+    (
+      (refl, inr refl, refl, refl),
+      (
+        (refl, inr refl, refl, refl),
+        (
+          (refl, inr refl, refl, refl),
+          (
+            (refl, inl refl, refl, refl),
+            (
+              (refl, inl refl, refl, refl),
+              ((refl, inr refl, refl, refl), tt),
+            ),
+          ),
+        ),
+      ),
+    ),
+  ),
+)
+
+looked_by_name : (name : Text) → EachRule IsByName (looked name).rules
+unfolding clap_on_literals
+looked_by_name name = (
   (refl, inr refl, refl, refl),
   (
     (refl, inr refl, refl, refl),
@@ -270,7 +306,7 @@ record Enters (command : Text) (below : Shape) : Type 0 where
       after_walk [] (stopped command words) ≡ or_else (level_fault below [] nothing_held words false []) []
   rows : (words : List Text) → entered (built shardscrub_app) (Some (command, words)) ≡ Some (rows_at below words)
 
-enters_scan : Enters (codes "scan") (disk (codes "scan"))
+enters_scan : Enters (codes "scan") (looked (codes "scan"))
 unfolding clap_on_literals
 enters_scan = record { first = refl; clean = refl; faults = λ words. refl; rows = λ words. refl }
 
@@ -278,7 +314,7 @@ enters_index : Enters (codes "index") (disk (codes "index"))
 unfolding clap_on_literals
 enters_index = record { first = refl; clean = refl; faults = λ words. refl; rows = λ words. refl }
 
-enters_locators : Enters (codes "locators") (disk (codes "locators"))
+enters_locators : Enters (codes "locators") (looked (codes "locators"))
 unfolding clap_on_literals
 enters_locators = record { first = refl; clean = refl; faults = λ words. refl; rows = λ words. refl }
 
@@ -286,7 +322,7 @@ enters_manifest : Enters (codes "manifest") (disk (codes "manifest"))
 unfolding clap_on_literals
 enters_manifest = record { first = refl; clean = refl; faults = λ words. refl; rows = λ words. refl }
 
-enters_summary : Enters (codes "summary") (disk (codes "summary"))
+enters_summary : Enters (codes "summary") (looked (codes "summary"))
 unfolding clap_on_literals
 enters_summary = record { first = refl; clean = refl; faults = λ words. refl; rows = λ words. refl }
 
@@ -351,19 +387,19 @@ order_is_free words others request x asked = go x.options
   where
     go : HasOptions x.command → NameCommand others request
     go (inl scan) =
-        exchanged (codes "scan") (disk (codes "scan")) enters_scan (plain (disk_by_name (codes "scan")) refl) words others x
+        exchanged (codes "scan") (looked (codes "scan")) enters_scan (plain (looked_by_name (codes "scan")) refl) words others x
         scan request asked
     go (inr (inl index)) =
         exchanged (codes "index") (disk (codes "index")) enters_index (plain (disk_by_name (codes "index")) refl) words others x
         index request asked
     go (inr (inr (inl locators))) =
-        exchanged (codes "locators") (disk (codes "locators")) enters_locators (plain (disk_by_name (codes "locators")) refl)
+        exchanged (codes "locators") (looked (codes "locators")) enters_locators (plain (looked_by_name (codes "locators")) refl)
         words others x locators request asked
     go (inr (inr (inr (inl manifest)))) =
         exchanged (codes "manifest") (disk (codes "manifest")) enters_manifest (plain (disk_by_name (codes "manifest")) refl)
         words others x manifest request asked
     go (inr (inr (inr (inr (inl summary))))) =
-        exchanged (codes "summary") (disk (codes "summary")) enters_summary (plain (disk_by_name (codes "summary")) refl)
+        exchanged (codes "summary") (looked (codes "summary")) enters_summary (plain (looked_by_name (codes "summary")) refl)
         words others x summary request asked
     go (inr (inr (inr (inr (inr (inl reclaimable)))))) =
         exchanged (codes "reclaimable") built_reclaimable enters_reclaimable (plain reclaimable_by_name refl) words others x

@@ -1,17 +1,57 @@
 -- Why `scan`, `index`, `locators`, `manifest`, `summary` and `reclaimable` give no answer, from what their parts give.
+use Rattle.std.proofs.Common.{inl, inr, ℕ, List, Option, None, Some, MatchOption}
+use Rattle.std.specs.Borrow.{Bor}
+use Rattle.scrub_disk.specs.declared.geometry.GeometryFault.{GeometryFault}
 use Rattle.scrub_disk.specs.declared.geometry.Geometry.{Geometry as Sizes}
-use Rattle.scrub_disk.specs.Faults.{HasSizes}
 use Rattle.scrub_cli.specs.declared.process.fault.Fault.{Fault}
+use Rattle.scrub_cli.specs.declared.process.fault.Fault.TheVariants.{NotUtf8, Help, Words, Geometry, NoSizes, Extent, Pointer, BadPage, NoMap, MapLine, NoImage, TooLong, Output, OutOfMemory}
+use Rattle.scrub_cli.specs.declared.words.GivenSizes.{GivenSizes}
 use Rattle.scrub_cli.specs.declared.words.ImageWords.{ImageWords}
 use Rattle.scrub_cli.specs.DiskImage.{IsDiskFault}
+use Rattle.scrub_cli.specs.Found.{IsGeometryFault, IsGeometryOf}
 use Rattle.scrub_cli.specs.Known.{KnownMaps, KnownRaw}
 use Rattle.scrub_cli.specs.Scan.{IsScanFault}
 use Rattle.scrub_cli.proofs.DiskAnswers.{of_disk_fault}
 
 -- a fault of the image is one of `scan`
 pub scan_disk_fault : (known : KnownRaw) (maps : KnownMaps) (words : ImageWords) (g : Sizes) (fault : Fault) →
-    HasSizes g words.page words.pages words.extents → IsDiskFault known maps words g fault → IsScanFault known maps words fault
+    IsGeometryOf known maps words g → IsDiskFault known maps words g fault → IsScanFault known maps words fault
 scan_disk_fault known maps words g fault sizes =
-    of_disk_fault (IsScanFault known maps words) known maps words g (λ word is. (g, sizes, is)) (λ name is. (g, sizes, is))
-    (λ k is. (g, sizes, is))
-    (λ name is. (g, sizes, is)) (λ is. (g, sizes, is)) tt fault
+    of_disk_fault (IsScanFault known maps words) known maps words g (λ word is. (g, sizes, is)) (λ name is. inr (g, sizes, is))
+    (λ k is. inr (g, sizes, is))
+    (λ name is. inr (g, sizes, is)) (λ is. (g, sizes, is)) tt fault
+
+-- what never happens, whether sizes are given or not
+never : (o : Option GivenSizes) → MatchOption o ⊥ (λ s. ⊥) → ⊥
+never None is = is
+never (Some s) is = is
+
+-- what holds for each fault of the sizes holds for the one that they have
+pub of_geometry_fault : (Holds : Fault → Type 0) (known : KnownRaw) (maps : KnownMaps) (words : ImageWords) →
+    ((fault : GeometryFault) → IsGeometryFault known maps words (Geometry fault) → Holds (Geometry fault)) →
+    (IsGeometryFault known maps words NoSizes → Holds NoSizes) →
+    ((name : Bor (List ℕ)) → IsGeometryFault known maps words (NoMap name) → Holds (NoMap name)) →
+    ((k : ℕ) → IsGeometryFault known maps words (MapLine k) → Holds (MapLine k)) →
+    ((name : Bor (List ℕ)) → IsGeometryFault known maps words (NoImage name) → Holds (NoImage name)) → Holds OutOfMemory →
+    (fault : Fault) → IsGeometryFault known maps words fault → Holds fault
+of_geometry_fault Holds known maps words limit found unopened line none memory NotUtf8 is = absurd (never words.sizes is)
+of_geometry_fault Holds known maps words limit found unopened line none memory (Help text) is = absurd (never words.sizes is)
+of_geometry_fault Holds known maps words limit found unopened line none memory (Words text) is = absurd (never words.sizes is)
+of_geometry_fault Holds known maps words limit found unopened line none memory (Geometry fault) is = limit fault is
+of_geometry_fault Holds known maps words limit found unopened line none memory NoSizes is = found is
+of_geometry_fault Holds known maps words limit found unopened line none memory Extent is = absurd (never words.sizes is)
+of_geometry_fault Holds known maps words limit found unopened line none memory Pointer is = absurd (never words.sizes is)
+of_geometry_fault Holds known maps words limit found unopened line none memory (BadPage word) is = absurd (never words.sizes is)
+of_geometry_fault Holds known maps words limit found unopened line none memory (NoMap name) is = unopened name is
+of_geometry_fault Holds known maps words limit found unopened line none memory (MapLine k) is = line k is
+of_geometry_fault Holds known maps words limit found unopened line none memory (NoImage name) is = none name is
+of_geometry_fault Holds known maps words limit found unopened line none memory TooLong is = absurd (never words.sizes is)
+of_geometry_fault Holds known maps words limit found unopened line none memory (Output written) is = absurd (never words.sizes is)
+of_geometry_fault Holds known maps words limit found unopened line none memory OutOfMemory is = memory
+
+-- a fault of the sizes is one of `scan`
+pub scan_geometry_fault : (known : KnownRaw) (maps : KnownMaps) (words : ImageWords) (fault : Fault) →
+    IsGeometryFault known maps words fault → IsScanFault known maps words fault
+scan_geometry_fault known maps words fault =
+    of_geometry_fault (IsScanFault known maps words) known maps words (λ limit is. is) (λ is. is) (λ name is. inl is) (λ k is. inl is)
+    (λ name is. inl is) tt fault

@@ -1,7 +1,7 @@
 -- What `sizes` answers, and why it doesn't, from what its parts give.
 use Rattle.std.proofs.Common.{◌≡◌, ℕ, List, Bool, Option}
 use Rattle.scrub_cli.specs.declared.process.fault.Fault.{Fault}
-use Rattle.scrub_cli.specs.declared.process.fault.Fault.TheVariants.{NotUtf8, Help, Words, Geometry, Extent, Pointer, BadPage, NoMap, MapLine, NoImage, TooLong, Output, OutOfMemory}
+use Rattle.scrub_cli.specs.declared.process.fault.Fault.TheVariants.{NotUtf8, Help, Words, Geometry, NoSizes, Extent, Pointer, BadPage, NoMap, MapLine, NoImage, TooLong, Output, OutOfMemory}
 use Rattle.scrub_cli.specs.declared.words.SizesWords.{SizesWords}
 use Rattle.scrub_cli.specs.Known.{KnownMaps, KnownRaw}
 use Rattle.scrub_cli.specs.Rescue.{IsMapFault}
@@ -14,6 +14,7 @@ map_fault_of_sizes maps words NotUtf8 is = absurd is
 map_fault_of_sizes maps words (Help text) is = absurd is
 map_fault_of_sizes maps words (Words text) is = absurd is
 map_fault_of_sizes maps words (Geometry fault) is = absurd is
+map_fault_of_sizes maps words NoSizes is = absurd is
 map_fault_of_sizes maps words Extent is = absurd is
 map_fault_of_sizes maps words Pointer is = absurd is
 map_fault_of_sizes maps words (BadPage word) is = absurd is

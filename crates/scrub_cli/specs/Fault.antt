@@ -9,7 +9,7 @@ use Rattle.scrub_map.specs.declared.reading.MapFault.TheVariants.{Line, OutOfMem
 use Rattle.scrub_cli.specs.declared.words.WordsFault.{WordsFault}
 use Rattle.scrub_cli.specs.declared.words.WordsFault.TheVariants.{Refused, Help as help, OutOfMemory as no_memory_to_read}
 use Rattle.scrub_cli.specs.declared.process.fault.Fault.{Fault}
-use Rattle.scrub_cli.specs.declared.process.fault.Fault.TheVariants.{NotUtf8, Help, Words, Geometry, Extent, Pointer, BadPage, NoMap, MapLine, NoImage, TooLong, Output, OutOfMemory}
+use Rattle.scrub_cli.specs.declared.process.fault.Fault.TheVariants.{NotUtf8, Help, Words, Geometry, NoSizes, Extent, Pointer, BadPage, NoMap, MapLine, NoImage, TooLong, Output, OutOfMemory}
 use Rattle.scrub_report.specs.Output.{AppendsFront}
 use Rattle.scrub_cli.specs.Streams.{Held}
 
@@ -36,6 +36,7 @@ status_of NotUtf8 = 2
 status_of (Help text) = 0
 status_of (Words text) = 2
 status_of (Geometry fault) = 2
+status_of NoSizes = 2
 status_of Extent = 2
 status_of Pointer = 2
 status_of (BadPage word) = 2
@@ -60,6 +61,7 @@ text_of (Geometry Pages) = line (codes "geometry refused: Pages")
 text_of (Geometry Extents) = line (codes "geometry refused: Extents")
 text_of (Geometry ExtentBytes) = line (codes "geometry refused: ExtentBytes")
 text_of (Geometry TotalBytes) = line (codes "geometry refused: TotalBytes")
+text_of NoSizes = line (codes "sizes not found: run shardscrub sizes")
 text_of Extent = line (codes "extent out of range")
 text_of Pointer = line (codes "pointer out of range")
 text_of (BadPage word) = line (codes "bad page refused: " ++ word.now)

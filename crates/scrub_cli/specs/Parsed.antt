@@ -25,15 +25,19 @@ IsVersionAsked kind request = (kind ≡ DisplayVersion) × (request ≡ Version)
 abbrev pub HasNumber : List Row → Text → Type 0
 HasNumber found name = HasNumberTo 4294967295 found name
 
+-- a value was found for the option, and it is such a number; or none was
+abbrev pub MayHaveNumber : List Row → Text → Type 0
+MayHaveNumber found name = (one_of name found ≡ None) ⊎ HasNumber found name
+
 -- the name of an image was found
 abbrev pub HasImageName : List Row → Type 0
 HasImageName found = (name : Text) × (first_of (codes "image") found ≡ Some name)
 
 -- what `clap` found has all that a command on an image file needs
 pub record HasImage (found : List Row) : Type 0 where
-  pub page : HasNumber found (codes "page")
-  pub pages : HasNumber found (codes "pages")
-  pub extents : HasNumber found (codes "extents")
+  pub page : MayHaveNumber found (codes "page")
+  pub pages : MayHaveNumber found (codes "pages")
+  pub extents : MayHaveNumber found (codes "extents")
   pub image : HasImageName found
 
 -- what `clap` found has all that `scan`, `index`, `locators`, `manifest`, `summary` and `reclaimable` need

@@ -1,8 +1,7 @@
 -- What the commands `scan`, `index`, `locators`, `manifest`, `summary` and `reclaimable` answer for an image file, and
 -- why they don't.
-use Rattle.std.specs.Prelude.{◌≡◌, ℕ, List, Bool}
+use Rattle.std.specs.Prelude.{◌≡◌, ◌⊎◌, ℕ, List, Bool}
 use Rattle.scrub_disk.specs.declared.geometry.Geometry.{Geometry as Sizes}
-use Rattle.scrub_disk.specs.Faults.{HasSizes, IsFirstBroken}
 use Rattle.scrub_disk.specs.Image.{Image}
 use Rattle.scrub_report.specs.Answer.{IsPartitionOfPlanned}
 use Rattle.scrub_report.specs.Index.{IsIndex}
@@ -15,10 +14,11 @@ use Rattle.scrub_report.specs.Summary.{IsSoundImage, IsSummary}
 use Rattle.scrub_cli.specs.declared.commands.answer.Wanted.{Wanted}
 use Rattle.scrub_cli.specs.declared.commands.answer.Wanted.TheVariants.{Report, Index, Locators, Manifest, Summary, Reclaimable}
 use Rattle.scrub_cli.specs.declared.process.fault.Fault.{Fault}
-use Rattle.scrub_cli.specs.declared.process.fault.Fault.TheVariants.{Geometry, OutOfMemory}
+use Rattle.scrub_cli.specs.declared.process.fault.Fault.TheVariants.{Geometry, NoSizes, NoMap, MapLine, NoImage, OutOfMemory}
 use Rattle.scrub_cli.specs.declared.words.ImageWords.{ImageWords}
 use Rattle.scrub_cli.specs.DiskImage.{IsLoadedDisk, IsDiskFault}
 use Rattle.scrub_cli.specs.Known.{KnownMaps, KnownRaw}
+use Rattle.scrub_cli.specs.Found.{IsGeometryFault, IsGeometryOf}
 use Rattle.scrub_cli.specs.Lines.{status_of_clean}
 use Rattle.scrub_report.specs.Scrubbed.{IsCleanImage}
 
@@ -71,10 +71,10 @@ pub record IsDiskAnswer (wanted : Wanted) (image : Image) (text : List ℕ) (sta
   pub tells : Tells wanted image text
   pub ended : IsStatusOf wanted image status
 
--- an image of the sizes that are given, loaded from this raw image
+-- an image of the sizes that are given or found, loaded from this raw image
 pub record IsDiskOf (known : KnownRaw) (maps : KnownMaps) (words : ImageWords) (image : Image) : Type 0 where
   pub geometry : Sizes
-  pub sizes : HasSizes geometry words.page words.pages words.extents
+  pub sizes : IsGeometryOf known maps words geometry
   pub loaded : IsLoadedDisk known maps words geometry image
 
 -- the text is what is wanted of an image that was loaded so, with its status
@@ -93,9 +93,16 @@ pub record AreTakingsOf (wanted : Wanted) (known : KnownRaw) (maps : KnownMaps) 
   pub answered : IsDiskAnswer wanted image text status
   pub partition : IsPartitionOfPlanned image lists
 
+-- why no disk of the sizes that are given or found is loaded
+abbrev pub IsLoadFault : KnownRaw → KnownMaps → ImageWords → Fault → Type 0
+IsLoadFault known maps words fault = (g : Sizes) × IsGeometryOf known maps words g × IsDiskFault known maps words g fault
+
 -- why there is no answer: each fault only if none before it applies, or memory ran out, anywhere
 abbrev pub IsScanFault : KnownRaw → KnownMaps → ImageWords → Fault → Type 0
-IsScanFault known maps words (Geometry fault) = IsFirstBroken words.page words.pages words.extents fault
+IsScanFault known maps words (Geometry fault) = IsGeometryFault known maps words (Geometry fault)
+IsScanFault known maps words NoSizes = IsGeometryFault known maps words NoSizes
 IsScanFault known maps words OutOfMemory = Unit {0}
-IsScanFault known maps words fault =
-    (g : Sizes) × HasSizes g words.page words.pages words.extents × IsDiskFault known maps words g fault
+IsScanFault known maps words (NoMap name) = IsGeometryFault known maps words (NoMap name) ⊎ IsLoadFault known maps words (NoMap name)
+IsScanFault known maps words (MapLine k) = IsGeometryFault known maps words (MapLine k) ⊎ IsLoadFault known maps words (MapLine k)
+IsScanFault known maps words (NoImage name) = IsGeometryFault known maps words (NoImage name) ⊎ IsLoadFault known maps words (NoImage name)
+IsScanFault known maps words fault = IsLoadFault known maps words fault

@@ -4,6 +4,7 @@
 pub(crate) mod answer;
 pub(crate) mod demo;
 pub(crate) mod disk_image;
+pub(crate) mod found;
 pub(crate) mod items;
 pub(crate) mod rescue;
 pub(crate) mod scan;

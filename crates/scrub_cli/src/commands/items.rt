@@ -5,10 +5,10 @@ ghost use Rattle.scrub_cli.specs.Items.{IsItemsAnswer, IsItemsFault};
 
 use crate::commands::answer::{Answer, listing};
 use crate::commands::disk_image::load_disk;
+use crate::commands::found::geometry_of;
 use crate::process::fault::Fault;
 use crate::process::images::Images;
 use crate::words::ItemsWords;
-use scrub_disk::Geometry;
 use scrub_scan::tile;
 use std::alloc::Global;
 use std::thread::Threads;
@@ -26,7 +26,7 @@ pub fn items<'a, R: Threads + Sync, I: Images>(
         (IsItemsFault (I.known images.old words.now.image.name.now) (I.known_map images.old) words.now) }
 {
     let image = &words.image;
-    let geometry = Geometry::new(image.page, image.pages, image.extents)?;
+    let geometry = geometry_of(alloc, image, images)?;
     if words.extent >= geometry.extents {
         return Err(Fault::Extent);
     }

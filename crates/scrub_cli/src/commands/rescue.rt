@@ -25,6 +25,7 @@ pub fn rescue_map<'a, I: Images>(
         (IsMapNamed (I.known_map images.old) name.entry)
         (IsMapFault (I.known_map images.old) name.entry) }
     ensures same_images { I.known images.new ≡ I.known images.old }
+    ensures same_maps { I.known_map images.new ≡ I.known_map images.old }
 {
     let Some(name) = name else {
         return Ok(None);

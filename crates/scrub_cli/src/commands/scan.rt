@@ -1,23 +1,31 @@
 //! The commands on a whole disk in an image file: `scan`, `index`, `locators`, `manifest`, `summary` and `reclaimable`, which
 //! scan it, and `superblocks`, which reads its extent 0.
 
-ghost use Rattle.std.specs.Prelude.{◌≡◌, ◌+◌, ◌≤◌, IfOk, MatchResult, length};
+ghost use Rattle.std.specs.Prelude.{◌≡◌, ◌+◌, ◌≤◌, ℕ, List, IfOk, MatchResult, None, Some, length};
+ghost use Rattle.scrub_disk.specs.declared.geometry.Geometry.{Geometry};
+ghost use Rattle.scrub_disk.specs.Faults.{HasSizes};
+ghost use Rattle.scrub_cli.specs.declared.commands.answer.Wanted.{Wanted};
+ghost use Rattle.scrub_cli.specs.declared.words.GivenSizes.{GivenSizes};
+ghost use Rattle.scrub_cli.specs.declared.words.ImageWords.{ImageWords};
+ghost use Rattle.scrub_cli.specs.Found.{AreSizesFound};
+ghost use Rattle.scrub_cli.specs.Known.{KnownMaps};
 ghost use Rattle.scrub_disk.specs.Parted.{image_of};
 ghost use Rattle.scrub_cli.specs.Scan.{AreTakingsOf, IsDiskOf, IsScanAnswer, IsScanFault};
 ghost use Rattle.scrub_cli.specs.Superblock.{IsSuperblocksAnswer};
 
 use crate::commands::answer::{Answer, Wanted, disk_answer, superblock_listing};
 use crate::commands::disk_image::load_disk;
+use crate::commands::found::geometry_of;
 use crate::process::fault::Fault;
 use crate::process::images::Images;
 use crate::words::{ImageWords, ScanWords};
-use scrub_disk::{Geometry, PartedDisk};
+use scrub_disk::PartedDisk;
 use scrub_pool::Takings;
 use std::alloc::Global;
 use std::sync::Wait;
 use std::thread::Threads;
 
-/// The disk that the arguments name, with the sizes that they give. Faults are checked in the order of `Fault`.
+/// The disk that the arguments name, with the sizes that they give, or else those that its records have. Faults are checked in the order of `Fault`.
 fn disk_of<'a, R: Threads + Sync, I: Images>(
     rt: &R,
     alloc: Global,
@@ -28,7 +36,7 @@ fn disk_of<'a, R: Threads + Sync, I: Images>(
         (λ disk. IsDiskOf (I.known images.old words.now.name.now) (I.known_map images.old) words.now (image_of disk))
         (IsScanFault (I.known images.old words.now.name.now) (I.known_map images.old) words.now) }
 {
-    let geometry = Geometry::new(words.page, words.pages, words.extents)?;
+    let geometry = geometry_of(alloc, words, images)?;
     load_disk(rt, alloc, geometry, words, images)
 }
 
@@ -70,3 +78,13 @@ pub fn superblocks<'a, R: Threads + Sync, I: Images>(
     let disk = disk_of(rt, alloc, words, images)?;
     Ok(superblock_listing(alloc, &disk)?)
 }
+
+/// A law: if the bytes of an image are known, and all its records have these sizes, an answer without sizes is one with them.
+pub fn sizes_may_be_left_out()
+    ensures { (bytes : List ℕ) (most : ℕ) (maps : KnownMaps) (wanted : Wanted) (words : ImageWords) (g : Geometry) (s : GivenSizes)
+        (text : List ℕ) (status : ℕ) → words.sizes ≡ None →
+        AreSizesFound (record { bytes = Some bytes; most_failures = most }) maps words.map (Some g) →
+        HasSizes g s.page s.pages s.extents →
+        IsScanAnswer wanted (record { bytes = Some bytes; most_failures = most }) maps words text status →
+        IsScanAnswer wanted (record { bytes = Some bytes; most_failures = most }) maps (record words { sizes = Some s }) text status }
+{}

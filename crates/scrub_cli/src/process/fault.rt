@@ -26,6 +26,8 @@ pub enum Fault<'a> {
     Words(String),
     /// The sizes are refused; this is the first limit that they break.
     Geometry(GeometryFault),
+    /// No sizes are given, and the image has no superblock record, or not all have the same sizes, or something is lost there.
+    NoSizes,
     /// The disk has no such extent.
     Extent,
     /// The write pointer is past the end of the extent.
@@ -133,6 +135,7 @@ impl Fault<'_> {
             Fault::NotUtf8
             | Fault::Words(_)
             | Fault::Geometry(_)
+            | Fault::NoSizes
             | Fault::Extent
             | Fault::Pointer
             | Fault::BadPage(_)
@@ -152,6 +155,7 @@ impl Fault<'_> {
             Fault::Help(text) | Fault::Words(text) => write_out(err, text.as_bytes()),
             Fault::NotUtf8 => write_line(err, "a word is not UTF-8", ""),
             Fault::Geometry(fault) => write_line(err, "geometry refused: ", limit(*fault)),
+            Fault::NoSizes => write_line(err, "sizes not found: run shardscrub sizes", ""),
             Fault::Extent => write_line(err, "extent out of range", ""),
             Fault::Pointer => write_line(err, "pointer out of range", ""),
             Fault::BadPage(word) => write_line(err, "bad page refused: ", word),

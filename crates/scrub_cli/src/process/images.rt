@@ -30,7 +30,9 @@ pub trait Images {
     fn image(&mut self, name: &str) -> Option<Self::Image>
         ensures known { IfSome result (λ image. Self.Image.bytes image ≡ (known self.old name.now).bytes) }
         ensures bounded { IfSome result (λ image. Self.Image.most_failures image ≡ (known self.old name.now).most_failures) }
-        ensures unread { IfSome result (λ image. Self.Image.reads image ≡ 0) };
+        ensures unread { IfSome result (λ image. Self.Image.reads image ≡ 0) }
+        ensures same_images { known self.new ≡ known self.old }
+        ensures same_maps { known_map self.new ≡ known_map self.old };
 
     /// Readers of the raw image of this name, each before any read of it, or `None` if it can't be opened: at least one, and
     /// at most `most`. All read the same image.
@@ -53,5 +55,6 @@ pub trait Images {
     /// The whole text of the map of this name.
     fn map(&mut self, alloc: Global, name: &str) -> Result<Vec<u8>, MapReadFault>
         ensures known { IfOk result (λ text. IfSome (known_map self.old name.now) (λ bytes. text.items ≡ bytes)) }
-        ensures same_images { known self.new ≡ known self.old };
+        ensures same_images { known self.new ≡ known self.old }
+        ensures same_maps { known_map self.new ≡ known_map self.old };
 }

@@ -1,12 +1,17 @@
 //! Which arguments ask for what, which are refused, and what the help contains.
 
-use crate::words::{ImageWords, Request, WordsFault, read_words};
+use crate::words::{GivenSizes, ImageWords, Request, WordsFault, read_words};
 use std::process::Abort;
 use std::test::Fail;
 
 /// The sizes, the name and the unreadable pages that the tests give to each command on an image.
 fn check_image(rt: &impl Abort, image: &ImageWords<'_>) {
-    assert_eq!(rt; (image.page, image.pages, image.extents), (64, 4, 3));
+    let wanted = GivenSizes {
+        page: 64,
+        pages: 4,
+        extents: 3,
+    };
+    assert_eq!(rt; image.sizes, Some(wanted));
     assert_eq!(rt; image.name, "disk.img");
     assert_eq!(rt; image.bad_pages.as_slice(), ["1:3", "x", "2:0"].as_slice());
 }
@@ -105,6 +110,37 @@ fn scan_index_locators_manifest_and_summary_with_their_arguments(
     };
     check_image(&rt, &summary.image);
     assert!(rt; summary.workers == 3);
+    Ok(())
+}
+
+#[test]
+fn sizes_may_be_left_out_of_commands_that_are_only_looked_at(rt: HostRuntime) -> Result<(), Fail> {
+    for words in ["scan disk.img", "summary disk.img", "locators disk.img 1:3"] {
+        let split: Vec<&str> = words.split_whitespace().collect(rt.alloc())?;
+        match read_words(rt.alloc(), &split)? {
+            Request::Scan(scan) | Request::Summary(scan) | Request::Locators(scan) => {
+                assert_eq!(rt; scan.image.sizes, None, "{words}");
+            }
+            request => panic!(rt; "another request: {request:?}"),
+        }
+    }
+    for words in [
+        "scan --page 64 disk.img",
+        "summary --page 64 --pages 4 disk.img",
+        "superblocks --extents 3 disk.img",
+        "items --extent 1 --pages 4 --extents 3 disk.img",
+    ] {
+        let text = refusal(&rt, words)?;
+        assert!(rt; text.as_str().contains("together or not at all"), "{words}");
+    }
+    for words in [
+        "index disk.img",
+        "manifest disk.img",
+        "reclaimable disk.img",
+    ] {
+        let text = refusal(&rt, words)?;
+        assert!(rt; text.as_str().contains("--pages <COUNT>"), "{words}");
+    }
     Ok(())
 }
 

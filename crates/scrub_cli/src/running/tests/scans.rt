@@ -180,8 +180,33 @@ fn the_summary_of_a_disk_with_one_shard(rt: HostRuntime) -> Result<(), Fail> {
     for words in [
         "summary --page 64 --pages 4 --extents 3 disk.img",
         "summary --page 64 --pages 4 --extents 3 --workers 0 disk.img",
+        "summary disk.img",
     ] {
         check(&rt, rt.alloc(), words, image(&disk), (0, text, ""))?;
+    }
+    Ok(())
+}
+
+/// Without sizes the order of faults is: the map, the image, the sizes, and then the places.
+#[test]
+fn without_a_record_there_are_no_sizes(rt: HostRuntime) -> Result<(), Fail> {
+    let (disk, _) = one_shard(rt.alloc())?;
+    for (words, wanted) in [
+        (
+            "scan other.img 9:9",
+            (3, "shardscrub: image cannot be opened: other.img\n"),
+        ),
+        (
+            "scan disk.img 9:9",
+            (2, "shardscrub: bad page refused: 9:9\n"),
+        ),
+        (
+            "items --extent 3 disk.img 9:9",
+            (2, "shardscrub: extent out of range\n"),
+        ),
+    ] {
+        let (status, line) = wanted;
+        check(&rt, rt.alloc(), words, image(&disk), (status, "", line))?;
     }
     Ok(())
 }

@@ -1,13 +1,22 @@
--- No disk was loaded, or the disk that was loaded has the sizes that are given.
-use Rattle.std.proofs.lemmas.Result.{MatchResult-weaker}
-use Rattle.scrub_cli.proofs.ScanAnswers.{scan_disk_fault}
+-- No sizes were found, no disk was loaded, or the disk that was loaded has these sizes.
+use Rattle.std.proofs.lemmas.Result.{MatchResult-weaker, err_from_is_err_and}
+use Rattle.scrub_cli.proofs.ScanAnswers.{scan_disk_fault, scan_geometry_fault}
 use Rattle.scrub_cli.proofs.commands.scan.disk_of.Goals as goal
+
+pub returns-in_err-geometry : goal.returns-in_err-geometry
+returns-in_err-geometry g c =
+    let words = c.args.words.now in
+    let p = err_from_is_err_and c.from_residual.result c.from_residual.ensures.1 in
+    rw (p.1, p.2)
+    (scan_geometry_fault (g.I.Images.known c.args.images.now words.name.now) (g.I.Images.known_map c.args.images.now) words
+    c.in_err-geometry.field-0.0 c.in_err-geometry.ensures.geometry)
 
 pub returns : goal.returns
 returns g c =
     let words = c.args.words.now in
-    MatchResult-weaker c.load_disk.result c.load_disk.ensures
-    (λ disk loaded. record { geometry = c.in_ok-geometry.geometry; sizes = c.in_ok-geometry.ensures; loaded = loaded })
+    MatchResult-weaker c.load_disk.result
+    (rw (c.geometry_of.ensures.same_images, c.geometry_of.ensures.same_maps) at c.load_disk.ensures)
+    (λ disk loaded. record { geometry = c.in_ok-geometry.geometry; sizes = c.in_ok-geometry.ensures.geometry; loaded = loaded })
     (λ fault why. scan_disk_fault (g.I.Images.known c.args.images.now words.name.now)
     (g.I.Images.known_map c.args.images.now) words c.in_ok-geometry.geometry
-    fault c.in_ok-geometry.ensures why)
+    fault c.in_ok-geometry.ensures.geometry why)

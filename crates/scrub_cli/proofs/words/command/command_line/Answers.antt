@@ -7,11 +7,11 @@ use Rattle.scrub_cli.proofs.words.command.command_line.Goals as goal
 
 pub returns : goal.returns
 returns c =
-    let summary = c.in_ok-disk_command.ensures in
-    let scan = c.in_ok-disk_command-2.ensures in
-    let index = c.in_ok-disk_command-3.ensures in
-    let locators = c.in_ok-disk_command-4.ensures in
-    let manifest = c.in_ok-disk_command-5.ensures in
+    let summary = c.in_ok-looking_command.ensures in
+    let scan = c.in_ok-looking_command-2.ensures in
+    let index = c.in_ok-disk_command.ensures in
+    let locators = c.in_ok-looking_command-3.ensures in
+    let manifest = c.in_ok-disk_command-2.ensures in
     let reclaimable = c.in_ok-reclaimable_command.ensures in
     let superblocks = c.in_ok-superblocks_command.ensures in
     let sizes = c.in_ok-sizes_command.ensures in

@@ -1,0 +1,54 @@
+-- The sizes of a disk: those that the arguments give, or else those that its superblock records have.
+use Rattle.std.specs.Prelude.{◌≡◌, ◌≤◌, ℕ, List, Bool, Option, None, Some, MatchOption}
+use Rattle.std.specs.Borrow.{Bor}
+use Rattle.scrub_disk.specs.declared.geometry.Geometry.{Geometry as Sizes}
+use Rattle.scrub_disk.specs.Faults.{HasSizes, IsFirstBroken}
+use Rattle.scrub_map.specs.declared.block.MapBlock.{MapBlock}
+use Rattle.scrub_report.specs.Sizes.{AreSizesOf}
+use Rattle.scrub_cli.specs.declared.process.fault.Fault.{Fault}
+use Rattle.scrub_cli.specs.declared.process.fault.Fault.TheVariants.{Geometry, NoSizes, NoMap, MapLine, NoImage, OutOfMemory}
+use Rattle.scrub_cli.specs.declared.words.GivenSizes.{GivenSizes}
+use Rattle.scrub_cli.specs.declared.words.ImageWords.{ImageWords}
+use Rattle.scrub_cli.specs.Known.{KnownMaps, KnownRaw}
+use Rattle.scrub_cli.specs.Rescue.{AreBlocksOf, IsMapFault}
+use Rattle.scrub_cli.specs.SizesListed.{AreMarksOf}
+
+-- the sizes of all records in a raw image of which this is known, or None if there are none, with the marked blocks lost
+pub record AreSizesRead (known : KnownRaw) (marks : List Bool) (found : Option Sizes) : Type 0 where
+  pub failures : ℕ
+  pub few : failures ≤ known.most_failures
+  pub sizes : AreSizesOf known.bytes marks failures found
+
+-- the same with the blocks lost that the map lacks
+pub record AreSizesFound (known : KnownRaw) (maps : KnownMaps) (named : Option (Bor (List ℕ))) (found : Option Sizes) : Type 0 where
+  pub blocks : Option (List MapBlock)
+  pub mapped : AreBlocksOf maps named blocks
+  pub marks : List Bool
+  pub marked : AreMarksOf blocks marks
+  pub read : AreSizesRead known marks found
+
+-- why no sizes are found: a fault of the map, then an image that can't be opened, then that there are none; or memory ran out
+abbrev pub IsFoundFault : KnownRaw → KnownMaps → Option (Bor (List ℕ)) → Bor (List ℕ) → Fault → Type 0
+IsFoundFault known maps named name (NoMap map) = IsMapFault maps named (NoMap map)
+IsFoundFault known maps named name (MapLine k) = IsMapFault maps named (MapLine k)
+IsFoundFault known maps named name (NoImage image) =
+    (blocks : Option (List MapBlock)) × AreBlocksOf maps named blocks × (image ≡ name)
+IsFoundFault known maps named name NoSizes = AreSizesFound known maps named None
+IsFoundFault known maps named name OutOfMemory = Unit {0}
+IsFoundFault known maps named name fault = ⊥
+
+-- why sizes that are given are refused: the first limit that they break
+abbrev pub IsGivenFault : GivenSizes → Fault → Type 0
+IsGivenFault s (Geometry fault) = IsFirstBroken s.page s.pages s.extents fault
+IsGivenFault s OutOfMemory = Unit {0}
+IsGivenFault s fault = ⊥
+
+-- the sizes of the disk that the arguments name: those that they give, or else those that its records have
+abbrev pub IsGeometryOf : KnownRaw → KnownMaps → ImageWords → Sizes → Type 0
+IsGeometryOf known maps words g =
+    MatchOption words.sizes (AreSizesFound known maps words.map (Some g)) (λ s. HasSizes g s.page s.pages s.extents)
+
+-- why there are no such sizes
+abbrev pub IsGeometryFault : KnownRaw → KnownMaps → ImageWords → Fault → Type 0
+IsGeometryFault known maps words fault =
+    MatchOption words.sizes (IsFoundFault known maps words.map words.name fault) (λ s. IsGivenFault s fault)

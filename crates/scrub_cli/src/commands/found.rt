@@ -1,0 +1,68 @@
+//! The sizes of a disk: those that the arguments give, or else those that its superblock records have.
+
+ghost use Rattle.std.specs.Prelude.{◌≡◌, ◌<◌, ◌^◌, IfOk, MatchResult, Some};
+ghost use Rattle.scrub_cli.specs.Found.{AreSizesFound, AreSizesRead, IsFoundFault, IsGeometryFault, IsGeometryOf};
+
+use crate::commands::rescue::{lost_blocks, rescue_map};
+use crate::process::fault::Fault;
+use crate::process::images::Images;
+use crate::words::ImageWords;
+use scrub_disk::{Geometry, OutOfMemory, RawImage};
+use scrub_report::find_sizes;
+use std::alloc::Global;
+
+/// The sizes that all superblock records in the front of a raw image have, whose lost blocks are marked.
+fn sizes_of<R: RawImage>(
+    alloc: Global,
+    raw: &mut R,
+    marked: &[bool],
+) -> Result<Option<Geometry>, OutOfMemory>
+    requires { R.reads raw.old < 2 ^ 62 }
+    ensures { IfOk result (AreSizesRead (record { bytes = R.bytes raw.old; most_failures = R.most_failures raw.old }) marked.now) }
+{
+    find_sizes(alloc, raw, marked)
+}
+
+/// The sizes that all superblock records in the front of the image of this name have, without the blocks that the map lacks.
+/// Faults, in this order: a map that can't be opened, its first line that breaks the rules, an image that can't be opened, and
+/// that no sizes are found.
+fn found_geometry<'a, I: Images>(
+    alloc: Global,
+    map: Option<&'a str>,
+    name: &'a str,
+    images: &mut I,
+) -> Result<Geometry, Fault<'a>>
+    ensures geometry { MatchResult result
+        (λ g. AreSizesFound (I.known images.old name.entry.now) (I.known_map images.old) map.entry (Some g))
+        (IsFoundFault (I.known images.old name.entry.now) (I.known_map images.old) map.entry name.entry) }
+    ensures same_images { I.known images.new ≡ I.known images.old }
+    ensures same_maps { I.known_map images.new ≡ I.known_map images.old }
+{
+    let map = rescue_map(alloc, map, images)?;
+    let Some(mut raw) = images.image(name) else {
+        return Err(Fault::NoImage(name));
+    };
+    let marked = lost_blocks(alloc, &map)?;
+    match sizes_of(alloc, &mut raw, &marked)? {
+        Some(geometry) => Ok(geometry),
+        None => Err(Fault::NoSizes),
+    }
+}
+
+/// The sizes of the disk that the arguments name. Faults are checked in the order of `Fault`.
+pub fn geometry_of<'a, I: Images>(
+    alloc: Global,
+    words: &ImageWords<'a>,
+    images: &mut I,
+) -> Result<Geometry, Fault<'a>>
+    ensures geometry { MatchResult result
+        (IsGeometryOf (I.known images.old words.now.name.now) (I.known_map images.old) words.now)
+        (IsGeometryFault (I.known images.old words.now.name.now) (I.known_map images.old) words.now) }
+    ensures same_images { I.known images.new ≡ I.known images.old }
+    ensures same_maps { I.known_map images.new ≡ I.known_map images.old }
+{
+    match words.sizes {
+        Some(sizes) => Ok(Geometry::new(sizes.page, sizes.pages, sizes.extents)?),
+        None => found_geometry(alloc, words.map, words.name, images),
+    }
+}
