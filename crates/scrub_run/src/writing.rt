@@ -1,6 +1,6 @@
 //! Index runs, written as payloads, entry by entry.
 
-ghost use Rattle.std.specs.Prelude.{◌≡◌, ◌*◌, ◌<◌, ◌≤◌, ◌++◌, ◌^◌, All, IfOk, OnOk, length};
+ghost use Rattle.std.specs.Prelude.{◌≡◌, ◌*◌, ◌<◌, ◌≤◌, ◌++◌, ◌^◌, All, IfOk, OnErr, OnOk, length};
 ghost use Rattle.byteorder.specs.Endian.{big_bytes};
 ghost use Rattle.sha2.specs.Sha256.{sha256};
 ghost use Rattle.scrub_run.specs.Entry.{entry_bytes, IsEntry};
@@ -9,7 +9,7 @@ ghost use Rattle.scrub_run.specs.Run.{run_bytes, run_magic, RisesById, IsRun};
 use crate::OutOfMemory;
 use crate::entry::Entry;
 use crate::reading::{BARE_ENTRY_BYTES, MAGIC};
-use scrub_frame::{LOCATOR_BYTES, append_locators, digest_of};
+use scrub_frame::{LOCATOR_BYTES, append, append_locators, digest_of};
 use std::alloc::Global;
 use std::marker::Model;
 
@@ -43,17 +43,19 @@ impl RunWriter {
         Ok(RunWriter { out })
     }
 
-    /// Appends an entry.
+    /// Appends an entry. Out of memory leaves the run as it was, so the same entry may be appended again.
     pub fn append(&mut self, entry: &Entry) -> Result<(), OutOfMemory>
         requires { length entry.now.locators ≤ 64 }
         ensures fit { OnOk result (IsEntry entry.now) }
         ensures written { OnOk result (self.new ≡ self.old ++ entry_bytes entry.now) }
+        ensures refused { OnErr result (self.new ≡ self.old) }
     {
         let id = entry.id();
         let locators = entry.locators();
-        self.out.extend_from_slice(&id.0)?;
-        self.out.push(locators.len() as u8)?;
-        self.out.reserve(LOCATOR_BYTES * locators.len())?;
+        self.out
+            .reserve(BARE_ENTRY_BYTES + LOCATOR_BYTES * locators.len())?;
+        append(&mut self.out, &id.0);
+        append(&mut self.out, &[locators.len() as u8]);
         append_locators(&mut self.out, locators);
         Ok(())
     }
