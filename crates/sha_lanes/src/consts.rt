@@ -1,3 +1,6 @@
+//! The constants of SHA-256 (FIPS 180-4).
+
+/// The constant of each round (4.2.2).
 pub(crate) const K32: [u32; 64] = [
     0x428a_2f98,
     0x7137_4491,
@@ -65,7 +68,7 @@ pub(crate) const K32: [u32; 64] = [
     0xc671_78f2,
 ];
 
-/// The initial hash value (FIPS 180-4, 5.3.3).
+/// The initial hash value (5.3.3).
 pub(crate) const H256: [u32; 8] = [
     0x6a09_e667,
     0xbb67_ae85,

@@ -1,10 +1,7 @@
-use Rattle.std.proofs.Common.{◌≡◌, ℕ, ◌<◌, ◌*◌, length, slice_index}
-use Rattle.sha2.specs.Sha256.{IsRoundsAt, word_at}
-use Rattle.sha_lanes.specs.Lanes.{block_at, word_in, column, lane}
+use Rattle.std.proofs.Common.{ℕ, ◌<◌, ◌*◌, slice_index}
+use Rattle.sha2.specs.Sha256.{IsRoundsAt}
+use Rattle.sha_lanes.specs.Lanes.{block_at, column, lane}
 use Rattle.sha_lanes.proofs.block.compress.Given as goal
-
-abbrev pub invariant-load : goal.invariant-load
-invariant-load l = (length l.w ≡ 16) × ((j k : ℕ) → j < 4 → k < l.i → word_in j l.w k ≡ word_at (block_at l.bytes (slice_index l.places j)) (4 * k))
 
 abbrev pub invariant-schedule : goal.invariant-schedule
 invariant-schedule l = (j : ℕ) → j < 4 → IsRoundsAt (block_at l.bytes (slice_index l.places j)) (lane j l.state) (column j l.w) (lane j l.v) (16 * l.turn)
