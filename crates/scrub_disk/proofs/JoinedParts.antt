@@ -1,6 +1,6 @@
 -- Bytes that lie in parts of as many pages each: where a page of all is in its part.
-use Rattle.std.proofs.Common.{◌≡◌, ◌<◌, ◌≤◌, ◌+◌, ◌-◌, ◌*◌, ◌/◌, ◌%◌, ℕ, zero, suc, List, [], ◌∷◌, ◌++◌, length, length-append, get_or, map, min, arith, refl, sym, ◌∙◌, ap, Vec}
-use Rattle.std.specs.List.{between, flat_map}
+use Rattle.std.proofs.Common.{◌≡◌, ◌<◌, ◌≤◌, ◌+◌, ◌-◌, ◌*◌, ◌/◌, ◌%◌, ℕ, zero, suc, List, [], ◌∷◌, ◌++◌, length, length-append, get_or, map, min, arith, sym, ◌∙◌, ap, Vec}
+use Rattle.std.specs.List.{between}
 use Rattle.std.proofs.lemmas.List.{get_or_append_left, get_or-append_right, same_lists}
 use Rattle.std.proofs.lemmas.List.Edits.{length-between, get_or-between}
 use Rattle.std.proofs.lemmas.List.{get_or-map, get_or_read, get_or_push, length_push, length-map, map-append, append-nil}
@@ -8,7 +8,7 @@ use Rattle.std.proofs.lemmas.List.Concat.{flat_map-append}
 use Rattle.std.proofs.lemmas.Bool.{cases_lt}
 use Rattle.std.proofs.lemmas.Nat.{div-add-mod', div_below, row_fits}
 use Rattle.std.proofs.Math.Nat.{mod-lt, mul-le-mul_left}
-use Rattle.std.proofs.Common.{Bool, true, false, cond, Option, Some, None, inl, inr}
+use Rattle.std.proofs.Common.{Bool, false, cond, Some, None, inl, inr}
 use Rattle.scrub_disk.specs.declared.geometry.Geometry.{Geometry}
 use Rattle.scrub_disk.specs.Held.{held}
 use Rattle.scrub_disk.specs.Joined.{joined, part_bytes, AreParts, AreFirstParts}

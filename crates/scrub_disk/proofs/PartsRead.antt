@@ -1,5 +1,5 @@
 -- The parts of a disk that readers read, put together.
-use Rattle.std.proofs.Common.{◌≡◌, ◌<◌, ◌≤◌, ◌+◌, ◌-◌, ◌*◌, ◌/◌, ◌%◌, ℕ, Bool, true, false, List, [], ◌∷◌, ◌++◌, ◌⊎◌, length, length-append, get_or, slice_get, min, arith, refl, sym, ◌∙◌, ap, inl, inr, Option, Some, None, IfSome, Vec, All, sum_by, Contains}
+use Rattle.std.proofs.Common.{◌≡◌, ◌<◌, ◌≤◌, ◌+◌, ◌-◌, ◌*◌, ◌/◌, ◌%◌, ℕ, Bool, true, false, List, [], ◌∷◌, ◌++◌, ◌⊎◌, length, length-append, get_or, slice_get, min, arith, refl, sym, ◌∙◌, ap, inl, inr, Option, Some, None, Vec, All, sum_by, Contains}
 use Rattle.std.proofs.lemmas.Nat.{div_below, div-mul-add, div-add-mod'}
 use Rattle.std.proofs.Math.Nat.{mod-lt}
 use Rattle.std.proofs.lemmas.Bool.{cases_lt}
@@ -7,7 +7,7 @@ use Rattle.std.proofs.lemmas.List.{get_or_append_left, get_or-append_right, appe
 use Rattle.std.proofs.lemmas.List.Concat.{flat_map-append}
 use Rattle.std.proofs.lemmas.List.Elements.{All-cons, All-head, All-nil, All-same, All-tail, Contains-append_left, Contains-append_right}
 use Rattle.std.proofs.lemmas.List.Sums.{sum_by-append, sum_by-cons}
-use Rattle.scrub_disk.specs.Ahead.{HoldsFrom, MarksFrom, IsReadPart, IsReadFrom}
+use Rattle.scrub_disk.specs.Ahead.{IsReadPart, IsReadFrom}
 use Rattle.scrub_disk.specs.Joined.{joined}
 
 -- what was read with few failures was read with at most more of them

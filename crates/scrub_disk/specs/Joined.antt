@@ -1,5 +1,5 @@
 -- Bytes that lie in parts of as many pages each.
-use Rattle.std.specs.Prelude.{◌≡◌, ◌<◌, ◌+◌, ◌-◌, ◌*◌, ℕ, Bool, List, [], length, map, min, slice_index_or, Vec}
+use Rattle.std.specs.Prelude.{◌≡◌, ◌<◌, ◌-◌, ◌*◌, ℕ, Bool, List, [], length, map, min, slice_index_or, Vec}
 use Rattle.std.specs.List.{flat_map}
 
 -- the bytes of all parts, one after another

@@ -22,7 +22,7 @@ use std::thread::{Threads, join};
 /// The most bytes that one read asks for.
 const MOST_AT_ONCE: usize = 1 << 18;
 
-/// One read asks for at most this part of a disk.
+/// One read asks for at most a disk's pages divided by this.
 const PART_AT_ONCE: usize = 64;
 
 /// How many bytes one read asks for: pages of a small part of the disk.

@@ -16,14 +16,14 @@ use Rattle.scrub_scan.specs.AllFindings.{extent_numbers, entry_of, findings_in, 
 
 module _ {X : Type 0} (number : X → ℕ) where
   -- each value's number is below that of each later one
-  pairs_rise : (xs : List X) → IsStrictlyIncreasing (map number xs) → AllPairs (λ x y. number x < number y) xs
+  pub pairs_rise : (xs : List X) → IsStrictlyIncreasing (map number xs) → AllPairs (λ x y. number x < number y) xs
   pairs_rise xs rising i j d lt below =
       let less : get_or (map number xs) i 0 < get_or (map number xs) j 0 =
       AllPairs-from_increasing (map number xs) rising i j 0 lt (omega (arith, below, length-map xs number)) in
       omega (arith, less, get_or-map number xs i d 0 (omega (arith, lt, below)), get_or-map number xs j d 0 below)
 
   -- a search for the number of a value ends at that value
-  find_paired : (xs : List X) → AllPairs (λ x y. number x < number y) xs → (i : ℕ) (d : X) → i < length xs →
+  pub find_paired : (xs : List X) → AllPairs (λ x y. number x < number y) xs → (i : ℕ) (d : X) → i < length xs →
       find (λ x. number x == number (get_or xs i d)) xs ≡ Some (get_or xs i d)
   find_paired [] pairs i d below = absurd (omega (arith, below))
   find_paired (x ∷ xs) pairs zero d below =

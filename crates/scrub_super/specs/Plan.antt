@@ -60,7 +60,7 @@ pub record IsRestricted (old : PlanValue) (extents : List ℕ) (new : PlanValue)
   pub runs : new.runs ≡ old.runs
   pub has : new.has_superblock ≡ old.has_superblock
 
--- the write pointer of the extent behind the i-th, but 0 if it is one of these extents
+-- the write pointer of extent i + 1, given with the index i that it has among the pointers, but 0 if it is one of these extents
 abbrev pub pointer_reset : List ℕ → ℕ × ℕ → ℕ
 pointer_reset extents p = if list_any (λ e. e == p.0 + 1) extents then 0 else p.1
 

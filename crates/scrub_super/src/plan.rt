@@ -177,7 +177,7 @@ fn has_extent(extents: &[u32], extent: u32) -> bool
     extents.binary_search(&extent).is_ok()
 }
 
-/// The write pointer of the extent behind the `i`th, but 0 if it is one of these extents, which rise.
+/// The write pointer of extent `i` + 1, but 0 if it is one of these extents, which rise.
 fn pointer_reset(extents: &[u32], i: usize, pointer: u32) -> u32
     requires rising { IsStrictlyIncreasing extents.now }
     requires small { i < 2 ^ 32 - 1 }
@@ -191,11 +191,7 @@ fn pointer_reset(extents: &[u32], i: usize, pointer: u32) -> u32
 }
 
 /// The write pointers of extents 1, 2 and so on, but 0 for each of these extents, which rise.
-fn pointers_reset(
-    alloc: Global,
-    extents: &[u32],
-    pointers: &[u32],
-) -> Result<Vec<u32>, OutOfMemory>
+fn pointers_reset(alloc: Global, extents: &[u32], pointers: &[u32]) -> Result<Vec<u32>, OutOfMemory>
     requires rising { IsStrictlyIncreasing extents.now }
     requires small { length pointers.now < 2 ^ 32 - 1 }
     ensures { IfOk result (λ v. v.items ≡ pointers_reset extents.now pointers.now) }

@@ -1,5 +1,5 @@
 -- The first parts, which the other readers read, and the last one.
-use Rattle.std.proofs.Common.{rules, arith, ◌≡◌, ◌<◌, ◌+◌, ◌-◌, ◌*◌, ◌++◌, ◌∷◌, [], ◌∙◌, ap, length, min, vec_len, sum_by, All, List, Option, ℕ}
+use Rattle.std.proofs.Common.{rules, arith, ◌≡◌, ◌+◌, ◌-◌, ◌*◌, ◌++◌, ◌∷◌, [], ◌∙◌, length, min, vec_len, sum_by}
 use Rattle.scrub_disk.specs.Ahead.{IsReadFrom}
 use Rattle.scrub_disk.specs.Joined.{AreFirstParts, joined}
 use Rattle.scrub_disk.proofs.JoinedParts.{one_more_part}

@@ -1,6 +1,6 @@
 -- The disk whose parts were read and whose named pages were marked is the one that follows from the raw bytes, what may fail,
 -- and the names.
-use Rattle.std.proofs.Common.{rules, arith, ◌≡◌, ◌≤◌, ◌<◌, ◌+◌, ◌*◌, ◌∙◌, ap, length, min, vec_len, sum_by, IfSome, sym}
+use Rattle.std.proofs.Common.{rules, arith, ◌≡◌, ◌≤◌, ◌<◌, ◌+◌, ◌*◌, ◌∙◌, ap, length, vec_len, sum_by}
 use Rattle.std.proofs.lemmas.Grind.{div_ceil_times}
 use Rattle.scrub_disk.specs.Image.{disk_bytes}
 use Rattle.scrub_disk.specs.Joined.{joined}

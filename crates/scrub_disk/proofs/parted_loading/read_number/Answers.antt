@@ -1,7 +1,6 @@
 -- No more reads failed than may fail of the reader.
 use Rattle.std.proofs.Common.{rules, arith, ◌≡◌, ◌≤◌, ◌*◌, ◌-◌, min}
 use Rattle.std.proofs.lemmas.Result.{IfOk-weaker}
-use Rattle.scrub_disk.specs.Ahead.{IsReadFrom}
 use Rattle.scrub_disk.proofs.PartsRead.{read_from_more}
 use Rattle.scrub_disk.proofs.parted_loading.read_number.Goals as goal
 

@@ -1,5 +1,5 @@
 -- One more page, which was read whole or is marked.
-use Rattle.std.proofs.Common.{rules, arith, length, ◌≡◌, ◌+◌, ◌*◌, ◌≤◌, ◌<◌}
+use Rattle.std.proofs.Common.{arith, length, ◌*◌, ◌<◌}
 use Rattle.scrub_disk.proofs.RawImages.{read_on_more}
 use Rattle.scrub_disk.proofs.ReadAhead.{held_more_ahead, marks_more_ahead, stands_more_ahead}
 use Rattle.scrub_disk.proofs.reading.read_pages.Goals as goal
