@@ -16,6 +16,7 @@ pub mod Reclaimable
 pub mod PartedPlaces
 pub mod PartedItems
 pub mod PartedExtents
+pub mod ChunkForms
 pub mod Rising
 pub mod KeptChunks
 pub mod OneList

@@ -9,6 +9,7 @@ pub mod Chunks
 pub mod Shared
 pub mod Candidates
 pub mod Spares
+pub mod ChunkForms
 pub mod Kept
 -- Files of other crates that public clauses cite.
 pub use Rattle.scrub_disk.specs.Image

@@ -21,5 +21,6 @@ pub use lists::spares::{Content, Spares};
 pub use named::{Named, Owner, named_locators};
 pub use runs::{ReadRuns, RunState, read_all_runs, read_runs};
 pub use statuses::checked::{Checked, check_all, check_named, dangling, hidden};
+pub use statuses::chunk_form::form_at;
 pub use statuses::searching::{Found, find_start};
 pub use statuses::status::{Status, status_of};

@@ -2,6 +2,7 @@
 
 pub(crate) mod by_place;
 pub mod checked;
+pub mod chunk_form;
 pub(crate) mod counted_items;
 pub(crate) mod extents;
 pub(crate) mod open_place;

@@ -16,7 +16,7 @@ use scrub_scan::{AllFindings, Item, Standing};
 use std::alloc::Global;
 use std::marker::Model;
 
-/// What a payload is told by.
+/// What says whether two payloads are the same.
 #[derive(Debug, Clone, Copy, PartialEq, Eq, PartialOrd, Ord)]
 pub struct Content {
     /// Its SHA-256.
@@ -44,7 +44,7 @@ impl Model for Spares {
     ghost invariant = { λ s. AreByContent s.found.items };
 }
 
-/// What the payload of a frame is told by.
+/// The content of a frame's payload.
 fn content_of(frame: &Standing) -> Content
     ensures { result ≡ content_of frame.now }
 {
@@ -61,7 +61,7 @@ fn asks_for_spares(one: &Checked) -> bool
     one.status.is_dangling() && one.locator.length > 0
 }
 
-/// What those of these locators that do ask for, in their order.
+/// What is asked for by those of these locators that ask for spares, in their order.
 fn wanted_by(alloc: Global, checked: &[Checked]) -> Result<Vec<Content>, OutOfMemory>
     ensures { IfOk result (λ v. v.items ≡ map content_named (filter asks_for_spares checked.now)) }
 {
@@ -166,7 +166,7 @@ impl Spares {
         Ok(Spares { found })
     }
 
-    /// Of these chunks.
+    /// These chunks, to be searched for the spares of any locator.
     pub fn among(found: Vec<Standing>) -> Result<Spares, OutOfMemory>
         ensures { IfOk result (HaveTheSameCopies found.items) }
     {
@@ -174,7 +174,7 @@ impl Spares {
         Ok(Spares { found })
     }
 
-    /// All of them.
+    /// All these chunks, by the contents of their payloads.
     pub fn all(&self) -> &[Standing]
         ensures { result.now ≡ self.now }
     {
@@ -191,7 +191,7 @@ impl Spares {
         self.copies(&one.locator)
     }
 
-    /// Those that have what a locator asks for, in their order.
+    /// The chunks that have what a locator asks for, in their order.
     fn copies(&self, locator: &Locator) -> &[Standing]
         ensures { result.now ≡ filter (is_copy_of locator.now) self.now }
     {
