@@ -19,9 +19,9 @@ use Rattle.std.proofs.lemmas.Option.{none-some, same_Some, slice_get-get_or}
 use Rattle.byteorder.specs.Endian.{big_bytes}
 use Rattle.sha2.specs.Sha256.{sha256}
 use Rattle.scrub_disk.specs.Image.{Image, extent_bytes}
-use Rattle.scrub_super.specs.Chosen.{IsChosen}
+use Rattle.scrub_super.specs.Chosen.{Choice, IsChoice, IsChosen}
 use Rattle.scrub_super.specs.Contents.{Contents}
-use Rattle.scrub_super.specs.Plan.{IsPlanBy, IsPlanWithout}
+use Rattle.scrub_super.specs.Plan.{IsPlanBy, IsPlanOf, IsPlanWithout, PlanValue}
 use Rattle.scrub_frame.specs.declared.locator.Locator.{Locator}
 use Rattle.scrub_frame.specs.Locator.{locator_bytes}
 use Rattle.scrub_run.specs.Entry.{EntryValue, entry_bytes, IsBelow, IsEntry}
@@ -31,8 +31,9 @@ use Rattle.scrub_merge.proofs.Elements.{Contains-cases}
 use Rattle.scrub_check.specs.Checked.{is_broken}
 use Rattle.scrub_check.specs.Runs.{NamesRun}
 use Rattle.scrub_report.specs.Index.{index_entries, indexed}
-use Rattle.scrub_report.specs.Scrubbed.{Scrubbed, IsScrubbed}
+use Rattle.scrub_report.specs.Scrubbed.{Scrubbed, IsScrubbed, IsScrubbedBut}
 use Rattle.scrub_report.proofs.OneIndex.{read_of, read_runs_are_runs}
+use Rattle.scrub_report.proofs.ResetPlans.{plan_before}
 
 -- ---- a run has no more entries than bytes
 
@@ -141,17 +142,28 @@ runs_within runs bound k d hk = by (get_or runs k d) (slice_get-get_or runs k d 
     by None here = omega arith
     by (Some es) here = omega (arith, bound k es here, length-map es (λ (e : EntryValue). e.id.0))
 
-few_runs : (image : Image) (s : Scrubbed) → IsScrubbed image s → length s.read.runs ≤ 32
-few_runs image s x = omega (arith, x.read.count, planned s.choice.superblock s.choice.page x.choice.chosen x.plan.by)
+planned_few : (image : Image) (choice : Choice) (plan : PlanValue) → IsChoice image choice → IsPlanOf choice plan →
+    length plan.runs ≤ 32
+planned_few image choice plan chosen is = by choice.superblock choice.page chosen.chosen is.by
   where
-    planned : (c : Option Contents) (q : Option ℕ) → IsChosen image c q →
-        MatchOption c (IsPlanWithout s.plan s.choice.geometry) (IsPlanBy s.plan) → length s.plan.runs ≤ 32
-    planned None q chosen by = omega (arith, ap length by.runs)
-    planned (Some c) None chosen by = absurd chosen
-    planned (Some c) (Some q) chosen by = omega (arith, ap length by.runs, chosen.stands.contents.runs.count)
+    by : (c : Option Contents) (q : Option ℕ) → IsChosen image c q →
+        MatchOption c (IsPlanWithout plan choice.geometry) (IsPlanBy plan) → length plan.runs ≤ 32
+    by None q found planned = omega (arith, ap length planned.runs)
+    by (Some c) None found planned = absurd found
+    by (Some c) (Some q) found planned = omega (arith, ap length planned.runs, found.stands.contents.runs.count)
+
+-- a plan has few runs
+pub runs_few : {resets : List ℕ} (image : Image) (s : Scrubbed) → IsScrubbedBut resets image s → length s.plan.runs ≤ 32
+runs_few {resets} image s x =
+    let old = plan_before resets s.choice s.plan x.plan in
+    let few : length old.0.runs ≤ 32 = planned_few image s.choice old.0 x.choice old.1 in
+    omega (arith, few, ap length old.3)
+
+few_runs : {resets : List ℕ} (image : Image) (s : Scrubbed) → IsScrubbedBut resets image s → length s.read.runs ≤ 32
+few_runs image s x = omega (arith, x.read.count, runs_few image s x)
 
 -- a run can have this many entries
-pub countable : (image : Image) (s : Scrubbed) → IsScrubbed image s → length s.bindings < 2 ^ 32
+pub countable : {resets : List ℕ} (image : Image) (s : Scrubbed) → IsScrubbedBut resets image s → length s.bindings < 2 ^ 32
 countable image s x =
     let ids = length-le_from_is_member same_bytes_laws (bound_ids s.bindings) (ids_of_runs s.read.runs) (distinct s.bindings x.bindings.bindings_of_map.rising)
     (λ q h. bound_among (same_bytes q) s.read.runs s.bindings x.bindings.newest h) in
@@ -168,7 +180,7 @@ countable image s x =
     )
 
 -- each binding is an entry
-pub entries_are : (image : Image) (s : Scrubbed) → IsScrubbed image s → All (λ b. IsEntry (indexed b)) s.bindings
+pub entries_are : {resets : List ℕ} (image : Image) (s : Scrubbed) → IsScrubbedBut resets image s → All (λ b. IsEntry (indexed b)) s.bindings
 entries_are image s x k d hk = entry (get_or s.bindings k d) (x.bindings.newest k d hk)
   where
     entry : (b : BindingValue) → IsNewestBinding s.read.runs b → IsEntry (indexed b)
@@ -177,7 +189,7 @@ entries_are image s x k d hk = entry (get_or s.bindings k d) (x.bindings.newest 
         All-contains IsEntry is.entry.entries (indexed b) entries.each is.entry.among
 
 -- each has at most as many locators as an entry can have
-pub entries_fit : (image : Image) (s : Scrubbed) → IsScrubbed image s → All (λ b. length b.locators ≤ 64) s.bindings
+pub entries_fit : {resets : List ℕ} (image : Image) (s : Scrubbed) → IsScrubbedBut resets image s → All (λ b. length b.locators ≤ 64) s.bindings
 entries_fit image s x k d hk = (entries_are image s x k d hk).few
 
 -- ---- the index is a run

@@ -12,21 +12,24 @@ use Rattle.std.proofs.lemmas.Option.{none-some}
 use Rattle.std.proofs.lemmas.List.Sums.{count_by-le-length}
 use Rattle.uuid.specs.Text.{by_index, digit_place, hex_digit, hyphen, is_hyphen_place, lower, nibble}
 use Rattle.std.proofs.lemmas.Fmt.{decimal_by_steps, decimal_injective}
-use Rattle.std.proofs.lemmas.List.{get_or_past, length-append, length-map, length-take-le, map-append, take-append-drop}
+use Rattle.std.proofs.lemmas.List.{append_cancel_left, append_cancel_right, get_or_past, length-append, length-map, length-take-le, map-append, take-append-drop}
 use Rattle.std.proofs.lemmas.List.Concat.{flat_map-append}
 use Rattle.std.proofs.lemmas.List.Folds.{flat_map-map, list_all-map}
 use Rattle.std.proofs.lemmas.Simd.{map-map}
 use Rattle.std.proofs.lemmas.List.Elements.{All-append, All-cons, All-drop, All-head, All-map, All-nil, All-push, All-tail, All-take, All-weaker}
 use Rattle.scrub_disk.specs.Image.{Image}
+use Rattle.scrub_frame.specs.declared.form.Form.{Form}
+use Rattle.scrub_frame.specs.declared.form.Form.TheVariants.{Plain, Sealed}
 use Rattle.scrub_frame.specs.declared.locator.Locator.{Locator}
 use Rattle.scrub_frame.specs.Locator.{IsLocator}
-use Rattle.scrub_super.specs.Chosen.{IsChosen}
+use Rattle.scrub_super.specs.Chosen.{Choice, IsChoice, IsChosen}
 use Rattle.scrub_super.specs.Contents.{Contents}
-use Rattle.scrub_super.specs.Plan.{IsPlanBy, IsPlanWithout}
+use Rattle.scrub_super.specs.Plan.{IsPlanBy, IsPlanOf, IsPlanWithout, PlanValue}
 use Rattle.scrub_super.specs.Planned.{AreRetired}
 use Rattle.scrub_run.specs.Entry.{IsEntry}
 use Rattle.scrub_merge.specs.Binding.{BindingValue, IsNewestBinding, Runs}
 use Rattle.scrub_scan.specs.Line.{spaced}
+use Rattle.scrub_scan.specs.Scanned.{Scanned}
 use Rattle.hex.specs.Hex.{encode_lower, encode_with, lower_digits}
 use Rattle.scrub_check.specs.declared.statuses.status.Status.{Status}
 use Rattle.scrub_check.specs.declared.statuses.status.Status.TheVariants.{OutOfRange, Retired, PastPointer, Unreadable, NoFrame, WrongUuid, WrongLength, WrongDigest, Hidden, Sound}
@@ -35,36 +38,34 @@ use Rattle.scrub_check.specs.declared.named.Owner.{Owner}
 use Rattle.scrub_check.specs.declared.named.Owner.TheVariants.{Shard}
 use Rattle.scrub_check.specs.declared.statuses.checked.Checked.{Checked}
 use Rattle.scrub_check.specs.declared.named.Named.{Named}
-use Rattle.scrub_check.specs.Checked.{is_hidden, is_sound, named_of}
+use Rattle.scrub_check.specs.Checked.{is_dangling, is_hidden, is_sound, named_of}
+use Rattle.scrub_check.specs.ChunkForms.{form_at}
 use Rattle.scrub_check.specs.Named.{named, named_by_shard}
+use Rattle.scrub_check.specs.Spares.{spares_of}
 use Rattle.scrub_report.specs.Index.{indexed}
-use Rattle.scrub_report.specs.Manifest.{HeldValue, HoldTheSame, all_held, held, hidden_runs, is_of_read_run, is_whole, lost_runs, manifest_text, numbered_lines, of_shards, place_unless_sound, shard_lines, text_by, two_digits}
-use Rattle.scrub_report.specs.Scrubbed.{Scrubbed, IsScrubbed}
+use Rattle.scrub_report.specs.Manifest.{HeldValue, HoldTheSame, after_status_in, all_held, form_text, form_word, held, hidden_runs, is_of_read_run, is_whole, looked_for, lost_runs, manifest_text, numbered_lines, of_shards, shard_lines, spare_text, text_by, two_digits}
+use Rattle.scrub_report.specs.Scrubbed.{Scrubbed, IsScrubbedBut}
 use Rattle.scrub_report.specs.Texts.{owner_text, status_text, uuid_text}
-use Rattle.scrub_report.proofs.Indexable.{countable, entries_are, entries_fit}
+use Rattle.scrub_report.proofs.Indexable.{countable, entries_are, entries_fit, runs_few}
 use Rattle.scrub_report.proofs.NextPlaces.{all_pass}
 use Rattle.scrub_report.proofs.OneReader.{heads, no_tail, tails}
+use Rattle.scrub_report.proofs.ResetPlans.{plan_before}
 use Rattle.scrub_report.proofs.ShardLines.{AreAlong, along_behind, along_fits, along_runs, hidden_few, line_of, lines_along, lines_are, of_names, of_shard, own_first, shards_part, unmapped}
 
 -- ---- one cut
 
 -- no byte is a line feed or a space
-abbrev IsWordByte : ℕ → Type 0
+abbrev pub IsWordByte : ℕ → Type 0
 IsWordByte b = (b ≢ 10) × (b ≢ 32)
 
 -- text up to the first byte c is cut off in one way
-cut : (c : ℕ) (u v x y : List ℕ) → All (λ b. b ≢ c) u → All (λ b. b ≢ c) v → u ++ c ∷ x ≡ v ++ c ∷ y → (u ≡ v) × (x ≡ y)
+pub cut : (c : ℕ) (u v x y : List ℕ) → All (λ b. b ≢ c) u → All (λ b. b ≢ c) v → u ++ c ∷ x ≡ v ++ c ∷ y → (u ≡ v) × (x ≡ y)
 cut c [] [] x y hu hv e = (refl, tails c c x y e)
 cut c [] (b ∷ v) x y hu hv e = absurd (hv 0 b (omega arith) (sym (heads c b x (v ++ c ∷ y) e)))
 cut c (a ∷ u) [] x y hu hv e = absurd (hu 0 a (omega arith) (heads a c (u ++ c ∷ x) y e))
 cut c (a ∷ u) (b ∷ v) x y hu hv e =
     let rest = cut c u v x y (All-tail (λ b. b ≢ c) a u hu) (All-tail (λ b. b ≢ c) b v hv) (tails a b (u ++ c ∷ x) (v ++ c ∷ y) e) in
     (ap₂ (λ (h : ℕ) (t : List ℕ). h ∷ t) (heads a b (u ++ c ∷ x) (v ++ c ∷ y) e) rest.0, rest.1)
-
--- the same front can be taken away
-pub same_behind : (u x y : List ℕ) → u ++ x ≡ u ++ y → x ≡ y
-same_behind [] x y e = e
-same_behind (a ∷ u) x y e = same_behind u x y (tails a a (u ++ x) (u ++ y) e)
 
 -- ---- words
 
@@ -85,7 +86,7 @@ word_of : (u : List ℕ) → list_all is_word_byte u ≡ true → All IsWordByte
 word_of u passes = All-weaker (λ b. is_word_byte b ≡ true) IsWordByte (λ b h. word_byte b h) u (all_pass is_word_byte u passes)
 
 -- digits are words
-decimal_word : (n : ℕ) → n < 2 ^ 64 → All IsWordByte (decimal n)
+pub decimal_word : (n : ℕ) → n < 2 ^ 64 → All IsWordByte (decimal n)
 decimal_word n small =
     All-weaker (λ b. 48 ≤ b) IsWordByte (λ b h. (λ is. absurd (omega (arith, h, is)), λ is. absurd (omega (arith, h, is)))) (decimal n)
     (decimal_by_steps (λ m ds. All (λ b. 48 ≤ b) ds) (λ m h. All-cons (λ b. 48 ≤ b) (48 + m) [] (omega arith) (All-nil (λ b. 48 ≤ b))) (λ m ds h all. All-push (λ b. 48 ≤ b) ds (48 + m % 10) all (omega arith)) n small)
@@ -167,7 +168,7 @@ unfolding by_index
 by_index_word zero f h = All-nil IsWordByte
 by_index_word (suc n) f h = All-push IsWordByte (by_index n f) (f n) (by_index_word n f h) (h n)
 
-uuid_word : (uuid : List ℕ) → All IsWordByte (uuid_text uuid)
+pub uuid_word : (uuid : List ℕ) → All IsWordByte (uuid_text uuid)
 uuid_word uuid =
     by_index_word 36 (λ k. if is_hyphen_place k then hyphen else hex_digit lower (nibble uuid (digit_place k)))
     (λ k. either (is_hyphen_place k) k)
@@ -218,7 +219,7 @@ word_line u word = All-weaker IsWordByte (λ b. b ≢ 10) (λ b h. h.0) u word
 spaced_line : (u : List ℕ) → All IsWordByte u → IsLine (32 ∷ u)
 spaced_line u word = All-cons (λ b. b ≢ 10) 32 u (λ is. absurd (let e : 32 ≡ 10 = is in omega (arith, e))) (word_line u word)
 
-not_space : (u : List ℕ) → All IsWordByte u → All (λ b. b ≢ 32) u
+pub not_space : (u : List ℕ) → All IsWordByte u → All (λ b. b ≢ 32) u
 not_space u word = All-weaker IsWordByte (λ b. b ≢ 32) (λ b h. h.1) u word
 
 joined : (u v : List ℕ) → IsLine u → IsLine v → IsLine (u ++ v)
@@ -264,7 +265,7 @@ same_numbers (e ∷ es) (f ∷ fs) he hf is =
 same_retired : (es fs : List ℕ) → All IsSmallNumber es → All IsSmallNumber fs → retired_body es ≡ retired_body fs → es ≡ fs
 same_retired es fs he hf is =
     let numbers : flat_map spaced_number es ≡ flat_map spaced_number fs =
-    same_behind (codes "retired") (flat_map spaced_number es) (flat_map spaced_number fs) is in
+    append_cancel_left (codes "retired") (flat_map spaced_number es) (flat_map spaced_number fs) is in
     let behind : (32 ∷ flat_map (closed 32) (map decimal es)) ≡ (32 ∷ flat_map (closed 32) (map decimal fs)) =
     sym (shifted es) ∙ ap (λ (u : List ℕ). u ++ 32 ∷ []) numbers ∙ shifted fs in
     same_numbers es fs he hf
@@ -298,11 +299,11 @@ runs_grouped l h =
 same_runs : (l h l' h' : ℕ) → IsSmallNumber l → IsSmallNumber h → IsSmallNumber l' → IsSmallNumber h' →
     runs_body l h ≡ runs_body l' h' → (l ≡ l') × (h ≡ h')
 same_runs l h l' h' sl sh sl' sh' e =
-    let start = same_behind (codes "runs lost ") (decimal l ++ (32 ∷ (codes "hidden " ++ decimal h))) (decimal l' ++ (32 ∷ (codes "hidden " ++ decimal h')))
+    let start = append_cancel_left (codes "runs lost ") (decimal l ++ (32 ∷ (codes "hidden " ++ decimal h))) (decimal l' ++ (32 ∷ (codes "hidden " ++ decimal h')))
     (sym (runs_grouped (decimal l) (decimal h)) ∙ e ∙ runs_grouped (decimal l') (decimal h')) in
     let both = cut 32 (decimal l) (decimal l') (codes "hidden " ++ decimal h) (codes "hidden " ++ decimal h') (not_space (decimal l) (decimal_word l sl)) (not_space (decimal l') (decimal_word l' sl')) start in (
       decimal_injective l l' sl sl' both.0,
-      decimal_injective h h' sh sh' (same_behind (codes "hidden ") (decimal h) (decimal h') both.1),
+      decimal_injective h h' sh sh' (append_cancel_left (codes "hidden ") (decimal h) (decimal h') both.1),
     )
 
 -- ---- the line of a shard's locator
@@ -319,28 +320,43 @@ record IsHeld (p : ℕ × Checked) : Type 0 where
 abbrev body_of : List ℕ → List ℕ → List ℕ → List ℕ → List ℕ → List ℕ → List ℕ
 body_of o n l d s r = o ++ (32 ∷ n) ++ (32 ∷ l) ++ (32 ∷ d) ++ (32 ∷ s) ++ r
 
-abbrev held_body : ℕ × Checked → List ℕ
-held_body p =
-    body_of (owner_text p.1.owner) (two_digits p.0) (decimal p.1.locator.length) (encode_lower p.1.locator.digest) (status_text p.1.status) (place_unless_sound p.1)
+abbrev held_body : List Scanned → ℕ × Checked → List ℕ
+held_body all p =
+    body_of (owner_text p.1.owner) (two_digits p.0) (decimal p.1.locator.length) (encode_lower p.1.locator.digest) (status_text p.1.status) (after_status_in all p.1)
 
 -- the body by the text of the identifier
-by_id : (p : ℕ × Checked) (h : IsHeld p) →
-    held_body p ≡ body_of (codes "shard " ++ encode_lower h.id.0) (two_digits p.0) (decimal p.1.locator.length) (encode_lower p.1.locator.digest) (status_text p.1.status) (place_unless_sound p.1)
-by_id p h =
-    ap (λ (o : Owner). body_of (owner_text o) (two_digits p.0) (decimal p.1.locator.length) (encode_lower p.1.locator.digest) (status_text p.1.status) (place_unless_sound p.1)) h.owner
+by_id : (all : List Scanned) (p : ℕ × Checked) (h : IsHeld p) →
+    held_body all p ≡ body_of (codes "shard " ++ encode_lower h.id.0) (two_digits p.0) (decimal p.1.locator.length) (encode_lower p.1.locator.digest) (status_text p.1.status) (after_status_in all p.1)
+by_id all p h =
+    ap (λ (o : Owner). body_of (owner_text o) (two_digits p.0) (decimal p.1.locator.length) (encode_lower p.1.locator.digest) (status_text p.1.status) (after_status_in all p.1)) h.owner
 
-place_free : (b : Bool) (e f : ℕ) (u : List ℕ) → IsSmallNumber e → IsSmallNumber f →
-    IsLine (if b then [] else (32 ∷ decimal e) ++ (32 ∷ decimal f) ++ (32 ∷ uuid_text u))
-place_free true e f u he hf = All-nil (λ b. b ≢ 10)
-place_free false e f u he hf =
-    joined ((32 ∷ decimal e) ++ (32 ∷ decimal f)) (32 ∷ uuid_text u)
-    (joined (32 ∷ decimal e) (32 ∷ decimal f) (spaced_line (decimal e) (decimal_word e he)) (spaced_line (decimal f) (decimal_word f hf)))
-    (spaced_line (uuid_text u) (uuid_word u))
+-- the line of a locator has no line feed before its end
+form_free : (form : Option Form) → IsLine (form_text form)
+form_free None = All-nil (λ b. b ≢ 10)
+form_free (Some Plain) = line_of_literal (codes " plain") refl
+form_free (Some Sealed) = line_of_literal (codes " sealed") refl
 
-held_free : (p : ℕ × Checked) → IsHeld p → IsLine (held_body p)
-held_free p h =
-    subst IsLine (sym (by_id p h))
-    (joined ((((((codes "shard " ++ id)) ++ (32 ∷ n)) ++ (32 ∷ l)) ++ (32 ∷ d)) ++ (32 ∷ s)) (place_unless_sound p.1)
+spare_free : (dangling none : Bool) → IsLine (if dangling then (if none then codes " none" else codes " spare") else [])
+spare_free false none = All-nil (λ b. b ≢ 10)
+spare_free true true = line_of_literal (codes " none") refl
+spare_free true false = line_of_literal (codes " spare") refl
+
+after_free : (sound : Bool) (form : Option Form) (l : Locator) (spare : List ℕ) → IsSmallNumber l.extent → IsSmallNumber l.offset →
+    IsLine spare → IsLine (if sound then form_text form else looked_for l ++ spare)
+after_free true form l spare he ho hs = form_free form
+after_free false form l spare he ho hs =
+    joined (looked_for l) spare
+    (joined ((32 ∷ decimal l.extent) ++ (32 ∷ decimal l.offset)) (32 ∷ uuid_text l.uuid)
+    (joined (32 ∷ decimal l.extent) (32 ∷ decimal l.offset)
+    (spaced_line (decimal l.extent) (decimal_word l.extent he))
+    (spaced_line (decimal l.offset) (decimal_word l.offset ho)))
+    (spaced_line (uuid_text l.uuid) (uuid_word l.uuid)))
+    hs
+
+held_free : (all : List Scanned) (p : ℕ × Checked) → IsHeld p → IsLine (held_body all p)
+held_free all p h =
+    subst IsLine (sym (by_id all p h))
+    (joined ((((((codes "shard " ++ id)) ++ (32 ∷ n)) ++ (32 ∷ l)) ++ (32 ∷ d)) ++ (32 ∷ s)) (after_status_in all p.1)
     (joined ((((codes "shard " ++ id) ++ (32 ∷ n)) ++ (32 ∷ l)) ++ (32 ∷ d)) (32 ∷ s)
     (joined (((codes "shard " ++ id) ++ (32 ∷ n)) ++ (32 ∷ l)) (32 ∷ d)
     (joined ((codes "shard " ++ id) ++ (32 ∷ n)) (32 ∷ l)
@@ -350,7 +366,7 @@ held_free p h =
     (spaced_line l (decimal_word p.1.locator.length h.size)))
     (spaced_line d (hex_word p.1.locator.digest)))
     (spaced_line s (status_word p.1.status)))
-    (place_free (is_sound p.1.status) p.1.locator.extent p.1.locator.offset p.1.locator.uuid h.extent h.offset))
+    (after_free (is_sound p.1.status) (form_at all p.1.locator) p.1.locator (spare_text p.1.status (spares_of all p.1)) h.extent h.offset (spare_free (is_dangling p.1.status) (length (spares_of all p.1) == 0))))
   where
     id : List ℕ
     id = encode_lower h.id.0
@@ -367,13 +383,16 @@ held_free p h =
     s : List ℕ
     s = status_text p.1.status
 
--- a place begins with a space
-place_tail : (c : Checked) → (t : List ℕ) × (place_unless_sound c ++ 32 ∷ [] ≡ 32 ∷ t)
-place_tail c = by (is_sound c.status) (decimal c.locator.extent) (spaced (decimal c.locator.offset)) (spaced (uuid_text c.locator.uuid))
+-- what follows a status begins with a space, if it is anything
+after_tail : (all : List Scanned) (c : Checked) → (t : List ℕ) × (after_status_in all c ++ 32 ∷ [] ≡ 32 ∷ t)
+after_tail all c =
+    by (is_sound c.status) (form_at all c.locator) (decimal c.locator.extent) (spaced (decimal c.locator.offset)) (spaced (uuid_text c.locator.uuid)) (spare_text c.status (spares_of all c))
   where
-    by : (b : Bool) (x y z : List ℕ) → (t : List ℕ) × ((if b then [] else (32 ∷ x) ++ y ++ z) ++ 32 ∷ [] ≡ 32 ∷ t)
-    by true x y z = ([], refl)
-    by false x y z = (((x ++ y) ++ z) ++ 32 ∷ [], refl)
+    by : (b : Bool) (form : Option Form) (x y z w : List ℕ) →
+        (t : List ℕ) × ((if b then form_text form else ((32 ∷ x) ++ y ++ z) ++ w) ++ 32 ∷ [] ≡ 32 ∷ t)
+    by true None x y z w = ([], refl)
+    by true (Some form) x y z w = (form_word form ++ 32 ∷ [], refl)
+    by false form x y z w = (((x ++ y ++ z) ++ w) ++ 32 ∷ [], refl)
 
 regroup : (o n l d s r t : List ℕ) → r ++ 32 ∷ [] ≡ 32 ∷ t →
     body_of o n l d s r ++ 32 ∷ [] ≡ o ++ (32 ∷ (n ++ (32 ∷ (l ++ (32 ∷ (d ++ (32 ∷ (s ++ (32 ∷ t)))))))))
@@ -395,39 +414,44 @@ words_cut : (h n l d s r t h' n' l' d' s' r' t' : List ℕ) → All IsWordByte h
     All IsWordByte h' → All IsWordByte n' → All IsWordByte l' → All IsWordByte d' → All IsWordByte s' →
     r ++ 32 ∷ [] ≡ 32 ∷ t → r' ++ 32 ∷ [] ≡ 32 ∷ t' →
     body_of (codes "shard " ++ h) n l d s r ≡ body_of (codes "shard " ++ h') n' l' d' s' r' →
-    (h ≡ h') × (l ≡ l') × (d ≡ d') × (s ≡ s')
+    (h ≡ h') × (l ≡ l') × (d ≡ d') × (s ≡ s') × (r ≡ r')
 words_cut h n l d s r t h' n' l' d' s' r' t' wh wn wl wd ws wh' wn' wl' wd' ws' et et' e =
     let behind : List ℕ → List ℕ → List ℕ → List ℕ → List ℕ → List ℕ = λ x y z w v. 32 ∷ (x ++ (32 ∷ (y ++ (32 ∷ (z ++ (32 ∷ (w ++ (32 ∷ v)))))))) in
     let all : (codes "shard " ++ h) ++ behind n l d s t ≡ (codes "shard " ++ h') ++ behind n' l' d' s' t' =
     sym (regroup (codes "shard " ++ h) n l d s r t et) ∙ ap (λ (u : List ℕ). u ++ 32 ∷ []) e ∙ regroup (codes "shard " ++ h') n' l' d' s' r' t' et' in
     let start : h ++ behind n l d s t ≡ h' ++ behind n' l' d' s' t' =
-    same_behind (codes "shard ") (h ++ behind n l d s t) (h' ++ behind n' l' d' s' t')
+    append_cancel_left (codes "shard ") (h ++ behind n l d s t) (h' ++ behind n' l' d' s' t')
     (sym (append_assoc (codes "shard ") h (behind n l d s t)) ∙ all ∙ append_assoc (codes "shard ") h' (behind n' l' d' s' t')) in
     let first = cut 32 h h' _ _ (not_space h wh) (not_space h' wh') start in
     let second = cut 32 n n' _ _ (not_space n wn) (not_space n' wn') first.1 in
     let third = cut 32 l l' _ _ (not_space l wl) (not_space l' wl') second.1 in
     let fourth = cut 32 d d' _ _ (not_space d wd) (not_space d' wd') third.1 in
     let fifth = cut 32 s s' _ _ (not_space s ws) (not_space s' ws') fourth.1 in
-    (first.0, third.0, fourth.0, fifth.0)
+    let last : r ≡ r' = append_cancel_right r r' (32 ∷ []) (et ∙ ap (λ (u : List ℕ). 32 ∷ u) fifth.1 ∙ sym et') in
+    (first.0, third.0, fourth.0, fifth.0, last)
 
-same_value : (u v : HeldValue) → u.owner ≡ v.owner → u.length ≡ v.length → u.digest ≡ v.digest → u.status ≡ v.status → u ≡ v
-same_value u v ho hl hd hs = λ i. record { owner = ho i; length = hl i; digest = hd i; status = hs i }
+same_value : (u v : HeldValue) → u.owner ≡ v.owner → u.length ≡ v.length → u.digest ≡ v.digest → u.status ≡ v.status →
+    u.after ≡ v.after → u ≡ v
+same_value u v ho hl hd hs ha =
+    λ i. record { owner = ho i; length = hl i; digest = hd i; status = hs i; after = ha i }
 
-same_held : (p q : ℕ × Checked) → IsHeld p → IsHeld q → held_body p ≡ held_body q → held p.1 ≡ held q.1
-same_held p q hp hq e =
+same_held : (all others : List Scanned) (p q : ℕ × Checked) → IsHeld p → IsHeld q → held_body all p ≡ held_body others q →
+    held all p.1 ≡ held others q.1
+same_held all others p q hp hq e =
     let parts = words_cut (encode_lower hp.id.0) (two_digits p.0) (decimal p.1.locator.length) (encode_lower p.1.locator.digest) (status_text p.1.status)
-    (place_unless_sound p.1) (place_tail p.1).0
+    (after_status_in all p.1) (after_tail all p.1).0
     (encode_lower hq.id.0) (two_digits q.0) (decimal q.1.locator.length) (encode_lower q.1.locator.digest) (status_text q.1.status)
-    (place_unless_sound q.1) (place_tail q.1).0
+    (after_status_in others q.1) (after_tail others q.1).0
     (hex_word hp.id.0) (two_digits_word p.0 hp.number) (decimal_word p.1.locator.length hp.size) (hex_word p.1.locator.digest) (status_word p.1.status)
     (hex_word hq.id.0) (two_digits_word q.0 hq.number) (decimal_word q.1.locator.length hq.size) (hex_word q.1.locator.digest) (status_word q.1.status)
-    (place_tail p.1).1 (place_tail q.1).1
-    (sym (by_id p hp) ∙ e ∙ by_id q hq) in
-    same_value (held p.1) (held q.1)
+    (after_tail all p.1).1 (after_tail others q.1).1
+    (sym (by_id all p hp) ∙ e ∙ by_id others q hq) in
+    same_value (held all p.1) (held others q.1)
     (ap owner_text hp.owner ∙ ap (λ (h : List ℕ). codes "shard " ++ h) parts.0 ∙ sym (ap owner_text hq.owner))
     (decimal_injective p.1.locator.length q.1.locator.length hp.size hq.size parts.1)
     parts.2
     (same_status p.1.status q.1.status parts.3)
+    parts.4
 
 -- ---- the last line
 
@@ -439,28 +463,28 @@ first_byte : List ℕ → ℕ
 first_byte u = get_or u 0 0
 
 -- the last line differs from that of a shard's locator in the first byte
-not_last : (p : ℕ × Checked) (n m : ℕ) → IsHeld p → held_body p ≡ total_body n m → ⊥
-not_last p n m h is =
-    let first : 115 ≡ 116 = ap (λ (u : List ℕ). get_or u 0 0) (sym (by_id p h) ∙ is) in
+not_last : (all : List Scanned) (p : ℕ × Checked) (n m : ℕ) → IsHeld p → held_body all p ≡ total_body n m → ⊥
+not_last all p n m h is =
+    let first : 115 ≡ 116 = ap (λ (u : List ℕ). get_or u 0 0) (sym (by_id all p h) ∙ is) in
     omega (arith, first)
 
 -- ---- all lines
 
 -- what follows from the same lines of shards and the same last line
-same_bodies : (t t' : ℕ × ℕ) (ps ps' : List (ℕ × Checked)) → All IsHeld ps → All IsHeld ps' →
-    map held_body ps ++ total_body t.0 t.1 ∷ [] ≡ map held_body ps' ++ total_body t'.0 t'.1 ∷ [] →
-    map (λ p. held p.1) ps ≡ map (λ p. held p.1) ps'
-same_bodies t t' [] [] hp hp' e = refl
-same_bodies t t' [] (q ∷ qs) hp hp' e =
-    absurd (not_last q t.0 t.1 (All-head IsHeld q qs hp') (sym (heads (total_body t.0 t.1) (held_body q) [] (map held_body qs ++ total_body t'.0 t'.1 ∷ []) e)))
-same_bodies t t' (p ∷ ps) [] hp hp' e =
-    absurd (not_last p t'.0 t'.1 (All-head IsHeld p ps hp) (heads (held_body p) (total_body t'.0 t'.1) (map held_body ps ++ total_body t.0 t.1 ∷ []) [] e))
-same_bodies t t' (p ∷ ps) (q ∷ qs) hp hp' e =
-    let us = map held_body ps ++ total_body t.0 t.1 ∷ [] in
-    let vs = map held_body qs ++ total_body t'.0 t'.1 ∷ [] in
+same_bodies : (all others : List Scanned) (t t' : ℕ × ℕ) (ps ps' : List (ℕ × Checked)) → All IsHeld ps → All IsHeld ps' →
+    map (held_body all) ps ++ total_body t.0 t.1 ∷ [] ≡ map (held_body others) ps' ++ total_body t'.0 t'.1 ∷ [] →
+    map (λ p. held all p.1) ps ≡ map (λ p. held others p.1) ps'
+same_bodies all others t t' [] [] hp hp' e = refl
+same_bodies all others t t' [] (q ∷ qs) hp hp' e =
+    absurd (not_last others q t.0 t.1 (All-head IsHeld q qs hp') (sym (heads (total_body t.0 t.1) (held_body others q) [] (map (held_body others) qs ++ total_body t'.0 t'.1 ∷ []) e)))
+same_bodies all others t t' (p ∷ ps) [] hp hp' e =
+    absurd (not_last all p t'.0 t'.1 (All-head IsHeld p ps hp) (heads (held_body all p) (total_body t'.0 t'.1) (map (held_body all) ps ++ total_body t.0 t.1 ∷ []) [] e))
+same_bodies all others t t' (p ∷ ps) (q ∷ qs) hp hp' e =
+    let us = map (held_body all) ps ++ total_body t.0 t.1 ∷ [] in
+    let vs = map (held_body others) qs ++ total_body t'.0 t'.1 ∷ [] in
     ap₂ (λ (h : HeldValue) (t : List HeldValue). h ∷ t)
-    (same_held p q (All-head IsHeld p ps hp) (All-head IsHeld q qs hp') (heads (held_body p) (held_body q) us vs e))
-    (same_bodies t t' ps qs (All-tail IsHeld p ps hp) (All-tail IsHeld q qs hp') (tails (held_body p) (held_body q) us vs e))
+    (same_held all others p q (All-head IsHeld p ps hp) (All-head IsHeld q qs hp') (heads (held_body all p) (held_body others q) us vs e))
+    (same_bodies all others t t' ps qs (All-tail IsHeld p ps hp) (All-tail IsHeld q qs hp') (tails (held_body all p) (held_body others q) us vs e))
 
 -- ---- the text by its lines
 
@@ -469,11 +493,12 @@ abbrev pairs_along : List BindingValue → List Checked → List (ℕ × Checked
 pairs_along [] cs = []
 pairs_along (b ∷ bs) cs = enumerate_from 0 (take (length b.locators) cs) ++ pairs_along bs (drop (length b.locators) cs)
 
-lines_paired : (bs : List BindingValue) (cs : List Checked) → flat_map line_of (pairs_along bs cs) ≡ lines_along bs cs
-lines_paired [] cs = refl
-lines_paired (b ∷ bs) cs =
-    flat_map-append line_of (enumerate_from 0 (take (length b.locators) cs)) (pairs_along bs (drop (length b.locators) cs))
-    ∙ ap (λ (u : List ℕ). numbered_lines (take (length b.locators) cs) ++ u) (lines_paired bs (drop (length b.locators) cs))
+lines_paired : (after : Checked → List ℕ) (bs : List BindingValue) (cs : List Checked) →
+    flat_map (line_of after) (pairs_along bs cs) ≡ lines_along after bs cs
+lines_paired after [] cs = refl
+lines_paired after (b ∷ bs) cs =
+    flat_map-append (line_of after) (enumerate_from 0 (take (length b.locators) cs)) (pairs_along bs (drop (length b.locators) cs))
+    ∙ ap (λ (u : List ℕ). numbered_lines after (take (length b.locators) cs) ++ u) (lines_paired after bs (drop (length b.locators) cs))
 
 enumerated : (k : ℕ) (xs : List Checked) → map (λ (p : ℕ × Checked). p.1) (enumerate_from k xs) ≡ xs
 enumerated k [] = refl
@@ -489,13 +514,13 @@ all_paired (b ∷ bs) cs same =
     ∙ take-append-drop n cs
 
 -- the numbers of a locator are small
-record HasSmallNumbers (l : Locator) : Type 0 where
-  extent : l.extent < 2 ^ 64
-  offset : l.offset < 2 ^ 64
-  length : l.length < 2 ^ 64
+pub record HasSmallNumbers (l : Locator) : Type 0 where
+  pub extent : l.extent < 2 ^ 64
+  pub offset : l.offset < 2 ^ 64
+  pub length : l.length < 2 ^ 64
 
 -- each is a shard's, and its numbers are small
-abbrev IsSmall : Checked → Type 0
+abbrev pub IsSmall : Checked → Type 0
 IsSmall c = HasSmallNumbers c.locator
 
 held_from : (id : ShardId) (k : ℕ) (xs : List Checked) → k + length xs < 2 ^ 64 → All (λ c. c.owner ≡ Shard id) xs → All IsSmall xs →
@@ -519,9 +544,9 @@ held_along (b ∷ bs) cs few same small =
     (held_along bs (drop n cs) (All-tail (λ v. length v.locators ≤ 64) b bs few) (along_behind b bs cs same) (All-drop IsSmall n cs small))
 
 -- the text with a superblock is that of these lines
-abbrev bodies : List ℕ → ℕ → ℕ → List (ℕ × Checked) → ℕ × ℕ → List (List ℕ)
-bodies retired lost hidden pairs total =
-    retired_body retired ∷ runs_body lost hidden ∷ map held_body pairs ++ total_body total.0 total.1 ∷ []
+abbrev bodies : List Scanned → List ℕ → ℕ → ℕ → List (ℕ × Checked) → ℕ × ℕ → List (List ℕ)
+bodies all retired lost hidden pairs total =
+    retired_body retired ∷ runs_body lost hidden ∷ map (held_body all) pairs ++ total_body total.0 total.1 ∷ []
 
 joined_bodies : (a b t : List ℕ) (xs : List (List ℕ)) →
     ended a ++ ended b ++ flat_map ended xs ++ ended t ≡ flat_map ended (a ∷ b ∷ xs ++ t ∷ [])
@@ -537,38 +562,49 @@ pairs_of s = pairs_along s.bindings (drop (length s.plan.runs) s.checked)
 abbrev total_of : Scrubbed → ℕ × ℕ
 total_of s = (length s.bindings, length (of_shards s.checked))
 
-text_of : (image : Image) (s : Scrubbed) → IsScrubbed image s → (b : Bool) → b ≡ true →
-    text_by b s.plan.retired (lost_runs s) (hidden_runs s) s.bindings (of_shards s.checked)
-    ≡ flat_map ended (bodies s.plan.retired (lost_runs s) (hidden_runs s) (pairs_of s) (total_of s))
+-- the lines of what is found
+abbrev bodies_of : Scrubbed → List (List ℕ)
+bodies_of s = bodies s.all s.plan.retired (lost_runs s) (hidden_runs s) (pairs_of s) (total_of s)
+
+text_of : {resets : List ℕ} (image : Image) (s : Scrubbed) → IsScrubbedBut resets image s → (b : Bool) → b ≡ true →
+    text_by (after_status_in s.all) b s.plan.retired (lost_runs s) (hidden_runs s) s.bindings (of_shards s.checked)
+    ≡ flat_map ended (bodies_of s)
 text_of image s x false e = absurd (false≢true e)
 text_of image s x true e =
     let cs = drop (length s.plan.runs) s.checked in
+    let after = after_status_in s.all in
     let start = ended (retired_body s.plan.retired) ++ ended (runs_body (lost_runs s) (hidden_runs s)) in
     let last = ended (total_body (length s.bindings) (length (of_shards s.checked))) in
-    let shards : flat_map (λ b. shard_lines (of_shards s.checked) b.id) s.bindings ≡ flat_map ended (map held_body (pairs_of s)) =
-    ap (λ (us : List Checked). flat_map (λ b. shard_lines us b.id) s.bindings) (shards_part s.plan.runs s.bindings s.checked x.checked.same)
-    ∙ sym (lines_are s.bindings cs x.bindings.bindings_of_map.rising (along_runs s.plan.runs s.bindings s.checked x.checked.same))
-    ∙ sym (lines_paired s.bindings cs) ∙ sym (flat_map-map ended held_body (pairs_of s)) in
+    let shards : flat_map (λ b. shard_lines after (of_shards s.checked) b.id) s.bindings ≡ flat_map ended (map (held_body s.all) (pairs_of s)) =
+    ap (λ (us : List Checked). flat_map (λ b. shard_lines after us b.id) s.bindings) (shards_part s.plan.runs s.bindings s.checked x.checked.same)
+    ∙ sym (lines_are after s.bindings cs x.bindings.bindings_of_map.rising (along_runs s.plan.runs s.bindings s.checked x.checked.same))
+    ∙ sym (lines_paired after s.bindings cs) ∙ sym (flat_map-map ended (held_body s.all) (pairs_of s)) in
     ap (λ (u : List ℕ). start ++ u ++ last) shards
-    ∙ joined_bodies (retired_body s.plan.retired) (runs_body (lost_runs s) (hidden_runs s)) (total_body (length s.bindings) (length (of_shards s.checked))) (map held_body (pairs_of s))
+    ∙ joined_bodies (retired_body s.plan.retired) (runs_body (lost_runs s) (hidden_runs s)) (total_body (length s.bindings) (length (of_shards s.checked))) (map (held_body s.all) (pairs_of s))
 
 -- ---- sizes
 
-retired_small : (image : Image) (s : Scrubbed) → IsScrubbed image s → All (λ e. e < 2 ^ 64) s.plan.retired
-retired_small image s x = planned s.choice.superblock s.choice.page x.choice.chosen x.plan.by
+planned_small : (image : Image) (choice : Choice) (plan : PlanValue) → IsChoice image choice → IsPlanOf choice plan →
+    All IsSmallNumber plan.retired
+planned_small image choice plan chosen is = by choice.superblock choice.page chosen.chosen is.by
   where
-    listed : (o : Option (List ℕ)) → IfSome o (AreRetired image.geometry.extents) → All (λ e. e < 2 ^ 64) (unwrap_or o [])
-    listed None h = All-nil (λ e. e < 2 ^ 64)
+    listed : (o : Option (List ℕ)) → IfSome o (AreRetired image.geometry.extents) → All IsSmallNumber (unwrap_or o [])
+    listed None h = All-nil IsSmallNumber
     listed (Some es) h =
-        All-weaker (λ e. e < image.geometry.extents) (λ e. e < 2 ^ 64)
+        All-weaker (λ e. e < image.geometry.extents) IsSmallNumber
         (λ e below. omega (arith, below, image.geometry.extent_count.most)) es h.below
 
-    planned : (c : Option Contents) (q : Option ℕ) → IsChosen image c q →
-        MatchOption c (IsPlanWithout s.plan s.choice.geometry) (IsPlanBy s.plan) → All (λ e. e < 2 ^ 64) s.plan.retired
-    planned None q chosen by = subst (λ (es : List ℕ). All (λ e. e < 2 ^ 64) es) (sym by.retired) (All-nil (λ e. e < 2 ^ 64))
-    planned (Some c) None chosen by = absurd chosen
-    planned (Some c) (Some q) chosen by =
-        subst (λ (es : List ℕ). All (λ e. e < 2 ^ 64) es) (sym by.retired) (listed c.retired chosen.stands.contents.retired)
+    by : (c : Option Contents) (q : Option ℕ) → IsChosen image c q →
+        MatchOption c (IsPlanWithout plan choice.geometry) (IsPlanBy plan) → All IsSmallNumber plan.retired
+    by None q found planned = subst (All IsSmallNumber) (sym planned.retired) (All-nil IsSmallNumber)
+    by (Some c) None found planned = absurd found
+    by (Some c) (Some q) found planned =
+        subst (All IsSmallNumber) (sym planned.retired) (listed c.retired found.stands.contents.retired)
+
+retired_small : {resets : List ℕ} (image : Image) (s : Scrubbed) → IsScrubbedBut resets image s → All IsSmallNumber s.plan.retired
+retired_small {resets} image s x =
+    let old = plan_before resets s.choice s.plan x.plan in
+    subst (All IsSmallNumber) (sym old.2) (planned_small image s.choice old.0 x.choice old.1)
 
 numbers_small : (bs : List BindingValue) → All (λ b. IsEntry (indexed b)) bs →
     All (λ (n : Named). HasSmallNumbers n.locator) (flat_map named_by_shard bs)
@@ -580,28 +616,17 @@ numbers_small (b ∷ bs) each =
     (All-head (λ v. IsEntry (indexed v)) b bs each).each))
     (numbers_small bs (All-tail (λ v. IsEntry (indexed v)) b bs each))
 
-small : (image : Image) (s : Scrubbed) → IsScrubbed image s → All IsSmall (drop (length s.plan.runs) s.checked)
+pub small : {resets : List ℕ} (image : Image) (s : Scrubbed) → IsScrubbedBut resets image s → All IsSmall (drop (length s.plan.runs) s.checked)
 small image s x =
     unmapped (λ (n : Named). HasSmallNumbers n.locator) named_of (drop (length s.plan.runs) s.checked)
     (subst (λ (ns : List Named). All (λ (n : Named). HasSmallNumbers n.locator) ns)
     (sym (along_runs s.plan.runs s.bindings s.checked x.checked.same)) (numbers_small s.bindings (entries_are image s x)))
 
--- a plan has few runs
-runs_few : (image : Image) (s : Scrubbed) → IsScrubbed image s → length s.plan.runs ≤ 32
-runs_few image s x = planned s.choice.superblock s.choice.page x.choice.chosen x.plan.by
-  where
-    planned : (c : Option Contents) (q : Option ℕ) → IsChosen image c q →
-        MatchOption c (IsPlanWithout s.plan s.choice.geometry) (IsPlanBy s.plan) → length s.plan.runs ≤ 32
-    planned None q chosen by = omega (arith, ap (λ (ls : List Locator). length ls) by.runs)
-    planned (Some c) None chosen by = absurd chosen
-    planned (Some c) (Some q) chosen by =
-        omega (arith, ap (λ (ls : List Locator). length ls) by.runs, chosen.stands.contents.runs.count)
-
-lost_small : (image : Image) (s : Scrubbed) → IsScrubbed image s → IsSmallNumber (lost_runs s)
+lost_small : {resets : List ℕ} (image : Image) (s : Scrubbed) → IsScrubbedBut resets image s → IsSmallNumber (lost_runs s)
 lost_small image s x =
     omega (arith, count_by-le-length is_none s.read.runs, x.read.count, runs_few image s x)
 
-hidden_small : (image : Image) (s : Scrubbed) → IsScrubbed image s → IsSmallNumber (hidden_runs s)
+hidden_small : {resets : List ℕ} (image : Image) (s : Scrubbed) → IsScrubbedBut resets image s → IsSmallNumber (hidden_runs s)
 hidden_small image s x =
     omega (
       arith,
@@ -618,7 +643,7 @@ names_few (b ∷ bs) few =
     length-map {B = Named} b.locators (λ (l : Locator). record { owner = Shard b.id; locator = l }) in
     omega (arith, rest, one, own, length-append (named_by_shard b) (flat_map named_by_shard bs))
 
-locators_few : (image : Image) (s : Scrubbed) → IsScrubbed image s → IsSmallNumber (length (of_shards s.checked))
+locators_few : {resets : List ℕ} (image : Image) (s : Scrubbed) → IsScrubbedBut resets image s → IsSmallNumber (length (of_shards s.checked))
 locators_few image s x =
     let cs = drop (length s.plan.runs) s.checked in
     let part : length (of_shards s.checked) ≡ length cs =
@@ -630,7 +655,7 @@ locators_few image s x =
     let most : length s.bindings < 2 ^ 32 = countable image s x in
     omega (arith, part, names, same, few, most)
 
-total_free : (image : Image) (s : Scrubbed) → IsScrubbed image s →
+total_free : {resets : List ℕ} (image : Image) (s : Scrubbed) → IsScrubbedBut resets image s →
     IsLine (total_body (length s.bindings) (length (of_shards s.checked)))
 total_free image s x =
     let n = length s.bindings in
@@ -657,41 +682,48 @@ record IsBare (s : Scrubbed) : Type 0 where
   read : s.read.runs ≡ []
   checked : s.checked ≡ []
 
-bare : (image : Image) (s : Scrubbed) → IsScrubbed image s → s.plan.has_superblock ≡ false → IsBare s
-bare image s x none = by s.choice.superblock x.plan.by
+planned_bare : (choice : Choice) (plan : PlanValue) → IsPlanOf choice plan → plan.has_superblock ≡ false →
+    (plan.retired ≡ []) × (plan.runs ≡ [])
+planned_bare choice plan is none = by choice.superblock is.by
   where
-    by : (c : Option Contents) → MatchOption c (IsPlanWithout s.plan s.choice.geometry) (IsPlanBy s.plan) → IsBare s
-    by None p =
-        let names = no_names s.plan.runs s.read.runs s.bindings s.checked p.runs x.read.count x.bindings.newest x.checked.same in
-        record { retired = p.retired; read = names.0; checked = names.1 }
-    by (Some c) p = absurd (false≢true (sym none ∙ p.has))
+    by : (c : Option Contents) → MatchOption c (IsPlanWithout plan choice.geometry) (IsPlanBy plan) →
+        (plan.retired ≡ []) × (plan.runs ≡ [])
+    by None planned = (planned.retired, planned.runs)
+    by (Some c) planned = absurd (false≢true (sym none ∙ planned.has))
+
+bare : {resets : List ℕ} (image : Image) (s : Scrubbed) → IsScrubbedBut resets image s → s.plan.has_superblock ≡ false → IsBare s
+bare {resets} image s x none =
+    let old = plan_before resets s.choice s.plan x.plan in
+    let planned = planned_bare s.choice old.0 old.1 (sym old.4 ∙ none) in
+    let names = no_names s.plan.runs s.read.runs s.bindings s.checked (old.3 ∙ planned.1) x.read.count x.bindings.newest x.checked.same in
+    record { retired = old.2 ∙ planned.0; read = names.0; checked = names.1 }
 
 -- ---- the law
 
 -- what is said of the shards' locators, by the numbered ones
-said : (image : Image) (s : Scrubbed) → IsScrubbed image s →
-    map (λ p. held p.1) (pairs_along s.bindings (drop (length s.plan.runs) s.checked)) ≡ all_held s.checked
+said : {resets : List ℕ} (image : Image) (s : Scrubbed) → IsScrubbedBut resets image s →
+    map (λ p. held s.all p.1) (pairs_along s.bindings (drop (length s.plan.runs) s.checked)) ≡ all_held s
 said image s x =
     let cs = drop (length s.plan.runs) s.checked in
-    sym (map-map held (λ (p : ℕ × Checked). p.1) (pairs_along s.bindings cs))
-    ∙ ap (map held) (all_paired s.bindings cs (along_runs s.plan.runs s.bindings s.checked x.checked.same)
+    sym (map-map (held s.all) (λ (p : ℕ × Checked). p.1) (pairs_along s.bindings cs))
+    ∙ ap (map (held s.all)) (all_paired s.bindings cs (along_runs s.plan.runs s.bindings s.checked x.checked.same)
     ∙ sym (shards_part s.plan.runs s.bindings s.checked x.checked.same))
 
-held_all : (image : Image) (s : Scrubbed) → IsScrubbed image s → All IsHeld (pairs_of s)
+held_all : {resets : List ℕ} (image : Image) (s : Scrubbed) → IsScrubbedBut resets image s → All IsHeld (pairs_of s)
 held_all image s x =
     held_along s.bindings (drop (length s.plan.runs) s.checked) (entries_fit image s x)
     (along_runs s.plan.runs s.bindings s.checked x.checked.same) (small image s x)
 
-all_lines : (image : Image) (s : Scrubbed) → IsScrubbed image s →
-    All IsLine (bodies s.plan.retired (lost_runs s) (hidden_runs s) (pairs_of s) (total_of s))
+all_lines : {resets : List ℕ} (image : Image) (s : Scrubbed) → IsScrubbedBut resets image s →
+    All IsLine (bodies_of s)
 all_lines image s x =
     let l = lost_runs s in
     let h = hidden_runs s in
-    let rest = map held_body (pairs_of s) ++ total_body (length s.bindings) (length (of_shards s.checked)) ∷ [] in
+    let rest = map (held_body s.all) (pairs_of s) ++ total_body (length s.bindings) (length (of_shards s.checked)) ∷ [] in
     All-cons IsLine (retired_body s.plan.retired) (runs_body l h ∷ rest) (retired_free s.plan.retired (retired_small image s x))
     (All-cons IsLine (runs_body l h) rest (runs_free l h (lost_small image s x) (hidden_small image s x))
-    (All-append IsLine (map held_body (pairs_of s)) (total_body (length s.bindings) (length (of_shards s.checked)) ∷ [])
-    (All-map IsLine held_body (pairs_of s) (All-weaker IsHeld (λ p. IsLine (held_body p)) held_free (pairs_of s) (held_all image s x)))
+    (All-append IsLine (map (held_body s.all) (pairs_of s)) (total_body (length s.bindings) (length (of_shards s.checked)) ∷ [])
+    (All-map IsLine (held_body s.all) (pairs_of s) (All-weaker IsHeld (λ p. IsLine (held_body s.all p)) (held_free s.all) (pairs_of s) (held_all image s x)))
     (All-cons IsLine (total_body (length s.bindings) (length (of_shards s.checked))) [] (total_free image s x) (All-nil IsLine))))
 
 -- the text without a superblock
@@ -704,14 +736,12 @@ never_bare xs rest e =
     let first : 110 ≡ 114 = ap (λ (u : List ℕ). get_or u 0 0) e in
     omega (arith, first)
 
-module _ (image other : Image) (s t : Scrubbed) (x : IsScrubbed image s) (y : IsScrubbed other t) where
+module _ (resets others : List ℕ) (image other : Image) (s t : Scrubbed) (x : IsScrubbedBut resets image s) (y : IsScrubbedBut others other t) where
   with_superblocks : s.plan.has_superblock ≡ true → t.plan.has_superblock ≡ true →
-      flat_map ended (bodies s.plan.retired (lost_runs s) (hidden_runs s) (pairs_of s) (total_of s))
-      ≡ flat_map ended (bodies t.plan.retired (lost_runs t) (hidden_runs t) (pairs_of t) (total_of t)) →
-      HoldTheSame s t
+      flat_map ended (bodies_of s) ≡ flat_map ended (bodies_of t) → HoldTheSame s t
   with_superblocks hs ht e =
-      let ps = map held_body (pairs_of s) ++ total_body (length s.bindings) (length (of_shards s.checked)) ∷ [] in
-      let qs = map held_body (pairs_of t) ++ total_body (length t.bindings) (length (of_shards t.checked)) ∷ [] in
+      let ps = map (held_body s.all) (pairs_of s) ++ total_body (length s.bindings) (length (of_shards s.checked)) ∷ [] in
+      let qs = map (held_body t.all) (pairs_of t) ++ total_body (length t.bindings) (length (of_shards t.checked)) ∷ [] in
       let rs = runs_body (lost_runs s) (hidden_runs s) in
       let rt = runs_body (lost_runs t) (hidden_runs t) in
       let lines = same_closed 10 (retired_body s.plan.retired ∷ rs ∷ ps) (retired_body t.plan.retired ∷ rt ∷ qs) (all_lines image s x) (all_lines other t y) e in
@@ -722,7 +752,7 @@ module _ (image other : Image) (s t : Scrubbed) (x : IsScrubbed image s) (y : Is
         retired = same_retired s.plan.retired t.plan.retired (retired_small image s x) (retired_small other t y) (heads (retired_body s.plan.retired) (retired_body t.plan.retired) (rs ∷ ps) (rt ∷ qs) lines);
         lost = runs.0;
         hidden = runs.1;
-        shards = sym (said image s x) ∙ same_bodies (total_of s) (total_of t) (pairs_of s) (pairs_of t) (held_all image s x) (held_all other t y) (tails rs rt ps qs behind) ∙ said other t y;
+        shards = sym (said image s x) ∙ same_bodies s.all t.all (total_of s) (total_of t) (pairs_of s) (pairs_of t) (held_all image s x) (held_all other t y) (tails rs rt ps qs behind) ∙ said other t y;
       }
 
   without : s.plan.has_superblock ≡ false → t.plan.has_superblock ≡ false → HoldTheSame s t
@@ -734,15 +764,18 @@ module _ (image other : Image) (s t : Scrubbed) (x : IsScrubbed image s) (y : Is
         retired = bs.retired ∙ sym bt.retired;
         lost = ap (count_by is_none) (bs.read ∙ sym bt.read);
         hidden = none s bs ∙ sym (none t bt);
-        shards = ap all_held (bs.checked ∙ sym bt.checked);
+        shards = nothing s bs ∙ sym (nothing t bt);
       }
     where
       none : (u : Scrubbed) → IsBare u → hidden_runs u ≡ 0
       none u b = ap (λ (cs : List Checked). count_by (λ c. is_hidden c.status && is_of_read_run u.read.runs c.owner) cs) b.checked
 
+      nothing : (u : Scrubbed) → IsBare u → all_held u ≡ []
+      nothing u b = ap (λ (cs : List Checked). map (held u.all) (of_shards cs)) b.checked
+
   by_superblock : (b c : Bool) → s.plan.has_superblock ≡ b → t.plan.has_superblock ≡ c →
-      text_by b s.plan.retired (lost_runs s) (hidden_runs s) s.bindings (of_shards s.checked)
-      ≡ text_by c t.plan.retired (lost_runs t) (hidden_runs t) t.bindings (of_shards t.checked) → HoldTheSame s t
+      text_by (after_status_in s.all) b s.plan.retired (lost_runs s) (hidden_runs s) s.bindings (of_shards s.checked)
+      ≡ text_by (after_status_in t.all) c t.plan.retired (lost_runs t) (hidden_runs t) t.bindings (of_shards t.checked) → HoldTheSame s t
   by_superblock true true hs ht e = with_superblocks hs ht (sym (text_of image s x true refl) ∙ e ∙ text_of other t y true refl)
   by_superblock true false hs ht e =
       absurd (never_bare (flat_map spaced_number s.plan.retired) _ (sym e ∙ text_of image s x true refl))
@@ -754,11 +787,12 @@ module _ (image other : Image) (s t : Scrubbed) (x : IsScrubbed image s) (y : Is
   same_content e = by_superblock s.plan.has_superblock t.plan.has_superblock refl refl e
 
 -- what is held says whether anything is missing
-held_sound : (cs : List Checked) → list_all (λ (c : Checked). is_sound c.status) cs ≡ list_all (λ (h : HeldValue). is_sound h.status) (map held cs)
-held_sound cs = sym (list_all-map (λ (h : HeldValue). is_sound h.status) held cs)
+held_sound : (all : List Scanned) (cs : List Checked) →
+    list_all (λ (c : Checked). is_sound c.status) cs ≡ list_all (λ (h : HeldValue). is_sound h.status) (map (held all) cs)
+held_sound all cs = sym (list_all-map (λ (h : HeldValue). is_sound h.status) (held all) cs)
 
 pub same_verdict : (s t : Scrubbed) → HoldTheSame s t → is_whole s ≡ is_whole t
 same_verdict s t h =
-    ap (λ (b : Bool). s.plan.has_superblock && lost_runs s == 0 && hidden_runs s == 0 && b) (held_sound (of_shards s.checked))
+    ap (λ (b : Bool). s.plan.has_superblock && lost_runs s == 0 && hidden_runs s == 0 && b) (held_sound s.all (of_shards s.checked))
     ∙ (λ i. h.superblock i && h.lost i == 0 && h.hidden i == 0 && list_all (λ (v : HeldValue). is_sound v.status) (h.shards i))
-    ∙ ap (λ (b : Bool). t.plan.has_superblock && lost_runs t == 0 && hidden_runs t == 0 && b) (sym (held_sound (of_shards t.checked)))
+    ∙ ap (λ (b : Bool). t.plan.has_superblock && lost_runs t == 0 && hidden_runs t == 0 && b) (sym (held_sound t.all (of_shards t.checked)))

@@ -1,32 +1,36 @@
--- A frame that is put behind chunks and zeros, directly behind a chunk or at a page bound, is an item, and each item in front
--- of it begins where it did.
-use Rattle.std.proofs.Common.{◌≡◌, ◌≢◌, ◌⊎◌, ◌<◌, ◌≤◌, ◌+◌, ◌-◌, ◌*◌, ◌/◌, ◌%◌, ◌==◌, ◌||◌, ℕ, zero, suc, min, Bool, true, false, Option, Some, None, List, [], ◌∷◌, length, map, arith, refl, sym, ◌∙◌, ap, subst, inl, inr, if◌then◌else◌}
-use Rattle.std.specs.Prelude.{◌&&◌, slice_index}
-use Rattle.std.specs.List.{All, Contains, list_all}
+-- What is written behind chunks and zeros, at the place for the next frame and after it, leaves each chunk an item, and whole
+-- frames there, one directly after the other, are items too.
+use Rattle.std.proofs.Common.{◌≡◌, ◌⊎◌, ◌≢◌, ◌<◌, ◌≤◌, ◌+◌, ◌*◌, ◌/◌, ◌%◌, ◌==◌, ◌||◌, ℕ, min, Bool, true, false, Option, Some, List, [], ◌∷◌, length, map, arith, refl, sym, ◌∙◌, ap, subst, inl, inr, if◌then◌else◌}
+use Rattle.std.specs.List.{All, Contains, find, list_all}
 use Rattle.std.proofs.Math.Nat.{mod-lt, mul-le-mul_right}
-use Rattle.std.proofs.lemmas.Bool.{cases_lt, eq-eqb, eqb-true, false≢true}
-use Rattle.std.proofs.lemmas.List.Elements.{All-cons, All-head, All-nil, All-tail}
+use Rattle.std.proofs.lemmas.Bool.{and_parts, cases_lt, eq-eqb, eqb-true, false≢true}
+use Rattle.std.proofs.lemmas.List.Elements.{All-cons, All-contains, All-head, All-nil, All-tail}
 use Rattle.std.proofs.lemmas.Nat.{div-add-mod'}
-use Rattle.std.proofs.lemmas.Option.{none-some}
 use Rattle.sha2.specs.Sha256.{sha256}
-use Rattle.scrub_disk.specs.declared.geometry.Geometry.{Geometry}
-use Rattle.scrub_disk.specs.Image.{Image, byte}
-use Rattle.scrub_frame.specs.declared.locator.Locator.{Locator}
 use Rattle.scrub_frame.specs.declared.form.Form.{Form}
 use Rattle.scrub_frame.specs.declared.form.Form.TheVariants.{Plain, Sealed}
-use Rattle.scrub_frame.specs.Frame.{frame, frame_overhead, least_overhead}
+use Rattle.scrub_frame.specs.Frame.{frame_overhead}
 use Rattle.scrub_frame.proofs.Frames.{length-frame}
 use Rattle.scrub_merge.proofs.Elements.{Contains-behind, Contains-cases}
 use Rattle.scrub_scan.specs.declared.item.Item.{Item}
 use Rattle.scrub_scan.specs.declared.item.Item.TheVariants.{Chunk, Pad, Torn, Noise, Lost}
-use Rattle.scrub_scan.specs.Extent.{Extent, extent_of, FrameAt, NoFrameAt, HasMagic, IsUnreadableAt, bound}
+use Rattle.scrub_scan.specs.Extent.{Extent, FrameAt, NoFrameAt, bound}
 use Rattle.scrub_scan.specs.Item.{start_of, stop_of, IsItem, IsChunk}
 use Rattle.scrub_scan.specs.Tiling.{Joins, IsTiling}
-use Rattle.scrub_scan.proofs.Tilings.{advances, one_tiling}
-use Rattle.scrub_check.specs.declared.statuses.status.Status.TheVariants.{Sound}
-use Rattle.scrub_check.specs.Status.{BeginsAt, HasStatus, HasUnreadableByte, InRange, NamesChunk}
-use Rattle.scrub_report.specs.Room.{IsPut, IsRoom, ends_in_chunk, next_place}
+use Rattle.scrub_scan.proofs.Tilings.{advances, one_item}
+use Rattle.scrub_check.specs.Live.{is_chunk}
+use Rattle.scrub_report.specs.Copy.{AreChunksFrom, AreFramesFrom, WholeFrame, size_in}
+use Rattle.scrub_report.specs.Room.{ends_in_chunk, next_place}
 use Rattle.scrub_report.specs.Scrubbed.{is_clean_item}
+
+-- ---- tests
+
+-- a test of all elements
+pub all_pass : {X : Type 0} (p : X → Bool) (xs : List X) → list_all p xs ≡ true → All (λ x. p x ≡ true) xs
+all_pass p [] passes = All-nil (λ x. p x ≡ true)
+all_pass p (x ∷ xs) passes =
+    let parts = and_parts (p x) (list_all p xs) passes in
+    All-cons (λ v. p v ≡ true) x xs parts.0 (all_pass p xs parts.1)
 
 -- ---- page bounds
 
@@ -71,76 +75,6 @@ module _ (page p w : ℕ) (pos : 0 < page) (below : p < w) (within : w ≤ (p / 
         | inr le ↦ omega (arith, le, not_later)
       ]
 
--- ---- zeros
-
--- all of n bytes are zero, or one of them isn't
-zero_or_not : (at : ℕ → Option ℕ) (p n : ℕ) → ((i : ℕ) → p ≤ i → i < p + n → at i ≡ Some 0)
-    ⊎ ((i : ℕ) × (p ≤ i) × (i < p + n) × (at i ≢ Some 0))
-zero_or_not at p zero = inl (λ i low high. absurd (omega (arith, low, high)))
-zero_or_not at p (suc n) = by (zero_or_not at p n) (at (p + n)) refl
-  where
-    other : (k : ℕ) → ◌≡◌ {A = Option ℕ} (Some (suc k)) (Some 0) → ⊥
-    other k e = cc
-
-    by : ((i : ℕ) → p ≤ i → i < p + n → at i ≡ Some 0) ⊎ ((i : ℕ) × (p ≤ i) × (i < p + n) × (at i ≢ Some 0)) →
-        (o : Option ℕ) → at (p + n) ≡ o →
-        ((i : ℕ) → p ≤ i → i < p + suc n → at i ≡ Some 0) ⊎ ((i : ℕ) × (p ≤ i) × (i < p + suc n) × (at i ≢ Some 0))
-    by (inr (i, low, high, nonzero)) o is = inr (i, low, omega (arith, high), nonzero)
-    by (inl all) None is = inr (p + n, omega arith, omega arith, λ e. none-some 0 (sym is ∙ e))
-    by (inl all) (Some (suc k)) is = inr (p + n, omega arith, omega arith, λ e. other k (sym is ∙ e))
-    by (inl all) (Some zero) is = inl (λ i low high. last i low high (cases_lt i (p + n)))
-      where
-        last : (i : ℕ) → p ≤ i → i < p + suc n → (i < p + n) ⊎ (p + n ≤ i) → at i ≡ Some 0
-        last i low high (inl less) = all i low less
-        last i low high (inr le) = ap at (let e : i ≡ p + n = omega (arith, le, high) in e) ∙ is
-
--- at a zero byte there is no frame, and no magic
-module _ (x : Extent) (p : ℕ) (is : x.byte p ≡ Some 0) where
-  not_first : (n : ℕ) → x.byte (p + 0) ≡ Some (suc n) → ⊥
-  not_first n h = absurd (differ (sym is ∙ ap x.byte (let e : p ≡ p + 0 = omega arith in e) ∙ h))
-    where
-      differ : ◌≡◌ {A = Option ℕ} (Some 0) (Some (suc n)) → ⊥
-      differ e = cc
-
-  no_frame_at_zero : NoFrameAt x p
-  no_frame_at_zero f u b h = not_first 0xC4 (h.stands 0 (let size = length-frame f u b h.has_frame.sixteen in omega (arith, size, overhead f)))
-    where
-      overhead : (f : Form) → 0 < frame_overhead f
-      overhead Plain = omega arith
-      overhead Sealed = omega arith
-
-  no_magic_at_zero : HasMagic x p → ⊥
-  no_magic_at_zero h = not_first 0xC4 (h.1.1 0 (omega arith))
-
-  readable_at_zero : IsUnreadableAt x p → ⊥
-  readable_at_zero h = none-some 0 (sym h ∙ is)
-
-  -- so it is zeros or noise, up to the bound
-  item_at_zero : p < x.pointer → p < bound x p → (item : Item) × IsItem x item × (start_of item ≡ p) × (stop_of item ≡ bound x p)
-  item_at_zero below above = by (zero_or_not x.byte p (bound x p - p))
-    where
-      whole : p + (bound x p - p) ≡ bound x p
-      whole = omega (arith, above)
-
-      by : ((i : ℕ) → p ≤ i → i < p + (bound x p - p) → x.byte i ≡ Some 0)
-          ⊎ ((i : ℕ) × (p ≤ i) × (i < p + (bound x p - p)) × (x.byte i ≢ Some 0)) →
-          (item : Item) × IsItem x item × (start_of item ≡ p) × (stop_of item ≡ bound x p)
-      by (inl all) = (
-        Pad p (bound x p),
-        record { below = below; fits = ((refl, refl), no_frame_at_zero, λ i low high. all i low (omega (arith, high, whole))) },
-        refl,
-        refl,
-      )
-      by (inr (i, low, high, nonzero)) = (
-        Noise p (bound x p),
-        record {
-          below = below;
-          fits = ((refl, refl), no_frame_at_zero, readable_at_zero, λ all. nonzero (all i low (omega (arith, high, whole))), no_magic_at_zero);
-        },
-        refl,
-        refl,
-      )
-
 -- ---- the place
 
 -- the place isn't below the pointer
@@ -170,257 +104,237 @@ past_other page p w pos below within = by (w % page == 0) refl
     by true is = sym (at_bound page p w pos below within (eqb-true (w % page) 0 is))
     by false is = sym (in_page page p w pos below within (λ none. false≢true (sym is ∙ eq-eqb (w % page) 0 none)))
 
+-- ---- frames and items
+
+overhead_some : (f : Form) → 0 < frame_overhead f
+overhead_some Plain = omega arith
+overhead_some Sealed = omega arith
+
+-- a frame as an item
+abbrev pub chunk_of : ℕ → Form → List ℕ → List ℕ → Item
+chunk_of p f u b = Chunk f p (p + (length b + frame_overhead f)) u (length b) (sha256 b)
+
+pub chunk_is_item : (x : Extent) (p : ℕ) (f : Form) (u b : List ℕ) → FrameAt x p f u b → IsItem x (chunk_of p f u b)
+chunk_is_item x p f u b placed = record {
+  below = omega (arith, placed.fits, overhead_some f);
+  fits = (refl, (b, record { frame = placed; length = refl; stop = omega arith; digest_is = refl }));
+}
+
+-- the item that fits at a place where one of the items begins is that one
+pub item_there : (x : Extent) (items : List Item) (item : Item) → 0 < x.page → All (IsItem x) items → IsItem x item →
+    Contains (map start_of items) (start_of item) → Contains items item
+item_there x [] item pos each is there = absurd (omega (arith, there.1))
+item_there x (i ∷ items) item pos each is there =
+    elim (Contains-cases (start_of i) (map start_of items) (start_of item) there) [
+      | inl here ↦ (0, omega arith, one_item x i item pos (All-head (IsItem x) i items each) is here)
+      | inr later ↦ Contains-behind i items item (item_there x items item pos (All-tail (IsItem x) i items each) is later)
+    ]
+
+-- an item begins where it is
+pub starts_there : (items : List Item) (item : Item) → Contains items item → Contains (map start_of items) (start_of item)
+starts_there [] item there = absurd (omega (arith, there.1))
+starts_there (i ∷ items) item there = elim (Contains-cases i items item there) [
+  | inl here ↦ (0, omega arith, ap start_of here)
+  | inr later ↦ Contains-behind (start_of i) (map start_of items) (start_of item) (starts_there items item later)
+]
+
+-- the first item at its place is that one
+pub found_there : (x : Extent) (items : List Item) (item : Item) → 0 < x.page → All (IsItem x) items → Contains items item →
+    find (λ i. start_of i == start_of item) items ≡ Some item
+found_there x [] item pos each there = absurd (omega (arith, there.1))
+found_there x (i ∷ items) item pos each there = by (start_of i == start_of item) refl (found_there x items item pos (All-tail (IsItem x) i items each))
+  where
+    is : IsItem x item
+    is = All-contains (IsItem x) (i ∷ items) item each there
+
+    behind : (i ≡ item) ⊎ Contains items item → (start_of i == start_of item) ≡ false → Contains items item
+    behind (inl here) other = absurd (false≢true (sym other ∙ eq-eqb (start_of i) (start_of item) (ap start_of here)))
+    behind (inr later) other = later
+
+    by : (b : Bool) → (start_of i == start_of item) ≡ b →
+        (Contains items item → find (λ j. start_of j == start_of item) items ≡ Some item) →
+        (if b then Some i else find (λ j. start_of j == start_of item) items) ≡ Some item
+    by true same rest =
+        ap Some (one_item x i item pos (All-head (IsItem x) i items each) is (eqb-true (start_of i) (start_of item) same))
+    by false other rest = rest (behind (Contains-cases i items item there) other)
+
+-- ---- zeros
+
+-- at a zero byte there is no frame
+no_frame_at_zero : (x : Extent) (p : ℕ) → x.byte p ≡ Some 0 → NoFrameAt x p
+no_frame_at_zero x p is f u b h =
+    differ (sym is ∙ ap x.byte (let e : p ≡ p + 0 = omega arith in e) ∙ h.stands 0 (let size = length-frame f u b h.has_frame.sixteen in omega (arith, size, overhead_some f)))
+  where
+    differ : ◌≡◌ {A = Option ℕ} (Some 0) (Some 0xC5) → ⊥
+    differ e = cc
+
+-- zeros up to the bound are an item
+zeros_are_item : (x : Extent) (start stop : ℕ) → start < x.pointer → start < stop → stop ≡ bound x start →
+    ((i : ℕ) → start ≤ i → i < stop → x.byte i ≡ Some 0) → IsItem x (Pad start stop)
+zeros_are_item x start stop below some to all = record {
+  below = below;
+  fits = ((refl, to), no_frame_at_zero x start (all start (omega arith) some), λ i low high. all i low (omega (arith, high, to)));
+}
+
 -- ---- the items
 
-module _ (x y : Extent) (f : Form) (u b : List ℕ) (o : ℕ) (pos : 0 < x.page) (page : y.page ≡ x.page)
-    (kept : (p : ℕ) → p < x.pointer → y.byte p ≡ x.byte p) (placed : FrameAt y o f u b)
-    (behind : y.pointer ≡ o + length b + frame_overhead f) (above : x.pointer ≤ o) where
-  -- items from a place up to the new pointer, one of which begins where the frame is, and one wherever one of the old does
-  record Grown (a : ℕ) (items : List Item) : Type 0 where
-    new : List Item
-    joined : Joins a y.pointer new
-    each : All (IsItem y) new
-    keeps : (p : ℕ) → Contains (map start_of items) p → Contains (map start_of new) p
-    has : Contains (map start_of new) o
+-- a frame below the old pointer is still there
+pub frame_kept : (x y : Extent) (o : ℕ) → ((p : ℕ) → p < o → y.byte p ≡ x.byte p) → x.pointer ≤ o → o ≤ y.pointer →
+    (p : ℕ) (f : Form) (u b : List ℕ) → FrameAt x p f u b → FrameAt y p f u b
+frame_kept x y o kept above moved p f u b h = record {
+  has_frame = h.has_frame;
+  fits = omega (arith, h.fits, above, moved);
+  stands = λ k within.
+      kept (p + k) (omega (arith, within, length-frame f u b h.has_frame.sixteen, h.fits, above)) ∙ h.stands k within;
+}
 
-  overhead : (g : Form) → 0 < frame_overhead g
-  overhead Plain = omega arith
-  overhead Sealed = omega arith
+-- each chunk among the old items is among the new ones, of which some begin at the place and join up to the pointer
+pub record Grown (y : Extent) (o : ℕ) (old new : List Item) : Type 0 where
+  pub chunks : (item : Item) → Contains old item → is_chunk item ≡ true → Contains new item
+  pub rest : List Item
+  pub joined : Joins o y.pointer rest
+  pub each : All (IsItem y) rest
+  pub among : (item : Item) → Contains rest item → Contains new item
 
-  abbrev the_chunk : Item
-  the_chunk = Chunk f o (o + length b + frame_overhead f) u (length b) (sha256 b)
+module _ (x y : Extent) (o : ℕ) (pos : 0 < x.page) (page : y.page ≡ x.page) (kept : (p : ℕ) → p < o → y.byte p ≡ x.byte p)
+    (zeros : (p : ℕ) → x.pointer ≤ p → p < o → x.byte p ≡ Some 0) (above : x.pointer ≤ o) (moved : o ≤ y.pointer) where
+  pos_after : 0 < y.page
+  pos_after = omega (arith, pos, page)
 
-  the_chunk_is : IsItem y the_chunk
-  the_chunk_is = record {
-    below = omega (arith, behind, overhead f);
-    fits = (refl, (b, record { frame = placed; length = refl; stop = refl; digest_is = refl }));
-  }
-
-  -- behind all old items there is the frame
-  last : Grown o []
-  last = record {
-    new = the_chunk ∷ [];
-    joined = (refl, sym behind);
-    each = All-cons (IsItem y) the_chunk [] the_chunk_is (All-nil (IsItem y));
-    keeps = λ p there. absurd (omega (arith, there.1));
-    has = (0, omega arith, refl);
-  }
-
-  -- an item that begins where an old one does
-  more : (a : ℕ) (old item : Item) (items : List Item) → IsItem y item → start_of item ≡ a → start_of old ≡ a →
-      Grown (stop_of item) items → Grown a (old ∷ items)
-  more a old item items is starts was g = record {
-    new = item ∷ g.new;
-    joined = (starts, g.joined);
-    each = All-cons (IsItem y) item g.new is g.each;
-    keeps = λ p there. first p (Contains-cases (start_of old) (map start_of items) p there);
-    has = Contains-behind (start_of item) (map start_of g.new) o g.has;
+  -- an old item in front of the others, and a new one, which is the same if the old one is a chunk
+  more : (old new : Item) (olds news : List Item) → (is_chunk old ≡ true → new ≡ old) → Grown y o olds news →
+      Grown y o (old ∷ olds) (new ∷ news)
+  more old new olds news same g = record {
+    chunks = λ item there is. by item is (Contains-cases old olds item there);
+    rest = g.rest;
+    joined = g.joined;
+    each = g.each;
+    among = λ item there. Contains-behind new news item (g.among item there);
   }
     where
-      first : (p : ℕ) → (start_of old ≡ p) ⊎ Contains (map start_of items) p → Contains (map start_of (item ∷ g.new)) p
-      first p (inl here) = (0, omega arith, starts ∙ sym was ∙ here)
-      first p (inr later) = Contains-behind (start_of item) (map start_of g.new) p (g.keeps p later)
+      by : (item : Item) → is_chunk item ≡ true → (old ≡ item) ⊎ Contains olds item → Contains (new ∷ news) item
+      by item is (inl here) = (0, omega arith, same (subst (λ (i : Item). is_chunk i ≡ true) (sym here) is) ∙ here)
+      by item is (inr later) = Contains-behind new news item (g.chunks item later is)
 
-  frame_kept : (p : ℕ) (g : Form) (v c : List ℕ) → FrameAt x p g v c → FrameAt y p g v c
-  frame_kept p g v c h = record {
-    has_frame = h.has_frame;
-    fits = omega (arith, h.fits, behind, above);
-    stands = λ k within.
-        kept (p + k) (omega (arith, within, length-frame g v c h.has_frame.sixteen, h.fits)) ∙ h.stands k within;
+  -- behind all old items
+  last : (news : List Item) (a : ℕ) → a ≡ o → Joins a y.pointer news → All (IsItem y) news → Grown y o [] news
+  last news a at joins each = record {
+    chunks = λ item there is. absurd (omega (arith, there.1));
+    rest = news;
+    joined = subst (λ n. Joins n y.pointer news) at joins;
+    each = each;
+    among = λ item there. there;
   }
 
-  chunk_kept : (g : Form) (start stop : ℕ) (v : List ℕ) (n : ℕ) (d : List ℕ) → IsItem x (Chunk g start stop v n d) →
-      IsItem y (Chunk g start stop v n d)
-  chunk_kept g start stop v n d h =
-      let c = h.fits.1.0 in
-      let k : IsChunk x start g stop n v d c = h.fits.1.1 in
+  chunk_kept : (f : Form) (start stop : ℕ) (u : List ℕ) (n : ℕ) (d : List ℕ) → IsItem x (Chunk f start stop u n d) →
+      IsItem y (Chunk f start stop u n d)
+  chunk_kept f start stop u n d h =
+      let b = h.fits.1.0 in
+      let k : IsChunk x start f stop n u d b = h.fits.1.1 in
       record {
-        below = omega (arith, h.below, behind, above);
+        below = omega (arith, h.below, above, moved);
         fits = (
           refl,
-          (c, record { frame = frame_kept start g v c k.frame; length = k.length; stop = k.stop; digest_is = k.digest_is }),
+          (b, record { frame = frame_kept x y o kept above moved start f u b k.frame; length = k.length; stop = k.stop; digest_is = k.digest_is }),
         );
       }
 
-  -- zeros become zeros or noise, up to the bound above them
-  zeros : (start stop : ℕ) → IsItem x (Pad start stop) →
-      (item : Item) × IsItem y item × (start_of item ≡ start) × (stop_of item ≡ min y.pointer ((start / x.page + 1) * x.page))
-  zeros start stop h =
+  bound_after : (p : ℕ) → bound y p ≡ min y.pointer ((p / x.page + 1) * x.page)
+  bound_after p = ap (λ n. min y.pointer ((p / n + 1) * n)) page
+
+  -- zeros that stop below the old pointer
+  pad_kept : (start stop : ℕ) → IsItem x (Pad start stop) → stop < x.pointer → IsItem y (Pad start stop)
+  pad_kept start stop h inside =
       let ahead = advances x (Pad start stop) pos h in
-      let is : y.byte start ≡ Some 0 = kept start h.below ∙ h.fits.2 start (omega arith) (omega (arith, ahead.0, h.fits.0.1)) in
-      let to : bound y start ≡ min y.pointer ((start / x.page + 1) * x.page) =
-      ap (λ n. min y.pointer ((start / n + 1) * n)) page in
-      let z = item_at_zero y start is (omega (arith, h.below, behind, above)) (omega (arith, to, ahead.0, h.fits.0.1, behind, above)) in
-      (z.0, z.1, z.2, z.3 ∙ to)
+      zeros_are_item y start stop (omega (arith, h.below, above, moved)) ahead.0
+      (omega (arith, bound_after start, h.fits.0.1, inside, above, moved))
+      (λ i low high. kept i (omega (arith, high, inside, above)) ∙ h.fits.2 i low (omega (arith, high, h.fits.0.1)))
+
+  -- zeros up to the old pointer reach the place
+  pad_grown : (start stop : ℕ) → IsItem x (Pad start stop) → stop ≡ x.pointer → o ≡ (start / x.page + 1) * x.page →
+      IsItem y (Pad start o)
+  pad_grown start stop h ends bounded =
+      zeros_are_item y start o (omega (arith, h.below, above, moved)) (omega (arith, h.below, above))
+      (omega (arith, bound_after start, bounded, moved))
+      (λ i low high. kept i high ∙ by i low high (cases_lt i x.pointer))
+    where
+      by : (i : ℕ) → start ≤ i → i < o → (i < x.pointer) ⊎ (x.pointer ≤ i) → x.byte i ≡ Some 0
+      by i low high (inl less) = h.fits.2 i low (omega (arith, less, ends, h.fits.0.1))
+      by i low high (inr le) = zeros i le high
+
+  -- the new item that begins where one that fits does
+  same_item : (item new : Item) → IsItem y item → IsItem y new → start_of new ≡ start_of item → new ≡ item
+  same_item item new is fits at = one_item y new item pos_after fits is at
 
   -- an item that isn't the last one
-  step : (a : ℕ) (item : Item) (items : List Item) → IsItem x item → is_clean_item item ≡ true → stop_of item < x.pointer →
-      start_of item ≡ a → Grown (stop_of item) items → Grown a (item ∷ items)
-  step a (Chunk g start stop v n d) items h clean inside starts grown =
-      more a (Chunk g start stop v n d) (Chunk g start stop v n d) items (chunk_kept g start stop v n d h) starts starts grown
-  step a (Pad start stop) items h clean inside starts grown =
-      let z = zeros start stop h in
-      let same : stop ≡ stop_of z.0 = omega (arith, z.3, h.fits.0.1, inside, behind, above) in
-      more a (Pad start stop) z.0 items z.1 (z.2 ∙ starts) starts (subst (λ n. Grown n items) same grown)
-  step a (Torn start stop) items h clean inside starts grown = absurd (false≢true clean)
-  step a (Noise start stop) items h clean inside starts grown = absurd (false≢true clean)
-  step a (Lost start stop) items h clean inside starts grown = absurd (false≢true clean)
+  step : (item new : Item) (olds : List Item) → IsItem x item → is_clean_item item ≡ true → stop_of item < x.pointer →
+      IsItem y new → start_of new ≡ start_of item → new ≡ item
+  step (Chunk f start stop u n d) new olds h clean inside fits at =
+      same_item (Chunk f start stop u n d) new (chunk_kept f start stop u n d h) fits at
+  step (Pad start stop) new olds h clean inside fits at =
+      same_item (Pad start stop) new (pad_kept start stop h inside) fits at
+  step (Torn start stop) new olds h clean inside fits at = absurd (false≢true clean)
+  step (Noise start stop) new olds h clean inside fits at = absurd (false≢true clean)
+  step (Lost start stop) new olds h clean inside fits at = absurd (false≢true clean)
 
   -- the last item
-  last_item : (a : ℕ) (item : Item) → IsItem x item → is_clean_item item ≡ true → stop_of item ≡ x.pointer →
-      start_of item ≡ a → o ≡ next_place x.page x.pointer (item ∷ []) → Grown a (item ∷ [])
-  last_item a (Chunk g start stop v n d) h clean ends starts place =
-      let same : o ≡ stop = place ∙ behind_chunk (x.pointer % x.page == 0) x.pointer ((x.pointer / x.page + 1) * x.page) ∙ sym ends in
-      more a (Chunk g start stop v n d) (Chunk g start stop v n d) [] (chunk_kept g start stop v n d h) starts starts
-      (subst (λ n. Grown n []) same last)
-  last_item a (Pad start stop) h clean ends starts place =
-      let z = zeros start stop h in
+  last_item : (item new : Item) → IsItem x item → is_clean_item item ≡ true → stop_of item ≡ x.pointer →
+      o ≡ next_place x.page x.pointer (item ∷ []) → IsItem y new → start_of new ≡ start_of item →
+      (stop_of new ≡ o) × (is_chunk item ≡ true → new ≡ item)
+  last_item (Chunk f start stop u n d) new h clean ends place fits at =
+      let same : new ≡ Chunk f start stop u n d = same_item (Chunk f start stop u n d) new (chunk_kept f start stop u n d h) fits at in
+      let here : o ≡ stop = place ∙ behind_chunk (x.pointer % x.page == 0) x.pointer ((x.pointer / x.page + 1) * x.page) ∙ sym ends in
+      (ap stop_of same ∙ sym here, λ is. same)
+  last_item (Pad start stop) new h clean ends place fits at =
       let bounded : o ≡ (start / x.page + 1) * x.page =
       place ∙ past_other x.page start x.pointer pos h.below (omega (arith, h.fits.0.1, ends)) in
-      let same : o ≡ stop_of z.0 = omega (arith, z.3, bounded, behind) in
-      more a (Pad start stop) z.0 [] z.1 (z.2 ∙ starts) starts (subst (λ n. Grown n []) same last)
-  last_item a (Torn start stop) h clean ends starts place = absurd (false≢true clean)
-  last_item a (Noise start stop) h clean ends starts place = absurd (false≢true clean)
-  last_item a (Lost start stop) h clean ends starts place = absurd (false≢true clean)
+      let same : new ≡ Pad start o = same_item (Pad start o) new (pad_grown start stop h ends bounded) fits at in
+      (ap stop_of same, λ is. absurd (false≢true is))
+  last_item (Torn start stop) new h clean ends place fits at = absurd (false≢true clean)
+  last_item (Noise start stop) new h clean ends place fits at = absurd (false≢true clean)
+  last_item (Lost start stop) new h clean ends place fits at = absurd (false≢true clean)
 
-  grow : (a : ℕ) (item : Item) (items : List Item) → Joins a x.pointer (item ∷ items) → All (IsItem x) (item ∷ items) →
-      All (λ i. is_clean_item i ≡ true) (item ∷ items) → o ≡ next_place x.page x.pointer (item ∷ items) →
-      Grown a (item ∷ items)
-  grow a item [] joins each clean place =
-      last_item a item (All-head (IsItem x) item [] each) (All-head (λ i. is_clean_item i ≡ true) item [] clean) joins.1
-      joins.0 place
-  grow a item (next ∷ rest) joins each clean place =
-      let behind_it = All-tail (IsItem x) item (next ∷ rest) each in
-      let second : IsItem x next = All-head (IsItem x) next rest behind_it in
-      step a item (next ∷ rest) (All-head (IsItem x) item (next ∷ rest) each)
-      (All-head (λ i. is_clean_item i ≡ true) item (next ∷ rest) clean) (omega (arith, second.below, joins.1.0)) joins.0
-      (grow (stop_of item) next rest joins.1 behind_it (All-tail (λ i. is_clean_item i ≡ true) item (next ∷ rest) clean) place)
+  grow : (a : ℕ) (item : Item) (olds news : List Item) → Joins a x.pointer (item ∷ olds) → Joins a y.pointer news →
+      All (IsItem x) (item ∷ olds) → All (IsItem y) news → All (λ i. is_clean_item i ≡ true) (item ∷ olds) →
+      o ≡ next_place x.page x.pointer (item ∷ olds) → Grown y o (item ∷ olds) news
+  grow a item olds [] joins joined each fits clean place =
+      let first : IsItem x item = All-head (IsItem x) item olds each in
+      absurd (omega (arith, joins.0, joined, first.below, above, moved))
+  grow a item [] (new ∷ news) joins joined each fits clean place =
+      let known =
+      last_item item new (All-head (IsItem x) item [] each) (All-head (λ i. is_clean_item i ≡ true) item [] clean) joins.1 place (All-head (IsItem y) new news fits) (joined.0 ∙ sym joins.0) in
+      more item new [] news known.1 (last news (stop_of new) known.0 joined.1 (All-tail (IsItem y) new news fits))
+  grow a item (next ∷ olds) (new ∷ news) joins joined each fits clean place =
+      let behind = All-tail (IsItem x) item (next ∷ olds) each in
+      let second : IsItem x next = All-head (IsItem x) next olds behind in
+      let same : new ≡ item =
+      step item new olds (All-head (IsItem x) item (next ∷ olds) each) (All-head (λ i. is_clean_item i ≡ true) item (next ∷ olds) clean) (omega (arith, second.below, joins.1.0)) (All-head (IsItem y) new news fits) (joined.0 ∙ sym joins.0) in
+      more item new (next ∷ olds) news (λ is. same)
+      (grow (stop_of item) next olds news joins.1 (subst (λ (i : Item). Joins (stop_of i) y.pointer news) same joined.1) behind (All-tail (IsItem y) new news fits) (All-tail (λ i. is_clean_item i ≡ true) item (next ∷ olds) clean) place)
 
-  grown : (items : List Item) → IsTiling x items → All (λ i. is_clean_item i ≡ true) items →
-      o ≡ next_place x.page x.pointer items → Grown 0 items
-  grown [] tiled clean place =
-      let none : x.pointer % x.page ≡ 0 = omega (arith, tiled.joined, div-add-mod' x.pointer x.page) in
-      let same : o ≡ 0 = place ∙ at_pointer x.page x.pointer ((x.pointer / x.page + 1) * x.page) false none ∙ sym tiled.joined in
-      subst (λ n. Grown n []) same last
-  grown (item ∷ items) tiled clean place = grow 0 item items tiled.joined tiled.each clean place
+  pub grown : (olds news : List Item) → IsTiling x olds → IsTiling y news → All (λ i. is_clean_item i ≡ true) olds →
+      o ≡ next_place x.page x.pointer olds → Grown y o olds news
+  grown [] news was tiled clean place =
+      let none : x.pointer % x.page ≡ 0 = omega (arith, was.joined, div-add-mod' x.pointer x.page) in
+      let same : o ≡ 0 = place ∙ at_pointer x.page x.pointer ((x.pointer / x.page + 1) * x.page) false none ∙ sym was.joined in
+      last news 0 (sym same) tiled.joined tiled.each
+  grown (item ∷ olds) news was tiled clean place =
+      grow 0 item olds news was.joined tiled.joined was.each tiled.each clean place
 
-  -- an item begins where the frame is, and wherever one began
-  pub begins_there : (items : List Item) → IsTiling x items → All (λ i. is_clean_item i ≡ true) items →
-      o ≡ next_place x.page x.pointer items → BeginsAt y o
-  begins_there items tiled clean place =
-      let g = grown items tiled clean place in
-      record { items = g.new; tiled = record { joined = g.joined; each = g.each }; begins = g.has }
+-- ---- frames one after the other
 
-  pub begins_still : (items : List Item) → IsTiling x items → All (λ i. is_clean_item i ≡ true) items →
-      o ≡ next_place x.page x.pointer items → (p : ℕ) → BeginsAt x p → BeginsAt y p
-  begins_still items tiled clean place p old =
-      let g = grown items tiled clean place in
-      let same : old.items ≡ items = one_tiling x old.items items pos old.tiled tiled in
-      record {
-        items = g.new;
-        tiled = record { joined = g.joined; each = g.each };
-        begins = g.keeps p (subst (λ (is : List Item). Contains (map start_of is) p) same old.begins);
-      }
-
--- ---- on a disk
-
--- a test of all elements
-pub all_pass : {X : Type 0} (p : X → Bool) (xs : List X) → list_all p xs ≡ true → All (λ x. p x ≡ true) xs
-all_pass p [] passes = All-nil (λ x. p x ≡ true)
-all_pass p (x ∷ xs) passes =
-    All-cons (λ v. p v ≡ true) x xs (first (p x) (list_all p xs) passes)
-    (all_pass p xs (rest (p x) (list_all p xs) passes))
-  where
-    first : (s t : Bool) → (s && t) ≡ true → s ≡ true
-    first true t e = refl
-    first false t e = absurd (false≢true e)
-
-    rest : (s t : Bool) → (s && t) ≡ true → t ≡ true
-    rest true t e = e
-    rest false t e = absurd (false≢true e)
-
-module _ (before after : Image) (w v : ℕ) (l : Locator) (room : IsRoom before l.extent w l.offset) (put : IsPut l before after w v) where
-  above : w ≤ l.offset
-  above =
-      let pos : 0 < before.geometry.page = omega (arith, before.geometry.page_size.least) in
-      omega (arith, room.place_is, place_above before.geometry.page w room.items pos)
-
-  behind : v ≡ l.offset + length put.payload + frame_overhead put.form
-  behind = omega (arith, put.behind, put.length)
-
-  page : after.geometry.page ≡ before.geometry.page
-  page = ap (λ (g : Geometry). g.page) put.sizes
-
-  least : (g : Form) → least_overhead ≤ frame_overhead g
-  least Plain = omega arith
-  least Sealed = omega arith
-
-  -- each byte of the frame can be read
-  no_gap : ¬ HasUnreadableByte after l
-  no_gap gap =
-      let size = length-frame put.form l.uuid put.payload put.frame.has_frame.sixteen in
-      let k : ℕ = gap.place - l.offset in
-      let here : l.offset + k ≡ gap.place = omega (arith, gap.low) in
-      let within : k < length (frame put.form l.uuid put.payload) =
-      omega (arith, size, here, gap.high, put.length, least put.form) in
-      none-some (slice_index (frame put.form l.uuid put.payload) k)
-      (sym gap.unreadable ∙ ap (byte after l.extent) (sym here) ∙ put.frame.stands k within)
-
-  pub found_there : InRange after.geometry l → HasStatus after v l Sound
-  found_there range = (
-    record {
-      payload = put.payload;
-      found = record {
-        can = record { in_range = range; below = omega (arith, put.behind, least put.form); readable = no_gap };
-        form = put.form;
-        frame = put.frame;
-      };
-      length = sym put.length;
-      digest = sym put.digest;
-    },
-    begins_there (extent_of before l.extent w) (extent_of after l.extent v) put.form l.uuid put.payload l.offset
-        (omega (arith, before.geometry.page_size.least)) page put.kept put.frame behind above room.items room.tiled
-        (all_pass is_clean_item room.items room.clean) room.place_is,
-  )
-
-  -- a frame below the old pointer is still there
-  still_there : (other : Locator) → other.extent ≡ l.extent → NamesChunk before w other → NamesChunk after v other
-  still_there other same n = record {
-    payload = n.payload;
-    found = record {
-      can = record {
-        in_range = subst (λ (g : Geometry). InRange g other) (sym put.sizes) n.found.can.in_range;
-        below = omega (arith, n.found.can.below, above, put.behind);
-        readable = λ gap. n.found.can.readable (record {
-          place = gap.place;
-          low = gap.low;
-          high = gap.high;
-          unreadable = sym (same_byte gap.place (omega (arith, gap.high, n.found.can.below))) ∙ gap.unreadable;
-        });
-      };
-      form = n.found.form;
-      frame = record {
-        has_frame = n.found.frame.has_frame;
-        fits = omega (arith, n.found.frame.fits, above, put.behind);
-        stands = λ k within.
-            let size = length-frame n.found.form other.uuid n.payload n.found.frame.has_frame.sixteen in
-            same_byte (other.offset + k) (omega (arith, within, size, n.found.frame.fits)) ∙ n.found.frame.stands k within;
-      };
-    };
-    length = n.length;
-    digest = n.digest;
-  }
-    where
-      same_byte : (p : ℕ) → p < w → byte after other.extent p ≡ byte before other.extent p
-      same_byte p lt =
-          ap (λ e. byte after e p) same ∙ put.kept p lt ∙ ap (λ e. byte before e p) (sym same)
-
-  pub sound_still : (other : Locator) → other.extent ≡ l.extent → HasStatus before w other Sound → HasStatus after v other Sound
-  sound_still other same (n, b) = (
-    still_there other same n,
-    subst (λ e. BeginsAt (extent_of after e v) other.offset) (sym same)
-        (begins_still (extent_of before l.extent w) (extent_of after l.extent v) put.form l.uuid put.payload l.offset
-        (omega (arith, before.geometry.page_size.least)) page put.kept put.frame behind above room.items room.tiled
-        (all_pass is_clean_item room.items room.clean) room.place_is other.offset
-        (subst (λ e. BeginsAt (extent_of before e w) other.offset) same b)),
-  )
+-- whole frames from where items begin on are these items
+pub frames_are_chunks : (x : Extent) (p : ℕ) (fs : List WholeFrame) (items new : List Item) → 0 < x.page → Joins p x.pointer items →
+    All (IsItem x) items → ((item : Item) → Contains items item → Contains new item) → AreFramesFrom x p fs →
+    AreChunksFrom new p fs
+frames_are_chunks x p [] items new pos joins each among placed = tt
+frames_are_chunks x p (f ∷ fs) [] new pos joins each among placed =
+    absurd (omega (arith, joins, placed.0.fits, overhead_some f.form))
+frames_are_chunks x p (f ∷ fs) (item ∷ items) new pos joins each among placed =
+    let chunk : Item = chunk_of p f.form f.uuid f.payload in
+    let same : item ≡ chunk =
+    one_item x item chunk pos (All-head (IsItem x) item items each) (chunk_is_item x p f.form f.uuid f.payload placed.0) joins.0 in (
+      among chunk (0, omega arith, same),
+      frames_are_chunks x (p + size_in f) fs items new pos (subst (λ (i : Item). Joins (stop_of i) x.pointer items) same joins.1)
+          (All-tail (IsItem x) item items each) (λ i there. among i (Contains-behind item items i there)) placed.1,
+    )

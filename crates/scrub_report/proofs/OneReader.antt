@@ -60,7 +60,7 @@ one_findings image e w f g x y =
 same_scanned : (f g : Scanned) → f.extent ≡ g.extent → f.pointer ≡ g.pointer → f.findings ≡ g.findings → f ≡ g
 same_scanned f g he hp hf = λ i. record { extent = he i; pointer = hp i; findings = hf i }
 
-one_scanned : (image : Image) (plan : PlanValue) (f g : Scanned) → f.extent ≡ g.extent →
+pub one_scanned : (image : Image) (plan : PlanValue) (f g : Scanned) → f.extent ≡ g.extent →
     pointer_of plan f.extent ≡ Some f.pointer → pointer_of plan g.extent ≡ Some g.pointer →
     IsFindings image f.extent f.pointer f.findings → IsFindings image g.extent g.pointer g.findings → f ≡ g
 one_scanned image plan f g he pf pg x y =

@@ -1,48 +1,60 @@
 -- What is named on a disk is the same after a reset of extents that no named locator points into.
-use Rattle.std.proofs.Common.{◌≡◌, ◌≢◌, ◌⊎◌, inl, inr, ◌==◌, ◌&&◌, ◌||◌, ◌≤◌, ◌-◌, ℕ, zero, suc, map, if◌then◌else◌, Bool, is_none, true, false, Option, Some, None, MatchBool, MatchOption, List, [], ◌∷◌, ◌++◌, ◌+◌, length, get_or, arith, refl, sym, ◌∙◌, ap, subst}
+use Rattle.std.proofs.Common.{◌≡◌, ◌≢◌, ◌⊎◌, inl, inr, ◌==◌, ◌&&◌, ◌||◌, ◌≤◌, ◌*◌, ◌-◌, ℕ, zero, suc, map, if◌then◌else◌, Bool, is_none, true, false, Option, Some, None, MatchBool, MatchOption, List, [], ◌∷◌, ◌+◌, length, get_or, arith, refl, sym, ◌∙◌, ap, subst}
 use Rattle.std.proofs.Math.Path.{ap₂, fun_ext}
-use Rattle.std.specs.List.{All, AllZip, Contains, count_by, enumerate_from, flat_map, list_any, slice_get}
+use Rattle.std.specs.Bool.{⊤}
+use Rattle.std.specs.List.{All, AllZip, Contains, count_by, enumerate_from, list_any, slice_get}
 use Rattle.std.specs.Option.{option_map}
 use Rattle.std.proofs.lemmas.Bool.{eq-eqb, eqb-true, false≢true}
 use Rattle.std.proofs.lemmas.List.Folds.{list_any_at}
-use Rattle.std.proofs.lemmas.Option.{same_Some, slice_get-map}
+use Rattle.std.proofs.lemmas.List.{length-replicate}
+use Rattle.std.proofs.lemmas.Option.{same_Some, slice_get-get_or, slice_get-map, slice_get_within}
 use Rattle.std.proofs.lemmas.Grind.{common_steps}
-use Rattle.std.proofs.lemmas.List.Elements.{All-contains, All-contains_itself, All-cons, All-head, All-map, All-tail}
+use Rattle.std.proofs.lemmas.List.Elements.{All-contains, All-contains_itself, All-filter, All-head, All-tail}
 use Rattle.scrub_disk.specs.declared.geometry.Geometry.{Geometry}
 use Rattle.scrub_disk.specs.Image.{Image, byte}
 use Rattle.scrub_frame.specs.Frame.{least_overhead}
 use Rattle.scrub_frame.specs.declared.locator.Locator.{Locator}
-use Rattle.scrub_super.specs.Chosen.{Choice}
-use Rattle.scrub_super.specs.Plan.{IsPlanOf, IsReset, PlanValue, pointer_of, pointer_reset, pointers_reset}
+use Rattle.scrub_super.specs.Chosen.{Choice, IsChosen}
+use Rattle.scrub_super.specs.Contents.{Contents}
+use Rattle.scrub_super.specs.Plan.{IsPlanBy, IsPlanOf, IsPlanWithout, IsReset, PlanValue, pointer_of, pointer_reset, pointers_reset}
+use Rattle.scrub_super.specs.Planned.{extents_in_use}
 use Rattle.scrub_super.proofs.Laws.{one_choice_lem}
+use Rattle.scrub_scan.specs.declared.item.Item.{Item}
+use Rattle.scrub_scan.specs.declared.standing.Standing.{Standing}
+use Rattle.scrub_scan.specs.AllFindings.{AreAllFindings, extent_numbers}
 use Rattle.scrub_scan.specs.Extent.{Extent, extent_of, FrameAt, NoFrameAt, HasGap}
+use Rattle.scrub_scan.specs.Findings.{IsFindings}
+use Rattle.scrub_scan.specs.Item.{IsItem}
+use Rattle.scrub_scan.specs.Scanned.{Scanned}
+use Rattle.scrub_scan.specs.Tiling.{IsTiling}
+use Rattle.scrub_scan.proofs.Tilings.{one_tiling}
 use Rattle.scrub_run.specs.Entry.{EntryValue}
 use Rattle.scrub_run.specs.Run.{run_bytes}
 use Rattle.scrub_merge.specs.Binding.{BindingValue}
-use Rattle.scrub_merge.proofs.Maps.{one_shard_map_lem}
-use Rattle.scrub_check.specs.declared.named.Named.{Named}
-use Rattle.scrub_check.specs.declared.named.Owner.TheVariants.{Run}
 use Rattle.scrub_check.specs.declared.runs.RunState.{RunState}
 use Rattle.scrub_check.specs.declared.runs.RunState.TheVariants.{Read, BadChunk, NotARun}
 use Rattle.scrub_check.specs.declared.statuses.checked.Checked.{Checked}
 use Rattle.scrub_check.specs.declared.statuses.status.Status.{Status}
 use Rattle.scrub_check.specs.declared.statuses.status.Status.TheVariants.{OutOfRange, Retired, PastPointer, Unreadable, NoFrame, WrongUuid, WrongLength, WrongDigest, Hidden, Sound}
 use Rattle.scrub_check.specs.Candidates.{CandidateValue}
-use Rattle.scrub_check.specs.Checked.{AreChecked, is_hidden, named_of}
-use Rattle.scrub_check.specs.Named.{named, named_by_runs, named_by_shard}
-use Rattle.scrub_check.specs.Runs.{AreReadRuns, ReadRunsValue, HasRunState, HasRunStateIn, IsLostInRetired, IsRunIn, IsRunOf, NamesRun}
+use Rattle.scrub_check.specs.Checked.{is_hidden}
+use Rattle.scrub_check.specs.ChunkForms.{form_at}
+use Rattle.scrub_check.specs.Runs.{ReadRunsValue, HasRunState, HasRunStateIn, IsLostInRetired, IsRunIn, IsRunOf, NamesRun}
 use Rattle.scrub_check.specs.Status.{BeginsAt, CanStand, FindsFrame, HasStatus, HasStatusIn, HasStatusInRetired, HasUnreadableByte, InRange, NamesChunk, is_retired}
-use Rattle.scrub_check.proofs.OneList.{one_shared, one_broken}
+use Rattle.scrub_check.specs.Spares.{spares_by}
+use Rattle.scrub_check.specs.WholeScan.{IsWholeScan}
 use Rattle.scrub_report.specs.Doubts.{Accepted}
 use Rattle.scrub_report.specs.Index.{IsIndex, index_entries}
-use Rattle.scrub_report.specs.Manifest.{IsManifest, IsManifestBut, is_of_read_run, manifest_text, of_shards, text_by}
+use Rattle.scrub_report.specs.Manifest.{IsManifest, IsManifestBut, IsWholeBut, IsWholeImage, after_status_in, hidden_runs, is_of_read_run, is_of_shard, is_whole, is_whole_by, lost_runs, manifest_text, of_shards, text_by}
 use Rattle.scrub_report.specs.Reclaimable.{IsMoved, moves, reclaimed}
 use Rattle.scrub_report.specs.Reset.{IsAfterReset, IsForeseen, IsListedWithoutMoves, IsPlanAfterReset, IsPlanIn, IsReclaimed, NameTheSame}
 use Rattle.scrub_report.specs.Scrubbed.{IsPlanBut, Scrubbed, IsScrubbed, IsScrubbedBut}
+use Rattle.scrub_report.proofs.CarriedNames.{Carries, named_alike}
 use Rattle.scrub_report.proofs.Clear.{safe_to_reclaim}
-use Rattle.scrub_report.proofs.OneIndex.{one_list_of_runs, one_list_of_checked, read_runs_are_runs}
 use Rattle.scrub_report.proofs.OneReader.{one_plan}
 use Rattle.scrub_report.proofs.OneReport.{one_scrub}
+use Rattle.scrub_report.proofs.ResetForms.{IsAlikeIn, along, same_after, same_form, same_frames, text_agrees}
+use Rattle.scrub_report.proofs.ResetPlans.{whole_but}
 
 -- ---- what rests on one extent alone
 
@@ -180,11 +192,11 @@ no_pointer plan w e = none e
 
 -- extent e is the same by two plans of two images: it is retired in both or in neither, has the same write pointer, and
 -- the same bytes unless it is extent 0 or that pointer is 0
-record IsTheSame (image other : Image) (old new : PlanValue) (e : ℕ) : Type 0 where
-  sizes : other.geometry ≡ image.geometry
-  retired : new.retired ≡ old.retired
-  pointer : pointer_of new e ≡ pointer_of old e
-  bytes : e ≢ 0 → (pointer_of old e ≡ Some 0) ⊎ (byte other e ≡ byte image e)
+pub record IsTheSame (image other : Image) (old new : PlanValue) (e : ℕ) : Type 0 where
+  pub sizes : other.geometry ≡ image.geometry
+  pub retired : new.retired ≡ old.retired
+  pub pointer : pointer_of new e ≡ pointer_of old e
+  pub bytes : e ≢ 0 → (pointer_of old e ≡ Some 0) ⊎ (byte other e ≡ byte image e)
 
 -- an extent with a write pointer isn't extent 0
 alike : {image other : Image} {old new : PlanValue} {e : ℕ} → IsTheSame image other old new e → (w : ℕ) →
@@ -244,25 +256,69 @@ module _ {image other : Image} {old new : PlanValue} (l : Locator) (t : IsTheSam
       (loss_in_retired image other l t.sizes s)
       (under_pointer (λ w. HasRunState image w l s) (λ w. HasRunState other w l s) (state_at_zero image other l t.sizes s) (λ w a. state image other w l a s))
 
--- ---- lists
+  pub carries : Carries image other old new l
+  carries = record { run = run_in; state = state_in; own = status_in }
 
--- a relation to each element that a property carries over
-zipped : {A B : Type 0} (P Q : A → B → Type 0) (K : A → Type 0) → ((a : A) (b : B) → K a → P a b → Q a b) →
-    (xs : List A) (ys : List B) → All K xs → AllZip P xs ys → AllZip Q xs ys
-zipped P Q K carry [] [] k h = h
-zipped P Q K carry [] (y ∷ ys) k h = absurd h
-zipped P Q K carry (x ∷ xs) [] k h = absurd h
-zipped P Q K carry (x ∷ xs) (y ∷ ys) k h =
-    (carry x y (All-head K x xs k) h.0, zipped P Q K carry xs ys (All-tail K x xs k) h.1)
+-- ---- scans
 
--- what holds of all named locators holds of those of the runs
-of_runs : (K : Locator → Type 0) (k : ℕ) (ls : List Locator) (ns : List Named) →
-    All (λ (n : Named). K n.locator) (named_by_runs k ls ++ ns) → All K ls
-of_runs K k [] ns h = λ i d below. absurd (omega (arith, below))
-of_runs K k (l ∷ ls) ns h =
-    let P : Named → Type 0 = λ n. K n.locator in
-    All-cons K l ls (h 0 (record { owner = Run k; locator = l }) (omega arith))
-    (of_runs K (k + 1) ls ns (All-tail P (record { owner = Run k; locator = l }) (named_by_runs (k + 1) ls ++ ns) h))
+-- there is nothing below the pointer 0
+pub no_items : (x : Extent) (items : List Item) → x.pointer ≡ 0 → IsTiling x items → items ≡ []
+no_items x [] none t = refl
+no_items x (item ∷ items) none t =
+    let one : IsItem x item = All-head (IsItem x) item items t.each in absurd (omega (arith, one.below, none))
+
+-- an extent that is the same has the same items
+same_items : (image other : Image) (old new : PlanValue) (e w v : ℕ) (is js : List Item) → IsTheSame image other old new e →
+    pointer_of old e ≡ Some w → pointer_of new e ≡ Some v → IsTiling (extent_of image e w) is → IsTiling (extent_of other e v) js → js ≡ is
+same_items image other old new e w v is js t pw pv x y = by (alike t w pw)
+  where
+    same : v ≡ w
+    same = same_Some v w (sym pv ∙ t.pointer ∙ pw)
+
+    by : (w ≡ 0) ⊎ AreAlike image other e → js ≡ is
+    by (inl none) = no_items (extent_of other e v) js (same ∙ none) y ∙ sym (no_items (extent_of image e w) is none x)
+    by (inr a) =
+        one_tiling (extent_of other e w) js is (omega (arith, other.geometry.page_size.least))
+        (subst (λ (p : ℕ). IsTiling (extent_of other e p) js) same y)
+        (subst (λ (z : Extent). IsTiling z is) (same_extent w a) x)
+
+-- what is known of a scanned extent by its plan
+abbrev pub IsScannedBy : Image → PlanValue → Scanned → Type 0
+IsScannedBy image plan f = (pointer_of plan f.extent ≡ Some f.pointer) × IsFindings image f.extent f.pointer f.findings
+
+pub scanned_by : (image : Image) (plan : PlanValue) (fs : List Scanned) → AreAllFindings image plan fs → All (IsScannedBy image plan) fs
+scanned_by image plan fs x i d below = (x.pointers i d below, x.findings i d below)
+
+pub alike_items : (image other : Image) (old new : PlanValue) (f g : Scanned) → g.extent ≡ f.extent → IsScannedBy image old f →
+    IsScannedBy other new g → IsTheSame image other old new f.extent → g.findings.items ≡ f.findings.items
+alike_items image other old new f g number p q t =
+    same_items image other old new f.extent f.pointer g.pointer f.findings.items g.findings.items t p.0
+    (subst (λ (e : ℕ). pointer_of new e ≡ Some g.pointer) number q.0) p.1.tiled
+    (subst (λ (e : ℕ). IsTiling (extent_of other e g.pointer) g.findings.items) number q.1.tiled)
+
+-- two scans have the same items in the extents that are the same
+pub scans_alike : (image other : Image) (old new : PlanValue) (K : ℕ → Type 0) → ((e : ℕ) → K e → IsTheSame image other old new e) →
+    (fs gs : List Scanned) → extent_numbers gs ≡ extent_numbers fs → AreAllFindings image old fs → AreAllFindings other new gs →
+    AllZip (IsAlikeIn K) fs gs
+scans_alike image other old new K same fs gs numbers x y =
+    along (IsScannedBy image old) (IsScannedBy other new) (IsAlikeIn K)
+    (λ f g number p q. record { extent = number; items = λ known. alike_items image other old new f g number p q (same f.extent known) })
+    fs gs numbers (scanned_by image old fs x) (scanned_by other new gs y)
+
+-- the same extents are scanned
+pub same_numbers : (resets others : List ℕ) (image other : Image) (s t : Scrubbed) → other.geometry ≡ image.geometry →
+    t.plan.retired ≡ s.plan.retired → IsScrubbedBut resets image s → IsScrubbedBut others other t → extent_numbers t.all ≡ extent_numbers s.all
+same_numbers resets others image other s t sizes retired x y =
+    let old : IsWholeScan image s.plan s.all = whole_but resets s.choice s.plan image s.all x.choice x.plan x.all in
+    let new : IsWholeScan other t.plan t.all = whole_but others t.choice t.plan other t.all y.choice y.plan y.all in
+    y.all.extents ∙ new.planned
+    ∙ ap (λ (g : Geometry). extents_in_use g.extents t.plan.retired) sizes
+    ∙ ap (extents_in_use image.geometry.extents) retired
+    ∙ sym old.planned ∙ sym x.all.extents
+
+-- the chunks to which sound locators point have the same form
+abbrev pub HaveTheSameForms : Scrubbed → Scrubbed → Type 0
+HaveTheSameForms s t = All (λ (c : Checked). c.status ≡ Sound → form_at t.all c.locator ≡ form_at s.all c.locator) s.checked
 
 -- ---- nothing named points into an extent that is reset
 
@@ -278,10 +334,24 @@ none_into image accepted e x c there into = none (subst (λ (ms : List Checked).
     line =
         (All-contains (λ (d : Checked). d.locator.extent ≡ x.candidate.extent → IsMoved x.found.checked x.candidate d) x.found.checked c (All-contains (λ (a : CandidateValue). All (λ (d : Checked). d.locator.extent ≡ a.extent → IsMoved x.found.checked a d) x.found.checked) (reclaimed accepted x.pages x.found) x.candidate (safe_to_reclaim image accepted x.pages x.found x.scrubbed) x.listed) there (into ∙ sym x.extent_is)).line
 
-one_plan_in : (image : Image) (p q : PlanValue) → IsPlanIn image p → IsPlanIn image q → p ≡ q
+pub one_plan_in : (image : Image) (p q : PlanValue) → IsPlanIn image p → IsPlanIn image q → p ≡ q
 one_plan_in image p q x y =
     let choice : x.choice ≡ y.choice = one_choice_lem image x.choice y.choice x.chosen y.chosen in
     one_plan y.choice p q (rw choice at x.follows) y.follows
+
+-- no named locator points into one of the listed extents
+pub none_into_these : (image : Image) (accepted : Accepted) (extents : List ℕ) (found : Scrubbed) → IsScrubbed image found →
+    All (IsListedWithoutMoves image accepted) extents → All (λ (c : Checked). ¬ Contains extents c.locator.extent) found.checked
+none_into_these image accepted extents found x listed i d below =
+    into (get_or found.checked i d) (All-contains_itself found.checked i d below)
+  where
+    into : (c : Checked) → Contains found.checked c → Contains extents c.locator.extent → ⊥
+    into c there among =
+        let one : IsListedWithoutMoves image accepted c.locator.extent =
+        All-contains (IsListedWithoutMoves image accepted) extents c.locator.extent listed among in
+        none_into image accepted c.locator.extent one c
+        (subst (λ (s : Scrubbed). Contains s.checked c) (one_scrub image found one.found x one.scrubbed) there)
+        refl
 
 module _ (extents : List ℕ) (before after : Image) (found rest : Scrubbed) (x : IsScrubbed before found) (y : IsScrubbed after rest)
     (r : IsAfterReset extents before after) where
@@ -299,93 +369,46 @@ module _ (extents : List ℕ) (before after : Image) (found rest : Scrubbed) (x 
     bytes = λ nonzero. inr (fun_ext (λ p. r.bytes e p nonzero other));
   }
 
-  all_the_same : (accepted : Accepted) → All (IsListedWithoutMoves before accepted) extents →
-      All (λ (c : Checked). IsTheSame before after found.plan rest.plan c.locator.extent) found.checked
-  all_the_same accepted listed i d below =
-      the_same (get_or found.checked i d).locator.extent
-      (λ among. not_into (get_or found.checked i d) (All-contains_itself found.checked i d below) among)
-    where
-      not_into : (c : Checked) → Contains found.checked c → Contains extents c.locator.extent → ⊥
-      not_into c there among =
-          let one : IsListedWithoutMoves before accepted c.locator.extent =
-          All-contains (IsListedWithoutMoves before accepted) extents c.locator.extent listed among in
-          none_into before accepted c.locator.extent one c
-          (subst (λ (s : Scrubbed). Contains s.checked c) (one_scrub before found one.found x one.scrubbed) there)
-          refl
+  scans : AllZip (IsAlikeIn (λ e. ¬ Contains extents e)) found.all rest.all
+  scans =
+      scans_alike before after found.plan rest.plan (λ e. ¬ Contains extents e) the_same found.all rest.all
+      (same_numbers [] [] before after found rest r.sizes plans_of.retired x y) x.all y.all
 
 -- ---- what is named is the same
 
-module _ (resets : List ℕ) (before after : Image) (found rest : Scrubbed) (x : IsScrubbedBut resets before found) (y : IsScrubbed after rest)
+module _ (resets others : List ℕ) (before after : Image) (found rest : Scrubbed) (x : IsScrubbedBut resets before found) (y : IsScrubbedBut others after rest)
     (has : rest.plan.has_superblock ≡ found.plan.has_superblock) (runs : rest.plan.runs ≡ found.plan.runs) (retired : rest.plan.retired ≡ found.plan.retired)
-    (same : All (λ (c : Checked). IsTheSame before after found.plan rest.plan c.locator.extent) found.checked) where
-  abbrev Same : Locator → Type 0
-  Same l = IsTheSame before after found.plan rest.plan l.extent
+    (same : All (λ (c : Checked). IsTheSame before after found.plan rest.plan c.locator.extent) found.checked)
+    (forms : HaveTheSameForms found rest) where
+  pub name_the_same : NameTheSame found rest
+  name_the_same =
+      named_alike resets others before after found rest x y has runs retired
+      (λ i d below. carries (get_or found.checked i d).locator (same i d below)) forms
 
-  same_names : All (λ (n : Named). Same n.locator) (named found.plan.runs found.bindings)
-  same_names =
-      subst (λ (ns : List Named). All (λ (n : Named). Same n.locator) ns) x.checked.same
-      (All-map (λ (n : Named). Same n.locator) named_of found.checked same)
-
-  same_runs : All Same found.plan.runs
-  same_runs = of_runs Same 0 found.plan.runs (flat_map named_by_shard found.bindings) same_names
-
-  read_after : AreReadRuns after rest.plan found.read
-  read_after = record {
-    count = x.read.count ∙ ap (λ (ls : List Locator). length ls) (sym runs);
-    runs =
-        subst (λ (ls : List Locator). AllZip (IsRunIn after rest.plan) ls found.read.runs) (sym runs)
-        (zipped (IsRunIn before found.plan) (IsRunIn after rest.plan) Same (λ l o t h. run_in l t o h) found.plan.runs found.read.runs same_runs x.read.runs);
-    states =
-        subst (λ (ls : List Locator). AllZip (HasRunStateIn after rest.plan) ls found.read.states) (sym runs)
-        (zipped (HasRunStateIn before found.plan) (HasRunStateIn after rest.plan) Same (λ l s t h. state_in l t s h) found.plan.runs found.read.states same_runs x.read.states);
-  }
-
-  read : rest.read ≡ found.read
-  read = one_list_of_runs after rest.plan rest.read found.read y.read read_after
-
-  bindings : rest.bindings ≡ found.bindings
-  bindings =
-      one_shard_map_lem found.read.runs rest.bindings found.bindings
-      (read_runs_are_runs before found.plan found.read x.read) (rw read at y.bindings) x.bindings
-
-  checked_after : AreChecked after rest.plan (named rest.plan.runs rest.bindings) found.checked
-  checked_after = record {
-    same = x.checked.same ∙ ap₂ named (sym runs) (sym bindings);
-    statuses = λ i d below.
-        status_in (get_or found.checked i d).locator (same i d below) (get_or found.checked i d).status
-        (x.checked.statuses i d below);
-  }
-
-  checked : rest.checked ≡ found.checked
-  checked =
-      one_list_of_checked after rest.plan (named rest.plan.runs rest.bindings) rest.checked found.checked y.checked
-      checked_after
-
-  name_the_same : NameTheSame found rest
-  name_the_same = record {
-    superblock = has;
-    runs = runs;
-    retired = retired;
-    read = read;
-    bindings = bindings;
-    checked = checked;
-    shared = one_shared found.checked rest.shared found.shared (rw checked at y.shared) x.shared;
-    broken = one_broken found.checked rest.broken found.broken (rw checked at y.broken) x.broken;
-  }
-
--- the same manifest
-same_text : (found rest : Scrubbed) → NameTheSame found rest → manifest_text rest ≡ manifest_text found
-same_text found rest same i =
-    of (same.superblock i) (same.retired i) (same.read i) (same.bindings i) (same.checked i)
+-- the same manifest, if the same follows the status of each named locator
+pub same_text : (found rest : Scrubbed) → NameTheSame found rest →
+    All (λ (c : Checked). after_status_in rest.all c ≡ after_status_in found.all c) found.checked → manifest_text rest ≡ manifest_text found
+same_text found rest same after =
+    (λ i. of (same.superblock i) (same.retired i) (same.read i) (same.bindings i) (same.checked i))
+    ∙ text_agrees (after_status_in found.all) (after_status_in rest.all) found.plan.has_superblock found.plan.retired (lost_runs found) (hidden_runs found) found.bindings (of_shards found.checked)
+    (All-filter (λ c. is_of_shard c.owner) (λ (c : Checked). after_status_in rest.all c ≡ after_status_in found.all c) found.checked after)
   where
     of : Bool → List ℕ → ReadRunsValue → List BindingValue → List Checked → List ℕ
     of has retired read bindings checked =
-        text_by has retired (count_by is_none read.runs) (count_by (λ c. is_hidden c.status && is_of_read_run read.runs c.owner) checked) bindings (of_shards checked)
+        text_by (after_status_in rest.all) has retired (count_by is_none read.runs) (count_by (λ c. is_hidden c.status && is_of_read_run read.runs c.owner) checked) bindings (of_shards checked)
+
+-- and the same verdict
+pub same_verdict : (found rest : Scrubbed) → NameTheSame found rest → is_whole rest ≡ is_whole found
+same_verdict found rest same i = of (same.superblock i) (same.read i) (same.checked i)
+  where
+    of : Bool → ReadRunsValue → List Checked → Bool
+    of has read checked =
+        is_whole_by has (count_by is_none read.runs) (count_by (λ c. is_hidden c.status && is_of_read_run read.runs c.owner) checked) (of_shards checked)
 
 -- ---- a reset that is foreseen
 
 -- whether a number is among these
-among_cases : (extents : List ℕ) (e : ℕ) →
+pub among_cases : (extents : List ℕ) (e : ℕ) →
     (list_any (λ n. n == e) extents ≡ true) ⊎ ((list_any (λ n. n == e) extents ≡ false) × (¬ Contains extents e))
 among_cases extents e = by (list_any (λ n. n == e) extents) refl
   where
@@ -395,7 +418,7 @@ among_cases extents e = by (list_any (λ n. n == e) extents) refl
     by false is = inr (is, λ there. false≢true (sym is ∙ list_any_at (λ n. n == e) extents there.0 e there.1 (eq-eqb (get_or extents there.0 e) e there.2)))
 
 -- what an element passes, all that is said of each element says of it
-said_of : (P : ℕ → Type 0) (extents : List ℕ) (e : ℕ) → All P extents → list_any (λ n. n == e) extents ≡ true → P e
+pub said_of : (P : ℕ → Type 0) (extents : List ℕ) (e : ℕ) → All P extents → list_any (λ n. n == e) extents ≡ true → P e
 said_of P [] e all is = absurd (false≢true is)
 said_of P (n ∷ ns) e all is = by (n == e) refl is (said_of P ns e (All-tail P n ns all))
   where
@@ -431,7 +454,7 @@ pointer_behind plan k =
 
 module _ (extents : List ℕ) (old plan : PlanValue) (r : IsReset old extents plan) where
   -- others keep theirs
-  kept_pointer : (e : ℕ) → list_any (λ n. n == e) extents ≡ false → pointer_of plan e ≡ pointer_of old e
+  pub kept_pointer : (e : ℕ) → list_any (λ n. n == e) extents ≡ false → pointer_of plan e ≡ pointer_of old e
   kept_pointer zero other = refl
   kept_pointer (suc k) other =
       pointer_behind plan k
@@ -447,7 +470,7 @@ module _ (extents : List ℕ) (old plan : PlanValue) (r : IsReset old extents pl
       same (Some w) = refl
 
   -- and these have 0, if they have one
-  zero_pointer : (e w : ℕ) → list_any (λ n. n == e) extents ≡ true → pointer_of old e ≡ Some w → pointer_of plan e ≡ Some 0
+  pub zero_pointer : (e w : ℕ) → list_any (λ n. n == e) extents ≡ true → pointer_of old e ≡ Some w → pointer_of plan e ≡ Some 0
   zero_pointer zero w among is = absurd (no_pointer old w is)
   zero_pointer (suc k) w among is =
       pointer_behind plan k
@@ -462,7 +485,7 @@ none_kept : (m : ℕ) (ws : List ℕ) → ws ≡ map (pointer_reset []) (enumera
 none_kept m [] = refl
 none_kept m (w ∷ ws) = ap (λ (vs : List ℕ). w ∷ vs) (none_kept (m + 1) ws)
 
-reset_of : (resets : List ℕ) (choice : Choice) (plan : PlanValue) → IsPlanBut resets choice plan →
+pub reset_of : (resets : List ℕ) (choice : Choice) (plan : PlanValue) → IsPlanBut resets choice plan →
     (old : PlanValue) × IsPlanOf choice old × IsReset old resets plan
 reset_of [] choice plan is = (
   plan,
@@ -470,6 +493,31 @@ reset_of [] choice plan is = (
   record { planned = refl; geometry = refl; retired = refl; pointers = none_kept 0 plan.pointers; runs = refl; has = refl },
 )
 reset_of (e ∷ es) choice plan is = is
+
+-- a plan has a write pointer for each extent but extent 0
+how_many : (image : Image) (plan : PlanValue) → IsPlanIn image plan → length plan.pointers ≡ image.geometry.extents - 1
+how_many image plan x = by x.choice.superblock x.choice.page x.chosen.chosen x.follows.by
+  where
+    by : (s : Option Contents) (q : Option ℕ) → IsChosen image s q → MatchOption s (IsPlanWithout plan x.choice.geometry) (IsPlanBy plan) →
+        length plan.pointers ≡ image.geometry.extents - 1
+    by None q chosen without =
+        ap (λ (ws : List ℕ). length ws) without.pointers
+        ∙ length-replicate (x.choice.geometry.extents - 1) (x.choice.geometry.page * x.choice.geometry.pages)
+        ∙ ap (λ (g : Geometry). g.extents - 1) x.chosen.geometry
+    by (Some c) (Some q) chosen is =
+        let count : length plan.pointers ≡ length c.pointers = ap (λ (ws : List ℕ). length ws) is.pointers in
+        omega (arith, count, chosen.stands.contents.pointers.count)
+    by (Some c) None chosen is = absurd chosen
+
+-- where one of two such lists has a pointer the other has one too
+had_pointer : (old new : PlanValue) (e v : ℕ) → length new.pointers ≡ length old.pointers → pointer_of new e ≡ Some v →
+    (w : ℕ) × (pointer_of old e ≡ Some w)
+had_pointer old new zero v long is = absurd (no_pointer new v is)
+had_pointer old new (suc k) v long is = (
+  get_or old.pointers k 0,
+  pointer_behind old k
+      ∙ slice_get-get_or old.pointers k 0 (omega (arith, long, slice_get_within new.pointers k v (sym (pointer_behind new k) ∙ is))),
+)
 
 module _ (extents : List ℕ) (before after : Image) (found rest : Scrubbed) (x : IsScrubbedBut extents before found) (y : IsScrubbed after rest)
     (f : IsForeseen extents before after) where
@@ -487,17 +535,22 @@ module _ (extents : List ℕ) (before after : Image) (found rest : Scrubbed) (x 
       subst (λ (p : PlanValue). IsPlanAfterReset extents p rest.plan) was
       (subst (λ (q : PlanValue). IsPlanAfterReset extents f.reset.old q) is_now f.reset.plans)
 
+  long : length f.reset.new.pointers ≡ length f.reset.old.pointers
+  long =
+      how_many after f.reset.new f.reset.is ∙ ap (λ (g : Geometry). g.extents - 1) f.reset.sizes
+      ∙ sym (how_many before f.reset.old f.reset.was)
+
   foreseen : (e : ℕ) → IsTheSame before after found.plan rest.plan e
   foreseen e = by (among_cases extents e)
     where
       by : (list_any (λ n. n == e) extents ≡ true) ⊎ ((list_any (λ n. n == e) extents ≡ false) × (¬ Contains extents e)) →
           IsTheSame before after found.plan rest.plan e
       by (inl among) =
+          let given : pointer_of f.reset.new e ≡ Some 0 = said_of (λ n. pointer_of f.reset.new n ≡ Some 0) extents e f.are among in
           let had : (w : ℕ) × (pointer_of without.0 e ≡ Some w) =
-          subst (λ (p : PlanValue). (w : ℕ) × (pointer_of p e ≡ Some w)) was (said_of (λ n. (w : ℕ) × (pointer_of f.reset.old n ≡ Some w)) extents e f.were among) in
+          subst (λ (p : PlanValue). (w : ℕ) × (pointer_of p e ≡ Some w)) was (had_pointer f.reset.old f.reset.new e 0 long given) in
           let none : pointer_of found.plan e ≡ Some 0 = zero_pointer extents without.0 found.plan without.2 e had.0 among had.1 in
-          let now : pointer_of rest.plan e ≡ Some 0 =
-          subst (λ (p : PlanValue). pointer_of p e ≡ Some 0) is_now (said_of (λ n. pointer_of f.reset.new n ≡ Some 0) extents e f.are among) in
+          let now : pointer_of rest.plan e ≡ Some 0 = subst (λ (p : PlanValue). pointer_of p e ≡ Some 0) is_now given in
           record { sizes = f.reset.sizes; retired = plans.retired ∙ sym without.2.retired; pointer = now ∙ sym none; bytes = λ nonzero. inl none }
       by (inr (other, apart)) = record {
         sizes = f.reset.sizes;
@@ -506,15 +559,41 @@ module _ (extents : List ℕ) (before after : Image) (found rest : Scrubbed) (x 
         bytes = λ nonzero. inr (fun_ext (λ p. f.reset.bytes e p nonzero apart));
       }
 
+  retired_now : rest.plan.retired ≡ found.plan.retired
+  retired_now = plans.retired ∙ sym without.2.retired
+
+  scans_now : AllZip (IsAlikeIn (λ e. ⊤)) found.all rest.all
+  scans_now =
+      scans_alike before after found.plan rest.plan (λ e. ⊤) (λ e known. foreseen e) found.all rest.all
+      (same_numbers extents [] before after found rest f.reset.sizes retired_now x y) x.all y.all
+
+  form_now : (l : Locator) → form_at rest.all l ≡ form_at found.all l
+  form_now l = same_form l (λ e. ⊤) found.all rest.all scans_now tt
+
   named_as_foreseen : NameTheSame found rest
   named_as_foreseen =
-      name_the_same extents before after found rest x y (plans.has ∙ sym without.2.has) (plans.runs ∙ sym without.2.runs)
-      (plans.retired ∙ sym without.2.retired) (λ i d below. foreseen (get_or found.checked i d).locator.extent)
+      name_the_same extents [] before after found rest x y (plans.has ∙ sym without.2.has) (plans.runs ∙ sym without.2.runs)
+      retired_now (λ i d below. foreseen (get_or found.checked i d).locator.extent)
+      (λ i d below sound. form_now (get_or found.checked i d).locator)
+
+  text_now : manifest_text rest ≡ manifest_text found
+  text_now =
+      same_text found rest named_as_foreseen
+      (λ i d below.
+      same_after found.all rest.all (get_or found.checked i d) (λ sound. form_now (get_or found.checked i d).locator)
+      (ap (λ (ss : List Standing). length (spares_by ss (get_or found.checked i d)) == 0) (same_frames found.all rest.all scans_now)))
 
 pub as_foreseen : (extents : List ℕ) (before after : Image) (a b : List ℕ) → IsForeseen extents before after →
     IsManifestBut extents before a → IsManifest after b → a ≡ b
 as_foreseen extents before after a b f x y =
-    x.text_is ∙ sym (same_text x.found y.found (named_as_foreseen extents before after x.found y.found x.scrubbed y.scrubbed f)) ∙ sym y.text_is
+    x.text_is ∙ sym (text_now extents before after x.found y.found x.scrubbed y.scrubbed f) ∙ sym y.text_is
+
+pub whole_as_foreseen : (extents : List ℕ) (before after : Image) (a b : Bool) → IsForeseen extents before after →
+    IsWholeBut extents before a → IsWholeImage after b → a ≡ b
+whole_as_foreseen extents before after a b f x y =
+    x.verdict
+    ∙ sym (same_verdict x.found y.found (named_as_foreseen extents before after x.found y.found x.scrubbed y.scrubbed f))
+    ∙ sym y.verdict
 
 -- ---- the law
 
@@ -523,14 +602,13 @@ module _ (accepted : Accepted) (extents : List ℕ) (before after : Image) where
       IsScrubbed after rest → NameTheSame found rest
   the_same_named found rest r x y =
       let plans = plans_of extents before after found rest x y r.reset in
-      name_the_same [] before after found rest x y plans.has plans.runs plans.retired
-      (all_the_same extents before after found rest x y r.reset accepted r.listed)
-
-  pub the_same_manifest : (a b : List ℕ) → IsReclaimed accepted extents before after → IsManifest before a →
-      IsManifest after b → a ≡ b
-  the_same_manifest a b r x y =
-      let same = the_same_named x.found y.found r x.scrubbed y.scrubbed in
-      x.text_is ∙ sym (same_text x.found y.found same) ∙ sym y.text_is
+      let apart : All (λ (c : Checked). ¬ Contains extents c.locator.extent) found.checked =
+      none_into_these before accepted extents found x r.listed in
+      name_the_same [] [] before after found rest x y plans.has plans.runs plans.retired
+      (λ i d below. the_same extents before after found rest x y r.reset (get_or found.checked i d).locator.extent (apart i d below))
+      (λ i d below sound.
+      same_form (get_or found.checked i d).locator (λ e. ¬ Contains extents e) found.all rest.all
+      (scans extents before after found rest x y r.reset) (apart i d below))
 
   pub the_same_index : (a b : List ℕ) → IsReclaimed accepted extents before after → IsIndex before a →
       IsIndex after b → a ≡ b

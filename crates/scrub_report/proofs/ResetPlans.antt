@@ -66,3 +66,11 @@ one_plan_but (e ∷ es) choice p q x y =
     (r.pointers ∙ ap (λ (o : PlanValue). pointers_reset (e ∷ es) o.pointers) same ∙ sym s.pointers)
     (r.runs ∙ ap (λ (o : PlanValue). o.runs) same ∙ sym s.runs)
     (r.has ∙ ap (λ (o : PlanValue). o.has_superblock) same ∙ sym s.has)
+
+-- what a plan has that isn't a write pointer is that of the plan without resets
+pub plan_before : (resets : List ℕ) (choice : Choice) (plan : PlanValue) → IsPlanBut resets choice plan →
+    (old : PlanValue) × IsPlanOf choice old × (plan.retired ≡ old.retired) × (plan.runs ≡ old.runs) × (plan.has_superblock ≡ old.has_superblock)
+plan_before [] choice plan is = (plan, is, refl, refl, refl)
+plan_before (e ∷ es) choice plan is =
+    let reset : IsReset is.0 (e ∷ es) plan = is.2 in
+    (is.0, is.1, reset.retired, reset.runs, reset.has)

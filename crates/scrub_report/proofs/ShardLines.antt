@@ -93,10 +93,11 @@ of_runs K run k (l ∷ ls) =
 
 -- ---- the locators of one shard after another
 
--- the lines of shards whose locators stand one after another
-abbrev pub lines_along : List BindingValue → List Checked → List ℕ
-lines_along [] cs = []
-lines_along (b ∷ bs) cs = numbered_lines (take (length b.locators) cs) ++ lines_along bs (drop (length b.locators) cs)
+-- the lines of shards whose locators stand one after another, by what follows a locator's status
+abbrev pub lines_along : (Checked → List ℕ) → List BindingValue → List Checked → List ℕ
+lines_along after [] cs = []
+lines_along after (b ∷ bs) cs =
+    numbered_lines after (take (length b.locators) cs) ++ lines_along after bs (drop (length b.locators) cs)
 
 -- the locators are those of these shards, one after another
 abbrev pub AreAlong : List BindingValue → List Checked → Type 0
@@ -188,25 +189,25 @@ apart_behind front b bs cs rising same apart k d below =
     (of_shard (λ o. is_owned_by v.id o ≡ false) b
     (not_above b.id v.id (rising zero (suc k) d (omega arith) (omega (arith, below))))))
 
-lines_of_all : (front : List Checked) (bs : List BindingValue) (cs : List Checked) → Rising bs → AreAlong bs cs →
-    AreApart front bs → lines_along bs cs ≡ flat_map (λ b. shard_lines (front ++ cs) b.id) bs
-lines_of_all front [] cs rising same apart = refl
-lines_of_all front (b ∷ bs) cs rising same apart =
+lines_of_all : (after : Checked → List ℕ) (front : List Checked) (bs : List BindingValue) (cs : List Checked) → Rising bs → AreAlong bs cs →
+    AreApart front bs → lines_along after bs cs ≡ flat_map (λ b. shard_lines after (front ++ cs) b.id) bs
+lines_of_all after front [] cs rising same apart = refl
+lines_of_all after front (b ∷ bs) cs rising same apart =
     let n = length b.locators in
-    let rest : lines_along bs (drop n cs) ≡ flat_map (λ v. shard_lines ((front ++ take n cs) ++ drop n cs) v.id) bs =
-    lines_of_all (front ++ take n cs) bs (drop n cs)
+    let rest : lines_along after bs (drop n cs) ≡ flat_map (λ v. shard_lines after ((front ++ take n cs) ++ drop n cs) v.id) bs =
+    lines_of_all after (front ++ take n cs) bs (drop n cs)
     (λ i j d order here. rising (suc i) (suc j) d (omega (arith, order)) (omega (arith, here)))
     (along_behind b bs cs same) (apart_behind front b bs cs rising same apart) in
     let whole : (front ++ take n cs) ++ drop n cs ≡ front ++ cs =
     append_assoc front (take n cs) (drop n cs) ∙ ap (λ (us : List Checked). front ++ us) (take-append-drop n cs) in
-    ap (λ (us : List Checked). numbered_lines us ++ lines_along bs (drop n cs))
+    ap (λ (us : List Checked). numbered_lines after us ++ lines_along after bs (drop n cs))
     (sym (own_of front b bs cs rising same (All-head (λ (v : BindingValue). All (IsOwned v.id false) front) b bs apart)))
-    ∙ ap (λ (u : List ℕ). shard_lines (front ++ cs) b.id ++ u)
-    (rest ∙ ap (λ (us : List Checked). flat_map (λ v. shard_lines us v.id) bs) whole)
+    ∙ ap (λ (u : List ℕ). shard_lines after (front ++ cs) b.id ++ u)
+    (rest ∙ ap (λ (us : List Checked). flat_map (λ v. shard_lines after us v.id) bs) whole)
 
-pub lines_are : (bs : List BindingValue) (cs : List Checked) → Rising bs → AreAlong bs cs →
-    lines_along bs cs ≡ flat_map (λ b. shard_lines cs b.id) bs
-lines_are bs cs rising same = lines_of_all [] bs cs rising same (λ k d below i e none. absurd (omega (arith, none)))
+pub lines_are : (after : Checked → List ℕ) (bs : List BindingValue) (cs : List Checked) → Rising bs → AreAlong bs cs →
+    lines_along after bs cs ≡ flat_map (λ b. shard_lines after cs b.id) bs
+lines_are after bs cs rising same = lines_of_all after [] bs cs rising same (λ k d below i e none. absurd (omega (arith, none)))
 
 -- ---- behind the locators of the runs
 
@@ -252,26 +253,26 @@ shards_part runs bs checked same =
 
 -- ---- what the code has written
 
-abbrev pub line_of : ℕ × Checked → List ℕ
-line_of p = numbered_line p.0 p.1
+abbrev pub line_of : (Checked → List ℕ) → ℕ × Checked → List ℕ
+line_of after p = numbered_line after p.0 p.1
 
 -- one more locator of a shard
-pub number_more : (own : List Checked) (i : ℕ) (d : Checked) (old mid new : List ℕ) → i < length own →
-    mid ≡ old ++ flat_map line_of (take i (enumerate_from 0 own)) →
-    new ≡ mid ++ numbered_line i (get_or own i d) →
-    new ≡ old ++ flat_map line_of (take (i + 1) (enumerate_from 0 own))
-number_more own i d old mid new below so_far grown =
-    flat_more line_of old mid new (enumerate_from 0 own) i (0, d) (numbered_line i (get_or own i d))
+pub number_more : (after : Checked → List ℕ) (own : List Checked) (i : ℕ) (d : Checked) (old mid new : List ℕ) → i < length own →
+    mid ≡ old ++ flat_map (line_of after) (take i (enumerate_from 0 own)) →
+    new ≡ mid ++ numbered_line after i (get_or own i d) →
+    new ≡ old ++ flat_map (line_of after) (take (i + 1) (enumerate_from 0 own))
+number_more after own i d old mid new below so_far grown =
+    flat_more (line_of after) old mid new (enumerate_from 0 own) i (0, d) (numbered_line after i (get_or own i d))
     (omega (arith, below, length-enumerate_from 0 own))
-    (ap (λ n. numbered_line n (get_or own i d)) (let e : i ≡ 0 + i = omega arith in e)
-    ∙ ap line_of (sym (get_or-enumerate_from 0 own i (0, d) below)))
+    (ap (λ n. numbered_line after n (get_or own i d)) (let e : i ≡ 0 + i = omega arith in e)
+    ∙ ap (line_of after) (sym (get_or-enumerate_from 0 own i (0, d) below)))
     so_far grown
 
 -- all locators of a shard
-pub number_all : (own : List Checked) (i : ℕ) (old mid : List ℕ) → length own ≤ i →
-    mid ≡ old ++ flat_map line_of (take i (enumerate_from 0 own)) → mid ≡ old ++ numbered_lines own
-number_all own i old mid end so_far =
-    flat_all line_of old mid (enumerate_from 0 own) i (omega (arith, end, length-enumerate_from 0 own)) so_far
+pub number_all : (after : Checked → List ℕ) (own : List Checked) (i : ℕ) (old mid : List ℕ) → length own ≤ i →
+    mid ≡ old ++ flat_map (line_of after) (take i (enumerate_from 0 own)) → mid ≡ old ++ numbered_lines after own
+number_all after own i old mid end so_far =
+    flat_all (line_of after) old mid (enumerate_from 0 own) i (omega (arith, end, length-enumerate_from 0 own)) so_far
 
 module _ (bindings : List BindingValue) (i : ℕ) (b : BindingValue) (below : i < length bindings) (is : b ≡ get_or bindings i b) where
   -- the shards that are left, by the next one
@@ -291,29 +292,29 @@ module _ (bindings : List BindingValue) (i : ℕ) (b : BindingValue) (below : i 
       (along_behind b (drop (i + 1) bindings) rest (along_at rest same))
 
   -- one more shard
-  pub shard_more : (rest own behind : List Checked) (old mid new : List ℕ) → own ≡ take (length b.locators) rest →
+  pub shard_more : (after : Checked → List ℕ) (rest own behind : List Checked) (old mid new : List ℕ) → own ≡ take (length b.locators) rest →
       behind ≡ drop (length b.locators) rest →
-      mid ++ lines_along (drop i bindings) rest ≡ old → new ≡ mid ++ numbered_lines own →
-      new ++ lines_along (drop (i + 1) bindings) behind ≡ old
-  shard_more rest own behind old mid new front back so_far grown =
+      mid ++ lines_along after (drop i bindings) rest ≡ old → new ≡ mid ++ numbered_lines after own →
+      new ++ lines_along after (drop (i + 1) bindings) behind ≡ old
+  shard_more after rest own behind old mid new front back so_far grown =
       let bs = drop (i + 1) bindings in
-      ap (λ (u : List ℕ). u ++ lines_along bs behind) grown
-      ∙ append_assoc mid (numbered_lines own) (lines_along bs behind)
-      ∙ ap (λ (us : List Checked). mid ++ (numbered_lines us ++ lines_along bs behind)) front
-      ∙ ap (λ (us : List Checked). mid ++ (numbered_lines (take (length b.locators) rest) ++ lines_along bs us)) back
-      ∙ ap (λ (vs : List BindingValue). mid ++ lines_along vs rest) (sym drop_at)
+      ap (λ (u : List ℕ). u ++ lines_along after bs behind) grown
+      ∙ append_assoc mid (numbered_lines after own) (lines_along after bs behind)
+      ∙ ap (λ (us : List Checked). mid ++ (numbered_lines after us ++ lines_along after bs behind)) front
+      ∙ ap (λ (us : List Checked). mid ++ (numbered_lines after (take (length b.locators) rest) ++ lines_along after bs us)) back
+      ∙ ap (λ (vs : List BindingValue). mid ++ lines_along after vs rest) (sym drop_at)
       ∙ so_far
 
 -- all shards
-pub shards_all : (bindings : List BindingValue) (checked rest : List Checked) (i : ℕ) (old mid : List ℕ) → Rising bindings →
+pub shards_all : (after : Checked → List ℕ) (bindings : List BindingValue) (checked rest : List Checked) (i : ℕ) (old mid : List ℕ) → Rising bindings →
     AreAlong bindings checked → length bindings ≤ i →
-    mid ++ lines_along (drop i bindings) rest ≡ old ++ lines_along bindings checked →
-    mid ≡ old ++ flat_map (λ b. shard_lines checked b.id) bindings
-shards_all bindings checked rest i old mid rising same end so_far =
+    mid ++ lines_along after (drop i bindings) rest ≡ old ++ lines_along after bindings checked →
+    mid ≡ old ++ flat_map (λ b. shard_lines after checked b.id) bindings
+shards_all after bindings checked rest i old mid rising same end so_far =
     sym (append-nil mid)
-    ∙ ap (λ (bs : List BindingValue). mid ++ lines_along bs rest) (sym (drop_of_length-le bindings end))
+    ∙ ap (λ (bs : List BindingValue). mid ++ lines_along after bs rest) (sym (drop_of_length-le bindings end))
     ∙ so_far
-    ∙ ap (λ (u : List ℕ). old ++ u) (lines_are bindings checked rising same)
+    ∙ ap (λ (u : List ℕ). old ++ u) (lines_are after bindings checked rising same)
 
 -- no more runs are hidden than there are
 pub hidden_few : (runs : List Locator) (bs : List BindingValue) (checked : List Checked) (p : Status → Bool) (q : Owner → Bool) →

@@ -338,7 +338,7 @@ any_weaker p q (x ∷ xs) weaker some = by (λ e. any_weaker p q xs weaker e) (p
 tail_accepted : (accepted : Accepted) → accepts_tails accepted ≡ true → (d : Doubt) → is_tail d ≡ true → is_accepted accepted d ≡ true
 tail_accepted accepted yes' (Tail extent first count) e =
     any_weaker (λ word. bytes_eq word (codes "tail")) (accepts (Tail extent first count) (doubt_text (Tail extent first count))) accepted
-        (λ word is. ap (λ b. b || bytes_eq word (doubt_text (Tail extent first count))) is) yes'
+    (λ word is. ap (λ b. b || bytes_eq word (doubt_text (Tail extent first count))) is) yes'
 tail_accepted accepted yes' _ e = absurd (false≢true e)
 
 pub sound_is_clear : (image : Image) (accepted : Accepted) (clear : Bool) → IsSoundImage image true → accepts_tails accepted ≡ true →

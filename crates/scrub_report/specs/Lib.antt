@@ -15,6 +15,7 @@ pub mod Reclaimable
 pub mod Reset
 pub mod Summary
 pub mod Room
+pub mod Copy
 -- Steps of the code.
 pub mod Parts
 pub mod Tokens
@@ -23,4 +24,5 @@ pub mod Kept
 pub mod Moves
 pub mod PageRanges
 pub mod RoomSteps
+pub mod ManifestSteps
 pub mod SizesSteps

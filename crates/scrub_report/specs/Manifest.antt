@@ -1,19 +1,27 @@
 -- The manifest of a disk: its retired extents, its index runs that aren't read as usual, and what the locators of each
 -- shard name, wherever that lies.
-use Rattle.std.specs.Prelude.{◌≡◌, ◌<◌, ◌/◌, ◌%◌, ◌==◌, ◌&&◌, ◌++◌, ◌∷◌, [], ℕ, Bool, true, false, List, Some, codes, is_none, is_some, length, map, if◌then◌else◌}
+use Rattle.std.specs.Prelude.{◌≡◌, ◌<◌, ◌/◌, ◌%◌, ◌==◌, ◌&&◌, ◌++◌, ◌∷◌, [], ℕ, Bool, true, false, List, Option, Some, None, codes, is_none, is_some, map, if◌then◌else◌}
+use Rattle.std.specs.Prelude.{length as len}
 use Rattle.std.specs.Fmt.{decimal}
 use Rattle.std.specs.List.{count_by, enumerate_from, filter, flat_map, list_all, slice_get}
 use Rattle.std.specs.Option.{option_map_or}
 use Rattle.hex.specs.Hex.{encode_lower}
 use Rattle.scrub_disk.specs.Image.{Image, byte}
 use Rattle.scrub_run.specs.declared.shard_id.ShardId.{ShardId}
+use Rattle.scrub_frame.specs.declared.form.Form.{Form}
+use Rattle.scrub_frame.specs.declared.form.Form.TheVariants.{Plain, Sealed}
+use Rattle.scrub_frame.specs.declared.locator.Locator.{Locator}
+use Rattle.scrub_scan.specs.declared.standing.Standing.{Standing}
 use Rattle.scrub_scan.specs.Line.{spaced}
+use Rattle.scrub_scan.specs.Scanned.{Scanned}
 use Rattle.scrub_merge.specs.Binding.{BindingValue, Runs}
 use Rattle.scrub_check.specs.declared.named.Owner.{Owner}
 use Rattle.scrub_check.specs.declared.named.Owner.TheVariants.{Run, Shard}
 use Rattle.scrub_check.specs.declared.statuses.checked.Checked.{Checked}
 use Rattle.scrub_check.specs.declared.statuses.status.Status.{Status}
-use Rattle.scrub_check.specs.Checked.{is_hidden, is_owned_by, is_sound}
+use Rattle.scrub_check.specs.Checked.{is_dangling, is_hidden, is_owned_by, is_sound}
+use Rattle.scrub_check.specs.ChunkForms.{form_at}
+use Rattle.scrub_check.specs.Spares.{spares_of}
 use Rattle.scrub_report.specs.Scrubbed.{Scrubbed, IsScrubbedBut}
 use Rattle.scrub_report.specs.Texts.{owner_text, status_text, uuid_text}
 
@@ -31,27 +39,49 @@ runs_line lost hidden = codes "runs lost" ++ spaced (decimal lost) ++ codes " hi
 abbrev pub two_digits : ℕ → List ℕ
 two_digits n = decimal (n / 10) ++ decimal (n % 10)
 
--- where a chunk that isn't sound is looked for: ` EXTENT OFFSET UUID`; nothing for a sound one
-abbrev pub place_unless_sound : Checked → List ℕ
-place_unless_sound c =
-    if is_sound c.status then [] else spaced (decimal c.locator.extent) ++ spaced (decimal c.locator.offset) ++ spaced (uuid_text c.locator.uuid)
+-- the word for the form of a chunk: `plain`, or `sealed`
+abbrev pub form_word : Form → List ℕ
+form_word Plain = codes "plain"
+form_word Sealed = codes "sealed"
+
+-- a space and the word for a form, if there is one
+abbrev pub form_text : Option Form → List ℕ
+form_text None = []
+form_text (Some form) = spaced (form_word form)
+
+-- where the chunk of a locator is looked for: ` EXTENT OFFSET UUID`
+abbrev pub looked_for : Locator → List ℕ
+looked_for l = spaced (decimal l.extent) ++ spaced (decimal l.offset) ++ spaced (uuid_text l.uuid)
+
+-- whether a dangling locator has spares: ` spare` or ` none`; nothing for a hidden one
+abbrev pub spare_text : Status → List Standing → List ℕ
+spare_text status spares = if is_dangling status then (if len spares == 0 then codes " none" else codes " spare") else []
+
+-- what follows the status of a locator: the form of its chunk if it is sound, or else where the chunk is looked for and
+-- whether there are spares
+abbrev pub after_status : Option Form → List Standing → Checked → List ℕ
+after_status form spares c = if is_sound c.status then form_text form else looked_for c.locator ++ spare_text c.status spares
+
+-- the same of what was scanned
+abbrev pub after_status_in : List Scanned → Checked → List ℕ
+after_status_in all c = after_status (form_at all c.locator) (spares_of all c) c
 
 -- what the line of a shard's locator of this number begins with: `shard ID NUMBER LENGTH DIGEST STATUS`
 abbrev pub numbered_text : ℕ → Checked → List ℕ
 numbered_text number c =
     owner_text c.owner ++ spaced (two_digits number) ++ spaced (decimal c.locator.length) ++ spaced (encode_lower c.locator.digest) ++ spaced (status_text c.status)
 
--- the line of a shard's locator of this number: that, its place unless it is sound, and a line feed
-abbrev pub numbered_line : ℕ → Checked → List ℕ
-numbered_line number c = numbered_text number c ++ place_unless_sound c ++ 10 ∷ []
+-- the line of a shard's locator of this number, by what follows its status: that, and a line feed
+abbrev pub numbered_line : (Checked → List ℕ) → ℕ → Checked → List ℕ
+numbered_line after number c = numbered_text number c ++ after c ++ 10 ∷ []
 
 -- the lines of some locators, numbered from 0
-abbrev pub numbered_lines : List Checked → List ℕ
-numbered_lines some = flat_map (λ p. numbered_line p.0 p.1) (enumerate_from 0 some)
+abbrev pub numbered_lines : (Checked → List ℕ) → List Checked → List ℕ
+numbered_lines after some = flat_map (λ p. numbered_line after p.0 p.1) (enumerate_from 0 some)
 
 -- the lines of a shard: its locators among all named ones, in their order
-abbrev pub shard_lines : List Checked → ShardId → List ℕ
-shard_lines checked id = numbered_lines (filter (λ c. is_owned_by id c.owner) checked)
+abbrev pub shard_lines : (Checked → List ℕ) → List Checked → ShardId → List ℕ
+shard_lines after checked id = numbered_lines after (filter (λ c. is_owned_by id c.owner) checked)
 
 -- the last line: `total`, how many shards and how many locators of shards, and a line feed
 abbrev pub total_line : ℕ → ℕ → List ℕ
@@ -83,19 +113,19 @@ hidden_runs s = count_by (λ c. is_hidden c.status && is_of_read_run s.read.runs
 
 -- ---- the whole text
 
--- the lines of a manifest, by whether there is a superblock, the retired extents, the numbers of lost and of hidden runs,
--- the bindings and the locators of shards
-abbrev pub text_by : Bool → List ℕ → ℕ → ℕ → List BindingValue → List Checked → List ℕ
-text_by has_superblock retired lost hidden bindings shards =
+-- the lines of a manifest, by what follows a locator's status, whether there is a superblock, the retired extents, the
+-- numbers of lost and of hidden runs, the bindings and the locators of shards
+abbrev pub text_by : (Checked → List ℕ) → Bool → List ℕ → ℕ → ℕ → List BindingValue → List Checked → List ℕ
+text_by after has_superblock retired lost hidden bindings shards =
     if has_superblock then retired_line retired
     ++ runs_line lost hidden
-    ++ flat_map (λ b. shard_lines shards b.id) bindings
-    ++ total_line (length bindings) (length shards) else codes "no-superblock" ++ 10 ∷ []
+    ++ flat_map (λ b. shard_lines after shards b.id) bindings
+    ++ total_line (len bindings) (len shards) else codes "no-superblock" ++ 10 ∷ []
 
 -- the retired extents, the runs that aren't read as usual, each locator of each shard of the shard map, and how many there
 -- are; or that there is no superblock
 abbrev pub manifest_text : Scrubbed → List ℕ
-manifest_text s = text_by s.plan.has_superblock s.plan.retired (lost_runs s) (hidden_runs s) s.bindings (of_shards s.checked)
+manifest_text s = text_by (after_status_in s.all) s.plan.has_superblock s.plan.retired (lost_runs s) (hidden_runs s) s.bindings (of_shards s.checked)
 
 -- the text is the manifest of what is found in an image, as if these extents had been reset
 pub record IsManifestBut (resets : List ℕ) (image : Image) (text : List ℕ) : Type 0 where
@@ -131,20 +161,27 @@ IsWholeImage image whole = IsWholeBut [] image whole
 
 -- ---- what a manifest says
 
--- what a manifest says of a shard's locator: the texts of owner and digest, the length and the status
+-- what a manifest says of a shard's locator: the texts of owner and digest, the length, the status, and what follows it
 pub record HeldValue : Type 0 where
   pub owner : List ℕ
   pub length : ℕ
   pub digest : List ℕ
   pub status : Status
+  pub after : List ℕ
 
 -- what a manifest says of a locator
-abbrev pub held : Checked → HeldValue
-held c = record { owner = owner_text c.owner; length = c.locator.length; digest = encode_lower c.locator.digest; status = c.status }
+abbrev pub held : List Scanned → Checked → HeldValue
+held all c = record {
+  owner = owner_text c.owner;
+  length = c.locator.length;
+  digest = encode_lower c.locator.digest;
+  status = c.status;
+  after = after_status_in all c;
+}
 
 -- what a manifest says of the shards' locators among the named ones, in their order
-abbrev pub all_held : List Checked → List HeldValue
-all_held checked = map held (of_shards checked)
+abbrev pub all_held : Scrubbed → List HeldValue
+all_held s = map (held s.all) (of_shards s.checked)
 
 -- the same is held on two disks: both have a superblock or none, they have the same retired extents, as many runs are lost
 -- and as many hidden, and the same is said of the shards' locators
@@ -153,23 +190,48 @@ pub record HoldTheSame (s t : Scrubbed) : Type 0 where
   pub retired : s.plan.retired ≡ t.plan.retired
   pub lost : lost_runs s ≡ lost_runs t
   pub hidden : hidden_runs s ≡ hidden_runs t
-  pub shards : all_held s.checked ≡ all_held t.checked
+  pub shards : all_held s ≡ all_held t
 
 -- each byte of the image that can be read is below 256
 abbrev pub HoldsBytes : Image → Type 0
 HoldsBytes image = (e p b : ℕ) → byte image e p ≡ Some b → b < 256
 
--- a locator without its place and UUID: who names it, the length and the digest of its chunk, and its status
-pub record Unplaced : Type 0 where
+-- what a manifest says of a shard's locator in an image of bytes: who names it, the length and the digest of its chunk, its
+-- status, the form of its chunk if it is sound, or else the extent and the offset that it points to, and whether it dangles
+-- and has no spares
+pub record TraitsValue : Type 0 where
   pub owner : Owner
   pub length : ℕ
   pub digest : List ℕ
   pub status : Status
+  pub form : Option Form
+  pub place : Option (ℕ × ℕ)
+  pub is_without_spare : Bool
 
--- a locator without its place and UUID
-abbrev pub unplaced : Checked → Unplaced
-unplaced c = record { owner = c.owner; length = c.locator.length; digest = c.locator.digest; status = c.status }
+-- the form of a sound locator's chunk
+abbrev pub form_if_sound : List Scanned → Checked → Option Form
+form_if_sound all c = if is_sound c.status then form_at all c.locator else None
 
--- the shards' locators among the named ones, in their order, without their places and UUIDs
-abbrev pub all_unplaced : List Checked → List Unplaced
-all_unplaced checked = map unplaced (of_shards checked)
+-- the extent and the offset that a locator points to, unless it is sound
+abbrev pub place_unless_sound : Checked → Option (ℕ × ℕ)
+place_unless_sound c = if is_sound c.status then None else Some (c.locator.extent, c.locator.offset)
+
+-- the locator dangles, and has no spares
+abbrev pub is_without_spare : List Scanned → Checked → Bool
+is_without_spare all c = is_dangling c.status && len (spares_of all c) == 0
+
+-- what a manifest says of a shard's locator in an image of bytes
+abbrev pub traits : List Scanned → Checked → TraitsValue
+traits all c = record {
+  owner = c.owner;
+  length = c.locator.length;
+  digest = c.locator.digest;
+  status = c.status;
+  form = form_if_sound all c;
+  place = place_unless_sound c;
+  is_without_spare = is_without_spare all c;
+}
+
+-- the same of the shards' locators among the named ones, in their order
+abbrev pub all_traits : Scrubbed → List TraitsValue
+all_traits s = map (traits s.all) (of_shards s.checked)

@@ -6,8 +6,10 @@ use Rattle.scrub_super.specs.Chosen.{Choice, IsChoice}
 use Rattle.scrub_super.specs.Pages.{AreSuperblockPages}
 use Rattle.scrub_super.specs.Plan.{PlanValue, IsPlanOf, pointer_of}
 use Rattle.scrub_check.specs.Candidates.{CandidateValue}
+use Rattle.scrub_check.specs.ChunkForms.{form_at}
+use Rattle.scrub_check.specs.declared.statuses.status.Status.TheVariants.{Sound}
 use Rattle.scrub_report.specs.Doubts.{Accepted}
-use Rattle.scrub_report.specs.Reclaimable.{moves, reclaimed}
+use Rattle.scrub_report.specs.Reclaimable.{AcceptsNoSpare, moves, reclaimed}
 use Rattle.scrub_report.specs.Scrubbed.{Scrubbed, IsScrubbed}
 
 -- ---- which extents may be reset
@@ -50,11 +52,20 @@ pub record IsAfterReset (extents : List ℕ) (before after : Image) : Type 0 whe
   pub is : IsPlanIn after new
   pub plans : IsPlanAfterReset extents old new
 
--- these extents were reset, each of them is an extent of the disk, and each has the write pointer 0 now
+-- these extents were reset, and each has the write pointer 0 now
 pub record IsForeseen (extents : List ℕ) (before after : Image) : Type 0 where
   pub reset : IsAfterReset extents before after
-  pub were : All (λ e. (w : ℕ) × (pointer_of reset.old e ≡ Some w)) extents
   pub are : All (λ e. pointer_of reset.new e ≡ Some 0) extents
+
+-- each of these extents is listed among those to reclaim of an image with nothing to move out of it first, and no spare was
+-- accepted
+pub record AreListedWithoutSpares (accepted : Accepted) (extents : List ℕ) (image : Image) : Type 0 where
+  pub found : Scrubbed
+  pub scrubbed : IsScrubbed image found
+  pub pages : List SuperblockPage
+  pub held : AreSuperblockPages image pages
+  pub listed : All (IsListedWithoutMoves image accepted) extents
+  pub spares : AcceptsNoSpare accepted pages found
 
 -- these extents were reset, and each had been listed among those to reclaim with nothing to move out of it first
 pub record IsReclaimed (accepted : Accepted) (extents : List ℕ) (before after : Image) : Type 0 where
@@ -64,7 +75,8 @@ pub record IsReclaimed (accepted : Accepted) (extents : List ℕ) (before after 
 -- ---- what is the same
 
 -- the same is named in what is found before and after: whether there is a superblock, the retired extents, the index runs,
--- what was read of them, the bindings, each named locator with its status, the shared places and the broken shards
+-- what was read of them, the bindings, each named locator with its status, the form of the chunk at the place of each sound
+-- one, the shared places and the broken shards
 pub record NameTheSame (before after : Scrubbed) : Type 0 where
   pub superblock : after.plan.has_superblock ≡ before.plan.has_superblock
   pub runs : after.plan.runs ≡ before.plan.runs
@@ -72,5 +84,6 @@ pub record NameTheSame (before after : Scrubbed) : Type 0 where
   pub read : after.read ≡ before.read
   pub bindings : after.bindings ≡ before.bindings
   pub checked : after.checked ≡ before.checked
+  pub forms : All (λ c. c.status ≡ Sound → form_at after.all c.locator ≡ form_at before.all c.locator) before.checked
   pub shared : after.shared ≡ before.shared
   pub broken : after.broken ≡ before.broken

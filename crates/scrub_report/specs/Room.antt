@@ -1,16 +1,14 @@
--- Where the next frame can be put in an extent, and that it is found there.
-use Rattle.std.specs.Prelude.{◌≡◌, ◌<◌, ◌+◌, ◌-◌, ◌*◌, ◌/◌, ◌%◌, ◌==◌, ◌&&◌, ◌||◌, ◌++◌, ℕ, Bool, true, false, nat_lt, List, [], ◌∷◌, codes, map, if◌then◌else◌}
-use Rattle.std.specs.Prelude.{length as len}
+-- Where the next frame can be put in an extent.
+use Rattle.std.specs.Prelude.{◌≡◌, ◌<◌, ◌≤◌, ◌+◌, ◌-◌, ◌*◌, ◌/◌, ◌%◌, ◌==◌, ◌&&◌, ◌||◌, ◌++◌, ℕ, Bool, true, false, nat_lt, List, [], ◌∷◌, codes, map, not, if◌then◌else◌}
 use Rattle.std.specs.Fmt.{decimal}
 use Rattle.std.specs.List.{flat_map, list_all, list_any}
-use Rattle.sha2.specs.Sha256.{sha256}
+use Rattle.std.specs.Option.{option_map_or}
 use Rattle.scrub_disk.specs.declared.geometry.Geometry.{Geometry}
 use Rattle.scrub_disk.specs.Image.{Image, byte, extent_bytes}
-use Rattle.scrub_frame.specs.declared.form.Form.{Form}
-use Rattle.scrub_frame.specs.declared.locator.Locator.{Locator}
-use Rattle.scrub_frame.specs.Frame.{frame_overhead, least_overhead}
+use Rattle.scrub_frame.specs.Frame.{least_overhead}
 use Rattle.scrub_scan.specs.declared.item.Item.{Item}
-use Rattle.scrub_scan.specs.Extent.{extent_of, FrameAt}
+use Rattle.scrub_scan.specs.Extent.{extent_of}
+use Rattle.scrub_scan.specs.Findings.{is_nonzero}
 use Rattle.scrub_scan.specs.Line.{spaced}
 use Rattle.scrub_scan.specs.Scanned.{Scanned}
 use Rattle.scrub_scan.specs.Tiling.{IsTiling}
@@ -45,53 +43,62 @@ place_in g f = next_place g.page f.pointer f.findings.items
 abbrev pub room_in : Geometry → Scanned → ℕ
 room_in g f = extent_bytes g - place_in g f
 
--- the line of an extent with room: `room EXTENT OFFSET BYTES` and a line feed
-abbrev pub room_line : ℕ → ℕ → ℕ → List ℕ
-room_line extent place bytes =
-    codes "room" ++ spaced (decimal extent) ++ spaced (decimal place) ++ spaced (decimal bytes) ++ 10 ∷ []
+-- from a scanned extent's pointer to a place there is nothing but zeros: the first nonzero byte isn't in front of the place
+abbrev pub is_zero_to : ℕ → Scanned → Bool
+is_zero_to place f = option_map_or (λ first. not (nat_lt first place)) f.findings.tail_first true
 
--- the line of a scanned extent in which a frame of no payload fits, or else nothing
-abbrev pub room_text : Geometry → Scanned → List ℕ
-room_text g f = if nat_lt (room_in g f) least_overhead then [] else room_line f.extent (place_in g f) (room_in g f)
+-- from a scanned extent's pointer to the place for the next frame there is nothing but zeros, and a frame of no payload fits
+-- from there on
+abbrev pub room_fits : Geometry → Scanned → Bool
+room_fits g f = is_zero_to (place_in g f) f && not (nat_lt (room_in g f) least_overhead)
 
--- the line of a scanned extent, if a chunk can be put into it, or else nothing
-abbrev pub room_if : Geometry → List Checked → Scanned → List ℕ
-room_if g checked f = if may_grow checked f then room_text g f else []
+-- a scanned extent has room at the place for the next frame
+abbrev pub has_room : Geometry → List Checked → Scanned → Bool
+has_room g checked f = may_grow checked f && room_fits g f
 
--- the line of a scanned extent that isn't among these, if a chunk can be put into it, or else nothing
-abbrev pub room_unless : Geometry → List Checked → List ℕ → Scanned → List ℕ
-room_unless g checked extents f = if list_any (λ n. n == f.extent) extents then [] else room_if g checked f
+-- the first word of the line of an extent with room, by whether the extent is listed to be reclaimed
+abbrev pub room_word : Bool → List ℕ
+room_word true = codes "last-room"
+room_word false = codes "room"
 
--- the lines of the scanned extents with room that aren't among these, rising
-abbrev pub rooms_but : Geometry → List Scanned → List Checked → List ℕ → List ℕ
-rooms_but g all checked extents = flat_map (room_unless g checked extents) all
+-- the line of an extent with room: its first word, `EXTENT OFFSET BYTES` and a line feed
+abbrev pub room_line : Bool → ℕ → ℕ → ℕ → List ℕ
+room_line is_listed extent place bytes =
+    room_word is_listed ++ spaced (decimal extent) ++ spaced (decimal place) ++ spaced (decimal bytes) ++ 10 ∷ []
 
--- the first text, unless it is empty, or else the second one
-abbrev pub or_else : List ℕ → List ℕ → List ℕ
-or_else first second = if len first == 0 then second else first
+-- the line of a scanned extent into which a chunk can be put, if a frame fits, or else nothing
+abbrev pub room_text : Bool → Geometry → Scanned → List ℕ
+room_text is_listed g f = if room_fits g f then room_line is_listed f.extent (place_in g f) (room_in g f) else []
 
--- the lines of the extents with room that aren't candidates; or if there is none, those of candidates, which are all then
+-- the line of a scanned extent, if it has room, or else nothing
+abbrev pub room_if : Bool → Geometry → List Checked → Scanned → List ℕ
+room_if is_listed g checked f = if may_grow checked f then room_text is_listed g f else []
+
+-- the extent is among the listed ones, or it isn't, as wanted
+abbrev pub is_listed_as : Bool → List ℕ → ℕ → Bool
+is_listed_as true listed e = list_any (λ n. n == e) listed
+is_listed_as false listed e = not (list_any (λ n. n == e) listed)
+
+-- the line of a scanned extent that is listed, or isn't, as wanted, if it has room, or else nothing
+abbrev pub room_where : Bool → Geometry → List Checked → List ℕ → Scanned → List ℕ
+room_where is_listed g checked listed f = if is_listed_as is_listed listed f.extent then room_if is_listed g checked f else []
+
+-- the lines of the scanned extents with room that are listed, or aren't, as wanted, rising
+abbrev pub rooms_where : Bool → Geometry → List Scanned → List Checked → List ℕ → List ℕ
+rooms_where is_listed g all checked listed = flat_map (room_where is_listed g checked listed) all
+
+-- the lines of the extents with room that aren't listed, and then those of the listed ones
 abbrev pub room_lines : Geometry → List Scanned → List Checked → List CandidateValue → List ℕ
 room_lines g all checked candidates =
-    or_else (rooms_but g all checked (map (λ a. a.extent) candidates)) (rooms_but g all checked [])
+    rooms_where false g all checked (map (λ a. a.extent) candidates) ++ rooms_where true g all checked (map (λ a. a.extent) candidates)
 
--- ---- a chunk that is put there
+-- ---- what is there
 
--- in extent e under the pointer w each item is a chunk or zeros, and this is the place for the next frame
+-- in extent e under the pointer w each item is a chunk or zeros, this is the place for the next frame, and each byte from the
+-- pointer to it is zero or can't be read
 pub record IsRoom (image : Image) (e w place : ℕ) : Type 0 where
   pub items : List Item
   pub tiled : IsTiling (extent_of image e w) items
   pub clean : list_all is_clean_item items ≡ true
   pub place_is : place ≡ next_place image.geometry.page w items
-
--- the chunk that a locator names was put at its place: the sizes and the bytes below the old write pointer w are the same,
--- and the new one, v, is directly behind the frame
-pub record IsPut (l : Locator) (before after : Image) (w v : ℕ) : Type 0 where
-  pub sizes : after.geometry ≡ before.geometry
-  pub kept : (p : ℕ) → p < w → byte after l.extent p ≡ byte before l.extent p
-  pub form : Form
-  pub payload : List ℕ
-  pub frame : FrameAt (extent_of after l.extent v) l.offset form l.uuid payload
-  pub length : l.length ≡ len payload
-  pub digest : l.digest ≡ sha256 payload
-  pub behind : v ≡ l.offset + l.length + frame_overhead form
+  pub zeros : (p : ℕ) → w ≤ p → p < place → is_nonzero (byte image e p) ≡ false

@@ -5,6 +5,7 @@
 pub mod answer;
 mod chunks;
 pub mod clean;
+mod copying;
 mod doubting;
 mod doubts;
 mod extents;
@@ -38,6 +39,7 @@ pub use answer::{
     the_index_is_a_run,
 };
 pub use clean::are_clean_items;
+pub use copying::a_copy_loses_nothing;
 pub use doubts::Accepted;
 pub use listing::{LocatorListing, list_locators, one_locator_listing};
 pub use manifest::{
@@ -46,9 +48,8 @@ pub use manifest::{
 pub use output::{WriteFault, write_out};
 pub use page_ranges::neighbouring_pages_are_joined;
 pub use reclaiming::{
-    ReclaimListing, a_chunk_put_into_room_is_found, a_line_shows_room, a_reset_loses_nothing,
-    list_reclaimable, no_spare_is_taken, one_reclaim_listing, reclaimed_are_candidates,
-    reclaiming_is_safe,
+    ReclaimListing, a_line_shows_room, a_reset_loses_nothing, list_reclaimable, no_spare_is_taken,
+    one_reclaim_listing, reclaimed_are_candidates, reclaiming_is_safe,
 };
 pub use sizes_listing::{SizesListing, find_sizes, list_sizes, one_size, one_sizes_listing};
 pub use summary::{SummaryListing, a_sound_disk_is_all_right, list_summary, one_summary};

@@ -11,20 +11,22 @@ ghost use Rattle.scrub_scan.specs.Line.{spaced};
 ghost use Rattle.scrub_check.specs.Checked.{is_hidden, named_of};
 ghost use Rattle.scrub_check.specs.Named.{named_by_shard};
 ghost use Rattle.scrub_report.specs.Answer.{IsPartitionOfPlanned, IsCountOfPlanned};
-ghost use Rattle.scrub_report.specs.Manifest.{HoldTheSame, HoldsBytes, IsManifest, IsManifestBut, IsWholeBut, IsWholeImage, all_unplaced, is_whole_by, numbered_line, numbered_lines, numbered_text, place_unless_sound, retired_line, runs_line, shard_lines, text_by, total_line};
+ghost use Rattle.scrub_report.specs.Manifest.{HoldTheSame, HoldsBytes, IsManifest, IsManifestBut, IsWholeBut, IsWholeImage, all_traits, after_status, form_text, is_whole_by, looked_for, numbered_line, numbered_lines, numbered_text, retired_line, runs_line, shard_lines, spare_text, text_by, total_line};
 ghost use Rattle.scrub_report.specs.Reset.{IsForeseen};
 ghost use Rattle.scrub_report.specs.Parts.{IsScanBut, is_of_read_row};
+ghost use Rattle.scrub_report.specs.ManifestSteps.{after_status_by};
 
 use crate::answer::ScrubFault;
 use crate::runs::RunRow;
 use crate::scanning::{Scan, scan_with_resets};
 use crate::scrubbing::{are_sound, parts_of};
 use crate::texts::{owner_text, status_text};
-use scrub_check::{Checked, Owner};
+use scrub_check::{Checked, Owner, Spares, Status, form_at};
 use scrub_disk::{OutOfMemory, PageSource};
-use scrub_frame::Locator;
+use scrub_frame::{Form, Locator};
 use scrub_merge::Binding;
 use scrub_pool::{Gate, Takings};
+use scrub_scan::{AllFindings, Standing};
 use scrub_super::{Plan, choose};
 use std::alloc::Global;
 use std::sync::Wait;
@@ -35,8 +37,9 @@ use std::thread::Threads;
 pub struct ManifestListing {
     /// First `retired` with the retired extents, rising, and `runs lost L hidden H` with the numbers of index runs that are
     /// lost, and that are read though their locator is hidden. Then for each shard of the shard map, by identifier, and each of
-    /// its locators, in their order: `shard ID NUMBER LENGTH DIGEST STATUS`, and behind it ` EXTENT OFFSET UUID` unless the
-    /// locator is sound. The number is that of the locator among the shard's, from 00, always in two digits. The length, that
+    /// its locators, in their order: `shard ID NUMBER LENGTH DIGEST STATUS`. After `sound` comes the form of the chunk, `plain`
+    /// or `sealed`; after another status ` EXTENT OFFSET UUID` of the locator, and if it dangles `spare` where it has a spare,
+    /// or else `none`. The number is that of the locator among the shard's, from 00, always in two digits. The length, that
     /// of the payload, and the offset are in bytes. Identifier and digest (SHA-256) are in hexadecimal digits, in lower case.
     /// The status has the report's words. At the end `total` with the numbers of shards and of their locators. Without a
     /// superblock there is one line `no-superblock` alone.
@@ -107,65 +110,117 @@ fn append_text(
     Ok(())
 }
 
-/// Appends where a locator points, unless it is sound.
-fn append_place(alloc: Global, text: &mut Vec<u8>, one: &Checked) -> Result<(), OutOfMemory>
-    ensures { OnOk result (text.new.items ≡ text.old.items ++ place_unless_sound one.now) }
+/// Appends a space and the word for the form of a chunk, if it is known.
+fn append_form(text: &mut Vec<u8>, form: Option<Form>) -> Result<(), OutOfMemory>
+    ensures { OnOk result (text.new.items ≡ text.old.items ++ form_text form) }
 {
-    if one.status.is_sound() {
-        return Ok(());
+    match form {
+        Some(Form::Plain) => text.extend_from_slice(b" plain")?,
+        Some(Form::Sealed) => text.extend_from_slice(b" sealed")?,
+        None => (),
     }
+    Ok(())
+}
+
+/// Appends where the chunk of a locator is looked for.
+fn append_place(alloc: Global, text: &mut Vec<u8>, locator: &Locator) -> Result<(), OutOfMemory>
+    ensures { OnOk result (text.new.items ≡ text.old.items ++ looked_for locator.now) }
+{
     let Locator {
         extent,
         offset,
         uuid,
         ..
-    } = one.locator;
+    } = locator;
     let place = format!(in alloc; " {extent} {offset} {uuid}")?;
     text.extend_from_slice(place.as_bytes())?;
     Ok(())
 }
 
-/// Appends the line of a shard's locator of this number.
-fn append_numbered(
+/// Appends whether a dangling locator has spares; nothing for another.
+fn append_spare(text: &mut Vec<u8>, status: Status, spares: &[Standing]) -> Result<(), OutOfMemory>
+    ensures { OnOk result (text.new.items ≡ text.old.items ++ spare_text status spares.now) }
+{
+    if !status.is_dangling() {
+        return Ok(());
+    }
+    if spares.is_empty() {
+        text.extend_from_slice(b" none")?;
+    } else {
+        text.extend_from_slice(b" spare")?;
+    }
+    Ok(())
+}
+
+/// Appends what follows a locator's status, by the form of the chunk at its place and by its spares.
+fn append_after_status(
     alloc: Global,
     text: &mut Vec<u8>,
+    form: Option<Form>,
+    spares: &[Standing],
+    one: &Checked,
+) -> Result<(), OutOfMemory>
+    ensures { OnOk result (text.new.items ≡ text.old.items ++ after_status form spares.now one.now) }
+{
+    if one.status.is_sound() {
+        return append_form(text, form);
+    }
+    append_place(alloc, text, &one.locator)?;
+    append_spare(text, one.status, spares)
+}
+
+/// Appends the line of a shard's locator of this number.
+fn append_numbered<D: PageSource>(
+    alloc: Global,
+    text: &mut Vec<u8>,
+    all: &AllFindings<'_, D>,
+    spares: &Spares,
     number: usize,
     one: &Checked,
 ) -> Result<(), OutOfMemory>
-    ensures { OnOk result (text.new.items ≡ text.old.items ++ numbered_line number one.now) }
+    ensures { OnOk result (text.new.items ≡ text.old.items ++ numbered_line (after_status_by all.now.extents spares.now) number one.now) }
 {
     append_text(alloc, text, number, one)?;
-    append_place(alloc, text, one)?;
+    let form = form_at(all, &one.locator);
+    append_after_status(alloc, text, form, spares.of_one(one), one)?;
     text.push(b'\n')?;
     Ok(())
 }
 
 /// Appends the lines of the locators of one shard, numbered from 0.
-fn append_shard(alloc: Global, text: &mut Vec<u8>, own: &[Checked]) -> Result<(), OutOfMemory>
-    ensures { OnOk result (text.new.items ≡ text.old.items ++ numbered_lines own.now) }
+fn append_shard<D: PageSource>(
+    alloc: Global,
+    text: &mut Vec<u8>,
+    all: &AllFindings<'_, D>,
+    spares: &Spares,
+    own: &[Checked],
+) -> Result<(), OutOfMemory>
+    ensures { OnOk result (text.new.items ≡ text.old.items ++ numbered_lines (after_status_by all.now.extents spares.now) own.now) }
 {
     for (number, one) in own.iter().enumerate() {
-        append_numbered(alloc, text, number, one)?;
+        append_numbered(alloc, text, all, spares, number, one)?;
     }
     Ok(())
 }
 
-/// Appends the lines of the shards of these bindings, whose locators stand one after another in `checked`.
-fn append_shards(
+/// Appends the lines of the shards of these bindings, whose locators are one after another in `checked`.
+fn append_shards<D: PageSource>(
     alloc: Global,
     text: &mut Vec<u8>,
+    all: &AllFindings<'_, D>,
+    spares: &Spares,
     bindings: &[Binding],
     checked: &[Checked],
 ) -> Result<(), OutOfMemory>
     requires rising { AllPairs (λ b c. IsBelow b.id c.id) bindings.now }
     requires along { map named_of checked.now ≡ flat_map named_by_shard bindings.now }
     ensures { OnOk result (text.new.items ≡
-        text.old.items ++ flat_map (λ b. shard_lines checked.now b.id) bindings.now) }
+        text.old.items ++ flat_map (λ b. shard_lines (after_status_by all.now.extents spares.now) checked.now b.id) bindings.now) }
 {
     let mut rest = checked;
     for binding in bindings {
         let (own, behind) = rest.split_at(binding.locators().len());
-        append_shard(alloc, text, own)?;
+        append_shard(alloc, text, all, spares, own)?;
         rest = behind;
     }
     Ok(())
@@ -185,26 +240,35 @@ fn append_total(
     Ok(())
 }
 
-/// The text by the plan, the numbers of lost and of hidden runs, the bindings, and the named locators of their shards.
-fn text_by(
-    alloc: Global,
-    plan: &Plan,
+/// How many index runs are lost, and how many are read though their locator is hidden.
+#[derive(Clone, Copy)]
+struct RunCounts {
     lost: usize,
     hidden: usize,
+}
+
+/// The text by what was scanned, the spares, the plan, the numbers of runs, the bindings, and the named locators of their shards.
+fn text_by<D: PageSource>(
+    alloc: Global,
+    all: &AllFindings<'_, D>,
+    spares: &Spares,
+    plan: &Plan,
+    runs: RunCounts,
     bindings: &[Binding],
     shards: &[Checked],
 ) -> Result<Vec<u8>, OutOfMemory>
     requires rising { AllPairs (λ b c. IsBelow b.id c.id) bindings.now }
     requires along { map named_of shards.now ≡ flat_map named_by_shard bindings.now }
-    ensures { IfOk result (λ text. text.items ≡ text_by plan.now.has_superblock plan.now.retired lost hidden bindings.now shards.now) }
+    ensures { IfOk result (λ text. text.items ≡ text_by (after_status_by all.now.extents spares.now)
+        plan.now.has_superblock plan.now.retired runs.lost runs.hidden bindings.now shards.now) }
 {
     if !plan.has_superblock() {
         return Ok(Vec::from_slice(alloc, b"no-superblock\n")?);
     }
     let mut text = Vec::new(alloc);
     append_retired(alloc, &mut text, plan.retired())?;
-    append_runs(alloc, &mut text, lost, hidden)?;
-    append_shards(alloc, &mut text, bindings, shards)?;
+    append_runs(alloc, &mut text, runs.lost, runs.hidden)?;
+    append_shards(alloc, &mut text, all, spares, bindings, shards)?;
     append_total(alloc, &mut text, bindings.len(), shards.len())?;
     Ok(text)
 }
@@ -259,13 +323,15 @@ fn manifest_of<R: Threads + Sync, D: PageSource>(
 {
     let parts = parts_of(rt, alloc, scan, resets)?;
     let (_runs, shards) = parts.checked.split_at(parts.plan.runs().len());
+    let spares = Spares::of(alloc, &parts.all, &parts.checked)?;
     let lost = lost_runs(&parts.runs);
     let hidden = hidden_runs(&parts.runs, &parts.checked);
     let text = text_by(
         alloc,
+        &parts.all,
+        &spares,
         &parts.plan,
-        lost,
-        hidden,
+        RunCounts { lost, hidden },
         parts.map.bindings(),
         shards,
     )?;
@@ -303,21 +369,25 @@ pub fn one_manifest()
     ensures { (resets : List ℕ) (image : Image) (a b : List ℕ) → IsManifestBut resets image a → IsManifestBut resets image b → a ≡ b }
 {}
 
-/// A law: a reset is foreseen. Once extents have been reset, and their write pointers are 0, the manifest is the one that the
-/// image had before as if they had been reset, whatever these extents hold now.
+/// A law: a reset is foreseen. Once extents have been reset, and their write pointers are 0, the manifest and the exit status
+/// are those that the image had before as if they had been reset, whatever these extents hold now.
 pub fn a_reset_is_foreseen()
-    ensures { (extents : List ℕ) (before after : Image) (a b : List ℕ) → IsForeseen extents before after →
+    ensures text { (extents : List ℕ) (before after : Image) (a b : List ℕ) → IsForeseen extents before after →
         IsManifestBut extents before a → IsManifest after b → a ≡ b }
+    ensures whole { (extents : List ℕ) (before after : Image) (a b : Bool) → IsForeseen extents before after →
+        IsWholeBut extents before a → IsWholeImage after b → a ≡ b }
 {}
 
-/// A law: two disks with one manifest both have a superblock or none, they have the same retired extents, as many index runs
-/// are lost or hidden, and the same is said of the shards' locators, so that they have one exit status. If the images are of
-/// bytes, they have the same shards, with the same lengths, digests and statuses in order.
+/// A law: two disks with one manifest, as if whichever extents had been reset, both have a superblock or none, they have the
+/// same retired extents, as many index runs are lost or hidden, and the same is said of the shards' locators, so that they have
+/// one exit status. If the images are of bytes, they have the same shards, with the same lengths, digests and statuses in
+/// order, the same forms of the chunks of sound locators, the same extents and offsets of others, and the same dangling ones
+/// without spares.
 pub fn one_manifest_holds_the_same()
-    ensures said { (image other : Image) (text : List ℕ) (x : IsManifest image text) (y : IsManifest other text) →
+    ensures said { (resets others : List ℕ) (image other : Image) (text : List ℕ) (x : IsManifestBut resets image text) (y : IsManifestBut others other text) →
         HoldTheSame x.found y.found }
-    ensures whole { (image other : Image) (text : List ℕ) (a b : Bool) → IsManifest image text → IsManifest other text →
-        IsWholeImage image a → IsWholeImage other b → a ≡ b }
-    ensures shards { (image other : Image) (text : List ℕ) (x : IsManifest image text) (y : IsManifest other text) →
-        HoldsBytes image → HoldsBytes other → all_unplaced x.found.checked ≡ all_unplaced y.found.checked }
+    ensures whole { (resets others : List ℕ) (image other : Image) (text : List ℕ) (a b : Bool) → IsManifestBut resets image text → IsManifestBut others other text →
+        IsWholeBut resets image a → IsWholeBut others other b → a ≡ b }
+    ensures shards { (resets others : List ℕ) (image other : Image) (text : List ℕ) (x : IsManifestBut resets image text) (y : IsManifestBut others other text) →
+        HoldsBytes image → HoldsBytes other → all_traits x.found ≡ all_traits y.found }
 {}

@@ -4,22 +4,19 @@
 ghost use Rattle.std.specs.Prelude.{◌≡◌, ◌+◌, ◌++◌, ◌≤◌, ℕ, [], All, Bool, false, true, List, IfOk, OnOk, length, map, string_bytes, if◌then◌else◌};
 ghost use Rattle.std.specs.List.{flat_map};
 ghost use Rattle.scrub_disk.specs.Image.{Image};
-ghost use Rattle.scrub_frame.specs.declared.locator.Locator.{Locator};
 ghost use Rattle.scrub_super.specs.declared.pages.SuperblockPage.{SuperblockPage};
 ghost use Rattle.scrub_super.specs.Pages.{AreSuperblockPages};
 ghost use Rattle.scrub_check.specs.declared.statuses.checked.Checked.{Checked};
-ghost use Rattle.scrub_check.specs.declared.statuses.status.Status.TheVariants.{Sound};
-ghost use Rattle.scrub_check.specs.Status.{HasStatus, InRange};
 ghost use Rattle.scrub_report.specs.Doubts.{Accepted};
 ghost use Rattle.scrub_report.specs.Answer.{IsPartitionOfPlanned, IsCountOfPlanned};
 ghost use Rattle.scrub_report.specs.Index.{IsIndex};
-ghost use Rattle.scrub_report.specs.Manifest.{IsManifest};
+ghost use Rattle.scrub_report.specs.Manifest.{IsManifest, IsManifestBut, IsWholeBut, IsWholeImage};
 ghost use Rattle.scrub_report.specs.Moves.{AreRisingPlaces, PointAlike};
 ghost use Rattle.scrub_report.specs.Parts.{IsScan};
 ghost use Rattle.scrub_report.specs.Reclaimable.{AcceptsNoSpare, KeepsSpares, AreMoved, AreOfCandidates, AreReclaimLines, IsClear, all_candidate_lines, candidate_lines, kept_lines, move_line, reclaim_line, reclaimed, rooms_kept};
 ghost use Rattle.scrub_report.specs.Report.{IsReport};
-ghost use Rattle.scrub_report.specs.Reset.{IsReclaimed, NameTheSame};
-ghost use Rattle.scrub_report.specs.Room.{IsPut, IsRoom, may_grow, place_in};
+ghost use Rattle.scrub_report.specs.Reset.{AreListedWithoutSpares, IsReclaimed, NameTheSame};
+ghost use Rattle.scrub_report.specs.Room.{IsRoom, has_room, place_in};
 ghost use Rattle.scrub_report.specs.Scrubbed.{Scrubbed, IsScrubbed};
 
 use crate::answer::ScrubFault;
@@ -45,12 +42,12 @@ use std::thread::Threads;
 #[derive(Drop)]
 pub struct ReclaimListing {
     /// A line for each doubt, by kind. It begins with `accepted` if it was accepted, or else with `doubt`. If no line
-    /// begins with `doubt`, then `reclaim EXTENT FREE` for each candidate of the report, in its order, and behind each of them
+    /// begins with `doubt`, then `reclaim EXTENT FREE` for each candidate of the report, in its order, and after each of them
     /// `move EXTENT OFFSET LENGTH UUID OWNER BYTES` for each named locator into it, by the chunk that it points to, whose
-    /// payload takes LENGTH and whose frame takes BYTES. At the end, if
-    /// there is a candidate, `room EXTENT OFFSET BYTES` for each extent that a chunk can be put into, with the place for it and
-    /// the bytes from there on: for those that aren't candidates, or if there is none for candidates. The numbers are in
-    /// decimal; free, offset, length and bytes are in bytes. The UUID is as RFC 9562 writes it, in lower case.
+    /// payload takes LENGTH and whose frame takes BYTES. If there is a candidate, then `room EXTENT OFFSET BYTES` for each other
+    /// extent that a chunk can be put into, with the place for it and the bytes from there to the end of the extent, and
+    /// `last-room EXTENT OFFSET BYTES` for each such candidate. The numbers are in decimal; free, offset, length and bytes are
+    /// in bytes. The UUID is as RFC 9562 writes it, in lower case.
     pub text: Vec<u8>,
     /// Whether no line begins with `doubt`.
     pub is_clear: bool,
@@ -288,13 +285,16 @@ pub fn no_spare_is_taken()
 {}
 
 /// A law: a reset loses nothing that is named. Let extents be listed without a `move` line, and be reset. Then the same index
-/// runs are read, with the same bindings, and each named locator has the same status as before, whatever these extents hold
-/// now. So the image has the same manifest and the same index as before.
+/// runs are read, with the same bindings, and each named locator has the same status as before and, if that is sound, a chunk
+/// of the same form, whatever these extents hold now. So the image has the same index as before. If no line begins with
+/// `accepted spare` either, the image has the same manifest with these resets as without them, and the same exit status.
 pub fn a_reset_loses_nothing()
     ensures named { (accepted : Accepted) (extents : List ℕ) (before after : Image) (found rest : Scrubbed) →
         IsReclaimed accepted extents before after → IsScrubbed before found → IsScrubbed after rest → NameTheSame found rest }
-    ensures manifest { (accepted : Accepted) (extents : List ℕ) (before after : Image) (a b : List ℕ) →
-        IsReclaimed accepted extents before after → IsManifest before a → IsManifest after b → a ≡ b }
+    ensures spares { (accepted : Accepted) (extents : List ℕ) (image : Image) (a b : List ℕ) →
+        AreListedWithoutSpares accepted extents image → IsManifestBut extents image a → IsManifest image b → a ≡ b }
+    ensures whole { (accepted : Accepted) (extents : List ℕ) (image : Image) (a b : Bool) →
+        AreListedWithoutSpares accepted extents image → IsWholeBut extents image a → IsWholeImage image b → a ≡ b }
     ensures index { (accepted : Accepted) (extents : List ℕ) (before after : Image) (a b : List ℕ) →
         IsReclaimed accepted extents before after → IsIndex before a → IsIndex after b → a ≡ b }
 {}
@@ -302,15 +302,6 @@ pub fn a_reset_loses_nothing()
 /// A law: an extent that a chunk can be put into has room at the place of its line.
 pub fn a_line_shows_room()
     ensures { (image : Image) (found : Scrubbed) → IsScrubbed image found →
-        All (λ f. may_grow found.checked f ≡ true →
+        All (λ f. has_room found.plan.geometry found.checked f ≡ true →
         IsRoom image f.extent f.pointer (place_in found.plan.geometry f)) found.all }
-{}
-
-/// A law: a chunk that is put into room is found, and each sound locator into the extent stays sound. `w` and `v` are the
-/// write pointers of the extent before and after.
-pub fn a_chunk_put_into_room_is_found()
-    ensures found { (before after : Image) (w v : ℕ) (l : Locator) → IsRoom before l.extent w l.offset → IsPut l before after w v →
-        InRange after.geometry l → HasStatus after v l Sound }
-    ensures kept { (before after : Image) (w v : ℕ) (l other : Locator) → IsRoom before l.extent w l.offset →
-        IsPut l before after w v → other.extent ≡ l.extent → HasStatus before w other Sound → HasStatus after v other Sound }
 {}

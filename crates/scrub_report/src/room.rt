@@ -1,4 +1,4 @@
-//! Where a chunk can be put: the room of each extent, as lines. `reclaiming` writes them behind the candidates.
+//! Where a chunk can be put: the room of each extent, as lines. `reclaiming` writes them after the candidates.
 
 ghost use Rattle.std.specs.Prelude.{◌≡◌, ◌<◌, ◌++◌, ◌==◌, List, IfOk, OnOk, map, not};
 ghost use Rattle.std.specs.Ordering.{nat_cmp};
@@ -9,7 +9,7 @@ ghost use Rattle.scrub_check.specs.declared.statuses.checked.Checked.{Checked};
 ghost use Rattle.scrub_check.specs.Checked.{is_sound};
 ghost use Rattle.scrub_check.specs.Live.{is_chunk};
 ghost use Rattle.scrub_check.specs.LocatorIndex.{AreBarredExtents};
-ghost use Rattle.scrub_report.specs.Room.{ends_in_chunk, next_place, room_if, room_line, room_lines, room_text, room_unless, rooms_but};
+ghost use Rattle.scrub_report.specs.Room.{ends_in_chunk, is_listed_as, is_zero_to, next_place, room_if, room_line, room_lines, room_text, room_where, rooms_where};
 ghost use Rattle.scrub_report.specs.RoomSteps.{may_grow_by};
 
 use crate::clean::is_clean_extent;
@@ -84,92 +84,118 @@ fn next_place(page: u32, pointer: u32, items: &[Item]) -> u64
     (pointer / page + 1) * page
 }
 
-/// Appends the line of an extent with room.
+/// Whether there is nothing but zeros from the pointer of an extent to a place.
+fn is_zero_to<D: PageSource>(place: u64, found: &ExtentResult<'_, D>) -> bool
+    ensures { result ≡ is_zero_to place (scanned found.now) }
+{
+    match found.findings().tail_first() {
+        Some(first) => first as u64 >= place,
+        None => true,
+    }
+}
+
+/// Appends the line of an extent with room, by whether it is listed to be reclaimed.
 fn append_line(
     alloc: Global,
     text: &mut Vec<u8>,
+    is_listed: bool,
     extent: u32,
     place: u64,
     bytes: u64,
 ) -> Result<(), OutOfMemory>
-    ensures { OnOk result (text.new.items ≡ text.old.items ++ room_line extent place bytes) }
+    ensures { OnOk result (text.new.items ≡ text.old.items ++ room_line is_listed extent place bytes) }
 {
-    let line = format!(in alloc; "room {extent} {place} {bytes}\n")?;
+    let word = if is_listed { "last-room" } else { "room" };
+    let line = format!(in alloc; "{word} {extent} {place} {bytes}\n")?;
     text.extend_from_slice(line.as_bytes())?;
     Ok(())
 }
 
-/// Appends the line of an extent that a chunk can be put into, if a frame of no payload fits.
+/// Appends the line of an extent into which a chunk can be put, if there are zeros up to the place for it, and a frame of no
+/// payload fits.
 fn append_room<D: PageSource>(
     alloc: Global,
     text: &mut Vec<u8>,
+    is_listed: bool,
     geometry: Geometry,
     found: &ExtentResult<'_, D>,
 ) -> Result<(), OutOfMemory>
-    ensures { OnOk result (text.new.items ≡ text.old.items ++ room_text geometry (scanned found.now)) }
+    ensures { OnOk result (text.new.items ≡ text.old.items ++ room_text is_listed geometry (scanned found.now)) }
 {
     let place = next_place(geometry.page, found.pointer(), found.findings().items());
     let bytes = (geometry.extent_bytes() as u64).saturating_sub(place);
-    if bytes < Form::Plain.overhead() as u64 {
+    if !is_zero_to(place, found) || bytes < Form::Plain.overhead() as u64 {
         return Ok(());
     }
-    append_line(alloc, text, found.extent(), place, bytes)
+    append_line(alloc, text, is_listed, found.extent(), place, bytes)
 }
 
-/// Appends the line of an extent, if a chunk can be put into it.
+/// Appends the line of an extent, if it has room.
 fn append_room_if<D: PageSource>(
     alloc: Global,
     text: &mut Vec<u8>,
+    is_listed: bool,
     geometry: Geometry,
     unsound: &[u32],
     found: &ExtentResult<'_, D>,
 ) -> Result<(), OutOfMemory>
     requires { IsSorted nat_cmp unsound.now }
     ensures { (checked : List Checked) → AreBarredExtents checked unsound.now →
-        OnOk result (text.new.items ≡ text.old.items ++ room_if geometry checked (scanned found.now)) }
+        OnOk result (text.new.items ≡ text.old.items ++ room_if is_listed geometry checked (scanned found.now)) }
 {
     if !may_grow(unsound, found) {
         return Ok(());
     }
-    append_room(alloc, text, geometry, found)
+    append_room(alloc, text, is_listed, geometry, found)
 }
 
-/// Appends the line of an extent that isn't among these sorted numbers, if a chunk can be put into it.
-fn append_room_unless<D: PageSource>(
+/// Whether an extent is among the listed ones, which are sorted, or isn't, as wanted.
+fn is_listed_as(is_listed: bool, listed: &[u32], extent: u32) -> bool
+    requires { IsSorted nat_cmp listed.now }
+    ensures { result ≡ is_listed_as is_listed listed.now extent }
+{
+    has_number(listed, extent) == is_listed
+}
+
+/// Appends the line of an extent that is listed, or isn't, as wanted, if it has room.
+fn append_room_where<D: PageSource>(
     alloc: Global,
     text: &mut Vec<u8>,
+    is_listed: bool,
     geometry: Geometry,
     unsound: &[u32],
-    skipped: &[u32],
+    listed: &[u32],
     found: &ExtentResult<'_, D>,
 ) -> Result<(), OutOfMemory>
     requires unsound { IsSorted nat_cmp unsound.now }
-    requires skipped { IsSorted nat_cmp skipped.now }
+    requires listed { IsSorted nat_cmp listed.now }
     ensures { (checked : List Checked) → AreBarredExtents checked unsound.now →
-        OnOk result (text.new.items ≡ text.old.items ++ room_unless geometry checked skipped.now (scanned found.now)) }
+        OnOk result (text.new.items ≡ text.old.items ++ room_where is_listed geometry checked listed.now (scanned found.now)) }
 {
-    if has_number(skipped, found.extent()) {
+    if !is_listed_as(is_listed, listed, found.extent()) {
         return Ok(());
     }
-    append_room_if(alloc, text, geometry, unsound, found)
+    append_room_if(alloc, text, is_listed, geometry, unsound, found)
 }
 
-/// Appends the lines of the extents with room that aren't among these sorted numbers, rising.
-fn append_rooms_but<D: PageSource>(
+/// Appends the lines of the extents with room that are listed, or aren't, as wanted, rising.
+fn append_rooms_where<D: PageSource>(
     alloc: Global,
     text: &mut Vec<u8>,
+    is_listed: bool,
     geometry: Geometry,
     unsound: &[u32],
-    skipped: &[u32],
+    listed: &[u32],
     all: &AllFindings<'_, D>,
 ) -> Result<(), OutOfMemory>
     requires unsound { IsSorted nat_cmp unsound.now }
-    requires skipped { IsSorted nat_cmp skipped.now }
+    requires listed { IsSorted nat_cmp listed.now }
     ensures { (checked : List Checked) → AreBarredExtents checked unsound.now →
-        OnOk result (text.new.items ≡ text.old.items ++ rooms_but geometry all.now.extents checked skipped.now) }
+        OnOk result (text.new.items ≡ text.old.items ++ rooms_where is_listed geometry all.now.extents checked listed.now) }
 {
     for i in 0..all.len() {
-        append_room_unless(alloc, text, geometry, unsound, skipped, all.result_at(i))?;
+        let found = all.result_at(i);
+        append_room_where(alloc, text, is_listed, geometry, unsound, listed, found)?;
     }
     Ok(())
 }
@@ -184,7 +210,7 @@ pub(crate) fn candidate_extents(
     candidates.iter().map(|one| one.extent()).collect(alloc)
 }
 
-/// Appends the lines of the extents with room that aren't candidates; if there is none, those of the candidates.
+/// Appends the lines of the extents with room that aren't candidates, and then those of the candidates.
 pub(crate) fn append_rooms<D: PageSource>(
     alloc: Global,
     text: &mut Vec<u8>,
@@ -197,11 +223,7 @@ pub(crate) fn append_rooms<D: PageSource>(
         text.old.items ++ room_lines geometry all.now.extents checked.now candidates.now) }
 {
     let unsound = sorted(unsound_extents(alloc, checked)?)?;
-    let skipped = sorted(candidate_extents(alloc, candidates)?)?;
-    let before = text.len();
-    append_rooms_but(alloc, text, geometry, &unsound, &skipped, all)?;
-    if text.len() > before {
-        return Ok(());
-    }
-    append_rooms_but(alloc, text, geometry, &unsound, &[], all)
+    let listed = sorted(candidate_extents(alloc, candidates)?)?;
+    append_rooms_where(alloc, text, false, geometry, &unsound, &listed, all)?;
+    append_rooms_where(alloc, text, true, geometry, &unsound, &listed, all)
 }

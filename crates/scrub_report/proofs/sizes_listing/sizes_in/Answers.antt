@@ -8,9 +8,8 @@ use Rattle.scrub_report.proofs.sizes_listing.sizes_in.Goals as goal
 pub returns : goal.returns
 returns c =
     let records = c.args.found.now.records.items in
-    let clean : AreCleanLists records c.args.found.now.lost.items = c.is_clean.ensures.0 (search rules) in
-    (
+    let clean : AreCleanLists records c.args.found.now.lost.items = c.is_clean.ensures.0 (search rules) in (
       clean,
       first_sizes records c.args.found.now.lost.items c.index.result.now.geometry clean
-      (λ d. ap (λ r. r.geometry) (get_or_default records 0 d c.index.result.now clean.some) ∙ ap (λ r. r.geometry) (sym c.index.ensures)),
+          (λ d. ap (λ r. r.geometry) (get_or_default records 0 d c.index.result.now clean.some) ∙ ap (λ r. r.geometry) (sym c.index.ensures)),
     )
