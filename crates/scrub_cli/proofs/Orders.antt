@@ -20,14 +20,16 @@ use Rattle.scrub_cli.specs.declared.words.GivenSizes.{GivenSizes}
 use Rattle.scrub_cli.specs.declared.words.ImageWords.{ImageWords}
 use Rattle.scrub_cli.specs.declared.words.ItemsWords.{ItemsWords}
 use Rattle.scrub_cli.specs.declared.words.ScanWords.{ScanWords}
+use Rattle.scrub_cli.specs.declared.words.ManifestWords.{ManifestWords}
 use Rattle.scrub_cli.specs.declared.words.ReclaimWords.{ReclaimWords}
 use Rattle.scrub_cli.specs.declared.words.SizesWords.{SizesWords}
 use Rattle.scrub_cli.specs.declared.words.Request.{Request}
 use Rattle.scrub_cli.specs.declared.words.Request.TheVariants.{Demo, Items, Scan, Index, Locators, Manifest, Summary, Reclaimable, Superblocks, Sizes, Version}
 use Rattle.scrub_cli.specs.CommandLine.{shardscrub_app}
 use Rattle.scrub_cli.specs.Order.{AreExchanged, HasOptions}
-use Rattle.scrub_cli.specs.Words.{AreImageWords, AreItemsWords, AreReclaimWords, AreScanWords, AreSizesGiven, AreSizesWords, IsAskedBy, IsNumberOf, IsWorkersOf, NameCommand}
-use Rattle.scrub_cli.proofs.Whole.{built_items, built_reclaimable, built_sizes, built_superblocks, disk, looked}
+use Rattle.scrub_cli.specs.Words.{AreImageWords, AreItemsWords, AreManifestWords, AreReclaimWords, AreScanWords, AreSizesGiven, AreSizesWords, IsAskedBy, IsNumberOf, IsWorkersOf, NameCommand}
+use Rattle.scrub_cli.proofs.Numbers.{many_same}
+use Rattle.scrub_cli.proofs.Whole.{built_items, built_manifest, built_reclaimable, built_sizes, built_superblocks, disk, looked}
 
 -- a pair that was found
 pair_names : {A B : Type 0} (a c : A) (b d : B) → ◌≡◌ {A = Option (A × B)} (Some (a, b)) (Some (c, d)) → a ≡ c
@@ -42,7 +44,7 @@ some_pair name rows = Some (name, rows)
 -- what is read by name from the same values is the same
 module _ (xs ys : List Row) (same : AreSame xs ys) where
   number_same : (id : Text) (n : ℕ) → IsNumberOf xs id n → IsNumberOf ys id n
-  number_same id n read = (read.0, sym (one_same xs ys same id) ∙ read.1, read.2, read.3)
+  number_same id n read = (read.0, sym (one_same xs ys same id) ∙ read.1, read.2)
 
   sizes_given_same : (given : Option GivenSizes) → AreSizesGiven xs given → AreSizesGiven ys given
   sizes_given_same None none = (
@@ -73,6 +75,17 @@ module _ (xs ys : List Row) (same : AreSame xs ys) where
       go : IsWorkersOf xs words.workers → IsWorkersOf ys words.workers
       go (inl default) = inl (sym (one_same xs ys same (codes "workers")) ∙ default.0, default.1)
       go (inr given) = inr (number_same (codes "workers") words.workers given.0, given.1)
+
+  manifest_same : (words : ManifestWords) → AreManifestWords xs words → AreManifestWords ys words
+  manifest_same words read = record {
+    scan = scan_same words.scan read.scan;
+    resets = record {
+      numbers = read.resets.numbers;
+      given = rw (many_same xs ys same (codes "reset")) at read.resets.given;
+      rising = read.resets.rising;
+      same = read.resets.same;
+    };
+  }
 
   reclaim_same : (words : ReclaimWords) → AreReclaimWords xs words → AreReclaimWords ys words
   reclaim_same words read = record {
@@ -144,7 +157,7 @@ module _ (xs ys : List Row) (same : AreSame xs ys) where
   asked_same name (Manifest words) asked = (
     ys,
     renamed name (codes "manifest") asked.0 asked.1,
-    scan_same words (rw (pair_rows name (codes "manifest") xs asked.0 asked.1) at asked.2),
+    manifest_same words (rw (pair_rows name (codes "manifest") xs asked.0 asked.1) at asked.2),
   )
   asked_same name (Summary words) asked = (
     ys,
@@ -196,6 +209,34 @@ looked_by_name name = (
             (
               (refl, inl refl, refl, refl),
               ((refl, inr refl, refl, refl), tt),
+            ),
+          ),
+        ),
+      ),
+    ),
+  ),
+)
+
+manifest_by_name : EachRule IsByName built_manifest.rules
+unfolding clap_on_literals
+manifest_by_name = (
+  (refl, inr refl, refl, refl),
+  (
+    (refl, inr refl, refl, refl),
+    (
+      (refl, inr refl, refl, refl),
+      (
+        (refl, inr refl, refl, refl),
+        (
+          (refl, inr refl, refl, refl),
+          (
+            (refl, inr refl, refl, refl),
+            (
+              (refl, inl refl, refl, refl),
+              (
+                (refl, inl refl, refl, refl),
+                ((refl, inr refl, refl, refl), tt),
+              ),
             ),
           ),
         ),
@@ -318,7 +359,7 @@ enters_locators : Enters (codes "locators") (looked (codes "locators"))
 unfolding clap_on_literals
 enters_locators = record { first = refl; clean = refl; faults = λ words. refl; rows = λ words. refl }
 
-enters_manifest : Enters (codes "manifest") (disk (codes "manifest"))
+enters_manifest : Enters (codes "manifest") built_manifest
 unfolding clap_on_literals
 enters_manifest = record { first = refl; clean = refl; faults = λ words. refl; rows = λ words. refl }
 
@@ -396,8 +437,8 @@ order_is_free words others request x asked = go x.options
         exchanged (codes "locators") (looked (codes "locators")) enters_locators (plain (looked_by_name (codes "locators")) refl)
         words others x locators request asked
     go (inr (inr (inr (inl manifest)))) =
-        exchanged (codes "manifest") (disk (codes "manifest")) enters_manifest (plain (disk_by_name (codes "manifest")) refl)
-        words others x manifest request asked
+        exchanged (codes "manifest") built_manifest enters_manifest (plain manifest_by_name refl) words others x manifest
+        request asked
     go (inr (inr (inr (inr (inl summary))))) =
         exchanged (codes "summary") (looked (codes "summary")) enters_summary (plain (looked_by_name (codes "summary")) refl)
         words others x summary request asked

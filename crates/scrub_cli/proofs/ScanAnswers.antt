@@ -1,4 +1,4 @@
--- Why `scan`, `index`, `locators`, `manifest`, `summary` and `reclaimable` give no answer, from what their parts give.
+-- Why `scan`, `index`, `locators`, `summary` and `reclaimable` give no answer, from what their parts give.
 use Rattle.std.proofs.Common.{inl, inr, ℕ, List, Option, None, Some, MatchOption}
 use Rattle.std.specs.Borrow.{Bor}
 use Rattle.scrub_disk.specs.declared.geometry.GeometryFault.{GeometryFault}

@@ -1,7 +1,7 @@
 -- What `clap` finds in valid arguments, and what an error of `clap` comes to.
-use Rattle.std.specs.Prelude.{◌≡◌, ◌≢◌, ◌⊎◌, ◌||◌, Bool, true, false, List, Option, None, Some, codes, IfSome}
+use Rattle.std.specs.Prelude.{◌≡◌, ◌≢◌, ◌⊎◌, ◌||◌, All, Bool, true, false, List, [], Option, None, Some, codes, IfSome, pos, unwrap_or}
 use Rattle.std.specs.Str.{bytes_eq}
-use Rattle.clap.specs.Words.{Row, Text, first_of, one_of}
+use Rattle.clap.specs.Words.{IsSignedIn, Row, Text, first_of, many_of, one_of, without_minus}
 use Rattle.clap.specs.declared.error.kind.ErrorKind.{ErrorKind}
 use Rattle.clap.specs.declared.error.kind.ErrorKind.TheVariants.{DisplayHelp, DisplayVersion, OutOfMemory as no_memory}
 use Rattle.clap_walk.specs.Rows.{HasNumberTo}
@@ -29,6 +29,14 @@ HasNumber found name = HasNumberTo 4294967295 found name
 abbrev pub MayHaveNumber : List Row → Text → Type 0
 MayHaveNumber found name = (one_of name found ≡ None) ⊎ HasNumber found name
 
+-- the text is read of a value that is a whole number of 32 bits
+abbrev pub IsReadNumber : Text → Type 0
+IsReadNumber text = (value : Text) × (text ≡ without_minus value) × IsSignedIn (pos 0) (pos 4294967295) value
+
+-- each value that was found for an option that may be repeated is such a number
+abbrev pub HasNumbers : List Row → Text → Type 0
+HasNumbers found name = All IsReadNumber (unwrap_or (many_of name found) [])
+
 -- the name of an image was found
 abbrev pub HasImageName : List Row → Type 0
 HasImageName found = (name : Text) × (first_of (codes "image") found ≡ Some name)
@@ -40,10 +48,15 @@ pub record HasImage (found : List Row) : Type 0 where
   pub extents : MayHaveNumber found (codes "extents")
   pub image : HasImageName found
 
--- what `clap` found has all that `scan`, `index`, `locators`, `manifest`, `summary` and `reclaimable` need
+-- what `clap` found has all that `scan`, `index`, `locators`, `summary` and `reclaimable` need
 pub record HasScan (found : List Row) : Type 0 where
   pub disk : HasImage found
   pub workers : (one_of (codes "workers") found ≡ None) ⊎ HasNumberTo 64 found (codes "workers")
+
+-- what `clap` found has all that `manifest` needs
+pub record HasManifest (found : List Row) : Type 0 where
+  pub scan : HasScan found
+  pub resets : HasNumbers found (codes "reset")
 
 -- what `clap` found has all that `items` needs
 pub record HasItems (found : List Row) : Type 0 where
@@ -51,34 +64,35 @@ pub record HasItems (found : List Row) : Type 0 where
   pub extent : HasNumber found (codes "extent")
   pub pointer : (one_of (codes "pointer") found ≡ None) ⊎ HasNumber found (codes "pointer")
 
--- the command is one on the whole disk
+-- the command is one on the whole disk, other than `manifest`
 abbrev pub IsDiskCommand : Text → Type 0
 IsDiskCommand name =
-    (name ≡ codes "scan") ⊎ (name ≡ codes "index") ⊎ (name ≡ codes "locators") ⊎ (name ≡ codes "manifest")
-    ⊎ (name ≡ codes "summary") ⊎ (name ≡ codes "reclaimable")
+    (name ≡ codes "scan") ⊎ (name ≡ codes "index") ⊎ (name ≡ codes "locators") ⊎ (name ≡ codes "summary")
+    ⊎ (name ≡ codes "reclaimable")
 
--- whether the command is one on the whole disk
+-- whether the command is one on the whole disk, other than `manifest`
 abbrev pub is_disk_command : Text → Bool
 is_disk_command name =
     bytes_eq name (codes "scan") || (bytes_eq name (codes "index")
     || (bytes_eq name (codes "locators")
-    || (bytes_eq name (codes "manifest")
-    || (bytes_eq name (codes "summary") || bytes_eq name (codes "reclaimable")))))
+    || (bytes_eq name (codes "summary") || bytes_eq name (codes "reclaimable"))))
 
--- what a command needs, by the first of these that it is: one on the whole disk, `superblocks`, `sizes`, `items`, `demo`
-abbrev pub HasNeeds : (disk superblocks sizes items demo : Bool) → List Row → Type 0
-HasNeeds true superblocks sizes items demo found = HasScan found
-HasNeeds false true sizes items demo found = HasImage found
-HasNeeds false false true items demo found = HasImageName found
-HasNeeds false false false true demo found = HasItems found
-HasNeeds false false false false true found = Unit {0}
-HasNeeds false false false false false found = ⊥
+-- what a command needs, by the first of these that it is: one on the whole disk, `manifest`, `superblocks`, `sizes`,
+-- `items`, `demo`
+abbrev pub HasNeeds : (disk manifest superblocks sizes items demo : Bool) → List Row → Type 0
+HasNeeds true manifest superblocks sizes items demo found = HasScan found
+HasNeeds false true superblocks sizes items demo found = HasManifest found
+HasNeeds false false true sizes items demo found = HasImage found
+HasNeeds false false false true items demo found = HasImageName found
+HasNeeds false false false false true demo found = HasItems found
+HasNeeds false false false false false true found = Unit {0}
+HasNeeds false false false false false false found = ⊥
 
 -- the command is one of the program's, and has all that it needs
 abbrev pub IsWholeCommand : Text → List Row → Type 0
 IsWholeCommand name found =
-    HasNeeds (is_disk_command name) (bytes_eq name (codes "superblocks")) (bytes_eq name (codes "sizes"))
-    (bytes_eq name (codes "items")) (bytes_eq name (codes "demo")) found
+    HasNeeds (is_disk_command name) (bytes_eq name (codes "manifest")) (bytes_eq name (codes "superblocks"))
+    (bytes_eq name (codes "sizes")) (bytes_eq name (codes "items")) (bytes_eq name (codes "demo")) found
 
 -- if a command was found, it is one of the program's, and has all that it needs
 abbrev pub IsWholeParse : Option (Text × List Row) → Type 0

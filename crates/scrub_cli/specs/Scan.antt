@@ -1,18 +1,16 @@
--- What the commands `scan`, `index`, `locators`, `manifest`, `summary` and `reclaimable` answer for an image file, and
--- why they don't.
+-- What the commands `scan`, `index`, `locators`, `summary` and `reclaimable` answer for an image file, and why they don't.
 use Rattle.std.specs.Prelude.{◌≡◌, ◌⊎◌, ℕ, List, Bool}
 use Rattle.scrub_disk.specs.declared.geometry.Geometry.{Geometry as Sizes}
 use Rattle.scrub_disk.specs.Image.{Image}
 use Rattle.scrub_report.specs.Answer.{IsPartitionOfPlanned}
 use Rattle.scrub_report.specs.Index.{IsIndex}
 use Rattle.scrub_report.specs.Locators.{AreLocatorLines}
-use Rattle.scrub_report.specs.Manifest.{IsManifest, IsWholeImage}
 use Rattle.scrub_report.specs.Doubts.{Accepted}
 use Rattle.scrub_report.specs.Reclaimable.{AreReclaimLines, IsClear}
 use Rattle.scrub_report.specs.Report.{IsReport}
 use Rattle.scrub_report.specs.Summary.{IsSoundImage, IsSummary}
 use Rattle.scrub_cli.specs.declared.commands.answer.Wanted.{Wanted}
-use Rattle.scrub_cli.specs.declared.commands.answer.Wanted.TheVariants.{Report, Index, Locators, Manifest, Summary, Reclaimable}
+use Rattle.scrub_cli.specs.declared.commands.answer.Wanted.TheVariants.{Report, Index, Locators, Summary, Reclaimable}
 use Rattle.scrub_cli.specs.declared.process.fault.Fault.{Fault}
 use Rattle.scrub_cli.specs.declared.process.fault.Fault.TheVariants.{Geometry, NoSizes, NoMap, MapLine, NoImage, OutOfMemory}
 use Rattle.scrub_cli.specs.declared.words.ImageWords.{ImageWords}
@@ -28,12 +26,6 @@ pub record IsStatusOfImage (image : Image) (status : ℕ) : Type 0 where
   pub verdict : IsCleanImage image is_clean
   pub ended : status ≡ status_of_clean is_clean
 
--- the status of a manifest: 0 if nothing is missing of what is found in the image, and 1 if something is
-pub record IsStatusOfManifest (image : Image) (status : ℕ) : Type 0 where
-  pub is_whole : Bool
-  pub verdict : IsWholeImage image is_whole
-  pub ended : status ≡ status_of_clean is_whole
-
 -- the status of a summary: 0 if the verdict on the image is that it is sound, or else 1
 pub record IsStatusOfSummary (image : Image) (status : ℕ) : Type 0 where
   pub is_sound : Bool
@@ -46,23 +38,20 @@ pub record IsStatusOfDoubts (image : Image) (accepted : Accepted) (status : ℕ)
   pub verdict : IsClear image accepted is_clear
   pub ended : status ≡ status_of_clean is_clear
 
--- the text is what is wanted of the image: its report, its index, the lines of its named locators, its manifest, its
--- summary, or the lines of what may be reclaimed
+-- the text is what is wanted of the image: its report, its index, the lines of its named locators, its summary, or the lines
+-- of what may be reclaimed
 abbrev pub Tells : Wanted → Image → List ℕ → Type 0
 Tells Report image text = IsReport image text
 Tells Index image text = IsIndex image text
 Tells Locators image text = AreLocatorLines image text
-Tells Manifest image text = IsManifest image text
 Tells Summary image text = IsSummary image text
 Tells (Reclaimable accepted) image text = AreReclaimLines image accepted text
 
--- the status is that of the image, for a manifest that of what is missing, for a summary that of its verdict, or for what may
--- be reclaimed that of its doubts
+-- the status is that of the image, for a summary that of its verdict, or for what may be reclaimed that of its doubts
 abbrev pub IsStatusOf : Wanted → Image → ℕ → Type 0
 IsStatusOf Report image status = IsStatusOfImage image status
 IsStatusOf Index image status = IsStatusOfImage image status
 IsStatusOf Locators image status = IsStatusOfImage image status
-IsStatusOf Manifest image status = IsStatusOfManifest image status
 IsStatusOf Summary image status = IsStatusOfSummary image status
 IsStatusOf (Reclaimable accepted) image status = IsStatusOfDoubts image accepted status
 

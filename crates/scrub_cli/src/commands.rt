@@ -6,6 +6,7 @@ pub(crate) mod demo;
 pub(crate) mod disk_image;
 pub(crate) mod found;
 pub(crate) mod items;
+pub(crate) mod manifest;
 pub(crate) mod rescue;
 pub(crate) mod scan;
 pub(crate) mod sizes;

@@ -1,19 +1,22 @@
 //! A whole run: it parses the arguments, makes the answer, writes it and returns the status.
 
 ghost use Rattle.std.specs.Prelude.{◌≤◌, IfOk, MatchResult};
+ghost use Rattle.std.specs.List.Sorted.{IsStrictlyIncreasing};
 ghost use Rattle.scrub_cli.specs.Answer.{IsAnswerOfRun, IsFault, RunWrites, WritesAnswer};
 ghost use Rattle.scrub_cli.specs.Demo.{IsDemoAnswer};
+ghost use Rattle.scrub_cli.specs.Manifest.{IsManifestAnswer, IsManifestFault};
 ghost use Rattle.scrub_cli.specs.Scan.{IsScanAnswer, IsScanFault};
 ghost use Rattle.scrub_cli.specs.Words.{texts};
 
 use crate::commands::answer::{Answer, Wanted, version};
 use crate::commands::demo::demo;
 use crate::commands::items::items;
+use crate::commands::manifest::manifest;
 use crate::commands::scan::{scan, superblocks};
 use crate::commands::sizes::sizes;
 use crate::process::fault::Fault;
 use crate::process::images::Images;
-use crate::words::{Request, ScanWords, read_words};
+use crate::words::{ManifestWords, Request, ScanWords, read_words};
 use scrub_report::{Accepted, ScrubFault, write_out};
 use std::alloc::Global;
 use std::io::Write;
@@ -28,7 +31,7 @@ fn demo_answer<R: Threads + Wait + Sync>(rt: &R, alloc: Global) -> Result<Answer
     Ok(answer)
 }
 
-/// The answer of a command that scans a disk, without the takings, which are for contracts alone.
+/// The answer of a command that scans a disk, other than `manifest`, without the takings, which are for contracts alone.
 fn scan_answer<'a, R: Threads + Wait + Sync, I: Images>(
     rt: &R,
     alloc: Global,
@@ -43,6 +46,24 @@ fn scan_answer<'a, R: Threads + Wait + Sync, I: Images>(
         (IsScanFault (I.known images.old words.now.image.name.now) (I.known_map images.old) words.now.image) }
 {
     let (answer, _takings) = scan(rt, alloc, words, images, wanted)?;
+    Ok(answer)
+}
+
+/// The answer of `manifest`, without the takings, which are for contracts alone.
+fn manifest_answer<'a, R: Threads + Wait + Sync, I: Images>(
+    rt: &R,
+    alloc: Global,
+    words: &ManifestWords<'a>,
+    images: &mut I,
+) -> Result<Answer, Fault<'a>>
+    requires workers { words.now.scan.workers ≤ 64 }
+    requires rising { IsStrictlyIncreasing words.now.resets.items }
+    ensures { MatchResult result
+        (λ a. IsManifestAnswer (I.known images.old words.now.scan.image.name.now) (I.known_map images.old) words.now
+        a.text.items a.status)
+        (IsManifestFault (I.known images.old words.now.scan.image.name.now) (I.known_map images.old) words.now) }
+{
+    let (answer, _takings) = manifest(rt, alloc, words, images)?;
     Ok(answer)
 }
 
@@ -63,7 +84,7 @@ fn answer<'a, R: Threads + Wait + Sync, I: Images>(
         Request::Scan(words) => scan_answer(rt, alloc, &words, images, Wanted::Report),
         Request::Index(words) => scan_answer(rt, alloc, &words, images, Wanted::Index),
         Request::Locators(words) => scan_answer(rt, alloc, &words, images, Wanted::Locators),
-        Request::Manifest(words) => scan_answer(rt, alloc, &words, images, Wanted::Manifest),
+        Request::Manifest(words) => manifest_answer(rt, alloc, &words, images),
         Request::Summary(words) => scan_answer(rt, alloc, &words, images, Wanted::Summary),
         Request::Reclaimable(words) => {
             let wanted = Wanted::Reclaimable(Accepted::new(&words.accepted));

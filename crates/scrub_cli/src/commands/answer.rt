@@ -3,10 +3,12 @@
 
 ghost use Rattle.std.specs.Prelude.{◌≡◌, ◌+◌, ◌≤◌, ◌<◌, ◌^◌, IfOk, length};
 ghost use Rattle.std.specs.List.{list_all};
+ghost use Rattle.std.specs.List.Sorted.{IsStrictlyIncreasing};
 ghost use Rattle.scrub_report.specs.Answer.{IsPartitionOfPlanned};
 ghost use Rattle.scrub_report.specs.Scrubbed.{is_clean_item};
 ghost use Rattle.scrub_cli.specs.Answer.{IsVersionAnswer};
 ghost use Rattle.scrub_cli.specs.Lines.{lines_of, status_of_clean};
+ghost use Rattle.scrub_cli.specs.Manifest.{IsManifestListed};
 ghost use Rattle.scrub_cli.specs.Scan.{IsDiskAnswer};
 ghost use Rattle.scrub_cli.specs.SizesListed.{AreSizesListed};
 ghost use Rattle.scrub_cli.specs.Superblock.{AreSuperblocksListed};
@@ -43,7 +45,7 @@ impl Answer {
     }
 }
 
-/// What a command on the whole disk prints.
+/// What a command on the whole disk prints, other than `manifest`.
 #[derive(Drop)]
 pub enum Wanted<'v, 'a> {
     /// The report.
@@ -52,8 +54,6 @@ pub enum Wanted<'v, 'a> {
     Index,
     /// The named locators, each with its status.
     Locators,
-    /// What the disk holds, wherever it lies.
-    Manifest,
     /// A verdict, and numbers by their names.
     Summary,
     /// What may be reclaimed, with these doubts accepted.
@@ -144,10 +144,6 @@ pub fn disk_answer<R: Threads + Wait + Sync, D: PageSource>(
             let (listing, takings) = list_locators(rt, alloc, disk, workers, &NoGate)?;
             Ok((Answer::new(listing.text, listing.is_clean), takings))
         }
-        Wanted::Manifest => {
-            let (manifest, takings) = list_manifest(rt, alloc, disk, workers, &NoGate, &[])?;
-            Ok((Answer::new(manifest.text, manifest.is_whole), takings))
-        }
         Wanted::Summary => {
             let (summary, takings) = list_summary(rt, alloc, disk, workers, &NoGate)?;
             Ok((Answer::new(summary.text, summary.is_sound), takings))
@@ -159,4 +155,23 @@ pub fn disk_answer<R: Threads + Wait + Sync, D: PageSource>(
             Ok((Answer::new(listing.text, listing.is_clear), takings))
         }
     }
+}
+
+/// The manifest of a disk, as if these extents, which rise, had been reset, with its status, and the extents that each worker
+/// took. The workers and the takings are as for `disk_answer`.
+pub fn manifest_listing<R: Threads + Wait + Sync, D: PageSource>(
+    rt: &R,
+    alloc: Global,
+    disk: &D,
+    workers: u32,
+    resets: &[u32],
+) -> Result<(Answer, Takings), ScrubFault>
+    requires workers { workers ≤ 64 }
+    requires rising { IsStrictlyIncreasing resets.now }
+    ensures answer { IfOk result (λ r. IsManifestListed resets.now (D.image disk.now) r.0.text.items r.0.status) }
+    ensures workers { IfOk result (λ r. length r.1.lists ≡ workers + 1) }
+    ensures partition { IfOk result (λ r. IsPartitionOfPlanned (D.image disk.now) r.1.lists) }
+{
+    let (manifest, takings) = list_manifest(rt, alloc, disk, workers, &NoGate, resets)?;
+    Ok((Answer::new(manifest.text, manifest.is_whole), takings))
 }

@@ -20,7 +20,7 @@ const WORTH_THREADS: u64 = 1 << 22;
 /// The most readers of an image.
 const MOST_READERS: usize = 64;
 
-/// How many readers load a disk of these sizes: one for each processor, or one if there are few bytes.
+/// How many readers load a disk of these sizes: one for each processor, at most 64, or a single one for few bytes.
 fn reader_count<R: Threads>(rt: &R, geometry: Geometry) -> usize
     ensures some { 0 < result }
     ensures few { result ≤ 64 }
@@ -66,7 +66,7 @@ fn bad_pages<'a>(
 
 /// The disk of these sizes that the arguments name. Faults, in this order: the first argument for an unreadable page that
 /// names none, a map that can't be opened, the map's first line that breaks the rules, an image that can't be opened, and an
-/// image that is too long. As many threads read the image as there are processors.
+/// image that is too long. Each reader of the image has a thread of its own.
 pub fn load_disk<'a, R: Threads + Sync, I: Images>(
     rt: &R,
     alloc: Global,

@@ -1,5 +1,5 @@
-//! The commands on a whole disk in an image file: `scan`, `index`, `locators`, `manifest`, `summary` and `reclaimable`, which
-//! scan it, and `superblocks`, which reads its extent 0.
+//! The commands on a whole disk in an image file: `scan`, `index`, `locators`, `summary` and `reclaimable`, which scan it, and
+//! `superblocks`, which reads its extent 0. For `manifest` see `manifest`.
 
 ghost use Rattle.std.specs.Prelude.{◌≡◌, ◌+◌, ◌≤◌, ℕ, List, IfOk, MatchResult, None, Some, length};
 ghost use Rattle.scrub_disk.specs.declared.geometry.Geometry.{Geometry};
@@ -25,7 +25,8 @@ use std::alloc::Global;
 use std::sync::Wait;
 use std::thread::Threads;
 
-/// The disk that the arguments name, with the sizes that they give, or else those that its records have. Faults are checked in the order of `Fault`.
+/// The disk that the arguments name, with the sizes that they give, or else those that its records have. Faults are checked in
+/// the order of `Fault`.
 fn disk_of<'a, R: Threads + Sync, I: Images>(
     rt: &R,
     alloc: Global,

@@ -28,7 +28,7 @@ pub enum Fault<'a> {
     Geometry(GeometryFault),
     /// No sizes are given, and the image has no superblock record, or not all have the same sizes, or something is lost there.
     NoSizes,
-    /// The disk has no such extent.
+    /// The disk has no such extent, or it is extent 0 and can't be reset.
     Extent,
     /// The write pointer is past the end of the extent.
     Pointer,

@@ -484,7 +484,7 @@ fn invalid_arguments_are_refused(rt: HostRuntime) -> Result<(), Fail> {
 #[test]
 fn the_version_goes_to_the_output(rt: HostRuntime) -> Result<(), Fail> {
     for words in ["--version", "-V"] {
-        let wanted = (0, "shardscrub 1.0.2\n", "");
+        let wanted = (0, "shardscrub 2.0.0\n", "");
         check(&rt, rt.alloc(), words, image(&[]), wanted)?;
     }
     Ok(())

@@ -1,8 +1,10 @@
-//! The kinds and the lines of doubts that `--accept` may name.
+//! The kinds and the lines of doubts that `--accept` may name, and the refusal of other texts.
 
-ghost use Rattle.std.specs.Prelude.{◌≡◌, MatchOption, false, nat_eq, true};
-ghost use Rattle.std.specs.List.{list_all, starts_with};
-ghost use Rattle.scrub_cli.specs.Accepting.{is_acceptable, is_kind, is_line};
+ghost use Rattle.std.specs.Prelude.{◌≡◌, IfOk, find, nat_eq, not};
+ghost use Rattle.std.specs.List.{starts_with};
+ghost use Rattle.scrub_cli.specs.Accepting.{is_acceptable, is_kind, is_line, reason, refusal_of};
+
+use std::alloc::{AllocError, Global};
 
 /// Whether the text is a kind of doubts that can be accepted as a whole.
 fn is_kind(text: &str) -> bool
@@ -14,14 +16,14 @@ fn is_kind(text: &str) -> bool
         || text == "tail-lost"
 }
 
-/// Whether a text begins with another one.
+/// Whether a text begins with another.
 fn begins(text: &[u8], front: &[u8]) -> bool
     ensures { result ≡ starts_with nat_eq text.now front.now }
 {
     text.starts_with(front)
 }
 
-/// Whether the text begins as the line of a doubt that can be accepted does behind `doubt`.
+/// Whether the text begins as the line of a doubt that can be accepted does after the word `doubt`.
 fn is_line(text: &str) -> bool
     ensures { result ≡ is_line text.now }
 {
@@ -41,14 +43,30 @@ fn is_acceptable(text: &str) -> bool
 }
 
 /// The first text that can't be accepted.
-pub fn unacceptable<'a>(words: &[&'a str]) -> Option<&'a str>
-    ensures { MatchOption result (list_all (λ word. is_acceptable word.now) words.now ≡ true)
-        (λ _. list_all (λ word. is_acceptable word.now) words.now ≡ false) }
+pub fn unacceptable<'a>(texts: &[&'a str]) -> Option<&'a str>
+    ensures { result ≡ find (λ text. not (is_acceptable text.now)) texts.now }
 {
-    for word in words {
-        if !is_acceptable(word) {
-            return Some(word);
-        }
+    texts.iter().copied().find(|text| !is_acceptable(text))
+}
+
+/// Why a text can't be accepted.
+fn reason(text: &str) -> &'static str
+    ensures { result.now ≡ reason text.now }
+{
+    if text == "spare" {
+        ": a spare is accepted by its line alone"
+    } else {
+        "\n  [possible values: superblock-damaged, superblock-stray, tail, tail-lost]"
     }
-    None
+}
+
+/// The refusal of a text that can't be accepted, in the words of `clap`.
+pub fn refusal_of(alloc: Global, text: &str) -> Result<String, AllocError>
+    ensures { IfOk result (λ refusal. refusal.bytes.items ≡ refusal_of text.now) }
+{
+    let reason = reason(text);
+    let refusal = format!(in alloc;
+        "error: invalid value '{text}' for '--accept <KIND>'{reason}\n\nFor more information, try '--help'.\n"
+    )?;
+    Ok(refusal)
 }

@@ -101,8 +101,8 @@ fn scan_index_locators_manifest_and_summary_with_their_arguments(
     let Request::Manifest(manifest) = read_words(rt.alloc(), &split)? else {
         panic!(rt; "not manifest");
     };
-    check_image(&rt, &manifest.image);
-    assert!(rt; manifest.workers == 2);
+    check_image(&rt, &manifest.scan.image);
+    assert!(rt; manifest.scan.workers == 2 && manifest.resets.is_empty());
     let words = "summary --page 64 --workers=3 --extents 3 --pages 4 disk.img 1:3 x 2:0";
     let split: Vec<&str> = words.split_whitespace().collect(rt.alloc())?;
     let Request::Summary(summary) = read_words(rt.alloc(), &split)? else {
@@ -140,6 +140,25 @@ fn sizes_may_be_left_out_of_commands_that_are_only_looked_at(rt: HostRuntime) ->
     ] {
         let text = refusal(&rt, words)?;
         assert!(rt; text.as_str().contains("--pages <COUNT>"), "{words}");
+    }
+    Ok(())
+}
+
+/// The extents are in order, each once. A plus counts for nothing, and -0 is 0.
+#[test]
+fn manifest_with_extents_to_be_taken_as_reset(rt: HostRuntime) -> Result<(), Fail> {
+    let image = "manifest --page 64 --pages 4 --extents 3 disk.img";
+    for (resets, wanted) in [
+        ("--reset 2", [2].as_slice()),
+        ("--reset=2 --reset 1 --reset 2 --reset +1", &[1, 2]),
+        ("--reset 4294967295 --reset=-0", &[0, 4294967295]),
+    ] {
+        let words = format!(in rt.alloc(); "{image} {resets}")?;
+        let split: Vec<&str> = words.split_whitespace().collect(rt.alloc())?;
+        let Request::Manifest(manifest) = read_words(rt.alloc(), &split)? else {
+            panic!(rt; "not manifest");
+        };
+        assert!(rt; manifest.resets.as_slice() == wanted, "{resets}");
     }
     Ok(())
 }
@@ -214,8 +233,16 @@ fn a_refusal_says_what_is_wrong(rt: HostRuntime) -> Result<(), Fail> {
             "invalid value 'tie' for '--accept <KIND>'",
         ),
         (
-            "reclaimable --page 64 --pages 4 --extents 3 --accept spare x",
-            "invalid value 'spare' for '--accept <KIND>'",
+            "manifest --page 64 --pages 4 --extents 3 --reset x disk.img",
+            "invalid value 'x' for '--reset <EXTENT>'",
+        ),
+        (
+            "manifest --page 64 --pages 4 --extents 3 --reset 1 --reset 4294967296 disk.img",
+            "4294967296 is not in 0..=4294967295",
+        ),
+        (
+            "locators --page 64 --pages 4 --extents 3 --reset 1 disk.img",
+            "--reset",
         ),
         ("sizes --map disk.map", "<IMAGE>"),
         ("demo --version", "--version"),
@@ -225,6 +252,64 @@ fn a_refusal_says_what_is_wrong(rt: HostRuntime) -> Result<(), Fail> {
         let text = refusal(&rt, words)?;
         assert!(rt; text.as_str().contains(part), "{words}");
     }
+    Ok(())
+}
+
+/// The texts of `--accept`: a kind, or a line, whose first word is a kind or `spare`.
+#[test]
+fn a_text_that_can_not_be_accepted_is_refused(rt: HostRuntime) -> Result<(), Fail> {
+    let words = [
+        "reclaimable",
+        "--page=64",
+        "--pages=4",
+        "--extents=3",
+        "disk.img",
+        "--accept",
+    ];
+    for text in [
+        "",
+        "tie",
+        "tails 1 0 1",
+        " tail",
+        "Tail",
+        "run-lost",
+        "doubt tail 1 0 1",
+        "spare\t1",
+    ] {
+        let mut given = Vec::from_slice(rt.alloc(), &words)?;
+        given.push(text)?;
+        let wanted = format!(in rt.alloc();
+            "error: invalid value '{text}' for '--accept <KIND>'\n  [possible values: superblock-damaged, superblock-stray, tail, tail-lost]\n\nFor more information, try '--help'.\n"
+        )?;
+        match read_words(rt.alloc(), &given) {
+            Err(WordsFault::Refused(refusal)) => assert_eq!(rt; refusal, wanted),
+            outcome => panic!(rt; "not refused: {outcome:?}"),
+        }
+    }
+    for text in [
+        "tail-lost",
+        "tail ",
+        "superblock-stray 3",
+        "spare 2 0 3",
+        "tail 2 0 1092 x",
+    ] {
+        let mut given = Vec::from_slice(rt.alloc(), &words)?;
+        given.push(text)?;
+        let Request::Reclaimable(reclaim) = read_words(rt.alloc(), &given)? else {
+            panic!(rt; "not reclaimable");
+        };
+        assert!(rt; reclaim.accepted.as_slice() == [text].as_slice());
+    }
+    Ok(())
+}
+
+#[test]
+fn a_spare_is_accepted_by_its_line_alone(rt: HostRuntime) -> Result<(), Fail> {
+    let words =
+        "reclaimable --page 64 --pages 4 --extents 3 --accept tail --accept spare --accept tie x";
+    let wanted =
+        "error: invalid value 'spare' for '--accept <KIND>': a spare is accepted by its line alone\n\nFor more information, try '--help'.\n";
+    assert!(rt; refusal(&rt, words)?.as_str() == wanted);
     Ok(())
 }
 
@@ -321,6 +406,7 @@ fn the_help_of_the_commands_on_a_disk(rt: HostRuntime) -> Result<(), Fail> {
             "--extents <COUNT>",
             "[EXTENT:PAGE]...",
             "OWNER EXTENT OFFSET LENGTH UUID STATUS",
+            "\n  spare EXTENT OFFSET LENGTH UUID COUNT\n",
             "\n  STATUS ",
             "wrong_digest",
             "Exit status",
@@ -334,10 +420,12 @@ fn the_help_of_the_commands_on_a_disk(rt: HostRuntime) -> Result<(), Fail> {
         &[
             "Usage: shardscrub manifest",
             "--workers <COUNT>",
+            "--reset <EXTENT>",
             "[EXTENT:PAGE]...",
             "\n  retired EXTENT .. ",
             "\n  runs lost L hidden H ",
-            "shard ID NUMBER LENGTH DIGEST STATUS",
+            "\n  shard ID NUMBER LENGTH DIGEST sound FORM\n",
+            "\n  shard ID NUMBER LENGTH DIGEST STATUS EXTENT OFFSET UUID SPARE\n",
             "Exit status",
             "\n  shardscrub manifest --page 64 --pages 4 --extents 3 examples/one-shard.img",
         ],
@@ -381,9 +469,11 @@ fn the_help_of_the_commands_on_superblocks_and_on_what_may_be_reclaimed(
             "Usage: shardscrub reclaimable",
             "--accept <KIND>",
             "superblock-damaged, superblock-stray, tail or tail-lost, or one line",
+            "\n  doubt spare EXTENT OFFSET LENGTH UUID OWNER BYTES\n",
             "doubt tail EXTENT OFFSET BYTES",
             "move EXTENT OFFSET LENGTH UUID OWNER BYTES",
-            "room EXTENT OFFSET BYTES",
+            "\n  room EXTENT OFFSET BYTES ",
+            "\n  last-room EXTENT OFFSET BYTES ",
             "Exit status",
         ],
     )?;

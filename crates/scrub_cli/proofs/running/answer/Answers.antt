@@ -33,11 +33,13 @@ scan_answer-requires-in-Locators g c =
     rw c.in-Locators.is at c.in_ok-read_words.ensures in
     (search rules, (search rules, few_workers asked.1.0 c.in-Locators.words.workers asked.1.2.workers))
 
-pub scan_answer-requires-in-Manifest : goal.scan_answer-requires-in-Manifest
-scan_answer-requires-in-Manifest g c =
+pub manifest_answer-requires : goal.manifest_answer-requires
+manifest_answer-requires g c =
     let asked : AskFor (map (λ word. word.now) c.args.words.now) (Manifest c.in-Manifest.words) =
-    rw c.in-Manifest.is at c.in_ok-read_words.ensures in
-    (search rules, (search rules, few_workers asked.1.0 c.in-Manifest.words.workers asked.1.2.workers))
+    rw c.in-Manifest.is at c.in_ok-read_words.ensures in (
+      search rules,
+      (search rules, (few_workers asked.1.0 c.in-Manifest.words.scan.workers asked.1.2.scan.workers, asked.1.2.resets.rising)),
+    )
 
 pub scan_answer-requires-in-Summary : goal.scan_answer-requires-in-Summary
 scan_answer-requires-in-Summary g c =
@@ -66,8 +68,8 @@ returns-in-Locators g c =
 pub returns-in-Manifest : goal.returns-in-Manifest
 returns-in-Manifest g c =
     answered (g.I.Images.known c.args.images.now) (g.I.Images.known_map c.args.images.now)
-    (map (λ word. word.now) c.args.words.now) (Manifest c.in-Manifest.words) c.scan_answer-in-Manifest.result
-    (rw c.in-Manifest.is at c.in_ok-read_words.ensures) c.scan_answer-in-Manifest.ensures
+    (map (λ word. word.now) c.args.words.now) (Manifest c.in-Manifest.words) c.manifest_answer.result
+    (rw c.in-Manifest.is at c.in_ok-read_words.ensures) c.manifest_answer.ensures
 
 pub returns-in-Summary : goal.returns-in-Summary
 returns-in-Summary g c =

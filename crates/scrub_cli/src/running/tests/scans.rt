@@ -150,14 +150,14 @@ fn the_manifest_of_a_disk_with_one_shard(rt: HostRuntime) -> Result<(), Fail> {
             "manifest --page 64 --pages 4 --extents 3 disk.img",
             (
                 0,
-                "retired\nruns lost 0 hidden 0\nshard 00000000000000000000000000000001 00 3 ba7816bf8f01cfea414140de5dae2223b00361a396177a9cb410ff61f20015ad sound\ntotal 1 1\n",
+                "retired\nruns lost 0 hidden 0\nshard 00000000000000000000000000000001 00 3 ba7816bf8f01cfea414140de5dae2223b00361a396177a9cb410ff61f20015ad sound plain\ntotal 1 1\n",
             ),
         ),
         (
             "manifest --page 64 --pages 4 --extents 3 --workers 3 disk.img 1:0",
             (
                 1,
-                "retired\nruns lost 0 hidden 0\nshard 00000000000000000000000000000001 00 3 ba7816bf8f01cfea414140de5dae2223b00361a396177a9cb410ff61f20015ad unreadable 1 0 11111111-1111-1111-1111-111111111111\ntotal 1 1\n",
+                "retired\nruns lost 0 hidden 0\nshard 00000000000000000000000000000001 00 3 ba7816bf8f01cfea414140de5dae2223b00361a396177a9cb410ff61f20015ad unreadable 1 0 11111111-1111-1111-1111-111111111111 none\ntotal 1 1\n",
             ),
         ),
         (
@@ -167,6 +167,73 @@ fn the_manifest_of_a_disk_with_one_shard(rt: HostRuntime) -> Result<(), Fail> {
     ] {
         let (status, lines) = wanted;
         check(&rt, rt.alloc(), words, image(&disk), (status, lines, ""))?;
+    }
+    Ok(())
+}
+
+/// The chunk of the shard is in extent 1, and another one of the same payload is after the run in extent 2. With the pointer of
+/// extent 1 at 0 the shard's locator dangles and has that spare; with the pointer of extent 2 at 0 the run is lost.
+#[test]
+fn the_manifest_as_if_extents_had_been_reset(rt: HostRuntime) -> Result<(), Fail> {
+    let alloc = rt.alloc();
+    let payload = run_of(alloc, SHARD, &[abc_at(1, 0)])?;
+    let mut disk = small_disk(alloc)?;
+    put_chunk(alloc, &mut disk, 1, 0, ONES, b"abc")?;
+    let run = put_chunk(alloc, &mut disk, 2, 0, TWOS, &payload)?;
+    put_chunk(alloc, &mut disk, 2, 155, TWOS, b"abc")?;
+    put_superblock(alloc, &mut disk, &[41, 196], slice::from_ref(&run))?;
+    let disk = raw_bytes(alloc, &disk)?;
+    let sound =
+        "retired\nruns lost 0 hidden 0\nshard 00000000000000000000000000000001 00 3 ba7816bf8f01cfea414140de5dae2223b00361a396177a9cb410ff61f20015ad sound plain\ntotal 1 1\n";
+    let spare =
+        "retired\nruns lost 0 hidden 0\nshard 00000000000000000000000000000001 00 3 ba7816bf8f01cfea414140de5dae2223b00361a396177a9cb410ff61f20015ad past_pointer 1 0 11111111-1111-1111-1111-111111111111 spare\ntotal 1 1\n";
+    let lost = "retired\nruns lost 1 hidden 0\ntotal 0 0\n";
+    for (resets, status, lines) in [
+        ("", 0, sound),
+        (" --reset 1", 1, spare),
+        (" --reset=1 --reset 1 --workers 0", 1, spare),
+        (" --reset 2", 1, lost),
+        (" --reset 2 --reset 1 --workers 2", 1, lost),
+    ] {
+        let words = format!(in alloc; "manifest --page 64 --pages 4 --extents 3 disk.img{resets}")?;
+        check(&rt, alloc, &words, image(&disk), (status, lines, ""))?;
+    }
+    Ok(())
+}
+
+/// Each case also has the faults of all cases below it. Extent 0 can't be reset.
+#[test]
+fn an_extent_that_can_not_be_reset_is_reported_before_pages_and_files(
+    rt: HostRuntime,
+) -> Result<(), Fail> {
+    for (words, status, line) in [
+        (
+            "manifest --page 60 --pages 4 --extents 3 --reset 3 other.img 3:0",
+            2,
+            "shardscrub: geometry refused: PageSize\n",
+        ),
+        (
+            "manifest --page 64 --pages 4 --extents 3 --reset 1 --reset 3 other.img 3:0",
+            2,
+            "shardscrub: extent out of range\n",
+        ),
+        (
+            "manifest --page 64 --pages 4 --extents 3 --reset 2 --reset 0 other.img 3:0",
+            2,
+            "shardscrub: extent out of range\n",
+        ),
+        (
+            "manifest --page 64 --pages 4 --extents 3 --reset 2 --reset 1 other.img 3:0",
+            2,
+            "shardscrub: bad page refused: 3:0\n",
+        ),
+        (
+            "manifest --page 64 --pages 4 --extents 3 --reset 2 other.img 2:0",
+            3,
+            "shardscrub: image cannot be opened: other.img\n",
+        ),
+    ] {
+        check(&rt, rt.alloc(), words, image(&[0; 769]), (status, "", line))?;
     }
     Ok(())
 }
@@ -187,9 +254,13 @@ fn the_summary_of_a_disk_with_one_shard(rt: HostRuntime) -> Result<(), Fail> {
     Ok(())
 }
 
-/// Without sizes the order of faults is: the map, the image, the sizes, and then the places.
+/// Without sizes the order of faults is: the map, the image, the sizes, and then extent and pages.
 #[test]
-fn without_a_record_there_are_no_sizes(rt: HostRuntime) -> Result<(), Fail> {
+fn the_first_of_several_faults_without_sizes(rt: HostRuntime) -> Result<(), Fail> {
+    for words in ["scan disk.img 9:9", "items --extent 3 disk.img 9:9"] {
+        let line = "shardscrub: sizes not found: run shardscrub sizes\n";
+        check(&rt, rt.alloc(), words, image(&[0; 768]), (2, "", line))?;
+    }
     let (disk, _) = one_shard(rt.alloc())?;
     for (words, wanted) in [
         (
@@ -231,7 +302,7 @@ fn the_locators_of_a_disk_with_an_unreadable_page(rt: HostRuntime) -> Result<(),
     Ok(())
 }
 
-/// Behind a locator that dangles stands the first chunk that has what it asks for, be it at its own place, and how many do.
+/// After the line of a locator that dangles comes the first chunk with its payload, even at its own place, and how many there are.
 #[test]
 fn the_spares_of_a_locator_of_another_chunk(rt: HostRuntime) -> Result<(), Fail> {
     let alloc = rt.alloc();
@@ -243,7 +314,7 @@ fn the_spares_of_a_locator_of_another_chunk(rt: HostRuntime) -> Result<(), Fail>
     check(&rt, alloc, LOCATORS, image(&disk), (1, lines, ""))
 }
 
-/// A chunk that nothing names, in an extent that may be reclaimed, alone has what a locator past a pointer asks for.
+/// Only a chunk that nothing names, in an extent that may be reclaimed, has the payload of a locator past a pointer.
 #[test]
 fn a_spare_that_a_reset_might_take(rt: HostRuntime) -> Result<(), Fail> {
     let alloc = rt.alloc();
@@ -261,7 +332,7 @@ fn a_spare_that_a_reset_might_take(rt: HostRuntime) -> Result<(), Fail> {
     let doubt = format!(in alloc; "doubt {line}\n")?;
     check_words(&rt, alloc, &words, image(&disk), (1, &doubt, ""))?;
     words.extend_from_slice(&["--accept", line])?;
-    let accepted = format!(in alloc; "accepted {line}\nreclaim 1 41\nroom 1 41 215\n")?;
+    let accepted = format!(in alloc; "accepted {line}\nreclaim 1 41\nlast-room 1 41 215\n")?;
     check_words(&rt, alloc, &words, image(&disk), (0, &accepted, ""))
 }
 
