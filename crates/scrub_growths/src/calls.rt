@@ -1,7 +1,7 @@
 //! Which calls are wanted, and how each of them ended. The calls, each with its name, are at the ends of the modules used here.
 
 use crate::ending::{Stop, Wanted};
-use crate::{checks, frames, lists, loading, maps, pool, records, report, runs, scans};
+use crate::{batches, checks, frames, lists, loading, maps, pool, records, report, runs, scans};
 use scrub_report::{WriteFault, write_out};
 use std::alloc::Global;
 use std::io::Write;
@@ -103,7 +103,8 @@ fn write_name<O: Write>(
 
 /// Makes the calls that are wanted.
 pub fn all<R: Threads + Wait + Sync, O: Write>(rt: &R, alloc: Global, trial: &mut Trial<'_, O>) {
-    loading::calls(alloc, trial);
+    loading::calls(rt, alloc, trial);
+    batches::calls(alloc, trial);
     frames::calls(alloc, trial);
     records::calls(alloc, trial);
     runs::calls(alloc, trial);

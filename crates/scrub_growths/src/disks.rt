@@ -73,6 +73,16 @@ pub fn one_shard(alloc: Global) -> Result<(MemDisk, Locator), Stop> {
     Ok((disk, run))
 }
 
+/// A disk like that, but the chunk in extent 1 has rotted to `abX`, and `abc` is behind the run, too.
+pub fn rotted(alloc: Global) -> Result<MemDisk, Stop> {
+    let mut disk = small_disk(alloc)?;
+    put_chunk(alloc, &mut disk, 1, 0, ONES, b"abX")?;
+    let run = put_run(alloc, &mut disk, 2, 0, TWOS, &[abc_at(1, 0)])?;
+    put_chunk(alloc, &mut disk, 2, 155, FOURS, b"abc")?;
+    put_superblock(alloc, &mut disk, &[41, 196], slice::from_ref(&run))?;
+    Ok(disk)
+}
+
 /// A blank disk of four extents.
 pub fn four_extents(alloc: Global) -> Result<MemDisk, Stop>
     ensures { IfOk result (λ disk. (image_of disk).geometry.extents ≡ 4) }

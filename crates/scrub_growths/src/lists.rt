@@ -1,13 +1,14 @@
 //! The lists that follow from the statuses of locators, on the disk of nine locators and on that of twins and a shared place.
 
 use crate::calls::Trial;
-use crate::disks::{names_with_status, nine_locators, twins_and_shared};
+use crate::disks::{many_shards, names_with_status, nine_locators, twins_and_shared};
 use crate::ending::{Stop, Wanted, right};
-use scrub_check::{Candidate, KeptChunk, Place, SharedPlace};
-use scrub_fakes::{ONES, SHARD, plan_of};
-use scrub_scan::scan_in_order;
+use scrub_check::{Candidate, Checked, KeptChunk, Owner, Place, SharedPlace, Spares, Status};
+use scrub_fakes::{ONES, SHARD, abc_at, plan_of};
+use scrub_scan::{Standing, scan_in_order};
 use std::alloc::Global;
 use std::io::Write;
+use std::slice;
 use uuid::Uuid;
 
 /// The seven of nine locators that dangle.
@@ -124,6 +125,47 @@ pub fn liveness_of(alloc: Global, wanted: Wanted) -> Result<(), Stop> {
     )
 }
 
+/// A locator that dangles, and asks for an `abc`.
+fn lost() -> Checked {
+    Checked {
+        owner: Owner::Shard(SHARD),
+        locator: abc_at(1, 300),
+        status: Status::NoFrame,
+    }
+}
+
+/// Whether these are the `abc` at the starts of extents 1 to 38.
+fn are_many(spares: &[Standing]) -> bool {
+    spares.len() == 38
+        && spares.iter().zip(1..39).all(|(spare, extent)| spare.extent == extent
+            && spare.offset == 0
+            && spare.length == 3)
+}
+
+/// The spares of a locator on the disk of 38 chunks of one payload.
+pub fn spares_of(alloc: Global, wanted: Wanted) -> Result<(), Stop> {
+    let disk = many_shards(alloc)?;
+    let plan = plan_of(alloc, &disk)?;
+    let all = scan_in_order(alloc, &disk, &plan)?;
+    wanted.made()?;
+    let spares = Spares::of(alloc, &all, slice::from_ref(&lost()))?;
+    right(are_many(spares.of_one(&lost())))
+}
+
+/// The same among these chunks.
+pub fn spares_among(alloc: Global, wanted: Wanted) -> Result<(), Stop> {
+    let disk = many_shards(alloc)?;
+    let plan = plan_of(alloc, &disk)?;
+    let all = scan_in_order(alloc, &disk, &plan)?;
+    let found = Vec::from_slice(
+        alloc,
+        Spares::of(alloc, &all, slice::from_ref(&lost()))?.all(),
+    )?;
+    wanted.made()?;
+    let spares = Spares::among(found)?;
+    right(are_many(spares.of_one(&lost())))
+}
+
 /// The calls of this module.
 pub fn calls<O: Write>(alloc: Global, trial: &mut Trial<'_, O>) {
     made!(trial, "dangling", "", wanted => dangling(alloc, wanted));
@@ -134,4 +176,6 @@ pub fn calls<O: Write>(alloc: Global, trial: &mut Trial<'_, O>) {
     made!(trial, "shared", "", wanted => shared(alloc, wanted));
     made!(trial, "candidates", "", wanted => candidates(alloc, wanted));
     made!(trial, "liveness_of", "", wanted => liveness_of(alloc, wanted));
+    made!(trial, "Spares::of", "", wanted => spares_of(alloc, wanted));
+    made!(trial, "Spares::among", "", wanted => spares_among(alloc, wanted));
 }

@@ -8,9 +8,10 @@ use scrub_fakes::{RawBytes, mark_bad, small_geometry};
 use scrub_super::{FoundRecord, LostBytes, RecordKind};
 use std::alloc::Global;
 use std::io::Write;
+use std::thread::Threads;
 
 /// The bytes of a page of a small disk, or None if it is unreadable.
-fn page_of(disk: &MemDisk, number: u32) -> Option<[u8; 64]> {
+fn page_of<D: PageSource>(disk: &D, number: u32) -> Option<[u8; 64]> {
     let geometry = disk.geometry();
     if geometry.page() != 64 || geometry.pages() != 4 || geometry.extents() != 3 || number >= 12 {
         return None;
@@ -23,7 +24,7 @@ fn page_of(disk: &MemDisk, number: u32) -> Option<[u8; 64]> {
 }
 
 /// Whether a small disk has these bytes, except for two unreadable pages, given by their numbers on the whole disk.
-fn has_bytes(disk: &MemDisk, bytes: &[u8], unreadable: [u32; 2]) -> bool {
+fn has_bytes<D: PageSource>(disk: &D, bytes: &[u8], unreadable: [u32; 2]) -> bool {
     for number in 0..12 {
         let start = number as usize * 64;
         let found = page_of(disk, number);
@@ -70,6 +71,17 @@ pub fn load(alloc: Global, wanted: Wanted) -> Result<(), Stop> {
     let of_short = scrub_disk::load(alloc, &mut short, small_geometry(), &[])?;
     let of_failing = scrub_disk::load(alloc, &mut failing, small_geometry(), &[])?;
     right(has_bytes(&of_short, &bytes, [10, 11]) && has_bytes(&of_failing, &bytes, [4, NONE]))
+}
+
+/// Loads the same bytes by two readers, half of the pages each. The second one fails once, at page 2 of extent 1.
+pub fn load_in_parts<R: Threads + Sync>(rt: &R, alloc: Global, wanted: Wanted) -> Result<(), Stop> {
+    let bytes = one_shard_bytes(alloc)?;
+    let first = RawBytes::new(&bytes);
+    let failing = RawBytes::failing(&bytes, 4096, 0, 1);
+    let readers = Vec::from_array(alloc, [first, failing])?;
+    wanted.made()?;
+    let disk = scrub_disk::load_in_parts(rt, alloc, readers, small_geometry(), &[])?;
+    right(has_bytes(&disk, &bytes, [6, NONE]))
 }
 
 /// Extent 2 of the disk with one shard, with page 1 unreadable.
@@ -131,12 +143,23 @@ pub fn list_sizes(alloc: Global, wanted: Wanted) -> Result<(), Stop> {
     )
 }
 
-/// The calls of this module.
-pub fn calls<O: Write>(alloc: Global, trial: &mut Trial<'_, O>) {
+/// The sizes that these superblocks give.
+pub fn find_sizes(alloc: Global, wanted: Wanted) -> Result<(), Stop> {
+    let bytes = one_shard_bytes(alloc)?;
+    let mut raw = RawBytes::new(&bytes);
+    wanted.made()?;
+    let found = scrub_report::find_sizes(alloc, &mut raw, &[])?;
+    right(found == Some(small_geometry()))
+}
+
+/// The calls of this module. One reader loads a part on a thread of its own, beside the caller.
+pub fn calls<R: Threads + Sync, O: Write>(rt: &R, alloc: Global, trial: &mut Trial<'_, O>) {
     made!(trial, "MemDisk::blank", "", wanted => blank(alloc, wanted));
     made!(trial, "load", "", wanted => load(alloc, wanted));
+    made!(trial, "load_in_parts", "1", wanted => load_in_parts(rt, alloc, wanted));
     made!(trial, "read_extent", "", wanted => read_extent(alloc, wanted));
     made!(trial, "unreadable_pages", "", wanted => unreadable_pages(alloc, wanted));
     made!(trial, "find_superblocks", "", wanted => find_superblocks(alloc, wanted));
     made!(trial, "list_sizes", "", wanted => list_sizes(alloc, wanted));
+    made!(trial, "find_sizes", "", wanted => find_sizes(alloc, wanted));
 }

@@ -15,6 +15,7 @@ macro_rules! made {
     };
 }
 
+mod batches;
 mod calls;
 mod checks;
 mod disks;

@@ -233,6 +233,25 @@ fn restrict_retiring(alloc: Global, wanted: Wanted) -> Result<(), Stop> {
     )
 }
 
+/// The plan of four extents with extent 3 retired, as if extent 1 had been reset.
+pub fn with_resets(alloc: Global, wanted: Wanted) -> Result<(), Stop> {
+    let (disk, run) = one_retired(alloc)?;
+    let whole = plan_by(alloc, &disk)?;
+    wanted.made()?;
+    let plan = whole.with_resets(alloc, &[1])?;
+    if plan.geometry().extents() <= 2 {
+        return Err(Stop::Wrong);
+    }
+    right(
+        plan.planned() == [1, 2].as_slice()
+            && plan.retired() == [3].as_slice()
+            && plan.pointer(1) == 0
+            && plan.pointer(2) == 155
+            && plan.runs() == slice::from_ref(&run)
+            && plan.has_superblock(),
+    )
+}
+
 /// The calls of this module, for both kinds of records.
 pub fn calls<O: Write>(alloc: Global, trial: &mut Trial<'_, O>) {
     for (kind, second) in [(RecordKind::Ssb1, ""), (RecordKind::Ssb2, "SSB2")] {
@@ -243,4 +262,5 @@ pub fn calls<O: Write>(alloc: Global, trial: &mut Trial<'_, O>) {
         made!(trial, "Plan::make", second, wanted => make_plan(alloc, wanted, kind));
         made!(trial, "Plan::restrict", second, wanted => restrict(alloc, wanted, kind));
     }
+    made!(trial, "Plan::with_resets", "", wanted => with_resets(alloc, wanted));
 }

@@ -1,5 +1,6 @@
 //! Tests of whole scrubs: reports, indexes, listings, and lists longer than in any example.
 
+pub mod copies;
 pub mod large;
 pub mod listings;
 pub mod loaded;
@@ -7,6 +8,7 @@ pub mod page_counts;
 pub mod published;
 pub mod reclaimable;
 pub mod retired;
+pub mod rooms;
 pub mod scrub;
 pub mod sizes;
 pub mod writing;

@@ -148,13 +148,13 @@ fn each_of_100032_locators_has_its_lines(rt: HostRuntime) -> Result<(), Fail> {
         "shard 0000000000000000000000000000061a 1 4101271 3 11111111-1111-1111-1111-111111111111 sound\n";
     check_lines(&rt, rt.alloc(), &disk, Which::Locators, 100_033, last)?;
     let last =
-        "move 1 4101271 3 11111111-1111-1111-1111-111111111111 shard 0000000000000000000000000000061a 41\nroom 2 6028569 10748647\n";
+        "move 1 4101271 3 11111111-1111-1111-1111-111111111111 shard 0000000000000000000000000000061a 41\nroom 2 6028569 10748647\nlast-room 1 8202624 8574592\n";
     check_lines(
         &rt,
         rt.alloc(),
         &disk,
         Which::Reclaimable(NONE),
-        100_034,
+        100_035,
         last,
     )
 }

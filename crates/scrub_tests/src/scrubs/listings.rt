@@ -1,11 +1,17 @@
-//! The two listings that scan a disk, of named locators and of what may be reclaimed, by any number of workers.
+//! The listings that scan a disk (its named locators, what may be reclaimed, what it holds, and its summary), by any number of
+//! workers.
 
-ghost use Rattle.std.specs.Prelude.{◌≤◌};
+ghost use Rattle.std.specs.Prelude.{◌≤◌, IsTrue};
+ghost use Rattle.std.specs.List.Sorted.{IsStrictlyIncreasing};
 
-use scrub_disk::PageSource;
-use scrub_pool::{Gate, Takings};
-use scrub_report::{Accepted, ScrubFault, list_locators, list_reclaimable};
+use crate::support::compare::same;
+use scrub_disk::{MemDisk, PageSource};
+use scrub_pool::{Gate, NoGate, Takings};
+use scrub_report::{
+    Accepted, ScrubFault, list_locators, list_manifest, list_reclaimable, list_summary,
+};
 use std::alloc::Global;
+use std::process::Abort;
 use std::sync::Wait;
 use std::test::Fail;
 use std::thread::Threads;
@@ -17,6 +23,20 @@ pub(crate) enum Which {
     Locators,
     /// What may be reclaimed, with these kinds and lines of doubts accepted.
     Reclaimable(&'static [&'static str]),
+    /// What the disk holds as if these extents, which rise, had been reset.
+    Manifest(&'static [u32]),
+    /// The disk summed up.
+    Summary,
+}
+
+impl Which {
+    /// The extents that are taken as reset.
+    fn resets(self) -> &'static [u32] {
+        match self {
+            Which::Manifest(resets) => resets,
+            Which::Locators | Which::Reclaimable(_) | Which::Summary => &[],
+        }
+    }
 }
 
 /// A listing, and which worker took which extents for it.
@@ -32,7 +52,19 @@ pub(crate) struct Listing {
 /// No doubt.
 pub(crate) const NONE: &[&str] = &[];
 
-/// A listing of a disk, by `workers` workers and the caller.
+/// Whether each number is less than the next one.
+fn rise(numbers: &[u32]) -> bool
+    ensures { IsTrue result → IsStrictlyIncreasing numbers.now }
+{
+    for i in 1..numbers.len() {
+        if numbers[i - 1] >= numbers[i] {
+            return false;
+        }
+    }
+    true
+}
+
+/// A listing of a disk, by `workers` workers and the caller, with these extents taken as reset in a manifest.
 fn answer<D: PageSource, G: Gate, R: Threads + Wait + Sync>(
     rt: &R,
     alloc: Global,
@@ -40,8 +72,10 @@ fn answer<D: PageSource, G: Gate, R: Threads + Wait + Sync>(
     workers: u32,
     gate: &G,
     which: Which,
+    resets: &[u32],
 ) -> Result<Listing, ScrubFault>
-    requires { workers ≤ 64 }
+    requires workers { workers ≤ 64 }
+    requires rising { IsStrictlyIncreasing resets.now }
 {
     match which {
         Which::Locators => {
@@ -67,10 +101,26 @@ fn answer<D: PageSource, G: Gate, R: Threads + Wait + Sync>(
                 takings,
             })
         }
+        Which::Manifest(_) => {
+            let (listing, takings) = list_manifest(rt, alloc, disk, workers, gate, resets)?;
+            Ok(Listing {
+                text: listing.text,
+                is_good: listing.is_whole,
+                takings,
+            })
+        }
+        Which::Summary => {
+            let (listing, takings) = list_summary(rt, alloc, disk, workers, gate)?;
+            Ok(Listing {
+                text: listing.text,
+                is_good: listing.is_sound,
+                takings,
+            })
+        }
     }
 }
 
-/// The same; out of memory fails the test.
+/// A listing of a disk, by `workers` workers and the caller. Out of memory fails the test.
 pub(crate) fn listing_of<D: PageSource, G: Gate, R: Threads + Wait + Sync>(
     rt: &R,
     alloc: Global,
@@ -81,8 +131,27 @@ pub(crate) fn listing_of<D: PageSource, G: Gate, R: Threads + Wait + Sync>(
 ) -> Result<Listing, Fail>
     requires { workers ≤ 64 }
 {
-    match answer(rt, alloc, disk, workers, gate, which) {
+    let resets = which.resets();
+    if !rise(resets) {
+        return Err(Fail::from("extents that rise"));
+    }
+    match answer(rt, alloc, disk, workers, gate, which, resets) {
         Ok(listing) => Ok(listing),
         Err(ScrubFault::OutOfMemory) => Err(Fail::from("out of memory")),
     }
+}
+
+/// Checks the lines of a listing by one worker and the caller, and whether the program ends with status 0 after them.
+pub(crate) fn check_listing<R: Threads + Wait + Abort + Sync>(
+    rt: &R,
+    alloc: Global,
+    disk: &MemDisk,
+    which: Which,
+    is_good: bool,
+    text: &str,
+) -> Result<(), Fail> {
+    let listing = listing_of(rt, alloc, disk, 1, &NoGate, which)?;
+    same(rt, str::from_utf8(&listing.text)?, text);
+    same(rt, listing.is_good, is_good);
+    Ok(())
 }

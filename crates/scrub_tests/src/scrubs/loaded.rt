@@ -9,7 +9,7 @@ use crate::support::reported::scrubbed;
 use scrub_disk::{PageSource, load};
 use scrub_fakes::published::ONE_SHARD;
 use scrub_fakes::{RawBytes, mark_bad, small_geometry};
-use scrub_report::ScrubAnswer;
+use scrub_report::{ScrubAnswer, find_sizes};
 use std::alloc::Global;
 use std::process::Abort;
 use std::test::Fail;
@@ -136,6 +136,21 @@ fn a_last_read_that_fails_is_no_fault(rt: HostRuntime) -> Result<(), Fail> {
     for (most, failing) in [(64, 12), (40, 24), (1, 768)] {
         let answer = scrubbed_failing(&rt, rt.alloc(), &bytes, most, failing)?;
         same(&rt, str::from_utf8(answer.report())?, ONE_SHARD);
+    }
+    Ok(())
+}
+
+/// The bytes of the superblock are all there, marked as lost, or zeros.
+#[test]
+fn the_sizes_of_a_disk_are_those_of_its_superblock(rt: HostRuntime) -> Result<(), Fail> {
+    let bytes = raw_bytes(&rt, rt.alloc())?;
+    for (raw, marked, wanted) in [
+        (bytes.as_slice(), [false].as_slice(), Some(small_geometry())),
+        (bytes.as_slice(), [true].as_slice(), None),
+        ([0; 768].as_slice(), [false].as_slice(), None),
+    ] {
+        let found = find_sizes(rt.alloc(), &mut RawBytes::new(raw), marked)?;
+        same(&rt, found, wanted);
     }
     Ok(())
 }

@@ -1,11 +1,9 @@
 //! What may be reclaimed on worked disks, line by line, and the doubts that forbid it.
 
-use crate::scrubs::listings::{NONE, Which, listing_of};
-use crate::support::compare::same;
+use crate::scrubs::listings::{NONE, Which, check_listing};
 use crate::support::disks::{Worked, put_run};
 use scrub_disk::MemDisk;
 use scrub_fakes::{ONES, TWOS, put_chunk, put_superblock, small_disk};
-use scrub_pool::NoGate;
 use std::alloc::Global;
 use std::process::Abort;
 use std::sync::Wait;
@@ -20,10 +18,8 @@ fn check<R: Threads + Wait + Abort + Sync>(
     accepted: &'static [&'static str],
     text: &str,
 ) -> Result<(), Fail> {
-    let listing = listing_of(rt, alloc, disk, 1, &NoGate, Which::Reclaimable(accepted))?;
-    same(rt, str::from_utf8(&listing.text)?, text);
-    same(rt, listing.is_good, !text.contains("doubt"));
-    Ok(())
+    let is_good = !text.contains("doubt");
+    check_listing(rt, alloc, disk, Which::Reclaimable(accepted), is_good, text)
 }
 
 /// A disk of three extents. Extent 2 has a chunk that nothing names, and after it a run that the superblock names twice.
@@ -41,7 +37,8 @@ fn each_owner_of_a_run_to_keep_has_a_line(rt: HostRuntime) -> Result<(), Fail> {
         "reclaim 2 98\n",
         "move 2 98 57 22222222-2222-2222-2222-222222222222 run 0 95\n",
         "move 2 98 57 22222222-2222-2222-2222-222222222222 run 1 95\n",
-        "room 1 0 256\n"
+        "room 1 0 256\n",
+        "last-room 2 193 63\n"
     );
     check(
         &rt,
@@ -80,7 +77,7 @@ const ROWS: [Row; 18] = [
             "reclaim 1 41\n",
             "move 1 41 3 11111111-1111-1111-1111-111111111111 shard 00000000000000000000000000000001 41\n",
             "move 1 41 3 11111111-1111-1111-1111-111111111111 shard 00000000000000000000000000000002 41\n",
-            "room 1 82 174\n"
+            "last-room 1 82 174\n"
         ),
     ),
     (
@@ -89,13 +86,14 @@ const ROWS: [Row; 18] = [
         concat!(
             "reclaim 1 41\n",
             "move 1 41 3 11111111-1111-1111-1111-111111111111 shard 00000000000000000000000000000001 41\n",
-            "room 2 155 101\n"
+            "room 2 155 101\n",
+            "last-room 1 82 174\n"
         ),
     ),
     (
         Worked::DeletedInTheNewestRun,
         NONE,
-        "reclaim 1 41\nroom 3 155 101\n",
+        "reclaim 1 41\nroom 3 155 101\nlast-room 1 41 215\n",
     ),
     // With a superblock in doubt, nothing may be reclaimed.
     (Worked::Zeros, NONE, "doubt no-superblock\n"),

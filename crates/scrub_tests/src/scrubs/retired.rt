@@ -62,7 +62,7 @@ fn one_shard_retiring(
 
 /// A disk of four extents with `abc` in extent 1 and the run of one shard that names it in extent 2. Extent 3 is retired; it is
 /// full of FF, and its page 0 is unreadable.
-fn broken_and_retired(rt: &impl Abort, alloc: Global) -> Result<MemDisk, Fail> {
+pub(crate) fn broken_and_retired(rt: &impl Abort, alloc: Global) -> Result<MemDisk, Fail> {
     let mut disk = MemDisk::blank(alloc, Geometry::new(64, 4, 4)?)?;
     put_chunk(alloc, &mut disk, 1, 0, ONES, b"abc")?;
     let run = put_run(alloc, &mut disk, 2, 0, TWOS, &[abc_at(1, 0)])?;

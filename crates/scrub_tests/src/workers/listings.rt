@@ -1,5 +1,5 @@
-//! The listings of the named locators and of what may be reclaimed, by any number of workers: the lines, who took what, what
-//! the gate saw, and how often pages are asked for.
+//! The listings that scan a disk, by any number of workers: the lines, who took what, what the gate saw, and how often pages
+//! are asked for.
 
 ghost use Rattle.std.specs.Prelude.{◌≤◌};
 
@@ -19,6 +19,56 @@ use std::thread::Threads;
 use std::time::Clock;
 use uuid::Uuid;
 
+/// The digest of `abc`.
+const ABC: &str = "ba7816bf8f01cfea414140de5dae2223b00361a396177a9cb410ff61f20015ad";
+
+/// The summary of the disk of `halved`.
+const SUMMARY: &str = "verdict sound
+page_bytes 64
+extent_pages 64
+extents 40
+retired_extents 0
+superblocks 1
+superblock_generation 1
+superblock_tie 0
+superblocks_damaged 0
+superblocks_stray 0
+unreadable_pages 0
+runs 1
+runs_lost 0
+shards 38
+shards_broken 0
+shards_doubtful 0
+locators 39
+locators_hidden 0
+locators_dangling 0
+spares 0
+chunks 77
+chunk_bytes 6120
+live_chunks 39
+live_bytes 4562
+orphans 38
+orphan_bytes 1558
+twins 76
+shared_places 0
+torn_items 0
+noise_items 0
+lost_items 0
+tails 0
+tail_bytes 0
+candidates 38
+candidate_bytes 1558
+chunks_to_move 38
+";
+
+/// All listings.
+const ALL: [Which; 4] = [
+    Which::Locators,
+    Which::Reclaimable(NONE),
+    Which::Manifest(&[]),
+    Which::Summary,
+];
+
 /// The disk of many shards, with a second chunk in each of extents 1 to 38 that nobody names.
 fn halved(rt: &impl Abort, alloc: Global) -> Result<MemDisk, Fail> {
     let (mut disk, payload) = many_shards(rt, alloc)?;
@@ -33,31 +83,49 @@ fn halved(rt: &impl Abort, alloc: Global) -> Result<MemDisk, Fail> {
     Ok(disk)
 }
 
-/// The lines of that disk: its run and its shards, or its extents to reclaim, each with the chunk to move, and the room behind
-/// its run.
-fn lines(alloc: Global, which: Which) -> Result<String, Fail> {
-    let mut text = match which {
-        Which::Locators => {
-            String::from_str(
-                alloc,
-                "run 0 39 0 2966 f0f0f0f0-f0f0-f0f0-f0f0-f0f0f0f0f0f0 sound\n",
-            )?
-        }
-        Which::Reclaimable(_) => String::new(alloc),
-    };
-    for byte in 1..39u8 {
-        let uuid = Uuid::from_bytes([byte; 16]);
-        let line = match which {
-            Which::Locators => format!(in alloc; "shard {byte:032x} {byte} 0 3 {uuid} sound\n")?,
-            Which::Reclaimable(_) => {
-                format!(in alloc; "reclaim {byte} 41\nmove {byte} 0 3 {uuid} shard {byte:032x} 41\n")?
-            }
-        };
-        text.push_str(&line)?;
+/// The line of an extent's named chunk in a listing, or the lines of the extent, if it is to be reclaimed, and of the chunk to
+/// move.
+fn line_of(alloc: Global, which: Which, byte: u8) -> Result<String, Fail> {
+    let uuid = Uuid::from_bytes([byte; 16]);
+    match which {
+        Which::Locators => Ok(format!(in alloc; "shard {byte:032x} {byte} 0 3 {uuid} sound\n")?),
+        Which::Reclaimable(_) => Ok(format!(in alloc;
+            "reclaim {byte} 41\nmove {byte} 0 3 {uuid} shard {byte:032x} 41\n"
+        )?),
+        Which::Manifest(_) => Ok(format!(in alloc; "shard {byte:032x} 00 3 {ABC} sound plain\n")?),
+        Which::Summary => Ok(String::new(alloc)),
     }
+}
+
+/// The lines behind those of the chunks: the room behind the run, and behind the two chunks of each extent to reclaim.
+fn lines_behind(alloc: Global, which: Which) -> Result<String, Fail> {
+    if matches!(which, Which::Manifest(_)) {
+        return Ok(String::from_str(alloc, "total 38 38\n")?);
+    }
+    let mut text = String::new(alloc);
     if matches!(which, Which::Reclaimable(_)) {
         text.push_str("room 39 3004 1092\n")?;
+        for extent in 1..39 {
+            let line = format!(in alloc; "last-room {extent} 82 4014\n")?;
+            text.push_str(&line)?;
+        }
     }
+    Ok(text)
+}
+
+/// The lines of that disk.
+fn lines(alloc: Global, which: Which) -> Result<String, Fail> {
+    let before = match which {
+        Which::Locators => "run 0 39 0 2966 f0f0f0f0-f0f0-f0f0-f0f0-f0f0f0f0f0f0 sound\n",
+        Which::Reclaimable(_) => "",
+        Which::Manifest(_) => "retired\nruns lost 0 hidden 0\n",
+        Which::Summary => SUMMARY,
+    };
+    let mut text = String::from_str(alloc, before)?;
+    for byte in 1..39 {
+        text.push_str(&line_of(alloc, which, byte)?)?;
+    }
+    text.push_str(&lines_behind(alloc, which)?)?;
     Ok(text)
 }
 
@@ -89,7 +157,7 @@ fn check_listing<R: Threads + Wait + Abort + Clock + Sync>(
 #[test]
 fn any_number_of_workers_lists_the_same_lines(rt: HostRuntime) -> Result<(), Fail> {
     let disk = halved(&rt, rt.alloc())?;
-    for which in [Which::Locators, Which::Reclaimable(NONE)] {
+    for which in ALL {
         for workers in [0, 1, 3, 7] {
             let all = workers as usize + 1;
             check_listing(&rt, rt.alloc(), &disk, which, workers, all)?;
@@ -133,7 +201,7 @@ fn check_reading<R: Threads + Wait + Abort + Clock + Sync>(
 #[test]
 fn a_listing_asks_for_each_page_once_except_those_of_the_run(rt: HostRuntime) -> Result<(), Fail> {
     let disk = halved(&rt, rt.alloc())?;
-    for which in [Which::Locators, Which::Reclaimable(NONE)] {
+    for which in ALL {
         for workers in [0, 3] {
             check_reading(&rt, rt.alloc(), &disk, which, workers)?;
         }
