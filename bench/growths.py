@@ -10,8 +10,8 @@ the call's values are skipped; a run before counts them.
 
 A call with a refused growth has to run out of memory or give the right answer all the same: a request may be repeated, or work
 done without a thread that can't start. If all later growths are refused too, it has to run out of memory. Last, the calls with
-workers run with each growth of a worker refused, and none of the caller's. By then the caller has scanned all extents, and
-still the call has to run out of memory. The C library of `allocations.py` refuses.
+workers run with each growth of a worker refused, and none of the caller's. By then the caller has scanned all extents, or
+loaded its part, and still the call has to run out of memory. The C library of `allocations.py` refuses.
 
 Before that, this script reads the sources of the program's libraries. Each public function that takes an allocator, or can
 answer out of memory, has to be a call here, or one of the few below that take no memory.
@@ -34,17 +34,21 @@ RIGHT = (0, b"right\n", b"")
 OUT_OF_MEMORY = (4, b"out of memory\n", b"")
 # No program makes so many allocations.
 NONE_REFUSED = 10**9
-# Calls without a growth. Every other call has at least one.
-WITHOUT_GROWTH = {"ExtentQueue::split"}
+# Calls without a growth. Every other call has at least one. The chunks of `Spares::among` are sorted already, as `Spares::of` gives
+# them, and sorting these takes no memory.
+WITHOUT_GROWTH = {"ExtentQueue::split", "Spares::among"}
 # These look as if they took memory, but take none: an empty list, the contents of a list, a fault of another kind.
-NOT_CALLED = {"WorkerCore::new", "Run::take", "Geometry::new", "write_out"}
-# The crates whose public functions are calls here, without the `scrub_` of their names.
-LIBRARIES = ["disk", "map", "frame", "super", "scan", "run", "merge", "check", "book", "pool", "report"]
+NOT_CALLED = {"Batch::new", "WorkerCore::new", "Run::take", "Geometry::new", "write_out"}
+# The crates whose public functions are calls here.
+LIBRARIES = ["sha_lanes"] + [
+    f"scrub_{name}"
+    for name in ("disk", "map", "frame", "super", "scan", "run", "merge", "check", "book", "pool", "report")
+]
 # A public function: its indentation, its name, and its signature up to the clauses or the body.
 FUNCTION = re.compile(r"^( *)pub fn (\w+)(.*?)(?=\n *(?:requires|ensures|\{)| \{)", re.MULTILINE | re.DOTALL)
 # The type of the methods that follow.
 IMPL = re.compile(r"^impl(?:<.*?>)? (\w+)", re.MULTILINE)
-TAKES_MEMORY = re.compile(r"alloc: Global|OutOfMemory|Fault>|StepRefused")
+TAKES_MEMORY = re.compile(r"alloc: Global|OutOfMemory|AllocError|Fault>|StepRefused")
 
 
 def sweep(program, library, call, before, all_later):
@@ -72,7 +76,7 @@ def missing(calls):
     """Yields the public functions that take memory but are no call. `lib.rt` makes a name or its module public."""
     made = {call.split()[0] for call in calls} | NOT_CALLED
     for library in LIBRARIES:
-        folder = TOP / "crates" / f"scrub_{library}" / "src"
+        folder = TOP / "crates" / library / "src"
         root = (folder / "lib.rt").read_text()
         names = set(re.findall(r"\w+", " ".join(re.findall(r"^pub use ([^;]*);", root, re.MULTILINE))))
         for path in sorted(folder.rglob("*.rt")):

@@ -1,22 +1,33 @@
 #!/usr/bin/env python3
-"""Compares a program with reference.py on made-up disks, byte for byte: report, index, named locators, superblocks, what may be
-reclaimed, sizes, and the status of each. Half of the disks have a map of GNU ddrescue, and some of these maps are refused.
+"""Compares a program with reference.py on made-up disks, byte for byte: report, index, summary, named locators with spares,
+manifests with resets, superblocks, what may be reclaimed, sizes, and the status of each. Half of the disks have a map of GNU
+ddrescue, and some of these maps are refused. Some texts to accept and some extents to reset are refused, too.
 
-usage: hold.py PROGRAM [COUNT] [SEED]      PROGRAM '-' runs no program and only counts the findings of the disks
+usage: bench/hold.py [PROGRAM] [--count N] [--seed S] [--jobs N] [--commands A,B,..]
 
-Stops at the first difference. It leaves the image, its map and both outputs in the folder hold-difference, in the system's
-folder for temporary files.
+  PROGRAM      without it that of these sources; '-' runs no program and only counts what the disks have
+  --count      how many disks (default 300)
+  --jobs       how many processes compare (default 1)
+  --commands   only these commands
+
+A process stops at its first difference. It leaves the image, its map and both outputs in the folder hold-difference, in the
+system's folder for temporary files. Prints how often each kind of line came up, and ends with 'N passed, M failed'.
 """
+import argparse
 import os
 import random
 import subprocess
 import sys
 import tempfile
 from collections import Counter
+from concurrent.futures import ProcessPoolExecutor
+from hashlib import sha256
 
 from disks import (DIGEST, LOCATOR, MAGIC, fields, frame, geometry, locator, record, record_head, run, sealed_frame,
                    with_digest)
-from reference import ACCEPTABLE, Image, MapFault, lost_by_map, read_map, reclaimable, report_text, scrub, sizes, superblocks
+from program import default
+from reference import (ACCEPTABLE, Image, MapFault, lost_by_map, manifest, read_map, reclaimable, refusal, report_text, scrub,
+                       sizes, summary, superblocks)
 
 DIFFERENCE = os.path.join(tempfile.gettempdir(), "hold-difference")
 
@@ -179,58 +190,277 @@ class Made:
         return bytes(text)
 
 
+class Tended(Made):
+    """A disk that mostly has a superblock that counts, and runs that are read, so that something may be reclaimed. Chunks were
+    rewritten and copied, shards deleted, extents retired and reset, and some bytes are damaged."""
+
+    def __init__(self, c):
+        super().__init__(c)
+        self.p = c.choice([64, 64, 64, 128, 256, 512])
+        self.n = c.choice([8, 8, 12, 16, 24])
+        self.e = c.choice([3, 4, 5, 6, 8])
+        self.size = self.p * self.n
+        self.raw = bytearray(self.size * self.e)
+        self.w = [0] * (self.e - 1)
+        self.payloads = {}
+
+    def put(self, e, o, t):
+        """Writes into this extent alone."""
+        super().put(e, o, t[:max(0, self.size - o)])
+
+    def append(self, e, b, u=None):
+        """The locator of a chunk behind what is written to the extent, or None if it doesn't fit."""
+        c, w = self.c, self.w[e - 1]
+        t = c.choice([frame, frame, sealed_frame])(u or self.uuid(), b)
+        if w % self.p and not self.ends_in_chunk[e - 1]:
+            w = -(-w // self.p) * self.p
+        if w + len(t) > self.size:
+            return None
+        self.put(e, w, t)
+        self.w[e - 1], self.ends_in_chunk[e - 1] = w + len(t), True
+        l = LOCATOR.pack(e, w, len(b), t[2:18], sha256(b).digest())
+        self.payloads[l] = b
+        return l
+
+    def crash(self, e):
+        """The remains of a chunk of which the pages from some page bound on were lost, and perhaps a chunk that was written there
+        and looks like the end of the lost one."""
+        c, w = self.c, self.w[e - 1]
+        bound = -(-(w + 24) // self.p) * self.p
+        u = c.randbytes(14) + MAGIC
+        b = c.randbytes(max(0, bound + c.choice([2, 2, 2, 17, 30]) - 38 - w))
+        t = frame(u, b)[:bound - w]
+        if bound + 60 > self.size or len(b) > 600:
+            return
+        self.put(e, w, t)
+        self.w[e - 1], self.ends_in_chunk[e - 1] = bound, True
+        if c.random() < .7:
+            l = self.append(e, c.randbytes(5))
+            if l:
+                self.known.append(l)
+
+    def pad(self, e):
+        """Moves the write pointer over zeros, or over a byte of noise, to anywhere."""
+        c, w = self.c, self.w[e - 1]
+        if w + 100 < self.size:
+            bound = -(-w // self.p) * self.p
+            if c.random() < .2:
+                self.put(e, bound, b"noise")
+            self.w[e - 1], self.ends_in_chunk[e - 1] = min(self.size, bound + c.choice([0, 20, self.p])), False
+            if c.random() < .1:
+                self.put(e, self.w[e - 1] + c.randrange(10), b"x")
+
+    def fill(self):
+        c = self.c
+        used = [e for e in range(1, self.e) if e not in self.retired] or [1]
+        weights = [c.choice([1, 1, 3]) for _ in used]
+        for _ in range(c.randrange(3, 24)):
+            e = c.choices(used, weights)[0]
+            kind = c.random()
+            if kind < .25 and self.payloads:
+                l = self.append(e, c.choice(list(self.payloads.values())))
+                if l and c.random() < .4:
+                    self.known.append(l)
+            elif kind < .8:
+                l = self.append(e, c.randbytes(c.choice([0, 1, 3, 12, 28, c.randrange(150)])))
+                if l and c.random() < .7:
+                    self.known.append(l)
+            elif kind < .87:
+                self.append(e, c.randbytes(max(0, min(self.size - self.w[e - 1] - 110, c.randrange(1, 900)))))
+            elif kind < .94:
+                self.pad(e)
+            else:
+                self.crash(e)
+
+    def bind(self):
+        """Writes runs, the oldest first. Returns their locators, newest first."""
+        c, runs = self.c, []
+        ids = [c.choice([bytes(15) + bytes([i]), c.randbytes(16)]) for i in range(1, 6)]
+        for _ in range(c.choice([1, 1, 2, 3, 4])):
+            some = sorted(set(c.sample(ids, c.randrange(1, 5))))
+            few = c.choice([self.known, c.sample(self.known, -(-len(self.known) // 3))])
+            entries = [(i, [c.choice(few) for _ in range(c.choice([0, 1, 1, 1, 2, 3]))] if few else []) for i in some]
+            if c.random() < .25:
+                entries = [(i, [self.spoilt(l) if c.random() < .2 else l for l in ls]) for i, ls in entries]
+            for e in c.sample(range(1, self.e), self.e - 1):
+                l = None if e in self.retired and c.random() < .95 else self.append(e, run(*entries))
+                if l:
+                    runs.insert(0, l)
+                    break
+        return runs
+
+    def damage(self):
+        """Damages bytes of chunks, writes behind pointers, and returns the unreadable pages."""
+        c = self.c
+        written = list(self.payloads.values())
+        copied = [l for l in self.known if self.payloads[l] and written.count(self.payloads[l]) > 1]
+        some = c.choice([copied, self.known]) or self.known
+        for l in c.sample(some, min(len(some), c.choice([0, 0, 1, 1, 2]))):
+            e, o, length, _, _ = LOCATOR.unpack(l)
+            if o + length + 38 <= self.size:
+                self.raw[e * self.size + o + c.randrange(length + 38)] ^= 1 << c.randrange(8)
+        for _ in range(c.choice([0, 0, 0, 0, 1, 2])):
+            e = c.randrange(1, self.e)
+            room = self.size - self.w[e - 1]
+            if room > 20:
+                self.put(e, self.w[e - 1] + c.randrange(room - 10), c.choice([b"tail", MAGIC, bytes(3) + b"x"]))
+        if c.random() < .03:
+            self.raw[c.randrange(len(self.raw))] ^= 1
+        lost = [(c.randrange(1, self.e), c.randrange(self.n)) for _ in range(c.choice([0, 0, 0, 0, 0, 0, 0, 1, 1, 3]))]
+        return lost + ([(0, self.n - 1)] if c.random() < .02 else [])
+
+    def make(self):
+        c = self.c
+        self.ends_in_chunk = [True] * (self.e - 1)
+        self.retired = sorted(c.sample(range(1, self.e), c.choice([0, 0, 0, 1, 1, min(2, self.e - 2)])))
+        self.fill()
+        runs = self.bind()
+        if c.random() < .3:
+            self.fill()
+        for e in range(1, self.e):
+            if c.random() < .3:
+                self.pad(e)
+        ws = self.w
+        if c.random() < .12:
+            self.retired = sorted({*self.retired, c.randrange(1, self.e)})
+        if c.random() < .15:
+            ws = [c.choice([w, w, w, max(0, w - c.randrange(60)), 0]) for w in ws]
+        if c.random() < .04:
+            runs = [self.spoilt(l) if c.random() < .5 else l for l in runs]
+        t = record(self.p, self.n, self.e, ws, runs[:32], 5, self.retired or c.choice([None, None, []]))
+        if len(t) <= self.size:
+            g = c.randrange((self.size - len(t)) // self.p + 1)
+            older = record(self.p, self.n, self.e, [0] * (self.e - 1), [], c.choice([1, 4]))
+            if c.random() < .3 and len(older) <= self.size:
+                self.put(0, c.randrange((self.size - len(older)) // self.p + 1) * self.p, older)
+            if c.random() < .15:
+                self.put(0, c.randrange(self.n) * self.p, c.choice([b"SSB1", b"SSB2", b"x"]))
+            self.put(0, g * self.p, t)
+        return self.damage()
+
+
 PARTS = ("extent", "offset", "length", "uuid", "digest")
-SCANS = ("scan", "index", "locators")
+COMMANDS = ("scan", "index", "summary", "locators", "superblocks", "manifest", "reclaimable", "sizes")
 
 
-def right_answers(made, unreadable, text, accepted):
-    """For each command the right status, output and error stream. Also report, clean and answers, unless the map is refused."""
+def texts_to_accept(c, doubts):
+    """Kinds and lines, some of which stand for no line, and a few that are refused."""
+    texts = [kind for kind in ACCEPTABLE if c.random() < .3]
+    for line in doubts:
+        if c.random() < (.03 if refusal(line) else .7):
+            texts.append(line)
+        if c.random() < (.01 if refusal(line) else .15):
+            other = line[:-1] + chr(ord(line[-1]) ^ 1)
+            texts.append(c.choice([other, line + " ", line.replace(" ", "  ", 1), line[:-1], line + "0"]))
+    if c.random() < .1:
+        texts.append(c.choice(["tail 1 0 1", "tail-lost 0 0 0", "spare 1 2 3", "spare ", "superblock-stray  ", "tail x"]))
+    if c.random() < .03:
+        texts.append(c.choice(["spare", "tie", "tie 1", "run-lost", "no-superblock", "Tail", " tail", "superblock-lost 1", ""]))
+    c.shuffle(texts)
+    return texts
+
+
+def extents_to_reset(c, extents):
+    """Lists of extents: one, several, and sometimes one that is out of range."""
+    lists = [[c.randrange(1, extents)], [c.randrange(1, extents) for _ in range(c.choice([2, 3]))], list(range(1, extents))]
+    some = c.sample(lists, 2)
+    if c.random() < .05:
+        some[0].insert(c.randrange(2), c.choice([0, extents, 2 ** 32 - 1]))
+    return some
+
+
+def calls(made, accepted, resets):
+    """The words of each call: of the whole answer, and of the function of the reference that prints it."""
     options = geometry(made.p, made.n, made.e)
+    for command in COMMANDS:
+        if command == "manifest":
+            for extents in ([], *resets):
+                yield command, [command, *options, *(word for e in extents for word in ("--reset", str(e)))], extents
+        elif command == "reclaimable":
+            for texts in ([], accepted):
+                yield command, [command, *options, *(word for text in texts for word in ("--accept", text))], texts
+        else:
+            yield command, [command] + (options if command != "sizes" else []), []
+
+
+def refused(command, given, extents):
+    """The error stream where an argument of this call is refused before the map is read, or None."""
+    if command == "reclaimable":
+        return next(filter(None, map(refusal, given)), None)
+    if command == "manifest" and any(not 1 <= e < extents for e in given):
+        return "shardscrub: extent out of range\n"
+    return None
+
+
+def right_answers(made, unreadable, text, c):
+    """For each call its command, its words, and the right status, output and error stream. Also the report, or None if the map is
+    refused."""
     pairs = [f"{e}:{g}" for e, g in unreadable]
-    accept = [word for kind in accepted for word in ("--accept", kind)]
-    lines = {**{command: [command, *options] for command in (*SCANS, "superblocks")},
-             "reclaimable": ["reclaimable", *options, *accept], "sizes": ["sizes"]}
-    raw, blocks, lost = bytes(made.raw), None, []
+    raw, blocks, fault = bytes(made.raw), None, None
     if text is not None:
         try:
             blocks = read_map(text)
-        except MapFault as fault:
-            refusal = (2, b"", f"shardscrub: map refused: line {fault}\n".encode())
-            return [(words, [] if command == "sizes" else pairs, refusal) for command, words in lines.items()], None
-        lost = [divmod(q, made.n) for q in lost_by_map(blocks, made.p, made.n * made.e)]
+        except MapFault as found:
+            fault = f"shardscrub: map refused: line {found}\n"
+    lost = [divmod(q, made.n) for q in lost_by_map(blocks, made.p, made.n * made.e)] if blocks is not None else []
     image = Image(raw, made.p, made.n, made.e, unreadable + lost)
     report, index, clean, named = scrub(image)
-    answers = {"scan": (report_text(report), clean), "index": (index, clean), "locators": (named.encode(), clean)}
-    for command, (printed, good) in (("superblocks", superblocks(image)), ("reclaimable", reclaimable(image, accepted)),
-                                     ("sizes", sizes(raw, blocks))):
-        answers[command] = printed.encode(), good
-    right = [(words, [] if command == "sizes" else pairs, (0 if answers[command][1] else 1, answers[command][0], b""))
-             for command, words in lines.items()]
-    return right, (report, clean, answers)
+    known = {"scan": (report_text(report), clean), "index": (index, clean), "locators": (named, clean)}
+    of_call = {"summary": lambda _: summary(image), "superblocks": lambda _: superblocks(image),
+               "manifest": lambda given: manifest(image, given), "reclaimable": lambda given: reclaimable(image, given),
+               "sizes": lambda _: sizes(raw, blocks)}
+    doubts = [line.partition(" ")[2] for line in reclaimable(image)[0].splitlines() if line.startswith("doubt ")]
+    right = []
+    for command, words, given in calls(made, texts_to_accept(c, doubts), extents_to_reset(c, made.e)):
+        error = refused(command, given, made.e) or fault
+        if error:
+            right.append((command, words, [] if command == "sizes" else pairs, (2, b"", error.encode())))
+            continue
+        printed, good = known[command] if command in known else of_call[command](given)
+        printed = printed if isinstance(printed, bytes) else printed.encode()
+        right.append((command, words, [] if command == "sizes" else pairs, (0 if good else 1, printed, b"")))
+    return right, None if fault else report
 
 
-def count(seen, report, clean, answers):
-    """Counts the findings of the disk."""
-    for key in ("broken", "candidates", "dangling", "doubtful", "hidden", "orphans", "shared", "twins"):
-        seen[key] += bool(report[key])
-    seen.update({x["reason"] for x in report["dangling"]} | {"run " + x["state"] for x in report["runs"]})
-    seen.update({x.split()[0] for e in report["extents"] for x in e["items"]})
-    seen["clean"] += clean
-    seen["tie"] += report["super"]["tie"]
-    seen["retired"] += bool(report["retired"])
-    seen["nothing planned"] += not report["extents"]
-    seen["keep"] += any(x["keep"] for x in report["candidates"])
-    seen["tail"] += any(e["tail"] for e in report["extents"])
-    seen["no superblock"] += report["super"]["page"] is None
-    seen["unreadable in 0"] += bool(report["super"]["bad"])
-    words = {command: [line.split() for line in answers[command][0].decode().splitlines()] for command in
-             ("superblocks", "reclaimable", "sizes")}
-    seen.update({f"superblocks: {w[0]}" + (f" {w[-1]}" if w[0] == "record" else "") for w in words["superblocks"]})
-    seen.update({"reclaimable: " + " ".join(w[:2] if w[0] in ("doubt", "accepted") else w[:1]) for w in words["reclaimable"]})
-    seen.update({"sizes: " + ("lost" if w[0] == "lost" else w[1]) for w in words["sizes"]})
-    seen["sizes: several"] += len({tuple(w[3:]) for w in words["sizes"] if w[0] != "lost"}) > 1
-    for command in words:
-        seen[f"{command}: status 0"] += answers[command][1]
+def kind_of(command, words):
+    """What is counted of a line: its first words, its status, and what a summary says."""
+    first, *rest = words
+    if command == "locators":
+        return first if first == "spare" else f"{first} {words[-1]}"
+    if command == "manifest":
+        return {"shard": lambda: " ".join(["shard", words[5]] + (words[-1:] if words[5] != "hidden" else [])),
+                "runs": lambda: "runs" + " lost" * (words[2] != "0") + " hidden" * (words[4] != "0"),
+                "retired": lambda: "retired" + " some" * (rest != [])}.get(first, lambda: first)()
+    if command == "reclaimable":
+        return " ".join({"doubt": words[:2], "accepted": words[:2], "move": [first, *words[5:6]]}.get(first, [first]))
+    if command == "superblocks":
+        return " ".join([first, *words[4:5]]) if first == "record" else first
+    if command == "summary":
+        return " ".join(words) if first == "verdict" else None
+    return first if first == "lost" else words[1]
+
+
+def count(seen, report, answers):
+    """Counts the findings of the disk, and the kinds of lines and statuses of its answers."""
+    page = report["geometry"]["page"]
+    for key in ("broken", "candidates", "dangling", "doubtful", "hidden", "orphans", "shared", "twins", "retired"):
+        seen[f"scan: {key}"] += bool(report[key])
+    seen.update({"scan: run " + x["state"] for x in report["runs"]})
+    seen.update({"scan: " + x.split()[0] for e in report["extents"] for x in e["items"]})
+    seen["scan: tie"] += report["super"]["tie"]
+    seen["scan: several runs"] += len(report["runs"]) > 1
+    seen["scan: entries that are older or deletions"] += sum(x["entries"] or 0 for x in report["runs"]) > report["shards"]
+    seen["scan: tail"] += any(e["tail"] for e in report["extents"])
+    seen["scan: nothing planned"] += not report["extents"]
+    seen["scan: a byte between the pointer and the next page, behind padding"] += any(
+        e["tail"] and e["items"] and e["items"][-1].startswith("pad") and e["pointer"] // page == e["tail_at"] // page
+        for e in report["extents"])
+    for command, words, _, (status, printed, _) in answers:
+        with_option = "".join(sorted({f" {word}" for word in words if word in ("--accept", "--reset")}))
+        seen[f"{command}{with_option}: status {status}"] += 1
+        if command not in ("scan", "index"):
+            kinds = {kind_of(command, line.split()) for line in printed.decode().splitlines()}
+            seen.update(f"{command}: {kind}" for kind in kinds - {None})
 
 
 def leave(made, text, right, printed):
@@ -247,39 +477,59 @@ def is_same(program, room, made, text, answers):
         if content is not None:
             with open(f"{room}/{name}", "wb") as file:
                 file.write(content)
-    for words, pairs, right in answers:
+    for command, words, pairs, right in answers:
         line = [*words, *(["--map", f"{room}/map"] if text is not None else []), f"{room}/image", *pairs]
         done = subprocess.run([program, *line], stdin=subprocess.DEVNULL, capture_output=True)
         if (done.returncode, done.stdout, done.stderr) != right:
             leave(made, text, right[1], done.stdout)
-            print(f"{words[0]} differs: status {done.returncode}, right {right[0]}")
+            print(f"{command} differs: status {done.returncode}, right {right[0]}")
             print(f"error stream {done.stderr!r}, right {right[2]!r}")
-            print("arguments:", " ".join(line).replace(room, DIFFERENCE))
+            print("arguments:", " ".join(repr(word) if " " in word else word for word in line).replace(room, DIFFERENCE))
             return False
     return True
 
 
-def main():
-    program, turns, seed = sys.argv[1], int((sys.argv + [0, 0])[2] or 1000), int((sys.argv + [0, 0, 0])[3] or 1)
-    seen = Counter()
+def compare(program, seed, turns, commands):
+    """Compares the disks of these turns up to the first that differs: how many were the same, how many not, and the counts."""
+    seen, same = Counter(), 0
     with tempfile.TemporaryDirectory() as room:
-        for turn in range(turns):
+        for turn in turns:
             c = random.Random(seed * 1_000_003 + turn)
-            made = Made(c)
+            made = (Made if turn % 3 == 0 else Tended)(c)
             unreadable = made.make()
-            text = made.map() if c.random() < .5 else None
-            accepted = [kind for kind in ACCEPTABLE if c.random() < .5] if c.random() < .7 else []
-            answers, disk = right_answers(made, unreadable, text, accepted)
+            text = made.map() if c.random() < (.5 if turn % 3 == 0 else .2) else None
+            answers, report = right_answers(made, unreadable, text, c)
+            answers = [answer for answer in answers if answer[0] in commands]
             seen["map"] += text is not None
-            if disk is None:
-                seen["map refused"] += 1
-            else:
-                count(seen, *disk)
+            seen["map refused"] += report is None
+            if report is not None:
+                count(seen, report, answers)
             if program != "-" and not is_same(program, room, made, text, answers):
-                print(f"turn {turn}")
-                return 1
-    print(f"{turns} disks, all the same" if program != "-" else f"{turns} disks", dict(sorted(seen.items())))
-    return 0
+                print(f"turn {turn}", flush=True)
+                return same, 1, seen
+            same += 1
+    return same, 0, seen
+
+
+def main():
+    parser = argparse.ArgumentParser(usage="%(prog)s [PROGRAM] [--count N] [--seed S] [--jobs N] [--commands A,B,..]")
+    parser.add_argument("program", nargs="?")
+    for name, value in (("--count", 300), ("--seed", 1), ("--jobs", 1)):
+        parser.add_argument(name, type=int, default=value)
+    parser.add_argument("--commands", type=lambda text: text.split(","), default=COMMANDS)
+    a = parser.parse_args()
+    program = a.program or str(default())
+    parts = [range(first, a.count, a.jobs) for first in range(a.jobs)]
+    if a.jobs == 1:
+        done = [compare(program, a.seed, parts[0], a.commands)]
+    else:
+        with ProcessPoolExecutor(a.jobs) as pool:
+            done = list(pool.map(compare, [program] * a.jobs, [a.seed] * a.jobs, parts, [a.commands] * a.jobs))
+    seen = sum((counts for _, _, counts in done), Counter())
+    print(f"{a.count} disks:", ", ".join(f"{kind} {count}" for kind, count in sorted(seen.items())))
+    same, differ = (sum(numbers) for numbers in list(zip(*done))[:2])
+    print(f"{same} passed, {differ} failed")
+    return 0 if differ == 0 and same == a.count else 1
 
 
 if __name__ == "__main__":

@@ -4,11 +4,10 @@ pictures: one for each way in which a picture could look better than its disk. b
 import functools
 from collections import Counter
 
-from disks import Disk, run, shard, uuid
-from reference import Image, reclaimable, scrub, superblocks
+from disks import Disk, locator, run, sealed_frame, shard, uuid
+from reference import ACCEPTABLE, Image, reclaimable, scrub, superblocks
 
 OUTPUTS = ("superblocks", "locators", "reclaimable")
-ACCEPTABLE = ("superblock-damaged", "superblock-stray", "tail", "tail-lost")
 # The text colour of each verdict, as a browser computes it.
 COLOURS = {"wrong": "rgb(179, 38, 30)", "doubt": "rgb(122, 75, 0)", "sound": "rgb(17, 99, 41)"}
 # The classes of an extent in the overview with their colours, the worst first.
@@ -78,17 +77,38 @@ def past_pointers(report):
             if extent and (number + 1) * report["geometry"]["page"] > pointers[extent]}
 
 
-def broken_shards(report):
-    """Each broken owner with its dangling locators."""
+def broken_shards(report, spares=None):
+    """Each broken owner with its dangling locators. Those that have a spare have its words as 'spare'."""
     owners = {f"shard {name}": [] for name in report["broken"]}
-    for one in report["dangling"]:
+    for number, one in enumerate(report["dangling"]):
         if one["owner"].startswith("shard"):
-            owners.setdefault(one["owner"], []).append(one)
+            owners.setdefault(one["owner"], []).append(one | {"spare": (spares or {}).get(number)})
     return owners
 
 
 def lines_of(text):
     return [] if text is None else text.splitlines()
+
+
+def locators_of(outputs):
+    """The words of each named locator."""
+    return [line.split() for line in lines_of(outputs.get("locators")) if not line.startswith("spare ")]
+
+
+def spares_of(report, outputs):
+    """The words of the spare of each dangling locator that has one, by the locator's place in the report's list."""
+    found, count = {}, 0
+    for words in map(str.split, lines_of(outputs.get("locators"))):
+        if words[0] == "spare":
+            found[count - 1] = words
+        elif words[6] not in ("sound", "hidden"):
+            count += 1
+    return found
+
+
+def rooms_of(outputs, kind):
+    """The extent, the offset and the bytes of each line of room of this kind, 'room' or 'last-room'."""
+    return [tuple(map(int, line.split()[1:])) for line in lines_of(outputs.get("reclaimable")) if line.split()[0] == kind]
 
 
 def damaged_pages(outputs):
@@ -161,7 +181,13 @@ def doubts_text(report, outputs):
     opened = open_doubts(report, outputs)
     accepted = len(doubt_lines(report, outputs)) - opened
     parts = [counted(opened, "open doubt")] * (opened > 0) + [counted(accepted, "accepted doubt")] * (accepted > 0)
-    return ", ".join(parts + ["the output of superblocks isn't open"] * (outputs.get("superblocks") is None))
+    parts += ["the output of superblocks isn't open"] * (outputs.get("superblocks") is None)
+    return ", ".join(parts + ["the output of reclaimable isn't open"] * may_spares_go(report, outputs))
+
+
+def may_spares_go(report, outputs):
+    """Whether a last copy may be in a candidate without being known: only reclaimable says so."""
+    return bool(outputs.get("reclaimable") is None and report["dangling"] and report["candidates"])
 
 
 def doubt_in_words(report, words):
@@ -190,6 +216,12 @@ def doubt_in_words(report, words):
         one = report["runs"][number[0]]
         place = one["extent"], one["offset"]
         texts = [f"Index run {number[0]} is lost: {number[1]}.", "Read its pages again, or restore it."]
+    elif kind == "spare":
+        extent, offset, _, _, _, _, count = number
+        place, owner = (extent, offset), " ".join(rest[4:6])
+        condition = f"its {counted(count, 'byte')} are copied before extent {extent} is reset, or nobody needs that chunk any more"
+        texts = [f"A chunk of {owner} can't be read at its place, and its spare copies are only in candidates, the first in "
+                 f"extent {extent} at {offset:,}.", "Let the node write an entry that names this copy."]
     elif kind == "tail":
         extent, offset, count = number
         place, condition = (extent, offset), wrote_nothing
@@ -201,7 +233,8 @@ def doubt_in_words(report, words):
         what = (f"page {first} is unreadable and has" if first == last else f"pages {first} to {last} are unreadable and have")
         texts = [f"Extent {extent}: {what} bytes past the write pointer. Read {'it' if first == last else 'them'} again."]
     if has_superblock(report):
-        begins = "Accept it only if" if state == "doubt" else "It was accepted. That is right only if"
+        it = "its line" if kind == "spare" else "it"
+        begins = f"Accept {it} only if" if state == "doubt" else "It was accepted. That is right only if"
         texts.append(f"{begins} {condition}." if condition else "It can't be accepted.")
     return " ".join(texts), place if on_disk(report, place) else None
 
@@ -313,6 +346,10 @@ def short_size(count):
     return f"{count:,} byte" + "s" * (count != 1)
 
 
+def whole_size(count):
+    return f"{short_size(count)} ({count:,} bytes)" if count >= 1024 else short_size(count)
+
+
 def headline_lines(report, outputs):
     """The texts of each box of the headline."""
     right = headline(report, outputs)
@@ -330,8 +367,7 @@ def headline_lines(report, outputs):
     if right["openDoubts"]:
         gains = ["nothing now", f"{gain} by this report, {counted(right['openDoubts'], 'open doubt')}"]
     elif right["gainIs"] == "ask":
-        both = f"{gain} ({right['gain']:,} bytes)" if right["gain"] >= 1024 else gain
-        gains = ["ask reclaimable", f"{both} by this report alone"]
+        gains = ["ask reclaimable", f"{whole_size(right['gain'])} by this report alone"]
     else:
         accepted = [counted(right["acceptedDoubts"], "accepted doubt")] * (right["acceptedDoubts"] > 0)
         gains = [gain, ", ".join([*exact(right["gain"]), "by reclaimable", *accepted])]
@@ -363,7 +399,7 @@ def extents_text(extents):
     return f"{len(extents):,} extents from {extents[0]} to {extents[-1]}"
 
 
-def banner_parts(report):
+def banner_parts(report, outputs):
     """Parts of sentences that the banner has to have below its first line."""
     hidden = len({(one["extent"], one["offset"]) for one in report["hidden"]})
     shared = len(report["shared"])
@@ -377,6 +413,8 @@ def banner_parts(report):
     if unreadable:
         extents = sorted({extent for extent, _ in unreadable})
         parts.append(f"{counted(len(unreadable), 'unreadable page')} in {extents_text(extents)}")
+    if may_spares_go(report, outputs):
+        parts.append("A candidate may have the last copy of a chunk of a broken shard")
     return parts
 
 
@@ -448,9 +486,8 @@ def shard_states(report, outputs):
     """How many broken shards have no readable chunk, and how many have one."""
     if outputs.get("locators") is None:
         return {"lost": 0, "damaged": 0}
-    readable = {f"{words[0]} {words[1]}" for words in map(str.split, lines_of(outputs["locators"]))
-                if words[6] in ("sound", "hidden")}
-    named = {" ".join(line.split()[:2]) for line in lines_of(outputs["locators"])}
+    readable = {f"{words[0]} {words[1]}" for words in locators_of(outputs) if words[6] in ("sound", "hidden")}
+    named = {f"{words[0]} {words[1]}" for words in locators_of(outputs)}
     broken = broken_shards(report)
     return {"lost": sum(owner in named and owner not in readable for owner in broken),
             "damaged": sum(owner in readable for owner in broken)}
@@ -471,6 +508,8 @@ def expected_of(report, outputs):
         "candidates": len(report["candidates"]), "twins": len(report["twins"]), "hidden": len(report["hidden"]),
         "dangling": sum(one["extent"] < extents and one["offset"] < size for one in report["dangling"]),
         "tails": sum(extent["tail"] > 0 for extent in report["extents"]),
+        "spares": len(spares_of(report, outputs)),
+        "rooms": {kind: len(rooms_of(outputs, kind)) for kind in ("room", "last-room")},
         "classes": {name: of_extents[name] for name in CLASSES},
         "generation": str(report["super"]["generation"]) if has_superblock(report) else "null",
         "misfits": {}, "fault": None,
@@ -478,9 +517,57 @@ def expected_of(report, outputs):
 
 
 def linked_places(report, outputs):
-    """The places that the page links in its list of findings: the first ten findings of each group, in order."""
-    return [place for group in findings(report, outputs).values() for found in group[:10] for place in found
-            if on_disk(report, place)]
+    """The places that the page links in its list of findings: the first ten findings of each group, in order. The place of a
+    dangling locator is followed by that of its spare."""
+    groups = findings(report, outputs)
+    if "Broken shards" in groups:
+        of_shards = broken_shards(report, spares_of(report, outputs)).values()
+        groups["Broken shards"] = [sum(map(places_of, some), []) for some in of_shards]
+    return [place for group in groups.values() for found in group[:10] for place in found if on_disk(report, place)]
+
+
+def places_of(one):
+    """The places of a dangling locator and of its spare."""
+    spare = one["spare"]
+    return [(one["extent"], one["offset"])] + ([(int(spare[1]), int(spare[2]))] if spare else [])
+
+
+def broken_texts(report, outputs):
+    """The texts of the dangling locators in the list of broken shards, of the first ten shards."""
+    def text(one):
+        spare, found = one["spare"], f"{one['reason']}, extent {one['extent']} at {one['offset']:,}"
+        if not spare:
+            return found
+        more = f" (the first of {int(spare[5]):,})" if spare[5] != "1" else ""
+        return f"{found}; spare copy: extent {spare[1]} at {int(spare[2]):,}{more}"
+
+    return [text(one) for some in list(broken_shards(report, spares_of(report, outputs)).values())[:10] for one in some]
+
+
+def gain_texts(report, outputs):
+    """The texts of the listed extents, of what is copied first, and of the rooms for copies, in the page's order: the first ten
+    of each list. For an output of reclaimable without a doubt."""
+    lines = [line.split() for line in lines_of(outputs["reclaimable"])]
+    listed = [(int(words[1]), int(words[2])) for words in lines if words[0] == "reclaim"]
+    texts = []
+    for extent, free in listed[:10]:
+        moves = {}
+        for _, _, offset, _, _, *owner, count in [words for words in lines if words[:2] == ["move", str(extent)]]:
+            moves.setdefault((int(offset), int(count)), []).append(" ".join(owner))
+        chunks = [f"first copy {counted(count, 'byte')} at {offset:,}, named by {', '.join(owners)}"
+                  for (offset, count), owners in moves.items()]
+        texts += [f"extent {extent}: reset it to gain {whole_size(free)}" + "".join(chunks), *chunks]
+    for kind in ("room", "last-room"):
+        texts += [f"extent {extent} at {offset:,}: {whole_size(count)}" for extent, offset, count in rooms_of(outputs, kind)[:10]]
+    return texts
+
+
+def room_titles(outputs):
+    """The headings of the rooms for copies. There are none if reclaimable names no extent."""
+    if not any(line.startswith("reclaim ") for line in lines_of(outputs["reclaimable"])):
+        return []
+    rooms, last = (counted(len(rooms_of(outputs, kind)), "extent") for kind in ("room", "last-room"))
+    return [f"Room for copies: {rooms}"] + [f"Room in listed extents: {last}"] * bool(rooms_of(outputs, "last-room"))
 
 
 # Disks, and what the commands print of them
@@ -489,10 +576,16 @@ class Pictured:
     """A disk with its report and its outputs, from the slow reference."""
 
     def __init__(self, image, accepted=()):
-        self.raw, self.unreadable = image.raw, sorted(image.unreadable)
+        self.raw, self.unreadable, self.accepted = image.raw, sorted(image.unreadable), list(accepted)
         self.report, _, _, locators = scrub(image)
         self.outputs = {"superblocks": superblocks(image)[0], "locators": locators,
                         "reclaimable": reclaimable(image, accepted)[0]}
+
+
+def lines_to_accept(image):
+    """The doubts of a disk that can be accepted, each by its line."""
+    words = [line.split()[1:] for line in reclaimable(image)[0].splitlines() if line.startswith("doubt ")]
+    return [" ".join(one) for one in words if one[0] in (*ACCEPTABLE, "spare")]
 
 
 def of_disk(disk, unreadable=(), accepted=()):
@@ -508,11 +601,11 @@ def shards_on(disk, extents, chunks=6):
             number += 1
             text = f"shard {number} ".encode() * (7 + 5 * (number % 4))
             place = disk.pointers[extent - 1]
-            locator = disk.chunk(extent, place, bytes([extent]) * 8 + number.to_bytes(8, "big"), text)
+            named = disk.chunk(extent, place, bytes([extent]) * 8 + number.to_bytes(8, "big"), text)
             if extent % 4 == 3 and number % chunks:
                 continue
             if number % 5:
-                entries.append((shard(number), [locator]))
+                entries.append((shard(number), [named]))
     return entries
 
 
@@ -577,6 +670,80 @@ def hidden_twice():
     return disk
 
 
+def rotted(*places):
+    """Shard 1's only chunk has rotted. Extent 2 has garbage, and behind it an old copy of that chunk at each of these places.
+    Extent 5 is half live, with a chunk of two shards."""
+    disk = Disk(16, 8)
+    chunk = disk.chunk(1, 0, uuid(0x11), b"what shard 1 asks for")
+    disk.spoil(1, 30)
+    disk.chunk(2, 0, uuid(0x55), bytes(100))
+    for number, (extent, offset) in enumerate(places):
+        disk.chunk(extent, offset, uuid(0x44 + number), b"what shard 1 asks for")
+    shared = disk.chunk(5, 0, uuid(0x71), b"two shards name this.")
+    sealed = disk.chunk(5, 59, uuid(0x72), b"sealed", sealed_frame)
+    disk.chunk(5, 137, uuid(0x73), bytes(150))
+    entries = [(shard(1), [chunk]), (shard(2), [shared, sealed]), (shard(3), [shared])]
+    disk.superblock(0, 5, disk.chunk(3, 0, uuid(0xE0), run(*entries)))
+    return disk
+
+
+def spare_at_risk():
+    """The only spare copy is in a candidate."""
+    return rotted((2, 138))
+
+
+def spare_and_tail():
+    """The same with a tail."""
+    disk = spare_at_risk()
+    disk.put(6, 300, b"later")
+    return disk
+
+
+def spare_is_safe():
+    """One more copy is behind the index run, so the one in the candidate may go."""
+    return rotted((2, 138), (3, 384))
+
+
+def full():
+    """Each extent but the listed ones has damage or no bytes left, so there is no room but in the listed ones."""
+    disk = Disk(8, 4)
+    entries = [(shard(1), [disk.chunk(1, 0, uuid(0x11), b"abc", sealed_frame)])]
+    disk.chunk(1, 75, uuid(0x55), bytes(100))
+    disk.chunk(2, 0, uuid(0x66), bytes(26))
+    index_run = disk.chunk(3, 0, uuid(0xE0), run(*entries))
+    disk.put(3, disk.pointers[2], b"x")
+    disk.pointers[2] += 1
+    disk.superblock(0, 1, index_run)
+    return disk
+
+
+def several_tails():
+    """Three candidates with a tail each. That of extent 4 begins in the page of the write pointer, behind zeros, so extent 4 has
+    no room."""
+    disk = Disk(16, 6)
+    for extent in (1, 2):
+        disk.chunk(extent, 0, uuid(extent), bytes(100))
+        disk.put(extent, 300, b"written later")
+    disk.pointers[3] = 10
+    disk.put(4, 20, b"x")
+    disk.superblock(0, 3, disk.chunk(3, 0, uuid(0xE0), run((shard(1), [disk.chunk(5, 0, uuid(0x11), b"a live chunk")]))))
+    return disk
+
+
+def room_behind_zeros():
+    """Write pointers within a page, behind zeros: copies go to the next page. Extent 2 is written to its last 30 bytes, where no
+    copy fits. Extent 5 has a locator that is out of range."""
+    disk = Disk(8, 6)
+    disk.chunk(1, 0, uuid(0x55), bytes(100))
+    disk.pointers[0] = 150
+    full = disk.chunk(2, 0, uuid(0x21), bytes(8 * 64 - 30 - 38))
+    live = disk.chunk(4, 0, uuid(0x11), b"a live chunk")
+    disk.pointers[3] = 70
+    beyond = locator(5, 8 * 64, uuid(0x12), b"beyond")
+    disk.superblock(0, 1, disk.chunk(3, 0, uuid(0xE0), run((shard(1), [live, full]), (shard(2), [beyond]))))
+    return disk
+
+
 def most_extents():
     """As many extents as a disk can have. Such a disk has no superblock: its write pointers don't fit into an extent."""
     disk = Disk(1, 65536)
@@ -587,7 +754,9 @@ def most_extents():
     return disk
 
 
-# The disks for pictures, by name: the function that makes each, and its unreadable pages.
+SPARE_OF_ROTTED = f"spare 2 138 21 {'44444444-4444-4444-4444-444444444444'} shard {1:032x} 59"
+
+# The disks for pictures, by name: the function that makes each, its unreadable pages, and the doubts to accept.
 LOOKED_AT = {
     "in-order": (in_order, []),
     "flipped-bit": (flipped_bit, []),
@@ -597,13 +766,21 @@ LOOKED_AT = {
     "hidden": (hidden_behind_damage, [(3, 3), (4, 9), (5, 1), (6, 4)]),
     "hidden-twice": (hidden_twice, []),
     "most-extents": (most_extents, [(77, 0), (65535, 0)]),
+    "spare-at-risk": (spare_at_risk, []),
+    "spare-accepted": (spare_at_risk, [], [SPARE_OF_ROTTED]),
+    "spare-is-safe": (spare_is_safe, []),
+    "full": (full, []),
+    "room-behind-zeros": (room_behind_zeros, []),
+    "spare-and-tail": (spare_and_tail, [], ["tail 6 300 5"]),
+    "tail-accepted-in-part": (several_tails, [], ["tail 1 300 13"]),
+    "tails-accepted": (several_tails, [], ["tail 1 300 13", "tail 2 300 13", "tail 4 20 1"]),
 }
 
 
 @functools.cache
 def looked_at(name):
-    make, unreadable = LOOKED_AT[name]
-    return of_disk(make(), unreadable)
+    make, *given = LOOKED_AT[name]
+    return of_disk(make(), *given)
 
 
 def most_rows():

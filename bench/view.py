@@ -35,15 +35,16 @@ from collections import Counter
 from pathlib import Path
 
 import picture
-from hold import Made
+from hold import Made, Tended
 from picture import OUTPUTS, Pictured, is_chunk, items_of, joined, kind_of
-from reference import Image
+from reference import ACCEPTABLE, Image
 
 TOP = Path(__file__).resolve().parent.parent
 PAGE = TOP / "view/report.html"
 BROWSERS = ("chromium", "chromium-browser", "google-chrome")
 ITEMS = 100_000
-MADE_UP = 100
+# Of each of two sorts.
+MADE_UP = 60
 # This file exists if the program was built here.
 BUILT = TOP / "crates/scrub_cli/out/shardscrub.built"
 # The longest times that are right, in milliseconds: for a draw, and from a report's text to its picture.
@@ -333,6 +334,9 @@ class Test:
         links = self.browser.value("[...document.querySelectorAll('#wrong a')].map((link) => link.getAttribute('href'))")
         places = [f"#{extent}:{offset}" for extent, offset in picture.linked_places(report, outputs)]
         self.check(f"{what}: the findings link to their places", links == places, (links, places))
+        broken = self.browser.value("[...document.querySelectorAll('#wrong ul ul li')].map((one) => one.textContent)")
+        texts = picture.broken_texts(report, outputs)
+        self.check(f"{what}: the broken shards' locators, with their spares", broken == texts, (broken, texts))
         self.check_overview(what, shown, report, outputs)
         self.check_gain(what, report, outputs)
         self.check_doubts(what, shown, report, outputs)
@@ -356,7 +360,7 @@ class Test:
         """Checks that banner, list and tile count the same doubts, and that each doubt has its sentences and its link."""
         right, verdict = picture.verdict_word(report, outputs), shown["verdict"]
         self.check(f"{what}: the banner's first line", self.browser.text("verdict-word") == right, (verdict["word"], right))
-        parts = picture.banner_parts(report)
+        parts = picture.banner_parts(report, outputs)
         self.check(f"{what}: the banner says {parts}", all(part in verdict["text"] for part in parts), verdict["text"])
         title = f"What is in doubt ({picture.doubts_text(report, outputs) or 0})"
         self.check(f"{what}: the title of the doubts", self.browser.text("doubts-title") == title, self.browser.text("doubts-title"))
@@ -449,11 +453,13 @@ class Test:
         else:
             accepted = any(line.startswith("accepted") for line in lines)
             self.check(f"{what}: what was accepted is in amber", notes == ["note doubt"] * accepted, notes)
-            named = [line.split() for line in lines if line.startswith("reclaim")][:10]
-            moves = [line.split() for line in lines if line.startswith("move") and line.split()[1] in [one[1] for one in named]]
-            parts = [f"extent {one[1]}: reset it to gain {short_size(int(one[2]))}" for one in named]
-            parts += [f"{one[3]} byte" for one in moves] + [f"at {one[2]} of {one[5]} {one[6]}" for one in moves]
-            self.check(f"{what}: what reclaimable names is listed", all(part in text for part in parts), (parts, text))
+            listed = self.browser.value("[...document.querySelectorAll('#candidates li')].map((one) => one.textContent)")
+            right = picture.gain_texts(report, outputs)
+            self.check(f"{what}: what reclaimable names is listed, with the rooms for copies", listed == right, (listed, right))
+            titles = self.browser.value("[...document.querySelectorAll('#candidates h3')].map((one) => one.textContent)")
+            self.check(f"{what}: the headings of the rooms", titles == picture.room_titles(outputs), titles)
+            self.check(f"{what}: room in listed extents is the last choice", bool(picture.rooms_of(outputs, "last-room"))
+                       == ("Use it only if no other room is large enough" in text), text)
 
     def check_hovering(self, what, report, most, owners=None):
         """Hovers over the middle of items that are in sight and wide enough. Each has to show its line."""
@@ -501,6 +507,32 @@ class Test:
                 shown = self.browser.hovered(reported["extent"], reported["tail_at"] + .5)
                 self.check(f"{what}: hovering shows the tail of extent {reported['extent']}",
                            f"the first at {reported['tail_at']:,}" in str(shown), shown)
+
+    def check_spares_and_rooms(self, what, disk):
+        """With all outputs open: hovers over the spares and the rooms that are in sight. Without an answer of reclaimable there is
+        no room."""
+        in_sight, report = self.in_sight(), disk.report
+        spares, dangling = picture.spares_of(report, disk.outputs), report["dangling"]
+        for number, (_, extent, offset, *_) in spares.items():
+            if int(extent) < in_sight:
+                shown = self.browser.hovered(int(extent), int(offset) + .5)
+                right = "spare copy of what {owner} names in extent {extent} at {offset:,}".format(**dangling[number])
+                self.check(f"{what}: hovering over extent {extent} at {offset} shows '{right}'", right in str(shown), shown)
+        rooms = {extent: (kind, offset, count) for kind in ("room", "last-room")
+                 for extent, offset, count in picture.rooms_of(disk.outputs, kind)}
+        fills = self.browser.value("Object.fromEntries(Object.entries(ROOMS).map(([word, {fill}]) => [word, fill]))")
+        size = report["geometry"]["page"] * report["geometry"]["pages"]
+        for extent in range(1, min(in_sight, report["geometry"]["extents"])):
+            kind, offset, count = rooms.get(extent, (None, None, None))
+            shown = str(self.browser.hovered(extent, size - .5))
+            right = kind and f"room for copies from {offset:,} on, {picture.counted(count, 'byte')}"
+            self.check(f"{what}: hovering over the end of extent {extent} says whether there is room",
+                       ("room" in shown) == bool(kind) and (not kind or right in shown)
+                       and ("the last choice" in shown) == (kind == "last-room"), (shown, right))
+            # The end of a bar without room.
+            seen = self.browser.colours(extent, offset if kind else .98 * size, size, 0)
+            self.check(f"{what}: the bar of extent {extent} has the colour of {kind or 'no room'}",
+                       [word for word in fills if fills[word] in seen] == [kind] * bool(kind), seen)
 
     def check_without_superblock(self, what, report):
         """Checks that without a superblock nothing is called live, written or an orphan, and no write pointer is drawn."""
@@ -554,6 +586,7 @@ class Test:
             self.check_hovering(name, disk.report, 40)
             self.check_colours(name, disk.report)
             self.check_marks(name, disk.report)
+            self.check_spares_and_rooms(name, disk)
             self.check_links(name)
             self.check_overview_clicks(name, disk)
             self.check_silence(name)
@@ -583,7 +616,8 @@ class Test:
         sizes = [str(word) for name, key in (("--page", "page"), ("--pages", "pages"), ("--extents", "extents"))
                  for word in (name, disk.report["geometry"][key])]
         for command, right in {"scan": written(disk.report), **disk.outputs}.items():
-            done = subprocess.run([TOP / "shardscrub", command, *sizes, image, *(f"{e}:{g}" for e, g in disk.unreadable)],
+            accepted = [word for text in disk.accepted * (command == "reclaimable") for word in ("--accept", text)]
+            done = subprocess.run([TOP / "shardscrub", command, *sizes, *accepted, image, *(f"{e}:{g}" for e, g in disk.unreadable)],
                                   capture_output=True, encoding="utf-8", stdin=subprocess.DEVNULL)
             self.check(f"{what}: {command} prints what the page is opened with", done.stdout == right, done.stderr)
 
@@ -601,8 +635,7 @@ class Test:
         shown = self.open(report, outputs, name)
         self.check_picture(f"{command}, with outputs", shown, report, outputs)
         owners = {}
-        for line in outputs["locators"].splitlines():
-            words = line.split(" ")
+        for words in picture.locators_of(outputs):
             owners.setdefault((int(words[2]), words[3]), []).append(f"{words[0]} {words[1]}")
         self.check_hovering(f"{command}, with outputs", report, 40, owners)
         self.browser.screenshot(self.shots / f"example-{name}.png")
@@ -650,7 +683,14 @@ class Test:
             ("an unknown state", "wrong.txt", "record 0 SSB1 1 new\n", "line 1 isn't a line of superblocks"),
             ("an unknown doubt", "wrong.txt", "doubt tail 1 1 1\ndoubt rain\n", "line 2 isn't a line of reclaimable"),
             ("half a line", "wrong.txt", "record 0 SSB1 1 counts\ndamaged 4", "isn't whole"),
+            ("a move without its bytes", "wrong.txt", "reclaim 1 9\nmove 1 0 3 11111111-1111-1111-1111-111111111111 run 0\n",
+             "line 2 isn't a line of reclaimable"),
+            ("a spare of no copy", "wrong.txt", "run 0 2 0 117 11111111-1111-1111-1111-111111111111 no_frame\n"
+             "spare 3 0 117 11111111-1111-1111-1111-111111111111 0\n", "line 2 isn't a line of locators"),
             ("sizes", "wrong.txt", "0 SSB1 6 64 16 5\n", "the output of sizes"),
+            ("a manifest", "wrong.txt", "retired\nruns lost 0 hidden 0\ntotal 0 0\n", "the output of manifest, which this page doesn't draw"),
+            ("a manifest without a superblock", "wrong.txt", "no-superblock\n", "the output of manifest, which"),
+            ("a summary", "wrong.txt", "verdict sound\npage_bytes 64\n", "the output of summary, which this page doesn't draw"),
             ("something else", "wrong.txt", "hello\n", "neither a report nor an output"),
             ("an empty file of no known kind", "wrong.txt", "", "name doesn't say what it is"),
         )
@@ -683,29 +723,55 @@ class Test:
     def outputs_that_do_not_fit(self):
         """Opens all outputs with a line left out, given twice, or with a changed word. None of these may fit or look sound."""
         browser = self.browser
-        for name in ("in-order", "flipped-bit", "tail", "no-superblock", "hidden"):
+        for name in MISFITTED:
             disk = picture.looked_at(name)
             self.open(disk.report, {})
             for output, text in disk.outputs.items():
                 lines = text.splitlines()
                 for index, line in enumerate(lines[:12]):
-                    for instead in ([], [line, line], *([one] for one in changed(line))):
+                    # Only digests show that a spare is missing, and neither locators nor a report has them. But the doubt shows it.
+                    is_needed = not line.startswith("spare ") or f"{line.rsplit(' ', 1)[0]} " in disk.outputs["reclaimable"]
+                    for instead in (*[[]] * is_needed, [line, line], *([one] for one in changed(line))):
                         other = "".join(one + "\n" for one in lines[:index] + instead + lines[index + 1:])
-                        files = [{"name": f"x.{one}", "text": right} for one, right in (disk.outputs | {output: other}).items()]
-                        asked = (f"(openTexts({json.dumps(files)}), "
-                                 "(({misfits, fault, verdict}) => ({misfits, fault, is: verdict?.is}))"
-                                 "(JSON.parse(document.getElementById('shown').textContent)))")
-                        shown = browser.value(asked)
-                        is_seen = shown.get("misfits") or "isn't a line" in (shown["fault"] or "")
-                        self.check(f"{name}: {instead} instead of '{line}' doesn't fit",
-                                   is_seen and shown.get("is") != "sound", shown)
-                        browser.value("outputs = {}, openRow(0)")
+                        self.check_misfit(f"{name}: {instead} instead of '{line}' doesn't fit", disk.outputs | {output: other})
+            self.check_misfits_of_spares_and_rooms(name, disk.outputs)
         disk = picture.looked_at("in-order")
         shown = self.open(disk.report, disk.outputs | {"superblocks": "record 0 SSB1 40 counts\n"})
         self.check("a superblock of another generation: no verdict is sound", shown["verdict"]["is"] == "doubt"
                    and "superblocks doesn't fit" in browser.text("fault"), shown)
         self.check("outputs of another disk: they are named", "doesn't fit" in browser.text("opened"))
         self.check_silence("outputs that don't fit")
+
+    def check_misfit(self, what, outputs):
+        """Opens outputs beside the open report. They may not fit, and nothing may look sound."""
+        files = [{"name": f"x.{name}", "text": text} for name, text in outputs.items()]
+        shown = self.browser.value(f"(openTexts({json.dumps(files)}), "
+                                   "(({misfits, fault, verdict}) => ({misfits, fault, is: verdict?.is}))"
+                                   "(JSON.parse(document.getElementById('shown').textContent)))")
+        is_seen = shown.get("misfits") or "isn't a line" in (shown["fault"] or "")
+        self.check(what, is_seen and shown.get("is") != "sound", shown)
+        self.browser.value("outputs = {}, openRow(0)")
+
+    def check_misfits_of_spares_and_rooms(self, what, outputs):
+        """Opens outputs with lines of rooms, of spares and of accepted doubts that don't fit."""
+        lines, kinds = outputs["reclaimable"], [line.split()[:2] for line in outputs["reclaimable"].splitlines()]
+        without_locators = {name: text for name, text in outputs.items() if name != "locators"}
+        for name, old, new in (("a room in a listed extent", "\nlast-room ", "\nroom "),
+                               ("a last room in an extent that stays", "\nroom ", "\nlast-room "),
+                               ("an open doubt beside listed extents", "accepted ", "doubt ")):
+            if old in lines and ("reclaim" in dict(kinds) or old != "accepted "):
+                self.check_misfit(f"{what}: {name} doesn't fit", outputs | {"reclaimable": lines.replace(old, new, 1)})
+        if any(word == "doubt" for word, _ in kinds):
+            self.check_misfit(f"{what}: a room beside an open doubt doesn't fit", outputs | {"reclaimable": lines + "room 3 155 869\n"})
+        spare = next((line for line in lines.splitlines(True) if line.split()[1] == "spare"), None)
+        if spare:
+            rest, (*_, owner, count) = lines.replace(spare, ""), spare.split()
+            if rest.startswith("accepted tail"):
+                self.check_misfit(f"{what}: a spare behind a tail doesn't fit", outputs | {"reclaimable": rest + spare})
+            live = f"{spare.split()[0]} spare 5 0 21 {'-'.join(('71' * 4, *['71' * 2] * 3, '71' * 6))} shard {owner} 59\n"
+            for name, other in (("of another shard", spare.replace(owner, f"{2:032x}")), ("that is given twice", spare * 2),
+                                ("with its payload's bytes", spare.replace(f" {count}\n", " 21\n")), ("that is a live chunk", live)):
+                self.check_misfit(f"{what}: a spare {name} doesn't fit, without locators", without_locators | {"reclaimable": other + rest})
 
     def rows_of_disks(self, reports):
         """Opens a file with a row for each disk. A row without a report is wrong."""
@@ -750,23 +816,33 @@ class Test:
     def made_up_disks(self):
         disks = {}
         for turn in range(MADE_UP):
-            made = Made(random.Random(turn))
-            unreadable = made.make()
-            disks[f"made-up disk {turn}"] = Pictured(Image(bytes(made.raw), made.p, made.n, made.e, unreadable),
-                                                     picture.ACCEPTABLE[:turn % 5])
+            for kind, more in ((Made, ""), (Tended, ", tended")):
+                made = kind(random.Random(turn))
+                unreadable = made.make()
+                image = Image(bytes(made.raw), made.p, made.n, made.e, unreadable)
+                # No doubt is accepted, each second one by its line, each by its line, or some kinds.
+                lines = picture.lines_to_accept(image)
+                accepted = ((), lines[::2], lines, ACCEPTABLE[:turn % 5])[turn % 4]
+                disks[f"made-up disk {turn}{more}"] = Pictured(image, accepted)
         seen = Counter()
         for turn, (name, disk) in enumerate(disks.items()):
-            outputs = list(self.choices(disk.outputs))[turn % 8]
+            outputs = disk.outputs if turn % 2 else list(self.choices(disk.outputs))[turn // 2 % 8]
             shown = self.open(disk.report, outputs)
             seen[picture.verdict(disk.report, outputs)] += 1
+            if outputs == disk.outputs:
+                seen.update({" ".join(line.split()[:2 if line[0] in "ad" else 1]) for line in outputs["reclaimable"].splitlines()})
             self.check_picture(f"{name} with {', '.join(outputs)}", shown, disk.report, outputs)
+            if turn % 8 == 1:
+                self.check_spares_and_rooms(name, disk)
             if turn % 10 == 0:
                 self.check_hovering(name, disk.report, 20)
                 self.check_colours(name, disk.report)
                 self.check_marks(name, disk.report)
                 self.check_without_superblock(name, disk.report)
                 self.check_links(name)
-        print(f"made-up disks by verdict: {dict(seen)}", flush=True)
+        print(f"made-up disks by verdict, and by what reclaimable prints: {dict(seen)}", flush=True)
+        for words in ("reclaim", "move", "room", "last-room", "doubt spare", "accepted spare", "doubt tail", "accepted tail"):
+            self.check(f"made-up disks: some have '{words}'", seen[words] > 0)
         self.check_silence("made-up disks")
 
     def keys_and_buttons(self):
@@ -881,6 +957,8 @@ class Test:
                     break
                 self.check_picture(what, shown, disk.report, outputs)
                 self.check_without_superblock(what, disk.report)
+                if outputs and name in OF_SPARES_AND_ROOMS:
+                    self.check_spares_and_rooms(what, disk)
             if self.failed == 0:
                 unseen.append(f"{what}: not seen")
         self.browser.errors.clear()
@@ -891,12 +969,13 @@ class Test:
 
 
 def changed(line):
-    """The line with one changed word, for each word that can be compared. A report has no owner of a locator or of a move."""
+    """The line with one changed word, for each word that can be compared. A report has no owner of a locator or of a move, and
+    doesn't say how many spares there are."""
     words = line.split(" ")
     kept = 2 if words[0] in ("run", "shard") else 1
     for index in range(kept, len(words)):
         word = words[index]
-        if words[0] == "move" and index > 4:
+        if (words[0], index) in (("move", 5), ("move", 6), ("spare", 5)):
             continue
         if word.isdigit():
             other = str(int(word) + 1)
@@ -908,6 +987,11 @@ def changed(line):
             yield " ".join([*words[:index], other, *words[index + 1:]])
 
 
+# The disks that are opened with outputs that don't fit.
+MISFITTED = ("in-order", "flipped-bit", "tail", "no-superblock", "hidden", "spare-at-risk", "spare-accepted", "spare-is-safe",
+             "spare-and-tail", "full", "room-behind-zeros", "tail-accepted-in-part", "tails-accepted")
+# The disks on which wrong pages are hovered over for spares and rooms too.
+OF_SPARES_AND_ROOMS = ("spare-at-risk", "spare-accepted", "spare-is-safe", "full", "tails-accepted", "room-behind-zeros")
 # Wrong pages: what is wrong, the text of the place, the text that replaces it, and the disk that shows it.
 WRONG_PAGES = (
     ("the verdict ignores tails", "if (tails) areDoubts.push", "if (false) areDoubts.push", "tail"),
@@ -946,6 +1030,29 @@ WRONG_PAGES = (
     ("an open file has a tick", "`open: scan, ${file}`", "`✔ scan, ${file}`", "tail"),
     ("a finding looks right in the overview", "if (row.isWrong) return CLASS_OF.wrong;", "", "hidden"),
     ("hidden chunks are green", 'HIDDEN = "#7f3b08"', 'HIDDEN = "#009e73"', "hidden"),
+    ("a spare isn't beside its locator", "spare: disk.spareOf?.get(locator),", "", "spare-at-risk"),
+    ("the first of two spares looks like the only one", "spare.count > 1 ?", "spare.count > 2 ?", "spare-is-safe"),
+    ("a spare makes its extent wrong", "places: parts.flatMap(({place}) => place ? [place] : [])",
+     "places: parts.flatMap(({place, spare}) => [place, ...(spare ? [[spare.extent, spare.offset]] : [])])", "spare-at-risk"),
+    ("a doubt of a spare isn't in the list of doubts", 'spare: "Spare copies that are only in candidates",', "", "spare-at-risk"),
+    ("a spare may be accepted like any kind", 'line.kind === "spare" ? "its line" : "it"', '"it"', "spare-at-risk"),
+    ("nothing says that a spare may go", "!reclaimable && report.dangling.length > 0", "false", "spare-at-risk"),
+    ("an open doubt beside an accepted one of its kind isn't counted", "openDoubts = disk.doubts.filter(isOpen).length;",
+     'openDoubts = disk.doubts.every(isOpen) ? disk.doubts.length : 0;', "tail-accepted-in-part"),
+    ("a move has the payload's bytes", "bytes: Number(move[6])", "bytes: Number(move[3])", "spare-accepted"),
+    ("a chunk with two owners is copied twice", "!index || moves[index - 1].offset !== offset", "true", "spare-accepted"),
+    ("the second owner of a chunk is left out", 'owners.get(offset).join(", ")', "owners.get(offset)[0]", "spare-accepted"),
+    ("room in listed extents is listed like other room", 'disk.reclaimable.filter(isLineOf("room"))',
+     "disk.reclaimable.filter(({line}) => ROOM.test(line))", "full"),
+    ("room in listed extents isn't the last choice", "Use it only if no other room is large enough", "Use it", "full"),
+    ("room begins at the write pointer", "`extent ${extent} at ${grouped(offset)}`, [extent, offset]), `: ${size(bytes)}`",
+     "`extent ${extent} at ${grouped(disk.rows[extent].pointer)}`, [extent, offset]), `: ${size(bytes)}`", "room-behind-zeros"),
+    ("room isn't drawn", "fillRect(room[0], y, room[1], HEIGHT)", "fillRect(room[0], y, 0, HEIGHT)", "tails-accepted"),
+    ("room in listed extents is drawn like other room", "paint(context, ROOMS[row.room.word])", "paint(context, ROOMS.room)", "full"),
+    ("under the mouse each extent has room", "row.room && to > row.room.offset",
+     "row.pointer !== null && (row.room ??= {word: 'room', offset: row.pointer, bytes: 1})", "tails-accepted"),
+    ("under the mouse any room is the same", 'word === "room" ? "" :', "true ? \"\" :", "full"),
+    ("under the mouse a spare is an orphan like any other", "disk.sparesAt.get(key) ?? NONE", "NONE", "spare-at-risk"),
     ("lost shards are called damaged", 'counts.readable ? "damaged" : "lost"', '"damaged"', "hidden"),
     ("sizes of the headline are off by ten", "bytes * 10 / unit) / 10", "bytes * 100 / unit) / 10", "hidden"),
 )

@@ -14,6 +14,7 @@ import json
 import os
 import random
 import re
+import shlex
 import subprocess
 import sys
 import tempfile
@@ -23,8 +24,8 @@ from decimal import ROUND_HALF_UP, Decimal
 from fractions import Fraction
 from pathlib import Path
 from typing import NamedTuple
-from disks import MAGIC, Disk, run, sealed_frame, shard, uuid
-from hold import Made
+from disks import MAGIC, Disk, geometry, run, sealed_frame, shard, uuid
+from hold import Made, Tended
 from reference import Image, doubts_of, scrub_all
 
 TOP = Path(__file__).resolve().parent.parent
@@ -56,7 +57,7 @@ def shardscrub(*words):
 
 def in_report(doubts):
     """The doubts that a report shows."""
-    return [words for words in doubts if words[0] not in ("superblock-damaged", "superblock-stray")]
+    return [words for words in doubts if words[0] not in ("superblock-damaged", "superblock-stray", "spare")]
 
 
 def scanned(name, arguments, report):
@@ -71,18 +72,31 @@ def example_reports():
     If that page asks only for the sizes of an image, the report has these sizes.
     """
     page = (TOP / "examples/README.md").read_text(encoding="utf-8")
-    found = {}
-    for words in re.findall(r"\./shardscrub (?:scan|index|locators|superblocks|reclaimable|items) ([^|;>\n]*)", page):
-        sizes = re.findall(r"--(?:page|pages|extents|map) \S+", words)
-        image_and_pages = re.sub(r"--\S+?(?: |=)\S+", "", words).split()
-        found[" ".join([*sizes, *image_and_pages])] = None
+    commands = re.findall(r"\./shardscrub (?:scan|summary|index|locators|manifest|superblocks|reclaimable|items) ([^|;>\n]*)", page)
+    found = dict.fromkeys(" ".join(arguments_of_scan(words)) for words in commands)
     for image in sorted((TOP / "examples").glob("*.img")):
         name = f"examples/{image.name}"
         if not any(name in arguments for arguments in found):
-            *_, page, pages, extents = shardscrub("sizes", name).split()
-            found[f"--page {page} --pages {pages} --extents {extents} {name}"] = None
+            found[" ".join(arguments_of_scan(name))] = None
     answers = {arguments: shardscrub("scan", *arguments.split()) for arguments in found}
     return [scanned(f"examples: {arguments}", arguments.split(), report) for arguments, report in answers.items() if report]
+
+
+def arguments_of_scan(words):
+    """The sizes, the map, the image and the unreadable pages among the arguments of a command. Sizes that are left out are those
+    of the image's records."""
+    options, others, words = [], [], iter(shlex.split(words))
+    for word in words:
+        if word.startswith("--"):
+            name, _, value = word.partition("=")
+            value = value or next(words)
+            options += [name, value] if name in ("--page", "--pages", "--extents", "--map") else []
+        else:
+            others.append(word)
+    if others and "--page" not in options:
+        records = re.search(r" SSB[12] \d+ (\d+) (\d+) (\d+)$", shardscrub("sizes", *options, others[0]), re.MULTILINE)
+        options += geometry(*records.groups()) if records else []
+    return options + others
 
 
 class Grown:
@@ -216,7 +230,7 @@ def small_disks():
     disks, pairs = [], []
     for seed in range(SMALL_DISKS):
         choice = random.Random(seed)
-        made = Made(choice)
+        made = (Tended if seed % 3 == 0 else Made)(choice)
         unreadable = made.make()
         disks.append(by_reference(f"small disk {seed}", made, unreadable))
         if len(pairs) < SMALL_PAIRS and disks[-1].report["super"]["page"] is not None and seed % 2:
@@ -442,7 +456,7 @@ def summary_of(report, doubts):
         "other items": "; ".join(f"{sums[kind][0]} {kind}, {size(sums[kind][1])}" for kind in ("torn", "noise", "pad")),
         "unreadable": unreadable_text(report, has_superblock),
         "doubts": (f"{len(doubts)}, see docs/REPORT.md" if doubts else "none that a report knows")
-                  + "; superblock damage isn't in a report: run superblocks",
+                  + "; superblock damage and spares aren't in a report: run superblocks and reclaimable",
         "candidates": f"nothing may be reclaimed until each doubt is settled (the report alone would list {gain})" if doubts
                       else f"{gain}, {counted(kept, 'chunk')} to move first, if reclaimable agrees: run it before any reset, "
                            f"and compare {generation_name} with the node's log"}

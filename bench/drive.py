@@ -1,0 +1,198 @@
+"""A disk in memory, the answers of a program or of the reference on it, and what a node's tools read and write on it."""
+import os
+import subprocess
+
+import reference
+from disks import geometry, record, run
+from reference import ACCEPTABLE, Image, choose, frame_at, read_run, status_of, tile, write_locator
+
+
+class Drive:
+    """The bytes of a disk, and its unreadable pages."""
+
+    def __init__(self, page, pages, extents, raw=None, unreadable=(), payloads=()):
+        self.page, self.pages, self.extents = page, pages, extents
+        self.size = page * pages
+        self.raw = bytearray(self.size * extents if raw is None else raw)
+        self.unreadable = frozenset(unreadable)
+        self.payloads, self.older, self.later = list(payloads), [], None
+
+    def copy(self, raw=None):
+        other = Drive(self.page, self.pages, self.extents, self.raw if raw is None else raw, self.unreadable, self.payloads)
+        other.older, other.later = list(self.older), self.later
+        return other
+
+    def image(self):
+        return Image(bytes(self.raw), self.page, self.pages, self.extents, self.unreadable)
+
+    def read(self, extent, offset, count):
+        return bytes(self.raw[extent * self.size + offset:extent * self.size + offset + count])
+
+    def write(self, extent, offset, text):
+        """Writes as `dd` does: past the end of an extent it goes on in the next one. The file doesn't become longer."""
+        at = extent * self.size + offset
+        if at < len(self.raw):
+            self.raw[at:at + len(text)] = text[:len(self.raw) - at]
+
+    def record(self, generation, pointers, retired, runs):
+        """A record of this disk. Without retired extents it is of the first kind."""
+        return record(self.page, self.pages, self.extents, pointers, [write_locator(c) for c in runs], generation, retired or None)
+
+
+class Engine:
+    """Prints the answers: a program, or the reference by itself."""
+
+    def __init__(self, program, room):
+        self.program, self.room, self.calls = program, room, 0
+
+    def ask(self, drive, command, accepted=(), resets=()):
+        """The text that a command prints, and whether its status is 0."""
+        self.calls += 1
+        if self.program is None:
+            image = drive.image()
+            if command == "locators":
+                _, _, clean, lines = reference.scrub(image)
+                return lines, clean
+            options = {"reclaimable": [accepted], "manifest": [resets]}.get(command, [])
+            return getattr(reference, command)(image, *options)
+        name = os.path.join(self.room, "image")
+        with open(name, "wb") as file:
+            file.write(drive.raw)
+        words = [self.program, command, *geometry(drive.page, drive.pages, drive.extents)]
+        words += [word for text in accepted for word in ("--accept", text)] + [word for e in resets for word in ("--reset", str(e))]
+        done = subprocess.run([*words, name, *(f"{e}:{g}" for e, g in sorted(drive.unreadable))], stdin=subprocess.DEVNULL,
+                              capture_output=True, text=True)
+        if done.returncode not in (0, 1) or done.stderr:
+            raise RuntimeError(f"{words}: status {done.returncode}, {done.stderr}")
+        return done.stdout, done.returncode == 0
+
+
+def doubts_in(text):
+    """The doubts of a listing, each without its first word."""
+    return [line.partition(" ")[2] for line in text.splitlines() if line.startswith(("doubt ", "accepted "))]
+
+
+def acceptable(doubts):
+    return [line for line in doubts if line.split()[0] in (*ACCEPTABLE, "spare")]
+
+
+def lines_with(text, word):
+    return [line.split() for line in text.splitlines() if line.startswith(word + " ")]
+
+
+class Broken(Exception):
+    """A law doesn't hold, or a box isn't as it should be."""
+
+
+def require(condition, *words):
+    if not condition:
+        raise Broken(" ".join(map(str, words)))
+
+
+def chunks_of(drive, extent, pointer):
+    return {(i[1], i[2], i[0], i[3]) for i in tile(drive.image(), extent, pointer) if i[0] in ("chunk", "sealed")}
+
+
+def all_accepted(engine, drive):
+    text, _ = engine.ask(drive, "reclaimable")
+    return engine.ask(drive, "reclaimable", acceptable(doubts_in(text)))
+
+
+def named_locators(drive):
+    """The named locators of a disk: their owners, the locators, and their statuses."""
+    image, chosen = drive.image(), choose(drive.image())
+    pointers, retired = chosen["pointers"], chosen["retired"]
+    starts = {e: {i[1] for i in tile(image, e, pointers[e - 1])} for e in range(1, drive.extents) if e not in retired}
+    named, bindings = [], {}
+    for k, c in enumerate(chosen["runs"]):
+        status = status_of(image, pointers, retired, starts, c)
+        named.append((f"run {k}", c, status))
+        if status in ("sound", "hidden"):
+            payload = frame_at(image, c["extent"], pointers[c["extent"] - 1], c["offset"])[3]
+            for identifier, locators in read_run(payload) or []:
+                bindings.setdefault(identifier, locators)
+    for identifier in sorted(bindings):
+        named += [(identifier, c, status_of(image, pointers, retired, starts, c)) for c in bindings[identifier]]
+    return named
+
+
+def locator_of(extent, offset, name, payload):
+    return {"extent": extent, "offset": offset, "length": len(payload), "uuid": name, "digest": reference.sha(payload)}
+
+
+def place_of(c):
+    return c["extent"], c["offset"]
+
+
+def run_of(entries):
+    return run(*((identifier, [write_locator(c) for c in locators]) for identifier, locators in entries))
+
+
+def bindings_of(drive):
+    """For each identifier its entries, newest first, from the runs that are read."""
+    chosen, image = choose(drive.image()), drive.image()
+    found = {}
+    for c in chosen["runs"]:
+        here = frame_at(image, c["extent"], chosen["pointers"][c["extent"] - 1], c["offset"]) if 0 < c["extent"] < drive.extents else None
+        for identifier, locators in here and read_run(here[3]) or []:
+            found.setdefault(identifier, []).append(locators)
+    return found
+
+
+def record_pages(drive, length):
+    """The pages of extent 0 at which a record can begin that leaves the one that counts."""
+    records = reference.records_of(drive.image())
+    counts = choose(drive.image())["page"]
+    if counts is None:
+        taken = range(0)
+    else:
+        taken = range(counts * drive.page, counts * drive.page + records[counts].length)
+    return [g for g in range(drive.pages) if g * drive.page + length <= drive.size
+            and (g * drive.page >= taken.stop or g * drive.page + length <= taken.start)]
+
+
+def put_record(drive, text, begin, with_zeros=True):
+    """Writes a record from this byte on, and zeros the rest of the pages of each other record that it overwrites."""
+    end = begin + len(text)
+    others = [(g * drive.page, (g + (r.length - 1) // drive.page + 1) * drive.page)
+              for g, r in reference.records_of(drive.image()).items()]
+    drive.write(0, begin, text)
+    for start, stop in others if with_zeros else []:
+        if start < end and begin < stop:
+            drive.write(0, start, bytes(max(0, begin - start)))
+            drive.write(0, end, bytes(max(0, stop - end)))
+
+
+class Full(Exception):
+    """There is no place left."""
+
+
+def held(drive):
+    """For each locator of each shard: its payload, or whether there is a spare of it."""
+    image, chosen = drive.image(), choose(drive.image())
+    words = {}
+    for line in reference.manifest(image)[0].splitlines():
+        if line.startswith("shard "):
+            _, identifier, k, *_, last = line.split()
+            words[identifier, int(k)] = last
+    found = {}
+    for owner, c, status in named_locators(drive):
+        if isinstance(owner, bytes):
+            k = len(found.setdefault(owner, []))
+            whole = status in ("sound", "hidden")
+            found[owner].append(frame_at(image, c["extent"], chosen["pointers"][c["extent"] - 1], c["offset"])[3] if whole
+                                else words[owner.hex(), k])
+    return found
+
+
+def is_held(before, after, given_up=()):
+    """Whether a disk holds what it held. A spare may be new, or used by an entry, or gone where it was given up."""
+    def is_good(place, old, new):
+        if old == "spare" and new == "none":
+            return place in given_up
+        return old == new or old == "none" and new == "spare" or old == "spare" and isinstance(new, bytes)
+
+    return before.keys() == after.keys() and all(
+        len(parts) == len(after[identifier]) and all(is_good((identifier, k), old, new)
+                                                     for k, (old, new) in enumerate(zip(parts, after[identifier])))
+        for identifier, parts in before.items())

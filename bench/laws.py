@@ -1,0 +1,195 @@
+"""The laws of spares, copies, resets and manifests, held on pairs of images."""
+import reference
+from disks import frame, sealed_frame
+from drive import acceptable, all_accepted, chunks_of, doubts_in, lines_with, named_locators, require
+from reference import choose, frame_at
+
+
+def hold_spares(engine, drive, seen):
+    """If no line begins with `doubt` or `accepted spare`, each dangling locator that has a spare has one that is live or in an
+    extent that isn't listed."""
+    text, _ = engine.ask(drive, "reclaimable")
+    text, _ = engine.ask(drive, "reclaimable", [t for t in acceptable(doubts_in(text)) if not t.startswith("spare ")])
+    if any(line.startswith(("doubt ", "accepted spare ")) for line in text.splitlines()):
+        return
+    listed = {int(words[1]) for words in lines_with(text, "reclaim")}
+    chosen, image = choose(drive.image()), drive.image()
+    frames = []
+    for e in range(1, drive.extents):
+        if e not in chosen["retired"]:
+            for start, _, _, _ in chunks_of(drive, e, chosen["pointers"][e - 1]):
+                frames.append((e, start, frame_at(image, e, chosen["pointers"][e - 1], start)[3]))
+    named = named_locators(drive)
+    live = {(c["extent"], c["offset"]) for _, c, status in named if status == "sound"}
+    for owner, c, status in named:
+        if status in ("sound", "hidden") or c["length"] == 0:
+            continue
+        places = [(e, o) for e, o, p in frames if len(p) == c["length"] and reference.sha(p) == c["digest"]]
+        if places:
+            seen["law of spares: a dangling locator with spares"] += 1
+            require(any(place in live or place[0] not in listed for place in places), "law of spares:", owner, places, text)
+
+
+def junk(choice, drive):
+    """Bytes for an unused part of a disk: whole frames, many of them with payloads that were written before, and remains."""
+    text, ends = b"", []
+    whole = True
+    while len(text) < drive.size:
+        kind = choice.random()
+        if kind < .7:
+            payload = choice.choice(drive.payloads) if drive.payloads and choice.random() < .5 else choice.randbytes(choice.choice([0, 1, 3, 26, 60]))
+            text += choice.choice([frame, sealed_frame])(choice.randbytes(16), payload)
+            if whole:
+                ends.append(len(text))
+        else:
+            whole = False
+            text += choice.choice([bytes(drive.page), choice.randbytes(choice.randrange(1, 40)), b"\xc5\x5e" + choice.randbytes(30),
+                                   bytes(-len(text) % drive.page), b"\xc5\x5f", b"\x3a\xa3"])
+    return text[:drive.size], ends
+
+
+def rewritten(choice, drive, pointers, retired, runs, unreadable=()):
+    """The disk with another extent 0: a superblock that counts with these fields, and anything beside it. None if it doesn't
+    fit."""
+    text = drive.record(choice.choice([1, 5, 2 ** 64 - 1]), pointers, retired, runs)
+    places = drive.pages - (len(text) - 1) // drive.page
+    if places < 1:
+        return None
+    after = drive.copy()
+    after.raw[:min(drive.size, len(after.raw))] = bytes(min(drive.size, len(after.raw)))
+    for _ in range(choice.choice([0, 0, 1, 3])):
+        after.write(0, choice.randrange(drive.pages) * drive.page, choice.choice([b"SSB1", b"SSB2", b"stray"]))
+    if choice.random() < .2:
+        other, start = drive.record(0, pointers[::-1], [], []), choice.randrange(drive.pages) * drive.page
+        after.write(0, start, other[:drive.size - start])
+    at = choice.randrange(places) * drive.page
+    after.write(0, at, text)
+    pages = range(at // drive.page, (at + len(text) - 1) // drive.page + 1)
+    lost = {(0, g) for g in range(drive.pages) if g not in pages and choice.random() < .1}
+    after.unreadable = frozenset({(e, g) for e, g in drive.unreadable if e != 0} | lost | set(unreadable))
+    if choice.random() < .2 and pages[-1] + len(pages) < drive.pages and not lost:
+        after.write(0, (pages[-1] + 1) * drive.page, text)
+    found = choose(after.image())
+    if (found["page"], found["pointers"], found["retired"], found["runs"]) != (pages[0], pointers, retired, runs):
+        return None
+    return after
+
+
+def hold_copies(engine, drive, choice, seen):
+    text, clear = all_accepted(engine, drive)
+    rooms = [(word, int(e), int(at)) for word in ("room", "last-room") for _, e, at, _ in lines_with(text, word)]
+    if not rooms:
+        return
+    chosen = choose(drive.image())
+    pointers = list(chosen["pointers"])
+    changed, ends = drive.copy(), {}
+    for word, x, at in choice.sample(rooms, choice.randint(1, len(rooms))):
+        text, stops = junk(choice, drive)
+        changed.write(x, at, text[:drive.size - at])
+        stops = [at + stop for stop in stops if at + stop <= drive.size]
+        pointers[x - 1] = choice.choice([at, drive.size, choice.randint(at, drive.size), *stops, *stops])
+        ends[x] = (word, at, [stop for stop in stops if stop <= pointers[x - 1]])
+    after = rewritten(choice, changed, pointers, chosen["retired"], chosen["runs"])
+    if after is None:
+        return
+    (first, good), (second, well) = engine.ask(drive, "manifest"), engine.ask(after, "manifest")
+    lines, others = first.splitlines(), second.splitlines()
+    require(len(lines) == len(others) and good == well, "law of a copy (1): status or number of lines", first, second)
+    for line, other in zip(lines, others):
+        found = line.endswith(" none") and other == line.removesuffix("none") + "spare"
+        seen["law of a copy: none became spare"] += found
+        require(line == other or found, "law of a copy (1):", line, other)
+    for x, (word, at, stops) in ends.items():
+        before, now = chunks_of(drive, x, chosen["pointers"][x - 1]), chunks_of(after, x, pointers[x - 1])
+        require(before <= now, "law of a copy (2): extent", x, before - now)
+        starts = [at, *stops]
+        require({(a, b) for a, b in zip(starts, stops)} <= {(a, b) for a, b, *_ in now}, "law of a copy (3): extent", x, stops, now)
+        seen[f"law of a copy: {word}"] += 1
+        seen["law of a copy: OFFSET behind the pointer"] += at > chosen["pointers"][x - 1]
+        seen["law of a copy: frames"] += len(stops)
+    seen["law of a copy: several extents"] += len(ends) > 1
+
+
+def spoilt_extents(choice, drive, extents):
+    """The disk with anything in these extents, and their unreadable pages."""
+    after = drive.copy()
+    lost = {(e, g) for e, g in drive.unreadable if e not in extents}
+    for e in extents:
+        after.write(e, 0, choice.choice([bytes(drive.size), junk(choice, drive)[0], drive.read(e, 0, drive.size)]))
+        lost |= {(e, g) for g in range(drive.pages) if choice.random() < .1}
+    after.unreadable = frozenset(lost)
+    return after
+
+
+def named_with_forms(engine, drive):
+    """The named locators with their statuses, and the forms of the sound ones of shards."""
+    text, _ = engine.ask(drive, "locators")
+    lines = [line for line in text.splitlines() if not line.startswith("spare ")]
+    forms = []
+    for owner, c, status in named_locators(drive):
+        if status == "sound":
+            pointer = choose(drive.image())["pointers"][c["extent"] - 1]
+            forms.append(frame_at(drive.image(), c["extent"], pointer, c["offset"])[0].word)
+    return lines, forms
+
+
+def hold_resets(engine, drive, choice, seen):
+    chosen = choose(drive.image())
+    some = sorted(choice.sample(range(1, drive.extents), choice.randint(1, min(3, drive.extents - 1))))
+    if chosen["page"] is None:
+        require(engine.ask(drive, "manifest", resets=some) == ("no-superblock\n", False), "law of a reset: no superblock")
+        return
+    reset = [0 if e in some else w for e, w in enumerate(chosen["pointers"], 1)]
+    after = rewritten(choice, spoilt_extents(choice, drive, some), reset, chosen["retired"], chosen["runs"])
+    if after is not None:
+        foreseen, now = engine.ask(drive, "manifest", resets=some), engine.ask(after, "manifest")
+        require(foreseen == now, "law of a reset (1):", some, foreseen, now)
+        seen["law of a reset: foreseen"] += 1
+        seen["law of a reset: foreseen, with another text"] += foreseen != engine.ask(drive, "manifest")
+    text, _ = all_accepted(engine, drive)
+    moved = {int(words[1]) for words in lines_with(text, "move")}
+    free = [int(words[1]) for words in lines_with(text, "reclaim") if int(words[1]) not in moved]
+    if not free:
+        return
+    free = sorted(choice.sample(free, choice.randint(1, len(free))))
+    any_pointers = [choice.choice([0, drive.size, choice.randint(0, drive.size)]) if e in free else w
+                    for e, w in enumerate(chosen["pointers"], 1)]
+    after = rewritten(choice, spoilt_extents(choice, drive, free), any_pointers, chosen["retired"], chosen["runs"])
+    if after is not None:
+        before, now = named_with_forms(engine, drive), named_with_forms(engine, after)
+        require(before == now, "law of a reset (2):", free, before, now)
+        seen["law of a reset: listed without a move"] += 1
+        seen["law of a reset: several listed"] += len(free) > 1
+    if not lines_with(text, "accepted spare"):
+        require(engine.ask(drive, "manifest", resets=free) == engine.ask(drive, "manifest"), "law of a reset (3):", free)
+        seen["law of a reset: the manifest stays"] += 1
+    else:
+        seen["law of a reset: a spare accepted"] += 1
+
+
+def hold_manifest(engine, drive, seen):
+    """What the manifest says is what the report and the named locators say."""
+    text, good = engine.ask(drive, "manifest")
+    chosen = choose(drive.image())
+    if chosen["page"] is None:
+        require((text, good) == ("no-superblock\n", False), "manifest without a superblock")
+        return
+    lines = text.splitlines()
+    require(lines == sorted(lines, key=str.encode) and text.endswith("\n"), "the manifest isn't sorted", text)
+    require(lines[0].split() == ["retired", *map(str, chosen["retired"])], "retired extents", text)
+    named = named_locators(drive)
+    shards = [(owner, c, status) for owner, c, status in named if isinstance(owner, bytes)]
+    require(lines[-1] == f"total {len({owner for owner, _, _ in shards})} {len(shards)}", "total", text)
+    for line, (owner, c, status) in zip(lines[2:-1], shards, strict=True):
+        words = line.split()
+        require(words[:2] + words[3:6] == ["shard", owner.hex(), str(c["length"]), c["digest"].hex(), status], "a line of the manifest", line)
+        require(len(words) == (7 if status == "sound" else 9 if status == "hidden" else 10), "words of a line", line)
+        seen["manifest: " + status + (" " + words[-1] if status != "hidden" else "")] += 1
+    require(good == (lines[1] == "runs lost 0 hidden 0" and all(s == "sound" for _, _, s in shards)), "status of the manifest")
+
+
+def hold_laws(engine, drive, choice, seen):
+    hold_spares(engine, drive, seen)
+    hold_manifest(engine, drive, seen)
+    hold_copies(engine, drive, choice, seen)
+    hold_resets(engine, drive, choice, seen)
