@@ -8,7 +8,7 @@ It knows only the layout of bytes. README.md has what the program prints for eac
 import sys
 from pathlib import Path
 sys.path.insert(0, str(Path(__file__).resolve().parent.parent / "bench"))
-from disks import MAGIC, Disk, run, sealed_frame, shard, uuid
+from disks import MAGIC, Disk, frame, locator, run, sealed_frame, shard, uuid
 
 PAGE = 64
 
@@ -199,6 +199,110 @@ def blocks(*lines):
 READ_AND_NOT = blocks((0, 2, "+"), (2, 1, "-"), (3, 10, "+"), (13, 1, "-"), (14, 2, "+"))
 
 
+def rotted_disk():
+    """Shard 1 names a chunk of `abc` in extent 1, in which a byte has changed. Extent 2 has an old copy under another UUID, and
+    garbage. Returns the disk and the locator of its run."""
+    disk = Disk(8, 4)
+    disk.chunk(1, 0, uuid(0x11), b"abX")
+    disk.chunk(2, 0, uuid(0x44), b"abc")
+    disk.chunk(2, 41, uuid(0x55), bytes(100))
+    return disk, disk.chunk(3, 0, uuid(0xAA), run((shard(1), [locator(1, 0, uuid(0x11), b"abc")])))
+
+
+def rotted():
+    """The last copy is in an extent that could be reset."""
+    disk, index_run = rotted_disk()
+    disk.superblock(0, 1, index_run)
+    return disk
+
+
+def copied():
+    """The old copy was copied behind the run, and no entry names the new one."""
+    disk, index_run = rotted_disk()
+    disk.chunk(3, 155, uuid(0x44), b"abc")
+    disk.superblock(0, 2, index_run)
+    return disk
+
+
+def two_copies():
+    """Shard 1's chunk, behind the run, has rotted. Extents 1 and 2 have an old copy each, and garbage."""
+    disk = Disk(8, 4)
+    for extent in (1, 2):
+        disk.chunk(extent, 0, uuid(0x44), b"abc")
+        disk.chunk(extent, 41, uuid(0x55), bytes(100))
+    disk.chunk(3, 155, uuid(0x11), b"abX")
+    disk.superblock(0, 1, disk.chunk(3, 0, uuid(0xAA), run((shard(1), [locator(3, 155, uuid(0x11), b"abc")]))))
+    return disk
+
+
+def less():
+    """Shard 1's chunk is sealed, and garbage lies behind it. Extent 2 has garbage alone."""
+    disk = Disk(8, 4)
+    chunk = disk.chunk(1, 0, uuid(0x11), b"abc", sealed_frame)
+    disk.chunk(1, 75, uuid(0x55), bytes(100))
+    disk.chunk(2, 0, uuid(0x66), bytes(26))
+    disk.superblock(0, 1, disk.chunk(3, 0, uuid(0xAA), run((shard(1), [chunk]))))
+    return disk
+
+
+def full():
+    """The same disk with a byte of noise behind the run."""
+    disk = less()
+    disk.put(3, 155, b"x")
+    disk.pointers[2] = 156
+    disk.superblock(0, 1, locator(3, 0, uuid(0xAA), run((shard(1), [locator(1, 0, uuid(0x11), b"abc")]))))
+    return disk
+
+
+def both():
+    """Shard 1 names `abc` in extents 1 and 3, and shard 2 names `de` in extent 1. Extent 2 is garbage."""
+    disk = Disk(8, 4)
+    chunks = disk.chunk(1, 0, uuid(0x11), b"abc"), disk.chunk(3, 0, uuid(0x44), b"abc")
+    other = disk.chunk(1, 41, uuid(0x22), b"de")
+    disk.chunk(2, 0, uuid(0x66), bytes(26))
+    disk.superblock(0, 1, disk.chunk(3, 41, uuid(0xAA), run((shard(1), chunks), (shard(2), [other]))))
+    return disk
+
+
+def to_move_disk():
+    """Shard 1's chunk has garbage behind it. In extent 2 a chunk of 66 bytes has lost the last two in a crash, at the page
+    boundary. Its UUID ended with the two bytes of the magic. Returns the disk and the locator of its run."""
+    disk = Disk(8, 4)
+    chunk = disk.chunk(1, 0, uuid(0x11), b"abc")
+    disk.chunk(1, 41, uuid(0x55), bytes(100))
+    disk.put(2, 0, frame(b"\x33" * 14 + MAGIC, b"x" * 28)[:PAGE])
+    disk.pointers[1] = PAGE
+    return disk, disk.chunk(3, 0, uuid(0xAA), run((shard(1), [chunk])))
+
+
+def to_move():
+    """The chunk can be moved, but not into extent 2."""
+    disk, index_run = to_move_disk()
+    disk.superblock(0, 1, index_run)
+    return disk
+
+
+def moved(extent, offset, payload=b"abc"):
+    """The same disk after shard 1's chunk was copied to this place, and a new run and superblock were written. The superblock of
+    before is still there."""
+    disk, index_run = to_move_disk()
+    disk.superblock(0, 1, index_run)
+    disk.chunk(extent, offset, uuid(0x11), payload)
+    entry = shard(1), [locator(extent, offset, uuid(0x11), b"abc")]
+    disk.superblock(3, 2, disk.chunk(3, disk.pointers[2], uuid(0xBB), run(entry)), index_run)
+    return disk
+
+
+def damaged_copy():
+    """A byte changed while the chunk was copied."""
+    return moved(3, 155, b"abX")
+
+
+def completed():
+    """The chunk was copied to the page boundary behind the torn one, and completes it."""
+    return moved(2, PAGE)
+
+
 def failing_map():
     """The readable sectors of the failing disk, for the test mode of GNU ddrescue."""
     return "# The sectors that can be read (+), and those that can't (-)\n0x00000000     ?\n" + READ_AND_NOT
@@ -214,7 +318,8 @@ def rescued_map():
 
 
 IMAGES = (one_chunk, one_shard, no_superblock, tie, collision, closed_collision, lost_run, retired_extent, twins,
-          several_findings, later_run, flipped_bit, failing, rescued, formatted_twice, letters, reclaimed_before)
+          several_findings, later_run, flipped_bit, failing, rescued, formatted_twice, letters, reclaimed_before, rotted, copied,
+          two_copies, less, full, both, to_move, damaged_copy, completed)
 MAPS = (failing_map, rescued_map)
 
 
