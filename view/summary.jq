@@ -249,7 +249,7 @@ def summary:
     line("other items"; other_items_text($extents)),
     line("unreadable"; unreadable_text),
     line("doubts"; (if $doubts == [] then "none that a report knows" else "\(total($doubts[].lines)), see docs/REPORT.md" end)
-                   + "; superblock damage isn't in a report: run superblocks"),
+                   + "; superblock damage and spares aren't in a report: run superblocks and reclaimable"),
     ($doubts[] | "    \(.kind): \(.text)"),
     line("candidates"; candidates_text($doubts));
 
