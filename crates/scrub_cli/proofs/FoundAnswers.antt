@@ -5,10 +5,10 @@ use Rattle.scrub_cli.specs.declared.commands.answer.Wanted.{Wanted}
 use Rattle.scrub_cli.specs.declared.words.GivenSizes.{GivenSizes}
 use Rattle.scrub_cli.specs.declared.words.ImageWords.{ImageWords}
 use Rattle.scrub_cli.specs.Scan.{IsScanAnswer}
-use Rattle.scrub_report.proofs.SizesLists.{one_size_lem}
+use Rattle.scrub_listings.proofs.SizesLists.{one_size_lem}
 use Rattle.std.specs.Borrow.{Bor}
 use Rattle.scrub_disk.specs.declared.geometry.Geometry.{Geometry as Sizes}
-use Rattle.scrub_report.specs.Sizes.{AreSizesOf}
+use Rattle.scrub_listings.specs.Sizes.{AreSizesOf}
 use Rattle.scrub_cli.specs.declared.process.fault.Fault.{Fault}
 use Rattle.scrub_cli.specs.declared.process.fault.Fault.TheVariants.{NotUtf8, Help, Words, Geometry, NoSizes, Extent, Pointer, BadPage, NoMap, MapLine, NoImage, TooLong, Output, OutOfMemory}
 use Rattle.scrub_cli.specs.Found.{AreSizesFound, AreSizesRead, IsFoundFault}

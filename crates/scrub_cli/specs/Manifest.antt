@@ -4,7 +4,7 @@ use Rattle.std.specs.List.{list_all}
 use Rattle.scrub_disk.specs.declared.geometry.Geometry.{Geometry as Sizes}
 use Rattle.scrub_disk.specs.Image.{Image}
 use Rattle.scrub_report.specs.Answer.{IsPartitionOfPlanned}
-use Rattle.scrub_report.specs.Manifest.{IsManifestBut, IsWholeBut}
+use Rattle.scrub_listings.specs.Manifest.{IsManifestBut, IsWholeBut}
 use Rattle.scrub_cli.specs.declared.process.fault.Fault.{Fault}
 use Rattle.scrub_cli.specs.declared.process.fault.Fault.TheVariants.{Geometry, NoSizes, Extent, NoMap, MapLine, NoImage, OutOfMemory}
 use Rattle.scrub_cli.specs.declared.words.ManifestWords.{ManifestWords}

@@ -4,11 +4,11 @@ use Rattle.scrub_disk.specs.declared.geometry.Geometry.{Geometry as Sizes}
 use Rattle.scrub_disk.specs.Image.{Image}
 use Rattle.scrub_report.specs.Answer.{IsPartitionOfPlanned}
 use Rattle.scrub_report.specs.Index.{IsIndex}
-use Rattle.scrub_report.specs.Locators.{AreLocatorLines}
-use Rattle.scrub_report.specs.Doubts.{Accepted}
-use Rattle.scrub_report.specs.Reclaimable.{AreReclaimLines, IsClear}
 use Rattle.scrub_report.specs.Report.{IsReport}
-use Rattle.scrub_report.specs.Summary.{IsSoundImage, IsSummary}
+use Rattle.scrub_listings.specs.Locators.{AreLocatorLines}
+use Rattle.scrub_listings.specs.Summary.{IsSoundImage, IsSummary}
+use Rattle.scrub_reclaim.specs.Doubts.{Accepted}
+use Rattle.scrub_reclaim.specs.Reclaimable.{AreReclaimLines, IsClear}
 use Rattle.scrub_cli.specs.declared.commands.answer.Wanted.{Wanted}
 use Rattle.scrub_cli.specs.declared.commands.answer.Wanted.TheVariants.{Report, Index, Locators, Summary, Reclaimable}
 use Rattle.scrub_cli.specs.declared.process.fault.Fault.{Fault}

@@ -2,7 +2,7 @@
 use Rattle.std.specs.Prelude.{◌≡◌, ◌≤◌, ℕ, List, [], Bool, Option, None, Some}
 use Rattle.scrub_map.specs.declared.block.MapBlock.{MapBlock}
 use Rattle.scrub_map.specs.Rescued.{AreLostBlocks}
-use Rattle.scrub_report.specs.Sizes.{IsSizesListingOf}
+use Rattle.scrub_listings.specs.Sizes.{IsSizesListingOf}
 use Rattle.scrub_cli.specs.declared.process.fault.Fault.{Fault}
 use Rattle.scrub_cli.specs.declared.process.fault.Fault.TheVariants.{NoMap, MapLine, NoImage, OutOfMemory}
 use Rattle.scrub_cli.specs.declared.words.SizesWords.{SizesWords}

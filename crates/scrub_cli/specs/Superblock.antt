@@ -1,7 +1,7 @@
 -- What the command `superblocks` answers for an image file.
 use Rattle.std.specs.Prelude.{◌≡◌, ℕ, List, Bool}
 use Rattle.scrub_disk.specs.Image.{Image}
-use Rattle.scrub_report.specs.Superblocks.{AreSuperblockLines, AreCleanSuperblocks}
+use Rattle.scrub_listings.specs.Superblocks.{AreSuperblockLines, AreCleanSuperblocks}
 use Rattle.scrub_cli.specs.declared.words.ImageWords.{ImageWords}
 use Rattle.scrub_cli.specs.Known.{KnownMaps, KnownRaw}
 use Rattle.scrub_cli.specs.Lines.{status_of_clean}

@@ -136,7 +136,7 @@ pub fn list_sizes(alloc: Global, wanted: Wanted) -> Result<(), Stop> {
     let bytes = one_shard_bytes(alloc)?;
     let mut raw = RawBytes::new(&bytes);
     wanted.made()?;
-    let listing = scrub_report::list_sizes(alloc, &mut raw, &[false, true])?;
+    let listing = scrub_listings::list_sizes(alloc, &mut raw, &[false, true])?;
     right(
         listing.text.as_slice() == b"0 SSB1 1 64 4 3\nlost 512 1024\n".as_slice()
             && !listing.is_clean,
@@ -148,7 +148,7 @@ pub fn find_sizes(alloc: Global, wanted: Wanted) -> Result<(), Stop> {
     let bytes = one_shard_bytes(alloc)?;
     let mut raw = RawBytes::new(&bytes);
     wanted.made()?;
-    let found = scrub_report::find_sizes(alloc, &mut raw, &[])?;
+    let found = scrub_listings::find_sizes(alloc, &mut raw, &[])?;
     right(found == Some(small_geometry()))
 }
 

@@ -8,7 +8,8 @@ use crate::ending::{Stop, Wanted, right};
 use crate::takings::{WORKERS, is_partition};
 use scrub_fakes::published::{ONE_SHARD, TWINS};
 use scrub_pool::NoGate;
-use scrub_report::{Accepted, ScrubAnswer};
+use scrub_reclaim::Accepted;
+use scrub_report::ScrubAnswer;
 use std::alloc::Global;
 use std::io::Write;
 use std::sync::Wait;
@@ -112,7 +113,7 @@ pub fn scrub<R: Threads + Wait + Sync>(
 pub fn list_superblocks(alloc: Global, wanted: Wanted) -> Result<(), Stop> {
     let (disk, _) = one_shard(alloc)?;
     wanted.made()?;
-    let listing = scrub_report::list_superblocks(alloc, &disk)?;
+    let listing = scrub_listings::list_superblocks(alloc, &disk)?;
     right(listing.text.as_slice() == b"record 0 SSB1 1 counts\n".as_slice() && listing.is_clean)
 }
 
@@ -127,7 +128,7 @@ pub fn list_locators<R: Threads + Wait + Sync>(
 {
     let disk = rotted(alloc)?;
     wanted.made()?;
-    let (listing, takings) = scrub_report::list_locators(rt, alloc, &disk, workers, &NoGate)?;
+    let (listing, takings) = scrub_listings::list_locators(rt, alloc, &disk, workers, &NoGate)?;
     right(
         listing.text.as_slice() == LOCATORS.as_bytes()
             && !listing.is_clean
@@ -147,7 +148,7 @@ pub fn list_reclaimable<R: Threads + Wait + Sync>(
     let (disk, _) = twins_and_shared(alloc)?;
     let accepted = Accepted::new(&[]);
     wanted.made()?;
-    let (listing, takings) = scrub_report::list_reclaimable(
+    let (listing, takings) = scrub_reclaim::list_reclaimable(
         rt, alloc, &disk, workers, &NoGate, &accepted,
     )?;
     right(
@@ -168,7 +169,7 @@ pub fn list_manifest<R: Threads + Wait + Sync>(
 {
     let (disk, _) = twins_and_shared(alloc)?;
     wanted.made()?;
-    let (listing, takings) = scrub_report::list_manifest(rt, alloc, &disk, workers, &NoGate, &[1])?;
+    let (listing, takings) = scrub_listings::list_manifest(rt, alloc, &disk, workers, &NoGate, &[1])?;
     right(
         listing.text.as_slice() == MANIFEST.as_bytes()
             && !listing.is_whole
@@ -187,7 +188,7 @@ pub fn list_summary<R: Threads + Wait + Sync>(
 {
     let (disk, _) = twins_and_shared(alloc)?;
     wanted.made()?;
-    let (listing, takings) = scrub_report::list_summary(rt, alloc, &disk, workers, &NoGate)?;
+    let (listing, takings) = scrub_listings::list_summary(rt, alloc, &disk, workers, &NoGate)?;
     right(
         listing.text.as_slice() == SUMMARY.as_bytes()
             && !listing.is_sound

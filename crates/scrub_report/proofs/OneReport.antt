@@ -10,8 +10,6 @@ use Rattle.scrub_check.specs.Named.{named}
 use Rattle.scrub_check.proofs.OneList.{one_list, one_shared, one_broken}
 use Rattle.scrub_report.specs.Answer.{AnswerValue, IsScrubAnswer, ArePlannedExtents}
 use Rattle.scrub_report.specs.Index.{index_entries}
-use Rattle.scrub_report.specs.Locators.{AreLocatorLines, locator_lines}
-use Rattle.scrub_report.specs.Manifest.{IsManifestBut, manifest_text}
 use Rattle.scrub_report.specs.Report.{report_text}
 use Rattle.scrub_report.specs.Scrubbed.{Scrubbed, IsScrubbed, IsScrubbedBut, is_clean, is_in_doubt}
 use Rattle.scrub_report.proofs.OneIndex.{one_list_of_runs, one_list_of_checked, read_runs_are_runs}
@@ -94,14 +92,3 @@ one_answer image a b x y =
     (x.report.text_is ∙ ap report_text (one_scrub image x.report.found y.report.found x.report.scrubbed y.report.scrubbed) ∙ sym y.report.text_is)
     (x.index.bytes_are ∙ ap (λ (s : Scrubbed). run_bytes (index_entries s.checked s.bindings)) (one_scrub image x.index.found y.index.found x.index.scrubbed y.index.scrubbed) ∙ sym y.index.bytes_are)
     (x.clean.verdict ∙ ap is_clean (one_scrub image x.clean.found y.clean.found x.clean.scrubbed y.clean.scrubbed) ∙ sym y.clean.verdict)
-
--- and one listing of its named locators
-pub one_listing : (image : Image) (a b : List ℕ) → AreLocatorLines image a → AreLocatorLines image b → a ≡ b
-one_listing image a b x y =
-    x.text_is ∙ ap (λ (s : Scrubbed). locator_lines s.all s.checked) (one_scrub image x.found y.found x.scrubbed y.scrubbed)
-    ∙ sym y.text_is
-
--- and one manifest, for each list of resets
-pub one_manifest_lem : (resets : List ℕ) (image : Image) (a b : List ℕ) → IsManifestBut resets image a → IsManifestBut resets image b → a ≡ b
-one_manifest_lem resets image a b x y =
-    x.text_is ∙ ap manifest_text (one_scrub_but resets image x.found y.found x.scrubbed y.scrubbed) ∙ sym y.text_is

@@ -1,15 +1,12 @@
 -- What the code keeps of a disk until the report is written.
-use Rattle.std.specs.Prelude.{◌≡◌, ◌&&◌, ℕ, Bool, false, List, [], is_some, map}
-use Rattle.std.specs.List.{list_all, slice_get}
-use Rattle.std.specs.Option.{option_map_or}
+use Rattle.std.specs.Prelude.{◌≡◌, ◌&&◌, ℕ, Bool, List, [], is_some, map}
+use Rattle.std.specs.List.{list_all}
 use Rattle.scrub_disk.specs.Image.{Image}
 use Rattle.scrub_frame.specs.declared.locator.Locator.{Locator}
 use Rattle.scrub_super.specs.Chosen.{Choice, IsChoice}
 use Rattle.scrub_super.specs.Plan.{PlanValue}
 use Rattle.scrub_scan.specs.Scanned.{Scanned}
 use Rattle.scrub_scan.specs.AllFindings.{AreAllFindings}
-use Rattle.scrub_check.specs.declared.named.Owner.{Owner}
-use Rattle.scrub_check.specs.declared.named.Owner.TheVariants.{Run, Shard}
 use Rattle.scrub_check.specs.declared.runs.RunState.{RunState}
 use Rattle.scrub_check.specs.Runs.{AreReadRuns, ReadRunsValue}
 use Rattle.scrub_check.specs.declared.lists.liveness.Liveness.{Liveness}
@@ -48,11 +45,6 @@ pub record AreRowsOf (locators : List Locator) (read : ReadRunsValue) (rows : Li
   pub locators_are : map (λ r. r.locator) rows ≡ locators
   pub entries_are : map (λ r. r.entries) rows ≡ entry_counts read.runs
   pub states_are : run_states rows ≡ read.states
-
--- a row of a run that is read, of this number, names the locator
-abbrev pub is_of_read_row : List RunRow → Owner → Bool
-is_of_read_row rows (Run number) = option_map_or (λ r. is_some r.entries) (slice_get rows number) false
-is_of_read_row rows (Shard id) = false
 
 module _ {D : Type 0} where
   -- the locators are judged as they are in an image, as if these extents had been reset, and the rows are those of the runs

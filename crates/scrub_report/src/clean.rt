@@ -24,7 +24,7 @@ pub fn are_clean_items(items: &[Item]) -> bool
 }
 
 /// Whether every page of an extent can be read, and each of its items is clean.
-pub(crate) fn is_clean_extent<D: PageSource>(found: &ExtentResult<'_, D>) -> bool
+pub fn is_clean_extent<D: PageSource>(found: &ExtentResult<'_, D>) -> bool
     ensures { result ≡ is_clean_extent (scanned found.now) }
 {
     let findings = found.findings();

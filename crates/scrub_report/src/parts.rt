@@ -33,7 +33,7 @@ pub(crate) struct Judged<'d, D: PageSource> {
 
 /// What was found on a disk.
 #[derive(Drop)]
-pub(crate) struct Parts<'d, D: PageSource> {
+pub struct Parts<'d, D: PageSource> {
     /// The choice of the superblock that counts.
     pub chosen: Chosen,
     /// The plan that it gives.

@@ -14,7 +14,7 @@ use std::alloc::Global;
 
 /// An index run. The entries themselves are in the shard map.
 #[derive(Clone, Copy)]
-pub(crate) struct RunRow {
+pub struct RunRow {
     /// The locator of its chunk.
     pub locator: Locator,
     /// How many entries it has, none if it is lost.

@@ -18,7 +18,7 @@ use std::thread::Threads;
 
 /// A disk, and what was chosen, planned and scanned of it.
 #[derive(Drop)]
-pub(crate) struct Scan<'d, D: PageSource> {
+pub struct Scan<'d, D: PageSource> {
     /// The disk.
     pub disk: &'d D,
     /// The choice of the superblock that counts.
@@ -49,7 +49,7 @@ pub(crate) fn scan_by_one<'d, D: PageSource>(
 }
 
 /// Scans a disk by this many workers beside the caller, and returns which extents each of them took.
-pub(crate) fn scan_by<'d, D: PageSource, G: Gate, R: Threads + Wait + Sync>(
+pub fn scan_by<'d, D: PageSource, G: Gate, R: Threads + Wait + Sync>(
     rt: &R,
     alloc: Global,
     disk: &'d D,
@@ -86,7 +86,7 @@ fn plan_but(
 }
 
 /// Does the same if it is known which superblock counts.
-pub(crate) fn scan_chosen<'d, D: PageSource, G: Gate, R: Threads + Wait + Sync>(
+pub fn scan_chosen<'d, D: PageSource, G: Gate, R: Threads + Wait + Sync>(
     rt: &R,
     alloc: Global,
     disk: &'d D,
@@ -106,7 +106,7 @@ pub(crate) fn scan_chosen<'d, D: PageSource, G: Gate, R: Threads + Wait + Sync>(
 }
 
 /// Does the same, as if these extents, which rise, had been reset.
-pub(crate) fn scan_with_resets<'d, D: PageSource, G: Gate, R: Threads + Wait + Sync>(
+pub fn scan_with_resets<'d, D: PageSource, G: Gate, R: Threads + Wait + Sync>(
     rt: &R,
     alloc: Global,
     disk: &'d D,

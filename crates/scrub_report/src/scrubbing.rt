@@ -1,4 +1,4 @@
-//! Finds what is on a whole disk, part by part. `report`, `index` and `listing` write it.
+//! Finds what is on a whole disk, part by part. `report` and `index` write it, and the crates above as lines.
 
 ghost use Rattle.std.specs.Prelude.{◌≡◌, ℕ, IfOk, List, is_none, is_some};
 ghost use Rattle.std.specs.List.{list_all, list_any};
@@ -140,7 +140,7 @@ fn parts_from<'d, D: PageSource>(
 }
 
 /// What is found on a scanned disk, as if these extents had been reset.
-pub(crate) fn parts_of<'d, R: Threads + Sync, D: PageSource>(
+pub fn parts_of<'d, R: Threads + Sync, D: PageSource>(
     rt: &R,
     alloc: Global,
     scan: Scan<'d, D>,
@@ -155,7 +155,7 @@ pub(crate) fn parts_of<'d, R: Threads + Sync, D: PageSource>(
 }
 
 /// The same, and the twins among the chunks, which only the report has.
-pub(crate) fn parts_and_twins<'d, R: Threads + Sync, D: PageSource>(
+pub fn parts_and_twins<'d, R: Threads + Sync, D: PageSource>(
     rt: &R,
     alloc: Global,
     scan: Scan<'d, D>,
@@ -171,7 +171,7 @@ pub(crate) fn parts_and_twins<'d, R: Threads + Sync, D: PageSource>(
 }
 
 /// Whether each locator is sound.
-pub(crate) fn are_sound(checked: &[Checked]) -> bool
+pub fn are_sound(checked: &[Checked]) -> bool
     ensures { result ≡ list_all (λ c. is_sound c.status) checked.now }
 {
     checked.iter().all(|one| one.status.is_sound())
@@ -192,7 +192,7 @@ fn are_read(runs: &[RunRow]) -> bool
 }
 
 /// Whether the disk is clean.
-pub(crate) fn is_clean<D: PageSource>(parts: &Parts<'_, D>) -> bool
+pub fn is_clean<D: PageSource>(parts: &Parts<'_, D>) -> bool
     ensures { result ≡ is_clean_kept parts.now }
 {
     is_clean_choice(&parts.chosen)

@@ -1,14 +1,11 @@
-//! Texts of the report and of lines: identifiers, owners and statuses of locators, what became of a run, and kinds of
-//! superblock records.
+//! Texts of the report and of lines: identifiers, owners and statuses of locators, and what became of a run.
 
 ghost use Rattle.std.specs.Prelude.{◌≡◌, IfOk, string_bytes};
-ghost use Rattle.scrub_super.specs.Pages.{magic_of};
 ghost use Rattle.scrub_report.specs.Texts.{id_text, owner_text, state_text, status_text};
 
 use scrub_check::{Owner, RunState, Status};
 use scrub_disk::OutOfMemory;
 use scrub_run::ShardId;
-use scrub_super::RecordKind;
 use std::alloc::Global;
 
 /// A shard's identifier, as 32 lower-case hexadecimal digits.
@@ -19,7 +16,7 @@ pub(crate) fn id_text(alloc: Global, id: ShardId) -> Result<String, OutOfMemory>
 }
 
 /// The owner of a locator: `run K` or `shard IDENTIFIER`.
-pub(crate) fn owner_text(alloc: Global, owner: Owner) -> Result<String, OutOfMemory>
+pub fn owner_text(alloc: Global, owner: Owner) -> Result<String, OutOfMemory>
     ensures { IfOk result (λ text. string_bytes text ≡ owner_text owner) }
 {
     match owner {
@@ -32,7 +29,7 @@ pub(crate) fn owner_text(alloc: Global, owner: Owner) -> Result<String, OutOfMem
 }
 
 /// The word for a locator's status. The report has it for dangling locators and for lost runs.
-pub(crate) fn status_text(status: Status) -> &'static str
+pub fn status_text(status: Status) -> &'static str
     ensures { result.now ≡ status_text status }
 {
     match status {
@@ -50,22 +47,12 @@ pub(crate) fn status_text(status: Status) -> &'static str
 }
 
 /// The word for what became of an index run.
-pub(crate) fn state_text(state: RunState) -> &'static str
+pub fn state_text(state: RunState) -> &'static str
     ensures { result.now ≡ state_text state }
 {
     match state {
         RunState::Read => "read",
         RunState::BadChunk(status) => status_text(status),
         RunState::NotARun => "not_a_run",
-    }
-}
-
-/// The word for a kind of superblock record: the four letters that such a record begins with.
-pub(crate) fn kind_text(kind: RecordKind) -> &'static str
-    ensures { result.now ≡ magic_of kind }
-{
-    match kind {
-        RecordKind::Ssb1 => "SSB1",
-        RecordKind::Ssb2 => "SSB2",
     }
 }

@@ -15,11 +15,10 @@ ghost use Rattle.scrub_cli.specs.Superblock.{AreSuperblocksListed};
 
 use crate::words::command::VERSION;
 use scrub_disk::{OutOfMemory, PageSource, RawImage};
+use scrub_listings::{list_locators, list_manifest, list_sizes, list_summary, list_superblocks};
 use scrub_pool::{NoGate, Takings};
-use scrub_report::{
-    Accepted, ScrubFault, are_clean_items, list_locators, list_manifest, list_reclaimable,
-    list_sizes, list_summary, list_superblocks, scrub,
-};
+use scrub_reclaim::{Accepted, list_reclaimable};
+use scrub_report::{ScrubFault, are_clean_items, scrub};
 use scrub_scan::{Item, item_line};
 use std::alloc::Global;
 use std::sync::Wait;

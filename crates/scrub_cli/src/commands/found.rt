@@ -8,7 +8,7 @@ use crate::process::fault::Fault;
 use crate::process::images::Images;
 use crate::words::ImageWords;
 use scrub_disk::{Geometry, OutOfMemory, RawImage};
-use scrub_report::find_sizes;
+use scrub_listings::find_sizes;
 use std::alloc::Global;
 
 /// The sizes that all superblock records in the front of a raw image have, whose lost blocks are marked.

@@ -6,10 +6,10 @@ ghost use Rattle.std.specs.List.Sorted.{IsStrictlyIncreasing};
 
 use crate::support::compare::same;
 use scrub_disk::{MemDisk, PageSource};
+use scrub_listings::{list_locators, list_manifest, list_summary};
 use scrub_pool::{Gate, NoGate, Takings};
-use scrub_report::{
-    Accepted, ScrubFault, list_locators, list_manifest, list_reclaimable, list_summary,
-};
+use scrub_reclaim::{Accepted, list_reclaimable};
+use scrub_report::ScrubFault;
 use std::alloc::Global;
 use std::process::Abort;
 use std::sync::Wait;

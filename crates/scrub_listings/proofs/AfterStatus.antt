@@ -1,0 +1,49 @@
+-- What the code appends after each status, by the spares that it found, is what the definition says.
+use Rattle.std.proofs.Common.{◌≡◌, ◌++◌, ◌∷◌, ◌+◌, [], ℕ, Bool, List, codes, get_or, length, refl, ap, if◌then◌else◌}
+use Rattle.std.proofs.Math.Path.{ap₂}
+use Rattle.std.specs.List.{All, enumerate_from, filter, flat_map}
+use Rattle.std.proofs.lemmas.List.Elements.{All-contains_itself, All-filter, All-head, All-tail}
+use Rattle.scrub_merge.specs.Binding.{BindingValue}
+use Rattle.scrub_run.specs.declared.shard_id.ShardId.{ShardId}
+use Rattle.scrub_scan.specs.declared.standing.Standing.{Standing}
+use Rattle.scrub_scan.specs.Scanned.{Scanned}
+use Rattle.scrub_check.specs.declared.statuses.checked.Checked.{Checked}
+use Rattle.scrub_check.specs.Checked.{is_owned_by}
+use Rattle.scrub_check.specs.ChunkForms.{form_at}
+use Rattle.scrub_check.specs.Spares.{AreSpares}
+use Rattle.scrub_listings.specs.Manifest.{after_status, after_status_in, is_of_shard, numbered_text, of_shards, retired_line, runs_line, shard_lines, text_by, total_line}
+use Rattle.scrub_listings.specs.ManifestSteps.{after_status_by}
+use Rattle.scrub_listings.proofs.ShardLines.{line_of}
+
+-- the same follows the status of each of these locators
+abbrev pub AreAfterAlike : (Checked → List ℕ) → (Checked → List ℕ) → List Checked → Type 0
+AreAfterAlike f g cs = All (λ c. f c ≡ g c) cs
+
+numbered_alike : (f g : Checked → List ℕ) (k : ℕ) (cs : List Checked) → AreAfterAlike f g cs →
+    flat_map (line_of f) (enumerate_from k cs) ≡ flat_map (line_of g) (enumerate_from k cs)
+numbered_alike f g k [] same = refl
+numbered_alike f g k (c ∷ cs) same =
+    ap₂ (λ (u v : List ℕ). (numbered_text k c ++ u ++ 10 ∷ []) ++ v) (All-head (λ d. f d ≡ g d) c cs same)
+    (numbered_alike f g (k + 1) cs (All-tail (λ d. f d ≡ g d) c cs same))
+
+shard_alike : (f g : Checked → List ℕ) (cs : List Checked) (id : ShardId) → AreAfterAlike f g cs → shard_lines f cs id ≡ shard_lines g cs id
+shard_alike f g cs id same =
+    let own : Checked → Bool = λ c. is_owned_by id c.owner in
+    numbered_alike f g 0 (filter own cs) (All-filter own (λ c. f c ≡ g c) cs same)
+
+-- so the texts are one
+pub text_alike : (f g : Checked → List ℕ) (has : Bool) (retired : List ℕ) (lost hidden : ℕ) (bs : List BindingValue) (cs : List Checked) →
+    AreAfterAlike f g cs → text_by f has retired lost hidden bs cs ≡ text_by g has retired lost hidden bs cs
+text_alike f g has retired lost hidden bs cs same =
+    let each : (id : ShardId) → shard_lines f cs id ≡ shard_lines g cs id = λ id. shard_alike f g cs id same in
+    λ i.
+    if has then retired_line retired ++ runs_line lost hidden ++ flat_map (λ b. each b.id i) bs ++ total_line (length bs) (length cs)
+    else codes "no-superblock" ++ 10 ∷ []
+
+pub found_alike : (all : List Scanned) (checked : List Checked) (found : List Standing) → AreSpares all checked found →
+    AreAfterAlike (after_status_by all found) (after_status_in all) (of_shards checked)
+found_alike all checked found are =
+    All-filter (λ c. is_of_shard c.owner) (λ c. after_status_by all found c ≡ after_status_in all c) checked
+    (λ i d below.
+    let c : Checked = get_or checked i d in
+    ap (λ (ss : List Standing). after_status (form_at all c.locator) ss c) (are c (All-contains_itself checked i d below)))

@@ -1,0 +1,292 @@
+-- In images of bytes the texts of a manifest are those of one identifier and one digest, and what follows a status is that of one
+-- form or of one place.
+use Rattle.std.proofs.Common.{◌≡◌, ◌≢◌, ◌<◌, ◌+◌, ◌^◌, ◌++◌, ◌∷◌, ◌==◌, ◌&&◌, [], ℕ, Bool, true, false, not, Option, Some, None, List, length, map, drop, get_or, Contains, arith, refl, sym, ◌∙◌, ap, subst, append_assoc, inl, inr, if◌then◌else◌}
+use Rattle.std.specs.Prelude.{codes, slice_index}
+use Rattle.std.specs.Fmt.{decimal}
+use Rattle.std.specs.Str.{bytes_eq}
+use Rattle.std.specs.List.{All, flat_map}
+use Rattle.std.proofs.Math.Path.{ap₂}
+use Rattle.std.proofs.Math.Seq.{drop-append_seam, take-append_seam}
+use Rattle.std.proofs.lemmas.Bool.{cases_lt}
+use Rattle.std.proofs.lemmas.Fmt.{decimal_injective}
+use Rattle.std.proofs.lemmas.List.{append_cancel_left, get_or_past}
+use Rattle.std.proofs.lemmas.List.Elements.{All-append, All-cons, All-drop, All-from_get_or, All-head, All-map, All-nil, All-tail, All-take}
+use Rattle.hex.specs.Hex.{IsBytes, decode_of, encode_lower}
+use Rattle.hex.proofs.HexLemmas.{decode_of-encode_lower}
+use Rattle.byteorder.specs.Endian.{big_bytes}
+use Rattle.sha2.specs.Sha256.{sha256}
+use Rattle.scrub_disk.specs.Image.{Image}
+use Rattle.scrub_frame.specs.declared.form.Form.{Form}
+use Rattle.scrub_frame.specs.declared.form.Form.TheVariants.{Plain, Sealed}
+use Rattle.scrub_frame.specs.declared.locator.Locator.{Locator}
+use Rattle.scrub_frame.specs.Frame.{frame, head, mark, seal}
+use Rattle.scrub_frame.specs.Locator.{locator_bytes}
+use Rattle.scrub_scan.specs.Extent.{extent_of, FrameAt}
+use Rattle.scrub_scan.specs.Scanned.{Scanned}
+use Rattle.scrub_run.specs.declared.shard_id.ShardId.{ShardId}
+use Rattle.scrub_run.specs.Entry.{EntryValue, entry_bytes}
+use Rattle.scrub_run.specs.Run.{run_body, run_bytes, run_magic}
+use Rattle.scrub_merge.specs.Binding.{BindingValue, IsNewestBinding}
+use Rattle.scrub_check.specs.declared.named.Named.{Named}
+use Rattle.scrub_check.specs.declared.named.Owner.TheVariants.{Shard}
+use Rattle.scrub_check.specs.declared.statuses.checked.Checked.{Checked}
+use Rattle.scrub_check.specs.declared.statuses.status.Status.{Status}
+use Rattle.scrub_check.specs.Checked.{is_dangling, is_hidden, is_sound, named_of}
+use Rattle.scrub_check.specs.ChunkForms.{form_at}
+use Rattle.scrub_check.specs.Named.{named_by_shard}
+use Rattle.scrub_check.specs.Runs.{NamesRun}
+use Rattle.scrub_check.specs.Spares.{spares_of}
+use Rattle.scrub_report.specs.Scrubbed.{Scrubbed, IsScrubbedBut}
+use Rattle.scrub_report.specs.Texts.{owner_text, uuid_text}
+use Rattle.scrub_report.proofs.OneIndex.{read_of}
+use Rattle.scrub_report.proofs.OneReader.{heads, no_tail, tails}
+use Rattle.scrub_listings.specs.Manifest.{HeldValue, HoldsBytes, TraitsValue, all_held, all_traits, form_text, held, looked_for, of_shards, traits}
+use Rattle.scrub_listings.proofs.ManifestTexts.{HasSmallNumbers, IsSmall, cut, decimal_word, not_space, small, uuid_word}
+use Rattle.scrub_listings.proofs.ShardLines.{along_runs, shards_part, unmapped}
+
+abbrev AreBytes : List ℕ → Type 0
+AreBytes xs = All (λ b. b < 256) xs
+
+-- ---- parts of bytes
+
+front_bytes : (xs ys : List ℕ) → AreBytes (xs ++ ys) → AreBytes xs
+front_bytes xs ys all = subst AreBytes (take-append_seam xs ys) (All-take (λ b. b < 256) (length xs) (xs ++ ys) all)
+
+back_bytes : (xs ys : List ℕ) → AreBytes (xs ++ ys) → AreBytes ys
+back_bytes xs ys all = subst AreBytes (drop-append_seam xs ys) (All-drop (λ b. b < 256) (length xs) (xs ++ ys) all)
+
+part_bytes : {X : Type 0} (f : X → List ℕ) (xs : List X) → AreBytes (flat_map f xs) → All (λ x. AreBytes (f x)) xs
+part_bytes f [] all = All-nil (λ x. AreBytes (f x))
+part_bytes f (x ∷ xs) all =
+    All-cons (λ v. AreBytes (f v)) x xs (front_bytes (f x) (flat_map f xs) all) (part_bytes f xs (back_bytes (f x) (flat_map f xs) all))
+
+member_bytes : {X : Type 0} (P : X → Type 0) (xs : List X) (x : X) → All P xs → Contains xs x → P x
+member_bytes P xs x all there = subst P there.2 (all there.0 x there.1)
+
+-- ---- a run of bytes
+
+payload_bytes : (image : Image) (w : ℕ) (l : Locator) (f : Form) (u b : List ℕ) → HoldsBytes image →
+    FrameAt (extent_of image l.extent w) l.offset f u b → AreBytes b
+payload_bytes image w l f u b bytes h =
+    front_bytes b (u ++ mark f)
+    (back_bytes (seal f b) (b ++ (u ++ mark f))
+    (back_bytes (head f u (length b)) (seal f b ++ (b ++ (u ++ mark f)))
+    (All-from_get_or (λ c. c < 256) (frame f u b) 0 (λ k within. bytes l.extent (l.offset + k) (slice_index (frame f u b) k) (h.stands k within)))))
+
+-- an entry of bytes: its identifier, and the digest of each of its locators
+record HasBytes (e : EntryValue) : Type 0 where
+  id : AreBytes e.id.0
+  digests : All (λ (l : Locator). AreBytes l.digest) e.locators
+
+locator_digest : (l : Locator) → AreBytes (locator_bytes l) → AreBytes l.digest
+locator_digest l all =
+    back_bytes l.uuid l.digest
+    (back_bytes (big_bytes 4 l.length) (l.uuid ++ l.digest)
+    (back_bytes (big_bytes 4 l.offset) (big_bytes 4 l.length ++ (l.uuid ++ l.digest))
+    (back_bytes (big_bytes 4 l.extent) (big_bytes 4 l.offset ++ (big_bytes 4 l.length ++ (l.uuid ++ l.digest))) all)))
+
+entry_has : (e : EntryValue) → AreBytes (entry_bytes e) → HasBytes e
+entry_has e all =
+    let behind : AreBytes (length e.locators ∷ flat_map locator_bytes e.locators) = back_bytes e.id.0 (length e.locators ∷ flat_map locator_bytes e.locators) all in
+    let each : All (λ l. AreBytes (locator_bytes l)) e.locators =
+    part_bytes locator_bytes e.locators (All-tail (λ b. b < 256) (length e.locators) (flat_map locator_bytes e.locators) behind) in
+    record {
+      id = front_bytes e.id.0 (length e.locators ∷ flat_map locator_bytes e.locators) all;
+      digests = λ k d below. locator_digest (get_or e.locators k d) (each k d below);
+    }
+
+run_has : (image : Image) (w : ℕ) (l : Locator) (es : List EntryValue) → HoldsBytes image → NamesRun image w l es →
+    All HasBytes es
+run_has image w l es bytes n =
+    let payload : AreBytes n.names.payload = payload_bytes image w l n.names.found.form l.uuid n.names.payload bytes n.names.found.frame in
+    let whole : AreBytes (run_bytes es) = subst AreBytes n.run.spelled payload in
+    let entries : AreBytes (flat_map entry_bytes es) =
+    back_bytes (big_bytes 4 (length es)) (flat_map entry_bytes es)
+    (back_bytes run_magic (big_bytes 4 (length es) ++ flat_map entry_bytes es) (front_bytes (run_body es) (sha256 (run_body es)) whole)) in
+    let each = part_bytes entry_bytes es entries in
+    λ k d below. entry_has (get_or es k d) (each k d below)
+
+binding_has : {resets : List ℕ} (image : Image) (s : Scrubbed) → IsScrubbedBut resets image s → HoldsBytes image → (b : BindingValue) →
+    IsNewestBinding s.read.runs b → HasBytes (record { id = b.id; locators = b.locators })
+binding_has image s x bytes b is =
+    let found = read_of image s.plan s.read x.read b.run is.entry.entries is.entry.is_read in
+    member_bytes HasBytes is.entry.entries (record { id = b.id; locators = b.locators })
+    (run_has image found.1 found.0 is.entry.entries bytes found.2) is.entry.among
+
+-- ---- the named locators
+
+-- a name of a shard, of bytes
+record IsByteName (n : Named) : Type 0 where
+  id : ShardId
+  owner : n.owner ≡ Shard id
+  of_bytes : AreBytes id.0
+  digest : AreBytes n.locator.digest
+
+names_of_bytes : (bs : List BindingValue) → All (λ b. HasBytes (record { id = b.id; locators = b.locators })) bs →
+    All IsByteName (flat_map named_by_shard bs)
+names_of_bytes [] each = All-nil IsByteName
+names_of_bytes (b ∷ bs) each =
+    let one = All-head (λ v. HasBytes (record { id = v.id; locators = v.locators })) b bs each in
+    All-append IsByteName (named_by_shard b) (flat_map named_by_shard bs)
+    (All-map IsByteName (λ (l : Locator). record { owner = Shard b.id; locator = l }) b.locators
+    (λ k d below. record { id = b.id; owner = refl; of_bytes = one.id; digest = one.digests k d below }))
+    (names_of_bytes bs (All-tail (λ v. HasBytes (record { id = v.id; locators = v.locators })) b bs each))
+
+checked_of_bytes : {resets : List ℕ} (image : Image) (s : Scrubbed) → IsScrubbedBut resets image s → HoldsBytes image →
+    All (λ c. IsByteName (named_of c)) (of_shards s.checked)
+checked_of_bytes image s x bytes =
+    subst (λ (cs : List Checked). All (λ c. IsByteName (named_of c)) cs) (sym (shards_part s.plan.runs s.bindings s.checked x.checked.same))
+    (unmapped IsByteName named_of (drop (length s.plan.runs) s.checked)
+    (subst (λ (ns : List Named). All IsByteName ns) (sym (along_runs s.plan.runs s.bindings s.checked x.checked.same))
+    (names_of_bytes s.bindings (λ k d below. binding_has image s x bytes (get_or s.bindings k d) (x.bindings.newest k d below)))))
+
+-- ---- texts of bytes
+
+as_bytes : (xs : List ℕ) → AreBytes xs → IsBytes xs
+as_bytes xs all i = elim (cases_lt i (length xs)) [
+  | inl below ↦ all i 0 below
+  | inr past ↦ subst (λ b. b < 256) (sym (get_or_past xs i 0 past)) (omega arith)
+]
+
+same_hex : (xs ys : List ℕ) → AreBytes xs → AreBytes ys → encode_lower xs ≡ encode_lower ys → xs ≡ ys
+same_hex xs ys hx hy e =
+    let both = sym (decode_of-encode_lower xs (as_bytes xs hx)) ∙ ap decode_of e ∙ decode_of-encode_lower ys (as_bytes ys hy) in
+    cc (both)
+
+-- ---- what follows a status
+
+-- the form by its text
+form_of_text : List ℕ → Option Form
+form_of_text u =
+    if bytes_eq u (codes " plain") then Some Plain else (if bytes_eq u (codes " sealed") then Some Sealed else None)
+
+form_back : (form : Option Form) → form_of_text (form_text form) ≡ form
+unfolding form_of_text
+form_back None = refl
+form_back (Some Plain) = refl
+form_back (Some Sealed) = refl
+
+same_form : (a b : Option Form) → form_text a ≡ form_text b → a ≡ b
+same_form a b e = sym (form_back a) ∙ ap form_of_text e ∙ form_back b
+
+-- whether there are no spares, by the texts behind two UUIDs
+abbrev spare_word : Bool → Bool → List ℕ
+spare_word dangling none = if dangling then (if none then codes " none" else codes " spare") else []
+
+same_spare : (dangling none none' : Bool) (u v : List ℕ) → All (λ b. b ≢ 32) u → All (λ b. b ≢ 32) v →
+    u ++ spare_word dangling none ≡ v ++ spare_word dangling none' → (dangling && none) ≡ (dangling && none')
+same_spare false none none' u v hu hv e = refl
+same_spare true true true u v hu hv e = refl
+same_spare true false false u v hu hv e = refl
+same_spare true true false u v hu hv e =
+    let first : 110 ≡ 115 = ap (λ (w : List ℕ). get_or w 0 0) (cut 32 u v (codes "none") (codes "spare") hu hv e).1 in
+    absurd (omega (arith, first))
+same_spare true false true u v hu hv e =
+    let first : 115 ≡ 110 = ap (λ (w : List ℕ). get_or w 0 0) (cut 32 u v (codes "spare") (codes "none") hu hv e).1 in
+    absurd (omega (arith, first))
+
+-- the places and the texts behind their offsets
+places_grouped : (e o u x : List ℕ) →
+    ((32 ∷ e) ++ (32 ∷ o) ++ (32 ∷ u)) ++ x ≡ 32 ∷ (e ++ (32 ∷ (o ++ (32 ∷ (u ++ x)))))
+places_grouped e o u x =
+    append_assoc ((32 ∷ e) ++ (32 ∷ o)) (32 ∷ u) x ∙ append_assoc (32 ∷ e) (32 ∷ o) (32 ∷ (u ++ x))
+
+same_place : (l m : Locator) (x y : List ℕ) → HasSmallNumbers l → HasSmallNumbers m → looked_for l ++ x ≡ looked_for m ++ y →
+    (l.extent ≡ m.extent) × (l.offset ≡ m.offset) × (uuid_text l.uuid ++ x ≡ uuid_text m.uuid ++ y)
+same_place l m x y hl hm e =
+    let word : (n : ℕ) → n < 2 ^ 64 → All (λ b. b ≢ 32) (decimal n) = λ n small. not_space (decimal n) (decimal_word n small) in
+    let start = tails 32 32 _ _
+    (sym (places_grouped (decimal l.extent) (decimal l.offset) (uuid_text l.uuid) x) ∙ e
+    ∙ places_grouped (decimal m.extent) (decimal m.offset) (uuid_text m.uuid) y) in
+    let first = cut 32 (decimal l.extent) (decimal m.extent) _ _ (word l.extent hl.extent) (word m.extent hm.extent) start in
+    let second = cut 32 (decimal l.offset) (decimal m.offset) _ _ (word l.offset hl.offset) (word m.offset hm.offset) first.1 in (
+      decimal_injective l.extent m.extent hl.extent hm.extent first.0,
+      decimal_injective l.offset m.offset hl.offset hm.offset second.0,
+      second.1,
+    )
+
+-- where a locator points, unless it is sound
+abbrev place_but : Bool → Locator → Option (ℕ × ℕ)
+place_but sound l = if sound then None else Some (l.extent, l.offset)
+
+-- the same is said of two locators with one status: the forms, the places, and whether there are no spares
+record SayTheSame (sound hides none none' : Bool) (form form' : Option Form) (l m : Locator) : Type 0 where
+  forms : (if sound then form else None) ≡ (if sound then form' else None)
+  places : place_but sound l ≡ place_but sound m
+  spares : (not sound && not hides && none) ≡ (not sound && not hides && none')
+
+abbrev said_by : Bool → Bool → Bool → Option Form → Locator → List ℕ
+said_by sound hides none form l = if sound then form_text form else looked_for l ++ spare_word (not sound && not hides) none
+
+same_after : (sound hides none none' : Bool) (form form' : Option Form) (l m : Locator) → HasSmallNumbers l → HasSmallNumbers m →
+    said_by sound hides none form l ≡ said_by sound hides none' form' m → SayTheSame sound hides none none' form form' l m
+same_after true hides none none' form form' l m hl hm e =
+    record { forms = same_form form form' e; places = refl; spares = refl }
+same_after false hides none none' form form' l m hl hm e =
+    let parts = same_place l m (spare_word (not hides) none) (spare_word (not hides) none') hl hm e in
+    record {
+      forms = refl;
+      places = λ i. Some (parts.0 i, parts.1 i);
+      spares = same_spare (not hides) none none' (uuid_text l.uuid) (uuid_text m.uuid) (not_space (uuid_text l.uuid) (uuid_word l.uuid)) (not_space (uuid_text m.uuid) (uuid_word m.uuid)) parts.2;
+    }
+
+-- ---- what a manifest says of a locator
+
+-- a locator whose name is of bytes, and whose numbers are small
+record IsKnown (c : Checked) : Type 0 where
+  name : IsByteName (named_of c)
+  numbers : HasSmallNumbers c.locator
+
+all_known : {resets : List ℕ} (image : Image) (s : Scrubbed) → IsScrubbedBut resets image s → HoldsBytes image → All IsKnown (of_shards s.checked)
+all_known image s x bytes =
+    let numbers : All IsSmall (of_shards s.checked) =
+    subst (All IsSmall) (sym (shards_part s.plan.runs s.bindings s.checked x.checked.same)) (small image s x) in
+    λ k d below. record { name = checked_of_bytes image s x bytes k d below; numbers = numbers k d below }
+
+same_traits : (u v : TraitsValue) → u.owner ≡ v.owner → u.length ≡ v.length → u.digest ≡ v.digest → u.status ≡ v.status →
+    u.form ≡ v.form → u.place ≡ v.place → u.is_without_spare ≡ v.is_without_spare → u ≡ v
+same_traits u v ho hl hd hs hf hp hw =
+    λ i. record { owner = ho i; length = hl i; digest = hd i; status = hs i; form = hf i; place = hp i; is_without_spare = hw i }
+
+module _ (all others : List Scanned) (c d : Checked) (hc : IsKnown c) (hd : IsKnown d) (e : held all c ≡ held others d) where
+  same_owner : c.owner ≡ d.owner
+  same_owner =
+      let text : codes "shard " ++ encode_lower hc.name.id.0 ≡ codes "shard " ++ encode_lower hd.name.id.0 =
+      sym (ap owner_text hc.name.owner) ∙ ap (λ (h : HeldValue). h.owner) e ∙ ap owner_text hd.name.owner in
+      let id : hc.name.id.0 ≡ hd.name.id.0 =
+      same_hex hc.name.id.0 hd.name.id.0 hc.name.of_bytes hd.name.of_bytes (append_cancel_left (codes "shard ") (encode_lower hc.name.id.0) (encode_lower hd.name.id.0) text) in
+      hc.name.owner ∙ (λ i. Shard (record { 0 = id i })) ∙ sym hd.name.owner
+
+  same_status : c.status ≡ d.status
+  same_status = ap (λ (h : HeldValue). h.status) e
+
+  -- what both say by the first one's status
+  same_said : SayTheSame (is_sound c.status) (is_hidden c.status) (length (spares_of all c) == 0) (length (spares_of others d) == 0) (form_at all c.locator) (form_at others d.locator) c.locator d.locator
+  same_said =
+      same_after (is_sound c.status) (is_hidden c.status) (length (spares_of all c) == 0) (length (spares_of others d) == 0) (form_at all c.locator) (form_at others d.locator) c.locator d.locator hc.numbers hd.numbers
+      (ap (λ (h : HeldValue). h.after) e
+      ∙ ap (λ (s : Status). said_by (is_sound s) (is_hidden s) (length (spares_of others d) == 0) (form_at others d.locator) d.locator) (sym same_status))
+
+  same_one : traits all c ≡ traits others d
+  same_one =
+      same_traits (traits all c) (traits others d) same_owner (ap (λ (h : HeldValue). h.length) e)
+      (same_hex c.locator.digest d.locator.digest hc.name.digest hd.name.digest (ap (λ (h : HeldValue). h.digest) e))
+      same_status
+      (same_said.forms ∙ ap (λ (s : Status). if is_sound s then form_at others d.locator else None) same_status)
+      (same_said.places ∙ ap (λ (s : Status). place_but (is_sound s) d.locator) same_status)
+      (same_said.spares ∙ ap (λ (s : Status). is_dangling s && length (spares_of others d) == 0) same_status)
+
+same_all : (all others : List Scanned) (cs ds : List Checked) → All IsKnown cs → All IsKnown ds →
+    map (held all) cs ≡ map (held others) ds → map (traits all) cs ≡ map (traits others) ds
+same_all all others [] [] hc hd e = refl
+same_all all others [] (d ∷ ds) hc hd e = absurd (no_tail (held others d) (map (held others) ds) e)
+same_all all others (c ∷ cs) [] hc hd e = absurd (no_tail (held all c) (map (held all) cs) (sym e))
+same_all all others (c ∷ cs) (d ∷ ds) hc hd e =
+    ap₂ (λ (h : TraitsValue) (t : List TraitsValue). h ∷ t)
+    (same_one all others c d (All-head IsKnown c cs hc) (All-head IsKnown d ds hd) (heads (held all c) (held others d) (map (held all) cs) (map (held others) ds) e))
+    (same_all all others cs ds (All-tail IsKnown c cs hc) (All-tail IsKnown d ds hd) (tails (held all c) (held others d) (map (held all) cs) (map (held others) ds) e))
+
+pub same_shards : {resets others : List ℕ} (image other : Image) (s t : Scrubbed) → IsScrubbedBut resets image s → IsScrubbedBut others other t → HoldsBytes image →
+    HoldsBytes other → all_held s ≡ all_held t → all_traits s ≡ all_traits t
+same_shards image other s t x y bx by e =
+    same_all s.all t.all (of_shards s.checked) (of_shards t.checked) (all_known image s x bx) (all_known other t y by) e

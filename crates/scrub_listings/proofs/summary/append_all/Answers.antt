@@ -1,0 +1,63 @@
+-- Each group of numbers comes behind those before it, and what the code keeps is what was found.
+use Rattle.std.proofs.Common.{◌≡◌, ◌++◌, ℕ, List, OnOk, arith, is_none, length, sym, ap, ◌∙◌, subst}
+use Rattle.std.specs.List.{count_by, sum}
+use Rattle.std.proofs.lemmas.List.Sums.{sum-map}
+use Rattle.scrub_check.specs.Chunks.{orphans}
+use Rattle.scrub_check.specs.Live.{live_bytes}
+use Rattle.scrub_report.specs.declared.runs.RunRow.{RunRow}
+use Rattle.scrub_report.specs.Parts.{found_in}
+use Rattle.scrub_listings.specs.Summary.{NamedNumber, candidate_numbers, chunk_numbers, disk_numbers, has_spare, has_spare_by, item_numbers, number_lines, numbers_by, reading_numbers, shard_numbers, superblock_numbers}
+use Rattle.scrub_listings.proofs.ReadRows.{lost_found}
+use Rattle.scrub_listings.proofs.SummaryLines.{last_lines, more_lines, spared_found}
+use Rattle.scrub_listings.proofs.summary.append_all.Goals as goal
+
+pub returns : goal.returns
+returns g c = λ read rows.
+    let p = c.args.parts.now in
+    let pages = c.args.pages.now in
+    let all = p.all.extents in
+    let checked = p.checked.items in
+    let spares = c.in_ok-spares.spares in
+    let lost_is : c.lost_runs-lost.result ≡ count_by is_none read.runs =
+    c.lost_runs-lost.ensures ∙ ap (count_by (λ (r : RunRow). is_none r.entries)) c.deref.ensures.value ∙ lost_found p.plan.runs read p.runs.items rows in
+    let spared_is : c.spared-spared.result ≡ count_by (has_spare all) checked =
+    c.spared-spared.ensures
+    ∙ ap (count_by (has_spare_by spares)) c.deref-3.ensures.value
+    ∙ spared_found all checked spares (rw c.deref-2.ensures.value at c.in_ok-spares.ensures) in
+    let orphans_are : c.len-orphan_count.result ≡ length (orphans all checked) =
+    (let e : c.len-orphan_count.result ≡ length p.liveness.orphans.items = omega (arith, c.len-orphan_count.ensures, p.liveness.orphans.ok.0) in e)
+    ∙ ap length p.orphans_found in
+    let shared_are : c.len-shared.result ≡ length p.liveness.shared.items = omega (arith, c.len-shared.ensures, p.liveness.shared.ok.0) in
+    let broken_are : c.len-broken.result ≡ length p.broken.items = omega (arith, c.len-broken.ensures, p.broken.ok.0) in
+    let t0 = c.args.text.now.items in
+    let t1 = c.append_disk.new.text.items in
+    let t2 = c.append_superblocks.new.text.items in
+    let t3 = c.append_reading.new.text.items in
+    let t4 = c.append_shards.new.text.items in
+    let t5 = c.append_chunks.new.text.items in
+    let t6 = c.append_items.new.text.items in
+    let t7 = c.append_candidates.new.text.items in
+    let n1 : List NamedNumber = disk_numbers p.plan in
+    let n2 : List NamedNumber = superblock_numbers p.chosen pages in
+    let n3 : List NamedNumber = reading_numbers p.chosen p.plan all c.lost_runs-lost.result in
+    let n4 : List NamedNumber = shard_numbers c.bindings-bindings.result.now c.len-broken.result c.deref-4.result.now c.spared-spared.result in
+    let n5 : List NamedNumber = chunk_numbers all checked c.len-shared.result in
+    let n6 : List NamedNumber = item_numbers all in
+    let n7 : List NamedNumber = candidate_numbers c.deref-6.result.now in
+    let is : n1 ++ n2 ++ n3 ++ n4 ++ n5 ++ n6 ++ n7 ≡ numbers_by pages (found_in p read) (count_by is_none read.runs) =
+    (λ i. n1 ++ n2 ++ reading_numbers p.chosen p.plan all (lost_is i)
+    ++ shard_numbers (c.bindings-bindings.ensures.bindings i) (broken_are i) (c.deref-4.ensures.value i) (spared_is i)
+    ++ chunk_numbers all checked (shared_are i)
+    ++ n6 ++ candidate_numbers (c.deref-6.ensures.value i)) in
+    subst (λ (ns : List NamedNumber). OnOk c.append_candidates.result (t7 ≡ t0 ++ number_lines ns)) is
+    (last_lines c.append_candidates.result t0 t6 t7 (n1 ++ n2 ++ n3 ++ n4 ++ n5 ++ n6) n7
+    (more_lines t0 t5 t6 (n1 ++ n2 ++ n3 ++ n4 ++ n5) n6
+    (more_lines t0 t4 t5 (n1 ++ n2 ++ n3 ++ n4) n5
+    (more_lines t0 t3 t4 (n1 ++ n2 ++ n3) n4
+    (more_lines t0 t2 t3 (n1 ++ n2) n3
+    (more_lines t0 t1 t2 n1 n2 c.in_ok-append_disk.ensures c.in_ok-append_superblocks.ensures)
+    c.in_ok-append_reading.ensures)
+    c.in_ok-append_shards.ensures)
+    (c.in_ok-append_chunks.ensures checked (c.deref-5.ensures.value ∙ p.live_found) orphans_are))
+    c.in_ok-append_items.ensures)
+    c.append_candidates.ensures)

@@ -1,0 +1,22 @@
+-- What the code appends after a locator's status, by the spares that it found.
+use Rattle.std.specs.Prelude.{ℕ, Bool, false, List, is_some}
+use Rattle.std.specs.List.{slice_get}
+use Rattle.std.specs.Option.{option_map_or}
+use Rattle.scrub_scan.specs.declared.standing.Standing.{Standing}
+use Rattle.scrub_scan.specs.Scanned.{Scanned}
+use Rattle.scrub_check.specs.declared.named.Owner.{Owner}
+use Rattle.scrub_check.specs.declared.named.Owner.TheVariants.{Run, Shard}
+use Rattle.scrub_check.specs.declared.statuses.checked.Checked.{Checked}
+use Rattle.scrub_check.specs.ChunkForms.{form_at}
+use Rattle.scrub_check.specs.Spares.{spares_by}
+use Rattle.scrub_report.specs.declared.runs.RunRow.{RunRow}
+use Rattle.scrub_listings.specs.Manifest.{after_status}
+
+-- what follows a locator's status, by the chunks among which its spares are
+abbrev pub after_status_by : List Scanned → List Standing → Checked → List ℕ
+after_status_by all found c = after_status (form_at all c.locator) (spares_by found c) c
+
+-- a row of a run that is read, of this number, names the locator
+abbrev pub is_of_read_row : List RunRow → Owner → Bool
+is_of_read_row rows (Run number) = option_map_or (λ r. is_some r.entries) (slice_get rows number) false
+is_of_read_row rows (Shard id) = false

@@ -1,0 +1,383 @@
+//! The manifest of a disk: its retired extents, its index runs that aren't read as usual, and what the locators of each shard
+//! name, wherever that lies.
+
+ghost use Rattle.std.specs.Prelude.{◌≡◌, ◌+◌, ◌++◌, ◌≤◌, ◌&&◌, Bool, List, ℕ, AllPairs, IfOk, OnOk, is_none, length, map};
+ghost use Rattle.std.specs.Fmt.{decimal};
+ghost use Rattle.std.specs.List.{count_by, flat_map};
+ghost use Rattle.std.specs.List.Sorted.{IsStrictlyIncreasing};
+ghost use Rattle.scrub_disk.specs.Image.{Image};
+ghost use Rattle.scrub_run.specs.Entry.{IsBelow};
+ghost use Rattle.scrub_scan.specs.Line.{spaced};
+ghost use Rattle.scrub_check.specs.Checked.{is_hidden, named_of};
+ghost use Rattle.scrub_check.specs.Named.{named_by_shard};
+ghost use Rattle.scrub_report.specs.Answer.{IsPartitionOfPlanned, IsCountOfPlanned};
+ghost use Rattle.scrub_report.specs.Parts.{IsScanBut};
+ghost use Rattle.scrub_listings.specs.Manifest.{HoldTheSame, HoldsBytes, IsManifestBut, IsWholeBut, all_traits, after_status, form_text, is_whole_by, looked_for, numbered_line, numbered_lines, numbered_text, retired_line, runs_line, shard_lines, spare_text, text_by, total_line};
+ghost use Rattle.scrub_listings.specs.ManifestSteps.{after_status_by, is_of_read_row};
+
+use scrub_check::{Checked, Owner, Spares, Status, form_at};
+use scrub_disk::{OutOfMemory, PageSource};
+use scrub_frame::{Form, Locator};
+use scrub_merge::Binding;
+use scrub_pool::{Gate, Takings};
+use scrub_report::ScrubFault;
+use scrub_report::runs::RunRow;
+use scrub_report::scanning::{Scan, scan_with_resets};
+use scrub_report::scrubbing::{are_sound, parts_of};
+use scrub_report::texts::{owner_text, status_text};
+use scrub_scan::{AllFindings, Standing};
+use scrub_super::{Plan, choose};
+use std::alloc::Global;
+use std::sync::Wait;
+use std::thread::Threads;
+
+/// What a disk holds, wherever it lies, as lines that can be kept, compared and signed.
+#[derive(Drop)]
+pub struct ManifestListing {
+    /// First `retired` with the retired extents, rising, and `runs lost L hidden H` with the numbers of index runs that are
+    /// lost, and that are read though their locator is hidden. Then for each shard of the shard map, by identifier, and each of
+    /// its locators, in their order: `shard ID NUMBER LENGTH DIGEST STATUS`. After `sound` comes the form of the chunk, `plain`
+    /// or `sealed`; after another status ` EXTENT OFFSET UUID` of the locator, and if it dangles `spare` where it has a spare,
+    /// or else `none`. The number is that of the locator among the shard's, from 00, always in two digits. The length, that
+    /// of the payload, and the offset are in bytes. Identifier and digest (SHA-256) are in hexadecimal digits, in lower case.
+    /// The status has the report's words. At the end `total` with the numbers of shards and of their locators. Without a
+    /// superblock there is one line `no-superblock` alone.
+    pub text: Vec<u8>,
+    /// Whether a superblock counts, no index run is lost or hidden, and each locator of a shard is sound.
+    pub is_whole: bool,
+}
+
+/// Appends the number of a retired extent, with a space before it.
+fn append_extent(alloc: Global, text: &mut Vec<u8>, extent: u32) -> Result<(), OutOfMemory>
+    ensures { OnOk result (text.new.items ≡ text.old.items ++ spaced (decimal extent)) }
+{
+    let word = format!(in alloc; " {extent}")?;
+    text.extend_from_slice(word.as_bytes())?;
+    Ok(())
+}
+
+/// Appends the numbers of these retired extents.
+fn append_extents(alloc: Global, text: &mut Vec<u8>, retired: &[u32]) -> Result<(), OutOfMemory>
+    ensures { OnOk result (text.new.items ≡ text.old.items ++ flat_map (λ e. spaced (decimal e)) retired.now) }
+{
+    for extent in retired {
+        append_extent(alloc, text, *extent)?;
+    }
+    Ok(())
+}
+
+/// Appends the line of the retired extents.
+fn append_retired(alloc: Global, text: &mut Vec<u8>, retired: &[u32]) -> Result<(), OutOfMemory>
+    ensures { OnOk result (text.new.items ≡ text.old.items ++ retired_line retired.now) }
+{
+    text.extend_from_slice(b"retired")?;
+    append_extents(alloc, text, retired)?;
+    text.push(b'\n')?;
+    Ok(())
+}
+
+/// Appends the line of the index runs.
+fn append_runs(
+    alloc: Global,
+    text: &mut Vec<u8>,
+    lost: usize,
+    hidden: usize,
+) -> Result<(), OutOfMemory>
+    ensures { OnOk result (text.new.items ≡ text.old.items ++ runs_line lost hidden) }
+{
+    let line = format!(in alloc; "runs lost {lost} hidden {hidden}\n")?;
+    text.extend_from_slice(line.as_bytes())?;
+    Ok(())
+}
+
+/// Appends what the line of a shard's locator of this number begins with.
+fn append_text(
+    alloc: Global,
+    text: &mut Vec<u8>,
+    number: usize,
+    one: &Checked,
+) -> Result<(), OutOfMemory>
+    ensures { OnOk result (text.new.items ≡ text.old.items ++ numbered_text number one.now) }
+{
+    let owner = owner_text(alloc, one.owner)?;
+    let (tens, ones) = (number / 10, number % 10);
+    let length = one.locator.length;
+    let digest = hex::encode(alloc, one.locator.digest)?;
+    let status = status_text(one.status);
+    let line = format!(in alloc; "{owner} {tens}{ones} {length} {digest} {status}")?;
+    text.extend_from_slice(line.as_bytes())?;
+    Ok(())
+}
+
+/// Appends a space and the word for the form of a chunk, if it is known.
+fn append_form(text: &mut Vec<u8>, form: Option<Form>) -> Result<(), OutOfMemory>
+    ensures { OnOk result (text.new.items ≡ text.old.items ++ form_text form) }
+{
+    match form {
+        Some(Form::Plain) => text.extend_from_slice(b" plain")?,
+        Some(Form::Sealed) => text.extend_from_slice(b" sealed")?,
+        None => (),
+    }
+    Ok(())
+}
+
+/// Appends where the chunk of a locator is looked for.
+fn append_place(alloc: Global, text: &mut Vec<u8>, locator: &Locator) -> Result<(), OutOfMemory>
+    ensures { OnOk result (text.new.items ≡ text.old.items ++ looked_for locator.now) }
+{
+    let Locator {
+        extent,
+        offset,
+        uuid,
+        ..
+    } = locator;
+    let place = format!(in alloc; " {extent} {offset} {uuid}")?;
+    text.extend_from_slice(place.as_bytes())?;
+    Ok(())
+}
+
+/// Appends whether a dangling locator has spares; nothing for another.
+fn append_spare(text: &mut Vec<u8>, status: Status, spares: &[Standing]) -> Result<(), OutOfMemory>
+    ensures { OnOk result (text.new.items ≡ text.old.items ++ spare_text status spares.now) }
+{
+    if !status.is_dangling() {
+        return Ok(());
+    }
+    if spares.is_empty() {
+        text.extend_from_slice(b" none")?;
+    } else {
+        text.extend_from_slice(b" spare")?;
+    }
+    Ok(())
+}
+
+/// Appends what follows a locator's status, by the form of the chunk at its place and by its spares.
+fn append_after_status(
+    alloc: Global,
+    text: &mut Vec<u8>,
+    form: Option<Form>,
+    spares: &[Standing],
+    one: &Checked,
+) -> Result<(), OutOfMemory>
+    ensures { OnOk result (text.new.items ≡ text.old.items ++ after_status form spares.now one.now) }
+{
+    if one.status.is_sound() {
+        return append_form(text, form);
+    }
+    append_place(alloc, text, &one.locator)?;
+    append_spare(text, one.status, spares)
+}
+
+/// Appends the line of a shard's locator of this number.
+fn append_numbered<D: PageSource>(
+    alloc: Global,
+    text: &mut Vec<u8>,
+    all: &AllFindings<'_, D>,
+    spares: &Spares,
+    number: usize,
+    one: &Checked,
+) -> Result<(), OutOfMemory>
+    ensures { OnOk result (text.new.items ≡ text.old.items ++ numbered_line (after_status_by all.now.extents spares.now) number one.now) }
+{
+    append_text(alloc, text, number, one)?;
+    let form = form_at(all, &one.locator);
+    append_after_status(alloc, text, form, spares.of_one(one), one)?;
+    text.push(b'\n')?;
+    Ok(())
+}
+
+/// Appends the lines of the locators of one shard, numbered from 0.
+fn append_shard<D: PageSource>(
+    alloc: Global,
+    text: &mut Vec<u8>,
+    all: &AllFindings<'_, D>,
+    spares: &Spares,
+    own: &[Checked],
+) -> Result<(), OutOfMemory>
+    ensures { OnOk result (text.new.items ≡ text.old.items ++ numbered_lines (after_status_by all.now.extents spares.now) own.now) }
+{
+    for (number, one) in own.iter().enumerate() {
+        append_numbered(alloc, text, all, spares, number, one)?;
+    }
+    Ok(())
+}
+
+/// Appends the lines of the shards of these bindings, whose locators are one after another in `checked`.
+fn append_shards<D: PageSource>(
+    alloc: Global,
+    text: &mut Vec<u8>,
+    all: &AllFindings<'_, D>,
+    spares: &Spares,
+    bindings: &[Binding],
+    checked: &[Checked],
+) -> Result<(), OutOfMemory>
+    requires rising { AllPairs (λ b c. IsBelow b.id c.id) bindings.now }
+    requires along { map named_of checked.now ≡ flat_map named_by_shard bindings.now }
+    ensures { OnOk result (text.new.items ≡
+        text.old.items ++ flat_map (λ b. shard_lines (after_status_by all.now.extents spares.now) checked.now b.id) bindings.now) }
+{
+    let mut rest = checked;
+    for binding in bindings {
+        let (own, behind) = rest.split_at(binding.locators().len());
+        append_shard(alloc, text, all, spares, own)?;
+        rest = behind;
+    }
+    Ok(())
+}
+
+/// Appends the last line.
+fn append_total(
+    alloc: Global,
+    text: &mut Vec<u8>,
+    shards: usize,
+    locators: usize,
+) -> Result<(), OutOfMemory>
+    ensures { OnOk result (text.new.items ≡ text.old.items ++ total_line shards locators) }
+{
+    let line = format!(in alloc; "total {shards} {locators}\n")?;
+    text.extend_from_slice(line.as_bytes())?;
+    Ok(())
+}
+
+/// How many index runs are lost, and how many are read though their locator is hidden.
+#[derive(Clone, Copy)]
+struct RunCounts {
+    lost: usize,
+    hidden: usize,
+}
+
+/// The text by what was scanned, the spares, the plan, the numbers of runs, the bindings, and the named locators of their shards.
+fn text_by<D: PageSource>(
+    alloc: Global,
+    all: &AllFindings<'_, D>,
+    spares: &Spares,
+    plan: &Plan,
+    runs: RunCounts,
+    bindings: &[Binding],
+    shards: &[Checked],
+) -> Result<Vec<u8>, OutOfMemory>
+    requires rising { AllPairs (λ b c. IsBelow b.id c.id) bindings.now }
+    requires along { map named_of shards.now ≡ flat_map named_by_shard bindings.now }
+    ensures { IfOk result (λ text. text.items ≡ text_by (after_status_by all.now.extents spares.now)
+        plan.now.has_superblock plan.now.retired runs.lost runs.hidden bindings.now shards.now) }
+{
+    if !plan.has_superblock() {
+        return Ok(Vec::from_slice(alloc, b"no-superblock\n")?);
+    }
+    let mut text = Vec::new(alloc);
+    append_retired(alloc, &mut text, plan.retired())?;
+    append_runs(alloc, &mut text, runs.lost, runs.hidden)?;
+    append_shards(alloc, &mut text, all, spares, bindings, shards)?;
+    append_total(alloc, &mut text, bindings.len(), shards.len())?;
+    Ok(text)
+}
+
+/// How many index runs are lost.
+pub(crate) fn lost_runs(runs: &[RunRow]) -> usize
+    ensures { result ≡ count_by (λ r. is_none r.entries) runs.now }
+{
+    runs.iter().filter(|run| run.entries.is_none()).count()
+}
+
+/// Whether an index run that is read names a locator.
+fn is_of_read_run(runs: &[RunRow], owner: Owner) -> bool
+    ensures { result ≡ is_of_read_row runs.now owner }
+{
+    match owner {
+        Owner::Run(number) => match runs.get(number as usize) {
+            Some(run) => run.entries.is_some(),
+            None => false,
+        },
+        Owner::Shard(_) => false,
+    }
+}
+
+/// How many of these locators are hidden, and named by an index run that is read.
+fn hidden_runs(runs: &[RunRow], checked: &[Checked]) -> usize
+    ensures { result ≡ count_by (λ c. is_hidden c.status && is_of_read_row runs.now c.owner) checked.now }
+{
+    checked
+        .iter()
+        .filter(|one| one.status.is_hidden() && is_of_read_run(runs, one.owner))
+        .count()
+}
+
+/// Whether nothing is missing, by the plan, the numbers of lost and of hidden runs, and the locators of shards.
+fn is_whole_by(plan: &Plan, lost: usize, hidden: usize, shards: &[Checked]) -> bool
+    ensures { result ≡ is_whole_by plan.now.has_superblock lost hidden shards.now }
+{
+    plan.has_superblock() && lost == 0 && hidden == 0 && are_sound(shards)
+}
+
+/// The manifest of a scanned disk, as if these extents had been reset.
+fn manifest_of<R: Threads + Sync, D: PageSource>(
+    rt: &R,
+    alloc: Global,
+    scan: Scan<'_, D>,
+    resets: &[u32],
+) -> Result<ManifestListing, OutOfMemory>
+    requires { IsScanBut resets.now (D.image scan.disk.now) scan.chosen scan.plan scan.all.extents }
+    ensures text { IfOk result (λ m. IsManifestBut resets.now (D.image scan.entry.disk.now) m.text.items) }
+    ensures whole { IfOk result (λ m. IsWholeBut resets.now (D.image scan.entry.disk.now) m.is_whole) }
+{
+    let parts = parts_of(rt, alloc, scan, resets)?;
+    let (_runs, shards) = parts.checked.split_at(parts.plan.runs().len());
+    let spares = Spares::of(alloc, &parts.all, &parts.checked)?;
+    let lost = lost_runs(&parts.runs);
+    let hidden = hidden_runs(&parts.runs, &parts.checked);
+    let text = text_by(
+        alloc,
+        &parts.all,
+        &spares,
+        &parts.plan,
+        RunCounts { lost, hidden },
+        parts.map.bindings(),
+        shards,
+    )?;
+    let is_whole = is_whole_by(&parts.plan, lost, hidden, shards);
+    Ok(ManifestListing { text, is_whole })
+}
+
+/// Lists what a disk holds, wherever it lies, as if these extents, which rise, had been reset: as if their write pointers were
+/// 0. Returns which extents the caller and each worker took. It scans as `scrub` does, with this many workers (0 to 64) beside
+/// the caller. The only fault is `OutOfMemory`, returned once every started worker has ended.
+pub fn list_manifest<D: PageSource, G: Gate, R: Threads + Wait + Sync>(
+    rt: &R,
+    alloc: Global,
+    disk: &D,
+    workers: u32,
+    gate: &G,
+    resets: &[u32],
+) -> Result<(ManifestListing, Takings), ScrubFault>
+    requires workers { workers ≤ 64 }
+    requires rising { IsStrictlyIncreasing resets.now }
+    ensures text { IfOk result (λ r. IsManifestBut resets.now (D.image disk.now) r.0.text.items) }
+    ensures whole { IfOk result (λ r. IsWholeBut resets.now (D.image disk.now) r.0.is_whole) }
+    ensures workers { IfOk result (λ r. length r.1.lists ≡ workers + 1) }
+    ensures partition { IfOk result (λ r. IsPartitionOfPlanned (D.image disk.now) r.1.lists) }
+    ensures counted { IfOk result (λ r. IsCountOfPlanned (D.image disk.now) r.1.counted) }
+{
+    let chosen = choose(alloc, disk)?;
+    let (scan, takings) = scan_with_resets(rt, alloc, disk, chosen, workers, gate, resets)?;
+    let manifest = manifest_of(rt, alloc, scan, resets)?;
+    Ok((manifest, takings))
+}
+
+/// A law: an image has one manifest, for each list of extents to be reset.
+pub fn one_manifest()
+    ensures { (resets : List ℕ) (image : Image) (a b : List ℕ) → IsManifestBut resets image a → IsManifestBut resets image b → a ≡ b }
+{}
+
+/// A law: two disks with one manifest, as if whichever extents had been reset, both have a superblock or none, they have the
+/// same retired extents, as many index runs are lost or hidden, and the same is said of the shards' locators, so that they have
+/// one exit status. If the images are of bytes, they have the same shards, with the same lengths, digests and statuses in
+/// order, the same forms of the chunks of sound locators, the same extents and offsets of others, and the same dangling ones
+/// without spares.
+pub fn one_manifest_holds_the_same()
+    ensures said { (resets others : List ℕ) (image other : Image) (text : List ℕ) (x : IsManifestBut resets image text) (y : IsManifestBut others other text) →
+        HoldTheSame x.found y.found }
+    ensures whole { (resets others : List ℕ) (image other : Image) (text : List ℕ) (a b : Bool) → IsManifestBut resets image text → IsManifestBut others other text →
+        IsWholeBut resets image a → IsWholeBut others other b → a ≡ b }
+    ensures shards { (resets others : List ℕ) (image other : Image) (text : List ℕ) (x : IsManifestBut resets image text) (y : IsManifestBut others other text) →
+        HoldsBytes image → HoldsBytes other → all_traits x.found ≡ all_traits y.found }
+{}

@@ -1,0 +1,114 @@
+//! The superblock records of a raw image of any sizes, and what is lost of it, as lines.
+
+ghost use Rattle.std.specs.Prelude.{◌≡◌, ◌+◌, ◌-◌, ◌<◌, ◌≤◌, ◌↔◌, ◌^◌, ℕ, All, List, Bool, IfOk, IsTrue, MatchOption, Some};
+ghost use Rattle.scrub_disk.specs.Limits.{max_extent_bytes};
+ghost use Rattle.scrub_listings.specs.Sizes.{AreSizesLines, AreSizesOf, IsCleanFront, IsSizesListingOf};
+ghost use Rattle.scrub_disk.specs.declared.geometry.Geometry.{Geometry};
+ghost use Rattle.scrub_listings.specs.SizesSteps.{AreCleanLists};
+
+mod lines;
+
+use crate::sizes_listing::lines::{lines_in_order, lines_text};
+use scrub_disk::{Geometry, OutOfMemory, RawImage};
+use scrub_super::{FoundRecord, FoundSuperblocks, find_superblocks};
+use std::alloc::Global;
+
+/// The superblock records in the front of a raw image, as lines.
+#[derive(Debug, Drop)]
+pub struct SizesListing {
+    /// By rising start, each with a line feed: `OFFSET KIND GENERATION PAGE PAGES EXTENTS` for each record, and
+    /// `lost FROM TO` for each run of lost blocks. The numbers are in decimal; OFFSET, PAGE, FROM and TO are in bytes. TO is
+    /// behind the last lost byte.
+    pub text: Vec<u8>,
+    /// Whether there is a record, all records have the same sizes, and nothing is lost.
+    pub is_clean: bool,
+}
+
+/// Whether each record has these sizes.
+fn have_sizes(records: &[FoundRecord], geometry: Geometry) -> bool
+    ensures { IsTrue result ↔ All (λ r. r.geometry ≡ geometry) records.now }
+{
+    for found in records {
+        if found.geometry != geometry {
+            return false;
+        }
+    }
+    true
+}
+
+/// Whether there is a record, all records have the same sizes, and nothing is lost.
+fn is_clean(found: &FoundSuperblocks) -> bool
+    ensures { IsTrue result ↔ AreCleanLists found.now.records.items found.now.lost.items }
+{
+    if found.records.is_empty() || !found.lost.is_empty() {
+        return false;
+    }
+    have_sizes(&found.records, found.records[0].geometry)
+}
+
+/// The sizes that all records have, if there is a record and nothing is lost.
+fn sizes_in(found: &FoundSuperblocks) -> Option<Geometry>
+    ensures { MatchOption result (¬ AreCleanLists found.now.records.items found.now.lost.items) (λ g.
+        AreCleanLists found.now.records.items found.now.lost.items × All (λ r. r.geometry ≡ g) found.now.records.items) }
+{
+    if !is_clean(found) {
+        return None;
+    }
+    Some(found.records[0].geometry)
+}
+
+/// Finds the sizes of the disk in a raw image: those that all superblock records in its first 67,108,864 bytes have. None if
+/// there is no record, if not all have the same sizes, or if something is lost there. `find_superblocks` reads the image, whose
+/// blocks are marked as for `list_sizes`. The only fault is `OutOfMemory`.
+pub fn find_sizes<R: RawImage>(
+    alloc: Global,
+    raw: &mut R,
+    marked: &[bool],
+) -> Result<Option<Geometry>, OutOfMemory>
+    requires few_reads { R.reads raw.old < 2 ^ 62 }
+    ensures sizes { IfOk result (AreSizesOf (R.bytes raw.old) marked.now (R.failures raw.new - R.failures raw.old)) }
+    ensures failures { R.failures raw.old ≤ R.failures raw.new }
+    ensures same_bytes { R.bytes raw.new ≡ R.bytes raw.old }
+    ensures same_bound { R.most_failures raw.new ≡ R.most_failures raw.old }
+    ensures reads { R.reads raw.new ≤ R.reads raw.old + max_extent_bytes }
+{
+    let found = find_superblocks(alloc, raw, marked)?;
+    Ok(sizes_in(&found))
+}
+
+/// A law: the sizes that are found in given bytes are the same whatever is marked and whichever reads fail.
+pub fn one_size()
+    ensures { (bytes : List ℕ) (marks others : List Bool) (failures more : ℕ) (g h : Geometry) →
+        AreSizesOf (Some bytes) marks failures (Some g) → AreSizesOf (Some bytes) others more (Some h) → g ≡ h }
+{}
+
+/// Lists the superblock records of a raw image, each with its own sizes, and what is lost of the first 67,108,864 bytes.
+/// `find_superblocks` reads the image. `marked` says for each of the first blocks of 512 bytes whether a rescue's map marks it
+/// as lost. The only fault is `OutOfMemory`.
+pub fn list_sizes<R: RawImage>(
+    alloc: Global,
+    raw: &mut R,
+    marked: &[bool],
+) -> Result<SizesListing, OutOfMemory>
+    requires few_reads { R.reads raw.old < 2 ^ 62 }
+    ensures listing { IfOk result (λ l.
+        IsSizesListingOf (R.bytes raw.old) marked.now (R.failures raw.new - R.failures raw.old) l.text.items l.is_clean) }
+    ensures failures { R.failures raw.old ≤ R.failures raw.new }
+    ensures same_bytes { R.bytes raw.new ≡ R.bytes raw.old }
+    ensures same_bound { R.most_failures raw.new ≡ R.most_failures raw.old }
+    ensures reads { R.reads raw.new ≤ R.reads raw.old + max_extent_bytes }
+{
+    let found = find_superblocks(alloc, raw, marked)?;
+    let lines = lines_in_order(alloc, &found.records, &found.lost)?;
+    let text = lines_text(alloc, &lines)?;
+    let is_clean = is_clean(&found);
+    Ok(SizesListing { text, is_clean })
+}
+
+/// A law: for given bytes and lost blocks there is one listing, and one answer whether it is clean.
+pub fn one_sizes_listing()
+    ensures text { (bytes : List ℕ) (lost : List Bool) (a b : List ℕ) →
+        AreSizesLines bytes lost a → AreSizesLines bytes lost b → a ≡ b }
+    ensures clean { (bytes : List ℕ) (lost : List Bool) (a b : Bool) →
+        (IsTrue a ↔ IsCleanFront bytes lost) → (IsTrue b ↔ IsCleanFront bytes lost) → a ≡ b }
+{}

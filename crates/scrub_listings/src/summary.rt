@@ -1,0 +1,628 @@
+//! The summary of a disk: a verdict, and numbers by their names, for a person and for monitoring.
+
+ghost use Rattle.std.specs.Prelude.{◌≡◌, ◌+◌, ◌++◌, ◌^◌, ◌<◌, ◌≤◌, Bool, List, ℕ, IfOk, OnOk, is_none, length, map, sum};
+ghost use Rattle.std.specs.List.{count_by, filter, list_any, sum_by};
+ghost use Rattle.std.specs.Option.{option_map_or};
+ghost use Rattle.scrub_disk.specs.Image.{Image};
+ghost use Rattle.scrub_super.specs.declared.pages.SuperblockPage.{SuperblockPage};
+ghost use Rattle.scrub_super.specs.Pages.{AreSuperblockPages};
+ghost use Rattle.scrub_scan.specs.Scanned.{scanned};
+ghost use Rattle.scrub_check.specs.declared.statuses.checked.Checked.{Checked};
+ghost use Rattle.scrub_check.specs.Checked.{is_dangling, is_hidden};
+ghost use Rattle.scrub_check.specs.Chunks.{orphans, twins};
+ghost use Rattle.scrub_check.specs.Live.{is_chunk, live_bytes, size_of};
+ghost use Rattle.scrub_check.specs.Runs.{ReadRunsValue};
+ghost use Rattle.scrub_report.specs.Answer.{IsPartitionOfPlanned, IsCountOfPlanned};
+ghost use Rattle.scrub_report.specs.Parts.{AreRowsOf, IsScan, found_in};
+ghost use Rattle.scrub_listings.specs.Summary.{IsSoundImage, IsSummary, candidate_numbers, chunk_numbers, disk_numbers, has_spare_by, is_damaged, is_lost, is_noise, is_odd, is_sound_verdict, is_stray, is_torn, item_numbers, number_line, number_lines, numbers_by, one_if, reading_numbers, shard_numbers, superblock_numbers, tally_in, verdict, verdict_by, verdict_line, verdict_text};
+
+use crate::manifest::lost_runs;
+use scrub_check::{Candidate, Checked, Place, Spares};
+use scrub_disk::{OutOfMemory, PageSource};
+use scrub_merge::Binding;
+use scrub_pool::{Gate, Takings};
+use scrub_report::ScrubFault;
+use scrub_report::parts::Parts;
+use scrub_report::scanning::{Scan, scan_chosen};
+use scrub_report::scrubbing::{is_clean, parts_and_twins};
+use scrub_scan::{AllFindings, ExtentResult, Item};
+use scrub_super::{Chosen, Plan, SuperblockPage, choose_with_pages};
+use std::alloc::Global;
+use std::sync::Wait;
+use std::thread::Threads;
+
+/// What a disk is like, in one word.
+#[derive(Clone, Copy)]
+pub enum Verdict {
+    /// It is clean, and no page of extent 0 is damaged or stray.
+    Sound,
+    /// It is clean, but a page of extent 0 is damaged or stray.
+    InDoubt,
+    /// It isn't clean.
+    Wrong,
+}
+
+/// What is counted in each extent.
+#[derive(Clone, Copy)]
+pub(crate) enum Tally {
+    /// Pages that can't be read.
+    UnreadablePages,
+    /// Chunks.
+    Chunks,
+    /// The bytes that chunks take.
+    ChunkBytes,
+    /// Torn items.
+    TornItems,
+    /// Items of noise.
+    NoiseItems,
+    /// Lost items.
+    LostItems,
+    /// 1 if the extent has nonzero bytes at or behind its write pointer, or else 0.
+    Tails,
+    /// How many such bytes it has.
+    TailBytes,
+}
+
+/// The summary of a disk, as lines.
+#[derive(Drop)]
+pub struct SummaryListing {
+    /// First `verdict sound`, `verdict doubt` or `verdict wrong`, and then `NAME NUMBER` for each number, always all of them in
+    /// the same order. The numbers are in decimal.
+    pub text: Vec<u8>,
+    /// Whether the verdict is `sound`.
+    pub is_sound: bool,
+}
+
+/// Whether a page of extent 0 is damaged.
+fn is_damaged(page: &SuperblockPage) -> bool
+    ensures { result ≡ is_damaged page.now }
+{
+    matches!(page, SuperblockPage::Damaged { .. })
+}
+
+/// Whether a page of extent 0 is stray.
+fn is_stray(page: &SuperblockPage) -> bool
+    ensures { result ≡ is_stray page.now }
+{
+    matches!(page, SuperblockPage::Stray)
+}
+
+/// Whether a page of extent 0 is damaged or stray.
+fn is_odd(page: &SuperblockPage) -> bool
+    ensures { result ≡ is_odd page.now }
+{
+    is_damaged(page) || is_stray(page)
+}
+
+/// Whether one of these pages is damaged or stray.
+fn has_odd_page(pages: &[SuperblockPage]) -> bool
+    ensures { result ≡ list_any is_odd pages.now }
+{
+    pages.iter().any(|page| is_odd(page))
+}
+
+/// The verdict on a disk that is clean or isn't, and has a damaged or stray page or hasn't.
+fn verdict_by(is_clean: bool, has_odd_page: bool) -> Verdict
+    ensures { result ≡ verdict_by is_clean has_odd_page }
+{
+    if !is_clean {
+        return Verdict::Wrong;
+    }
+    if has_odd_page {
+        return Verdict::InDoubt;
+    }
+    Verdict::Sound
+}
+
+/// Whether a verdict is that the disk is sound.
+fn is_sound_verdict(verdict: Verdict) -> bool
+    ensures { result ≡ is_sound_verdict verdict }
+{
+    matches!(verdict, Verdict::Sound)
+}
+
+/// The word for a verdict.
+fn verdict_text(verdict: Verdict) -> &'static str
+    ensures { result.now ≡ verdict_text verdict }
+{
+    match verdict {
+        Verdict::Sound => "sound",
+        Verdict::InDoubt => "doubt",
+        Verdict::Wrong => "wrong",
+    }
+}
+
+/// Appends the line of the verdict.
+fn append_verdict(alloc: Global, text: &mut Vec<u8>, verdict: Verdict) -> Result<(), OutOfMemory>
+    ensures { OnOk result (text.new.items ≡ text.old.items ++ verdict_line verdict) }
+{
+    let word = verdict_text(verdict);
+    let line = format!(in alloc; "verdict {word}\n")?;
+    text.extend_from_slice(line.as_bytes())?;
+    Ok(())
+}
+
+/// Appends the line of a name and its number.
+fn append_number(
+    alloc: Global,
+    text: &mut Vec<u8>,
+    name: &str,
+    number: u128,
+) -> Result<(), OutOfMemory>
+    ensures { OnOk result (text.new.items ≡ text.old.items ++ number_line (name.now, number)) }
+{
+    let line = format!(in alloc; "{name} {number}\n")?;
+    text.extend_from_slice(line.as_bytes())?;
+    Ok(())
+}
+
+/// Appends the lines of names and their numbers.
+fn append_numbers(
+    alloc: Global,
+    text: &mut Vec<u8>,
+    numbers: &[(&str, u128)],
+) -> Result<(), OutOfMemory>
+    ensures { OnOk result (text.new.items ≡ text.old.items ++ number_lines (map (λ m. (m.0.now, m.1)) numbers.now)) }
+{
+    for (name, number) in numbers {
+        append_number(alloc, text, name, *number)?;
+    }
+    Ok(())
+}
+
+/// Whether an item is a chunk.
+fn is_chunk(item: &Item) -> bool
+    ensures { result ≡ is_chunk item.now }
+{
+    matches!(item, Item::Chunk { .. })
+}
+
+/// Whether an item is torn.
+fn is_torn(item: &Item) -> bool
+    ensures { result ≡ is_torn item.now }
+{
+    matches!(item, Item::Torn { .. })
+}
+
+/// Whether an item is noise.
+fn is_noise(item: &Item) -> bool
+    ensures { result ≡ is_noise item.now }
+{
+    matches!(item, Item::Noise { .. })
+}
+
+/// Whether an item is lost.
+fn is_lost(item: &Item) -> bool
+    ensures { result ≡ is_lost item.now }
+{
+    matches!(item, Item::Lost { .. })
+}
+
+/// How many bytes an item takes.
+fn size_of(item: &Item) -> u32
+    ensures { result ≡ size_of item.now }
+{
+    item.stop().saturating_sub(item.start())
+}
+
+/// How many bytes the chunks among items of an extent take.
+fn chunk_bytes(items: &[Item]) -> u32
+    requires { sum_by size_of items.now < 2 ^ 32 }
+    ensures { result ≡ sum_by size_of (filter is_chunk items.now) }
+{
+    items
+        .iter()
+        .filter(|item| is_chunk(item))
+        .map(|item| size_of(item))
+        .sum()
+}
+
+/// How many items are chunks.
+fn chunk_count(items: &[Item]) -> usize
+    ensures { result ≡ count_by is_chunk items.now }
+{
+    items.iter().filter(|item| is_chunk(item)).count()
+}
+
+/// How many items are torn.
+fn torn_count(items: &[Item]) -> usize
+    ensures { result ≡ count_by is_torn items.now }
+{
+    items.iter().filter(|item| is_torn(item)).count()
+}
+
+/// How many items are noise.
+fn noise_count(items: &[Item]) -> usize
+    ensures { result ≡ count_by is_noise items.now }
+{
+    items.iter().filter(|item| is_noise(item)).count()
+}
+
+/// How many items are lost.
+fn lost_count(items: &[Item]) -> usize
+    ensures { result ≡ count_by is_lost items.now }
+{
+    items.iter().filter(|item| is_lost(item)).count()
+}
+
+/// What is counted in an extent.
+fn tally_in<D: PageSource>(tally: Tally, found: &ExtentResult<'_, D>) -> u64
+    ensures { result ≡ tally_in tally (scanned found.now) }
+{
+    // It bounds the sum of the bytes: the items join up to the pointer.
+    let pointer = found.pointer();
+    let findings = found.findings();
+    let items = findings.items();
+    match tally {
+        Tally::UnreadablePages => findings.bad_pages().len() as u64,
+        Tally::Chunks => chunk_count(items) as u64,
+        Tally::ChunkBytes => u64::from(chunk_bytes(items)),
+        Tally::TornItems => torn_count(items) as u64,
+        Tally::NoiseItems => noise_count(items) as u64,
+        Tally::LostItems => lost_count(items) as u64,
+        Tally::Tails => u64::from(findings.tail_count() > 0),
+        Tally::TailBytes => u64::from(findings.tail_count()),
+    }
+}
+
+/// What is counted in all extents. Sums are of 128 bits, so that none can wrap.
+fn tally_all<D: PageSource>(tally: Tally, all: &AllFindings<'_, D>) -> u128
+    ensures sum { result ≡ sum_by (tally_in tally) all.now.extents }
+    ensures few { result + 2 ^ 64 ≤ 2 ^ 128 }
+{
+    let mut total = 0u128;
+    for i in 0..all.len() {
+        total += u128::from(tally_in(tally, all.result_at(i)));
+    }
+    total
+}
+
+/// The sum of some numbers.
+fn sum_of(numbers: &[u32]) -> u128
+    ensures { result ≡ sum numbers.now }
+{
+    let mut total = 0u128;
+    for number in numbers {
+        total += u128::from(*number);
+    }
+    total
+}
+
+/// How many bytes reclaiming these extents frees.
+fn freed_by(candidates: &[Candidate]) -> u128
+    ensures { result ≡ sum_by (λ a. a.free) candidates.now }
+{
+    let mut total = 0u128;
+    for candidate in candidates {
+        total += u128::from(candidate.free());
+    }
+    total
+}
+
+/// How many chunks must be moved before these extents are reclaimed.
+fn moved_for(candidates: &[Candidate]) -> u128
+    ensures { result ≡ sum_by (λ a. length a.keep) candidates.now }
+{
+    let mut total = 0u128;
+    for candidate in candidates {
+        total += candidate.keep().len() as u128;
+    }
+    total
+}
+
+/// 1 if it is so, or else 0.
+fn one_if(is_so: bool) -> u128
+    ensures { result ≡ one_if is_so }
+{
+    if is_so { 1 } else { 0 }
+}
+
+/// How many pages of extent 0 are damaged.
+fn damaged_count(pages: &[SuperblockPage]) -> usize
+    ensures { result ≡ count_by is_damaged pages.now }
+{
+    pages.iter().filter(|page| is_damaged(page)).count()
+}
+
+/// How many pages of extent 0 are stray.
+fn stray_count(pages: &[SuperblockPage]) -> usize
+    ensures { result ≡ count_by is_stray pages.now }
+{
+    pages.iter().filter(|page| is_stray(page)).count()
+}
+
+/// How many shards are doubtful.
+fn doubtful_count(bindings: &[Binding]) -> usize
+    ensures { result ≡ count_by (λ b. b.doubtful) bindings.now }
+{
+    bindings.iter().filter(|one| one.doubtful()).count()
+}
+
+/// How many named locators are hidden.
+fn hidden_count(checked: &[Checked]) -> usize
+    ensures { result ≡ count_by (λ c. is_hidden c.status) checked.now }
+{
+    checked.iter().filter(|one| one.status.is_hidden()).count()
+}
+
+/// How many named locators dangle.
+fn dangling_count(checked: &[Checked]) -> usize
+    ensures { result ≡ count_by (λ c. is_dangling c.status) checked.now }
+{
+    checked
+        .iter()
+        .filter(|one| one.status.is_dangling())
+        .count()
+}
+
+/// How many named locators have spares among these.
+fn spared(spares: &Spares, checked: &[Checked]) -> usize
+    ensures { result ≡ count_by (has_spare_by spares.now) checked.now }
+{
+    checked
+        .iter()
+        .filter(|one| !spares.of_one(one).is_empty())
+        .count()
+}
+
+/// The generation of the superblock that counts, or 0 if there is none.
+fn generation_of(chosen: &Chosen) -> u64
+    ensures { result ≡ option_map_or (λ c. c.generation) chosen.now.superblock 0 }
+{
+    match chosen.superblock() {
+        Some(superblock) => superblock.generation(),
+        None => 0,
+    }
+}
+
+/// Appends the sizes of a disk.
+fn append_disk(alloc: Global, text: &mut Vec<u8>, plan: &Plan) -> Result<(), OutOfMemory>
+    ensures { OnOk result (text.new.items ≡ text.old.items ++ number_lines (disk_numbers plan.now)) }
+{
+    let geometry = plan.geometry();
+    append_numbers(
+        alloc,
+        text,
+        &[
+            ("page_bytes", u128::from(geometry.page())),
+            ("extent_pages", u128::from(geometry.pages())),
+            ("extents", u128::from(geometry.extents())),
+            ("retired_extents", plan.retired().len() as u128),
+        ],
+    )
+}
+
+/// Appends what there is of superblocks.
+fn append_superblocks(
+    alloc: Global,
+    text: &mut Vec<u8>,
+    chosen: &Chosen,
+    pages: &[SuperblockPage],
+) -> Result<(), OutOfMemory>
+    ensures { OnOk result (text.new.items ≡ text.old.items ++ number_lines (superblock_numbers chosen.now pages.now)) }
+{
+    append_numbers(
+        alloc,
+        text,
+        &[
+            ("superblocks", u128::from(chosen.records())),
+            ("superblock_generation", u128::from(generation_of(chosen))),
+            ("superblock_tie", one_if(chosen.tie())),
+            ("superblocks_damaged", damaged_count(pages) as u128),
+            ("superblocks_stray", stray_count(pages) as u128),
+        ],
+    )
+}
+
+/// Appends what can't be read.
+fn append_reading<D: PageSource>(
+    alloc: Global,
+    text: &mut Vec<u8>,
+    chosen: &Chosen,
+    plan: &Plan,
+    all: &AllFindings<'_, D>,
+    lost: usize,
+) -> Result<(), OutOfMemory>
+    ensures { OnOk result (text.new.items ≡
+        text.old.items ++ number_lines (reading_numbers chosen.now plan.now all.now.extents lost)) }
+{
+    let pages = chosen.bad_pages().len() as u128 + tally_all(Tally::UnreadablePages, all);
+    append_numbers(
+        alloc,
+        text,
+        &[
+            ("unreadable_pages", pages),
+            ("runs", plan.runs().len() as u128),
+            ("runs_lost", lost as u128),
+        ],
+    )
+}
+
+/// Appends what there is of shards and of named locators.
+fn append_shards(
+    alloc: Global,
+    text: &mut Vec<u8>,
+    bindings: &[Binding],
+    broken: usize,
+    checked: &[Checked],
+    spared: usize,
+) -> Result<(), OutOfMemory>
+    ensures { OnOk result (text.new.items ≡
+        text.old.items ++ number_lines (shard_numbers bindings.now broken checked.now spared)) }
+{
+    append_numbers(
+        alloc,
+        text,
+        &[
+            ("shards", bindings.len() as u128),
+            ("shards_broken", broken as u128),
+            ("shards_doubtful", doubtful_count(bindings) as u128),
+            ("locators", checked.len() as u128),
+            ("locators_hidden", hidden_count(checked) as u128),
+            ("locators_dangling", dangling_count(checked) as u128),
+            ("spares", spared as u128),
+        ],
+    )
+}
+
+/// Appends what there is of chunks, by the live bytes of each extent, and by how many orphans, twins and shared places there
+/// are.
+fn append_chunks<D: PageSource>(
+    alloc: Global,
+    text: &mut Vec<u8>,
+    all: &AllFindings<'_, D>,
+    live: &[u32],
+    orphan_count: usize,
+    twin_count: usize,
+    shared: usize,
+) -> Result<(), OutOfMemory>
+    requires { twin_count ≡ length (twins all.now.extents) }
+    ensures { (checked : List Checked) → live.now ≡ map (live_bytes checked) all.now.extents →
+        orphan_count ≡ length (orphans all.now.extents checked) →
+        OnOk result (text.new.items ≡ text.old.items ++ number_lines (chunk_numbers all.now.extents checked shared)) }
+{
+    let chunks = tally_all(Tally::Chunks, all);
+    let bytes = tally_all(Tally::ChunkBytes, all);
+    let live_bytes = sum_of(live);
+    let orphan_count = orphan_count as u128;
+    append_numbers(
+        alloc,
+        text,
+        &[
+            ("chunks", chunks),
+            ("chunk_bytes", bytes),
+            ("live_chunks", chunks.saturating_sub(orphan_count)),
+            ("live_bytes", live_bytes),
+            ("orphans", orphan_count),
+            ("orphan_bytes", bytes.saturating_sub(live_bytes)),
+            ("twins", twin_count as u128),
+            ("shared_places", shared as u128),
+        ],
+    )
+}
+
+/// Appends what there is of other items, and of tails.
+fn append_items<D: PageSource>(
+    alloc: Global,
+    text: &mut Vec<u8>,
+    all: &AllFindings<'_, D>,
+) -> Result<(), OutOfMemory>
+    ensures { OnOk result (text.new.items ≡ text.old.items ++ number_lines (item_numbers all.now.extents)) }
+{
+    append_numbers(
+        alloc,
+        text,
+        &[
+            ("torn_items", tally_all(Tally::TornItems, all)),
+            ("noise_items", tally_all(Tally::NoiseItems, all)),
+            ("lost_items", tally_all(Tally::LostItems, all)),
+            ("tails", tally_all(Tally::Tails, all)),
+            ("tail_bytes", tally_all(Tally::TailBytes, all)),
+        ],
+    )
+}
+
+/// Appends what may be reclaimed.
+fn append_candidates(
+    alloc: Global,
+    text: &mut Vec<u8>,
+    candidates: &[Candidate],
+) -> Result<(), OutOfMemory>
+    ensures { OnOk result (text.new.items ≡ text.old.items ++ number_lines (candidate_numbers candidates.now)) }
+{
+    append_numbers(
+        alloc,
+        text,
+        &[
+            ("candidates", candidates.len() as u128),
+            ("candidate_bytes", freed_by(candidates)),
+            ("chunks_to_move", moved_for(candidates)),
+        ],
+    )
+}
+
+/// Appends all numbers of what was found, with these pages of extent 0 and so many twins.
+fn append_all<D: PageSource>(
+    alloc: Global,
+    text: &mut Vec<u8>,
+    pages: &[SuperblockPage],
+    parts: &Parts<'_, D>,
+    twin_count: usize,
+) -> Result<(), OutOfMemory>
+    requires { twin_count ≡ length (twins parts.now.all.extents) }
+    ensures { (read : ReadRunsValue) → AreRowsOf parts.now.plan.runs read parts.now.runs.items →
+        OnOk result (text.new.items ≡ text.old.items ++ number_lines (numbers_by pages.now (found_in parts.now read) (count_by is_none read.runs))) }
+{
+    let lost = lost_runs(&parts.runs);
+    let spares = Spares::of(alloc, &parts.all, &parts.checked)?;
+    let live = &parts.liveness.live;
+    let orphan_count = parts.liveness.orphans.len();
+    let shared = parts.liveness.shared.len();
+    let bindings = parts.map.bindings();
+    let broken = parts.broken.len();
+    let spared = spared(&spares, &parts.checked);
+    append_disk(alloc, text, &parts.plan)?;
+    append_superblocks(alloc, text, &parts.chosen, pages)?;
+    append_reading(alloc, text, &parts.chosen, &parts.plan, &parts.all, lost)?;
+    append_shards(alloc, text, bindings, broken, &parts.checked, spared)?;
+    append_chunks(
+        alloc,
+        text,
+        &parts.all,
+        live,
+        orphan_count,
+        twin_count,
+        shared,
+    )?;
+    append_items(alloc, text, &parts.all)?;
+    append_candidates(alloc, text, &parts.liveness.candidates)
+}
+
+/// The summary of a scanned disk, whose extent 0 has these pages.
+fn summary_of<R: Threads + Sync, D: PageSource>(
+    rt: &R,
+    alloc: Global,
+    scan: Scan<'_, D>,
+    pages: &[SuperblockPage],
+) -> Result<SummaryListing, OutOfMemory>
+    requires scan { IsScan (D.image scan.disk.now) scan.chosen scan.plan scan.all.extents }
+    requires pages { AreSuperblockPages (D.image scan.disk.now) pages.now }
+    ensures text { IfOk result (λ s. IsSummary (D.image scan.entry.disk.now) s.text.items) }
+    ensures sound { IfOk result (λ s. IsSoundImage (D.image scan.entry.disk.now) s.is_sound) }
+{
+    let (parts, twin_chunks) = parts_and_twins(rt, alloc, scan)?;
+    let verdict = verdict_by(is_clean(&parts), has_odd_page(pages));
+    let mut text = Vec::new(alloc);
+    append_verdict(alloc, &mut text, verdict)?;
+    append_all(alloc, &mut text, pages, &parts, twin_chunks.len())?;
+    let is_sound = is_sound_verdict(verdict);
+    Ok(SummaryListing { text, is_sound })
+}
+
+/// Sums a disk up, and returns which extents the caller and each worker took. It scans as `scrub` does, with this many workers
+/// (0 to 64) beside the caller. The only fault is `OutOfMemory`, returned once every started worker has ended.
+pub fn list_summary<D: PageSource, G: Gate, R: Threads + Wait + Sync>(
+    rt: &R,
+    alloc: Global,
+    disk: &D,
+    workers: u32,
+    gate: &G,
+) -> Result<(SummaryListing, Takings), ScrubFault>
+    requires { workers ≤ 64 }
+    ensures text { IfOk result (λ r. IsSummary (D.image disk.now) r.0.text.items) }
+    ensures sound { IfOk result (λ r. IsSoundImage (D.image disk.now) r.0.is_sound) }
+    ensures workers { IfOk result (λ r. length r.1.lists ≡ workers + 1) }
+    ensures partition { IfOk result (λ r. IsPartitionOfPlanned (D.image disk.now) r.1.lists) }
+    ensures counted { IfOk result (λ r. IsCountOfPlanned (D.image disk.now) r.1.counted) }
+{
+    let (chosen, pages) = choose_with_pages(alloc, disk)?;
+    let (scan, takings) = scan_chosen(rt, alloc, disk, chosen, workers, gate)?;
+    let summary = summary_of(rt, alloc, scan, &pages)?;
+    Ok((summary, takings))
+}
+
+/// A law: an image has one summary, and one verdict whether it is sound.
+pub fn one_summary()
+    ensures text { (image : Image) (a b : List ℕ) → IsSummary image a → IsSummary image b → a ≡ b }
+    ensures sound { (image : Image) (a b : Bool) → IsSoundImage image a → IsSoundImage image b → a ≡ b }
+{}

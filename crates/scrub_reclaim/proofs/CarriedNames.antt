@@ -1,0 +1,114 @@
+-- What is named on a disk is the same on another, if of each named locator its status, the run that it names and what became
+-- of that carry over.
+use Rattle.std.proofs.Common.{◌≡◌, ℕ, ◌+◌, Option, List, [], ◌∷◌, ◌++◌, length, get_or, arith, sym, ◌∙◌, ap, subst}
+use Rattle.std.proofs.Math.Path.{ap₂}
+use Rattle.std.specs.List.{All, AllZip, flat_map}
+use Rattle.std.proofs.lemmas.List.Elements.{All-cons, All-head, All-map, All-tail}
+use Rattle.scrub_disk.specs.Image.{Image}
+use Rattle.scrub_frame.specs.declared.locator.Locator.{Locator}
+use Rattle.scrub_super.specs.Plan.{PlanValue}
+use Rattle.scrub_run.specs.Entry.{EntryValue}
+use Rattle.scrub_merge.proofs.Maps.{one_shard_map_lem}
+use Rattle.scrub_check.specs.declared.named.Named.{Named}
+use Rattle.scrub_check.specs.declared.named.Owner.TheVariants.{Run}
+use Rattle.scrub_check.specs.declared.runs.RunState.{RunState}
+use Rattle.scrub_check.specs.declared.statuses.checked.Checked.{Checked}
+use Rattle.scrub_check.specs.declared.statuses.status.Status.{Status}
+use Rattle.scrub_check.specs.declared.statuses.status.Status.TheVariants.{Sound}
+use Rattle.scrub_check.specs.Checked.{AreChecked, named_of}
+use Rattle.scrub_check.specs.ChunkForms.{form_at}
+use Rattle.scrub_check.specs.Named.{named, named_by_runs, named_by_shard}
+use Rattle.scrub_check.specs.Runs.{AreReadRuns, HasRunStateIn, IsRunIn}
+use Rattle.scrub_check.specs.Status.{HasStatusIn}
+use Rattle.scrub_check.proofs.OneList.{one_broken, one_shared}
+use Rattle.scrub_report.specs.Scrubbed.{Scrubbed, IsScrubbedBut}
+use Rattle.scrub_report.proofs.OneIndex.{one_list_of_runs, one_list_of_checked, read_runs_are_runs}
+use Rattle.scrub_reclaim.specs.Reset.{NameTheSame}
+
+-- ---- lists
+
+-- a relation to each element that a property carries over
+zipped : {A B : Type 0} (P Q : A → B → Type 0) (K : A → Type 0) → ((a : A) (b : B) → K a → P a b → Q a b) →
+    (xs : List A) (ys : List B) → All K xs → AllZip P xs ys → AllZip Q xs ys
+zipped P Q K carry [] [] k h = h
+zipped P Q K carry [] (y ∷ ys) k h = absurd h
+zipped P Q K carry (x ∷ xs) [] k h = absurd h
+zipped P Q K carry (x ∷ xs) (y ∷ ys) k h =
+    (carry x y (All-head K x xs k) h.0, zipped P Q K carry xs ys (All-tail K x xs k) h.1)
+
+-- what holds of all named locators holds of those of the runs
+of_runs : (K : Locator → Type 0) (k : ℕ) (ls : List Locator) (ns : List Named) →
+    All (λ (n : Named). K n.locator) (named_by_runs k ls ++ ns) → All K ls
+of_runs K k [] ns h = λ i d below. absurd (omega (arith, below))
+of_runs K k (l ∷ ls) ns h =
+    let P : Named → Type 0 = λ n. K n.locator in
+    All-cons K l ls (h 0 (record { owner = Run k; locator = l }) (omega arith))
+    (of_runs K (k + 1) ls ns (All-tail P (record { owner = Run k; locator = l }) (named_by_runs (k + 1) ls ++ ns) h))
+
+-- ---- what carries over
+
+-- what is said of a locator by a plan of one image is said by a plan of the other: its run, what became of that, and its own
+-- status
+pub record Carries (image other : Image) (old new : PlanValue) (l : Locator) : Type 0 where
+  pub run : (r : Option (List EntryValue)) → IsRunIn image old l r → IsRunIn other new l r
+  pub state : (s : RunState) → HasRunStateIn image old l s → HasRunStateIn other new l s
+  pub own : (s : Status) → HasStatusIn image old l s → HasStatusIn other new l s
+
+module _ (resets others : List ℕ) (before after : Image) (found rest : Scrubbed) (x : IsScrubbedBut resets before found) (y : IsScrubbedBut others after rest)
+    (has : rest.plan.has_superblock ≡ found.plan.has_superblock) (runs : rest.plan.runs ≡ found.plan.runs) (retired : rest.plan.retired ≡ found.plan.retired)
+    (carry : All (λ (c : Checked). Carries before after found.plan rest.plan c.locator) found.checked)
+    (forms : All (λ (c : Checked). c.status ≡ Sound → form_at rest.all c.locator ≡ form_at found.all c.locator) found.checked) where
+  abbrev Same : Locator → Type 0
+  Same l = Carries before after found.plan rest.plan l
+
+  same_names : All (λ (n : Named). Same n.locator) (named found.plan.runs found.bindings)
+  same_names =
+      subst (λ (ns : List Named). All (λ (n : Named). Same n.locator) ns) x.checked.same
+      (All-map (λ (n : Named). Same n.locator) named_of found.checked carry)
+
+  same_runs : All Same found.plan.runs
+  same_runs = of_runs Same 0 found.plan.runs (flat_map named_by_shard found.bindings) same_names
+
+  read_after : AreReadRuns after rest.plan found.read
+  read_after = record {
+    count = x.read.count ∙ ap (λ (ls : List Locator). length ls) (sym runs);
+    runs =
+        subst (λ (ls : List Locator). AllZip (IsRunIn after rest.plan) ls found.read.runs) (sym runs)
+        (zipped (IsRunIn before found.plan) (IsRunIn after rest.plan) Same (λ l o t h. t.run o h) found.plan.runs found.read.runs same_runs x.read.runs);
+    states =
+        subst (λ (ls : List Locator). AllZip (HasRunStateIn after rest.plan) ls found.read.states) (sym runs)
+        (zipped (HasRunStateIn before found.plan) (HasRunStateIn after rest.plan) Same (λ l s t h. t.state s h) found.plan.runs found.read.states same_runs x.read.states);
+  }
+
+  read : rest.read ≡ found.read
+  read = one_list_of_runs after rest.plan rest.read found.read y.read read_after
+
+  bindings : rest.bindings ≡ found.bindings
+  bindings =
+      one_shard_map_lem found.read.runs rest.bindings found.bindings
+      (read_runs_are_runs before found.plan found.read x.read) (rw read at y.bindings) x.bindings
+
+  checked_after : AreChecked after rest.plan (named rest.plan.runs rest.bindings) found.checked
+  checked_after = record {
+    same = x.checked.same ∙ ap₂ named (sym runs) (sym bindings);
+    statuses = λ i d below. (carry i d below).own (get_or found.checked i d).status (x.checked.statuses i d below);
+  }
+
+  checked : rest.checked ≡ found.checked
+  checked =
+      one_list_of_checked after rest.plan (named rest.plan.runs rest.bindings) rest.checked found.checked y.checked
+      checked_after
+
+  -- so all that is named is the same
+  pub named_alike : NameTheSame found rest
+  named_alike = record {
+    superblock = has;
+    runs = runs;
+    retired = retired;
+    read = read;
+    bindings = bindings;
+    checked = checked;
+    forms = forms;
+    shared = one_shared found.checked rest.shared found.shared (rw checked at y.shared) x.shared;
+    broken = one_broken found.checked rest.broken found.broken (rw checked at y.broken) x.broken;
+  }

@@ -1,0 +1,517 @@
+-- Copies into room lose nothing: each chunk is still one, the same is named with the same statuses, and what was copied is found.
+use Rattle.std.proofs.Common.{◌≡◌, ◌≢◌, ◌⊎◌, ◌<◌, ◌≤◌, ◌==◌, ◌&&◌, ◌||◌, ℕ, Bool, true, false, not, nat_lt, is_none, Option, Some, None, List, [], ◌∷◌, length, map, get_or, arith, refl, sym, ◌∙◌, ap, subst, inl, inr, if◌then◌else◌}
+use Rattle.std.proofs.Math.Path.{fun_ext}
+use Rattle.std.specs.List.{All, AllZip, Contains, cons_option, count_by, filter_map, find}
+use Rattle.std.specs.Option.{option_and_then}
+use Rattle.std.proofs.lemmas.Bool.{and_parts, eq-eqb, eqb-true, false≢true, ltb-false}
+use Rattle.std.proofs.lemmas.Grind.{common_steps}
+use Rattle.std.proofs.lemmas.Option.{same_Some}
+use Rattle.std.proofs.lemmas.List.Elements.{All-contains, All-contains_itself, All-filter}
+use Rattle.scrub_disk.specs.declared.geometry.Geometry.{Geometry}
+use Rattle.scrub_disk.specs.Image.{Image, byte, extent_bytes}
+use Rattle.scrub_frame.specs.Frame.{least_overhead}
+use Rattle.scrub_frame.specs.declared.locator.Locator.{Locator}
+use Rattle.scrub_super.specs.Plan.{PlanValue, pointer_of}
+use Rattle.scrub_scan.specs.declared.item.Item.{Item}
+use Rattle.scrub_scan.specs.declared.item.Item.TheVariants.{Chunk, Pad, Torn, Noise, Lost}
+use Rattle.scrub_scan.specs.declared.standing.Standing.{Standing}
+use Rattle.scrub_scan.specs.AllFindings.{entry_of, extent_numbers}
+use Rattle.scrub_scan.specs.Extent.{extent_of}
+use Rattle.scrub_scan.specs.Item.{start_of}
+use Rattle.scrub_scan.specs.Scanned.{Scanned}
+use Rattle.scrub_scan.specs.Tiling.{IsTiling}
+use Rattle.scrub_scan.proofs.Tilings.{one_tiling}
+use Rattle.scrub_merge.specs.Binding.{BindingValue}
+use Rattle.scrub_merge.proofs.Elements.{Contains-behind, Contains-cases}
+use Rattle.scrub_check.specs.declared.statuses.checked.Checked.{Checked}
+use Rattle.scrub_check.specs.declared.statuses.status.Status.{Status}
+use Rattle.scrub_check.specs.declared.statuses.status.Status.TheVariants.{OutOfRange, Retired, PastPointer, Unreadable, NoFrame, WrongUuid, WrongLength, WrongDigest, Hidden, Sound}
+use Rattle.scrub_check.specs.Candidates.{has_sound_alone}
+use Rattle.scrub_check.specs.Checked.{is_hidden, is_sound}
+use Rattle.scrub_check.specs.ChunkForms.{form_at, form_of}
+use Rattle.scrub_check.specs.Chunks.{frame_of_item}
+use Rattle.scrub_check.specs.Live.{is_chunk}
+use Rattle.scrub_check.specs.Runs.{ReadRunsValue}
+use Rattle.scrub_check.specs.Spares.{frames, frames_in, spares_of}
+use Rattle.scrub_check.specs.Status.{HasStatusIn}
+use Rattle.scrub_report.specs.Scrubbed.{Scrubbed, IsScrubbed, is_clean_extent, is_clean_item}
+use Rattle.scrub_report.proofs.OneReader.{one_scanned}
+use Rattle.scrub_report.proofs.OneReport.{one_scrub}
+use Rattle.scrub_listings.specs.Manifest.{IsManifest, IsWholeImage, after_status_in, hidden_runs, is_of_read_run, is_of_shard, lost_runs, manifest_text, of_shards, text_by}
+use Rattle.scrub_listings.proofs.AllPass.{all_pass}
+use Rattle.scrub_reclaim.specs.Copy.{HasRoomAt, HoldsCopies, IsAfterCopies, IsPlanAfterCopies, IsSameButSpares, RoomValue, extents_of}
+use Rattle.scrub_reclaim.specs.Reset.{NameTheSame}
+use Rattle.scrub_reclaim.specs.Room.{IsRoom, has_room, is_zero_to, may_grow, place_in, room_fits, room_in}
+use Rattle.scrub_reclaim.proofs.CarriedNames.{Carries, named_alike}
+use Rattle.scrub_reclaim.proofs.CopiedExtents.{IsFilled, filled_carries, form_there, sound_chunk, sound_under, zero_there}
+use Rattle.scrub_reclaim.proofs.NextPlaces.{Grown, chunk_of, frames_are_chunks, grown, place_above}
+use Rattle.scrub_reclaim.proofs.Reset.{HaveTheSameForms, IsScannedBy, IsTheSame, alike_items, carries, one_plan_in, same_numbers, same_verdict, scanned_by}
+use Rattle.scrub_reclaim.proofs.ResetForms.{along, frames_along, spare_among, spare_too}
+use Rattle.scrub_reclaim.proofs.RoomLines.{shows_room}
+use Rattle.scrub_reclaim.proofs.SparedTexts.{IsSaidAlike, said_alike, texts_alike}
+
+-- ---- lists
+
+-- an extent is that of a room, or of none
+room_cases : (rooms : List RoomValue) (e : ℕ) →
+    ((r : RoomValue) × Contains rooms r × (r.extent ≡ e)) ⊎ (¬ Contains (extents_of rooms) e)
+room_cases [] e = inr (λ there. omega (arith, there.1))
+room_cases (r ∷ rooms) e = by (r.extent == e) refl (room_cases rooms e)
+  where
+    neither : (r.extent == e) ≡ false → ¬ Contains (extents_of rooms) e → (r.extent ≡ e) ⊎ Contains (extents_of rooms) e → ⊥
+    neither other none (inl here) = false≢true (sym other ∙ eq-eqb r.extent e here)
+    neither other none (inr later) = none later
+
+    by : (b : Bool) → (r.extent == e) ≡ b →
+        ((s : RoomValue) × Contains rooms s × (s.extent ≡ e)) ⊎ (¬ Contains (extents_of rooms) e) →
+        ((s : RoomValue) × Contains (r ∷ rooms) s × (s.extent ≡ e)) ⊎ (¬ Contains (extents_of (r ∷ rooms)) e)
+    by true same rest = inl (r, (0, omega arith, refl), eqb-true r.extent e same)
+    by false other (inl (s, there, is)) = inl (s, Contains-behind r rooms s there, is)
+    by false other (inr none) = inr (λ there. neither other none (Contains-cases r.extent (extents_of rooms) e there))
+
+-- an element that something is made of
+made_of : {X Y : Type 0} (h : X → Y) (xs : List X) (y : Y) → Contains (map h xs) y → (x : X) × Contains xs x × (h x ≡ y)
+made_of h [] y there = absurd (omega (arith, there.1))
+made_of h (x ∷ xs) y there = elim (Contains-cases (h x) (map h xs) y there) [
+  | inl here ↦ (x, (0, omega arith, refl), here)
+  | inr later ↦ let m = made_of h xs y later in (m.0, Contains-behind x xs m.0 m.1, m.2)
+]
+
+of_made : {X Y : Type 0} (h : X → Y) (xs : List X) (x : X) → Contains xs x → Contains (map h xs) (h x)
+of_made h [] x there = absurd (omega (arith, there.1))
+of_made h (y ∷ xs) x there = elim (Contains-cases y xs x there) [
+  | inl here ↦ (0, omega arith, ap h here)
+  | inr later ↦ Contains-behind (h y) (map h xs) (h x) (of_made h xs x later)
+]
+
+-- the elements that give something
+gives : {X Y : Type 0} (h : X → Option Y) (xs : List X) (y : Y) → Contains (filter_map h xs) y →
+    (x : X) × Contains xs x × (h x ≡ Some y)
+gives h [] y there = absurd (omega (arith, there.1))
+gives {X} {Y} h (x ∷ xs) y there = by (h x) refl there (gives h xs y)
+  where
+    behind : (z : X) × Contains xs z × (h z ≡ Some y) → (z : X) × Contains (x ∷ xs) z × (h z ≡ Some y)
+    behind (z, there, is) = (z, Contains-behind x xs z there, is)
+
+    first : (v : Y) → h x ≡ Some v → (v ≡ y) ⊎ Contains (filter_map h xs) y →
+        (Contains (filter_map h xs) y → (z : X) × Contains xs z × (h z ≡ Some y)) → (z : X) × Contains (x ∷ xs) z × (h z ≡ Some y)
+    first v is (inl here) rest = (x, (0, omega arith, refl), is ∙ ap Some here)
+    first v is (inr later) rest = behind (rest later)
+
+    by : (o : Option Y) → h x ≡ o → Contains (cons_option o (filter_map h xs)) y →
+        (Contains (filter_map h xs) y → (z : X) × Contains xs z × (h z ≡ Some y)) → (z : X) × Contains (x ∷ xs) z × (h z ≡ Some y)
+    by None is here rest = behind (rest here)
+    by (Some v) is here rest = first v is (Contains-cases v (filter_map h xs) y here) rest
+
+given : {X Y : Type 0} (h : X → Option Y) (xs : List X) (x : X) (y : Y) → Contains xs x → h x ≡ Some y → Contains (filter_map h xs) y
+given h [] x y there is = absurd (omega (arith, there.1))
+given {X} {Y} h (z ∷ xs) x y there is = by (h z) refl (Contains-cases z xs x there) (λ later. given h xs x y later is)
+  where
+    none : None ≡ Some y → ⊥
+    none e = cc
+
+    by : (o : Option Y) → h z ≡ o → (z ≡ x) ⊎ Contains xs x → (Contains xs x → Contains (filter_map h xs) y) →
+        Contains (cons_option o (filter_map h xs)) y
+    by None e (inl here) rest = absurd (none (sym e ∙ ap h here ∙ is))
+    by None e (inr later) rest = rest later
+    by (Some v) e (inl here) rest = (0, omega arith, same_Some v y (sym e ∙ ap h here ∙ is))
+    by (Some v) e (inr later) rest = Contains-behind v (filter_map h xs) y (rest later)
+
+-- what has some elements still does if it has all of the old ones
+some_still : {X : Type 0} (xs ys : List X) → ((x : X) → Contains xs x → Contains ys x) → (length xs == 0) ≡ false →
+    (length ys == 0) ≡ false
+some_still [] ys carry some = absurd (clash some)
+  where
+    clash : true ≡ false → ⊥
+    clash e = cc
+some_still (x ∷ xs) [] carry some = let there = carry x (0, omega arith, refl) in absurd (omega (arith, there.1))
+some_still {X} (x ∷ xs) (y ∷ ys) carry some = not_none y ys
+  where
+    not_none : (v : X) (vs : List X) → (length (v ∷ vs) == 0) ≡ false
+    not_none v vs = grind (arith, common_steps)
+
+-- ---- scanned extents
+
+-- an extent that was scanned before and after, each chunk of which is still one
+record IsKept (f g : Scanned) : Type 0 where
+  extent : g.extent ≡ f.extent
+  chunks : (item : Item) → Contains f.findings.items item → is_chunk item ≡ true → Contains g.findings.items item
+
+-- what an extent's number finds
+abbrev AreFound : List Scanned → List Scanned → ℕ → Type 0
+AreFound fs gs e =
+    ((entry_of fs e ≡ None) × (entry_of gs e ≡ None)) ⊎
+    ((f : Scanned) × (g : Scanned) × (entry_of fs e ≡ Some f) × (entry_of gs e ≡ Some g) × Contains fs f × Contains gs g × (f.extent ≡ e) × IsKept f g)
+
+found_both : (fs gs : List Scanned) (e : ℕ) → AllZip IsKept fs gs → AreFound fs gs e
+found_both [] [] e zip = inl (refl, refl)
+found_both [] (g ∷ gs) e zip = absurd zip
+found_both (f ∷ fs) [] e zip = absurd zip
+found_both (f ∷ fs) (g ∷ gs) e zip = by (f.extent == e) refl (found_both fs gs e zip.1)
+  where
+    other : (f.extent == e) ≡ false → (g.extent == e) ≡ false
+    other o = ap (λ (n : ℕ). n == e) zip.0.extent ∙ o
+
+    same : (f.extent == e) ≡ true → (g.extent == e) ≡ true
+    same o = ap (λ (n : ℕ). n == e) zip.0.extent ∙ o
+
+    pick : (h : Scanned) (hs : List Scanned) (b : Bool) → (h.extent == e) ≡ b →
+        entry_of (h ∷ hs) e ≡ (if b then Some h else entry_of hs e)
+    pick h hs b is = ap (λ (t : Bool). if t then Some h else entry_of hs e) is
+
+    by : (b : Bool) → (f.extent == e) ≡ b → AreFound fs gs e → AreFound (f ∷ fs) (g ∷ gs) e
+    by true is rest = inr (
+      f,
+      g,
+      pick f fs true is,
+      pick g gs true (same is),
+      (0, omega arith, refl),
+      (0, omega arith, refl),
+      eqb-true f.extent e is,
+      zip.0,
+    )
+    by false is (inl none) = inl (pick f fs false is ∙ none.0, pick g gs false (other is) ∙ none.1)
+    by false is (inr (a, b, ea, eb, ca, cb, number, kept)) = inr (
+      a,
+      b,
+      pick f fs false is ∙ ea,
+      pick g gs false (other is) ∙ eb,
+      Contains-behind f fs a ca,
+      Contains-behind g gs b cb,
+      number,
+      kept,
+    )
+
+-- ---- spares
+
+-- a frame is that of a chunk
+frame_of_chunk : (e : ℕ) (item : Item) (s : Standing) → frame_of_item e item ≡ Some s → is_chunk item ≡ true
+frame_of_chunk e (Chunk form start stop uuid n digest) s is = refl
+frame_of_chunk e (Pad start stop) s is = absurd (none s is)
+  where
+    none : (t : Standing) → None ≡ Some t → ⊥
+    none t h = cc
+frame_of_chunk e (Torn start stop) s is = absurd (none s is)
+  where
+    none : (t : Standing) → None ≡ Some t → ⊥
+    none t h = cc
+frame_of_chunk e (Noise start stop) s is = absurd (none s is)
+  where
+    none : (t : Standing) → None ≡ Some t → ⊥
+    none t h = cc
+frame_of_chunk e (Lost start stop) s is = absurd (none s is)
+  where
+    none : (t : Standing) → None ≡ Some t → ⊥
+    none t h = cc
+
+frames_kept_in : (f g : Scanned) (s : Standing) → IsKept f g → Contains (frames_in f) s → Contains (frames_in g) s
+frames_kept_in f g s kept there =
+    let from = gives (frame_of_item f.extent) f.findings.items s there in
+    given (frame_of_item g.extent) g.findings.items from.0 s
+    (kept.chunks from.0 from.1 (frame_of_chunk f.extent from.0 s from.2))
+    (ap (λ (e : ℕ). frame_of_item e from.0) kept.extent ∙ from.2)
+
+spares_kept : (fs gs : List Scanned) (c : Checked) (s : Standing) → AllZip IsKept fs gs → Contains (spares_of fs c) s →
+    Contains (spares_of gs c) s
+spares_kept fs gs c s zip there =
+    spare_too c (frames fs) (frames gs) s there
+    (frames_along IsKept s (λ f g kept inside. frames_kept_in f g s kept inside) fs gs zip (spare_among c (frames fs) (frames gs) s there))
+
+-- ---- statuses
+
+sound_is : (s : Status) → is_sound s ≡ true → s ≡ Sound
+sound_is Sound is = refl
+sound_is OutOfRange is = absurd (false≢true is)
+sound_is Retired is = absurd (false≢true is)
+sound_is PastPointer is = absurd (false≢true is)
+sound_is Unreadable is = absurd (false≢true is)
+sound_is NoFrame is = absurd (false≢true is)
+sound_is WrongUuid is = absurd (false≢true is)
+sound_is WrongLength is = absurd (false≢true is)
+sound_is WrongDigest is = absurd (false≢true is)
+sound_is Hidden is = absurd (false≢true is)
+
+-- ---- the extents of a disk
+
+module _ (rooms : List RoomValue) (before after : Image) (found rest : Scrubbed) (x : IsScrubbed before found) (y : IsScrubbed after rest)
+    (c : IsAfterCopies rooms before after) where
+  plans : IsPlanAfterCopies rooms found.plan rest.plan
+  plans =
+      subst (λ (p : PlanValue). IsPlanAfterCopies rooms p rest.plan)
+      (one_plan_in before c.old found.plan c.was (record { choice = found.choice; chosen = x.choice; follows = x.plan }))
+      (subst (λ (q : PlanValue). IsPlanAfterCopies rooms c.old q) (one_plan_in after c.new rest.plan c.is (record { choice = rest.choice; chosen = y.choice; follows = y.plan })) c.plans)
+
+  -- the same extents were scanned
+  numbers : extent_numbers rest.all ≡ extent_numbers found.all
+  numbers = same_numbers [] [] before after found rest c.sizes plans.retired x y
+
+  known_before : (f : Scanned) → Contains found.all f → IsScannedBy before found.plan f
+  known_before f there = All-contains (IsScannedBy before found.plan) found.all f (scanned_by before found.plan found.all x.all) there
+
+  known_after : (g : Scanned) → Contains rest.all g → IsScannedBy after rest.plan g
+  known_after g there = All-contains (IsScannedBy after rest.plan) rest.all g (scanned_by after rest.plan rest.all y.all) there
+
+  -- what is known of the extent of a room
+  record HasRoom (r : RoomValue) (f : Scanned) : Type 0 where
+    place_is : r.place ≡ place_in found.plan.geometry f
+    fits : has_room found.plan.geometry found.checked f ≡ true
+    shown : IsRoom before f.extent f.pointer (place_in found.plan.geometry f)
+
+  -- a room's extent was scanned
+  scanned_room : (r : RoomValue) → Contains rooms r → (f : Scanned) × Contains found.all f × (f.extent ≡ r.extent) × HasRoom r f
+  scanned_room r there =
+      let h : HasRoomAt before r.extent r.place = All-contains (λ (s : RoomValue). HasRoomAt before s.extent s.place) rooms r c.had there in
+      let same : h.found ≡ found = one_scrub before h.found found h.scrubbed x in
+      let among : Contains found.all h.scanned = subst (λ (s : Scrubbed). Contains s.all h.scanned) same h.among in
+      let fits : has_room found.plan.geometry found.checked h.scanned ≡ true =
+      ap (λ (s : Scrubbed). has_room s.plan.geometry s.checked h.scanned) (sym same) ∙ h.fits in (
+        h.scanned,
+        among,
+        h.extent_is,
+        record {
+          place_is = h.place_is ∙ ap (λ (s : Scrubbed). place_in s.plan.geometry h.scanned) same;
+          fits = fits;
+          shown =
+              All-contains (λ (f : Scanned). has_room found.plan.geometry found.checked f ≡ true → IsRoom before f.extent f.pointer (place_in found.plan.geometry f)) found.all h.scanned (shows_room before found x) among fits;
+        },
+      )
+
+  -- and is scanned after the copies
+  scanned_after : (f : Scanned) → Contains found.all f → (g : Scanned) × Contains rest.all g × (g.extent ≡ f.extent)
+  scanned_after f there =
+      made_of (λ (h : Scanned). h.extent) rest.all f.extent
+      (subst (λ (ns : List ℕ). Contains ns f.extent) (sym numbers) (of_made (λ (h : Scanned). h.extent) found.all f there))
+
+  has_room_there : (r : RoomValue) → Contains rooms r → (f : Scanned) → IsScannedBy before found.plan f → f.extent ≡ r.extent → HasRoom r f
+  has_room_there r there f known number =
+      let s = scanned_room r there in
+      let is = known_before s.0 s.1 in
+      let same : s.0 ≡ f = one_scanned before found.plan s.0 f (s.2 ∙ sym number) is.0 known.0 is.1 known.1 in
+      subst (λ (h : Scanned). HasRoom r h) same s.3
+
+  not_true : (b : Bool) → not b ≡ true → b ≡ false
+  not_true true e = absurd (false≢true e)
+  not_true false e = refl
+
+  -- the named locators into it are sound, and a frame fits
+  alone : (r : RoomValue) (f : Scanned) → HasRoom r f → has_sound_alone found.checked f ≡ true
+  alone r f h =
+      (and_parts (is_clean_extent f) (has_sound_alone found.checked f) (and_parts (may_grow found.checked f) (room_fits found.plan.geometry f) h.fits).0).1
+
+  enough : (r : RoomValue) (f : Scanned) → HasRoom r f → r.place ≤ extent_bytes before.geometry
+  enough r f h =
+      let g = found.plan.geometry in
+      let space : not (nat_lt (room_in g f) least_overhead) ≡ true =
+      (and_parts (is_zero_to (place_in g f) f) (not (nat_lt (room_in g f) least_overhead)) (and_parts (may_grow found.checked f) (room_fits g f) h.fits).1).1 in
+      let some : least_overhead ≤ room_in g f =
+      ltb-false (room_in g f) least_overhead (not_true (nat_lt (room_in g f) least_overhead) space) in
+      let size : extent_bytes g ≡ extent_bytes before.geometry = ap extent_bytes (x.plan.geometry ∙ x.choice.geometry) in
+      omega (arith, some, h.place_is, size)
+
+  filled : (r : RoomValue) → Contains rooms r → (f g : Scanned) → IsScannedBy before found.plan f → IsScannedBy after rest.plan g →
+      f.extent ≡ r.extent → g.extent ≡ r.extent →
+      IsFilled before after r.extent f.pointer g.pointer r.place f.findings.items g.findings.items
+  filled r there f g among here old new = record {
+    sizes = c.sizes;
+    kept = kept;
+    above = above;
+    moved = moved;
+    was = was;
+    is = is;
+    grown =
+        subst (λ (items : List Item). Grown (extent_of after r.extent g.pointer) r.place items g.findings.items)
+        (one_tiling (extent_of before r.extent f.pointer) shown.items f.findings.items (omega (arith, before.geometry.page_size.least)) shown.tiled was)
+        (grown (extent_of before r.extent f.pointer) (extent_of after r.extent g.pointer) r.place (omega (arith, before.geometry.page_size.least)) (ap (λ (s : Geometry). s.page) c.sizes) kept zero above moved shown.items g.findings.items shown.tiled is (all_pass is_clean_item shown.items shown.clean) shown.place_is);
+  }
+    where
+      room : HasRoom r f
+      room = has_room_there r there f among old
+
+      shown : IsRoom before r.extent f.pointer r.place
+      shown =
+          subst (λ (p : ℕ). IsRoom before r.extent f.pointer p) (sym room.place_is)
+          (subst (λ (e : ℕ). IsRoom before e f.pointer (place_in found.plan.geometry f)) old room.shown)
+
+      above : f.pointer ≤ r.place
+      above =
+          let low = place_above before.geometry.page f.pointer shown.items (omega (arith, before.geometry.page_size.least)) in
+          omega (arith, low, shown.place_is)
+
+      moved : r.place ≤ g.pointer
+      moved =
+          let m : (w : ℕ) × (pointer_of rest.plan r.extent ≡ Some w) × (r.place ≤ w) =
+          All-contains (λ (s : RoomValue). (w : ℕ) × (pointer_of rest.plan s.extent ≡ Some w) × (s.place ≤ w)) rooms r plans.moved there in
+          let same : m.0 ≡ g.pointer = same_Some m.0 g.pointer (sym m.1 ∙ ap (pointer_of rest.plan) (sym new) ∙ here.0) in
+          omega (arith, m.2, same)
+
+      kept : (p : ℕ) → p < r.place → byte after r.extent p ≡ byte before r.extent p
+      kept = All-contains (λ (s : RoomValue). (p : ℕ) → p < s.place → byte after s.extent p ≡ byte before s.extent p) rooms r c.kept there
+
+      readable : (p : ℕ) → p < extent_bytes after.geometry → byte after r.extent p ≢ None
+      readable = All-contains (λ (s : RoomValue). (p : ℕ) → p < extent_bytes after.geometry → byte after s.extent p ≢ None) rooms r c.readable there
+
+      was : IsTiling (extent_of before r.extent f.pointer) f.findings.items
+      was = subst (λ (e : ℕ). IsTiling (extent_of before e f.pointer) f.findings.items) old among.1.tiled
+
+      is : IsTiling (extent_of after r.extent g.pointer) g.findings.items
+      is = subst (λ (e : ℕ). IsTiling (extent_of after e g.pointer) g.findings.items) new here.1.tiled
+
+      zero : (p : ℕ) → f.pointer ≤ p → p < r.place → byte before r.extent p ≡ Some 0
+      zero p low high =
+          let size : extent_bytes after.geometry ≡ extent_bytes before.geometry = ap extent_bytes c.sizes in
+          zero_there (byte before r.extent p) (shown.zeros p low high) (λ none. readable p (omega (arith, high, enough r f room, size)) (kept p high ∙ none))
+
+  -- an extent without copies is the same
+  the_same : (e : ℕ) → ¬ Contains (extents_of rooms) e → IsTheSame before after found.plan rest.plan e
+  the_same e other = record {
+    sizes = c.sizes;
+    retired = plans.retired;
+    pointer = plans.pointers e other;
+    bytes = λ nonzero. inr (fun_ext (λ p. c.others e p nonzero other));
+  }
+
+  kept_in : (f g : Scanned) → g.extent ≡ f.extent → IsScannedBy before found.plan f → IsScannedBy after rest.plan g → IsKept f g
+  kept_in f g number among here = record { extent = number; chunks = by (room_cases rooms f.extent) }
+    where
+      by : ((r : RoomValue) × Contains rooms r × (r.extent ≡ f.extent)) ⊎ (¬ Contains (extents_of rooms) f.extent) →
+          (item : Item) → Contains f.findings.items item → is_chunk item ≡ true → Contains g.findings.items item
+      by (inl (r, there, is)) = (filled r there f g among here (sym is) (number ∙ sym is)).grown.chunks
+      by (inr other) =
+          λ item inside chunk.
+          subst (λ (items : List Item). Contains items item)
+          (sym (alike_items before after found.plan rest.plan f g number among here (the_same f.extent other))) inside
+
+  all_kept : AllZip IsKept found.all rest.all
+  all_kept =
+      along (IsScannedBy before found.plan) (IsScannedBy after rest.plan) IsKept kept_in found.all rest.all numbers
+      (scanned_by before found.plan found.all x.all) (scanned_by after rest.plan rest.all y.all)
+
+  -- ---- what is named
+
+  -- a named locator into a room is sound
+  sound_in : (r : RoomValue) → Contains rooms r → (i : ℕ) (d : Checked) → i < length found.checked →
+      r.extent ≡ (get_or found.checked i d).locator.extent → (get_or found.checked i d).status ≡ Sound
+  sound_in r there i d below number = sound_is one.status (by (one.locator.extent == s.0.extent) (is_sound one.status) same passes)
+    where
+      s : (f : Scanned) × Contains found.all f × (f.extent ≡ r.extent) × HasRoom r f
+      s = scanned_room r there
+
+      one : Checked
+      one = get_or found.checked i d
+
+      passes : (not (one.locator.extent == s.0.extent) || is_sound one.status) ≡ true
+      passes = all_pass (λ (k : Checked). not (k.locator.extent == s.0.extent) || is_sound k.status) found.checked (alone r s.0 s.3) i d below
+
+      same : (one.locator.extent == s.0.extent) ≡ true
+      same = eq-eqb one.locator.extent s.0.extent (sym number ∙ sym s.2)
+
+      by : (a b : Bool) → a ≡ true → (not a || b) ≡ true → b ≡ true
+      by true b e all = all
+      by false b e all = absurd (false≢true e)
+
+  carry : All (λ (k : Checked). Carries before after found.plan rest.plan k.locator) found.checked
+  carry i d below = by (room_cases rooms one.locator.extent)
+    where
+      one : Checked
+      one = get_or found.checked i d
+
+      by : ((r : RoomValue) × Contains rooms r × (r.extent ≡ one.locator.extent)) ⊎ (¬ Contains (extents_of rooms) one.locator.extent) →
+          Carries before after found.plan rest.plan one.locator
+      by (inl (r, there, number)) =
+          let s = scanned_room r there in
+          let t = scanned_after s.0 s.1 in
+          let was = known_before s.0 s.1 in
+          let now = known_after t.0 t.1 in
+          let at : IsFilled before after one.locator.extent s.0.pointer t.0.pointer r.place s.0.findings.items t.0.findings.items =
+          subst (λ (e : ℕ). IsFilled before after e s.0.pointer t.0.pointer r.place s.0.findings.items t.0.findings.items) number (filled r there s.0 t.0 was now s.2 (t.2 ∙ s.2)) in
+          filled_carries one.locator at found.plan rest.plan plans.retired
+          (ap (pointer_of found.plan) (sym number ∙ sym s.2) ∙ was.0)
+          (ap (pointer_of rest.plan) (sym number ∙ sym s.2 ∙ sym t.2) ∙ now.0)
+          (subst (λ (u : Status). HasStatusIn before found.plan one.locator u) (sound_in r there i d below number) (x.checked.statuses i d below))
+      by (inr other) = carries one.locator (the_same one.locator.extent other)
+
+  -- the form of the chunk at a sound locator's place
+  same_form : (k : Checked) → HasStatusIn before found.plan k.locator Sound → form_at rest.all k.locator ≡ form_at found.all k.locator
+  same_form k sound = by (found_both found.all rest.all k.locator.extent all_kept)
+    where
+      l : Locator
+      l = k.locator
+
+      nowhere : (all : List Scanned) → entry_of all l.extent ≡ None → form_at all l ≡ None
+      nowhere all none =
+          ap (λ (o : Option Scanned). option_and_then form_of (option_and_then (λ h. find (λ item. start_of item == l.offset) h.findings.items) o)) none
+
+      by : AreFound found.all rest.all k.locator.extent → form_at rest.all k.locator ≡ form_at found.all k.locator
+      by (inl none) = nowhere rest.all none.1 ∙ sym (nowhere found.all none.0)
+      by (inr (f, g, ef, eg, cf, cg, number, kept)) =
+          let was : IsTiling (extent_of before l.extent f.pointer) f.findings.items =
+          subst (λ (e : ℕ). IsTiling (extent_of before e f.pointer) f.findings.items) number (known_before f cf).1.tiled in
+          let is : IsTiling (extent_of after l.extent g.pointer) g.findings.items =
+          subst (λ (e : ℕ). IsTiling (extent_of after e g.pointer) g.findings.items) (kept.extent ∙ number) (known_after g cg).1.tiled in
+          let under = sound_under before found.plan l f.pointer (ap (pointer_of found.plan) (sym number) ∙ (known_before f cf).0) sound in
+          let n = under.0 in
+          let there = sound_chunk before f.pointer l f.findings.items was n under.1 in
+          form_there after g.pointer l rest.all g n.found.form l.uuid n.payload eg is (kept.chunks (chunk_of l.offset n.found.form l.uuid n.payload) there refl)
+          ∙ sym (form_there before f.pointer l found.all f n.found.form l.uuid n.payload ef was there)
+
+  forms : HaveTheSameForms found rest
+  forms i d below sound =
+      same_form (get_or found.checked i d)
+      (subst (λ (u : Status). HasStatusIn before found.plan (get_or found.checked i d).locator u) sound (x.checked.statuses i d below))
+
+  -- ---- the law
+
+  pub names_alike : NameTheSame found rest
+  names_alike = named_alike [] [] before after found rest x y plans.has plans.runs plans.retired carry forms
+
+  pub holds_copies : All (λ (r : RoomValue). HoldsCopies after found rest r) rooms
+  holds_copies i d below =
+      let r : RoomValue = get_or rooms i d in
+      let there : Contains rooms r = All-contains_itself rooms i d below in
+      let s = scanned_room r there in
+      let t = scanned_after s.0 s.1 in
+      let is : IsFilled before after r.extent s.0.pointer t.0.pointer r.place s.0.findings.items t.0.findings.items =
+      filled r there s.0 t.0 (known_before s.0 s.1) (known_after t.0 t.1) s.2 (t.2 ∙ s.2) in
+      record {
+        old = s.0;
+        new = t.0;
+        was = s.1;
+        is = t.1;
+        old_extent = s.2;
+        new_extent = t.2 ∙ s.2;
+        chunks = is.grown.chunks;
+        copies = λ fs placed.
+            frames_are_chunks (extent_of after r.extent t.0.pointer) r.place fs is.grown.rest t.0.findings.items
+            (omega (arith, after.geometry.page_size.least)) is.grown.joined is.grown.each is.grown.among placed;
+      }
+
+  said : All (λ (k : Checked). IsSaidAlike (after_status_in found.all k) (after_status_in rest.all k)) found.checked
+  said i d below =
+      let k : Checked = get_or found.checked i d in
+      said_alike (form_at found.all k.locator) (form_at rest.all k.locator) (spares_of found.all k) (spares_of rest.all k) k
+      (λ sound. forms i d below (sound_is k.status sound))
+      (some_still (spares_of found.all k) (spares_of rest.all k) (λ s. spares_kept found.all rest.all k s all_kept))
+
+  texts : IsSameButSpares (manifest_text found) (manifest_text rest)
+  texts =
+      subst (λ (t : List ℕ). IsSameButSpares (manifest_text found) t) same
+      (texts_alike (after_status_in found.all) (after_status_in rest.all) found.plan.has_superblock found.plan.retired (lost_runs found) (hidden_runs found) found.bindings (of_shards found.checked)
+      (All-filter (λ k. is_of_shard k.owner) (λ (k : Checked). IsSaidAlike (after_status_in found.all k) (after_status_in rest.all k)) found.checked said))
+    where
+      of : Bool → List ℕ → ReadRunsValue → List BindingValue → List Checked → List ℕ
+      of has retired reads binds all =
+          text_by (after_status_in rest.all) has retired (count_by is_none reads.runs) (count_by (λ k. is_hidden k.status && is_of_read_run reads.runs k.owner) all) binds (of_shards all)
+
+      same : of found.plan.has_superblock found.plan.retired found.read found.bindings found.checked ≡ manifest_text rest
+      same = λ i. of (sym names_alike.superblock i) (sym names_alike.retired i) (sym names_alike.read i) (sym names_alike.bindings i) (sym names_alike.checked i)
+
+module _ (rooms : List RoomValue) (before after : Image) where
+  pub same_but_spares : (a b : List ℕ) → IsAfterCopies rooms before after → IsManifest before a → IsManifest after b →
+      IsSameButSpares a b
+  same_but_spares a b c x y =
+      subst (λ (t : List ℕ). IsSameButSpares t b) (sym x.text_is)
+      (subst (λ (t : List ℕ). IsSameButSpares (manifest_text x.found) t) (sym y.text_is) (texts rooms before after x.found y.found x.scrubbed y.scrubbed c))
+
+  pub same_whole : (a b : Bool) → IsAfterCopies rooms before after → IsWholeImage before a → IsWholeImage after b → a ≡ b
+  same_whole a b c x y =
+      x.verdict ∙ sym (same_verdict x.found y.found (names_alike rooms before after x.found y.found x.scrubbed y.scrubbed c)) ∙ sym y.verdict

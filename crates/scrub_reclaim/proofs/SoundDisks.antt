@@ -1,0 +1,350 @@
+-- A disk that is sound is clean, nothing is missing of it, no page of extent 0 is lost, damaged or stray, and each doubt is a
+-- tail.
+use Rattle.std.proofs.Common.{bytes_eq, codes, ◌≡◌, ◌<◌, ◌+◌, ◌==◌, ◌&&◌, ◌||◌, ◌++◌, ◌∷◌, [], ℕ, zero, suc, Bool, true, false, not, cond, List, Option, Some, None, MatchBool, MatchOption, is_none, is_some, length, map, nat_lt, arith, refl, sym, ap, ◌∙◌, subst, if◌then◌else◌}
+use Rattle.std.specs.Cmp.Derive.{both_true}
+use Rattle.std.specs.List.{AllZip, Contains, cons_option, count_by, enumerate_from, filter, filter_map, flat_map, list_all, list_any, range_with_len}
+use Rattle.std.specs.Option.{option_map, option_to_list}
+use Rattle.std.proofs.lemmas.Bool.{and_parts, eq-eqb, eqb-true, false≢true, or_parts, or_right}
+use Rattle.std.proofs.lemmas.List.Folds.{list_all-append}
+use Rattle.std.proofs.lemmas.List.FromFn.{get_or-range_with_len, length-range_with_len}
+use Rattle.std.proofs.lemmas.List.Sums.{sum_by-cons}
+use Rattle.std.proofs.lemmas.Option.{none-some, slice_get_within}
+use Rattle.std.specs.List.{slice_get}
+use Rattle.scrub_disk.specs.Image.{Image, unreadable_pages}
+use Rattle.scrub_frame.specs.declared.locator.Locator.{Locator}
+use Rattle.scrub_super.specs.Chosen.{Choice}
+use Rattle.scrub_super.specs.Contents.{Contents}
+use Rattle.scrub_super.specs.Pages.{AreSuperblockPages}
+use Rattle.scrub_super.specs.Plan.{IsPlanBy, IsPlanOf, IsPlanWithout, PlanValue, pointer_of}
+use Rattle.scrub_super.specs.declared.pages.SuperblockPage.{SuperblockPage}
+use Rattle.scrub_super.specs.declared.pages.SuperblockPage.TheVariants.{Lost, Record, Covered, Zero, Damaged, Stray}
+use Rattle.scrub_scan.specs.Scanned.{Scanned}
+use Rattle.scrub_merge.specs.Binding.{Runs}
+use Rattle.scrub_merge.proofs.Elements.{Contains-filter}
+use Rattle.scrub_run.specs.Entry.{EntryValue}
+use Rattle.scrub_check.specs.declared.runs.RunState.{RunState}
+use Rattle.scrub_check.specs.declared.runs.RunState.TheVariants.{Read, BadChunk, NotARun}
+use Rattle.scrub_check.specs.declared.statuses.checked.Checked.{Checked}
+use Rattle.scrub_check.specs.declared.statuses.status.Status.{Status}
+use Rattle.scrub_check.specs.declared.statuses.status.Status.TheVariants.{OutOfRange, Sound as SoundStatus}
+use Rattle.scrub_check.specs.Checked.{dangling, hidden, is_dangling, is_hidden, is_sound}
+use Rattle.scrub_check.specs.Runs.{AreReadRuns, HasRunState, HasRunStateIn, HasRunStateInUse, IsLostInRetired, IsRunIn, IsRunInUse, IsRunOf, NamesRun}
+use Rattle.scrub_check.specs.Candidates.{CandidateValue}
+use Rattle.scrub_check.specs.Spares.{copies_of, spares_of}
+use Rattle.scrub_scan.specs.declared.standing.Standing.{Standing}
+use Rattle.scrub_check.specs.Status.{is_retired}
+use Rattle.scrub_report.specs.Scrubbed.{IsCleanImage, IsScrubbed, Scrubbed, is_clean, is_clean_choice, is_clean_extent, is_clean_item, is_clean_list}
+use Rattle.scrub_report.proofs.CleanLists.{sound_alone}
+use Rattle.scrub_report.proofs.OneReport.{one_scrub}
+use Rattle.scrub_listings.specs.declared.summary.Verdict.{Verdict}
+use Rattle.scrub_listings.specs.declared.summary.Verdict.TheVariants.{Sound, InDoubt, Wrong}
+use Rattle.scrub_listings.specs.Manifest.{IsWholeImage, are_sound, hidden_runs, is_of_read_run, is_of_shard, is_whole, lost_runs, of_shards}
+use Rattle.scrub_listings.specs.Summary.{IsSoundImage, is_odd, one_if, is_sound_verdict, verdict, verdict_by}
+use Rattle.scrub_reclaim.specs.declared.doubts.Doubt.{Doubt}
+use Rattle.scrub_reclaim.specs.declared.doubts.Doubt.TheVariants.{NoSuperblock, Tail, Tie}
+use Rattle.scrub_reclaim.specs.Doubts.{Accepted, accepts, accepts_tails, doubt_text, is_accepted, choice_doubts, doubts, ends_past, page_doubts, page_ranges, range_doubts, run_doubts, run_lost, spare_doubt, spare_doubts, spare_doubts_of, staying, superblock_damaged, superblock_lost, superblock_stray, tail_doubts, tail_lost_doubts}
+use Rattle.scrub_reclaim.specs.AllRight.{IsAllRight, is_quiet, is_tail}
+use Rattle.scrub_reclaim.specs.Reclaimable.{IsClear, is_clear}
+use Rattle.scrub_super.proofs.PageLaws.{one_list_of_pages}
+
+-- ---- lists whose elements pass
+
+not_true : (b : Bool) → not b ≡ true → b ≡ false
+not_true true e = absurd (false≢true e)
+not_true false e = refl
+
+-- a test that is weaker passes too
+all_weaker : {X : Type 0} (p q : X → Bool) (xs : List X) → ((x : X) → p x ≡ true → q x ≡ true) → list_all p xs ≡ true → list_all q xs ≡ true
+all_weaker p q [] weaker all = refl
+all_weaker p q (x ∷ xs) weaker all =
+    let parts = and_parts (p x) (list_all p xs) all in
+    both_true (weaker x parts.0) (all_weaker p q xs weaker parts.1)
+
+-- those that are kept pass
+all_kept : {X : Type 0} (p q : X → Bool) (xs : List X) → list_all p xs ≡ true → list_all p (filter q xs) ≡ true
+all_kept p q [] all = refl
+all_kept p q (x ∷ xs) all =
+    let parts = and_parts (p x) (list_all p xs) all in
+    by (q x) parts.0 (all_kept p q xs parts.1)
+  where
+    by : (b : Bool) → p x ≡ true → list_all p (filter q xs) ≡ true → list_all p (cond b (x ∷ filter q xs) (filter q xs)) ≡ true
+    by true here later = both_true here later
+    by false here later = later
+
+-- none is counted of those that don't pass
+none_counted : {X : Type 0} (p : X → Bool) (xs : List X) → list_all (λ x. not (p x)) xs ≡ true → count_by p xs ≡ 0
+none_counted p [] all = refl
+none_counted p (x ∷ xs) all =
+    let parts = and_parts (not (p x)) (list_all (λ y. not (p y)) xs) all in
+    let sum : count_by p (x ∷ xs) ≡ one_if (p x) + count_by p xs = sum_by-cons (λ y. one_if (p y)) x xs in
+    let here : one_if (p x) ≡ 0 = ap one_if (not_true (p x) parts.0) in
+    let later : count_by p xs ≡ 0 = none_counted p xs parts.1 in
+    omega (arith, sum, here, later)
+
+-- nothing comes of those of which nothing comes
+nothing : {X A : Type 0} (f : X → List A) (p : X → Bool) (xs : List X) → ((x : X) → p x ≡ true → f x ≡ []) → list_all p xs ≡ true → flat_map f xs ≡ []
+nothing f p [] none all = refl
+nothing {X} {A} f p (x ∷ xs) none all =
+    let parts = and_parts (p x) (list_all p xs) all in
+    (λ i. none x parts.0 i ++ nothing f p xs none parts.1 i)
+
+-- ---- index runs
+
+read_has : (r : Option (List EntryValue)) → is_some r ≡ true → not (is_none r) ≡ true
+read_has None e = e
+read_has (Some es) e = refl
+
+module _ (image : Image) (plan : PlanValue) where
+  -- a run that has entries was read
+  is_read : (l : Locator) (run : Option (List EntryValue)) (state : RunState) → is_some run ≡ true → IsRunIn image plan l run →
+      HasRunStateIn image plan l state → state ≡ Read
+  is_read l None state some r s = absurd (false≢true some)
+  is_read l (Some es) state some r s = by_retired (is_retired plan l.extent) r s
+    where
+      of_chunk : (w : ℕ) (t : RunState) → NamesRun image w l es → HasRunState image w l t → t ≡ Read
+      of_chunk w Read n h = refl
+      of_chunk w (BadChunk status) n h = absurd (h.1 n.names)
+      of_chunk w NotARun n h = absurd (h.1 es n)
+
+      by_pointer : (p : Option ℕ) → MatchOption p (Some es ≡ None) (λ w. IsRunOf image w l (Some es)) →
+          MatchOption p (state ≡ BadChunk OutOfRange) (λ w. HasRunState image w l state) → state ≡ Read
+      by_pointer None x y = absurd (none-some es (sym x))
+      by_pointer (Some w) x y = of_chunk w state x y
+
+      by_retired : (b : Bool) → MatchBool b (Some es ≡ None) (IsRunInUse image plan l (Some es)) →
+          MatchBool b (IsLostInRetired image l state) (HasRunStateInUse image plan l state) → state ≡ Read
+      by_retired true x y = absurd (none-some es (sym x))
+      by_retired false x y = by_pointer (pointer_of plan l.extent) x y
+
+  -- so there is no doubt of a run
+  no_run_doubts : (ls : List Locator) (runs : Runs) (states : List RunState) (k : ℕ) → AllZip (IsRunIn image plan) ls runs →
+      AllZip (HasRunStateIn image plan) ls states → list_all is_some runs ≡ true →
+      filter_map (λ s. run_lost s.0 s.1) (enumerate_from k states) ≡ []
+  no_run_doubts [] [] [] k a b all = refl
+  no_run_doubts [] [] (s ∷ ss) k a b all = absurd b
+  no_run_doubts [] (r ∷ rs) ss k a b all = absurd a
+  no_run_doubts (l ∷ ls) [] ss k a b all = absurd a
+  no_run_doubts (l ∷ ls) (r ∷ rs) [] k a b all = absurd b
+  no_run_doubts (l ∷ ls) (r ∷ rs) (s ∷ ss) k a b all =
+      let parts = and_parts (is_some r) (list_all is_some rs) all in
+      ap (λ (t : RunState). cons_option (run_lost k t) (filter_map (λ (u : ℕ × RunState). run_lost u.0 u.1) (enumerate_from (k + 1) ss)))
+      (is_read l r s parts.0 a.0 b.0)
+      ∙ no_run_doubts ls rs ss (k + 1) a.1 b.1 parts.1
+
+-- ---- named locators
+
+sound_only : (s : Status) → is_sound s ≡ true → s ≡ SoundStatus
+sound_only SoundStatus e = refl
+sound_only _ e = absurd (false≢true e)
+
+not_hidden : (s : Status) (b : Bool) → is_sound s ≡ true → not (is_hidden s && b) ≡ true
+not_hidden s b e = ap (λ (t : Status). not (is_hidden t && b)) (sound_only s e)
+
+-- a sound locator asks for no spare
+no_spare_doubt : (all : List Scanned) (checked : List Checked) (extents : List ℕ) (c : Checked) → is_sound c.status ≡ true →
+    spare_doubts_of all checked extents c ≡ []
+no_spare_doubt all checked extents c e =
+    let none : spares_of all c ≡ [] = ap
+    (λ (t : Status). if is_dangling t && nat_lt 0 c.locator.length then copies_of all c.locator else [])
+    (sound_only c.status e) in
+    ap (λ (ss : List Standing). spare_doubt c.owner ss (staying checked extents ss)) none
+
+-- ---- pages of extent 0
+
+quiet_one : (p : SuperblockPage) → ¬ (p ≡ Lost) → is_odd p ≡ false → is_quiet p ≡ true
+quiet_one Lost n e = absurd (n refl)
+quiet_one (Record kind generation rank) n e = refl
+quiet_one Covered n e = refl
+quiet_one Zero n e = refl
+quiet_one (Damaged kind) n e = absurd (false≢true (sym e))
+quiet_one Stray n e = absurd (false≢true (sym e))
+
+quiet_pages : (pages : List SuperblockPage) → ((q : ℕ) → ¬ (slice_get pages q ≡ Some Lost)) → list_any is_odd pages ≡ false →
+    list_all is_quiet pages ≡ true
+quiet_pages [] none e = refl
+quiet_pages (p ∷ ps) none e =
+    let parts = or_parts (is_odd p) (list_any is_odd ps) e in
+    both_true (quiet_one p (λ is. none 0 (ap (λ (t : SuperblockPage). Some t) is)) parts.0) (quiet_pages ps (λ q. none (suc q)) parts.1)
+
+-- there is no lost page if no page is unreadable
+none_lost : (image : Image) (pages : List SuperblockPage) → AreSuperblockPages image pages →
+    length (unreadable_pages image 0) ≡ 0 → (q : ℕ) → ¬ (slice_get pages q ≡ Some Lost)
+none_lost image pages held none q is =
+    let below : q < length pages = slice_get_within pages q Lost is in
+    let within : q < image.geometry.pages = omega (arith, below, held.count) in
+    let lost : image.page 0 q ≡ None = held.each q Lost is in
+    let among : Contains (range_with_len 0 image.geometry.pages) q =
+    (q, omega (arith, within, length-range_with_len 0 image.geometry.pages), omega (arith, get_or-range_with_len 0 image.geometry.pages q q within)) in
+    let there : Contains (unreadable_pages image 0) q =
+    Contains-filter (λ r. is_none (image.page 0 r)) (range_with_len 0 image.geometry.pages) q (ap (λ o. is_none o) lost) among in
+    omega (arith, there.1, none)
+
+-- quiet pages make no doubt
+no_page_doubt : (f : ℕ → SuperblockPage → Option Doubt) (pages : List SuperblockPage) (k : ℕ) →
+    ((q : ℕ) (p : SuperblockPage) → is_quiet p ≡ true → f q p ≡ None) → list_all is_quiet pages ≡ true →
+    filter_map (λ x. f x.0 x.1) (enumerate_from k pages) ≡ []
+no_page_doubt f [] k none all = refl
+no_page_doubt f (p ∷ ps) k none all =
+    let parts = and_parts (is_quiet p) (list_all is_quiet ps) all in
+    ap (λ (o : Option Doubt). cons_option o (filter_map (λ (x : ℕ × SuperblockPage). f x.0 x.1) (enumerate_from (k + 1) ps))) (none k p parts.0)
+    ∙ no_page_doubt f ps (k + 1) none parts.1
+
+no_lost : (q : ℕ) (p : SuperblockPage) → is_quiet p ≡ true → superblock_lost q p ≡ None
+no_lost q Lost e = absurd (false≢true e)
+no_lost q _ e = refl
+
+no_damaged : (q : ℕ) (p : SuperblockPage) → is_quiet p ≡ true → superblock_damaged q p ≡ None
+no_damaged q (Damaged kind) e = absurd (false≢true e)
+no_damaged q _ e = refl
+
+no_stray : (q : ℕ) (p : SuperblockPage) → is_quiet p ≡ true → superblock_stray q p ≡ None
+no_stray q Stray e = absurd (false≢true e)
+no_stray q _ e = refl
+
+-- ---- tails
+
+tail_only : (f : Scanned) → list_all is_tail (tail_doubts f) ≡ true
+tail_only f = by f.findings.tail_first
+  where
+    by : (o : Option ℕ) → list_all is_tail (option_to_list (option_map (λ first. Tail f.extent first f.findings.tail_count) o)) ≡ true
+    by None = refl
+    by (Some first) = refl
+
+tails_only : (all : List Scanned) → list_all is_tail (flat_map tail_doubts all) ≡ true
+tails_only [] = refl
+tails_only (f ∷ fs) = list_all-append is_tail (tail_doubts f) (flat_map tail_doubts fs) ∙ both_true (tail_only f) (tails_only fs)
+
+no_tail_lost : (page : ℕ) (f : Scanned) → is_clean_extent f ≡ true → tail_lost_doubts page f ≡ []
+no_tail_lost page f e = by f.findings.bad_pages (and_parts (length f.findings.bad_pages == 0) (list_all is_clean_item f.findings.items) e).0
+  where
+    by : (qs : List ℕ) → (length qs == 0) ≡ true → range_doubts f.extent (page_ranges (filter (ends_past page f.pointer) qs)) ≡ []
+    by [] none = refl
+    by (q ∷ qs) none = let zero_of : length (q ∷ qs) ≡ 0 = eqb-true (length (q ∷ qs)) 0 none in absurd (omega (arith, zero_of))
+
+-- ---- all of it
+
+module _ (image : Image) (pages : List SuperblockPage) (found : Scrubbed) (x : IsScrubbed image found)
+    (held : AreSuperblockPages image pages) (clean : is_clean found ≡ true) (even : list_any is_odd pages ≡ false) where
+  choice_is : is_clean_choice found.choice ≡ true
+  choice_is = (and_parts (is_clean_choice found.choice) (list_all is_clean_extent found.all) (and_parts (is_clean_choice found.choice && list_all is_clean_extent found.all) (list_all is_some found.read.runs) (and_parts (is_clean_choice found.choice && list_all is_clean_extent found.all && list_all is_some found.read.runs) (is_clean_list found.checked found.shared) clean).0).0).0
+
+  extents_are : list_all is_clean_extent found.all ≡ true
+  extents_are = (and_parts (is_clean_choice found.choice) (list_all is_clean_extent found.all) (and_parts (is_clean_choice found.choice && list_all is_clean_extent found.all) (list_all is_some found.read.runs) (and_parts (is_clean_choice found.choice && list_all is_clean_extent found.all && list_all is_some found.read.runs) (is_clean_list found.checked found.shared) clean).0).0).1
+
+  runs_are : list_all is_some found.read.runs ≡ true
+  runs_are = (and_parts (is_clean_choice found.choice && list_all is_clean_extent found.all) (list_all is_some found.read.runs) (and_parts (is_clean_choice found.choice && list_all is_clean_extent found.all && list_all is_some found.read.runs) (is_clean_list found.checked found.shared) clean).0).1
+
+  lists_are : is_clean_list found.checked found.shared ≡ true
+  lists_are = (and_parts (is_clean_choice found.choice && list_all is_clean_extent found.all && list_all is_some found.read.runs) (is_clean_list found.checked found.shared) clean).1
+
+  sound_are : list_all (λ c. is_sound c.status) found.checked ≡ true
+  sound_are =
+      sym (sound_alone found.checked)
+      ∙ (and_parts (length (dangling found.checked) == 0 && length (hidden found.checked) == 0) (length found.shared == 0) lists_are).0
+
+  has : is_some found.choice.superblock ≡ true
+  has = (and_parts (is_some found.choice.superblock) (not found.choice.tie) (and_parts (is_some found.choice.superblock && not found.choice.tie) (length found.choice.bad_pages == 0) choice_is).0).0
+
+  no_tie : found.choice.tie ≡ false
+  no_tie = not_true found.choice.tie (and_parts (is_some found.choice.superblock) (not found.choice.tie) (and_parts (is_some found.choice.superblock && not found.choice.tie) (length found.choice.bad_pages == 0) choice_is).0).1
+
+  no_bad : length (unreadable_pages image 0) ≡ 0
+  no_bad =
+      sym (ap (λ (qs : List ℕ). length qs) x.choice.bad_pages)
+      ∙ eqb-true (length found.choice.bad_pages) 0 (and_parts (is_some found.choice.superblock && not found.choice.tie) (length found.choice.bad_pages == 0) choice_is).1
+
+  planned : found.plan.has_superblock ≡ true
+  planned = by found.choice.superblock has x.plan.by
+    where
+      by : (o : Option Contents) → is_some o ≡ true → MatchOption o (IsPlanWithout found.plan found.choice.geometry) (IsPlanBy found.plan) →
+          found.plan.has_superblock ≡ true
+      by None e p = absurd (false≢true e)
+      by (Some c) e p = p.has
+
+  none_lost_runs : (lost_runs found == 0) ≡ true
+  none_lost_runs = eq-eqb (lost_runs found) 0 (none_counted is_none found.read.runs (all_weaker is_some (λ r. not (is_none r)) found.read.runs read_has runs_are))
+
+  none_hidden_runs : (hidden_runs found == 0) ≡ true
+  none_hidden_runs =
+      eq-eqb (hidden_runs found) 0
+      (none_counted (λ (c : Checked). is_hidden c.status && is_of_read_run found.read.runs c.owner) found.checked
+      (all_weaker (λ (c : Checked). is_sound c.status) (λ (c : Checked). not (is_hidden c.status && is_of_read_run found.read.runs c.owner)) found.checked
+      (λ c. not_hidden c.status (is_of_read_run found.read.runs c.owner)) sound_are))
+
+  whole : is_whole found ≡ true
+  whole =
+      both_true (both_true (both_true planned none_lost_runs) none_hidden_runs)
+      (all_kept (λ (c : Checked). is_sound c.status) (λ (c : Checked). is_of_shard c.owner) found.checked sound_are)
+
+  quiet : list_all is_quiet pages ≡ true
+  quiet = quiet_pages pages (none_lost image pages held no_bad) even
+
+  no_choice_doubt : choice_doubts found.choice ≡ []
+  no_choice_doubt = by found.choice.superblock has
+    where
+      by : (o : Option Contents) → is_some o ≡ true →
+          (if is_none o then NoSuperblock ∷ [] else []) ++ (if found.choice.tie then Tie ∷ [] else []) ≡ []
+      by None e = absurd (false≢true e)
+      by (Some c) e = ap (λ (b : Bool). let none : List Doubt = [] in none ++ (if b then Tie ∷ [] else [])) no_tie
+
+  tails : list_all is_tail (doubts pages found) ≡ true
+  tails =
+      let parts : doubts pages found ≡ [] ++ [] ++ [] ++ [] ++ [] ++ [] ++ flat_map tail_doubts found.all ++ [] =
+      (λ i. no_choice_doubt i
+      ++ no_page_doubt superblock_lost pages 0 no_lost quiet i
+      ++ no_page_doubt superblock_damaged pages 0 no_damaged quiet i
+      ++ no_page_doubt superblock_stray pages 0 no_stray quiet i
+      ++ no_run_doubts image found.plan found.plan.runs found.read.runs found.read.states 0 x.read.runs x.read.states runs_are i
+      ++ nothing (spare_doubts_of found.all found.checked (map (λ (a : CandidateValue). a.extent) found.candidates)) (λ (c : Checked). is_sound c.status) found.checked
+      (no_spare_doubt found.all found.checked (map (λ (a : CandidateValue). a.extent) found.candidates)) sound_are i
+      ++ flat_map tail_doubts found.all
+      ++ nothing (tail_lost_doubts found.plan.geometry.page) is_clean_extent found.all (no_tail_lost found.plan.geometry.page) extents_are i) in
+      ap (list_all is_tail) parts
+      ∙ list_all-append is_tail (flat_map tail_doubts found.all) []
+      ∙ both_true (tails_only found.all) refl
+
+  all_right : IsAllRight pages found
+  all_right = record { clean = clean; whole = whole; quiet = quiet; tails = tails }
+
+pub sound_is_right : (image : Image) (pages : List SuperblockPage) (found : Scrubbed) → IsScrubbed image found →
+    AreSuperblockPages image pages → is_sound_verdict (verdict found pages) ≡ true → IsAllRight pages found
+sound_is_right image pages found x held is = by (is_clean found) (list_any is_odd pages) refl refl is
+  where
+    by : (clean odd : Bool) → is_clean found ≡ clean → list_any is_odd pages ≡ odd → is_sound_verdict (verdict_by clean odd) ≡ true →
+        IsAllRight pages found
+    by true true c o e = absurd (false≢true e)
+    by true false c o e = all_right image pages found x held c o
+    by false odd c o e = absurd (false≢true e)
+
+-- ---- what the commands say of it
+
+right : (image : Image) (x : IsSoundImage image true) → IsAllRight x.pages x.found
+right image x = sound_is_right image x.pages x.found x.scrubbed x.held (sym x.verdict_is)
+
+pub sound_is_clean : (image : Image) → IsSoundImage image true → IsCleanImage image true
+sound_is_clean image x = record { found = x.found; scrubbed = x.scrubbed; verdict = sym (right image x).clean }
+
+pub sound_is_whole : (image : Image) → IsSoundImage image true → IsWholeImage image true
+sound_is_whole image x = record { found = x.found; scrubbed = x.scrubbed; verdict = sym (right image x).whole }
+
+-- a test that is weaker passes for some element too
+any_weaker : {X : Type 0} (p q : X → Bool) (xs : List X) → ((x : X) → p x ≡ true → q x ≡ true) → list_any p xs ≡ true → list_any q xs ≡ true
+any_weaker p q [] weaker some = absurd (false≢true some)
+any_weaker p q (x ∷ xs) weaker some = by (λ e. any_weaker p q xs weaker e) (p x) refl some
+  where
+    by : (list_any p xs ≡ true → list_any q xs ≡ true) → (first : Bool) → p x ≡ first → (first || list_any p xs) ≡ true → (q x || list_any q xs) ≡ true
+    by rest true is e = ap (λ b. b || list_any q xs) (weaker x is)
+    by rest false is e = or_right (q x) (list_any q xs) (rest e)
+
+tail_accepted : (accepted : Accepted) → accepts_tails accepted ≡ true → (d : Doubt) → is_tail d ≡ true → is_accepted accepted d ≡ true
+tail_accepted accepted yes' (Tail extent first count) e =
+    any_weaker (λ word. bytes_eq word (codes "tail")) (accepts (Tail extent first count) (doubt_text (Tail extent first count))) accepted
+    (λ word is. ap (λ b. b || bytes_eq word (doubt_text (Tail extent first count))) is) yes'
+tail_accepted accepted yes' _ e = absurd (false≢true e)
+
+pub sound_is_clear : (image : Image) (accepted : Accepted) (clear : Bool) → IsSoundImage image true → accepts_tails accepted ≡ true →
+    IsClear image accepted clear → clear ≡ true
+sound_is_clear image accepted clear x yes' c =
+    c.verdict
+    ∙ (λ i. is_clear accepted (one_list_of_pages image c.pages x.pages c.held x.held i) (one_scrub image c.found x.found c.scrubbed x.scrubbed i))
+    ∙ all_weaker is_tail (is_accepted accepted) (doubts x.pages x.found) (tail_accepted accepted yes') (right image x).tails

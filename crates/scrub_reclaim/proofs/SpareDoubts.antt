@@ -1,0 +1,144 @@
+-- The doubts that spares make, by the locators sorted by place and the sorted extents of candidates.
+use Rattle.std.proofs.Common.{◌≡◌, ◌<◌, ◌+◌, ◌==◌, ◌&&◌, ◌||◌, ◌++◌, ◌∷◌, [], ℕ, Bool, true, false, not, cond, List, Some, None, OnOk, Result, get_or, length, map, take, arith, refl, sym, ◌∙◌, ap, subst, append-nil, if◌then◌else◌}
+use Rattle.std.specs.Borrow.{Bor}
+use Rattle.std.specs.List.{Contains, filter, flat_map, list_any, slice_get}
+use Rattle.std.specs.List.Sorted.{IsPermutation}
+use Rattle.std.proofs.lemmas.Bool.{eqb-true, false≢true}
+use Rattle.std.proofs.lemmas.List.{take_more}
+use Rattle.std.proofs.lemmas.List.Elements.{All-contains_itself, filter-append}
+use Rattle.std.proofs.lemmas.List.Sorted.{list_any-IsPermutation}
+use Rattle.std.proofs.lemmas.Option.{none-some, same_Some}
+use Rattle.scrub_scan.specs.declared.standing.Standing.{Standing}
+use Rattle.scrub_scan.specs.Scanned.{Scanned}
+use Rattle.scrub_check.specs.declared.named.Owner.{Owner}
+use Rattle.scrub_check.specs.declared.statuses.checked.Checked.{Checked}
+use Rattle.scrub_check.specs.Checked.{is_sound}
+use Rattle.scrub_check.specs.Live.{has_sound_at}
+use Rattle.scrub_check.specs.Spares.{AreSpares, HaveTheSameCopies, asks_for_spares, is_copy_of, spares_by}
+use Rattle.scrub_check.proofs.Between.{filter_in, filter_out}
+use Rattle.scrub_listings.proofs.SpareLines.{flat_same}
+use Rattle.scrub_reclaim.specs.declared.doubts.Doubt.{Doubt}
+use Rattle.scrub_reclaim.specs.Doubts.{is_at_risk, spare_doubt, spare_doubts_by, spare_doubts_of, staying}
+use Rattle.scrub_reclaim.specs.Reclaimable.{pointing_to}
+
+pub any_mapped : {X Y : Type 0} (p : Y → Bool) (f : X → Y) (xs : List X) → list_any p (map f xs) ≡ list_any (λ x. p (f x)) xs
+any_mapped p f [] = refl
+any_mapped p f (x ∷ xs) = ap (λ (t : Bool). p (f x) || t) (any_mapped p f xs)
+
+-- a sound locator points to a place if one of those that point there is sound
+sound_there : (checked : List Checked) (e p : ℕ) →
+    list_any (λ c. is_sound c.status) (pointing_to checked e p) ≡ has_sound_at checked e p
+sound_there [] e p = refl
+sound_there (c ∷ cs) e p = by (is_sound c.status) (c.locator.extent == e) (c.locator.offset == p) (pointing_to cs e p) (sound_there cs e p) refl
+  where
+    by : (s a b : Bool) (rest : List Checked) → list_any (λ d. is_sound d.status) rest ≡ has_sound_at cs e p → is_sound c.status ≡ s →
+        list_any (λ d. is_sound d.status) (cond (a && b) (c ∷ rest) rest) ≡ ((s && a && b) || has_sound_at cs e p)
+    by true true true rest same is = ap (λ (t : Bool). t || list_any (λ d. is_sound d.status) rest) is
+    by false true true rest same is = ap (λ (t : Bool). t || list_any (λ d. is_sound d.status) rest) is ∙ same
+    by true true false rest same is = same
+    by false true false rest same is = same
+    by true false b rest same is = same
+    by false false b rest same is = same
+
+pub live_there : (checked : List Checked) (some : List (Bor Checked)) (e p : ℕ) → map (λ one. one.now) some ≡ pointing_to checked e p →
+    list_any (λ (one : Bor Checked). is_sound one.now.status) some ≡ has_sound_at checked e p
+live_there checked some e p are =
+    sym (any_mapped (λ c. is_sound c.status) (λ (one : Bor Checked). one.now) some)
+    ∙ ap (list_any (λ c. is_sound c.status)) are
+    ∙ sound_there checked e p
+
+-- one more chunk stays, or doesn't
+pub stays_too : (checked : List Checked) (extents : List ℕ) (s : Standing) (b : Bool) (old new : List Standing) →
+    b ≡ is_at_risk checked extents s → b ≡ false → new ≡ old ++ s ∷ [] → new ≡ old ++ staying checked extents (s ∷ [])
+stays_too checked extents s b old new is safe grown =
+    grown ∙ ap (λ (t : Bool). old ++ cond (not t) (s ∷ []) []) (sym safe ∙ is)
+
+pub goes : (checked : List Checked) (extents : List ℕ) (s : Standing) (b : Bool) (old : List Standing) →
+    b ≡ is_at_risk checked extents s → b ≡ true → old ≡ old ++ staying checked extents (s ∷ [])
+goes checked extents s b old is risk =
+    sym (append-nil old) ∙ ap (λ (t : Bool). old ++ cond (not t) (s ∷ []) []) (sym risk ∙ is)
+
+pub staying_more : (checked : List Checked) (extents : List ℕ) (some : List Standing) (i : ℕ) (s : Standing) (old new : List Standing) →
+    i < length some → s ≡ get_or some i s → old ≡ staying checked extents (take i some) →
+    new ≡ old ++ staying checked extents (s ∷ []) → new ≡ staying checked extents (take (i + 1) some)
+staying_more checked extents some i s old new below is so_far grown =
+    let p : Standing → Bool = λ x. not (is_at_risk checked extents x) in
+    grown
+    ∙ ap (λ (ss : List Standing). ss ++ filter p (s ∷ [])) so_far
+    ∙ sym (filter-append p (take i some) (s ∷ []))
+    ∙ ap (filter p) (ap (λ (x : Standing). take i some ++ x ∷ []) is ∙ sym (take_more some i s below))
+
+-- the doubt of one locator
+pub none_taken : (owner : Owner) (some stay : List Standing) (old : List Doubt) → (length stay == 0) ≡ false →
+    old ≡ old ++ spare_doubt owner some stay
+none_taken owner [] stay old is = sym (append-nil old)
+none_taken owner (s ∷ ss) [] old is = absurd (false≢true (sym is))
+none_taken owner (s ∷ ss) (t ∷ ts) old is = sym (append-nil old)
+
+pub no_spare : (owner : Owner) (some stay : List Standing) (old : List Doubt) → slice_get some 0 ≡ None →
+    old ≡ old ++ spare_doubt owner some stay
+no_spare owner [] stay old is = sym (append-nil old)
+no_spare owner (s ∷ ss) stay old is = absurd (none-some s (sym is))
+
+pub first_doubted : {E : Type 0} (r : Result (Unit {0}) E) (owner : Owner) (some stay : List Standing) (first : Standing)
+    (old new : List Doubt) → (length stay == 0) ≡ true → slice_get some 0 ≡ Some first →
+    OnOk r (new ≡ old ++ spare_doubt owner (first ∷ []) []) → OnOk r (new ≡ old ++ spare_doubt owner some stay)
+first_doubted r owner [] stay first old new none is later = absurd (none-some first is)
+first_doubted r owner (s ∷ ss) (t ∷ ts) first old new none is later =
+    let e : length (t ∷ ts) ≡ 0 = eqb-true (length (t ∷ ts)) 0 none in absurd (omega (arith, e))
+first_doubted r owner (s ∷ ss) [] first old new none is later =
+    subst (λ (x : Standing). OnOk r (new ≡ old ++ spare_doubt owner (x ∷ []) [])) (sym (same_Some s first is)) later
+
+-- two filters, in either order
+swap : {X : Type 0} (p q : X → Bool) (xs : List X) → filter p (filter q xs) ≡ filter q (filter p xs)
+swap p q [] = refl
+swap {X} p q (x ∷ xs) = by (p x) (q x) refl refl (swap p q xs)
+  where
+    by : (a b : Bool) → p x ≡ a → q x ≡ b → filter p (filter q xs) ≡ filter q (filter p xs) →
+        filter p (filter q (x ∷ xs)) ≡ filter q (filter p (x ∷ xs))
+    by true true hp hq rest =
+        ap (filter p) (filter_in q x xs hq)
+        ∙ filter_in p x (filter q xs) hp
+        ∙ ap (λ (ys : List X). x ∷ ys) rest
+        ∙ sym (filter_in q x (filter p xs) hq)
+        ∙ ap (filter q) (sym (filter_in p x xs hp))
+    by true false hp hq rest =
+        ap (filter p) (filter_out q x xs hq) ∙ rest ∙ sym (filter_out q x (filter p xs) hq) ∙ ap (filter q) (sym (filter_in p x xs hp))
+    by false true hp hq rest =
+        ap (filter p) (filter_in q x xs hq) ∙ filter_out p x (filter q xs) hp ∙ rest ∙ ap (filter q) (sym (filter_out p x xs hp))
+    by false false hp hq rest = ap (filter p) (filter_out q x xs hq) ∙ rest ∙ ap (filter q) (sym (filter_out p x xs hp))
+
+-- all of them
+module _ (all : List Scanned) (checked : List Checked) (found : List Standing) (are : AreSpares all checked found)
+    (numbers sorted : List ℕ) (same : IsPermutation numbers sorted) (safe stay : List Standing)
+    (safe_is : safe ≡ staying checked sorted found) (alike : HaveTheSameCopies safe stay) where
+  among : (e : ℕ) → list_any (λ n. n == e) sorted ≡ list_any (λ n. n == e) numbers
+  among e = sym (list_any-IsPermutation (λ n. n == e) numbers sorted same)
+
+  in_order : staying checked sorted ≡ staying checked numbers
+  in_order = λ i ss. filter (λ s. not (not (has_sound_at checked s.extent s.offset) && among s.extent i)) ss
+
+  stay_of : (c : Checked) → spares_by stay c ≡ staying checked numbers (spares_by found c)
+  stay_of c = by (asks_for_spares c) refl
+    where
+      by : (b : Bool) → asks_for_spares c ≡ b →
+          (if asks_for_spares c then filter (is_copy_of c.locator) stay else []) ≡ staying checked numbers (if asks_for_spares c then filter (is_copy_of c.locator) found else [])
+      by true asks =
+          ap (λ (b : Bool). if b then filter (is_copy_of c.locator) stay else []) asks
+          ∙ alike c.locator
+          ∙ ap (filter (is_copy_of c.locator)) (safe_is ∙ ap (λ (f : List Standing → List Standing). f found) in_order)
+          ∙ swap (is_copy_of c.locator) (λ s. not (is_at_risk checked numbers s)) found
+          ∙ sym (ap (λ (b : Bool). staying checked numbers (if b then filter (is_copy_of c.locator) found else [])) asks)
+      by false none =
+          ap (λ (b : Bool). if b then filter (is_copy_of c.locator) stay else []) none
+          ∙ sym (ap (λ (b : Bool). staying checked numbers (if b then filter (is_copy_of c.locator) found else [])) none)
+
+  one_alike : (c : Checked) → Contains checked c → spare_doubts_by found stay c ≡ spare_doubts_of all checked numbers c
+  one_alike c there =
+      ap (spare_doubt c.owner (spares_by found c)) (stay_of c)
+      ∙ ap (λ (ss : List Standing). spare_doubt c.owner ss (staying checked numbers ss)) (are c there)
+
+  pub all_alike : flat_map (spare_doubts_by found stay) checked ≡ flat_map (spare_doubts_of all checked numbers) checked
+  all_alike =
+      flat_same (spare_doubts_by found stay) (spare_doubts_of all checked numbers) checked
+      (λ i d below. one_alike (get_or checked i d) (All-contains_itself checked i d below))

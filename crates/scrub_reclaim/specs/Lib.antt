@@ -1,0 +1,11 @@
+-- For public clauses.
+pub mod Doubts
+pub mod Reclaimable
+pub mod Reset
+pub mod Room
+pub mod Copy
+pub mod AllRight
+-- Steps of the code.
+pub mod Moves
+pub mod PageRanges
+pub mod RoomSteps

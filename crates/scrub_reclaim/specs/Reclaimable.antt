@@ -1,0 +1,155 @@
+-- The lines that say which extents can be reclaimed, and what must be moved first.
+use Rattle.std.specs.Prelude.{◌≡◌, ◌≢◌, ◌⊎◌, ◌++◌, ◌∷◌, ◌==◌, ◌&&◌, [], ℕ, Bool, true, List, All, Contains, codes, length, map, not, if◌then◌else◌}
+use Rattle.std.specs.Fmt.{decimal}
+use Rattle.std.specs.List.{filter, flat_map, list_all}
+use Rattle.scrub_disk.specs.Image.{Image}
+use Rattle.scrub_super.specs.declared.pages.SuperblockPage.{SuperblockPage}
+use Rattle.scrub_super.specs.Pages.{AreSuperblockPages}
+use Rattle.scrub_scan.specs.Line.{spaced}
+use Rattle.scrub_check.specs.declared.lists.kept_chunk.KeptChunk.{KeptChunk}
+use Rattle.scrub_check.specs.declared.statuses.checked.Checked.{Checked}
+use Rattle.scrub_check.specs.declared.statuses.status.Status.TheVariants.{Sound}
+use Rattle.scrub_scan.specs.declared.standing.Standing.{Standing}
+use Rattle.scrub_check.specs.Candidates.{CandidateValue}
+use Rattle.scrub_check.specs.Live.{has_sound_at}
+use Rattle.scrub_check.specs.Spares.{spares_of}
+use Rattle.scrub_report.specs.declared.parts.Parts.{Parts}
+use Rattle.scrub_report.specs.Report.{report_text}
+use Rattle.scrub_report.specs.Scrubbed.{Scrubbed, IsScrubbed}
+use Rattle.scrub_report.specs.Texts.{owner_text}
+use Rattle.scrub_listings.specs.Locators.{place_text}
+use Rattle.scrub_reclaim.specs.declared.doubts.Doubt.{Doubt}
+use Rattle.scrub_reclaim.specs.Doubts.{Accepted, are_accepted, doubt_text, doubts, is_accepted, is_spare}
+use Rattle.scrub_reclaim.specs.Room.{room_lines}
+
+-- ---- the lines of doubts
+
+-- the first word of a doubt's line: `accepted` if it was accepted, or else `doubt`
+abbrev pub doubt_word : Accepted → Doubt → List ℕ
+doubt_word accepted doubt = if is_accepted accepted doubt then codes "accepted" else codes "doubt"
+
+-- the line of a doubt: its first word, its kind and its numbers, and a line feed
+abbrev pub doubt_line : Accepted → Doubt → List ℕ
+doubt_line accepted doubt = doubt_word accepted doubt ++ spaced (doubt_text doubt) ++ 10 ∷ []
+
+-- the lines of some doubts, in their order
+abbrev pub doubt_lines : Accepted → List Doubt → List ℕ
+doubt_lines accepted list = flat_map (doubt_line accepted) list
+
+-- ---- the lines of extents to reclaim
+
+-- the named locator points to place p of extent e
+abbrev pub points_to : ℕ → ℕ → Checked → Bool
+points_to e p c = (c.locator.extent == e) && (c.locator.offset == p)
+
+-- the named locators that point to place p of extent e, in the order of named locators
+abbrev pub pointing_to : List Checked → ℕ → ℕ → List Checked
+pointing_to checked e p = filter (points_to e p) checked
+
+-- the named locators that point to the chunks that a candidate keeps, by rising chunk
+abbrev pub moves : List Checked → CandidateValue → List Checked
+moves checked a = flat_map (λ k. pointing_to checked a.extent k.start) a.keep
+
+-- the line of a move of a frame of so many bytes: `move EXTENT OFFSET LENGTH UUID OWNER BYTES` and a line feed
+abbrev pub move_line : ℕ → Checked → List ℕ
+move_line bytes c = codes "move" ++ spaced (place_text c.locator) ++ spaced (owner_text c.owner) ++ spaced (decimal bytes) ++ 10 ∷ []
+
+-- the lines of the named locators that point to a chunk to keep of extent e
+abbrev pub kept_lines : List Checked → ℕ → KeptChunk → List ℕ
+kept_lines checked e k = flat_map (move_line k.bytes) (pointing_to checked e k.start)
+
+-- the text of an extent to reclaim: `reclaim EXTENT FREE`
+abbrev pub freed_text : ℕ → ℕ → List ℕ
+freed_text extent free = codes "reclaim" ++ spaced (decimal extent) ++ spaced (decimal free)
+
+-- the line of a candidate: `reclaim EXTENT FREE` and a line feed
+abbrev pub reclaim_line : CandidateValue → List ℕ
+reclaim_line a = freed_text a.extent a.free ++ 10 ∷ []
+
+-- a candidate's line and those of its moves, by rising chunk
+abbrev pub candidate_lines : List Checked → CandidateValue → List ℕ
+candidate_lines checked a = reclaim_line a ++ flat_map (kept_lines checked a.extent) a.keep
+
+-- the lines of some candidates and their moves, in their order
+abbrev pub all_candidate_lines : List Checked → List CandidateValue → List ℕ
+all_candidate_lines checked candidates = flat_map (candidate_lines checked) candidates
+
+-- ---- the whole text
+
+-- each doubt was accepted
+abbrev pub is_clear : Accepted → List SuperblockPage → Scrubbed → Bool
+is_clear accepted pages found = are_accepted accepted (doubts pages found)
+
+-- the extents to reclaim: all candidates if each doubt was accepted, or else none
+abbrev pub reclaimed : Accepted → List SuperblockPage → Scrubbed → List CandidateValue
+reclaimed accepted pages found = if is_clear accepted pages found then found.candidates else []
+
+-- the lines of extents with room, if there are extents to reclaim, or else nothing
+abbrev pub rooms_for : List CandidateValue → Scrubbed → List ℕ
+rooms_for candidates found = if length candidates == 0 then [] else room_lines found.plan.geometry found.all found.checked candidates
+
+module _ {D : Type 0} {s : _} where
+  -- the lines of the extents with room by the parts that the code keeps, if it is clear
+  abbrev pub rooms_kept : Bool → Parts D s → List ℕ
+  rooms_kept clear p =
+      if length (if clear then p.liveness.candidates.items else []) == 0 then []
+      else room_lines p.plan.geometry p.all.extents p.checked.items (if clear then p.liveness.candidates.items else [])
+
+-- the lines of the doubts, then those of the extents to reclaim, and then those of extents with room
+abbrev pub reclaim_text : Accepted → List SuperblockPage → Scrubbed → List ℕ
+reclaim_text accepted pages found =
+    doubt_lines accepted (doubts pages found) ++ all_candidate_lines found.checked (reclaimed accepted pages found)
+    ++ rooms_for (reclaimed accepted pages found) found
+
+-- the text is the lines of the doubts, of the extents to reclaim and of those with room, of what is found in an image
+pub record AreReclaimLines (image : Image) (accepted : Accepted) (text : List ℕ) : Type 0 where
+  pub found : Scrubbed
+  pub scrubbed : IsScrubbed image found
+  pub pages : List SuperblockPage
+  pub held : AreSuperblockPages image pages
+  pub text_is : text ≡ reclaim_text accepted pages found
+
+-- the truth value says whether each doubt of an image was accepted, so that no line begins with `doubt`
+pub record IsClear (image : Image) (accepted : Accepted) (clear : Bool) : Type 0 where
+  pub found : Scrubbed
+  pub scrubbed : IsScrubbed image found
+  pub pages : List SuperblockPage
+  pub held : AreSuperblockPages image pages
+  pub verdict : clear ≡ is_clear accepted pages found
+
+-- ---- what follows
+
+-- the extents to reclaim are the candidates of a report of the same image, all of them in its order if it is clear, or
+-- else none; the lines of the extents with room follow
+pub record AreOfCandidates (image : Image) (accepted : Accepted) (report text : List ℕ) (clear : Bool) : Type 0 where
+  pub found : Scrubbed
+  pub scrubbed : IsScrubbed image found
+  pub pages : List SuperblockPage
+  pub held : AreSuperblockPages image pages
+  pub report_is : report ≡ report_text found
+  pub text_is :
+      text ≡ doubt_lines accepted (doubts pages found) ++ all_candidate_lines found.checked (if clear then found.candidates else []) ++ rooms_for (if clear then found.candidates else []) found
+
+-- a named locator is sound, points to a chunk that a candidate keeps, and has a line among its moves
+pub record IsMoved (checked : List Checked) (a : CandidateValue) (c : Checked) : Type 0 where
+  pub sound : c.status ≡ Sound
+  pub kept : Contains (map (λ k. k.start) a.keep) c.locator.offset
+  pub line : Contains (moves checked a) c
+
+-- each named locator into one of these extents is sound, points to a chunk to keep, and has a line among the moves
+abbrev pub AreMoved : List Checked → List CandidateValue → Type 0
+AreMoved checked candidates = All (λ a. All (λ c. c.locator.extent ≡ a.extent → IsMoved checked a c) checked) candidates
+
+-- no spare was accepted: no line begins with `accepted spare`
+abbrev pub AcceptsNoSpare : Accepted → List SuperblockPage → Scrubbed → Type 0
+AcceptsNoSpare accepted pages found = list_all (λ d. not (is_spare d && is_accepted accepted d)) (doubts pages found) ≡ true
+
+-- a named locator has a spare that is live or in none of these extents
+pub record HasSafeSpare (found : Scrubbed) (listed : List CandidateValue) (c : Checked) : Type 0 where
+  pub spare : Standing
+  pub among : Contains (spares_of found.all c) spare
+  pub stays : (has_sound_at found.checked spare.extent spare.offset ≡ true) ⊎ All (λ a. a.extent ≢ spare.extent) listed
+
+-- each named locator that has a spare has one that is live or in none of these extents
+abbrev pub KeepsSpares : Scrubbed → List CandidateValue → Type 0
+KeepsSpares found listed = All (λ c. spares_of found.all c ≢ [] → HasSafeSpare found listed c) found.checked

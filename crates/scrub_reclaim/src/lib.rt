@@ -1,0 +1,24 @@
+//! What can be reclaimed of a disk: what may have hidden something, which extents may be reset, what must be moved first, and
+//! where there is room for it, as lines; and the laws of a copy and of a reset.
+#![tactic(auto)]
+
+mod copying;
+mod doubting;
+mod doubts;
+mod moves;
+mod page_ranges;
+pub mod reclaiming;
+mod resetting;
+mod room;
+mod sound_disks;
+mod spare_doubts;
+
+pub use copying::a_copy_loses_nothing;
+pub use doubts::Accepted;
+pub use page_ranges::neighbouring_pages_are_joined;
+pub use reclaiming::{
+    ReclaimListing, a_line_shows_room, a_reset_loses_nothing, list_reclaimable, no_spare_is_taken,
+    one_reclaim_listing, reclaimed_are_candidates, reclaiming_is_safe,
+};
+pub use resetting::a_reset_is_foreseen;
+pub use sound_disks::a_sound_disk_is_all_right;

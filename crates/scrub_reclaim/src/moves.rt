@@ -1,0 +1,53 @@
+//! Finds the named locators that point to a chunk, by binary search.
+
+ghost use Rattle.std.specs.Prelude.{◌≡◌, IfOk, List, map};
+ghost use Rattle.scrub_check.specs.declared.statuses.checked.Checked.{Checked};
+ghost use Rattle.scrub_reclaim.specs.Moves.{AreRisingPlaces, PointAlike, place_named};
+ghost use Rattle.scrub_reclaim.specs.Reclaimable.{pointing_to};
+
+use scrub_check::Checked;
+use scrub_disk::OutOfMemory;
+use std::alloc::Global;
+
+/// The place that a named locator points to: its extent and offset.
+fn place_named(one: &Checked) -> (u32, u32)
+    ensures { result ≡ place_named one.now }
+{
+    (one.locator.extent, one.locator.offset)
+}
+
+/// References to named locators, in their order.
+fn references<'c>(alloc: Global, checked: &'c [Checked]) -> Result<Vec<&'c Checked>, OutOfMemory>
+    ensures { IfOk result (λ v. map (λ one. one.now) v.items ≡ checked.now) }
+{
+    checked.iter().collect(alloc)
+}
+
+/// Named locators by the place that they point to: by extent, then by offset. Those of one place keep their order.
+pub(crate) fn by_place<'c>(
+    alloc: Global,
+    checked: &'c [Checked],
+) -> Result<Vec<&'c Checked>, OutOfMemory>
+    ensures rising { IfOk result (λ v. AreRisingPlaces v.items) }
+    ensures same { IfOk result (λ v. PointAlike checked.now v.items) }
+{
+    let mut sorted = references(alloc, checked)?;
+    sorted.sort_by_key(|one| place_named(*one))?;
+    Ok(sorted)
+}
+
+/// The ones that point to a place, in their order.
+pub(crate) fn pointing_to<'v, 'c>(
+    sorted: &'v [&'c Checked],
+    extent: u32,
+    offset: u32,
+) -> &'v [&'c Checked]
+    requires { AreRisingPlaces sorted.now }
+    ensures { (checked : List Checked) → PointAlike checked sorted.now →
+        map (λ one. one.now) result.now ≡ pointing_to checked extent offset }
+{
+    let place = (extent, offset);
+    let below = sorted.partition_point(|one| place_named(*one).cmp(&place).is_lt());
+    let through = sorted.partition_point(|one| place_named(*one).cmp(&place).is_le());
+    &sorted[below..through]
+}

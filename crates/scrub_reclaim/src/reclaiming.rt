@@ -1,0 +1,307 @@
+//! What can be reclaimed of a disk, as lines: the doubts, and if all are accepted the extents, each with the chunks to move
+//! first.
+
+ghost use Rattle.std.specs.Prelude.{◌≡◌, ◌+◌, ◌++◌, ◌≤◌, ℕ, [], All, Bool, false, true, List, IfOk, OnOk, length, map, string_bytes, if◌then◌else◌};
+ghost use Rattle.std.specs.List.{flat_map};
+ghost use Rattle.scrub_disk.specs.Image.{Image};
+ghost use Rattle.scrub_super.specs.declared.pages.SuperblockPage.{SuperblockPage};
+ghost use Rattle.scrub_super.specs.Pages.{AreSuperblockPages};
+ghost use Rattle.scrub_check.specs.declared.statuses.checked.Checked.{Checked};
+ghost use Rattle.scrub_report.specs.Answer.{IsPartitionOfPlanned, IsCountOfPlanned};
+ghost use Rattle.scrub_report.specs.Index.{IsIndex};
+ghost use Rattle.scrub_report.specs.Parts.{IsScan};
+ghost use Rattle.scrub_report.specs.Report.{IsReport};
+ghost use Rattle.scrub_report.specs.Scrubbed.{Scrubbed, IsScrubbed};
+ghost use Rattle.scrub_listings.specs.Manifest.{IsManifest, IsManifestBut, IsWholeBut, IsWholeImage};
+ghost use Rattle.scrub_reclaim.specs.Doubts.{Accepted};
+ghost use Rattle.scrub_reclaim.specs.Moves.{AreRisingPlaces, PointAlike};
+ghost use Rattle.scrub_reclaim.specs.Reclaimable.{AcceptsNoSpare, KeepsSpares, AreMoved, AreOfCandidates, AreReclaimLines, IsClear, all_candidate_lines, candidate_lines, kept_lines, move_line, reclaim_line, reclaimed, rooms_kept};
+ghost use Rattle.scrub_reclaim.specs.Reset.{AreListedWithoutSpares, IsReclaimed, NameTheSame};
+ghost use Rattle.scrub_reclaim.specs.Room.{IsRoom, has_room, place_in};
+
+use crate::doubting::doubts_of;
+use crate::doubts::{Accepted, are_accepted, doubt_lines};
+use crate::moves::{by_place, pointing_to};
+use crate::room::append_rooms;
+use scrub_check::{Candidate, Checked, KeptChunk};
+use scrub_disk::{OutOfMemory, PageSource};
+use scrub_listings::listing::place_text;
+use scrub_pool::{Gate, Takings};
+use scrub_report::ScrubFault;
+use scrub_report::parts::Parts;
+use scrub_report::scanning::{Scan, scan_chosen};
+use scrub_report::scrubbing::parts_of;
+use scrub_report::texts::owner_text;
+use scrub_super::{SuperblockPage, choose_with_pages};
+use std::alloc::Global;
+use std::fmt;
+use std::sync::Wait;
+use std::thread::Threads;
+
+/// What can be reclaimed of a disk, as lines.
+#[derive(Drop)]
+pub struct ReclaimListing {
+    /// A line for each doubt, by kind. It begins with `accepted` if it was accepted, or else with `doubt`. If no line
+    /// begins with `doubt`, then `reclaim EXTENT FREE` for each candidate of the report, in its order, and after each of them
+    /// `move EXTENT OFFSET LENGTH UUID OWNER BYTES` for each named locator into it, by the chunk that it points to, whose
+    /// payload takes LENGTH and whose frame takes BYTES. If there is a candidate, then `room EXTENT OFFSET BYTES` for each other
+    /// extent that a chunk can be put into, with the place for it and the bytes from there to the end of the extent, and
+    /// `last-room EXTENT OFFSET BYTES` for each such candidate. The numbers are in decimal; free, offset, length and bytes are
+    /// in bytes. The UUID is as RFC 9562 writes it, in lower case.
+    pub text: Vec<u8>,
+    /// Whether no line begins with `doubt`.
+    pub is_clear: bool,
+}
+
+/// Appends the line of a named locator to a chunk that must be moved, and whose frame takes so many bytes.
+fn append_move(
+    alloc: Global,
+    text: &mut Vec<u8>,
+    one: &Checked,
+    bytes: u32,
+) -> Result<(), OutOfMemory>
+    ensures { OnOk result (text.new.items ≡ text.old.items ++ move_line bytes one.now) }
+{
+    let place = place_text(alloc, one.locator)?;
+    let owner = owner_text(alloc, one.owner)?;
+    let line = format!(in alloc; "move {place} {owner} {bytes}\n")?;
+    text.extend_from_slice(line.as_bytes())?;
+    Ok(())
+}
+
+/// Appends the lines of these named locators to a chunk, in their order.
+fn append_moves(
+    alloc: Global,
+    text: &mut Vec<u8>,
+    some: &[&Checked],
+    bytes: u32,
+) -> Result<(), OutOfMemory>
+    ensures { OnOk result (text.new.items ≡ text.old.items ++ flat_map (move_line bytes) (map (λ one. one.now) some.now)) }
+{
+    for one in some {
+        append_move(alloc, text, *one, bytes)?;
+    }
+    Ok(())
+}
+
+/// Appends the lines of the named locators to the chunks to keep of an extent, chunk by chunk.
+fn append_kept(
+    alloc: Global,
+    text: &mut Vec<u8>,
+    sorted: &[&Checked],
+    extent: u32,
+    keep: &[KeptChunk],
+) -> Result<(), OutOfMemory>
+    requires { AreRisingPlaces sorted.now }
+    ensures { (checked : List Checked) → PointAlike checked sorted.now →
+        OnOk result (text.new.items ≡ text.old.items ++ flat_map (kept_lines checked extent) keep.now) }
+{
+    for chunk in keep {
+        let some = pointing_to(sorted, extent, chunk.start);
+        append_moves(alloc, text, some, chunk.bytes)?;
+    }
+    Ok(())
+}
+
+/// An extent to reclaim and how many bytes that frees, as `reclaim EXTENT FREE`.
+#[derive(Drop)]
+struct FreedText {
+    extent: u32,
+    free: u32,
+}
+
+impl fmt::Display for FreedText {
+    ghost use Rattle.std.specs.Prelude.{Some};
+    ghost use Rattle.scrub_reclaim.specs.Reclaimable.{freed_text};
+
+    ghost output = { λ r. Some (freed_text r.extent r.free) };
+
+    fn fmt<W: fmt::Write>(&self, f: &mut fmt::Formatter<W>) -> fmt::Result {
+        let FreedText { extent, free } = self;
+        write!(f, "reclaim {extent} {free}")
+    }
+}
+
+/// A candidate's line, with its line feed.
+fn reclaim_line(alloc: Global, candidate: &Candidate) -> Result<String, OutOfMemory>
+    ensures { IfOk result (λ line. string_bytes line ≡ reclaim_line candidate.now) }
+{
+    let text = FreedText {
+        extent: candidate.extent(),
+        free: candidate.free(),
+    };
+    format!(in alloc; "{text}\n")
+}
+
+/// Appends a candidate's line and those of its moves.
+fn append_candidate(
+    alloc: Global,
+    text: &mut Vec<u8>,
+    sorted: &[&Checked],
+    candidate: &Candidate,
+) -> Result<(), OutOfMemory>
+    requires { AreRisingPlaces sorted.now }
+    ensures { (checked : List Checked) → PointAlike checked sorted.now →
+        OnOk result (text.new.items ≡ text.old.items ++ candidate_lines checked candidate.now) }
+{
+    let line = reclaim_line(alloc, candidate)?;
+    text.extend_from_slice(line.as_bytes())?;
+    append_kept(alloc, text, sorted, candidate.extent(), candidate.keep())
+}
+
+/// Appends the lines of candidates, in their order. The named locators are sorted once for all of them.
+fn append_candidates(
+    alloc: Global,
+    text: &mut Vec<u8>,
+    checked: &[Checked],
+    candidates: &[Candidate],
+) -> Result<(), OutOfMemory>
+    ensures { OnOk result (text.new.items ≡ text.old.items ++ all_candidate_lines checked.now candidates.now) }
+{
+    if candidates.is_empty() {
+        return Ok(());
+    }
+    let sorted = by_place(alloc, checked)?;
+    for candidate in candidates {
+        append_candidate(alloc, text, &sorted, candidate)?;
+    }
+    Ok(())
+}
+
+/// Appends the lines of the extents to reclaim: of all candidates if `is_clear`, or else of none.
+fn append_reclaimed(
+    alloc: Global,
+    text: &mut Vec<u8>,
+    is_clear: bool,
+    checked: &[Checked],
+    candidates: &[Candidate],
+) -> Result<(), OutOfMemory>
+    ensures { OnOk result (text.new.items ≡
+        text.old.items ++ all_candidate_lines checked.now (if is_clear then candidates.now else [])) }
+{
+    if !is_clear {
+        return Ok(());
+    }
+    append_candidates(alloc, text, checked, candidates)
+}
+
+/// Appends the lines of the extents with room, if `is_clear` and there is a candidate.
+fn append_rooms_for<D: PageSource>(
+    alloc: Global,
+    text: &mut Vec<u8>,
+    is_clear: bool,
+    parts: &Parts<'_, D>,
+) -> Result<(), OutOfMemory>
+    ensures { OnOk result (text.new.items ≡ text.old.items ++ rooms_kept is_clear parts.now) }
+{
+    if !is_clear || parts.liveness.candidates.is_empty() {
+        return Ok(());
+    }
+    let geometry = parts.plan.geometry();
+    let candidates = &parts.liveness.candidates;
+    append_rooms(
+        alloc,
+        text,
+        geometry,
+        &parts.all,
+        &parts.checked,
+        candidates,
+    )
+}
+
+/// What can be reclaimed of a scanned disk, whose extent 0 has these pages.
+fn listing_of<R: Threads + Sync, D: PageSource>(
+    rt: &R,
+    alloc: Global,
+    scan: Scan<'_, D>,
+    pages: &[SuperblockPage],
+    accepted: &Accepted<'_, '_>,
+) -> Result<ReclaimListing, OutOfMemory>
+    requires scan { IsScan (D.image scan.disk.now) scan.chosen scan.plan scan.all.extents }
+    requires pages { AreSuperblockPages (D.image scan.disk.now) pages.now }
+    ensures text { IfOk result (λ l. AreReclaimLines (D.image scan.entry.disk.now) accepted.now l.text.items) }
+    ensures clear { IfOk result (λ l. IsClear (D.image scan.entry.disk.now) accepted.now l.is_clear) }
+{
+    let parts = parts_of(rt, alloc, scan, &[])?;
+    let doubts = doubts_of(alloc, pages, &parts)?;
+    let is_clear = are_accepted(alloc, accepted, &doubts)?;
+    let mut text = doubt_lines(alloc, accepted, &doubts)?;
+    let candidates = &parts.liveness.candidates;
+    append_reclaimed(alloc, &mut text, is_clear, &parts.checked, candidates)?;
+    append_rooms_for(alloc, &mut text, is_clear, &parts)?;
+    Ok(ReclaimListing { text, is_clear })
+}
+
+/// Lists what can be reclaimed of a disk, and returns which extents the caller and each worker took. It scans as `scrub` does,
+/// with this many workers (0 to 64) beside the caller. The only fault is `OutOfMemory`, returned once every started worker has
+/// ended.
+pub fn list_reclaimable<D: PageSource, G: Gate, R: Threads + Wait + Sync>(
+    rt: &R,
+    alloc: Global,
+    disk: &D,
+    workers: u32,
+    gate: &G,
+    accepted: &Accepted<'_, '_>,
+) -> Result<(ReclaimListing, Takings), ScrubFault>
+    requires { workers ≤ 64 }
+    ensures text { IfOk result (λ r. AreReclaimLines (D.image disk.now) accepted.now r.0.text.items) }
+    ensures clear { IfOk result (λ r. IsClear (D.image disk.now) accepted.now r.0.is_clear) }
+    ensures workers { IfOk result (λ r. length r.1.lists ≡ workers + 1) }
+    ensures partition { IfOk result (λ r. IsPartitionOfPlanned (D.image disk.now) r.1.lists) }
+    ensures counted { IfOk result (λ r. IsCountOfPlanned (D.image disk.now) r.1.counted) }
+{
+    let (chosen, pages) = choose_with_pages(alloc, disk)?;
+    let (scan, takings) = scan_chosen(rt, alloc, disk, chosen, workers, gate)?;
+    let listing = listing_of(rt, alloc, scan, &pages, accepted)?;
+    Ok((listing, takings))
+}
+
+/// A law: what can be reclaimed of an image has one text of lines, and one verdict whether it is clear.
+pub fn one_reclaim_listing()
+    ensures text { (image : Image) (accepted : Accepted) (a b : List ℕ) →
+        AreReclaimLines image accepted a → AreReclaimLines image accepted b → a ≡ b }
+    ensures clear { (image : Image) (accepted : Accepted) (a b : Bool) → IsClear image accepted a → IsClear image accepted b → a ≡ b }
+{}
+
+/// A law: the extents to reclaim are the candidates of the report, in its order, if no line begins with `doubt`, or else there
+/// is none.
+pub fn reclaimed_are_candidates()
+    ensures { (image : Image) (accepted : Accepted) (report text : List ℕ) (clear : Bool) → IsReport image report →
+        AreReclaimLines image accepted text → IsClear image accepted clear → AreOfCandidates image accepted report text clear }
+{}
+
+/// A law: reclaiming these extents after the moves loses no named chunk. Each named locator into one of them is sound, points
+/// to a chunk to keep, and has a line among the moves.
+pub fn reclaiming_is_safe()
+    ensures { (image : Image) (accepted : Accepted) (pages : List SuperblockPage) (found : Scrubbed) → IsScrubbed image found →
+        AreMoved found.checked (reclaimed accepted pages found) }
+{}
+
+/// A law: where no line begins with `accepted spare`, each named locator that has a spare has one that is live or in an extent that isn't to
+/// be reclaimed. So the last copy of nothing is reset.
+pub fn no_spare_is_taken()
+    ensures { (accepted : Accepted) (pages : List SuperblockPage) (found : Scrubbed) →
+        AcceptsNoSpare accepted pages found → KeepsSpares found (reclaimed accepted pages found) }
+{}
+
+/// A law: a reset loses nothing that is named. Let extents be listed without a `move` line, and be reset. Then the same index
+/// runs are read, with the same bindings, and each named locator has the same status as before and, if that is sound, a chunk
+/// of the same form, whatever these extents hold now. So the image has the same index as before. If no line begins with
+/// `accepted spare` either, the image has the same manifest with these resets as without them, and the same exit status.
+pub fn a_reset_loses_nothing()
+    ensures named { (accepted : Accepted) (extents : List ℕ) (before after : Image) (found rest : Scrubbed) →
+        IsReclaimed accepted extents before after → IsScrubbed before found → IsScrubbed after rest → NameTheSame found rest }
+    ensures spares { (accepted : Accepted) (extents : List ℕ) (image : Image) (a b : List ℕ) →
+        AreListedWithoutSpares accepted extents image → IsManifestBut extents image a → IsManifest image b → a ≡ b }
+    ensures whole { (accepted : Accepted) (extents : List ℕ) (image : Image) (a b : Bool) →
+        AreListedWithoutSpares accepted extents image → IsWholeBut extents image a → IsWholeImage image b → a ≡ b }
+    ensures index { (accepted : Accepted) (extents : List ℕ) (before after : Image) (a b : List ℕ) →
+        IsReclaimed accepted extents before after → IsIndex before a → IsIndex after b → a ≡ b }
+{}
+
+/// A law: an extent that a chunk can be put into has room at the place of its line.
+pub fn a_line_shows_room()
+    ensures { (image : Image) (found : Scrubbed) → IsScrubbed image found →
+        All (λ f. has_room found.plan.geometry found.checked f ≡ true →
+        IsRoom image f.extent f.pointer (place_in found.plan.geometry f)) found.all }
+{}

@@ -1,6 +1,0 @@
--- What is found on an image is unique.
-use Rattle.scrub_report.proofs.OneReport.{one_manifest_lem}
-use Rattle.scrub_report.proofs.manifest.one_manifest.Goals as goal
-
-pub returns : goal.returns
-returns c = one_manifest_lem

@@ -1,8 +1,0 @@
--- The lines of the first locators.
-use Rattle.std.proofs.Common.{◌≡◌, ◌++◌, take}
-use Rattle.std.specs.List.{flat_map}
-use Rattle.scrub_report.specs.Reclaimable.{move_line}
-use Rattle.scrub_report.proofs.reclaiming.append_moves.Given as goal
-
-abbrev pub invariant-loop-one : goal.invariant-loop-one
-invariant-loop-one l = l.text.items ≡ l.fn.text.items ++ flat_map (λ one. move_line l.bytes one.now) (take l.one-index l.some)

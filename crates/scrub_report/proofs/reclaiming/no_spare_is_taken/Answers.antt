@@ -1,6 +1,0 @@
--- Such a chunk would make a doubt.
-use Rattle.scrub_report.proofs.SpareLaw.{spares_kept}
-use Rattle.scrub_report.proofs.reclaiming.no_spare_is_taken.Goals as goal
-
-pub returns : goal.returns
-returns c = spares_kept

@@ -1,7 +1,0 @@
--- The first lines.
-use Rattle.std.proofs.Common.{◌≡◌, take}
-use Rattle.scrub_report.specs.Sizes.{size_lines}
-use Rattle.scrub_report.proofs.sizes_listing.lines.lines_text.Given as goal
-
-abbrev pub invariant-loop-line : goal.invariant-loop-line
-invariant-loop-line l = l.text.items ≡ size_lines (take l.line-index l.lines)

@@ -1,8 +1,0 @@
--- Neither live nor outside the candidates.
-use Rattle.std.proofs.Common.{◌∙◌, ◌&&◌, Bool, not}
-use Rattle.std.proofs.Math.Path.{ap₂}
-use Rattle.scrub_report.proofs.spare_doubts.is_at_risk.Goals as goal
-
-pub returns : goal.returns
-returns c checked same =
-    c.is_risk.ensures ∙ ap₂ (λ (a b : Bool). not a && b) (c.is_live.ensures checked same) c.has_number.ensures

@@ -1,6 +1,0 @@
--- The numbers are those of the choice, the plan and the extents.
-use Rattle.std.proofs.Common.{arith}
-use Rattle.scrub_report.proofs.summary.append_reading.Goals as goal
-
-pub returns : goal.returns
-returns g c = rw (c.bad_pages.ensures, c.tally_all.ensures.sum, c.runs.ensures.runs) at c.append_numbers.ensures
