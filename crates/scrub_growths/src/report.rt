@@ -169,7 +169,14 @@ pub fn list_manifest<R: Threads + Wait + Sync>(
 {
     let (disk, _) = twins_and_shared(alloc)?;
     wanted.made()?;
-    let (listing, takings) = scrub_listings::list_manifest(rt, alloc, &disk, workers, &NoGate, &[1])?;
+    let (listing, takings) = scrub_listings::list_manifest(
+        rt,
+        alloc,
+        &disk,
+        workers,
+        &NoGate,
+        &[1],
+    )?;
     right(
         listing.text.as_slice() == MANIFEST.as_bytes()
             && !listing.is_whole

@@ -4,6 +4,7 @@ use Rattle.std.specs.List.{enumerate_from, filter_map}
 use Rattle.scrub_report.specs.declared.runs.RunRow.{RunRow}
 use Rattle.scrub_report.specs.Parts.{run_states}
 use Rattle.scrub_reclaim.specs.Doubts.{run_lost}
+
 -- the doubts of rows are those of their states
 pub rows_doubted : (n : ℕ) (rows : List RunRow) → filter_map (λ r. run_lost r.0 r.1.state) (enumerate_from n rows)
     ≡ filter_map (λ s. run_lost s.0 s.1) (enumerate_from n (run_states rows))
