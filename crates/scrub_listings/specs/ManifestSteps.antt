@@ -1,4 +1,5 @@
--- What the code appends after a locator's status, by the spares that it found.
+-- Steps of the manifest: what the code appends after a locator's status, by the spares that it found, and which locators runs
+-- that are read name, by the rows of the runs.
 use Rattle.std.specs.Prelude.{ℕ, Bool, false, List, is_some}
 use Rattle.std.specs.List.{slice_get}
 use Rattle.std.specs.Option.{option_map_or}
