@@ -19,8 +19,8 @@ import sys
 import tempfile
 from pathlib import Path
 
-import allocations
-from disks import Disk, frame, locator, run, shard, uuid
+from lib import allocations
+from lib.disks import Disk, frame, locator, run, shard, uuid
 from program import default
 
 # The bytes of a locator in memory, and a number of locators that no other list of the program has.

@@ -20,8 +20,8 @@ from concurrent.futures import ThreadPoolExecutor
 from pathlib import Path
 
 import program
-from disks import Disk, geometry, run, shard, uuid
-from reference import Image, reclaimable, records_of, scrub
+from lib.disks import Disk, geometry, run, shard, uuid
+from lib.reference import Image, reclaimable, records_of, scrub
 
 PROGRAM = str(Path(sys.argv[1] if len(sys.argv) > 1 else program.default()).resolve())
 EXTENTS = 5

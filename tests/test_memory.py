@@ -16,7 +16,7 @@ import tempfile
 from collections import Counter
 from pathlib import Path
 
-from allocations import made, refusing
+from lib.allocations import made, refusing
 from program import default
 
 SMALL = "--page 64 --pages 4 --extents 3 examples/one-shard.img"

@@ -34,10 +34,10 @@ import time
 from collections import Counter
 from pathlib import Path
 
-import picture
-from hold import Made, Tended
-from picture import OUTPUTS, Pictured, is_chunk, items_of, joined, kind_of
-from reference import ACCEPTABLE, Image
+from lib import picture
+from lib.made_up import Made, Tended
+from lib.picture import OUTPUTS, Pictured, is_chunk, items_of, joined, kind_of
+from lib.reference import ACCEPTABLE, Image
 
 TOP = Path(__file__).resolve().parent.parent
 PAGE = TOP / "view/report.html"

@@ -24,9 +24,9 @@ from decimal import ROUND_HALF_UP, Decimal
 from fractions import Fraction
 from pathlib import Path
 from typing import NamedTuple
-from disks import MAGIC, Disk, geometry, run, sealed_frame, shard, uuid
-from hold import Made, Tended
-from reference import Image, doubts_of, scrub_all
+from lib.disks import MAGIC, Disk, geometry, run, sealed_frame, shard, uuid
+from lib.made_up import Made, Tended
+from lib.reference import Image, doubts_of, scrub_all
 
 TOP = Path(__file__).resolve().parent.parent
 SUMMARY, CHANGES = TOP / "view/summary.jq", TOP / "view/changes.jq"

@@ -2,9 +2,9 @@
 import os
 import subprocess
 
-import reference
-from disks import geometry, record, run
-from reference import ACCEPTABLE, Image, choose, frame_at, read_run, status_of, tile, write_locator
+from lib import reference
+from lib.disks import geometry, record, run
+from lib.reference import ACCEPTABLE, Image, choose, frame_at, read_run, status_of, tile, write_locator
 
 
 class Drive:

@@ -28,7 +28,7 @@ from collections import Counter
 from concurrent.futures import ThreadPoolExecutor
 from pathlib import Path
 
-from allocations import TOP, made, refusing
+from lib.allocations import TOP, made, refusing
 
 RIGHT = (0, b"right\n", b"")
 OUT_OF_MEMORY = (4, b"out of memory\n", b"")

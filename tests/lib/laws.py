@@ -1,8 +1,8 @@
 """The laws of spares, copies, resets and manifests, held on pairs of images."""
-import reference
-from disks import frame, sealed_frame
-from drive import acceptable, all_accepted, chunks_of, doubts_in, lines_with, named_locators, require
-from reference import choose, frame_at
+from lib import reference
+from lib.disks import frame, sealed_frame
+from lib.drive import acceptable, all_accepted, chunks_of, doubts_in, lines_with, named_locators, require
+from lib.reference import choose, frame_at
 
 
 def hold_spares(engine, drive, seen):

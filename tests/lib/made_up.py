@@ -23,10 +23,10 @@ from collections import Counter
 from concurrent.futures import ProcessPoolExecutor
 from hashlib import sha256
 
-from disks import (DIGEST, LOCATOR, MAGIC, fields, frame, geometry, locator, record, record_head, run, sealed_frame,
+from lib.disks import (DIGEST, LOCATOR, MAGIC, fields, frame, geometry, locator, record, record_head, run, sealed_frame,
                    with_digest)
 from program import default
-from reference import (ACCEPTABLE, Image, MapFault, lost_by_map, manifest, read_map, reclaimable, refusal, report_text, scrub,
+from lib.reference import (ACCEPTABLE, Image, MapFault, lost_by_map, manifest, read_map, reclaimable, refusal, report_text, scrub,
                        sizes, summary, superblocks)
 
 DIFFERENCE = os.path.join(tempfile.gettempdir(), "hold-difference")

@@ -1,8 +1,8 @@
 """The mistakes that walk.py makes, one at a time, with the boxes that may stop each. A `!` means that bytes are lost by then, and
 `none` that no box stops it."""
-from disks import frame, record, sealed_frame
-from drive import Drive, Full, bindings_of, chunks_of, named_locators, place_of
-from reference import SEALED, choose, tile
+from lib.disks import frame, record, sealed_frame
+from lib.drive import Drive, Full, bindings_of, chunks_of, named_locators, place_of
+from lib.reference import SEALED, choose, tile
 
 
 class Mistake:

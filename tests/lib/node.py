@@ -1,8 +1,8 @@
 """A storage node at work, and drives on which it has worked."""
-import reference
-from disks import frame, sealed_frame
-from drive import Drive, Full, bindings_of, locator_of, place_of, put_record, record_pages, run_of
-from reference import SEALED, choose, frame_at, tile, write_locator
+from lib import reference
+from lib.disks import frame, sealed_frame
+from lib.drive import Drive, Full, bindings_of, locator_of, place_of, put_record, record_pages, run_of
+from lib.reference import SEALED, choose, frame_at, tile, write_locator
 
 
 class Node:

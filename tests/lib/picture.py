@@ -4,8 +4,8 @@ pictures: one for each way in which a picture could look better than its disk. b
 import functools
 from collections import Counter
 
-from disks import Disk, locator, run, sealed_frame, shard, uuid
-from reference import ACCEPTABLE, Image, reclaimable, scrub, superblocks
+from lib.disks import Disk, locator, run, sealed_frame, shard, uuid
+from lib.reference import ACCEPTABLE, Image, reclaimable, scrub, superblocks
 
 OUTPUTS = ("superblocks", "locators", "reclaimable")
 # The text colour of each verdict, as a browser computes it.

@@ -21,15 +21,15 @@ import random
 import sys
 import tempfile
 
-import reference
-from disks import frame, sealed_frame
-from drive import (Broken, Drive, Engine, Full, acceptable, all_accepted, bindings_of, doubts_in, held, is_held, lines_with,
+from lib import reference
+from lib.disks import frame, sealed_frame
+from lib.drive import (Broken, Drive, Engine, Full, acceptable, all_accepted, bindings_of, doubts_in, held, is_held, lines_with,
                    locator_of, named_locators, place_of, put_record, record_pages, require, run_of)
-from hold import Made, Tended
-from laws import hold_laws
-from mistakes import MISTAKES
-from node import DRIVES, UNEXPLAINED, Node, worn
-from reference import SEALED, choose, frame_at, write_locator
+from lib.made_up import Made, Tended
+from lib.laws import hold_laws
+from lib.mistakes import MISTAKES
+from lib.node import DRIVES, UNEXPLAINED, Node, worn
+from lib.reference import SEALED, choose, frame_at, write_locator
 
 
 class Stop(Exception):
