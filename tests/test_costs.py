@@ -1,27 +1,16 @@
-#!/usr/bin/env python3
-"""Checks what comments and documents claim about costs. It counts allocations and threads of the program; it measures no time.
+"""What comments and documents claim about costs. Allocations and threads are counted; no time is measured.
 
-usage: bench/costs.py [PROGRAM]    (default: the program of ./shardscrub)
-
-A library put before the C library counts the threads that a run starts, and its allocations of one given size. Three
-claims are checked:
 - Merging the runs copies no list of locators. Each list is allocated once, when its run is read.
 - One thread finds the twins, and another makes the index. So a scan without workers starts two threads if there is one run
   and no place to look at. A command that needs neither twins nor index starts none.
 - Several threads look at places. If there are many places, a run has at least as many threads as processors, including the
   main one. It is run on one processor, on two, and so on.
-
-Prints a line for each check that fails; the last line is 'N passed, M failed'. Exit status: 0 if all passed, 1 if one failed,
-2 if `cc` can't make the library.
 """
 import os
-import sys
-import tempfile
-from pathlib import Path
 
 from lib import allocations
+from lib.cases import RoomCase
 from lib.disks import Disk, frame, locator, run, shard, uuid
-from program import default
 
 # The bytes of a locator in memory, and a number of locators that no other list of the program has.
 LOCATOR_BYTES = 60
@@ -29,16 +18,7 @@ LOCATORS = 61
 # With more processors than these rayon makes no more pieces.
 MOST_PROCESSORS = 32
 PAGE, PAGES = 4096, 64
-counts = {True: 0, False: 0}
 
-
-def check(what, found, is_right, wanted):
-    counts[is_right] += 1
-    if not is_right:
-        print(f"FAILED: {what}: {found}, and not {wanted}", flush=True)
-
-
-# Disks
 
 def disk_of(room, name, texts, runs):
     """The arguments for a disk whose extents from 1 on begin with these bytes. Its superblock names these runs."""
@@ -47,7 +27,7 @@ def disk_of(room, name, texts, runs):
         disk.put(extent, 0, text)
         disk.pointers[extent - 1] = len(text)
     disk.superblock(0, 1, *runs)
-    path = Path(room, name)
+    path = room / name
     path.write_bytes(disk.bytes)
     return [*disk.geometry(), str(path)]
 
@@ -78,46 +58,56 @@ def chunks(room, name, count, is_hidden):
     return disk_of(room, name, [text, index_run], [at])
 
 
-# Checks
+class Costs(RoomCase):
+    @classmethod
+    def setUpClass(cls):
+        super().setUpClass()
+        cls.library = allocations.made(cls.room)
+        cls.sound = chunks(cls.room, "sound", 300, False)
+        cls.hidden = chunks(cls.room, "hidden", 300, True)
+        cls.processors = sorted(os.sched_getaffinity(0))[:MOST_PROCESSORS]
 
-def counts_of(program, library, words, wanted, **more):
-    """How many allocations of a run had the counted size, and how many threads it started. Both are None unless the run ends
-    with this status."""
-    (status, _, _), found = allocations.run(program, words, library, **more)
-    return (found.sized, found.threads) if status == wanted and found else (None, None)
+    def counts(self, words, wanted, **more):
+        """How many allocations of a run had the counted size, and how many threads it started. Both are None unless the run ends
+        with this status."""
+        (status, _, _), found = allocations.run(self.program, words, self.library, **more)
+        return (found.sized, found.threads) if status == wanted and found else (None, None)
 
+    def check_merging(self, shards):
+        words = ["scan", "--workers", "0", *two_runs(self.room, shards)]
+        lists, _ = self.counts(words, 1, counted=LOCATORS * LOCATOR_BYTES)
+        self.same("lists of locators", lists, 2 * shards)
 
-def merging(program, library, room):
-    for shards in (16, 40):
-        words = ["scan", "--workers", "0", *two_runs(room, shards)]
-        lists, _ = counts_of(program, library, words, 1, counted=LOCATORS * LOCATOR_BYTES)
-        check(f"lists of locators in two runs of {shards} shards", lists, lists == 2 * shards, 2 * shards)
+    def test_merging_16_shards(self):
+        self.check_merging(16)
 
+    def test_merging_40_shards(self):
+        self.check_merging(40)
 
-def threads(program, library, room):
-    sound, hidden = chunks(room, "sound", 300, False), chunks(room, "hidden", 300, True)
-    processors = sorted(os.sched_getaffinity(0))[:MOST_PROCESSORS]
-    for number in range(1, len(processors) + 1):
-        given = set(processors[:number])
-        for command, wanted in [("scan", 2), ("index", 2), ("locators", 0)]:
-            _, started = counts_of(program, library, [command, "--workers", "0", *sound], 0, processors=given)
-            check(f"threads of {command} on {number} processors, nothing to look at", started, started == wanted, wanted)
-        _, started = counts_of(program, library, ["locators", "--workers", "0", *hidden], 1, processors=given)
-        are_enough = started is not None and started + 1 >= number
-        check(f"threads of locators on {number} processors", started, are_enough, f"{number - 1} or more")
-    for command, extent in [("superblocks", []), ("items", ["--extent", "1"])]:
-        _, started = counts_of(program, library, [command, *sound[:-1], *extent, sound[-1]], 0)
-        check(f"threads of {command}", started, started == 0, 0)
+    def on_each_number_of_processors(self, words, status):
+        """How many threads a run started on one processor, on two, and so on."""
+        for number in range(1, len(self.processors) + 1):
+            yield number, self.counts(words, status, processors=set(self.processors[:number]))[1]
 
+    def check_nothing_to_look_at(self, command, wanted):
+        for number, started in self.on_each_number_of_processors([command, "--workers", "0", *self.sound], 0):
+            self.same(f"threads on {number} processors", started, wanted)
 
-def main():
-    program = str(Path(sys.argv[1] if len(sys.argv) > 1 else default()).resolve())
-    with tempfile.TemporaryDirectory() as room:
-        library = allocations.made(room)
-        merging(program, library, room)
-        threads(program, library, room)
-    print(f"{counts[True]} passed, {counts[False]} failed")
-    sys.exit(1 if counts[False] else 0)
+    def test_scan_with_nothing_to_look_at(self):
+        self.check_nothing_to_look_at("scan", 2)
 
+    def test_index_with_nothing_to_look_at(self):
+        self.check_nothing_to_look_at("index", 2)
 
-main()
+    def test_locators_with_nothing_to_look_at(self):
+        self.check_nothing_to_look_at("locators", 0)
+
+    def test_locators_with_many_places(self):
+        for number, started in self.on_each_number_of_processors(["locators", "--workers", "0", *self.hidden], 1):
+            self.true(f"threads on {number} processors", started is not None and started + 1 >= number, started)
+
+    def test_superblocks(self):
+        self.same("threads", self.counts(["superblocks", *self.sound], 0)[1], 0)
+
+    def test_items(self):
+        self.same("threads", self.counts(["items", *self.sound[:-1], "--extent", "1", self.sound[-1]], 0)[1], 0)

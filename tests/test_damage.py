@@ -1,29 +1,21 @@
-#!/usr/bin/env python3
-"""Damages the superblocks of two small disks, one bit or one page at a time, and checks what `shardscrub reclaimable` then
-names. `./check` runs it.
-
-usage: bench/damage.py [PROGRAM]    (default: the program of ./shardscrub)
+"""Damages the superblocks of two small disks, one bit or one page at a time, and compares what `reclaimable` then names.
 
 Each disk has two superblocks. The older one would give up an extent with the only chunk of a shard. On one disk both
 superblocks have the same write pointers, nothing is past them, and each record fits on a page. On the other disk each
 superblock has something past its pointers, and a record takes several pages. Each bit of each superblock is flipped in turn;
 then each page of extent 0 is unreadable in turn. `reclaimable` may name only candidates of the undamaged disk, and has to
-answer as reference.py does: with nothing accepted, and on the disk with tails also with `--accept tail`.
-
-Prints a line for each disk; the last line is 'N passed, M failed', which counts runs. Exit status: 0 if all passed, else 1.
+answer as lib/reference.py does: with nothing accepted, and on the disk with tails also with `--accept tail`.
 """
 import os
 import subprocess
-import sys
 import tempfile
 from concurrent.futures import ThreadPoolExecutor
-from pathlib import Path
 
-import program
+from lib.cases import Case
 from lib.disks import Disk, geometry, run, shard, uuid
+from lib.program import program
 from lib.reference import Image, reclaimable, records_of, scrub
 
-PROGRAM = str(Path(sys.argv[1] if len(sys.argv) > 1 else program.default()).resolve())
 EXTENTS = 5
 # The bytes per page and pages per extent of each disk. The older superblock is on page 0, the newer one in the middle.
 PLAIN, WITH_TAILS = (256, 4), (64, 8)
@@ -57,14 +49,14 @@ def changed(image, raw, unreadable=()):
 
 
 def harmed(image):
-    """Yields the disk with each bit of a superblock flipped, then with each page of extent 0 unreadable."""
+    """Yields the disk with each bit of a superblock flipped, then with each page of extent 0 unreadable; each with what was done."""
     for page, record in records_of(image).items():
         for bit in range(8 * record.length):
             flipped = bytearray(image.raw)
             flipped[image.page * page + bit // 8] ^= 1 << bit % 8
-            yield changed(image, bytes(flipped))
+            yield f"bit {bit} of the superblock on page {page}", changed(image, bytes(flipped))
     for page in range(image.pages):
-        yield changed(image, image.raw, [(0, page)])
+        yield f"page {page} unreadable", changed(image, image.raw, [(0, page)])
 
 
 def answer(image, accepted):
@@ -76,7 +68,7 @@ def answer(image, accepted):
         words += [word for kind in accepted for word in ("--accept", kind)] + [file.name]
         words += [f"{extent}:{page}" for extent, page in sorted(image.unreadable)]
         try:
-            done = subprocess.run([PROGRAM, "reclaimable", *words], stdin=subprocess.DEVNULL, capture_output=True, timeout=SECONDS)
+            done = subprocess.run([program(), "reclaimable", *words], stdin=subprocess.DEVNULL, capture_output=True, timeout=SECONDS)
         except subprocess.TimeoutExpired:
             return None
     return done.returncode, done.stdout.decode(), done.stderr.decode()
@@ -96,31 +88,24 @@ def candidates(image):
     return {candidate["extent"] for candidate in scrub(image)[0]["candidates"]}
 
 
-def is_safe(image, accepted, let_go):
-    """Whether the program names only extents that may be given up, and answers as the reference does."""
-    found = answer(image, accepted)
-    return found is not None and named(found[1]) <= let_go and found == right(image, accepted)
+class Damage(Case):
+    def check(self, image, accepted):
+        let_go = candidates(image)
+        middle = image.size // 2
+        alone = changed(image, image.raw[:middle] + bytes(middle) + image.raw[image.size:])
+        self.true("the newer superblock gives up an extent, and the older one alone another",
+                  let_go and candidates(alone) - let_go, (let_go, candidates(alone)))
+        self.same("the whole disk", answer(image, accepted), right(image, accepted))
+        with ThreadPoolExecutor(os.cpu_count()) as pool:
+            for what, disk, found in pool.map(lambda one: (*one, answer(one[1], accepted)), harmed(image)):
+                is_safe = found is not None and named(found[1]) <= let_go
+                self.true(what, is_safe and found == right(disk, accepted), found)
 
+    def test_a_disk_without_tails(self):
+        self.check(made(False), [])
 
-def check(what, image, accepted):
-    """Whether each run passed: first whether the disk tests anything, then the whole disk, then each damaged one."""
-    let_go = candidates(image)
-    middle = image.size // 2
-    alone = changed(image, image.raw[:middle] + bytes(middle) + image.raw[image.size:])
-    # The disk tests something if its newer superblock gives up an extent, and its older one alone another.
-    results = [bool(let_go) and bool(candidates(alone) - let_go), answer(image, accepted) == right(image, accepted)]
-    with ThreadPoolExecutor(os.cpu_count()) as pool:
-        results += pool.map(lambda disk: is_safe(disk, accepted, let_go), harmed(image))
-    print(f"{what}: {len(results)} runs, {results.count(False)} failed", flush=True)
-    return results
+    def test_a_disk_with_tails(self):
+        self.check(made(True), [])
 
-
-def main():
-    results = check("a disk without tails", made(False), [])
-    results += check("a disk with tails", made(True), [])
-    results += check("the same, and tails are accepted", made(True), ["tail"])
-    print(f"{results.count(True)} passed, {results.count(False)} failed")
-    sys.exit(results.count(False) > 0)
-
-
-main()
+    def test_a_disk_with_tails_that_are_accepted(self):
+        self.check(made(True), ["tail"])

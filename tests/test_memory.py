@@ -1,76 +1,102 @@
-#!/usr/bin/env python3
-"""Refuses each allocation of the program in turn, and checks the answers. `./check` runs it.
+"""Refuses each allocation of whole runs in turn, and each growth of single calls, and checks how they end.
 
-usage: bench/refuse.py [PROGRAM]    (default: the program of ./shardscrub)
+For each command line, the program runs with its first allocation refused, then with its second, and so on until a run meets no
+refusal. Then the same again, with all later allocations refused too. The run without a refusal has to give the right answer.
+Every other run has to end out of memory: with status 4, no output and the error message for it. If later allocations aren't
+refused, the whole right answer is right too, since some refused requests are repeated.
 
-For each command line below, the program runs with its first allocation refused, then with its second, and so on until a run
-meets no refusal. Then the same again, with all later allocations refused too. The run without a refusal has to give the right
-answer. Every other run has to end out of memory: with status 4, no output and the error message for it. If later allocations
-aren't refused, the whole right answer is right too, since some refused requests are repeated.
-
-The C library of `allocations.py` refuses. Prints a line for each command line and each of the two ways; the last line is
-'N passed, M failed'. Exit status: 0 if all passed, 1 if one failed, 2 if `cc` can't make the library.
+Single calls are those of the crate scrub_growths, if `rt` has built its program here. Each public function of a library that
+takes an allocator, or can answer out of memory, has to be a call there.
 """
-import sys
-import tempfile
-from collections import Counter
-from pathlib import Path
+import os
+import unittest
+from concurrent.futures import ThreadPoolExecutor
 
+from lib import growths
 from lib.allocations import made, refusing
-from program import default
+from lib.cases import RoomCase, add_tests
 
 SMALL = "--page 64 --pages 4 --extents 3 examples/one-shard.img"
 SEVERAL = "--page 64 --pages 16 --extents 5 examples/several-findings.img 3:1"
 RECLAIMED = "--page 64 --pages 8 --extents 5 examples/reclaimed-before.img"
 RESCUED = "--page 512 --pages 4 --extents 4 --map examples/rescued.map examples/rescued.img"
-COMMAND_LINES = [
-    "",
-    f"scan {SMALL}",
-    f"scan --workers 0 {SMALL}",
-    f"index --workers 2 {SMALL}",
-    f"scan {SEVERAL}",
-    f"scan --workers 2 {SEVERAL}",
-    f"index {SEVERAL}",
-    "items --page 64 --pages 4 --extents 3 --extent 1 examples/one-chunk.img",
-    f"locators {SEVERAL}",
-    f"locators --workers 2 {SEVERAL}",
-    f"superblocks {SEVERAL}",
-    f"reclaimable {SEVERAL}",
-    f"reclaimable --workers 2 --accept tail {RECLAIMED}",
-    "sizes examples/several-findings.img",
-    "sizes --map examples/rescued.map examples/rescued.img",
-    f"scan {RESCUED}",
-    f"locators --workers 0 {RESCUED}",
-    f"superblocks {RESCUED}",
-    f"reclaimable --workers 0 {RESCUED}",
-    f"items --extent 3 {RESCUED}",
-    "scan --help",
-    "scan --workers 65",
-]
+COMMAND_LINES = {
+    "no words": "",
+    "scan": f"scan {SMALL}",
+    "scan without workers": f"scan --workers 0 {SMALL}",
+    "index with 2 workers": f"index --workers 2 {SMALL}",
+    "scan of several findings": f"scan {SEVERAL}",
+    "scan of several findings with 2 workers": f"scan --workers 2 {SEVERAL}",
+    "index of several findings": f"index {SEVERAL}",
+    "items": "items --page 64 --pages 4 --extents 3 --extent 1 examples/one-chunk.img",
+    "locators": f"locators {SEVERAL}",
+    "locators with 2 workers": f"locators --workers 2 {SEVERAL}",
+    "superblocks": f"superblocks {SEVERAL}",
+    "reclaimable": f"reclaimable {SEVERAL}",
+    "reclaimable with tails accepted": f"reclaimable --workers 2 --accept tail {RECLAIMED}",
+    "sizes": "sizes examples/several-findings.img",
+    "sizes with a map": "sizes --map examples/rescued.map examples/rescued.img",
+    "scan with a map": f"scan {RESCUED}",
+    "locators with a map": f"locators --workers 0 {RESCUED}",
+    "superblocks with a map": f"superblocks {RESCUED}",
+    "reclaimable with a map": f"reclaimable --workers 0 {RESCUED}",
+    "items with a map": f"items --extent 3 {RESCUED}",
+    "help": "scan --help",
+    "refused words": "scan --workers 65",
+}
 OUT_OF_MEMORY = (4, b"", b"shardscrub: out of memory\n")
 
 
-def main():
-    program = Path(sys.argv[1] if len(sys.argv) > 1 else default()).resolve()
-    passed = failed = 0
-    with tempfile.TemporaryDirectory() as folder:
-        library = made(folder)
-        for words in COMMAND_LINES:
-            whole, _ = refusing(program, words, library, 0)
-            for all_later in [False, True]:
-                counts, refused = Counter(), 0
-                while True:
-                    refused += 1
-                    got, met = refusing(program, words, library, refused, all_later)
-                    if met < refused:
-                        break
-                    counts["refused" if got == OUT_OF_MEMORY else "whole" if got == whole else "wrong"] += 1
-                wrong = counts["wrong"] + (counts["whole"] if all_later else 0) + (got != whole)
-                passed, failed = passed + (wrong == 0), failed + (wrong > 0)
-                which = "it and all later ones" if all_later else "one"
-                print(f"'{words}', {which}: {dict(counts)} of {refused - 1} allocations", flush=True)
-    print(f"{passed} passed, {failed} failed")
-    sys.exit(1 if failed else 0)
+class LibraryCase(RoomCase):
+    """Tests with the C library that refuses."""
+
+    @classmethod
+    def setUpClass(cls):
+        super().setUpClass()
+        cls.library = made(cls.room)
 
 
-main()
+class Runs(LibraryCase):
+    def check(self, given):
+        words, all_later = given
+        whole, _ = refusing(self.program, words, self.library, 0)
+        refused = 0
+        while True:
+            refused += 1
+            got, met = refusing(self.program, words, self.library, refused, all_later)
+            if met < refused:
+                self.same("without a refusal", got, whole)
+                break
+            self.true(f"allocation {refused} refused", got == OUT_OF_MEMORY or got == whole and not all_later, got)
+        self.true("there are allocations", refused > 1)
+
+
+add_tests(Runs, Runs.check, [(f"{name}, {which}", (words, all_later)) for name, words in COMMAND_LINES.items()
+                             for which, all_later in (("one refused", False), ("all later ones refused", True))])
+
+
+class Growths(LibraryCase):
+    """Single calls."""
+
+    @classmethod
+    def setUpClass(cls):
+        if not growths.PROGRAM.is_file():
+            raise unittest.SkipTest("the program of crates/scrub_growths isn't built; rt ci builds it")
+        super().setUpClass()
+        cls.calls = growths.calls()
+
+    def check(self, tried, some):
+        with ThreadPoolExecutor(os.cpu_count()) as threads:
+            for call, (is_right, found) in zip(some, threads.map(lambda call: tried(self.library, call), some)):
+                self.true(call, is_right, found)
+
+    def test_each_public_function_that_takes_memory_is_a_call(self):
+        self.same("those that are none", list(growths.missing(self.calls)), [])
+
+    def test_each_growth_is_refused(self):
+        self.true("there are calls", self.calls)
+        self.check(growths.tried, self.calls)
+
+    def test_each_growth_of_the_workers_is_refused(self):
+        """By then the caller has scanned all extents, or loaded its part, and still the call has to run out of memory."""
+        self.check(growths.tried_by_workers, list(filter(growths.starts_workers, self.calls)))

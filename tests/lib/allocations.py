@@ -1,4 +1,4 @@
-"""Runs a program with a library that counts or refuses its allocations, for `refuse.py`, `growths.py` and `costs.py`.
+"""Runs a program with a library that counts or refuses its allocations.
 
 `cc` makes the library, which is put before the C library. It refuses one allocation, by its number from 1 on, or that one and
 all later ones; or those of all threads except the first one, each after a tenth of a second. It counts the allocations of one
@@ -6,11 +6,11 @@ size, and the threads that are started.
 """
 import os
 import subprocess
-import sys
 from pathlib import Path
 from typing import NamedTuple
 
-TOP = Path(__file__).resolve().parent.parent
+from lib.program import TOP, need
+
 SECONDS = 60
 LIBRARY = r"""
 #define _GNU_SOURCE
@@ -86,11 +86,11 @@ void _exit(int status) {
 
 
 def made(folder):
-    """Makes the library in this folder, and returns its path. If `cc` can't make it, the script ends with status 2."""
+    """Makes the library in this folder, and returns its path. Without a C compiler the test is skipped."""
+    need("cc")
     source, library = Path(folder, "allocations.c"), Path(folder, "allocations.so")
-    source.write_text(LIBRARY)
-    if subprocess.run(["cc", "-shared", "-fPIC", "-O1", "-o", library, source, "-ldl", "-pthread"]).returncode != 0:
-        sys.exit(2)
+    source.write_text(LIBRARY, encoding="utf-8")
+    subprocess.run(["cc", "-shared", "-fPIC", "-O1", "-o", library, source, "-ldl", "-pthread"], check=True)
     return library
 
 
