@@ -8,6 +8,8 @@ from functools import cache
 from pathlib import Path
 
 TOP = Path(__file__).resolve().parent.parent.parent
+# The program that ./build and `rt ci` make.
+BUILT = TOP / "crates/scrub_cli/out/scrub_cli"
 # The name of the variable that names the program to run.
 NAMED = "SHARDSCRUB_PROGRAM"
 # The status if there is no program of these sources, as ./shardscrub ends if the build fails.
@@ -25,6 +27,18 @@ def program():
         print("shardscrub: there is no program of these sources; ./build builds it", file=sys.stderr)
         sys.exit(NO_PROGRAM)
     return Path(found.stdout.strip())
+
+
+def choose_program(parser, named):
+    """The program that an argument names, or else that of these sources. From here on `program` gives it, also in processes that
+    this one starts."""
+    if named is not None:
+        path = Path(named).resolve()
+        if not (path.is_file() and os.access(path, os.X_OK)):
+            parser.error(f"there is no such program: {named}")
+        os.environ[NAMED] = str(path)
+    os.environ[NAMED] = str(program())
+    return program()
 
 
 def need(tool):
