@@ -80,7 +80,7 @@ def lines_with(text, word):
     return [line.split() for line in text.splitlines() if line.startswith(word + " ")]
 
 
-class Broken(Exception):
+class Broken(AssertionError):
     """A law doesn't hold, or a box isn't as it should be."""
 
 

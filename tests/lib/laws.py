@@ -1,7 +1,10 @@
 """The laws of spares, copies, resets and manifests, held on pairs of images."""
+import random
+
 from lib import reference
 from lib.disks import frame, sealed_frame
-from lib.drive import acceptable, all_accepted, chunks_of, doubts_in, lines_with, named_locators, require
+from lib.drive import Broken, Drive, acceptable, all_accepted, chunks_of, doubts_in, lines_with, named_locators, require
+from lib.made_up import Made, Tended
 from lib.reference import choose, frame_at
 
 
@@ -193,3 +196,15 @@ def hold_laws(engine, drive, choice, seen):
     hold_manifest(engine, drive, seen)
     hold_copies(engine, drive, choice, seen)
     hold_resets(engine, drive, choice, seen)
+
+
+def hold_laws_on(engine, seed, seen):
+    """Holds the laws on a made-up disk."""
+    choice = random.Random(seed)
+    made = (Tended if choice.random() < .8 else Made)(choice)
+    unreadable = made.make()
+    drive = Drive(made.p, made.n, made.e, made.raw, unreadable, made.payloads.values() if isinstance(made, Tended) else ())
+    try:
+        hold_laws(engine, drive, choice, seen)
+    except Broken as why:
+        raise Broken(f"made-up disk {seed}: {why}") from why

@@ -1,4 +1,4 @@
-"""The mistakes that walk.py makes, one at a time, with the boxes that may stop each. A `!` means that bytes are lost by then, and
+"""The mistakes that lib/walk.py makes, one at a time, with the boxes that may stop each. A `!` means that bytes are lost by then, and
 `none` that no box stops it."""
 from lib.disks import frame, record, sealed_frame
 from lib.drive import Drive, Full, bindings_of, chunks_of, named_locators, place_of

@@ -1,33 +1,15 @@
-#!/usr/bin/env python3
-"""Walks the checklist of docs/RECLAIMING.md on made-up disks. The script plays the node and the person: it copies chunks, writes
-runs and superblocks, and does what each box says with what the commands print. Then it makes each of many mistakes, one at a
-time, and looks which box stops it. It also holds the laws of spares, copies, resets and manifests on pairs of images.
-
-usage: bench/walk.py [--program PROGRAM] [--disks N] [--laws N] [--tries N] [--seed N] [--table]
-
-  --program   the program that prints the answers; without it bench/reference.py does
-  --disks     how many disks are walked (default 200)
-  --laws      how many disks the laws are held on (default 400)
-  --tries     on how many disks each mistake is made (default 4)
-  --table     prints a row for each mistake: which box stops it, how often, and how often bytes were lost by then
-
-Ends with 'N passed, M failed'. Exit status: 0 if all passed, else 1.
+"""Walks the checklist of docs/RECLAIMING.md on a made-up disk. The code plays the node and the person: it copies chunks, writes runs
+and superblocks, and does what each box says with what the commands print. A mistake may be made on the way; then a box should
+stop the walk.
 """
-import argparse
 import collections
 import functools
-import os
 import random
-import sys
-import tempfile
 
 from lib import reference
 from lib.disks import frame, sealed_frame
-from lib.drive import (Broken, Drive, Engine, Full, acceptable, all_accepted, bindings_of, doubts_in, held, is_held, lines_with,
-                   locator_of, named_locators, place_of, put_record, record_pages, require, run_of)
-from lib.made_up import Made, Tended
-from lib.laws import hold_laws
-from lib.mistakes import MISTAKES
+from lib.drive import (Engine, Full, acceptable, all_accepted, bindings_of, doubts_in, held, is_held, lines_with, locator_of,
+                       named_locators, place_of, put_record, record_pages, require, run_of)
 from lib.node import DRIVES, UNEXPLAINED, Node, worn
 from lib.reference import SEALED, choose, frame_at, write_locator
 
@@ -493,8 +475,6 @@ def trials(engine, one, seed, tries, without=()):
     return found
 
 
-# All of it
-
 def words_of(outcome):
     """What a mistake may be expected to lead to: the box that stops it, or `none`; with `!` where bytes are lost by then."""
     box, is_lost = outcome
@@ -502,68 +482,12 @@ def words_of(outcome):
 
 
 def row(name, found):
+    """A line with the outcomes of a mistake, and how often each came."""
     return name + ": " + (", ".join(f"{words} {count}x" for words, count in sorted((words_of(o), n) for o, n in found.items())) or "never made")
 
 
-class Counts:
-    def __init__(self):
-        self.passed = self.failed = 0
-        self.seen = collections.Counter()
-
-    def hold(self, what, *given):
-        """Counts a check, and prints why it failed."""
-        try:
-            what(*given)
-            self.passed += 1
-        except Broken as why:
-            self.failed += 1
-            print("FAILED:", str(why)[:2000])
-
-
-def hold_laws_on(engine, seed, seen):
-    """The laws on a made-up disk of hold.py."""
-    choice = random.Random(seed)
-    made = (Tended if choice.random() < .8 else Made)(choice)
-    unreadable = made.make()
-    drive = Drive(made.p, made.n, made.e, made.raw, unreadable, made.payloads.values() if isinstance(made, Tended) else ())
-    try:
-        hold_laws(engine, drive, choice, seen)
-    except Broken as why:
-        raise Broken(f"made-up disk {seed}: {why}") from why
-
-
-def make_mistake(engine, one, seed, tries, table):
-    found = trials(engine, one, seed, tries)
-    if table:
-        print(row(one.name, found))
-        if any(box in (4, 5) for box, _ in found):
-            print(row("    without looking at the place and without cmp", trials(engine, one, seed, tries, ("look", "cmp"))))
+def judge_mistake(one, found):
+    """Each outcome of a mistake has to be an expected one."""
     require(found, f"{one.name}: never made")
     for outcome in found:
         require(words_of(outcome) in one.boxes.split(), f"{row(one.name, found)}; expected {one.boxes}")
-
-
-def main():
-    parser = argparse.ArgumentParser(usage="%(prog)s [--program PROGRAM] [--disks N] [--laws N] [--tries N] [--seed N] [--table]")
-    parser.add_argument("--program")
-    for name, value in (("--disks", 200), ("--laws", 400), ("--tries", 4), ("--seed", 1)):
-        parser.add_argument(name, type=int, default=value)
-    parser.add_argument("--table", action="store_true")
-    a = parser.parse_args()
-    counts = Counts()
-    with tempfile.TemporaryDirectory() as room:
-        engine = Engine(a.program and os.path.abspath(a.program), room)
-        for turn in range(a.laws):
-            counts.hold(hold_laws_on, engine, a.seed * 1_000_003 + turn, counts.seen)
-        for turn in range(a.disks):
-            counts.hold(walk_honestly, engine, a.seed * 1_000_003 + turn, counts.seen)
-        for one in MISTAKES if a.tries else []:
-            counts.hold(make_mistake, engine, one, a.seed, a.tries, a.table)
-    print(f"{a.laws} disks for the laws, {a.disks} walked, {len(MISTAKES)} kinds of mistakes, {engine.calls} calls:",
-          dict(sorted(counts.seen.items())))
-    print(f"{counts.passed} passed, {counts.failed} failed")
-    return 0 if counts.failed == 0 else 1
-
-
-if __name__ == "__main__":
-    sys.exit(main())
