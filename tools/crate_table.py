@@ -1,20 +1,12 @@
 #!/usr/bin/env python3
-"""Counts the lines, functions, tests and edits of each crate, and writes the table of docs/GATE.md.
-
-usage: bench/gate.py [--print]      at the top of the repository
-
-With --print it prints the rows and writes nothing.
-"""
-import pathlib
+"""Makes the table of docs/GATE.md that counts the lines, functions, tests and edits of each crate."""
 import re
 import sys
 
-PAGE = pathlib.Path("docs/GATE.md")
+from pages import run_tool
+from specs import CRATES, TOP
 
-
-def crates():
-    lines = (line.split("#")[0] for line in pathlib.Path("crates.txt").read_text().splitlines())
-    return [line.split(":")[0].split()[0] for line in lines if ":" in line]
+PAGE = TOP / "docs/GATE.md"
 
 
 def texts(folder, end):
@@ -30,12 +22,15 @@ def split(path, text, modules):
 
 
 def row(crate):
-    folder = pathlib.Path("crates", crate)
+    folder = TOP / "crates" / crate
     files = texts(folder / "src", ".rt")
     modules = {name for text in files.values() for name in re.findall(r"^#\[cfg\(test\)\]\n(?:pub )?mod (\w+);", text, flags=re.M)}
     parts = [split(path.relative_to(folder), text, modules) for path, text in files.items()]
     code, tests = ("".join(part[i] for part in parts) for i in (0, 1))
-    lines = lambda text: text.count("\n")
+
+    def lines(text):
+        return text.count("\n")
+
     counts = [
         lines(code) + lines(tests),
         lines(tests),
@@ -48,19 +43,15 @@ def row(crate):
     return [f"`{crate}`", *map(str, counts)]
 
 
-def main(words):
-    page = PAGE.read_text().splitlines()
-    table = [*map(row, crates())]
+def made():
+    page = PAGE.read_text(encoding="utf-8").splitlines()
+    table = [row(crate) for crate in CRATES]
     table.append(["all", *(str(sum(map(int, cells))) for cells in list(zip(*table))[1:])])
     rows = ["| " + " | ".join(cells) + " |" for cells in table]
-    if "--print" in words:
-        print("\n".join(rows))
-        return 0
     first = next(i for i, line in enumerate(page) if line.startswith("| Crate |")) + 2
     last = next((i for i in range(first, len(page)) if not page[i].startswith("|")), len(page))
-    PAGE.write_text("\n".join(page[:first] + rows + page[last:]) + "\n")
-    return 0
+    return {PAGE: "\n".join(page[:first] + rows + page[last:]) + "\n"}, []
 
 
 if __name__ == "__main__":
-    sys.exit(main(sys.argv[1:]))
+    sys.exit(run_tool("tools/crate_table.py", __doc__, made))

@@ -1,15 +1,14 @@
 #!/usr/bin/env python3
-"""Makes the images of this folder, with the layouts of docs/FORMAT.md, and two maps of GNU ddrescue.
-
-usage: examples/images.py [FOLDER]      (default: this folder)
-
-It knows only the layout of bytes. README.md has what the program prints for each image.
-"""
+"""Makes the images of examples/, with the layouts of docs/FORMAT.md, and two maps of GNU ddrescue. It knows only the layout of bytes;
+examples/README.md has what the program prints for each image."""
 import sys
 from pathlib import Path
-sys.path.insert(0, str(Path(__file__).resolve().parent.parent / "bench"))
-from disks import MAGIC, Disk, frame, locator, run, sealed_frame, shard, uuid
 
+sys.path.insert(0, str(Path(__file__).resolve().parent.parent / "tests"))
+from lib.disks import MAGIC, Disk, frame, locator, run, sealed_frame, shard, uuid
+from pages import TOP, run_tool
+
+FOLDER = TOP / "examples"
 PAGE = 64
 
 
@@ -323,19 +322,12 @@ IMAGES = (one_chunk, one_shard, no_superblock, tie, collision, closed_collision,
 MAPS = (failing_map, rescued_map)
 
 
-def main(arguments):
-    if len(arguments) > 1:
-        print("usage: examples/images.py [FOLDER]", file=sys.stderr)
-        return 2
-    folder = Path(arguments[0]) if arguments else Path(__file__).resolve().parent
-    for image in IMAGES:
-        name = image.__name__.replace("_", "-") + ".img"
-        (folder / name).write_bytes(image().bytes)
-    for made in MAPS:
-        name = made.__name__.replace("_", ".")
-        (folder / name).write_text(made(), encoding="ascii")
-    return 0
+def made():
+    files = {FOLDER / f"{image.__name__.replace('_', '-')}.img": bytes(image().bytes) for image in IMAGES}
+    files |= {FOLDER / make.__name__.replace("_", "."): make() for make in MAPS}
+    others = [path for path in FOLDER.iterdir() if path.suffix in (".img", ".map") and path not in files]
+    return files, [f"{path.relative_to(TOP)} isn't made by tools/images.py" for path in others]
 
 
 if __name__ == "__main__":
-    sys.exit(main(sys.argv[1:]))
+    sys.exit(run_tool("tools/images.py", __doc__, made))

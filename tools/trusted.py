@@ -1,33 +1,23 @@
 #!/usr/bin/env python3
-"""Writes the two pages that are made from the spec files. docs/TRUSTED.md lists the spec files on which the contract of the
-whole scrub rests, in reading order, and what three more contracts add: those of the two listings and of the whole program.
-docs/DEFINITIONS.md lists each public definition, with the comment above it as its sentence.
+"""Makes docs/TRUSTED.md, which lists the spec files on which the contract of the whole scrub rests, in reading order, and what three
+more contracts add: those of the two listings and of the whole program.
 
-usage: bench/trusted.py             writes both pages
-       bench/trusted.py --check     reports whether both pages are as they would be written
+The page begins at the words of the contract of `scrub` in crates/scrub_report. This tool follows each word to its definition, by the
+imports of its file, and goes on with the words of that definition. If a definition names a type of the code, it follows the part of
+the type that contracts see. The page lists the reached definitions by files, and then the other definitions of these files. Names
+from outside this repository are listed by modules, and not followed. The other contracts are read in the same way; the page lists
+only what each adds to those before it.
 
-TRUSTED begins at the words of the contract of `scrub` in crates/scrub_report. This script follows each word to its definition,
-by the imports of its file, and goes on with the words of that definition. If a definition names a type of the code, it follows
-the part of the type that contracts see. The page lists the reached definitions by files, and then the other definitions of
-these files. Names from outside this repository are listed by modules, and not followed. The other contracts are read in the
-same way; the page lists only what each adds to those before it.
-
-DEFINITIONS keeps its head, up to the line MADE; this script writes the rest. Files come in the order of each crate's Lib.antt.
-Each definition needs a comment of one sentence directly above it.
-
-This script only reads text. The prover checks that each name means what its import says. A word that a definition binds is
-followed too, if the file has or imports that name. So the page may list too much, but never too little.
-
-With --check the last line is 'N passed, M failed': one for each row of a spec file in TRUSTED, one for each spec file in
-DEFINITIONS, and one for each page. Exit status: 0 if nothing failed, else 1.
+A word that a definition binds is followed too, if the file has or imports that name. So the page may list too much, but never too
+little.
 """
 import re
 import sys
-from pathlib import Path
 
-TOP = Path(__file__).resolve().parent.parent
+from pages import run_tool
+from specs import CRATES, TOP, USE, WORD, Imports, Spec, linked, named, resolved, short, without_comments, words_of
+
 PAGE = TOP / "docs/TRUSTED.md"
-DEFINITIONS = TOP / "docs/DEFINITIONS.md"
 # The function whose contract is the headline: its crate, its file, and its name. Then the others, each with what it is.
 HEADLINE = ("scrub_report", "answer", "scrub")
 OTHERS = [
@@ -35,112 +25,7 @@ OTHERS = [
     (("scrub_report", "reclaiming", "list_reclaimable"), "it makes the answer of `reclaimable`"),
     (("scrub_cli", "main", "run_process"), "the program, from the arguments of its process to both streams and the status"),
 ]
-
-# The line that ends the head of DEFINITIONS. The head is kept.
-MADE = "<!-- From here on bench/trusted.py made this page. -->"
-# Public standards: the words by which a comment names one, and what it is for.
-STANDARDS = [
-    ("FIPS 180-4", "SHA-256, each digest"),
-    ("RFC 9562", "UUIDs as text"),
-    ("RFC 8259", "JSON"),
-    ("GNU ddrescue", "map files of a rescue"),
-    ("integer constants of C", "numbers in map files"),
-    ("`st_mode` on Linux", "kinds of files"),
-]
-
-WORD = r"[^\W\d][\w?!'-]*"
-USE = re.compile(r"^\s*(?:ghost |pub )*use ([\w.]+)\.\{([^}]*)\}", re.M)
 RUST_USE = re.compile(r"^\s*use ([\w:]+)::(?:\{([^}]*)\}|(\w+));", re.M)
-
-
-def crates():
-    lines = (line.split("#")[0] for line in (TOP / "crates.txt").read_text(encoding="utf-8").splitlines())
-    return [line.split(":")[0].split()[0] for line in lines if ":" in line]
-
-
-CRATES = crates()
-
-
-def without_comments(text, mark):
-    return re.sub(rf"(?m)(^|\s){mark}.*$", r"\1", text)
-
-
-class Imports:
-    """The imported names of a text, each with its module and its name in that module."""
-
-    def __init__(self, text):
-        self.names = {}
-        for module, names in USE.findall(text):
-            for name in filter(None, (name.strip() for name in names.split(","))):
-                there, _, here = name.partition(" as ")
-                self.names[(here or there).strip()] = (module, there.strip())
-
-
-def words_of(text):
-    """The words of a text that are names of its own scope. Fields after a dot or in a record aren't."""
-    text = re.sub(r'"[^"]*"', "", text)
-    text = re.sub(rf"\.(?:{WORD}|\d+)", "", text)
-    return re.findall(WORD, re.sub(rf"(?<=[{{;(])\s*{WORD} =(?!=)", "", text))
-
-
-class Spec:
-    """A file of definitions: its imports, its definitions by name, in the order of the file, and its first sentence."""
-
-    def __init__(self, path):
-        self.path = path
-        text = path.read_text(encoding="utf-8")
-        self.lines = text.count("\n")
-        head = re.match(r"(?:--.*\n)+", text)
-        self.head = " ".join(line[2:].strip() for line in head.group().splitlines()) if head else ""
-        self.sentence = re.split(r"(?<=\.) ", self.head)[0]
-        self.text = text
-        code = without_comments(text, "--")
-        self.imports = Imports(code)
-        code = USE.sub("", code)
-        self.definitions = {}
-        name = None
-        for line in code.splitlines():
-            begun = re.match(rf"(?:  )?(?:abbrev |unfoldable )?(?:pub )?(?:abbrev |record |data )?({WORD}) (?:[(:{{]|=)", line)
-            at_top = begun and (not line.startswith("  ") or re.match(r"  (?:abbrev|pub record|record)\b", line))
-            if re.match(r"(?:module|pub mod|pub use)\b", line):
-                name = None
-            elif at_top or (re.match(rf"{WORD} ", line) and line.split()[0] in self.definitions):
-                name = begun.group(1) if at_top else line.split()[0]
-                self.definitions.setdefault(name, "")
-            elif re.match(rf"  {WORD} ", line) and line.split()[0] in self.definitions and " = " in line and not line.startswith("   "):
-                name = line.split()[0]
-            if name:
-                self.definitions[name] += line + "\n"
-
-    def comments(self):
-        """For each definition the comment above it, on one line, and whether it is public; in the order of the file."""
-        lines = self.text.splitlines()
-        found = {}
-        for name, text in self.definitions.items():
-            place = lines.index(text.splitlines()[0])
-            begin = place
-            while begin > 0 and re.match(r" *--(?!--)", lines[begin - 1]):
-                begin -= 1
-            comment = " ".join(line.strip()[2:].strip() for line in lines[begin:place])
-            found[name] = (comment, re.match(r" *(?:abbrev |unfoldable )?pub ", lines[place]) is not None)
-        return found
-
-    def reached(self, name):
-        """The names in the definition: those of this file, and the imported ones by module and name in that module."""
-        return resolved(self.definitions[name], self.imports, self.definitions)
-
-
-def resolved(text, imports, own):
-    """The names in a text: those of its own file, and the imported ones."""
-    words = dict.fromkeys(words_of(text))
-    here = [word for word in words if word in own]
-    there = [imports.names[word] for word in words if word in imports.names and word not in own]
-    for name, place in imports.names.items():
-        parts = [part for part in name.split("◌") if part]
-        signs = all(part in words if re.match(WORD, part) else f" {part} " in text for part in parts)
-        if ("◌" in name or not re.match(WORD, name)) and parts and signs:
-            there.append(place)
-    return here, there
 
 
 def braces(text, start):
@@ -310,18 +195,6 @@ def read_all():
     return [read(headline) for headline in [HEADLINE, *(other for other, _ in OTHERS)]]
 
 
-def short(path):
-    return str(path.relative_to(TOP / "crates"))
-
-
-def named(names):
-    return ", ".join(f"`{name}`" for name in names)
-
-
-def linked(path):
-    return f"[`{short(path)}`](../crates/{short(path)})"
-
-
 def needed(reader, path):
     """The definitions of a file that a contract rests on, in the order of the file."""
     return [name for name in reader.specs[path].definitions if name in reader.definitions[path]]
@@ -372,8 +245,8 @@ def page_of(readers):
             "words. The theorem means what its definitions mean. Read the definitions and the types of the code in them, trust the "
             "toolchain, and you know exactly what is promised. You don't need to read a function's body, a proof or any other "
             f"definition. There are {count} definitions in {len(files)} files of {lines} lines.", ""]
-    out += ["`bench/trusted.py` makes this page: it follows the words of that contract to their definitions, and the words of these to "
-            "theirs. `./check` tests that the page is up to date. [DEFINITIONS.md](DEFINITIONS.md) has a sentence for each definition. "
+    out += ["`tools/trusted.py` makes this page: it follows the words of that contract to their definitions, and the words of these to "
+            "theirs. `tests/run documents` tests that the page is up to date. [DEFINITIONS.md](DEFINITIONS.md) has a sentence for each definition. "
             "Further down are three more contracts, with what they add: `list_locators`, `list_reclaimable`, and the whole program.", ""]
     out += ["## The files, in reading order", "",
             "Each file comes after those that it rests on. *Needed*: how many of the file's definitions the theorem needs, out of how many.", "",
@@ -411,142 +284,10 @@ def page_of(readers):
     return "\n".join(out) + "\n"
 
 
-def sections_of(crate, faults):
-    """The spec files of a crate in the order of its Lib.antt: pairs of a comment and the files below it."""
-    folder = TOP / "crates" / crate / "specs"
-    sections = []
-    lib = folder / "Lib.antt"
-    for line in lib.read_text(encoding="utf-8").splitlines() if lib.is_file() else []:
-        if line.startswith("-- "):
-            sections.append((line[3:], []))
-        elif line.startswith("pub mod "):
-            sections[-1][1].append(Spec(folder / f"{line.split()[2]}.antt"))
-    listed = {spec.path for _, specs in sections for spec in specs}
-    faults += [f"crates/{short(path)} isn't listed in its Lib.antt" for path in sorted(folder.glob("*.antt")) if path not in listed | {lib}]
-    return [(comment, specs) for comment, specs in sections if specs]
-
-
-def one_sentence(comment):
-    return comment != "" and not re.search(r"[.!?] +[A-Z`]", comment)
-
-
-def block_of(spec, faults):
-    """The lines about a file: its name, its first sentence, and a line for each public definition."""
-    if not spec.head:
-        faults.append(f"crates/{short(spec.path)} doesn't begin with a comment")
-    out = [f"### [`{spec.path.stem}`](../crates/{short(spec.path)})", "", spec.sentence, ""]
-    for name, (comment, is_public) in spec.comments().items():
-        if not one_sentence(comment):
-            faults.append(f"crates/{short(spec.path)}: {name} has no comment of one sentence above it")
-        if is_public:
-            out.append(f"- `{name}`: {comment.removesuffix('.')}")
-    return out + [""]
-
-
-def standards_of(specs):
-    """The table of public standards, each with the files whose comments name it."""
-    out = ["## Public standards", "", "The comments in these files refer to them.", "",
-           "| Standard | What for | Files |", "|---|---|---|"]
-    for words, what in STANDARDS:
-        files = [spec for spec in specs if words in " ".join([spec.head, *(comment for comment, _ in spec.comments().values())])]
-        out.append(f"| {words} | {what} | {', '.join(linked(spec.path) for spec in files)} |")
-    return out + [""]
-
-
-def definitions_page():
-    """The written part of DEFINITIONS: its lines, the block of each file, and the faults of the comments."""
-    faults, blocks, crates_out, specs = [], [], [], []
-    for crate in CRATES:
-        sections = sections_of(crate, faults)
-        if not sections:
-            continue
-        crates_out += [f"## `{crate}`", ""]
-        for comment, files in sections:
-            crates_out += [f"*{comment.removesuffix('.')}.*", ""]
-            for spec in files:
-                blocks.append((spec, block_of(spec, faults)))
-                crates_out += blocks[-1][1]
-                specs.append(spec)
-    count = sum(is_public for spec in specs for _, is_public in spec.comments().values())
-    counted = [MADE, "", f"These are {count} definitions in {len(specs)} files.", ""]
-    return counted + standards_of(specs) + crates_out, blocks, faults
-
-
-def head_of_definitions():
-    """The text before the line MADE, which is written by hand, and whether the line is there."""
-    text = DEFINITIONS.read_text(encoding="utf-8")
-    head, made, _ = text.partition(MADE)
-    return head, made != ""
-
-
-def check_definitions(faults):
-    """Compares DEFINITIONS with the comments. Returns how many files and pages are right, and how many aren't."""
-    lines, blocks, found = definitions_page()
-    head, has_line = head_of_definitions()
-    faults += found if has_line else [*found, f"docs/DEFINITIONS.md hasn't the line {MADE}"]
-    there = DEFINITIONS.read_text(encoding="utf-8")
-    rows = set(there.splitlines())
-    wanted = {row for _, block in blocks for row in block}
-    passed = failed = 0
-    for spec, block in blocks:
-        missing = [row for row in block if row not in rows]
-        passed, failed = passed + (not missing), failed + bool(missing)
-        for row in missing:
-            print(f"FAILED: docs/DEFINITIONS.md hasn't the line {row}")
-    for row in there.partition(MADE)[2].splitlines():
-        if re.match(r"- `[^`]+`: ", row) and row not in wanted:
-            print(f"FAILED: docs/DEFINITIONS.md has a line that no comment gives: {row}")
-    same = there == head + "\n".join(lines).rstrip("\n") + "\n"
-    if not same:
-        print("FAILED: docs/DEFINITIONS.md isn't as bench/trusted.py writes it")
-    return passed + same, failed + (not same)
-
-
-def check_trusted(page):
-    passed, failed = 0, 0
-    there = PAGE.read_text(encoding="utf-8") if PAGE.is_file() else ""
-    rows = set(there.splitlines())
-    for row in page.splitlines():
-        if re.match(r"\| (?:\d+ \| )?\[`\w+/specs/", row):
-            passed, failed = passed + (row in rows), failed + (row not in rows)
-            if row not in rows:
-                print(f"FAILED: docs/TRUSTED.md hasn't the line {row}")
-    if there != page:
-        print("FAILED: docs/TRUSTED.md isn't as bench/trusted.py writes it")
-    return passed + (there == page), failed + (there != page)
-
-
-def write(page, faults):
-    PAGE.write_text(page, encoding="utf-8")
-    lines, _, found = definitions_page()
-    faults += found
-    head, has_line = head_of_definitions()
-    if has_line:
-        DEFINITIONS.write_text(head + "\n".join(lines).rstrip("\n") + "\n", encoding="utf-8")
-    else:
-        faults.append(f"docs/DEFINITIONS.md hasn't the line {MADE}, so it wasn't written")
-
-
-def main(words):
-    if words not in ([], ["--check"]):
-        print(__doc__, file=sys.stderr)
-        return 2
+def made():
     readers = read_all()
-    page = page_of(readers)
-    faults = list(dict.fromkeys(fault for reader in readers for fault in reader.faults))
-    if not words:
-        write(page, faults)
-        for fault in faults:
-            print(fault, file=sys.stderr)
-        return int(faults != [])
-    passed, failed = check_trusted(page)
-    more_passed, more_failed = check_definitions(faults)
-    for fault in faults:
-        print(f"FAILED: {fault}")
-    passed, failed = passed + more_passed, failed + more_failed + len(faults)
-    print(f"{passed} passed, {failed} failed")
-    return int(failed != 0)
+    return {PAGE: page_of(readers)}, list(dict.fromkeys(fault for reader in readers for fault in reader.faults))
 
 
 if __name__ == "__main__":
-    sys.exit(main(sys.argv[1:]))
+    sys.exit(run_tool("tools/trusted.py", __doc__, made))
