@@ -15,7 +15,7 @@ import re
 import sys
 
 from pages import run_tool
-from specs import CRATES, TOP, USE, WORD, Imports, Spec, linked, named, resolved, short, without_comments, words_of
+from specs import CRATES, TOP, USE, Imports, Spec, linked, named, resolved, short, without_comments, words_of
 
 PAGE = TOP / "docs/TRUSTED.md"
 # The function whose contract is the headline: its crate, its file, and its name. Then the others, each with what it is.
