@@ -1,10 +1,4 @@
-#!/usr/bin/env python3
-"""Measures `shardscrub scan` on disks that are made to cost much, each compared with a clean extent of the same size, and
-`shardscrub sizes` on such files. The gate doesn't run this.
-
-usage: bench/hostile.py [--turns COUNT] [--sizes] [PROGRAM]      (default: 3, the program of ./shardscrub)
-
-With --sizes only the files for `sizes` are measured.
+"""Makes disks and files that are made to cost much.
 
 The first disks have an extent of 64 MiB in pages of 1,024 bytes. Smaller pages can't make an extent of that size, so it has the
 most pages. Each of its 65,536 pages begins with a head that claims a chunk up to the write pointer. A scanner that hashed each
@@ -32,22 +26,14 @@ forged records   the most bytes to hash. The head of a record is wherever one ma
                  the heads after it. A record reaches to the next head and 1,952 bytes more: 196,573 records and 415 MiB.
 forged pointers  heads at the same places. Each claims as many extents as its place allows, by powers of two. The first wrong
                  pointer is the next head. If the pointers end before it, the record has to be hashed.
-
-The scans have no workers, and images of one size run in turn. A table shows the least time and the most memory of each. The
-bytes to hash are the payloads of whole chunks, of those that an index run names, and of those that a sealed head claims. Exit
-status: 0 if all answers are right, 1 if one is wrong, 2 if nothing can be measured.
 """
-import argparse
-import os
-import sys
-import tempfile
-from pathlib import Path
+from collections.abc import Callable
+from typing import NamedTuple
 
-from disks import (CLOSING_MARK, DIGEST, HEAD, KIB, MIB, ROUND_PAYLOAD, ROUND_SEALED, SEALED_MAGIC, DiskFile, fields, frame, head,
-                   locator, make_image, record, record_head)
-from measure import apart, can_measure, is_right, measured, print_heads, print_row, taken
-from program import default
-from scan import LEAST_LARGE, MOST_LARGE
+from lib.disks import (CLOSING_MARK, DIGEST, HEAD, KIB, MIB, ROUND_PAYLOAD, ROUND_SEALED, SEALED_MAGIC, DiskFile, fields, frame, head,
+                       locator, record, record_head)
+
+from kinds import LEAST_LARGE, MOST_LARGE
 
 MOST_LOCATORS = 64
 MOST_PAGES = 1 << 16
@@ -174,103 +160,49 @@ def one_record(file):
     return len(text) - DIGEST
 
 
-# The files for `sizes`, each with the right status and output.
-FILES = (
-    ("one record", one_record, (0, b"0 SSB2 1 1024 65536 2\n")),
-    ("forged records", forged_records, (1, b"")),
-    ("forged pointers", forged_pointers, (1, b"")),
-)
+class HostileDisk(NamedTuple):
+    """Makes a disk: the function that does, and what it is given."""
+    kind: Callable
+    given: tuple
+
+    def __call__(self, file, _):
+        return self.kind(file, *self.given)
 
 
-def make_file(path, kind):
-    """Makes a file of 64 MiB of this kind, and returns how many of its bytes have to be hashed."""
-    with open(path, "w+b") as file:
+class FileForSizes(NamedTuple):
+    """Makes a file for `sizes`: the function that writes its records, and the right status and output."""
+    write: Callable
+    status: int
+    text: str
+
+    def __call__(self, file, _):
         file.truncate(FIRST)
-        hashed = kind(file)
+        hashed = self.write(file)
         file.truncate(FIRST)
-    return hashed
-
-
-def compare_sizes(program, room, turns):
-    """Prints the rows of the files for `sizes`, and returns whether all answers are right."""
-    print_heads("File of 64 MiB", "To be hashed, MiB", "`sizes`, s", "Processors, s", "`sha256sum` of as many, s", "Peak, MiB")
-    for name, kind, right in FILES:
-        path, answer = f"{room}/file", f"{room}/answer"
-        hashed = apart(make_file, path, kind)
-        runs, hashes = [], []
-        for _ in range(turns):
-            runs.append(measured([program, "sizes", path], answer))
-            if (runs[-1].status, Path(answer).read_bytes()) != right:
-                print(f"{name}: wrong answer, status {runs[-1].status}")
-                return False
-            hashes.append(measured(["sha256sum", path], answer))
-        seconds, processor, memory = taken(runs)
-        print_row(name, f"{hashed / MIB:.1f}", f"{seconds:.2f}", f"{processor:.2f}", f"{taken(hashes)[0] * hashed / FIRST:.2f}",
-                  memory // MIB)
-        os.remove(path)
-    return True
+        return {"sizes": [], "unreadable": [], "hashed": hashed, "bytes": FIRST, "right": {"status": self.status, "text": self.text}}
 
 
 # For each page size and number of pages, the disks that are compared with a clean extent of that size.
-GROUPS = (
+SIZES = (
     (KIB, PAGES, {
         "no far end": (plain_heads, NO_HEAD, []),
         "one far end": (plain_heads, ALL_HEADS, []),
         "a page before it lost": (plain_heads, ALL_HEADS, [PAGES - 2]),
         "two pages lost": (plain_heads, ALL_HEADS, [PAGES // 2, PAGES - 2]),
     }),
-    (4 * KIB, 512, {"sealed heads": (sealed_heads,)}),
-    (4 * KIB, 1024, {"sealed heads": (sealed_heads,)}),
+    (4 * KIB, 512, {"sealed heads in 2 MiB": (sealed_heads,)}),
+    (4 * KIB, 1024, {"sealed heads in 4 MiB": (sealed_heads,)}),
     (4 * KIB, 2048, {
         "one place, named 6,400 times": (hidden_places, 1, 6400),
         "200 places, each named 32 times": (hidden_places, 200, 32),
     }),
 )
-
-
-def compare(program, room, page, pages, hostile, turns):
-    """Prints the rows of one size, and returns whether all answers are right."""
-    images = {}
-    for name, (kind, *given) in {"clean": (clean,), **hostile}.items():
-        path = f"{room}/{name}"
-        images[name] = path, apart(make_image, path, kind, page, pages, *given)
-    runs, items = {name: [] for name in images}, {}
-    for turn in range(turns):
-        for name, (path, made) in images.items():
-            words = [program, "scan", "--workers", "0", *made["sizes"], path, *made["unreadable"]]
-            runs[name].append(measured(words, f"{room}/answer"))
-            if turn == 0:
-                items[name] = is_right(name, made, f"{room}/answer", runs[name][0].status)
-            if items[name] is None or runs[name][-1].status != made["right"]["status"]:
-                print(f"{name}: wrong answer, status {runs[name][-1].status}")
-                return False
-    for name, (path, made) in images.items():
-        seconds, processor, memory = taken(runs[name])
-        print_row(name, f"{page * pages / MIB:g}", pages, items[name], made["hashed"] // MIB, f"{seconds:.2f}",
-                  f"{processor:.2f}", f"{seconds / taken(runs['clean'])[0]:.2f}", memory // MIB)
-        os.remove(path)
-    return True
-
-
-def main(words):
-    parser = argparse.ArgumentParser(description="Measures `shardscrub` on disks and files that are made to cost much.")
-    parser.add_argument("--turns", type=int, default=3, help="how often each is run")
-    parser.add_argument("--sizes", action="store_true", help="measure only `sizes`")
-    parser.add_argument("program", nargs="?", type=Path)
-    given = parser.parse_args(words)
-    if given.turns < 1:
-        parser.error("--turns is at least 1")
-    program = (given.program or default()).resolve()
-    if not can_measure([program], ["sha256sum"]):
-        return 2
-    with tempfile.TemporaryDirectory(prefix="shardscrub-bench-") as room:
-        right = [compare_sizes(str(program), room, given.turns)]
-        if not given.sizes:
-            print_heads("Image", "Extent, MiB", "Pages", "Items", "To be hashed, MiB", "Scan, s", "Processors, s",
-                        "Of the clean one's", "Peak, MiB")
-            right += [compare(str(program), room, *group, given.turns) for group in GROUPS]
-    return 0 if all(right) else 1
-
-
-if __name__ == "__main__":
-    sys.exit(main(sys.argv[1:]))
+# Groups of disks by name, each with the clean one first.
+GROUPS = [{f"clean, {page * pages // MIB} MiB": HostileDisk(clean, (page, pages)),
+           **{name: HostileDisk(kind, (page, pages, *given)) for name, (kind, *given) in disks.items()}}
+          for page, pages, disks in SIZES]
+FILES = {
+    "one record": FileForSizes(one_record, 0, "0 SSB2 1 1024 65536 2\n"),
+    "forged records": FileForSizes(forged_records, 1, ""),
+    "forged pointers": FileForSizes(forged_pointers, 1, ""),
+}

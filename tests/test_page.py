@@ -333,7 +333,7 @@ class Misfits(PageCase):
 
     def check_disk(self, name):
         """Opens all outputs with a line left out, given twice, or with a changed word. None of these may fit or look sound."""
-        disk = picture.looked_at(name)
+        disk = looked_at(name)
         self.open(disk.report, {})
         for output, text in disk.outputs.items():
             lines = text.splitlines()
@@ -346,7 +346,7 @@ class Misfits(PageCase):
         self.check_misfits_of_spares_and_rooms(name, disk.outputs)
 
     def test_outputs_of_another_disk(self):
-        disk = picture.looked_at("in-order")
+        disk = looked_at("in-order")
         shown = self.open(disk.report, disk.outputs | {"superblocks": "record 0 SSB1 40 counts\n"})
         self.check("a superblock of another generation: no verdict is sound", shown["verdict"]["is"] == "doubt"
                    and "superblocks doesn't fit" in self.browser.text("fault"), shown)

@@ -1,0 +1,132 @@
+"""Makes disks to measure: large ones, many small chunks, damage, zeros, and two extents for `items`. MIB is the size of a disk."""
+import os
+
+from lib.disks import KIB, MIB, ROUND_PAYLOAD, DiskFile, head
+
+LEAST_LARGE, MOST_LARGE = 64 * KIB, MIB
+SMALL_PAYLOAD = 100
+MOST_RUNS = 32
+ENTRY = 17 + 60  # bytes that a shard of one chunk takes in a run
+# The bytes per page, pages per extent and extents of the disks for `items`, and the bytes of a frame there.
+ITEMS_DISK, FRAME = (4096, 16384, 2), 65536
+
+
+def named(file, mib, extent_mib, runs, least, most, shard=8, half_sealed=False):
+    """A clean disk full of chunks. Each chunk is named once."""
+    disk = DiskFile(file, 4 * KIB, extent_mib * MIB // (4 * KIB), mib // extent_mib)
+    locators = disk.fill(disk.extents - 1 - runs, least, most, half_sealed)
+    listed, shards = disk.put_runs(locators, runs, shard)
+    disk.put_superblock(listed)
+    return disk.made(shards=shards)
+
+
+def large(file, mib, extent_mib=4, runs=4):
+    return named(file, mib, extent_mib, runs, LEAST_LARGE, MOST_LARGE)
+
+
+def half_sealed(file, mib):
+    return named(file, mib, 4, 4, LEAST_LARGE, MOST_LARGE, half_sealed=True)
+
+
+def middle(file, mib):
+    return named(file, mib, 4, mib // 64, 500, 4000)
+
+
+def small(file, mib):
+    extents = mib // 8
+    each = 8 * MIB // (SMALL_PAYLOAD + ROUND_PAYLOAD) * ENTRY
+    runs = next(runs for runs in range(1, extents) if (extents - 1 - runs) * each <= runs * (8 * MIB - KIB))
+    assert runs <= MOST_RUNS
+    return named(file, mib, 8, runs, SMALL_PAYLOAD, SMALL_PAYLOAD, shard=1)
+
+
+def small_quarter(file, mib):
+    return small(file, mib // 4)
+
+
+def small_extents(file, _):
+    disk = DiskFile(file, 64, 4, 1 << 16)
+    disk.fill(disk.extents - 1, 3, 30)
+    return disk.made(status=1, clean=False, orphans=disk.chunks, live=0)
+
+
+def damage(file, mib):
+    disk = DiskFile(file, 64 * KIB, 64, mib // 4)
+    unreadable = [divmod(page, disk.pages) for page in range(49, disk.pages * disk.extents, 50)]
+    whole, hashed = 0, 0
+    for extent in range(1, disk.extents):
+        disk.next_extent()
+        while pages := (disk.extent_bytes - disk.offset) // disk.page:
+            size = min(pages, disk.chance.randint(1, MOST_LARGE // disk.page)) * disk.page
+            begun = disk.offset
+            disk.put(disk.chance.randbytes(size - ROUND_PAYLOAD))
+            spoilt = disk.chunks % 10 == 0
+            if spoilt:
+                disk.file.seek(extent * disk.extent_bytes + disk.offset - 1)
+                last = disk.file.read(1)[0]
+                disk.file.seek(-1, os.SEEK_CUR)
+                disk.file.write(bytes([last ^ 1]))
+            touched = any(e == extent and begun <= page * disk.page < disk.offset for e, page in unreadable)
+            if not (spoilt or touched):
+                whole += 1
+                hashed += size - ROUND_PAYLOAD
+    disk.hashed = hashed
+    lost = sum(extent > 0 for extent, _ in unreadable)
+    made = disk.made(unreadable, status=1, clean=False, chunk=whole, orphans=whole, live=0, lost=lost)
+    # The items after the first page of a broken chunk depend on its random bytes.
+    del made["right"]["torn"], made["right"]["noise"]
+    return made
+
+
+def zeros(file, mib):
+    disk = DiskFile(file, 4 * KIB, KIB, mib // 4)
+    return disk.made(status=1, clean=False, pad=disk.pages * (disk.extents - 1))
+
+
+def unwritten(file, mib):
+    disk = DiskFile(file, 4 * KIB, KIB, mib // 4)
+    disk.put_superblock([])
+    return disk.made(pad=0)
+
+
+def long_extents(file, mib):
+    return large(file, mib, extent_mib=64, runs=1)
+
+
+def one_page(file, mib):
+    disk = DiskFile(file, 64 * KIB, 1, mib * 16)
+    disk.fill(disk.extents - 1, 50_000, 64_000)
+    disk.put_superblock([])
+    return disk.made(live=0, orphans=disk.chunks, candidates=disk.extents - 1)
+
+
+def one_full(file, mib):
+    disk = DiskFile(file, 4 * KIB, KIB, mib // 4)
+    disk.fill(1, SMALL_PAYLOAD, SMALL_PAYLOAD)
+    disk.put_superblock([])
+    return disk.made(live=0, orphans=disk.chunks, candidates=1)
+
+
+def frames_end_to_end(file, _):
+    """An extent full of frames of 65,536 bytes."""
+    disk = DiskFile(file, *ITEMS_DISK)
+    disk.next_extent()
+    for _ in range(disk.extent_bytes // FRAME):
+        disk.put(disk.chance.randbytes(FRAME - ROUND_PAYLOAD))
+    return disk.made() | {"right": {"status": 0, "chunk": disk.chunks, "items": disk.chunks}}
+
+
+def heads_without_frames(file, _):
+    """Each page of an extent begins with a head that claims a frame up to the write pointer.
+
+    The extent's last 16 bytes are the UUID of no head, so there is no frame, and every page is torn. A scanner that read or
+    hashed what each head claims would read the extent 8,192 times. The filler isn't zero, so no part of a page looks like
+    padding, and it has no magic.
+    """
+    disk = DiskFile(file, *ITEMS_DISK)
+    disk.next_extent()
+    for page in range(disk.pages):
+        begun = head(page.to_bytes(16, "big"), disk.extent_bytes - page * disk.page - ROUND_PAYLOAD)
+        end = b"\xff" * 16 if page == disk.pages - 1 else b""
+        file.write(begun + b"x" * (disk.page - len(begun) - len(end)) + end)
+    return disk.made() | {"right": {"status": 1, "torn": disk.pages, "items": disk.pages}}
