@@ -16,6 +16,7 @@ import subprocess
 from collections import Counter
 
 from lib import picture
+from lib.browser import WINDOW
 from lib.cases import add_tests
 from lib.made_up import Made, Tended
 from lib.page_case import PAGE, PageCase
@@ -435,13 +436,13 @@ class Large(PageCase):
             self.check_times(what, shown, sum(len(text.splitlines()) for text in outputs.values()))
             self.check_drawing(what, ("the bars", "draw();"), ("the overview", "drawOverview();"))
         self.screenshot("extents-made-up")
-        self.browser.call("Emulation.setDeviceMetricsOverride", width=1000, height=600, deviceScaleFactor=1, mobile=False)
+        self.addCleanup(self.browser.resize, *WINDOW)
+        self.browser.resize(1000, 600)
         shown = self.open(report, outputs, "extents")
         self.check_overview(f"{what}, in a small window", shown, report, outputs)
         self.check(f"{what}, in a small window: several extents share a cell", shown["overview"]["perCell"] > 1,
                    shown["overview"])
         self.screenshot("extents-small-window")
-        self.browser.call("Emulation.clearDeviceMetricsOverride")
 
 
 class WrongPages(PageCase):
@@ -461,7 +462,7 @@ class WrongPages(PageCase):
             self.check_without_superblock(what, disk.report)
             if outputs and name in OF_SPARES_AND_ROOMS:
                 self.check_spares_and_rooms(what, disk)
-        self.browser.errors.clear()
+        self.browser.errors()
         self.true("it is seen to be wrong", self.failures > 0)
 
 

@@ -1,94 +1,69 @@
-"""Chromium without a window, for tests of a page."""
+"""Chromium without a window, driven by Selenium, for tests of a page."""
 import base64
-import fcntl
 import json
 import os
 import shutil
-import subprocess
 import time
 import unittest
 
+from lib.program import need
+
+try:
+    from selenium import webdriver
+    from selenium.webdriver.chrome.service import Service
+    from selenium.webdriver.common.by import By
+except ImportError:
+    webdriver = None
+
 BROWSERS = ("chromium", "chromium-browser", "google-chrome")
+WINDOW = (1400, 900)
 
 
 def need_browser():
-    """The path of Chromium. Without one the test is skipped."""
+    """The path of Chromium. The test is skipped if it, its driver or Selenium isn't there."""
     found = next(filter(None, map(shutil.which, BROWSERS)), None)
     if found is None:
         raise unittest.SkipTest("Chromium isn't there")
+    need("chromedriver")
+    if webdriver is None:
+        raise unittest.SkipTest("Python's selenium isn't there")
     return found
 
 
 class Browser:
-    """Chromium without a window. Two pipes carry the protocol of its developer tools."""
-
     def __init__(self, program, room):
-        # Chromium reads from 3 and writes to 4. First move the pipes' ends away from these numbers.
-        theirs_in, ours_out = map(self.moved, os.pipe())
-        ours_in, theirs_out = map(self.moved, os.pipe())
-        words = [program, "--headless=new", "--remote-debugging-pipe", "--window-size=1400,900", "--hide-scrollbars",
-                 "--no-first-run", "--disable-gpu", "--disable-dev-shm-usage", f"--user-data-dir={room}"]
+        options = webdriver.ChromeOptions()
+        options.binary_location = program
+        for word in ("--headless=new", "--hide-scrollbars", "--no-first-run", "--disable-gpu",
+                     "--disable-dev-shm-usage", f"--user-data-dir={room}"):
+            options.add_argument(word)
         # The superuser can't set up Chromium's sandbox.
         if os.geteuid() == 0:
-            words.append("--no-sandbox")
+            options.add_argument("--no-sandbox")
+        options.set_capability("goog:loggingPrefs", {"browser": "ALL"})
+        self.driver = webdriver.Chrome(options=options, service=Service(shutil.which("chromedriver")))
+        self.resize(*WINDOW)
 
-        def place_ends():
-            os.dup2(theirs_in, 3)
-            os.dup2(theirs_out, 4)
-
-        self.process = subprocess.Popen([*words, "about:blank"], preexec_fn=place_ends, pass_fds=(3, 4),
-                                        stdin=subprocess.DEVNULL, stdout=subprocess.DEVNULL, stderr=subprocess.DEVNULL)
-        os.close(theirs_in)
-        os.close(theirs_out)
-        self.writer, self.reader = os.fdopen(ours_out, "wb", buffering=0), os.fdopen(ours_in, "rb")
-        self.last, self.session, self.errors, self.rest = 0, None, [], b""
-        target = self.call("Target.createTarget", url="about:blank")["targetId"]
-        self.session = self.call("Target.attachToTarget", targetId=target, flatten=True)["sessionId"]
-        for domain in ("Page", "Runtime", "Log"):
-            self.call(f"{domain}.enable")
-
-    @staticmethod
-    def moved(end):
-        higher = fcntl.fcntl(end, fcntl.F_DUPFD_CLOEXEC, 10)
-        os.close(end)
-        return higher
-
-    def received(self):
-        while b"\0" not in self.rest:
-            more = self.reader.read1(1 << 20)
-            if not more:
-                raise OSError("Chromium ended")
-            self.rest += more
-        text, self.rest = self.rest.split(b"\0", 1)
-        return json.loads(text)
+    def resize(self, width, height):
+        """Gives the page this many pixels."""
+        self.call("Emulation.setDeviceMetricsOverride", width=width, height=height, deviceScaleFactor=1, mobile=False)
 
     def call(self, method, **params):
-        """Calls a method, and keeps the errors that the page reports meanwhile."""
-        self.last += 1
-        message = {"id": self.last, "method": method, "params": params}
-        if self.session:
-            message["sessionId"] = self.session
-        self.writer.write(json.dumps(message).encode() + b"\0")
-        while True:
-            answer = self.received()
-            if answer.get("method") == "Runtime.exceptionThrown":
-                details = answer["params"]["exceptionDetails"]
-                self.errors.append(details.get("exception", {}).get("description", details["text"]))
-            if answer.get("id") == self.last:
-                if "error" in answer:
-                    raise OSError(f"{method}: {answer['error']}")
-                return answer["result"]
+        """Calls a method of the developer tools, for what Selenium has no name."""
+        return self.driver.execute_cdp_cmd(method, params)
+
+    def errors(self):
+        """The errors that pages have reported since this was last asked."""
+        return [entry["message"] for entry in self.driver.get_log("browser") if "Uncaught" in entry["message"]]
 
     def value(self, expression):
-        answer = self.call("Runtime.evaluate", expression=expression, returnByValue=True, awaitPromise=True)
-        if "exceptionDetails" in answer:
-            raise OSError(answer["exceptionDetails"]["exception"]["description"])
-        return answer["result"].get("value")
+        """The value of an expression in the page, or what a promise gives."""
+        return self.driver.execute_script(f"return ({expression});")
 
     def open(self, address):
         """Opens an address, without anything left of the page before."""
-        self.call("Page.navigate", url="about:blank")
-        self.call("Page.navigate", url=address)
+        self.driver.get("about:blank")
+        self.driver.get(address)
         while self.value("document.readyState === 'complete' && 'pointOf' in window") is not True:
             time.sleep(.02)
 
@@ -133,12 +108,12 @@ class Browser:
             return colours;
         }})()""")
 
-    def screenshot(self, path):
-        path.write_bytes(base64.b64decode(self.call("Page.captureScreenshot", format="png")["data"]))
+    def screenshot(self):
+        """The bytes of a PNG file."""
+        return base64.b64decode(self.driver.get_screenshot_as_base64())
 
     def choose_files(self, *paths):
-        node = self.call("Runtime.evaluate", expression="document.getElementById('files')")["result"]["objectId"]
-        self.call("DOM.setFileInputFiles", files=[str(path) for path in paths], objectId=node)
+        self.driver.find_element(By.ID, "files").send_keys("\n".join(map(str, paths)))
 
     def drop_files(self, *paths):
         data = {"items": [], "files": [str(path) for path in paths], "dragOperationsMask": 1}
@@ -146,9 +121,4 @@ class Browser:
             self.call("Input.dispatchDragEvent", type=kind, x=600, y=400, data=data)
 
     def close(self):
-        self.session = None
-        try:
-            self.call("Browser.close")
-            self.process.wait(10)
-        except (OSError, subprocess.TimeoutExpired):
-            self.process.kill()
+        self.driver.quit()

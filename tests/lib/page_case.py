@@ -1,4 +1,5 @@
 """Tests of view/report.html in a browser: what a test may check of the picture of a disk, by comparing it with lib/picture.py."""
+import base64
 import functools
 import http.server
 import itertools
@@ -58,8 +59,7 @@ class PageCase(Case):
         cls.browser, cls.site, cls.room = site.browser, site.address, site.room
 
     def tearDown(self):
-        self.same("errors of the page", self.browser.errors, [])
-        self.browser.errors.clear()
+        self.same("errors of the page", self.browser.errors(), [])
 
     def check(self, what, is_right, found=""):
         if self.failures is None:
@@ -70,7 +70,7 @@ class PageCase(Case):
     def screenshot(self, name):
         """Keeps a screenshot if the variable names a folder."""
         if SHOTS in os.environ:
-            self.browser.screenshot(Path(os.environ[SHOTS], f"{name}.png"))
+            Path(os.environ[SHOTS], f"{name}.png").write_bytes(self.browser.screenshot())
 
     def put(self, name, text):
         (self.room / name).write_text(text, encoding="utf-8")
@@ -162,7 +162,7 @@ class PageCase(Case):
 
     def green_pixels(self):
         """The number of pixels on the screen that are more green than red and than blue."""
-        shot = self.browser.call("Page.captureScreenshot", format="png")["data"]
+        shot = base64.b64encode(self.browser.screenshot()).decode()
         return self.browser.value(f"""(async () => {{
             const image = await createImageBitmap(await (await fetch('data:image/png;base64,{shot}')).blob());
             const canvas = new OffscreenCanvas(image.width, image.height), context = canvas.getContext('2d');
