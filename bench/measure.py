@@ -149,8 +149,7 @@ class Measured:
 
 
 def digest_of(path):
-    with open(path, "rb") as file:
-        return hashlib.file_digest(file, "sha256").digest()
+    return hashlib.sha256(Path(path).read_bytes()).digest()
 
 
 def shown(seconds):
