@@ -11,6 +11,7 @@ import subprocess
 from concurrent.futures import ThreadPoolExecutor
 
 from lib.cases import RoomCase
+from lib.disks import geometry
 from lib.filters import changes_of, summary_of
 from lib.program import TOP, need
 from lib.reports import damaged_lives, doubtful_lives, example_reports, small_disks, unowned_disks
@@ -174,15 +175,30 @@ class Rows(FilterCase):
     # How a scan is cut short, and the status of its row.
     ENDS = {"exit 3": 3, "exit 1": 70, "kill -9 $$": 137}
 
+    def row(self, command, line):
+        """The row of a disk of the list."""
+        done = subprocess.run([ROW, command, line], cwd=TOP, env={**os.environ, "SHARDSCRUB": self.program}, capture_output=True,
+                              encoding="utf-8", stdin=subprocess.DEVNULL)
+        self.same(f"{command} of {line}", (done.returncode, done.stdout.count("\n")), (0, 1))
+        return done.stdout
+
+    def right_row(self, command, line):
+        """The row as the program's own answer gives it."""
+        name, image, page, pages, extents, map_file, lost = line.split("\t")
+        words = [*geometry(page, pages, extents), *(["--map", map_file] if map_file != "-" else []), image, *lost.replace("-", "").split()]
+        done = subprocess.run([self.program, command, *words], cwd=TOP, capture_output=True, encoding="utf-8", stdin=subprocess.DEVNULL)
+        row = {"disk": name, "status": done.returncode, "text": done.stderr.rstrip("\n")}
+        if command == "reclaimable":
+            lines = [line.split(" ") for line in done.stdout.splitlines()]
+            return row | {"lines": lines if done.returncode < 2 else None}
+        return row | (json.loads(done.stdout) if done.returncode < 2 else {})
+
     def rows(self, command):
-        """The row of each disk of examples/disks.tsv."""
-        found = []
+        return [self.row(command, line) for line in self.DISKS.read_text(encoding="utf-8").splitlines()]
+
+    def check_rows(self, command):
         for line in self.DISKS.read_text(encoding="utf-8").splitlines():
-            done = subprocess.run([ROW, command, line], cwd=TOP, env={**os.environ, "SHARDSCRUB": self.program}, capture_output=True,
-                                  encoding="latin-1", stdin=subprocess.DEVNULL)
-            self.same(f"{command} of {line}", (done.returncode, done.stdout.count("\n")), (0, 1))
-            found.append(done.stdout)
-        return found
+            self.same(f"{command} of {line}", json.loads(self.row(command, line)), self.right_row(command, line))
 
     def row_of_scan(self, end):
         """The row of a disk whose scan prints the beginning of a report, and then runs this."""
@@ -194,10 +210,10 @@ class Rows(FilterCase):
         return done.stdout
 
     def test_each_disk_has_a_row_of_scan(self):
-        self.rows("scan")
+        self.check_rows("scan")
 
     def test_each_disk_has_a_row_of_reclaimable(self):
-        self.rows("reclaimable")
+        self.check_rows("reclaimable")
 
     def test_a_scan_that_is_cut_short(self):
         for end, status in self.ENDS.items():
