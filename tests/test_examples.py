@@ -5,8 +5,8 @@ such line or the end of the block are its output, on both streams. `sh` runs the
 Some examples use files that earlier ones wrote. So an example that is run alone runs those before it, too. All run in a copy of the
 folders, whose ./shardscrub starts the program that is tested, and with a folder of their own in the place of /tmp.
 
-An example needs ddrescue, man, parallel, python3 or sqlite3 if it has that word, and jq if it has the word jq, row or rows. So the
-files that such examples write have these names.
+An example needs ddrescue, man, parallel, python3 or sqlite3 if it has that word, and jq if it has the word jq, row or rows; and what the
+example needs that wrote a file which it names.
 """
 import os
 import re
@@ -71,6 +71,15 @@ class Transcript:
         if self.folder is not None:
             self.folder.cleanup()
 
+    def tools(self, number):
+        """The tools that an example needs, and those of the examples that wrote its files."""
+        command = self.examples[number].command
+        found = {tool for tool, words in TOOLS.items() if re.search(rf"\b(?:{words})\b", command)}
+        for path in re.findall(r"/tmp/[\w./-]+", command):
+            writers = [earlier for earlier in range(number) if f">{path}" in self.examples[earlier].command]
+            found |= self.tools(writers[-1]) if writers else set()
+        return found
+
     def make_folders(self):
         """Copies what the examples use, and makes the folder in the place of /tmp."""
         self.folder = tempfile.TemporaryDirectory(prefix="shardscrub-examples-")
@@ -121,9 +130,8 @@ class ExampleCase(Case):
         return f"test_examples.{self.example.page}.test_line_{self.example.line:04}"
 
     def check(self):
-        for tool, words in TOOLS.items():
-            if re.search(rf"\b(?:{words})\b", self.example.command):
-                need(tool)
+        for tool in sorted(self.transcript.tools(self.number)):
+            need(tool)
         found = self.transcript.up_to(self.number)
         self.same(f"$ {self.example.command}\n", found, self.transcript.placed(self.example.wanted))
 
