@@ -1,4 +1,4 @@
-"""Makes up disks, and maps of GNU ddrescue: half of the disks are arbitrary, the others those of a node that mostly works."""
+"""Makes up disks, arbitrary ones and those of a node that mostly works, and maps of GNU ddrescue."""
 from hashlib import sha256
 
 from lib.disks import DIGEST, LOCATOR, MAGIC, fields, frame, locator, record, record_head, run, sealed_frame, with_digest
@@ -8,6 +8,9 @@ PARTS = ("extent", "offset", "length", "uuid", "digest")
 
 
 class Made:
+    """An arbitrary disk. `c` makes all choices; `p`, `n` and `e` are the bytes per page, pages per extent and extents; `w` has how far
+    each extent is written; `known` has the locators that may be named."""
+
     def __init__(self, c):
         self.c = c
         self.p = c.choice([64, 64, 64, 128, 256])
@@ -52,6 +55,7 @@ class Made:
         return locator(e, w, u, b)
 
     def spoilt(self, l):
+        """The locator with a wrong part."""
         c, l = self.c, dict(zip(PARTS, LOCATOR.unpack(l)))
         key = c.choice([*PARTS, "offset", "length"])
         if key in ("uuid", "digest"):
@@ -65,51 +69,80 @@ class Made:
         return self.spoilt(l) if self.c.random() < .08 else l
 
     def make(self):
+        """Makes the disk, and returns its unreadable pages."""
+        self.fill()
+        self.put_records(self.bind())
+        self.harm_records()
+        return self.damage()
+
+    def fill(self):
+        """Writes chunks. Some are in no list to be named."""
         c = self.c
         for _ in range(c.randrange(1, 14)):
-            b = c.randbytes(c.choice([0, 1, 3, 12, 28, c.randrange(200)]))
-            l = self.chunk(c.randrange(1, self.e), b)
-            if l:
-                self.known.append(l)
+            payload = c.randbytes(c.choice([0, 1, 3, 12, 28, c.randrange(200)]))
+            found = self.chunk(c.randrange(1, self.e), payload)
+            if found:
+                self.known.append(found)
         if c.random() < .2:
-            for l in c.sample(self.known, len(self.known) // 3):
-                self.known.remove(l)
+            for one in c.sample(self.known, len(self.known) // 3):
+                self.known.remove(one)
+
+    def bind(self):
+        """Writes runs, some of them damaged. Returns their locators."""
+        c = self.c
         runs, ids = [], [c.choice([bytes(15) + bytes([i]), c.randbytes(16)]) for i in range(1, 7)]
         for _ in range(c.choice([0, 1, 1, 2, 3, 4])):
             some = sorted(set(c.sample(ids, c.randrange(0, 5))))
             entries = [(i, [self.named() for _ in range(c.choice([0, 1, 1, 1, 2, 3]))] if self.known else []) for i in some]
-            b = run(*entries)
+            payload = run(*entries)
             if c.random() < .1:
-                b = bytearray(b); b[c.randrange(len(b))] ^= 1 << c.randrange(8); b = bytes(b)
+                at = c.randrange(len(payload))
+                payload = payload[:at] + bytes([payload[at] ^ 1 << c.randrange(8)]) + payload[at + 1:]
                 if c.random() < .5:
-                    b = with_digest(b[:-DIGEST])
-            l = self.chunk(c.randrange(1, self.e), b)
-            if l:
-                runs.insert(c.choice([0, 0, len(runs)]), self.spoilt(l) if c.random() < .05 else l)
+                    payload = with_digest(payload[:-DIGEST])
+            found = self.chunk(c.randrange(1, self.e), payload)
+            if found:
+                runs.insert(c.choice([0, 0, len(runs)]), self.spoilt(found) if c.random() < .05 else found)
                 if c.random() < .05:
-                    runs.append(l)
+                    runs.append(found)
+        return runs
+
+    def near(self, w):
+        """A write pointer for an extent that is written up to this byte: mostly that one."""
+        c = self.c
+        more, less = min(self.size, w + c.randrange(40)), max(0, w - c.randrange(40))
+        return c.choice([w, w, w, w, w, w, more, less, self.size + 1 if c.random() < .1 else w])
+
+    def put_records(self, runs):
+        """Writes superblocks. Some extents are retired, and some records are there twice."""
+        c = self.c
         for _ in range(c.choice([0, 1, 1, 1, 1, 2, 2, 3])):
-            ws = [c.choice([w, w, w, w, w, w, min(self.size, w + c.randrange(40)), max(0, w - c.randrange(40)), self.size + 1 if c.random() < .1 else w]) for w in self.w]
+            pointers = [self.near(w) for w in self.w]
             if c.random() < .15:
-                ws = self.w
+                pointers = self.w
             retired = None
             if c.random() < .4:
                 retired = sorted(c.sample(range(1, self.e), c.choice([0, 0, 1, 1, c.randrange(self.e)])))
                 if c.random() < .05:
                     retired.append(c.choice([0, 1, self.e]))
-            t = self.record(ws, retired, runs)
-            g = c.randrange(self.n)
-            for g in [g] + ([c.randrange(self.n)] if c.random() < .1 else []):
-                if g * self.p + len(t) <= self.size:
-                    self.put(0, g * self.p, t)
-                    self.records.append((g * self.p, len(t)))
-        self.harm_records()
+            text = self.record(pointers, retired, runs)
+            first = c.randrange(self.n)
+            for page in [first] + ([c.randrange(self.n)] if c.random() < .1 else []):
+                if page * self.p + len(text) <= self.size:
+                    self.put(0, page * self.p, text)
+                    self.records.append((page * self.p, len(text)))
+
+    def damage(self):
+        """Flips bits, erases a page, writes a magic, cuts the image. Returns the unreadable pages."""
+        c = self.c
         for _ in range(c.choice([0, 0, 0, 0, 1, 2, 5])):
             self.raw[c.randrange(len(self.raw))] ^= 1 << c.randrange(8)
         if c.random() < .1:
-            g = c.randrange(self.n * self.e); self.raw[g * self.p:(g + 1) * self.p] = bytes(self.p)
+            page = c.randrange(self.n * self.e)
+            self.raw[page * self.p:(page + 1) * self.p] = bytes(self.p)
         if c.random() < .1:
-            at = c.randrange(len(self.raw) - 3); self.raw[at:at + 2] = MAGIC
+            at = c.randrange(len(self.raw) - 3)
+            self.raw[at:at + 2] = MAGIC
         unreadable = [(c.randrange(self.e), c.randrange(self.n)) for _ in range(c.choice([0, 0, 0, 0, 0, 1, 1, 2, 4]))]
         if c.random() < .1:
             unreadable.append((0, c.randrange(self.n)))

@@ -359,6 +359,12 @@ def _(walk, target):
 
 # The superblock
 
+def moved_back(walk, c):
+    """The locator with the place that it had before it moved, if it moved."""
+    old = next((old for old, new in walk.places.items() if new == place_of(c)), None)
+    return {**c, "extent": old[0], "offset": old[1]} if old else c
+
+
 def field(key, change):
     def make(walk, fields):
         value = change(walk, fields[key])
@@ -403,7 +409,7 @@ for number, copies in (("6", "7"), ("8", "8")):
     mistake(f"box {number}: an older run is forgotten", point, copies + " none")(
         field("runs", lambda walk, runs: runs[:-1] if len(runs) > bool(walk.entries) else None))
     mistake(f"box {number}: a run that moved has its old place", point, copies)(
-        field("runs", lambda walk, runs: [{**c, **dict(zip(("extent", "offset"), old))} if (old := next((o for o, n in walk.places.items() if n == place_of(c)), None)) else c for c in runs]))
+        field("runs", lambda walk, runs: [moved_back(walk, c) for c in runs]))
     mistake(f"box {number}: the generation isn't raised", point, copies)(
         field("generation", lambda walk, g: g - 1))
     mistake(f"box {number}: the generation is lower", point, copies)(
