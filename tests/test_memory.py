@@ -8,9 +8,7 @@ refused, the whole right answer is right too, since some refused requests are re
 Single calls are those of the crate scrub_growths, if `rt` has built its program here. Each public function of a library that
 takes an allocator, or can answer out of memory, has to be a call there.
 """
-import os
 import unittest
-from concurrent.futures import ThreadPoolExecutor
 
 from lib import growths
 from lib.allocations import made, refusing
@@ -76,27 +74,33 @@ add_tests(Runs, Runs.check, [(f"{name}, {which}", (words, all_later)) for name, 
 
 
 class Growths(LibraryCase):
-    """Single calls."""
+    """Single calls. `load_tests` adds a test for each, and for each with workers one more."""
 
     @classmethod
     def setUpClass(cls):
         if not growths.PROGRAM.is_file():
             raise unittest.SkipTest("the program of crates/scrub_growths isn't built; rt ci builds it")
         super().setUpClass()
-        cls.calls = growths.calls()
-
-    def check(self, tried, some):
-        with ThreadPoolExecutor(os.cpu_count()) as threads:
-            for call, (is_right, found) in zip(some, threads.map(lambda call: tried(self.library, call), some)):
-                self.true(call, is_right, found)
 
     def test_each_public_function_that_takes_memory_is_a_call(self):
-        self.same("those that are none", list(growths.missing(self.calls)), [])
+        calls = growths.calls()
+        self.true("there are calls", calls)
+        self.same("those that are none", list(growths.missing(calls)), [])
 
-    def test_each_growth_is_refused(self):
-        self.true("there are calls", self.calls)
-        self.check(growths.tried, self.calls)
+    def check_call(self, call):
+        self.true(call, *growths.tried(self.library, call))
 
-    def test_each_growth_of_the_workers_is_refused(self):
-        """By then the caller has scanned all extents, or loaded its part, and still the call has to run out of memory."""
-        self.check(growths.tried_by_workers, list(filter(growths.starts_workers, self.calls)))
+    def check_workers(self, call):
+        """Each growth of the workers is refused. By then the caller has scanned all extents, or loaded its part, and still the call
+        has to run out of memory."""
+        self.true(call, *growths.tried_by_workers(self.library, call))
+
+
+def load_tests(loader, tests, _):
+    """Adds the tests of the calls that the built program makes."""
+    if not growths.PROGRAM.is_file():
+        return tests
+    calls = growths.calls()
+    add_tests(Growths, Growths.check_call, [(f"call {call}", call) for call in calls])
+    add_tests(Growths, Growths.check_workers, [(f"workers {call}", call) for call in filter(growths.starts_workers, calls)])
+    return unittest.TestSuite(map(loader.loadTestsFromTestCase, (Runs, Growths)))
