@@ -1,0 +1,318 @@
+"""How the released program is installed: by release/install, by release/Makefile, and by dpkg from the package that
+release/package makes. Nobody has to be superuser, and nothing outside a folder for passing files is touched."""
+import gzip
+import hashlib
+import io
+import os
+import platform
+import re
+import shutil
+import stat
+import subprocess
+import tarfile
+import tempfile
+import time
+import unittest
+from datetime import datetime, timezone
+from pathlib import Path
+
+from lib.program import TOP, need
+
+# Each installed file: its mode, and what it is a copy of.
+INSTALLED = {
+    "bin/shardscrub": (0o755, "release/shardscrub"),
+    "share/doc/shardscrub/README.md": (0o644, "README.md"),
+    "share/doc/shardscrub/docs/FORMAT.md": (0o644, "docs/FORMAT.md"),
+    "share/doc/shardscrub/docs/READING.md": (0o644, "docs/READING.md"),
+    "share/doc/shardscrub/docs/RECLAIMING.md": (0o644, "docs/RECLAIMING.md"),
+    "share/doc/shardscrub/docs/REPORT.md": (0o644, "docs/REPORT.md"),
+    "share/man/man1/shardscrub.1": (0o644, "docs/shardscrub.1"),
+    "share/shardscrub/view/changes.jq": (0o644, "view/changes.jq"),
+    "share/shardscrub/view/fleet.sql": (0o644, "view/fleet.sql"),
+    "share/shardscrub/view/report.html": (0o644, "view/report.html"),
+    "share/shardscrub/view/row": (0o755, "view/row"),
+    "share/shardscrub/view/summary.jq": (0o644, "view/summary.jq"),
+}
+# The package has two of them compressed, the man page and the changelog.
+PACKED = INSTALLED | {
+    "share/man/man1/shardscrub.1.gz": INSTALLED["share/man/man1/shardscrub.1"],
+    "share/doc/shardscrub/changelog.gz": (0o644, "CHANGELOG.md"),
+}
+del PACKED["share/man/man1/shardscrub.1"]
+
+FIELDS = {
+    "Package": "shardscrub",
+    "Architecture": "amd64",
+    "Maintainer": "Tuzbelic maintainers <maintainers@users.noreply.tuzbelic.example>",
+    "Recommends": "jq",
+    "Suggests": "gddrescue, parallel, sqlite3",
+    "Section": "admin",
+    "Priority": "optional",
+}
+# Runs of the installed program: its arguments, its output and its status.
+RUNS = [
+    (["--version"], None, 0),
+    (["sizes", "examples/one-shard.img"], "0 SSB1 1 64 4 3\n", 0),
+    (["sizes", "examples/no-superblock.img"], "", 1),
+]
+
+
+def run(*words, more=None, **options):
+    """A run at the top of the repository, with nothing of the caller's environment but where programs and passing files are."""
+    environment = {name: os.environ[name] for name in ("PATH", "HOME", "TMPDIR") if name in os.environ}
+    # The folders of ldconfig, which dpkg looks for, are only on the superuser's path.
+    environment["PATH"] += ":/usr/sbin:/sbin"
+    environment["LC_ALL"] = "C.UTF-8"
+    return subprocess.run([str(word) for word in words], env=environment | (more or {}), capture_output=True,
+                          **{"cwd": TOP, "text": True, "timeout": 60, **options})
+
+
+def done(*words, **options):
+    """The output of a run that has to end with status 0."""
+    ended = run(*words, **options)
+    if ended.returncode != 0:
+        raise AssertionError(f"{words}: status {ended.returncode}, {ended.stderr}")
+    return ended.stdout
+
+
+def newest():
+    """The newest version in the changelog, and the time at which its day begins."""
+    version, day = re.search(r"^## ([0-9.]+), ([0-9-]+)$", (TOP / "CHANGELOG.md").read_text(encoding="utf-8"), re.M).groups()
+    return version, int(datetime.fromisoformat(day).replace(tzinfo=timezone.utc).timestamp())
+
+
+def unpacked(name, data):
+    return gzip.decompress(data) if name.endswith(".gz") else data
+
+
+def tree(folder):
+    """The files below a folder, and its folders, which end with a slash: the mode of each."""
+    return {str(path.relative_to(folder)) + "/" * path.is_dir(): stat.S_IMODE(path.lstat().st_mode) for path in folder.rglob("*")}
+
+
+def with_folders(files):
+    """Files with their modes, and the folders that they are in."""
+    folders = {f"{parent}/": 0o755 for name in files for parent in Path(name).parents if parent != Path(".")}
+    return {name: mode for name, (mode, _) in files.items()} | folders
+
+
+class OfTheRelease(unittest.TestCase):
+    @classmethod
+    def setUpClass(cls):
+        if platform.machine() != "x86_64":
+            raise unittest.SkipTest("the released program is for x86-64")
+
+    def setUp(self):
+        folder = tempfile.TemporaryDirectory()
+        self.addCleanup(folder.cleanup)
+        self.folder = Path(folder.name)
+
+    def installed(self, folder, files):
+        """Checks that these files and nothing else are installed in a folder."""
+        self.assertEqual(tree(folder), with_folders(files))
+        for name, (_, origin) in files.items():
+            self.assertEqual(unpacked(name, (folder / name).read_bytes()), (TOP / origin).read_bytes(), name)
+
+    def runs(self, program):
+        version = f"shardscrub {newest()[0]}\n"
+        for words, output, status in RUNS:
+            with self.subTest(words=words):
+                ended = run(program, *words)
+                wanted = (version if output is None else output, "", status)
+                self.assertEqual((ended.stdout, ended.stderr, ended.returncode), wanted)
+
+
+class Install(OfTheRelease):
+    def test_below_a_prefix(self):
+        done("release/install", self.folder / "prefix", umask=0o077)
+        self.installed(self.folder / "prefix", INSTALLED)
+        self.runs(self.folder / "prefix/bin/shardscrub")
+
+    def test_below_destdir(self):
+        done("release/install", "/usr", more={"DESTDIR": str(self.folder / "stage")})
+        self.installed(self.folder / "stage/usr", INSTALLED)
+        self.assertEqual(os.listdir(self.folder / "stage"), ["usr"])
+
+    def test_over_itself(self):
+        for _ in range(2):
+            done("release/install", self.folder / "prefix")
+        self.installed(self.folder / "prefix", INSTALLED)
+
+    def test_usage(self):
+        for script, words in (("install", []), ("install", ["one", "two"]), ("package", ["one", "two"])):
+            with self.subTest(script=script, words=words):
+                ended = run(TOP / "release" / script, *words, cwd=self.folder)
+                self.assertEqual((ended.returncode, ended.stdout), (2, ""))
+                self.assertRegex(ended.stderr, rf"\Ausage: release/{script} .*\n\Z")
+                self.assertEqual(os.listdir(self.folder), [])
+
+
+class Make(OfTheRelease):
+    def make(self, *words, top=TOP, **options):
+        need("make")
+        return run("make", "--no-print-directory", "-s", "-C", top / "release", *words, **options)
+
+    def test_install_and_uninstall(self):
+        words = [f"DESTDIR={self.folder}", "PREFIX=/opt/a folder"]
+        prefix = self.folder / "opt/a folder"
+        self.assertEqual(self.make("install", *words).returncode, 0)
+        self.installed(prefix, INSTALLED)
+        other = prefix / "share/man/man1/other.1"
+        other.write_text("another program's")
+        self.assertEqual(self.make("uninstall", *words).returncode, 0)
+        self.assertEqual([name for name in tree(prefix) if not name.endswith("/")], [str(other.relative_to(prefix))])
+        self.assertEqual([name for name in tree(prefix) if "shardscrub" in name], [])
+
+    def test_destdir_of_the_environment(self):
+        self.assertEqual(self.make("install", more={"DESTDIR": str(self.folder)}).returncode, 0)
+        self.installed(self.folder / "usr/local", INSTALLED)
+
+    def test_package(self):
+        need("dpkg-deb")
+        made = self.make("package", f"FOLDER={self.folder / 'a folder'}")
+        package = Path(done("release/package", self.folder / "other").strip())
+        self.assertEqual(made.stdout, f"{self.folder / 'a folder' / package.name}\n")
+        self.assertEqual(Path(made.stdout.strip()).read_bytes(), package.read_bytes())
+
+    def test_a_damaged_program(self):
+        copy = self.folder / "copy"
+        for name in {origin for _, origin in INSTALLED.values()} | {"release/Makefile", "release/install", "release/SHA256SUMS"}:
+            (copy / name).parent.mkdir(parents=True, exist_ok=True)
+            shutil.copy(TOP / name, copy / name)
+        self.assertEqual(self.make(top=copy).returncode, 0)
+        with open(copy / "release/shardscrub", "r+b") as file:
+            file.write(b"\x7fELf")
+        self.assertNotEqual(self.make("install", f"DESTDIR={self.folder}/stage", top=copy).returncode, 0)
+        self.assertFalse((self.folder / "stage").exists())
+
+
+class Package(OfTheRelease):
+    @classmethod
+    def setUpClass(cls):
+        super().setUpClass()
+        need("dpkg-deb")
+        cls.passing = tempfile.TemporaryDirectory()
+        cls.addClassCleanup(cls.passing.cleanup)
+        cls.package = Path(done("release/package", cls.passing.name).strip())
+
+    def control(self):
+        lines = done("dpkg-deb", "--field", self.package).split("\nDescription: ")
+        return dict(line.split(": ", 1) for line in lines[0].splitlines()), lines[1].splitlines()
+
+    def members(self, package):
+        """What is in a package: each member with its bytes, None for a folder."""
+        with tarfile.open(fileobj=io.BytesIO(done("dpkg-deb", "--fsys-tarfile", package, text=False))) as archive:
+            return [(member, archive.extractfile(member).read() if member.isfile() else None) for member in archive]
+
+    def test_fields(self):
+        fields, (short, *long) = self.control()
+        version = newest()[0]
+        self.assertEqual(self.package, Path(self.passing.name) / f"shardscrub_{version}_amd64.deb")
+        members = [data for member, data in self.members(self.package) if member.name != "."]
+        size = sum(1 if data is None else -(-len(data) // 1024) for data in members)
+        libc = fields.pop("Depends")
+        self.assertEqual(fields, FIELDS | {"Version": version, "Installed-Size": str(size)})
+        self.assertRegex(libc, r"\Alibc6 \(>= [0-9.]+\)\Z")
+        self.assertLessEqual(len(short), 60)
+        self.assertTrue(long)
+        for line in long:
+            self.assertRegex(line, r"\A .{1,79}\Z")
+
+    def test_least_c_library(self):
+        need("objdump")
+        versions = re.findall(r"\(GLIBC_([0-9.]+)\)", done("objdump", "-T", "release/shardscrub"))
+        newest_symbols = max(versions, key=lambda version: [int(number) for number in version.split(".")])
+        self.assertEqual(self.control()[0]["Depends"], f"libc6 (>= {newest_symbols})")
+
+    def test_files(self):
+        members = self.members(self.package)
+        wanted = {f"./usr/{name}": mode for name, mode in with_folders(PACKED).items()} | {"./": 0o755, "./usr/": 0o755}
+        self.assertEqual({member.name + "/" * member.isdir(): member.mode for member, _ in members}, wanted)
+        owners = {(member.uid, member.gid, member.uname, member.gname) for member, _ in members}
+        self.assertEqual(owners, {(0, 0, "root", "root")})
+        self.assertEqual({member.mtime for member, _ in members}, {newest()[1]})
+        for member, data in members:
+            if data is not None:
+                origin = TOP / PACKED[member.name.removeprefix("./usr/")][1]
+                self.assertEqual(unpacked(member.name, data), origin.read_bytes(), member.name)
+
+    def test_checksums(self):
+        done("dpkg-deb", "--control", self.package, self.folder)
+        self.assertEqual(tree(self.folder), {"control": 0o644, "md5sums": 0o644})
+        lines = sorted(f"{hashlib.md5(data).hexdigest()}  {member.name.removeprefix('./')}"
+                       for member, data in self.members(self.package) if data is not None)
+        self.assertEqual(sorted((self.folder / "md5sums").read_text().splitlines()), lines)
+
+    def test_same_bytes(self):
+        time.sleep(1.1)
+        (self.folder / "passing").mkdir()
+        again = done("release/package", self.folder / "again", umask=0o077,
+                     more={"LC_ALL": "C", "TZ": "Pacific/Auckland", "TMPDIR": str(self.folder / "passing")})
+        self.assertEqual(Path(again.strip()).read_bytes(), self.package.read_bytes())
+        self.assertEqual(os.listdir(self.folder / "passing"), [])
+
+    def test_time_of_the_environment(self):
+        for given in ("1000000000", "4000000000"):
+            package = done("release/package", self.folder, more={"SOURCE_DATE_EPOCH": given}).strip()
+            self.assertEqual({member.mtime for member, _ in self.members(package)}, {int(given)})
+
+    def test_folder_of_its_own(self):
+        package = Path(done("release/package", more={"TMPDIR": str(self.folder)}).strip())
+        self.assertEqual(package.read_bytes(), self.package.read_bytes())
+        self.assertEqual(os.listdir(self.folder), [package.parent.name])
+
+    def test_man_page(self):
+        need("man")
+        page, = [data for member, data in self.members(self.package) if member.name.endswith(".1.gz")]
+        shown = run("man", "--warnings", "-l", "-", input=gzip.decompress(page), text=False)
+        self.assertEqual((shown.returncode, shown.stderr), (0, b""))
+        self.assertIn(b"SHARDSCRUB(1)", shown.stdout)
+
+
+class Dpkg(OfTheRelease):
+    @classmethod
+    def setUpClass(cls):
+        super().setUpClass()
+        need("dpkg-deb")
+        need("dpkg")
+
+    def setUp(self):
+        super().setUp()
+        self.root = self.folder / "root"
+        (self.root / "var/lib/dpkg/info").mkdir(parents=True)
+        (self.root / "var/lib/dpkg/updates").mkdir()
+        (self.root / "var/lib/dpkg/status").touch()
+        self.dpkg("--force-depends", "--install", done("release/package", self.folder).strip())
+
+    def dpkg(self, *words):
+        # Some machines are set up to leave out man pages and documents.
+        return done("dpkg", f"--root={self.root}", f"--log={self.folder}/log", "--force-not-root", "--path-include=*", *words)
+
+    def state(self):
+        return run("dpkg-query", f"--admindir={self.root}/var/lib/dpkg", "-W", "-f", "${db:Status-Abbrev}", "shardscrub")
+
+    def test_installed(self):
+        self.assertEqual(self.state().stdout, "ii ")
+        self.installed(self.root / "usr", PACKED)
+        self.runs(self.root / "usr/bin/shardscrub")
+        self.assertEqual(self.dpkg("--verify", "shardscrub"), "")
+
+    def test_row(self):
+        need("jq")
+        path = f"{self.root}/usr/bin:{os.environ['PATH']}"
+        row = done(self.root / "usr/share/shardscrub/view/row", "scan", "a disk\texamples/one-shard.img\t64\t4\t3\t-\t-",
+                   more={"PATH": path})
+        self.assertRegex(row, r'\A\{"disk":"a disk","status":0,"text":"","broken":\[\],.*\}\n\Z')
+
+    def test_removed(self):
+        for way in ("--remove", "--purge"):
+            with self.subTest(way=way):
+                self.dpkg(way, "shardscrub")
+                self.assertEqual([name for name in tree(self.root) if not name.startswith("var/")], [])
+                self.assertEqual([name for name in tree(self.root) if "shardscrub" in name], [])
+                self.assertNotEqual(self.state().returncode, 0)
+                self.dpkg("--force-depends", "--install", *self.folder.glob("*.deb"))
+
+
+if __name__ == "__main__":
+    unittest.main()
