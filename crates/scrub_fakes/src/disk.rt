@@ -12,11 +12,11 @@ ghost use Rattle.scrub_super.specs.Planned.{AreChunkExtents};
 ghost use Rattle.scrub_fakes.specs.Builders.{IsSmall, IsLocatorOf, PutsRecord, IsPlanOfDisk};
 
 use crate::OutOfMemory;
-use scrub_disk::{Geometry, MemDisk, PageSource};
+use scrub_disk::{Geometry, GeometryFault, MemDisk, PageSource};
 use scrub_frame::{FrameFault, Locator, locate, write_frame, write_sealed};
 use scrub_run::{Entry, ShardId, write_run};
 use scrub_super::{MAX_RUNS, Plan, Superblock, choose, write_record};
-use std::alloc::Global;
+use std::alloc::{AllocFailed, Global};
 use thiserror::Error;
 use uuid::Uuid;
 
@@ -34,6 +34,18 @@ pub enum Misfit {
 impl From<OutOfMemory> for Misfit {
     fn from(_fault: OutOfMemory) -> Misfit {
         Misfit::OutOfMemory
+    }
+}
+
+impl<T: Drop> From<AllocFailed<T>> for Misfit {
+    fn from(_fault: AllocFailed<T>) -> Misfit {
+        Misfit::OutOfMemory
+    }
+}
+
+impl From<GeometryFault> for Misfit {
+    fn from(_fault: GeometryFault) -> Misfit {
+        Misfit::DoesNotFit
     }
 }
 

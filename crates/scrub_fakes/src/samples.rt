@@ -39,6 +39,13 @@ pub fn shard_of(last: u8) -> ShardId {
     ShardId(bytes)
 }
 
+/// The identifier of twelve zero bytes and a big-endian number.
+pub fn shard_numbered(number: u32) -> ShardId {
+    let mut bytes = [0; 16];
+    bytes[12..].copy_from_slice(&number.to_be_bytes());
+    ShardId(bytes)
+}
+
 /// The locator of the frame of `abc` and `ONES` at a place.
 pub fn abc_at(extent: u32, offset: u32) -> Locator
     ensures place { (result.extent ≡ extent) × (result.offset ≡ offset) }

@@ -1,6 +1,6 @@
-//! What the tests share: worked disks, extents and their contents, and comparisons.
+//! What the tests share: extents and their contents, the statuses of nine locators, and comparisons.
 
 pub mod compare;
-pub mod disks;
 pub mod extents;
+pub mod nine;
 pub mod reported;

@@ -13,13 +13,13 @@ mod taking;
 mod watch;
 
 use crate::support::compare::{check_answer, check_found, same};
-use crate::support::disks::{many_shards, one_shard};
 use crate::support::reported::{scrubbed, scrubbed_by};
 use crate::workers::left_alone::LeftAlone;
 use crate::workers::meeting::MeetingSource;
 use crate::workers::reading_watch::ReadingWatch;
 use crate::workers::watch::Watch;
 use scrub_disk::{Geometry, MemDisk, PageSource};
+use scrub_fakes::worked::{many_shards, one_shard};
 use scrub_fakes::{CountingSource, plan_of};
 use scrub_pool::{ExtentQueue, NoGate, scan_all};
 use scrub_scan::{Item, scan_in_order};
@@ -65,7 +65,7 @@ fn extent_1_is_held_until_another_worker_has_passed_with_extent_2(
 
 #[test]
 fn four_workers_are_held_until_each_has_passed_with_an_extent(rt: HostRuntime) -> Result<(), Fail> {
-    let (disk, _) = many_shards(&rt, rt.alloc())?;
+    let (disk, _) = many_shards(rt.alloc())?;
     check_workers(&rt, rt.alloc(), &disk, 3, 4)
 }
 
@@ -73,13 +73,13 @@ fn four_workers_are_held_until_each_has_passed_with_an_extent(rt: HostRuntime) -
 fn eight_workers_are_held_until_each_has_passed_with_an_extent(
     rt: HostRuntime,
 ) -> Result<(), Fail> {
-    let (disk, _) = many_shards(&rt, rt.alloc())?;
+    let (disk, _) = many_shards(rt.alloc())?;
     check_workers(&rt, rt.alloc(), &disk, 7, 8)
 }
 
 #[test]
 fn each_of_39_extents_has_its_own_worker_of_65(rt: HostRuntime) -> Result<(), Fail> {
-    let (disk, _) = many_shards(&rt, rt.alloc())?;
+    let (disk, _) = many_shards(rt.alloc())?;
     check_workers(&rt, rt.alloc(), &disk, 64, 39)
 }
 
@@ -107,7 +107,7 @@ fn check_left_alone<R: Threads + Wait + Abort + Clock + Sync>(
 
 #[test]
 fn each_worker_goes_on_until_nothing_is_left(rt: HostRuntime) -> Result<(), Fail> {
-    let (disk, _) = many_shards(&rt, rt.alloc())?;
+    let (disk, _) = many_shards(rt.alloc())?;
     for alone in 0..4 {
         check_left_alone(&rt, rt.alloc(), &disk, 3, alone)?;
     }
@@ -136,7 +136,7 @@ fn check_meeting<R: Threads + Wait + Abort + Clock + Sync>(
 
 #[test]
 fn all_workers_read_pages_at_the_same_time(rt: HostRuntime) -> Result<(), Fail> {
-    let (disk, _) = many_shards(&rt, rt.alloc())?;
+    let (disk, _) = many_shards(rt.alloc())?;
     for workers in [1, 3] {
         check_meeting(&rt, rt.alloc(), &disk, workers)?;
     }
@@ -173,7 +173,7 @@ fn each_of_70_extents_is_reported_to_a_gate_before_it_is_read(rt: HostRuntime) -
 
 #[test]
 fn any_number_of_workers_answers_what_one_reader_answers(rt: HostRuntime) -> Result<(), Fail> {
-    let (disk, index) = many_shards(&rt, rt.alloc())?;
+    let (disk, index) = many_shards(rt.alloc())?;
     let answer = scrubbed(&rt, rt.alloc(), &disk)?;
     same(&rt, answer.index(), index.as_slice());
     let report = str::from_utf8(answer.report())?;

@@ -1,7 +1,7 @@
 //! Which bindings the shard map of a list of index runs has. The runs are read from payloads that are built here.
 
-use crate::support::disks::{entry_of, payload_of, shard};
-use scrub_fakes::abc_at;
+use scrub_fakes::payloads::{entry_of, payload_of};
+use scrub_fakes::{abc_at, shard_numbered};
 use scrub_merge::{Binding, ShardMap, merge, merge_owned};
 use scrub_run::{Entry, Run, read_run};
 use std::alloc::Global;
@@ -100,8 +100,8 @@ fn run_of(alloc: Global, shards: &[Written]) -> Result<Run, Fail> {
     let mut entries = Vec::new(alloc);
     for (number, offset) in shards {
         entries.push(match offset {
-            None => Entry::new(shard(*number), Vec::new(alloc)),
-            Some(offset) => entry_of(alloc, shard(*number), abc_at(1, *offset))?,
+            None => Entry::new(shard_numbered(*number), Vec::new(alloc)),
+            Some(offset) => entry_of(alloc, shard_numbered(*number), abc_at(1, *offset))?,
         })?;
     }
     read(alloc, &entries)
@@ -123,7 +123,7 @@ fn merged(rt: &impl Abort, alloc: Global, runs: &[Option<&[Written]>]) -> Result
 /// Checks a binding, and that the map finds it for its shard.
 fn check_binding(rt: &impl Abort, map: &ShardMap, binding: &Binding, wanted: &Wanted, what: &str) {
     let (run, doubtful, number, offset) = *wanted;
-    assert!(rt; binding.id() == shard(number), "{what}");
+    assert!(rt; binding.id() == shard_numbered(number), "{what}");
     assert!(rt;
         binding.run() == run && binding.doubtful() == doubtful,
         "{what}"
@@ -132,7 +132,7 @@ fn check_binding(rt: &impl Abort, map: &ShardMap, binding: &Binding, wanted: &Wa
         binding.locators() == slice::from_ref(&abc_at(1, offset)),
         "{what}"
     );
-    let found = map.get(&shard(number));
+    let found = map.get(&shard_numbered(number));
     assert!(rt;
         found.is_some_and(|found| found.run() == run && found.doubtful() == doubtful),
         "{what}"
@@ -147,8 +147,14 @@ fn check_merge(rt: &impl Abort, alloc: Global, merge: &Merge) -> Result<(), Fail
     for (binding, wanted) in map.bindings().iter().zip(merge.wanted) {
         check_binding(rt, &map, binding, wanted, what);
     }
-    assert!(rt; map.get(&shard(merge.absent.0)).is_none(), "{what}");
-    assert!(rt; map.get(&shard(merge.absent.1)).is_none(), "{what}");
+    assert!(rt;
+        map.get(&shard_numbered(merge.absent.0)).is_none(),
+        "{what}"
+    );
+    assert!(rt;
+        map.get(&shard_numbered(merge.absent.1)).is_none(),
+        "{what}"
+    );
     Ok(())
 }
 
@@ -164,7 +170,7 @@ fn the_newest_binding_of_each_shard_counts(rt: HostRuntime) -> Result<(), Fail> 
 fn numbered(alloc: Global, first: u32) -> Result<Run, Fail> {
     let mut entries = Vec::new(alloc);
     for number in first..first.saturating_add(2000) {
-        entries.push(entry_of(alloc, shard(number), abc_at(1, number))?)?;
+        entries.push(entry_of(alloc, shard_numbered(number), abc_at(1, number))?)?;
     }
     read(alloc, &entries)
 }
@@ -176,7 +182,7 @@ fn check_numbered(rt: &impl Abort, bindings: &[Binding]) {
     for binding in bindings {
         let run = (number / 1000).saturating_sub(1);
         assert!(rt;
-            binding.id() == shard(number) && binding.run() == run,
+            binding.id() == shard_numbered(number) && binding.run() == run,
             "{number}"
         );
         number = number.saturating_add(1);
@@ -193,6 +199,8 @@ fn thirty_two_runs_of_two_thousand_entries_are_merged(rt: HostRuntime) -> Result
     let map = merge_owned(rt.alloc(), runs)?;
     assert!(rt; map.bindings().len() == 33_000);
     check_numbered(&rt, map.bindings());
-    assert!(rt; map.get(&shard(32_999)).is_some() && map.get(&shard(33_000)).is_none());
+    assert!(rt;
+        map.get(&shard_numbered(32_999)).is_some() && map.get(&shard_numbered(33_000)).is_none()
+    );
     Ok(())
 }

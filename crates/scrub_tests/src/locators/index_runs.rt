@@ -1,10 +1,11 @@
 //! Which index runs of a disk are read, and why the others are lost.
 
 use crate::support::compare::same;
-use crate::support::disks::{Worked, put_abc_and_its_run, put_run};
 use crate::support::reported::status_on;
 use scrub_check::{ReadRuns, RunState, Status, read_runs};
 use scrub_disk::MemDisk;
+use scrub_fakes::payloads::put_run;
+use scrub_fakes::worked::{Worked, put_abc_and_its_run};
 use scrub_fakes::{
     ENDS_IN_MAGIC, ONES, SHARD, TWOS, abc_at, plan_of, put_chunk, put_superblock, small_disk,
 };
@@ -108,13 +109,7 @@ const RUNS: [Runs; 6] = [
 #[test]
 fn runs_of_worked_disks_are_read_or_lost(rt: HostRuntime) -> Result<(), Fail> {
     for (worked, states, runs) in &RUNS {
-        check_runs(
-            &rt,
-            rt.alloc(),
-            &worked.disk(&rt, rt.alloc())?,
-            states,
-            runs,
-        )?;
+        check_runs(&rt, rt.alloc(), &worked.disk(rt.alloc())?, states, runs)?;
     }
     Ok(())
 }

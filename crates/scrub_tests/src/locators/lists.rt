@@ -1,15 +1,16 @@
 //! The lists that follow from the statuses of the named locators, and which chunks are live.
 
 use crate::support::compare::same;
-use crate::support::disks::{
-    deleted_in_the_newest_run, half_garbage, locators_with_status, nine_locators, run_named_twice,
-};
+use crate::support::nine::locators_with_status;
 use crate::support::reported::lists_of;
 use scrub_check::{
     Candidate, Checked, Found, KeptChunk, Owner, Place, Status, dangling, find_start, hidden,
     live_bytes,
 };
 use scrub_disk::MemDisk;
+use scrub_fakes::worked::{
+    deleted_in_the_newest_run, half_garbage, nine_locators, run_named_twice,
+};
 use scrub_fakes::{ENDS_IN_MAGIC, ONES, abc_at, plan_of};
 use scrub_scan::{Item, scan_in_order};
 use std::alloc::Global;
@@ -69,7 +70,7 @@ fn the_search_among_four_items_looks_at_three_at_most(rt: HostRuntime) {
 
 #[test]
 fn named_locators_are_checked_in_their_order(rt: HostRuntime) -> Result<(), Fail> {
-    let (disk, run) = nine_locators(&rt, rt.alloc())?;
+    let (disk, run) = nine_locators(rt.alloc())?;
     let found = lists_of(&rt, rt.alloc(), &disk)?;
     assert!(rt; found.checked.len() == 10);
     same(&rt, found.checked[0].owner, Owner::Run(0));
@@ -83,7 +84,7 @@ fn named_locators_are_checked_in_their_order(rt: HostRuntime) -> Result<(), Fail
 
 #[test]
 fn seven_of_nine_locators_dangle_and_one_is_hidden(rt: HostRuntime) -> Result<(), Fail> {
-    let (disk, _) = nine_locators(&rt, rt.alloc())?;
+    let (disk, _) = nine_locators(rt.alloc())?;
     let found = lists_of(&rt, rt.alloc(), &disk)?;
     let dangling = dangling(rt.alloc(), &found.checked)?;
     assert!(rt; dangling.len() == 7);
@@ -97,7 +98,7 @@ fn seven_of_nine_locators_dangle_and_one_is_hidden(rt: HostRuntime) -> Result<()
 
 #[test]
 fn a_chunk_that_a_hidden_locator_names_is_not_live(rt: HostRuntime) -> Result<(), Fail> {
-    let (disk, _) = nine_locators(&rt, rt.alloc())?;
+    let (disk, _) = nine_locators(rt.alloc())?;
     let found = lists_of(&rt, rt.alloc(), &disk)?;
     same(&rt, found.live.as_slice(), [41, 0, 635].as_slice());
     let orphan = Place {
@@ -117,7 +118,7 @@ fn a_chunk_that_a_hidden_locator_names_is_not_live(rt: HostRuntime) -> Result<()
 
 #[test]
 fn the_chunk_of_a_deleted_shard_is_an_orphan(rt: HostRuntime) -> Result<(), Fail> {
-    let disk = deleted_in_the_newest_run(&rt, rt.alloc())?;
+    let disk = deleted_in_the_newest_run(rt.alloc())?;
     let found = lists_of(&rt, rt.alloc(), &disk)?;
     same(&rt, found.live.as_slice(), [0, 250, 155].as_slice());
     let orphan = Place {
@@ -132,7 +133,7 @@ fn the_chunk_of_a_deleted_shard_is_an_orphan(rt: HostRuntime) -> Result<(), Fail
 
 #[test]
 fn a_chunk_that_two_locators_name_is_live_once(rt: HostRuntime) -> Result<(), Fail> {
-    let disk = run_named_twice(&rt, rt.alloc())?;
+    let disk = run_named_twice(rt.alloc())?;
     let found = lists_of(&rt, rt.alloc(), &disk)?;
     assert!(rt; found.checked.len() == 3);
     same(&rt, found.live.as_slice(), [41, 155].as_slice());
@@ -156,7 +157,7 @@ fn check_candidate(
 
 #[test]
 fn an_extent_that_no_locator_names_may_be_reclaimed(rt: HostRuntime) -> Result<(), Fail> {
-    let disk = deleted_in_the_newest_run(&rt, rt.alloc())?;
+    let disk = deleted_in_the_newest_run(rt.alloc())?;
     let found = lists_of(&rt, rt.alloc(), &disk)?;
     check_candidate(&rt, &found.candidates, 1, 41, &[]);
     assert!(rt; found.candidates_in_doubt.is_empty());
@@ -181,7 +182,7 @@ fn a_half_live_extent_may_be_reclaimed_and_keeps_its_live_chunk(
 fn an_extent_with_a_dangling_or_hidden_locator_is_not_reclaimed(
     rt: HostRuntime,
 ) -> Result<(), Fail> {
-    let (disk, _) = nine_locators(&rt, rt.alloc())?;
+    let (disk, _) = nine_locators(rt.alloc())?;
     let found = lists_of(&rt, rt.alloc(), &disk)?;
     assert!(rt; found.candidates.is_empty());
     Ok(())

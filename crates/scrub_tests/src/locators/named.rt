@@ -1,12 +1,13 @@
 //! Which locators a disk names, and which runs bind its shards.
 
 use crate::support::compare::same;
-use crate::support::disks::{
-    broken_newest_run, deleted_in_the_newest_run, locators_with_status, nine_locators,
-    put_abc_and_its_run, run_named_twice,
-};
+use crate::support::nine::locators_with_status;
 use scrub_check::{Named, Owner, named_locators, read_runs};
 use scrub_disk::MemDisk;
+use scrub_fakes::worked::{
+    broken_newest_run, deleted_in_the_newest_run, nine_locators, put_abc_and_its_run,
+    run_named_twice,
+};
 use scrub_fakes::{SHARD, abc_at, mark_bad, plan_of, small_disk};
 use scrub_frame::Locator;
 use scrub_merge::{ShardMap, merge};
@@ -90,7 +91,7 @@ fn the_locator_of_a_lost_run_is_named(rt: HostRuntime) -> Result<(), Fail> {
 fn a_run_and_nine_locators_of_a_shard_are_named_in_their_order(
     rt: HostRuntime,
 ) -> Result<(), Fail> {
-    let (disk, run) = nine_locators(&rt, rt.alloc())?;
+    let (disk, run) = nine_locators(rt.alloc())?;
     let (_, named) = shards_and_named(rt.alloc(), &disk)?;
     assert!(rt; named.len() == 10);
     same(&rt, named[0], named_by_run(0, run));
@@ -102,7 +103,7 @@ fn a_run_and_nine_locators_of_a_shard_are_named_in_their_order(
 
 #[test]
 fn a_shard_that_the_newest_run_deletes_is_not_bound(rt: HostRuntime) -> Result<(), Fail> {
-    let disk = deleted_in_the_newest_run(&rt, rt.alloc())?;
+    let disk = deleted_in_the_newest_run(rt.alloc())?;
     let (map, named) = shards_and_named(rt.alloc(), &disk)?;
     check_unbound(&rt, &map);
     check_owners(&rt, &named, &[0, 1, 2].map(Owner::Run));
@@ -114,7 +115,7 @@ const TWO_RUNS_AND_A_SHARD: [Owner; 3] = [Owner::Run(0), Owner::Run(1), Owner::S
 
 #[test]
 fn a_shard_after_a_broken_run_is_bound_and_doubtful(rt: HostRuntime) -> Result<(), Fail> {
-    let disk = broken_newest_run(&rt, rt.alloc())?;
+    let disk = broken_newest_run(rt.alloc())?;
     let (map, named) = shards_and_named(rt.alloc(), &disk)?;
     check_bound(&rt, &map, 1, true);
     check_owners(&rt, &named, &TWO_RUNS_AND_A_SHARD);
@@ -125,7 +126,7 @@ fn a_shard_after_a_broken_run_is_bound_and_doubtful(rt: HostRuntime) -> Result<(
 
 #[test]
 fn a_run_that_is_named_twice_binds_its_shard_once(rt: HostRuntime) -> Result<(), Fail> {
-    let disk = run_named_twice(&rt, rt.alloc())?;
+    let disk = run_named_twice(rt.alloc())?;
     let (map, named) = shards_and_named(rt.alloc(), &disk)?;
     check_bound(&rt, &map, 0, false);
     check_owners(&rt, &named, &TWO_RUNS_AND_A_SHARD);

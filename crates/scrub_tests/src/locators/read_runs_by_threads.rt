@@ -2,11 +2,12 @@
 //! `index_runs`.
 
 use crate::support::compare::same;
-use crate::support::disks::{
-    broken_newest_run, deleted_in_the_newest_run, put_abc_and_its_run, put_run, run_named_twice,
-};
 use scrub_check::{read_all_runs, read_runs};
 use scrub_disk::{Geometry, MemDisk};
+use scrub_fakes::payloads::put_run;
+use scrub_fakes::worked::{
+    broken_newest_run, deleted_in_the_newest_run, put_abc_and_its_run, run_named_twice,
+};
 use scrub_fakes::{TWOS, abc_at, mark_bad, plan_of, put_chunk, put_superblock, small_disk};
 use scrub_frame::Locator;
 use scrub_run::{Entry, Run};
@@ -78,11 +79,11 @@ fn one_run_is_read_or_lost(rt: HostRuntime) -> Result<(), Fail> {
 
 #[test]
 fn two_and_three_runs_are_read(rt: HostRuntime) -> Result<(), Fail> {
-    let twice = run_named_twice(&rt, rt.alloc())?;
+    let twice = run_named_twice(rt.alloc())?;
     check_runs(&rt, rt.alloc(), &twice, 2, 0)?;
-    let broken = broken_newest_run(&rt, rt.alloc())?;
+    let broken = broken_newest_run(rt.alloc())?;
     check_runs(&rt, rt.alloc(), &broken, 2, 1)?;
-    let deleted = deleted_in_the_newest_run(&rt, rt.alloc())?;
+    let deleted = deleted_in_the_newest_run(rt.alloc())?;
     check_runs(&rt, rt.alloc(), &deleted, 3, 0)
 }
 

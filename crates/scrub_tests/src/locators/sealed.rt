@@ -1,10 +1,10 @@
 //! Locators of sealed frames: their statuses, the bytes that such chunks take, and index runs in sealed frames.
 
 use crate::support::compare::same;
-use crate::support::disks::put_run;
 use crate::support::reported::{lists_of, status_on};
 use scrub_check::Status;
 use scrub_disk::MemDisk;
+use scrub_fakes::payloads::put_run;
 use scrub_fakes::{
     ENDS_IN_MAGIC, ONES, SHARD, TWOS, abc_at, mark_bad, put_chunk, put_sealed, put_superblock,
     run_of, small_disk,

@@ -1,10 +1,10 @@
 //! One chunk that 3,200 locators name: fifty shards in one run, each with 64 locators to it.
 
 use crate::support::compare::same;
-use crate::support::disks::payload_of;
 use crate::support::reported::{checked_of, lists_of, scrubbed};
 use scrub_check::{Checked, Owner, SharedPlace, Status, shared};
 use scrub_disk::{Geometry, MemDisk};
+use scrub_fakes::payloads::payload_of;
 use scrub_fakes::{ONES, TWOS, abc_at, put_chunk, put_superblock, shard_of};
 use scrub_frame::Locator;
 use scrub_run::Entry;
@@ -20,7 +20,7 @@ fn run_of_fifty(alloc: Global) -> Result<Vec<u8>, Fail> {
         let locators = Vec::from_elem(alloc, abc_at(1, 0), 64)?;
         entries.push(Entry::new(shard_of(number), locators))?;
     }
-    payload_of(alloc, &entries)
+    Ok(payload_of(alloc, &entries)?)
 }
 
 /// A disk of three extents of 256 KiB with that chunk in extent 1 and that run in extent 2; the run's locator; and its payload.

@@ -1,10 +1,11 @@
 //! Statuses of locators: each of them, and the cases on both sides of each limit.
 
 use crate::support::compare::same;
-use crate::support::disks::{locators_with_status, nine_locators, overwritten_end};
+use crate::support::nine::locators_with_status;
 use crate::support::reported::status_on;
 use scrub_check::Status;
 use scrub_disk::MemDisk;
+use scrub_fakes::worked::{nine_locators, overwritten_end};
 use scrub_fakes::{
     ABC_DIGEST, ENDS_IN_MAGIC, ONES, TWOS, abc_at, mark_bad, put_chunk, put_superblock, small_disk,
 };
@@ -37,7 +38,7 @@ fn abc_under(alloc: Global, pointer: u32) -> Result<MemDisk, Fail> {
 
 #[test]
 fn nine_locators_have_nine_statuses(rt: HostRuntime) -> Result<(), Fail> {
-    let (disk, run) = nine_locators(&rt, rt.alloc())?;
+    let (disk, run) = nine_locators(rt.alloc())?;
     check(&rt, rt.alloc(), &disk, &locators_with_status())?;
     check(&rt, rt.alloc(), &disk, &[(run, Status::Sound)])
 }

@@ -8,13 +8,13 @@ ghost use Rattle.scrub_scan.specs.Item.{start_of};
 use crate::locators::ordered_map::check_map;
 use crate::scan::plain_scan::check_scan;
 use crate::support::compare::same;
-use crate::support::disks::{Worked, nine_locators};
 use crate::support::reported::checked_of;
 use scrub_check::{
     Candidate, Checked, KeptChunk, Place, SharedPlace, Status, candidates, find_start, orphans,
     shared, twins,
 };
 use scrub_disk::{MemDisk, PageSource};
+use scrub_fakes::worked::{Worked, nine_locators};
 use scrub_fakes::{mark_bad, plan_of, put};
 use scrub_scan::{AllFindings, ExtentResult, Item, scan_in_order, tile};
 use std::alloc::Global;
@@ -323,12 +323,12 @@ const WALKED: [Worked; 13] = [
 #[test]
 fn walks_agree_on_worked_disks(rt: HostRuntime) -> Result<(), Fail> {
     for worked in &WALKED {
-        check_each(&rt, rt.alloc(), &worked.disk(&rt, rt.alloc())?)?;
+        check_each(&rt, rt.alloc(), &worked.disk(rt.alloc())?)?;
     }
     Ok(())
 }
 
 #[test]
 fn walks_agree_on_nine_locators(rt: HostRuntime) -> Result<(), Fail> {
-    check_each(&rt, rt.alloc(), &nine_locators(&rt, rt.alloc())?.0)
+    check_each(&rt, rt.alloc(), &nine_locators(rt.alloc())?.0)
 }

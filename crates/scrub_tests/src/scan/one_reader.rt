@@ -1,8 +1,8 @@
 //! What one reader finds in the planned extents.
 
-use crate::support::disks::{one_shard, one_shard_without};
 use crate::support::extents::{check_findings, full};
 use scrub_disk::{MemDisk, PageSource};
+use scrub_fakes::worked::{one_shard, one_shard_without};
 use scrub_fakes::{plan_of, small_disk};
 use scrub_scan::{AllFindings, scan_in_order};
 use std::alloc::Global;

@@ -4,11 +4,11 @@
 use crate::locators::walks::copy_of;
 use crate::scan::page_reads::heads;
 use crate::scan::plain_scan::{check_scan, check_tilings};
-use crate::support::disks::{
-    broken_newest_run, deleted_in_the_newest_run, many_shards, one_shard_without,
-};
 use crate::support::extents::{Written, disk_with, put_all, put_frames};
 use scrub_disk::{Geometry, MemDisk, PageSource};
+use scrub_fakes::worked::{
+    broken_newest_run, deleted_in_the_newest_run, many_shards, one_shard_without,
+};
 use scrub_fakes::{ONES, THREES, TWOS, mark_bad, put_superblock, small_disk};
 use std::alloc::Global;
 use std::process::Abort;
@@ -101,8 +101,8 @@ fn disks_of_four_extents_are_scanned_as_by_the_reference(rt: HostRuntime) -> Res
         alloc,
         &MemDisk::blank(alloc, Geometry::new(64, 4, 4)?)?,
     )?;
-    check_each(&rt, alloc, &deleted_in_the_newest_run(&rt, alloc)?)?;
-    check_each(&rt, alloc, &broken_newest_run(&rt, alloc)?)
+    check_each(&rt, alloc, &deleted_in_the_newest_run(alloc)?)?;
+    check_each(&rt, alloc, &broken_newest_run(alloc)?)
 }
 
 #[test]
@@ -127,7 +127,7 @@ fn copy_without_all(alloc: Global, disk: &MemDisk, page: u32) -> Result<MemDisk,
 #[test]
 fn a_disk_of_forty_extents_is_scanned_as_by_the_reference(rt: HostRuntime) -> Result<(), Fail> {
     let alloc = rt.alloc();
-    let (disk, _) = many_shards(&rt, alloc)?;
+    let (disk, _) = many_shards(alloc)?;
     check_scan(&rt, alloc, &disk)?;
     for page in 0..64 {
         check_scan(&rt, alloc, &copy_without(alloc, &disk, 0, page)?)?;

@@ -3,9 +3,9 @@
 ghost use Rattle.std.specs.Prelude.{◌≡◌};
 
 use crate::support::compare::same;
-use crate::support::disks::one_shard;
 use crate::support::extents::{disk_with, mark_all};
 use scrub_disk::{Geometry, MemDisk, PageSource};
+use scrub_fakes::worked::one_shard;
 use scrub_fakes::{CountingSource, ONES, TWOS, put, put_chunk, put_superblock, small_disk};
 use scrub_frame::Form;
 use scrub_scan::{scan_extent, scan_in_order, tile};

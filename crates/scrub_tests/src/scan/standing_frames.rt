@@ -1,7 +1,7 @@
 //! Frames at given places, whatever the tiling finds there.
 
-use crate::support::disks::collision;
 use scrub_disk::{MemDisk, PageSource};
+use scrub_fakes::worked::collision;
 use scrub_fakes::{ABC_DIGEST, ENDS_IN_MAGIC, ONES, mark_bad, put_chunk};
 use scrub_frame::Form;
 use scrub_scan::{Standing, frame_stands, read_payload};

@@ -3,8 +3,9 @@
 
 use crate::scrubs::listings::{NONE, Which, check_listing};
 use crate::scrubs::retired::broken_and_retired;
-use crate::support::disks::{collision, entry_of, nine_locators, payload_of, put_run};
 use scrub_disk::{Geometry, MemDisk};
+use scrub_fakes::payloads::{entry_of, payload_of, put_run};
+use scrub_fakes::worked::{collision, nine_locators};
 use scrub_fakes::{
     FOURS, ONES, SHARD, TWOS, abc_at, put, put_chunk, put_record, put_sealed, put_superblock,
     shard_of, small_disk,
@@ -60,7 +61,7 @@ impl Disk {
             Disk::Less => sealed_and_garbage(alloc, false),
             Disk::Both => both(alloc),
             Disk::HiddenRun => hidden_run(alloc),
-            Disk::NineLocators => Ok(nine_locators(rt, alloc)?.0),
+            Disk::NineLocators => Ok(nine_locators(alloc)?.0),
             Disk::Retired => broken_and_retired(rt, alloc),
         }
     }

@@ -4,11 +4,13 @@
 use crate::scrubs::listings::{NONE, Which, listing_of};
 use crate::scrubs::sizes::{filled, run_of_shards};
 use crate::support::compare::same;
-use crate::support::disks::{entry_of, payload_of, put_run, shard};
 use crate::support::reported::{checked_of, scrubbed};
 use scrub_check::{Owner, SharedPlace, Status, broken_shards, dangling, hidden, shared};
 use scrub_disk::{Geometry, MemDisk, PageSource, read_extent};
-use scrub_fakes::{ONES, TWOS, abc_at, put_chunk, put_contents, put_sealed, put_superblock};
+use scrub_fakes::payloads::{entry_of, payload_of, put_run};
+use scrub_fakes::{
+    ONES, TWOS, abc_at, put_chunk, put_contents, put_sealed, put_superblock, shard_numbered,
+};
 use scrub_pool::NoGate;
 use scrub_super::{Plan, Superblock, choose_with_pages, read_record};
 use std::alloc::Global;
@@ -52,7 +54,7 @@ fn named(alloc: Global, places: Places) -> Result<MemDisk, Fail> {
     let mut entries = Vec::new(alloc);
     for number in 0..SHARDS {
         let place = places.of(number);
-        entries.push(entry_of(alloc, shard(number), abc_at(1, place))?)?;
+        entries.push(entry_of(alloc, shard_numbered(number), abc_at(1, place))?)?;
         if places != Places::Blank {
             put_chunk(alloc, &mut disk, 1, place, ONES, b"abc")?;
         }
@@ -89,7 +91,11 @@ fn check_statuses<R: Threads + Abort + Sync>(
         (Owner::Run(0), Status::Sound),
     );
     assert!(rt; checked[1..].iter().all(|one| one.status == status));
-    same(rt, checked[200_000].owner, Owner::Shard(shard(199_999)));
+    same(
+        rt,
+        checked[200_000].owner,
+        Owner::Shard(shard_numbered(199_999)),
+    );
     let shared = shared(alloc, &checked)?;
     let found = [
         hidden(alloc, &checked)?.len(),

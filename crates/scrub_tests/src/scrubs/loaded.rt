@@ -4,10 +4,10 @@
 ghost use Rattle.std.specs.Prelude.{◌≡◌, ◌≤◌};
 
 use crate::support::compare::{check_answer, same};
-use crate::support::disks::one_shard;
 use crate::support::reported::scrubbed;
 use scrub_disk::{PageSource, load};
 use scrub_fakes::published::ONE_SHARD;
+use scrub_fakes::worked::one_shard;
 use scrub_fakes::{RawBytes, mark_bad, small_geometry};
 use scrub_listings::find_sizes;
 use scrub_report::ScrubAnswer;

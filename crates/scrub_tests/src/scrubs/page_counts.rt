@@ -5,9 +5,9 @@ ghost use Rattle.scrub_disk.specs.Memory.{image_of};
 ghost use Rattle.scrub_disk.specs.WholePages.{memory_pages};
 
 use crate::support::compare::same;
-use crate::support::disks::many_shards;
 use crate::support::reported::{scrubbed, scrubbed_by};
 use scrub_disk::{Geometry, MemDisk, PageSource, Unreadable};
+use scrub_fakes::worked::many_shards;
 use scrub_pool::NoGate;
 use std::alloc::Global;
 use std::process::Abort;
@@ -111,7 +111,7 @@ fn check_pages(rt: &impl Abort, source: &PageCounts<'_>) {
 
 #[test]
 fn one_reader_asks_for_each_page_once_except_those_of_the_run(rt: HostRuntime) -> Result<(), Fail> {
-    let (disk, _) = many_shards(&rt, rt.alloc())?;
+    let (disk, _) = many_shards(rt.alloc())?;
     let source = PageCounts::new(rt.alloc(), &disk)?;
     assert!(&rt; scrubbed(&rt, rt.alloc(), &source)?.is_clean());
     check_pages(&rt, &source);
@@ -136,7 +136,7 @@ fn check_workers<R: Threads + Wait + Abort + Sync>(
 
 #[test]
 fn workers_ask_for_each_page_as_often_as_one_reader(rt: HostRuntime) -> Result<(), Fail> {
-    let (disk, _) = many_shards(&rt, rt.alloc())?;
+    let (disk, _) = many_shards(rt.alloc())?;
     for workers in [0, 3] {
         check_workers(&rt, rt.alloc(), &disk, workers)?;
     }

@@ -1,10 +1,10 @@
 //! Published reports of whole scrubs, byte for byte, and the recovered indexes.
 
 use crate::support::compare::same;
-use crate::support::disks::{one_shard, overwritten_end, twins_and_shared};
 use crate::support::reported::scrubbed;
 use scrub_disk::MemDisk;
 use scrub_fakes::published::{COLLISION, NO_SHARDS, ONE_SHARD, TWINS, ZEROS};
+use scrub_fakes::worked::{one_shard, overwritten_end, twins_and_shared};
 use scrub_fakes::{ENDS_IN_MAGIC, SHARD, abc_at, mark_bad, run_of, small_disk};
 use std::alloc::Global;
 use std::process::Abort;
@@ -50,14 +50,14 @@ fn a_chunk_that_the_scan_steps_past_is_hidden(rt: HostRuntime) -> Result<(), Fai
 
 #[test]
 fn twins_and_a_shared_place_are_reported(rt: HostRuntime) -> Result<(), Fail> {
-    let (disk, index) = twins_and_shared(&rt, rt.alloc())?;
+    let (disk, index) = twins_and_shared(rt.alloc())?;
     check(&rt, rt.alloc(), &disk, TWINS, &index, false)
 }
 
 /// The report differs from that of the test above only in the page and the candidate.
 #[test]
 fn an_unreadable_page_of_extent_0_leaves_no_candidate(rt: HostRuntime) -> Result<(), Fail> {
-    let (mut disk, index) = twins_and_shared(&rt, rt.alloc())?;
+    let (mut disk, index) = twins_and_shared(rt.alloc())?;
     mark_bad(&mut disk, 0, 3)?;
     let report = TWINS
         .replace(rt.alloc(), r#"{"extent":1,"free":41,"keep":[41]}"#, "")?

@@ -1,8 +1,9 @@
 //! What may be reclaimed on worked disks, line by line, and the doubts that forbid it.
 
 use crate::scrubs::listings::{NONE, Which, check_listing};
-use crate::support::disks::{Worked, put_run};
 use scrub_disk::MemDisk;
+use scrub_fakes::payloads::put_run;
+use scrub_fakes::worked::Worked;
 use scrub_fakes::{ONES, TWOS, put_chunk, put_superblock, small_disk};
 use std::alloc::Global;
 use std::process::Abort;
@@ -154,13 +155,7 @@ const ROWS: [Row; 18] = [
 #[test]
 fn each_worked_disk_lists_what_may_be_reclaimed(rt: HostRuntime) -> Result<(), Fail> {
     for (worked, accepted, lines) in &ROWS {
-        check(
-            &rt,
-            rt.alloc(),
-            &worked.disk(&rt, rt.alloc())?,
-            *accepted,
-            lines,
-        )?;
+        check(&rt, rt.alloc(), &worked.disk(rt.alloc())?, *accepted, lines)?;
     }
     Ok(())
 }

@@ -3,12 +3,13 @@
 ghost use Rattle.std.specs.Prelude.{◌≤◌};
 
 use crate::support::compare::{check_answer, same};
-use crate::support::disks::{put_abc_and_its_run, put_run};
 use crate::support::reported::{scrubbed, scrubbed_by};
 use scrub_book::{Book, Event, PoolCore, StepRefused};
 use scrub_check::{Status, status_of};
 use scrub_disk::{Geometry, MemDisk, PageSource};
+use scrub_fakes::payloads::put_run;
 use scrub_fakes::published::NO_SHARDS;
+use scrub_fakes::worked::put_abc_and_its_run;
 use scrub_fakes::{
     CountingSource, ONES, TWOS, abc_at, mark_bad, put, put_chunk, put_contents, put_record,
     small_disk,

@@ -1,8 +1,8 @@
 //! Which extents have room for copies, and from where on: by what is in an extent, behind its write pointer, and named in it.
 
 use crate::scrubs::listings::{Which, check_listing};
-use crate::support::disks::put_run;
 use scrub_disk::{Geometry, MemDisk};
+use scrub_fakes::payloads::put_run;
 use scrub_fakes::{FOURS, ONES, THREES, TWOS, abc_at, mark_bad, put, put_chunk, put_superblock};
 use std::alloc::Global;
 use std::slice;

@@ -1,10 +1,10 @@
 //! Parts of the reports of whole scrubs, for disks without a published report.
 
 use crate::support::compare::same;
-use crate::support::disks::{Worked, nine_locators};
 use crate::support::reported::scrubbed;
 use scrub_disk::MemDisk;
 use scrub_fakes::published::NO_SHARDS;
+use scrub_fakes::worked::{Worked, nine_locators};
 use scrub_report::ScrubAnswer;
 use std::alloc::Global;
 use std::process::Abort;
@@ -127,7 +127,7 @@ fn reports_of_worked_disks_have_these_pieces(rt: HostRuntime) -> Result<(), Fail
         check(
             &rt,
             rt.alloc(),
-            &worked.disk(&rt, rt.alloc())?,
+            &worked.disk(rt.alloc())?,
             *is_clean,
             pieces,
         )?;
@@ -139,7 +139,7 @@ fn reports_of_worked_disks_have_these_pieces(rt: HostRuntime) -> Result<(), Fail
 fn the_chunk_of_a_shard_that_the_newest_run_deletes_is_an_orphan(
     rt: HostRuntime,
 ) -> Result<(), Fail> {
-    let disk = Worked::DeletedInTheNewestRun.disk(&rt, rt.alloc())?;
+    let disk = Worked::DeletedInTheNewestRun.disk(rt.alloc())?;
     let pieces = [
         r#""candidates":[{"extent":1,"free":41,"keep":[]}]"#,
         r#""orphans":[{"extent":1,"length":3,"offset":0,"uuid":"11111111-1111-1111-1111-111111111111"}]"#,
@@ -187,7 +187,7 @@ const DANGLING: [(&str, &str); 7] = [
 
 #[test]
 fn a_shard_whose_locators_dangle_is_broken(rt: HostRuntime) -> Result<(), Fail> {
-    let (disk, _) = nine_locators(&rt, rt.alloc())?;
+    let (disk, _) = nine_locators(rt.alloc())?;
     let pieces = [
         r#""broken":["00000000000000000000000000000001"]"#,
         r#""candidates":[]"#,

@@ -5,12 +5,15 @@ ghost use Rattle.std.specs.Prelude.{◌≡◌, ◌<◌, All, Contains, IsTrue, O
 ghost use Rattle.scrub_disk.specs.Memory.{image_of};
 
 use crate::support::compare::same;
-use crate::support::disks::{payload_of, put_abc_and_its_run, shard};
 use crate::support::reported::{lists_of, scrubbed};
 use scrub_book::Book;
 use scrub_check::{named_locators, twins};
 use scrub_disk::{Geometry, MemDisk, PageSource, load};
-use scrub_fakes::{ONES, RawBytes, TWOS, abc_at, plan_of, put_chunk, put_superblock, small_disk};
+use scrub_fakes::payloads::payload_of;
+use scrub_fakes::worked::put_abc_and_its_run;
+use scrub_fakes::{
+    ONES, RawBytes, TWOS, abc_at, plan_of, put_chunk, put_superblock, shard_numbered, small_disk,
+};
 use scrub_merge::merge;
 use scrub_run::{Entry, read_run, write_run};
 use scrub_scan::{AllFindings, scan_extent, scan_in_order, tile};
@@ -27,7 +30,7 @@ fn entry_of_64(alloc: Global, number: u32) -> Result<Entry, Fail> {
         let chunk = number.saturating_mul(64).saturating_add(i);
         locators.push(abc_at(1, chunk.saturating_mul(41)))?;
     }
-    Ok(Entry::new(shard(number), locators))
+    Ok(Entry::new(shard_numbered(number), locators))
 }
 
 /// The payload of a run of `shards` shards, each of 64 chunks.
@@ -36,7 +39,7 @@ pub(crate) fn run_of_shards(alloc: Global, shards: u32) -> Result<Vec<u8>, Fail>
     for number in 0..shards {
         entries.push(entry_of_64(alloc, number)?)?;
     }
-    payload_of(alloc, &entries)
+    Ok(payload_of(alloc, &entries)?)
 }
 
 /// A disk of three extents: `chunks` chunks of `abc` under one UUID in extent 1, and in extent 2 the run of `shards` shards
@@ -109,9 +112,9 @@ fn many_shards(alloc: Global) -> Result<Vec<u8>, Fail> {
     let mut entries = Vec::new(alloc);
     for number in 0..40_000 {
         let locators = Vec::from_slice(alloc, &[abc_at(1, 0)])?;
-        entries.push(Entry::new(shard(number), locators))?;
+        entries.push(Entry::new(shard_numbered(number), locators))?;
     }
-    payload_of(alloc, &entries)
+    Ok(payload_of(alloc, &entries)?)
 }
 
 #[test]

@@ -1,9 +1,9 @@
 //! What a pool of workers does, event by event, in the pure machine.
 
 use crate::support::compare::{check_found, same};
-use crate::support::disks::one_shard;
 use scrub_book::{Event, PoolCore, StepRefused};
 use scrub_disk::{Geometry, MemDisk};
+use scrub_fakes::worked::one_shard;
 use scrub_fakes::{ONES, plan_of, put_chunk, put_superblock};
 use scrub_scan::scan_in_order;
 use std::alloc::Global;

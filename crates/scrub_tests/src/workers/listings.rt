@@ -5,10 +5,10 @@ ghost use Rattle.std.specs.Prelude.{◌≤◌};
 
 use crate::scrubs::listings::{NONE, Which, listing_of};
 use crate::support::compare::same;
-use crate::support::disks::many_shards;
 use crate::workers::reading_watch::ReadingWatch;
 use crate::workers::watch::Watch;
 use scrub_disk::{MemDisk, PageSource};
+use scrub_fakes::worked::many_shards;
 use scrub_fakes::{CountingSource, plan_of, put_chunk, put_superblock};
 use std::alloc::Global;
 use std::process::Abort;
@@ -71,7 +71,7 @@ const ALL: [Which; 4] = [
 
 /// The disk of many shards, with a second chunk in each of extents 1 to 38 that nobody names.
 fn halved(rt: &impl Abort, alloc: Global) -> Result<MemDisk, Fail> {
-    let (mut disk, payload) = many_shards(rt, alloc)?;
+    let (mut disk, payload) = many_shards(alloc)?;
     let mut pointers = Vec::new(alloc);
     for byte in 1..39 {
         put_chunk(alloc, &mut disk, u32::from(byte), 41, [byte; 16], b"abc")?;
