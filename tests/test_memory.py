@@ -5,7 +5,7 @@ refusal. Then the same again, with all later allocations refused too. The run wi
 Every other run has to end out of memory: with status 4, no output and the error message for it. If later allocations aren't
 refused, the whole right answer is right too, since some refused requests are repeated.
 
-Single calls are those of the crate scrub_growths, if `rt` has built its program here. Each public function of a library that
+Single calls are those of the crate scrub_refused_memory, if `rt` has built its program here. Each public function of a library that
 takes an allocator, or can answer out of memory, has to be a call there.
 """
 import unittest
@@ -79,7 +79,7 @@ class Growths(LibraryCase):
     @classmethod
     def setUpClass(cls):
         if not growths.PROGRAM.is_file():
-            raise unittest.SkipTest("the program of crates/scrub_growths isn't built; rt ci builds it")
+            raise unittest.SkipTest("the program of crates/scrub_refused_memory isn't built; rt ci builds it")
         super().setUpClass()
 
     def test_each_public_function_that_takes_memory_is_a_call(self):

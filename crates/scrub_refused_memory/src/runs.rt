@@ -1,8 +1,8 @@
 //! Index runs: written and compared with their bytes field by field, read, copied and merged.
 
 use crate::calls::Trial;
-use crate::disks::{one_shard_payload, payload_of, two_shards_payload};
 use crate::ending::{Stop, Wanted, right};
+use scrub_fakes::payloads::{one_shard_payload, payload_of_each, two_shards_payload};
 use scrub_fakes::published::NO_SHARDS;
 use scrub_fakes::{SHARD, abc_at};
 use scrub_merge::ShardMap;
@@ -74,8 +74,8 @@ fn not_a_run(alloc: Global, payload: &[u8]) -> Result<(), Stop> {
 /// a byte after the digest, no bytes, and a count that 40 bytes can't hold.
 pub fn read_run(alloc: Global, wanted: Wanted) -> Result<(), Stop> {
     let payload = one_shard_payload(alloc)?;
-    let equal = payload_of(alloc, &[SHARD; 2], &[abc_at(1, 0)])?;
-    let many = payload_of(alloc, &[SHARD], &[abc_at(1, 0); 65])?;
+    let equal = payload_of_each(alloc, &[SHARD; 2], &[abc_at(1, 0)])?;
+    let many = payload_of_each(alloc, &[SHARD], &[abc_at(1, 0); 65])?;
     let mut longer = one_shard_payload(alloc)?;
     longer.push(0)?;
     let mut forged = NO_SHARDS;
@@ -110,7 +110,7 @@ pub fn copy_run(alloc: Global, wanted: Wanted) -> Result<(), Stop> {
 /// Runs of the one shard, newest first: `Some(true)` has its chunk, `Some(false)` deletes it, and `None` is lost.
 fn runs_of(alloc: Global, given: &[Option<bool>]) -> Result<Vec<Option<Run>>, Stop> {
     let named = one_shard_payload(alloc)?;
-    let deleted = payload_of(alloc, &[SHARD], &[])?;
+    let deleted = payload_of_each(alloc, &[SHARD], &[])?;
     let mut runs = Vec::new(alloc);
     for one in given {
         runs.push(match one {

@@ -3,7 +3,7 @@ use Rattle.std.proofs.Common.{◌≡◌, ◌-◌, ◌∙◌, arith, ap}
 use Rattle.std.specs.List.{range_with_len}
 use Rattle.scrub_disk.specs.Memory.{image_of}
 use Rattle.scrub_fakes.proofs.Planned.{two_of_three}
-use Rattle.scrub_growths.proofs.disks.restricted.Goals as goal
+use Rattle.scrub_refused_memory.proofs.disks.restricted.Goals as goal
 
 pub restrict-requires-clause-each_planned : goal.restrict-requires-clause-each_planned
 restrict-requires-clause-each_planned c =

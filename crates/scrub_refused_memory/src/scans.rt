@@ -6,9 +6,11 @@ ghost use Rattle.scrub_super.specs.Plan.{pointer_of};
 ghost use Rattle.scrub_scan.specs.Scanned.{scanned, result_image};
 
 use crate::calls::Trial;
-use crate::disks::{abc_alone, four_extents, nine_locators, one_shard, one_shard_payload};
+use crate::disks::one_shard;
 use crate::ending::{Stop, Wanted, right};
 use scrub_disk::{MemDisk, PageSource};
+use scrub_fakes::payloads::one_shard_payload;
+use scrub_fakes::worked::{abc_alone, four_extents, nine_locators};
 use scrub_fakes::{ABC_DIGEST, ENDS_IN_MAGIC, ONES, TWOS, plan_of};
 use scrub_frame::{Form, Head, digest_of};
 use scrub_scan::{AllFindings, ExtentResult, Item, Standing};

@@ -1,14 +1,14 @@
 //! Calls that read index runs and find the statuses of locators.
 
 use crate::calls::Trial;
-use crate::disks::{
-    broken_newest_run, deleted_in_the_newest_run, locators_with_status, names_in,
-    names_with_status, nine_locators,
-};
+use crate::disks::{NINE_STATUSES, names_in, names_with_status};
 use crate::ending::{Stop, Wanted, right};
 use crate::runs::is_one_shard;
 use scrub_check::{ReadRuns, RunState, Status};
 use scrub_disk::MemDisk;
+use scrub_fakes::worked::{
+    broken_newest_run, deleted_in_the_newest_run, nine_locators, nine_of_a_shard,
+};
 use scrub_fakes::{SHARD, plan_of};
 use scrub_frame::Locator;
 use scrub_merge::merge;
@@ -74,9 +74,9 @@ pub fn status_of(alloc: Global, wanted: Wanted) -> Result<(), Stop> {
     let plan = plan_of(alloc, &disk)?;
     let all = scan_in_order(alloc, &disk, &plan)?;
     wanted.made()?;
-    for (locator, status) in locators_with_status() {
-        let found = scrub_check::status_of(alloc, &disk, &plan, &all, &locator)?;
-        right(found == status)?;
+    for (locator, status) in nine_of_a_shard().iter().zip(&NINE_STATUSES) {
+        let found = scrub_check::status_of(alloc, &disk, &plan, &all, locator)?;
+        right(found == *status)?;
     }
     Ok(())
 }

@@ -1,9 +1,10 @@
 //! The lists that follow from the statuses of locators, on the disk of nine locators and on that of twins and a shared place.
 
 use crate::calls::Trial;
-use crate::disks::{many_shards, names_with_status, nine_locators, twins_and_shared};
+use crate::disks::{names_with_status, twins_and_shared};
 use crate::ending::{Stop, Wanted, right};
 use scrub_check::{Candidate, Checked, KeptChunk, Owner, Place, SharedPlace, Spares, Status};
+use scrub_fakes::worked::{many_shards, nine_locators};
 use scrub_fakes::{ONES, SHARD, abc_at, plan_of};
 use scrub_scan::{Standing, scan_in_order};
 use std::alloc::Global;
@@ -144,7 +145,7 @@ fn are_many(spares: &[Standing]) -> bool {
 
 /// The spares of a locator on the disk of 38 chunks of one payload.
 pub fn spares_of(alloc: Global, wanted: Wanted) -> Result<(), Stop> {
-    let disk = many_shards(alloc)?;
+    let (disk, _) = many_shards(alloc)?;
     let plan = plan_of(alloc, &disk)?;
     let all = scan_in_order(alloc, &disk, &plan)?;
     wanted.made()?;
@@ -154,7 +155,7 @@ pub fn spares_of(alloc: Global, wanted: Wanted) -> Result<(), Stop> {
 
 /// The same among these chunks.
 pub fn spares_among(alloc: Global, wanted: Wanted) -> Result<(), Stop> {
-    let disk = many_shards(alloc)?;
+    let (disk, _) = many_shards(alloc)?;
     let plan = plan_of(alloc, &disk)?;
     let all = scan_in_order(alloc, &disk, &plan)?;
     let found = Vec::from_slice(

@@ -5,9 +5,10 @@ ghost use Rattle.std.specs.Prelude.{IfOk, IfSome};
 ghost use Rattle.scrub_super.specs.Planned.{AreRetired};
 
 use crate::calls::Trial;
-use crate::disks::{four_extents, one_retired, one_shard, restricted};
+use crate::disks::{one_shard, restricted};
 use crate::ending::{Stop, Wanted, refused, right};
 use scrub_disk::{MemDisk, PageSource};
+use scrub_fakes::worked::{four_extents, one_retired};
 use scrub_frame::{Locator, digest_of, write_locator};
 use scrub_super::{MAX_RUNS, Plan, Rank, RecordKind, Superblock, SuperblockPage};
 use std::alloc::Global;
@@ -18,7 +19,7 @@ use std::slice;
 fn disk_of(alloc: Global, kind: RecordKind) -> Result<(MemDisk, Locator), Stop> {
     match kind {
         RecordKind::Ssb1 => one_shard(alloc),
-        RecordKind::Ssb2 => one_retired(alloc),
+        RecordKind::Ssb2 => Ok(one_retired(alloc)?),
     }
 }
 

@@ -3,13 +3,15 @@
 ghost use Rattle.std.specs.Prelude.{◌≡◌, ◌≤◌};
 
 use crate::calls::Trial;
-use crate::disks::{four_extents, many_shards, one_shard, one_shard_payload, restricted};
+use crate::disks::{one_shard, restricted};
 use crate::ending::{Stop, Wanted, refused, right};
 use crate::scans::{are_of_one_shard, run_chunk, scan_planned};
 use crate::takings::{WORKERS, is_partition};
 use scrub_book::{Book, Event, PoolCore, StepRefused, WorkerCore};
 use scrub_disk::MemDisk;
+use scrub_fakes::payloads::one_shard_payload;
 use scrub_fakes::plan_of;
+use scrub_fakes::worked::{four_extents, many_shards};
 use scrub_pool::{ExtentQueue, NoGate, TakePass};
 use std::alloc::Global;
 use std::io::Write;
@@ -148,7 +150,7 @@ fn takes<R: Wait>(
 
 /// The queue of 39 extents.
 pub fn new_queue<R: Wait>(rt: &R, alloc: Global, wanted: Wanted) -> Result<(), Stop> {
-    let disk = many_shards(alloc)?;
+    let (disk, _) = many_shards(alloc)?;
     let plan = plan_of(alloc, &disk)?;
     wanted.made()?;
     let (queue, mut first) = ExtentQueue::new(rt, alloc, &plan)?;
@@ -157,7 +159,7 @@ pub fn new_queue<R: Wait>(rt: &R, alloc: Global, wanted: Wanted) -> Result<(), S
 
 /// A second pass of that queue takes the first extent, and is joined into the first pass, which takes all others.
 pub fn split<R: Wait>(rt: &R, alloc: Global, wanted: Wanted) -> Result<(), Stop> {
-    let disk = many_shards(alloc)?;
+    let (disk, _) = many_shards(alloc)?;
     let plan = plan_of(alloc, &disk)?;
     let (queue, mut first) = ExtentQueue::new(rt, alloc, &plan)?;
     wanted.made()?;

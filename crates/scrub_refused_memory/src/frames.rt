@@ -1,8 +1,8 @@
 //! Frames of both forms, appended and compared with their bytes field by field; and locators that are read.
 
 use crate::calls::Trial;
-use crate::disks::one_shard_payload;
 use crate::ending::{Stop, Wanted, refused, right};
+use scrub_fakes::payloads::one_shard_payload;
 use scrub_fakes::{ABC_DIGEST, ONES, TWOS, abc_at};
 use scrub_frame::{FrameFault, write_locator};
 use std::alloc::Global;

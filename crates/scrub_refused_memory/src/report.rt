@@ -3,10 +3,12 @@
 ghost use Rattle.std.specs.Prelude.{◌≤◌};
 
 use crate::calls::Trial;
-use crate::disks::{one_shard, one_shard_payload, rotted, twins_and_shared, two_shards_payload};
+use crate::disks::{one_shard, twins_and_shared};
 use crate::ending::{Stop, Wanted, right};
 use crate::takings::{WORKERS, is_partition};
+use scrub_fakes::payloads::{one_shard_payload, two_shards_payload};
 use scrub_fakes::published::{ONE_SHARD, TWINS};
+use scrub_fakes::worked::rotted;
 use scrub_pool::NoGate;
 use scrub_reclaim::Accepted;
 use scrub_report::ScrubAnswer;
