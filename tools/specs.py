@@ -63,7 +63,8 @@ class Spec:
             elif at_top or (re.match(rf"{WORD} ", line) and line.split()[0] in self.definitions):
                 name = begun.group(1) if at_top else line.split()[0]
                 self.definitions.setdefault(name, "")
-            elif re.match(rf"  {WORD} ", line) and line.split()[0] in self.definitions and " = " in line and not line.startswith("   "):
+            elif re.match(rf"  {WORD} ", line) and line.split()[0] in self.definitions and " = " in line and not line.startswith("   ") \
+                    and not line.endswith(";"):
                 name = line.split()[0]
             if name:
                 self.definitions[name] += line + "\n"
@@ -81,9 +82,26 @@ class Spec:
             found[name] = (comment, re.match(r" *(?:abbrev |unfoldable )?pub ", lines[place]) is not None)
         return found
 
+    def source(self, name):
+        """The definition as it stands in the file, with the comment above it."""
+        lines = self.text.splitlines()
+        held = self.definitions[name].rstrip().splitlines()
+        begin = end = lines.index(held[0])
+        while begin > 0 and re.match(r" *--(?!--)", lines[begin - 1]):
+            begin -= 1
+        end += len(held)
+        if without_comments("\n".join(lines[begin:end]), "--").split() != self.definitions[name].split():
+            raise ValueError(f"{self.path}: {name} isn't in one piece")
+        return "\n".join(lines[begin:end])
+
     def reached(self, name):
         """The names in the definition: those of this file, and the imported ones by module and name in that module."""
         return resolved(self.definitions[name], self.imports, self.definitions)
+
+
+def has_sign(text, sign):
+    """Whether a sign stands alone in a text, between blanks, brackets or commas."""
+    return re.search(rf"(?<![^\s(){{}},;]){re.escape(sign)}(?![^\s(){{}},;])", text) is not None
 
 
 def resolved(text, imports, own):
@@ -93,7 +111,7 @@ def resolved(text, imports, own):
     there = [imports.names[word] for word in words if word in imports.names and word not in own]
     for name, place in imports.names.items():
         parts = [part for part in name.split("◌") if part]
-        signs = all(part in words if re.match(WORD, part) else f" {part} " in text for part in parts)
+        signs = all(part in words if re.match(WORD, part) else has_sign(text, part) for part in parts)
         if ("◌" in name or not re.match(WORD, name)) and parts and signs:
             there.append(place)
     return here, there

@@ -21,8 +21,8 @@ PAGE = TOP / "docs/TRUSTED.md"
 # The function whose contract is the headline: its crate, its file, and its name. Then the others, each with what it is.
 HEADLINE = ("scrub_report", "answer", "scrub")
 OTHERS = [
-    (("scrub_report", "listing", "list_locators"), "it makes the answer of `locators`"),
-    (("scrub_report", "reclaiming", "list_reclaimable"), "it makes the answer of `reclaimable`"),
+    (("scrub_listings", "listing", "list_locators"), "it makes the answer of `locators`"),
+    (("scrub_reclaim", "reclaiming", "list_reclaimable"), "it makes the answer of `reclaimable`"),
     (("scrub_cli", "main", "run_process"), "the program, from the arguments of its process to both streams and the status"),
 ]
 RUST_USE = re.compile(r"^\s*use ([\w:]+)::(?:\{([^}]*)\}|(\w+));", re.M)
@@ -68,7 +68,8 @@ class Code:
         text = self.type_text(name)
         imports = Imports(text)
         imports.names = {**self.imports.names, **imports.names}
-        text = USE.sub("", text)
+        # `Value` is the name of a model's type, and no type itself.
+        text = re.sub(r"\bghost Value\b", "", USE.sub("", text))
         return resolved(text, imports, {})[1], type_words(text)
 
     def contract(self, function):
@@ -156,6 +157,19 @@ class Reader:
                     return None
         return crate if (crate, name) in self.type_files else None
 
+    def follow_contract(self, headline):
+        """Follows the contract of a function, by its crate, its file and its name."""
+        crate, file, function = headline
+        path = TOP / "crates" / crate / "src" / f"{file}.rt"
+        code = self.codes[path]
+        contract = code.contract(function)
+        for place in resolved(contract, code.imports, {})[1]:
+            self.follow(place, None)
+        for name in type_words(contract):
+            owner = self.owner(path, crate, name)
+            if owner is not None:
+                self.follow_type(owner, name, None)
+
     def order(self):
         """The files, each after those that it rests on, lowest crate first."""
         rank = {crate: place for place, crate in enumerate(CRATES)}
@@ -177,16 +191,7 @@ class Reader:
 def read(headline):
     """Reads what a contract rests on."""
     reader = Reader()
-    crate, file, function = headline
-    path = TOP / "crates" / crate / "src" / f"{file}.rt"
-    code = reader.codes[path]
-    contract = code.contract(function)
-    for place in resolved(contract, code.imports, {})[1]:
-        reader.follow(place, None)
-    for name in type_words(contract):
-        owner = reader.owner(path, crate, name)
-        if owner is not None:
-            reader.follow_type(owner, name, None)
+    reader.follow_contract(headline)
     return reader
 
 
@@ -246,7 +251,8 @@ def page_of(readers):
             "toolchain, and you know exactly what is promised. You don't need to read a function's body, a proof or any other "
             f"definition. There are {count} definitions in {len(files)} files of {lines} lines.", ""]
     out += ["`tools/trusted.py` makes this page: it follows the words of that contract to their definitions, and the words of these to "
-            "theirs. `tests/run documents` tests that the page is up to date. [DEFINITIONS.md](DEFINITIONS.md) has a sentence for each definition. "
+            "theirs. `tests/run documents` tests that the page is up to date. [The book](THEOREM.md) prints the definitions themselves, and "
+            "explains each word of the toolchain in them. [DEFINITIONS.md](DEFINITIONS.md) has a sentence for each definition. "
             "Further down are three more contracts, with what they add: `list_locators`, `list_reclaimable`, and the whole program.", ""]
     out += ["## The files, in reading order", "",
             "Each file comes after those that it rests on. *Needed*: how many of the file's definitions the theorem needs, out of how many.", "",
