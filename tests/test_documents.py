@@ -15,6 +15,10 @@ class Tools(Case):
         """docs/TRUSTED.md lists the spec files on which the contracts at the top rest."""
         self.check("trusted.py")
 
+    def test_book(self):
+        """docs/THEOREM.md has the theorem and the laws, with the definitions that they rest on."""
+        self.check("book.py")
+
     def test_definitions(self):
         """docs/DEFINITIONS.md has the comment of each definition."""
         self.check("definitions.py")
