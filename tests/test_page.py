@@ -6,7 +6,7 @@ pixels of the overview. Nothing on the screen may be green unless the verdict is
 examples/README.md and with made-up disks.
 
 The tests also hover over items and follow links. They try each way to open a file, files that can't be opened, outputs that don't
-fit, and rows of disks without a report. They measure how long reports of 100,000 items and of 65,536 extents take. Wrong pages are
+fit, rows of disks without a report, and rows of summaries. They measure how long reports of 100,000 items and of 65,536 extents take. Wrong pages are
 opened too, and each has to be found wrong. If the variable SHARDSCRUB_SCREENSHOTS names a folder, screenshots go there.
 """
 import json
@@ -14,6 +14,7 @@ import random
 import re
 import subprocess
 from collections import Counter
+from itertools import islice
 
 from lib import picture
 from lib.browser import WINDOW
@@ -25,7 +26,8 @@ from lib.pictured import (LOOKED_AT, Pictured, disk_of, example_reports, fitting
                           most_rows, written)
 from lib.program import program
 from lib.reference import ACCEPTABLE, Image
-from lib.wrong_pages import OF_SPARES_AND_ROOMS, WRONG_PAGES
+from lib.summaries import examples, made_up, summary_of
+from lib.wrong_pages import OF_SPARES_AND_ROOMS, WRONG_CONTRADICTIONS, WRONG_PAGES, WRONG_SUMMARIES
 
 ITEMS = 100_000
 # Of each of two sorts.
@@ -39,6 +41,28 @@ MISFITTED = ("in-order", "flipped-bit", "tail", "no-superblock", "hidden", "spar
 
 def first_report():
     return next(iter(example_reports().values()))
+
+
+def listed_disks(browser):
+    """The texts of the chooser by the numbers of their rows, in the chooser's order."""
+    options = browser.value("[...document.getElementById('disks').options].map((one) => [Number(one.value), one.textContent])")
+    return {index: text for index, text in options}
+
+
+def choose(browser, index):
+    """Chooses the disk of this row."""
+    browser.value(f"(choice => {{ choice.value = {index}; choice.dispatchEvent(new Event('change')); }})(document.getElementById('disks'))")
+
+
+def badness(row):
+    """A key that sorts rows, the worst one first: without an answer, wrong, in doubt or unknown, sound; then by broken shards and by
+    unreadable pages."""
+    if "verdict" in row:
+        return ["", "wrong", "doubt", "sound"].index(row["verdict"]), -int(row["shards_broken"]), -int(row["unreadable_pages"])
+    if "super" in row:
+        unreadable = len(row["super"]["bad"]) + sum(len(extent["bad"]) for extent in row["extents"])
+        return 2 if row["clean"] else 1, -len(row["broken"]), -unreadable
+    return 0, 0, 0
 
 
 class Disks(PageCase):
@@ -244,14 +268,15 @@ class Files(PageCase):
         rows += unanswered[1:]
         self.put("disks.jsonl", "".join(map(written, rows)))
         browser.open(f"{self.site}/report.html?disks.jsonl")
-        browser.shown()
-        listed = browser.value("[...document.getElementById('disks').options].map((one) => one.textContent)")
-        self.check("each row is in the chooser", len(listed) == len(rows) and all(
-            one.startswith(row["disk"] + ": ") for one, row in zip(listed, rows)), listed)
+        self.check("the first row without a report is opened", browser.shown()["name"] == "too-long", browser.shown())
+        listed = listed_disks(browser)
+        self.check("each row is in the chooser", sorted(listed) == list(range(len(rows))) and all(
+            listed[index].startswith(row["disk"] + ": ") for index, row in enumerate(rows)), listed)
+        worst = sorted(range(len(rows)), key=lambda index: badness(rows[index]))
+        self.check("the worst one comes first", list(listed) == worst, (list(listed), worst))
         for index, row in enumerate(rows):
             what = f"row {index}, {row['disk']}"
-            browser.value(f"(choice => {{ choice.value = {index}; choice.dispatchEvent(new Event('change')); }})"
-                          "(document.getElementById('disks'))")
+            choose(browser, index)
             shown = browser.shown()
             self.check(f"{what}: its name is shown", browser.text("name") == f"{row['disk']} (disks.jsonl)", browser.text("name"))
             if "super" in row:
@@ -265,13 +290,34 @@ class Files(PageCase):
                 self.check(f"{what}: its status and its text are shown, and no picture", f"status {row['status']}" in text
                            and row["text"] in text and browser.value("document.querySelector('main').hidden"), text)
                 self.check(f"{what}: the chooser has its status", listed[index].endswith(f"no report, status {row['status']}"))
-        browser.value("(choice => { choice.value = 1; choice.dispatchEvent(new Event('change')); })(document.getElementById('disks'))")
+        choose(browser, 1)
         self.screenshot("row-without-report")
         wrong = {"disk": "x", "status": 1 if rows[0]["clean"] else 0, **reports[rows[0]["disk"]]}
         self.put("row.jsonl", written(wrong))
         browser.open(f"{self.site}/report.html?row.jsonl")
         self.check("a status that isn't the report's is a contradiction",
                    "contradicts itself" in (browser.shown()["fault"] or ""))
+
+    def test_summaries_that_cannot_be_opened(self):
+        """One without a key, with a number that isn't one, or with another verdict. No picture and no verdict is shown."""
+        whole = summary_row("x", summary_of(examples()[-1]))
+        for what, text, right in (
+                ("a summary without its last number", whole.replace(',"chunks_to_move":', ',"chunks":'), "no key chunks, chunks_to_move"),
+                ("a summary without its verdict's word", re.sub('"verdict":"[a-z]*"', '"verdict":""', whole), "no key verdict"),
+                ("an unknown verdict", re.sub('"verdict":"[a-z]*"', '"verdict":"fine"', whole), "no key verdict"),
+                ("half a number", re.sub('"tails":([0-9]*)', r'"tails":\1.5', whole), "no key tails"),
+                ("a number below zero", re.sub('"runs_lost":', '"runs_lost":-', whole.replace('"runs_lost":0', '"runs_lost":1')),
+                 "no key runs_lost"),
+                ("a number as text", whole.replace('"runs_lost":0', '"runs_lost":"0"'), "no key runs_lost"),
+                ("a number twice", whole.replace('"runs_lost":0', '"runs_lost":0,"runs_lost":1'), "no key runs_lost"),
+                ("a row that is cut short", whole[:-5] + "\n", "it isn't JSON, or it is cut short"),
+                ("a summary after a right one", whole + whole.replace('"tails":', '"tail":'), "line 2: it isn't a summary")):
+            self.put("wrong.jsonl", text)
+            self.browser.open(f"{self.site}/report.html?wrong.jsonl")
+            fault = self.browser.shown().get("fault") or ""
+            self.check(f"{what} is refused", right in fault, (fault, right))
+            self.check(f"{what}: nothing is shown", self.browser.value(
+                "['answer', 'summary'].every((name) => document.getElementById(name).hidden) && document.querySelector('main').hidden"))
 
     def test_keys_and_buttons(self):
         browser = self.browser
@@ -308,6 +354,122 @@ class Files(PageCase):
         top = browser.value("document.getElementById('scroll').scrollTop")
         self.check("an address that names a place leads there, not to the first finding", top == 0 and here().startswith("extent 2:"),
                    (top, here()))
+
+
+def summary_row(name, summary):
+    """The row of summary of a disk, as view/row prints it."""
+    keys = {"disk": json.dumps(name), "status": str(int(summary["verdict"] != "sound")), "text": '""'}
+    keys |= summary | {"verdict": f'"{summary["verdict"]}"'}
+    return "{" + ",".join(f'"{key}":{value}' for key, value in keys.items()) + "}\n"
+
+
+def contradicted(summary):
+    """Summaries whose verdict is better or worse than their numbers, or doesn't agree with their status: what is wrong, and the row."""
+    for verdict in {"sound", "doubt", "wrong"} - {summary["verdict"]}:
+        yield f"the verdict is {verdict}", summary_row("x", summary | {"verdict": verdict})
+    yield "another status", re.sub('"status":([01])', lambda found: f'"status":{1 - int(found[1])}', summary_row("x", summary))
+    if summary["verdict"] != "wrong":
+        for name in ("superblock_tie", "unreadable_pages", "runs_lost", "locators_hidden", "locators_dangling", "shared_places",
+                     "torn_items", "noise_items", "lost_items"):
+            yield f"{name} is 1", summary_row("x", summary | {name: "1"})
+        yield "no superblock", summary_row("x", summary | {"superblocks": "0"})
+    if summary["verdict"] == "sound":
+        for name in ("superblocks_damaged", "superblocks_stray"):
+            yield f"{name} is 1", summary_row("x", summary | {name: "1"})
+
+
+class Summaries(PageCase):
+    """Rows of summary. A sound disk is shown as sound, and no other."""
+
+    def check_summaries(self):
+        """Opens rows of summary, one of scan, and one of each without an answer."""
+        summaries = {line.split("\t")[0]: summary_of(line) for line in [*examples(), *islice(made_up(self.room), 8)]}
+        summaries = {name: summary for name, summary in summaries.items() if summary is not None}
+        rows = {name: summary_row(name, summary) for name, summary in summaries.items()}
+        rows["no answer"] = written({"disk": "no answer", "status": 3, "text": "shardscrub: image too long"})
+        report = first_report()
+        rows["a report"] = written({"disk": "a report", "status": 0 if report["clean"] else 1, "text": "", **report})
+        self.put("disks.jsonl", "".join(rows.values()))
+        self.browser.open(f"{self.site}/{self.page}?disks.jsonl")
+        self.check("the disk without an answer is opened", self.browser.shown().get("name") == "no answer", self.browser.shown())
+        names, listed = list(rows), listed_disks(self.browser)
+        worst = sorted(names, key=lambda name: badness(json.loads(rows[name])))
+        self.check("all disks are listed, the worst first", [names[index] for index in listed] == worst, listed)
+        choose(self.browser, names.index("a report"))
+        self.check("a report is drawn", self.browser.shown().get("state") == "drawn", self.browser.shown())
+        for index, name in enumerate(names):
+            if self.failures:
+                return
+            if name in summaries:
+                choose(self.browser, index)
+                self.check_summary(name, summaries[name], listed.get(index, ""))
+        for name in ("no answer", "a report"):
+            choose(self.browser, names.index(name))
+            self.check(f"{name}: no summary stays", self.browser.value("document.getElementById('summary').hidden"
+                                                                       " && !document.getElementById('numbers').children.length"))
+        self.put("disks.jsonl", "".join(row for name, row in rows.items() if name in summaries))
+        self.browser.open(f"{self.site}/{self.page}?disks.jsonl")
+        right = next(name for name in worst if name in summaries)
+        self.check("the worst summary is opened", self.browser.shown().get("name") == right, (self.browser.shown(), right))
+
+    def check_summary(self, name, summary, listed):
+        shown, browser = self.browser.shown(), self.browser
+        self.check(f"{name}: a summary is shown, and no picture",
+                   shown["state"] == "summary" and browser.value("document.querySelector('main').hidden && !disk"), shown)
+        self.check(f"{name}: its name", browser.text("name") == f"{name} (disks.jsonl)", browser.text("name"))
+        self.check_verdict(name, shown, summary["verdict"])
+        word = {"wrong": "wrong", "doubt": "in doubt", "sound": "sound"}[summary["verdict"]]
+        self.check(f"{name}: its word in the chooser", listed == f"{name}: {word}", listed)
+        numbers = browser.value("[...document.querySelectorAll('#numbers div')].map((one) => [...one.children].map((part) => part.textContent))")
+        right = [[key.replace("_", " "), value] for key, value in list(summary.items())[1:]]
+        self.check(f"{name}: its numbers, to the last digit", numbers == right, (numbers, right))
+        text = browser.text("verdict-text")
+        self.check(f"{name}: its tails are named", ("have tails" in text or "has a tail" in text) == (summary["tails"] != "0"), text)
+        for key in ("shards_broken", "unreadable_pages"):
+            found = f"{key.replace('_', ' ')}: {int(summary[key]):,}."
+            self.check(f"{name}: its {key} are named", (found in text) == (summary[key] != "0"), text)
+        sizes = "--page {page_bytes} --pages {extent_pages} --extents {extents} ".format(**summary)
+        self.check(f"{name}: the commands have its sizes", browser.text("summary").count(sizes) == 4, browser.text("summary"))
+
+    def check_contradictions(self):
+        """A summary that contradicts itself is wrong."""
+        summaries = [summary for summary in map(summary_of, examples()) if summary is not None]
+        for verdict in ("sound", "doubt", "wrong"):
+            summary = next(one for one in summaries if one["verdict"] == verdict)
+            for what, row in contradicted(summary):
+                if self.failures:
+                    return
+                self.put("x.jsonl", row)
+                self.browser.open(f"{self.site}/{self.page}?x.jsonl")
+                self.check_verdict(f"{verdict}, but {what}", self.browser.shown(), "wrong")
+                word = self.browser.text("verdict-word")
+                self.check(f"{verdict}, but {what}: it says so", "contradicts itself" in word, word)
+
+    def test_summaries(self):
+        self.check_summaries()
+        self.screenshot("row-of-summary")
+
+    def test_contradictions(self):
+        self.check_contradictions()
+
+
+class WrongSummaries(Summaries):
+    """Pages with a changed place, which show a summary as better than it is, or out of its order."""
+    page = "wrong.html"
+    test_summaries = test_contradictions = None
+
+    def check_page(self, wrong):
+        _, old, new = wrong
+        text = PAGE.read_text(encoding="utf-8")
+        self.same("how often the page has the place", text.count(old), 1)
+        self.put("wrong.html", text.replace(old, new))
+        self.failures = 0
+        (self.check_contradictions if wrong in WRONG_CONTRADICTIONS else self.check_summaries)()
+        self.browser.errors()
+        self.true("it is seen to be wrong", self.failures > 0)
+
+
+add_tests(WrongSummaries, WrongSummaries.check_page, [(wrong[0], wrong) for wrong in WRONG_CONTRADICTIONS + WRONG_SUMMARIES])
 
 
 def changed(line):

@@ -67,3 +67,27 @@ WRONG_PAGES = (
     ("lost shards are called damaged", 'counts.readable ? "damaged" : "lost"', '"damaged"', "hidden"),
     ("sizes of the headline are off by ten", "bytes * 10 / unit) / 10", "bytes * 100 / unit) / 10", "hidden"),
 )
+# Wrong pages that are seen on rows of summary: those on rows that contradict themselves, and the others.
+WRONG_CONTRADICTIONS = (
+    ("a summary is believed whatever its numbers are", "if (verdict !== right || status !== Number(verdict !== \"sound\")) {", "if (false) {"),
+    ("a summary is believed whatever its status is", "if (verdict !== right || status !== Number(verdict !== \"sound\")) {",
+     "if (verdict !== right) {"),
+    ("torn items are no finding of a summary", '"torn_items", "noise_items", "lost_items"];', '"noise_items", "lost_items"];'),
+    ("a summary needs no superblock", "const isClean = superblocks > 0 && FINDINGS", "const isClean = FINDINGS"),
+    ("stray pages raise no doubt in a summary", "numbers.superblocks_damaged + numbers.superblocks_stray ?", "numbers.superblocks_damaged ?"),
+)
+WRONG_SUMMARIES = (
+    ("a summary in doubt is green", 'return {is: right, word: "? In doubt", text: `The disk', 'return {is: "sound", word: "? In doubt", text: `The disk'),
+    ("a sound summary is in doubt", 'return {is: right, word: "✔ Sound", text: `The disk', 'return {is: "doubt", word: "✔ Sound", text: `The disk'),
+    ("tails of a sound summary aren't named", "const more = tails ?", "const more = tails && right !== \"sound\" ?"),
+    ("broken shards of a summary aren't named", 'const found = ["shards_broken", ...FINDINGS]', "const found = FINDINGS"),
+    ("a summary's great numbers are rounded", "textContent: digits[key]", "textContent: numbers[key]"),
+    ("the picture of the disk before stays", "> 0;\n  document.querySelector(\"main\").hidden = true;", "> 0;"),
+    ("the summary of the disk before stays", '["answer", "unseen", "summary"]', '["answer", "unseen"]'),
+    ("disks are listed as they come", "return differing < 0 ? one - other :", "return true ? one - other :"),
+    ("the best disk comes first", "badness[other][differing] - badness[one][differing]", "badness[one][differing] - badness[other][differing]"),
+    ("broken shards don't make a disk worse", "firstVerdictOf(row)), broken, unreadable];", "firstVerdictOf(row)), 0, unreadable];"),
+    ("unreadable pages don't make a disk worse", "firstVerdictOf(row)), broken, unreadable];", "firstVerdictOf(row)), broken, 0];"),
+    ("a disk without an answer is last", "if (!row.report && !row.summary) return [1, 0, 0, 0];", "if (!row.report && !row.summary) return [-1, 0, 0, 0];"),
+    ("the chooser calls a summary in doubt sound", 'doubt: "in doubt", sound: "sound"}', 'doubt: "sound", sound: "sound"}'),
+)
