@@ -27,11 +27,10 @@ INSTALLED = {
     "share/doc/shardscrub/docs/RECLAIMING.md": (0o644, "docs/RECLAIMING.md"),
     "share/doc/shardscrub/docs/REPORT.md": (0o644, "docs/REPORT.md"),
     "share/man/man1/shardscrub.1": (0o644, "docs/shardscrub.1"),
-    "share/shardscrub/view/changes.jq": (0o644, "view/changes.jq"),
     "share/shardscrub/view/fleet.sql": (0o644, "view/fleet.sql"),
+    "share/shardscrub/view/metrics": (0o755, "view/metrics"),
     "share/shardscrub/view/report.html": (0o644, "view/report.html"),
     "share/shardscrub/view/row": (0o755, "view/row"),
-    "share/shardscrub/view/summary.jq": (0o644, "view/summary.jq"),
 }
 # The package has two of them compressed, the man page and the changelog.
 PACKED = INSTALLED | {
@@ -300,9 +299,15 @@ class Dpkg(OfTheRelease):
     def test_row(self):
         need("jq")
         path = f"{self.root}/usr/bin:{os.environ['PATH']}"
-        row = done(self.root / "usr/share/shardscrub/view/row", "scan", "a disk\texamples/one-shard.img\t64\t4\t3\t-\t-",
-                   more={"PATH": path})
-        self.assertRegex(row, r'\A\{"disk":"a disk","status":0,"text":"","broken":\[\],.*\}\n\Z')
+        for command, first in (("scan", r'"broken":\[\]'), ("summary", '"verdict":"sound"')):
+            row = done(self.root / "usr/share/shardscrub/view/row", command, "a disk\texamples/one-shard.img\t64\t4\t3\t-\t-",
+                       more={"PATH": path})
+            self.assertRegex(row, rf'\A\{{"disk":"a disk","status":0,"text":"",{first},.*\}}\n\Z')
+
+    def test_metrics(self):
+        summary = done(self.root / "usr/bin/shardscrub", "summary", "examples/one-shard.img")
+        metrics = done(self.root / "usr/share/shardscrub/view/metrics", "sda", input=summary)
+        self.assertIn('\nshardscrub_verdict{disk="sda"} 0\n', metrics)
 
     def test_removed(self):
         for way in ("--remove", "--purge"):

@@ -1,191 +1,156 @@
-"""Runs view/row, and the filters view/summary.jq and view/changes.jq, and compares what they print.
-
-Each line of a filter is compared with a line that lib/filters.py computes from the report. Each finding and each change has to occur
-in some report.
-"""
-import functools
+"""Tries view/metrics, view/row and view/fleet.sql, and compares what they give with what lib/reference.py says of the same disks."""
 import json
 import os
 import re
 import subprocess
-from concurrent.futures import ThreadPoolExecutor
+from collections import Counter
 
 from lib.cases import RoomCase
 from lib.disks import geometry
-from lib.filters import changes_of, summary_of
 from lib.program import TOP, need
-from lib.reports import damaged_lives, doubtful_lives, example_reports, small_disks, unowned_disks
 from lib.schema import check_line
+from lib.summaries import examples, listed, made_up, summary_of
 
-SUMMARY, CHANGES, ROW = TOP / "view/summary.jq", TOP / "view/changes.jq", TOP / "view/row"
-# Texts that have to occur in some summary, and in the changes between some two reports.
-IN_SUMMARIES = ("NOTHING WRONG IN THIS REPORT; ", " tail; superblocks not checked", " chunks have no owner; superblocks not checked",
-                "NOT CLEAN: ", "NOT CLEAN, AND IN DOUBT: ", "no superblock", "a tie of", " page of extent 0, which may have held one",
-                " pages of extent 0, which may have held a newer superblock", " lost run", " broken shard", " hidden chunk",
-                " with several owners, ", ", 1 unreadable page", " other unreadable page", " torn item", " noise item",
-                "known, though 1 whole chunk is ", " whole chunks are ", "is that generation stale?", " bad locator: ",
-                " is claimed by ", " are claimed by ", "by its locators, ", "by their locators, ", "; others: none",
-                "pointer: none", "across one: none", "past one: none", "    no-superblock: ", "    tie: ",
-                "    superblock-lost: page ", " pages of extent 0: ", "    run-lost: ", "    tail: extent ", "; and 3 others",
-                "    tail-lost: extent ", ", pages ", "; and 1 other range", "compare that generation", "of 2^53 or more", "KiB", "MiB",
-                " other range", "owner unknown")
-IN_CHANGES = ("clean, as before", "clean, was NOT CLEAN", "NOT CLEAN, as before", "NOT CLEAN, was clean", "there again",
-              "NO SUPERBLOCK", "SMALLER", ". THE SAME", "PERHAPS THE SAME", "jq can't say", "nothing changed", "differ in: ",
-              "not compared", "tie of superblocks: ", "shards known: ", "  live: ", "chunks that nobody names: ",
-              "chunks with several owners: ", "torn items: ", "noise items: ", "newly unreadable: ", "retired before: ",
-              "same pages?): ", "newly broken: ", "that is read): ", "newly doubtful: ", "no longer doubtful: ", "newly lost: ",
-              "read again: ", "lost, and no longer named: ", "newly hidden: ", "or no longer named): ", "  new: ", "  changed: ",
-              "or unreadable): ", "newly retired, ", "no longer retired: ", " other range")
+FLEET, METRICS, ROW = TOP / "view/fleet.sql", TOP / "view/metrics", TOP / "view/row"
+VERDICTS = {"sound": "0", "doubt": "1", "wrong": "2"}
+# Names of disks that need care in a label, in JSON, or as an argument.
+NAMES = ("sda", "a disk", 'say "a"', "back\\slash", "two\nlines", "\\n", '\\"', "%s%d", "&", "{disk=", "-v", "Größe", "'", "\t", "\\")
+# What the program's own line says if it doesn't find the sizes.
+NO_SIZES = "shardscrub: sizes not found: run shardscrub sizes"
 
 
-def jq(words, view, text="", files=()):
-    """The status and both outputs of a filter."""
-    done = subprocess.run(["jq", *words, "-f", view, *files], input=text.encode(), capture_output=True)
-    return done.returncode, done.stdout.decode(), done.stderr.decode()
+def text_of(summary):
+    """A summary as the program prints it."""
+    return "".join(f"{name} {value}\n" for name, value in summary.items())
 
 
-class FilterCase(RoomCase):
-    """Tests that need jq."""
+def label(text):
+    """What the text of a label stands for."""
+    return re.sub(r"\\(.)", lambda found: {"n": "\n"}.get(found[1], found[1]), text)
+
+
+class Metrics(RoomCase):
+    """The summary as metrics."""
+
+    @classmethod
+    def setUpClass(cls):
+        super().setUpClass()
+        cls.summaries = [one for one in map(summary_of, [*examples(), *made_up(cls.room)]) if one is not None]
+
+    def metrics(self, text, *words):
+        """The status and both outputs."""
+        done = subprocess.run([METRICS, *words], input=text.encode(), capture_output=True)
+        return done.returncode, done.stdout.decode(), done.stderr.decode()
+
+    def check_metrics(self, what, text, name, wanted):
+        """Checks the three lines of each name of a summary: a help, the kind, and the sample."""
+        status, printed, error = self.metrics(text, name)
+        self.same(f"{what}: status and error stream", (status, error), (0, ""))
+        lines = printed.removesuffix("\n").split("\n")
+        self.same(f"{what}: lines", len(lines), 3 * len(wanted))
+        for (key, value), some in zip(wanted.items(), zip(lines[::3], lines[1::3], lines[2::3])):
+            sample = re.fullmatch(r'(\w+)\{disk="((?:[^"\\]|\\["\\n])*)"\} (\S+)', some[2])
+            self.true(f"{what}: help of {key}", re.fullmatch(rf"# HELP shardscrub_{key} [0-9A-Z][^\\]+\.", some[0]), some[0])
+            self.same(f"{what}: kind of {key}", some[1], f"# TYPE shardscrub_{key} gauge")
+            self.same(f"{what}: {key}", sample and (sample[1], label(sample[2]), sample[3]),
+                      (f"shardscrub_{key}", name, VERDICTS.get(value, value)))
+
+    def check_refused(self, what, answer, error):
+        self.same(what, answer, (2, "", error))
+
+    def test_each_number(self):
+        """Also those that floating point would round."""
+        for number, summary in enumerate(self.summaries):
+            self.check_metrics(f"summary {number}", text_of(summary), "a disk", summary)
+        self.same("the verdicts that occur", {one["verdict"] for one in self.summaries}, set(VERDICTS))
+        several = {name: len({one[name] for one in self.summaries}) for name in self.summaries[0]}
+        self.same("numbers that are the same in all", [name for name in several if several[name] < 2], [])
+
+    def test_each_name_of_a_disk(self):
+        for name in NAMES:
+            self.check_metrics(repr(name), text_of(self.summaries[0]), name, self.summaries[0])
+
+    def test_the_program(self):
+        """The summaries are those that the program prints."""
+        for line in examples():
+            image, wanted = line.split("\t")[1], summary_of(line)
+            done = subprocess.run([self.program, "summary", image], cwd=TOP, capture_output=True, encoding="utf-8")
+            if wanted is None:
+                self.check_refused(image, self.metrics(done.stdout, "sda"), "view/metrics: the input is not a whole summary\n")
+            else:
+                self.check_metrics(image, done.stdout, "sda", wanted)
+
+    def test_what_is_no_summary(self):
+        whole = text_of(self.summaries[0])
+        lines = whole.splitlines(keepends=True)
+        wrong = {"nothing": "", "a line feed": "\n", "a blank line first": "\n" + whole, "a blank line last": whole + "\n",
+                 "two summaries": whole * 2, "one more line": whole + "more 1\n", "end": whole + "end\n", "end without a line feed":
+                 whole + "end", "carriage returns": whole.replace("\n", "\r\n"), "another verdict": whole.replace("verdict ", "verdict x"),
+                 "a number as verdict": re.sub("verdict .*", "verdict 0", whole), "a report": '{"broken":[]}\n',
+                 "words on a line": whole.replace("\n", " "), "no line feed at the end": whole[:-1], "half a name": whole[:-5]}
+        for number, line in enumerate(lines):
+            name = line.split(" ")[0]
+            before, after = "".join(lines[:number]), "".join(lines[number + 1:])
+            wrong |= {f"up to {name}": before, f"without {name}": before + after, f"two of {name}": before + line * 2 + after,
+                      f"{name} one line later": before + "".join(lines[number + 1:number + 2]) + line + "".join(lines[number + 2:]),
+                      f"another name than {name}": before + "x" + line + after, f"{name} is -1": before + f"{name} -1\n" + after}
+            if name in ("verdict", "superblock_generation", "chunks_to_move"):
+                for value in ("", " ", "+1", "01", "00", "1.0", "1e3", "0x1", "NaN", "1 ", " 1", "1 2", "1,0", "soun"):
+                    wrong[f"{name} is {value!r}"] = before + f"{name} {value}\n" + after
+        del wrong["chunks_to_move one line later"]
+        for what, text in wrong.items():
+            self.check_refused(what, self.metrics(text, "sda"), "view/metrics: the input is not a whole summary\n")
+
+    def test_what_is_no_name(self):
+        for words in ([], [""], ["a", "b"]):
+            self.check_refused(str(words), self.metrics(text_of(self.summaries[0]), *words), "usage: view/metrics DISK <SUMMARY\n")
+
+    def test_promtool(self):
+        """Prometheus reads them, and has nothing to say about the names."""
+        need("promtool")
+        for number, name in enumerate(NAMES):
+            text = self.metrics(text_of(self.summaries[number]), name)[1]
+            done = subprocess.run(["promtool", "check", "metrics"], input=text.encode(), capture_output=True)
+            self.same(repr(name), (done.returncode, done.stdout, done.stderr), (0, b"", b""))
+
+
+class RowCase(RoomCase):
+    """Tests that need jq, which view/row uses. The made-up disks stay the same for all tests of a class."""
 
     @classmethod
     def setUpClass(cls):
         need("jq")
         super().setUpClass()
-
-    def same_lines(self, name, printed, wanted):
-        wrong = [f"printed {line!r}" for line in printed if line not in wanted]
-        wrong += [f"wanted  {line!r}" for line in wanted if line not in printed]
-        self.true(name, printed == wanted, "\n".join(wrong) or "the lines are in another order")
-
-    def check_refusal(self, name, answer, text):
-        """Refused with one line, status 5 and no output."""
-        status, printed, error = answer
-        self.true(name, (status, printed) == (5, "") and error.count("\n") == 1 and text in error, answer)
-
-
-class Reports:
-    """All reports, made once, and pairs of reports whose changes are compared."""
-
-    def __init__(self, room):
-        self.examples = example_reports()
-        first, second = list(damaged_lives(room)), list(doubtful_lives(room))
-        small, self.pairs = small_disks()
-        for lives in (first, second):
-            for old, new in zip(lives, lives[1:] + lives[:1]):
-                self.pairs += [(old, new), (new, old)]
-        for old in self.examples:
-            self.pairs += [(old, new) for new in self.examples if new.report["geometry"] == old.report["geometry"]][:2]
-        self.all = self.examples + first + second + list(unowned_disks(room)) + small
-
-    @functools.cached_property
-    def summaries(self):
-        """The right lines of each report's summary."""
-        return [summary_of(one.report, one.doubts) for one in self.all]
-
-    @functools.cached_property
-    def changes(self):
-        """The right lines of each pair's changes."""
-        return [changes_of(old.report, new.report) for old, new in self.pairs]
-
-
-class Filters(FilterCase):
-    @classmethod
-    def setUpClass(cls):
-        super().setUpClass()
-        cls.reports = Reports(cls.room)
-
-    def test_each_image_of_the_examples_has_a_report(self):
-        for path in (TOP / "examples").glob("*.img"):
-            self.true(path.name, any(path.name in one.name for one in self.reports.examples))
-
-    def test_summaries(self):
-        """Summarizes all reports in one file, with names."""
-        reports = self.reports
-        rows = "".join(json.dumps({"disk": one.name, "status": 0, "text": ""} | one.report) + "\n" for one in reports.all)
-        status, printed, error = jq(["-r"], SUMMARY, rows)
-        self.same("status and error stream", (status, error), (0, ""))
-        summaries = re.split(r"\n(?! )", printed.removesuffix("\n"))
-        self.same("the number of summaries", len(summaries), len(reports.all))
-        for one, summary, wanted in zip(reports.all, summaries, reports.summaries):
-            self.same_lines(one.name, summary.split("\n"), [f"{one.name}: {wanted[0]}", *wanted[1:]])
-
-    def test_a_summary_without_a_name(self):
-        answer = jq(["-r"], SUMMARY, json.dumps(self.reports.all[0].report))
-        self.same("answer", answer, (0, "\n".join(self.reports.summaries[0]) + "\n", ""))
-
-    def test_each_text_occurs_in_a_summary(self):
-        for part in IN_SUMMARIES:
-            self.true(part, any(part in line for lines in self.reports.summaries for line in lines), "nothing has it")
-
-    def test_changes(self):
-        files = {}
-        for one in {id(one): one for pair in self.reports.pairs for one in pair}.values():
-            files[id(one)] = self.room / f"{len(files)}.json"
-            files[id(one)].write_text(json.dumps(one.report), encoding="ascii")
-        with ThreadPoolExecutor(os.cpu_count()) as several:
-            answers = list(several.map(lambda pair: jq(["-nr"], CHANGES, files=[files[id(one)] for one in pair]), self.reports.pairs))
-        for (old, new), (status, printed, error), wanted in zip(self.reports.pairs, answers, self.reports.changes):
-            name = f"changes from {old.name} to {new.name}"
-            self.same(name, (status, error), (0, ""))
-            # Between the first two and the last two lines, the filter may choose the order.
-            lines = printed.splitlines()
-            self.same_lines(name, lines[:2] + sorted(lines[2:-2]) + lines[-2:], wanted[:2] + sorted(wanted[2:-2]) + wanted[-2:])
-
-    def test_each_text_occurs_in_changes(self):
-        for part in IN_CHANGES:
-            self.true(part, any(part in line for lines in self.reports.changes for line in lines), "nothing has it")
-
-
-class Refusals(FilterCase):
-    """Anything except a report, or two of one disk, is refused."""
-
-    @classmethod
-    def setUpClass(cls):
-        super().setUpClass()
-        cls.reports = [one.report for one in example_reports()]
-        cls.report = cls.reports[0]
-        cls.less = {key: cls.report[key] for key in cls.report if key != "twins"}
-        cls.row = {"disk": "sda\n", "status": 3, "text": "shardscrub: image cannot be opened: sda\n"}
-
-    def test_a_summary_of_a_row_without_a_report(self):
-        wanted = (0, "sda : NOT ANSWERED, status 3: shardscrub: image cannot be opened: sda \n", "")
-        self.same("answer", jq(["-r"], SUMMARY, json.dumps(self.row)), wanted)
-
-    def test_summaries_of_anything_else(self):
-        for what in (self.less, self.row | self.less, self.row | {"lines": []}, {"disk": "sda"}, [self.report], 3, None):
-            self.check_refusal(str(what)[:60], jq(["-r"], SUMMARY, json.dumps(what)), "not a report of shardscrub scan")
-
-    def test_changes_of_anything_else(self):
-        report, row = self.report, self.row
-        other = next(one for one in self.reports if one["geometry"] != report["geometry"])
-        for words, given, text in ((["-nr"], [report], "two reports are needed"),
-                                   (["-nr"], [report, report, report], "two reports are needed"),
-                                   (["-r"], [report, report], "two reports are needed"),
-                                   (["-nr"], [], "two reports are needed"),
-                                   (["-nr"], [report, other], "the reports have different sizes"),
-                                   (["-nr"], [report, self.less], "not a report of shardscrub scan"),
-                                   (["-nr"], [row, report], "not a report of shardscrub scan"),
-                                   (["-nr"], [report | {"disk": "a"}, report | {"disk": "b"}], "the reports are of two disks")):
-            self.check_refusal(f"{len(given)} with {words}: {text}", jq(words, CHANGES, "".join(map(json.dumps, given))), text)
-
-
-class Rows(FilterCase):
-    """The rows of disks that view/row prints."""
-    DISKS = TOP / "examples/disks.tsv"
-    # How a scan is cut short, and the status of its row.
-    ENDS = {"exit 3": 3, "exit 1": 70, "kill -9 $$": 137}
+        cls.made_up, cls.known = list(made_up(cls.room)), {}
 
     def row(self, command, line):
-        """The row of a disk of the list."""
-        done = subprocess.run([ROW, command, line], cwd=TOP, env={**os.environ, "SHARDSCRUB": self.program}, capture_output=True,
+        """The row of a disk of the list. It is made once."""
+        if (command, line) not in self.known:
+            self.known[command, line] = self.row_by(self.program, command, line)
+        return self.known[command, line]
+
+    def row_by(self, program, command, line):
+        """The row that this program leads to."""
+        done = subprocess.run([ROW, command, line], cwd=TOP, env={**os.environ, "SHARDSCRUB": program}, capture_output=True,
                               encoding="utf-8", stdin=subprocess.DEVNULL)
         self.same(f"{command} of {line}", (done.returncode, done.stdout.count("\n")), (0, 1))
         return done.stdout
 
+    def rows(self, command, lines):
+        return [self.row(command, line) for line in lines]
+
+
+class Rows(RowCase):
+    """The rows of disks that view/row prints."""
+    # How an answer is cut short, and the status of its row.
+    ENDS = {"exit 3": 3, "exit 0": 70, "exit 1": 70, "kill -9 $$": 137}
+    BEGINNINGS = {"scan": '{"broken":[]', "summary": "verdict sound\npage_bytes 64\n"}
+
     def right_row(self, command, line):
         """The row as the program's own answer gives it."""
         name, image, page, pages, extents, map_file, lost = line.split("\t")
-        words = [*geometry(page, pages, extents), *(["--map", map_file] if map_file != "-" else []), image, *lost.replace("-", "").split()]
+        words = [*(geometry(page, pages, extents) if page != "-" else []), *(["--map", map_file] if map_file != "-" else []), image,
+                 *lost.replace("-", "").split()]
         done = subprocess.run([self.program, command, *words], cwd=TOP, capture_output=True, encoding="utf-8", stdin=subprocess.DEVNULL)
         row = {"disk": name, "status": done.returncode, "text": done.stderr.rstrip("\n")}
         if command == "reclaimable":
@@ -193,21 +158,27 @@ class Rows(FilterCase):
             return row | {"lines": lines if done.returncode < 2 else None}
         return row | (json.loads(done.stdout) if done.returncode < 2 else {})
 
-    def rows(self, command):
-        return [self.row(command, line) for line in self.DISKS.read_text(encoding="utf-8").splitlines()]
-
     def check_rows(self, command):
-        for line in self.DISKS.read_text(encoding="utf-8").splitlines():
+        for line in listed():
             self.same(f"{command} of {line}", json.loads(self.row(command, line)), self.right_row(command, line))
 
-    def row_of_scan(self, end):
-        """The row of a disk whose scan prints the beginning of a report, and then runs this."""
+    def check_summary(self, line, wanted):
+        """Checks the text of a row of summary: each key in its place, with all digits."""
+        name = line.split("\t")[0]
+        status = int(wanted["verdict"] != "sound")
+        keys = [("disk", f'"{name}"'), ("status", str(status)), ("text", '""'), ("verdict", f'"{wanted["verdict"]}"'),
+                *list(wanted.items())[1:]]
+        self.same(f"summary of {line}", self.row("summary", line), "{" + ",".join(f'"{key}":{value}' for key, value in keys) + "}\n")
+
+    def row_of(self, command, end):
+        """The row of a disk whose program prints the beginning of an answer, and then runs this."""
+        return self.row_of_text(command, self.BEGINNINGS[command], end)
+
+    def row_of_text(self, command, text, end=""):
         start = self.room / "program"
-        start.write_text(f"#!/bin/sh\nprintf '{{\"broken\":[]'\n{end}\n", encoding="utf-8")
+        start.write_text(f"#!/bin/sh\nprintf '%s' '{text}'\n{end}\n", encoding="utf-8")
         start.chmod(0o755)
-        done = subprocess.run([ROW, "scan", "a disk\timage\t64\t4\t3\t-\t-"], cwd=TOP, env={**os.environ, "SHARDSCRUB": str(start)},
-                              capture_output=True, encoding="utf-8", stdin=subprocess.DEVNULL)
-        return done.stdout
+        return self.row_by(str(start), command, "a disk\timage\t64\t4\t3\t-\t-")
 
     def test_each_disk_has_a_row_of_scan(self):
         self.check_rows("scan")
@@ -215,17 +186,74 @@ class Rows(FilterCase):
     def test_each_disk_has_a_row_of_reclaimable(self):
         self.check_rows("reclaimable")
 
-    def test_a_scan_that_is_cut_short(self):
-        for end, status in self.ENDS.items():
-            row = json.loads(self.row_of_scan(end))
-            self.same(end, [row["disk"], row["status"]], ["a disk", status])
+    def test_each_disk_has_a_row_of_summary(self):
+        refused = {"missing": (3, "shardscrub: image cannot be opened: examples/no-such.img"),
+                   "failing": (2, "shardscrub: map refused: line 1")}
+        for line in listed():
+            name = line.split("\t")[0]
+            if name in refused:
+                status, text = refused[name]
+                self.same(line, self.row("summary", line), f'{{"disk":"{name}","status":{status},"text":"{text}"}}\n')
+            else:
+                self.check_summary(line, summary_of(line))
+
+    def test_rows_of_summary_of_made_up_disks(self):
+        """Some have a generation that floating point would round."""
+        for line in self.made_up:
+            self.check_summary(line, summary_of(line))
+
+    def test_sizes_that_are_left_out(self):
+        """They are those of the disk, for summary and scan; reclaimable needs them."""
+        counts = Counter()
+        for line in examples():
+            wanted = summary_of(line)
+            counts[wanted is None] += 1
+            if wanted is None:
+                self.same(line, json.loads(self.row("summary", line)), {"disk": line.split("\t")[0], "status": 2, "text": NO_SIZES})
+            else:
+                self.check_summary(line, wanted)
+        self.true("disks with and without sizes", min(counts[True], counts[False]) > 0, counts)
+        line = examples()[-1]
+        self.same("scan", json.loads(self.row("scan", line)), self.right_row("scan", line))
+        row = json.loads(self.row("reclaimable", line))
+        self.same("reclaimable", (row["status"], row["lines"], "--page <BYTES>" in row["text"]), (2, None, True))
+
+    def test_a_part_of_the_sizes(self):
+        """One or two that are left out are refused."""
+        for line in ("d\texamples/one-shard.img\t64\t4\t-\t-\t-", "d\texamples/one-shard.img\t-\t-\t3\t-\t-"):
+            for command in ("summary", "scan", "reclaimable"):
+                row = json.loads(self.row(command, line))
+                self.same(f"{command} of {line}", (row["status"], "invalid value '-'" in row["text"]), (2, True))
+
+    def test_lines_of_other_lengths(self):
+        for line in ("d\texamples/one-shard.img\t64\t4\t3\t-", "d\texamples/one-shard.img\t64\t4\t3\t-\t-\t-"):
+            for command in ("summary", "scan", "reclaimable"):
+                row = json.loads(self.row(command, line))
+                self.same(f"{command} of {line}", (row["status"], row["text"]), (2, "view/row: the line doesn't have seven fields"))
+
+    def test_an_answer_that_is_cut_short(self):
+        for command in self.BEGINNINGS:
+            for end, status in self.ENDS.items():
+                row = json.loads(self.row_of(command, end))
+                text = f"view/row: status {end[-1]}, but no whole answer" if status == 70 else row.get("text")
+                self.same(f"{command}, {end}", row, {"disk": "a disk", "status": status, "text": text})
+
+    def test_a_summary_that_is_cut_short_anywhere(self):
+        """At the end of each line but the last, and within the last one."""
+        whole = text_of(summary_of(listed()[0]))
+        ends = [found.end() for found in re.finditer(r"\n", whole)][:-1] + [len(whole) - 1, len(whole) - 3]
+        for end in ends:
+            row = json.loads(self.row_of_text("summary", whole[:end]))
+            self.same(f"the first {end} bytes", row, {"disk": "a disk", "status": 70, "text": "view/row: status 0, but no whole answer"})
 
     def test_the_schema(self):
-        for row in [*self.rows("scan"), *self.rows("reclaimable"), *map(self.row_of_scan, self.ENDS)]:
+        cut = [self.row_of(command, end) for command in self.BEGINNINGS for end in self.ENDS]
+        some = [*listed(), *examples(), *self.made_up]
+        for row in [*self.rows("summary", some), *self.rows("scan", listed()), *self.rows("reclaimable", listed()), *cut]:
             check_line(self, row[:60], row)
 
     def test_digits_are_kept(self):
-        row = self.row_of_scan('echo ",\\"generation\\":18446744073709551615}"; exit 1')
+        row = self.row_of("scan", 'echo ",\\"generation\\":18446744073709551615}"; exit 1')
         self.true("the generation", row.endswith(',"generation":18446744073709551615}\n'), row)
 
     def test_a_row_waits_for_its_turn(self):
@@ -233,3 +261,103 @@ class Rows(FilterCase):
         need("flock")
         done = subprocess.run(["flock", ROW, "timeout", "1", ROW, "scan", "a disk"], capture_output=True, stdin=subprocess.DEVNULL)
         self.same("status and output", (done.returncode, done.stdout), (124, b""))
+
+
+class Fleet(RowCase):
+    """The database of the rows of many disks."""
+
+    @classmethod
+    def setUpClass(cls):
+        need("sqlite3")
+        super().setUpClass()
+        cls.lines, one = listed() + cls.made_up, cls()
+        cls.of = {command: one.rows(command, cls.lines) for command in ("summary", "scan", "reclaimable")}
+        cls.answers = {line.split("\t")[0]: summary_of(line) for line in cls.lines if line.split("\t")[0] not in ("missing", "failing")}
+
+    def made(self, *rows):
+        """The status and the error stream of making a database of these rows."""
+        self.path = self.room / "fleet.db"
+        self.path.unlink(missing_ok=True)
+        done = subprocess.run(["sqlite3", self.path, f".read {FLEET}"], input="".join(rows), capture_output=True, encoding="utf-8")
+        return done.returncode, done.stderr
+
+    def asked(self, question):
+        """The rows of an answer, with numbers and texts as SQLite has them."""
+        done = subprocess.run(["sqlite3", "-json", self.path, question], capture_output=True, encoding="utf-8")
+        self.same(question, (done.returncode, done.stderr), (0, ""))
+        return [tuple(row.values()) for row in json.loads(done.stdout or "[]")]
+
+    def wanted_disks(self, has_verdict):
+        """What the table of the disks has to say of each disk with an answer, by the reference."""
+        rows = {}
+        for name, summary in self.answers.items():
+            generation = summary["superblock_generation"] if summary["superblocks"] != "0" else "null"
+            numbers = [int(summary[key]) for key in ("shards_broken", "unreadable_pages", "candidate_bytes")]
+            is_known = has_verdict or summary["verdict"] == "wrong"
+            rows[name] = (summary["verdict"] if is_known else None, generation, *numbers)
+        return rows
+
+    def check_disks(self, what, has_verdict):
+        found = self.asked("SELECT disk, verdict, generation, broken, unreadable, candidates FROM disks WHERE status < 2")
+        wanted = self.wanted_disks(has_verdict)
+        self.same(f"{what}: disks", sorted(name for name, *_ in found), sorted(wanted))
+        for name, *numbers in found:
+            self.same(f"{what}: {name}", tuple(numbers), wanted[name])
+        unanswered = self.asked("SELECT disk, status, verdict, generation, broken, unreadable, candidates FROM disks WHERE status > 1")
+        self.same(f"{what}: unanswered", sorted(unanswered), [("failing", 2) + (None,) * 5, ("missing", 3) + (None,) * 5])
+
+    def test_rows_of_summary(self):
+        self.same("status", self.made(*self.of["summary"], *self.of["reclaimable"]), (0, ""))
+        self.check_disks("summary", True)
+        nameless = [(name, None) for name, summary in self.answers.items() if summary["shards_broken"] != "0"]
+        self.true("disks with broken shards", len(nameless) > 2, nameless)
+        self.same("broken shards", sorted(self.asked("SELECT disk, shard FROM broken")), sorted(nameless))
+
+    def test_rows_of_scan(self):
+        self.same("status", self.made(*self.of["scan"], *self.of["reclaimable"]), (0, ""))
+        self.check_disks("scan", False)
+        broken = [(row["disk"], shard) for row in map(json.loads, self.of["scan"]) for shard in row.get("broken", [])]
+        self.same("broken shards", sorted(self.asked("SELECT disk, shard FROM broken")), sorted(broken))
+
+    def test_both(self):
+        """Rows of scan stand in the place of those of summary where shards are broken, as in READING."""
+        takes_scan = [self.answers.get(line.split("\t")[0], {"shards_broken": "0"})["shards_broken"] != "0" for line in self.lines]
+        rows = [scan if is_taken else summary for is_taken, scan, summary in zip(takes_scan, self.of["scan"], self.of["summary"])]
+        self.same("status", self.made(*rows, *self.of["reclaimable"]), (0, ""))
+        self.check_disks("both", True)
+        broken = [(row["disk"], shard) for row in map(json.loads, self.of["scan"]) for shard in row.get("broken", [])]
+        self.same("broken shards", sorted(self.asked("SELECT disk, shard FROM broken")), sorted(broken))
+
+    def test_what_may_be_gained(self):
+        self.made(*self.of["summary"], *self.of["reclaimable"])
+        gains, doubts = [], []
+        for row in map(json.loads, self.of["reclaimable"]):
+            name, lines = row["disk"], row["lines"]
+            if lines is None:
+                gains.append((name, None))
+                doubts.append((name, "unanswered", row["text"]))
+            else:
+                gains.append((name, sum(int(line[2]) for line in lines if line[0] == "reclaim")))
+                doubts += [(name, line[1], " ".join(line[2:])) for line in lines if line[0] == "doubt"]
+        self.same("gains", sorted(self.asked("SELECT disk, gain FROM reclaimable"), key=str), sorted(gains, key=str))
+        self.same("doubts", sorted(self.asked("SELECT disk, kind, words FROM doubts")), sorted(doubts))
+
+    def test_a_disk_without_a_row_of_reclaimable(self):
+        self.same("status", self.made(self.of["summary"][0]), (0, ""))
+        self.same("doubts", self.asked("SELECT disk, kind, words FROM doubts"), [("one-shard", "unanswered", "")])
+
+    def test_refused(self):
+        """The database then stays empty."""
+        summary, scan, reclaimable = (self.of[command][0] for command in ("summary", "scan", "reclaimable"))
+        wrong = {"no row": "x\n", "a row of summary that is cut short": summary[:-9], "a row of scan that is cut short": scan[:-9],
+                 "a row of reclaimable that is cut short": reclaimable[:-4], "two rows of summary": summary * 2,
+                 "a row of summary and one of scan": summary + scan, "two rows of reclaimable": summary + reclaimable * 2,
+                 "two rows without an answer": '{"disk":"a","status":2,"text":""}\n' * 2,
+                 "an answer with a status of none": summary.replace('"status":0', '"status":2'),
+                 "no answer with a status of one": '{"disk":"a","status":0,"text":""}\n'}
+        for key in ("disk", "status", "text", "superblock_generation", "shards_broken", "unreadable_pages", "candidate_bytes"):
+            wrong[f"no {key}"] = json.dumps({name: value for name, value in json.loads(summary).items() if name != key}) + "\n"
+        for what, rows in wrong.items():
+            status, error = self.made(self.of["summary"][1], rows)
+            self.true(f"{what}: status and error stream", status == 1 and error, (status, error))
+            self.same(f"{what}: tables", self.asked("SELECT name FROM sqlite_schema"), [])

@@ -1,7 +1,8 @@
--- Reads the rows of view/row, both of scan and of reclaimable, into the tables of a new database:
+-- Reads the rows of view/row into the tables of a new database:
 --
---   cat scan.jsonl reclaimable.jsonl | sqlite3 fleet.db '.read view/fleet.sql'
+--   cat summary.jsonl reclaimable.jsonl | sqlite3 fleet.db '.read view/fleet.sql'
 --
+-- A disk has one row of summary or of scan, and one of reclaimable.
 -- Needs SQLite 3.38 or newer. If a line is refused, the status is 1 and the database stays empty.
 .bail on
 BEGIN;
@@ -12,30 +13,43 @@ CREATE TEMP TABLE input (line TEXT);
 .separator "\037" "\n"
 .import /dev/stdin input
 
--- The rows of scan. The last four columns are NULL if scan gave no answer.
+-- The rows of summary and of scan. The last five columns are NULL if there is no answer.
 CREATE TABLE disks (
     disk TEXT PRIMARY KEY NOT NULL,
     status INTEGER NOT NULL,
     text TEXT NOT NULL,
+    verdict TEXT,           -- NULL also in a row of scan that is clean: it doesn't know whether a superblock is damaged
     generation TEXT,        -- text, since SQLite would round a number above 2^63 - 1; 'null' without a superblock
     broken INTEGER,         -- shards
     unreadable INTEGER,     -- pages
     candidates INTEGER,     -- bytes that the candidates would free; this is no permission to reset one
-    CHECK (status < 2 AND broken IS NOT NULL OR status >= 2 AND broken IS NULL)
+    CHECK (status < 2 AND generation IS NOT NULL AND broken + unreadable + candidates IS NOT NULL
+           OR status >= 2 AND coalesce(verdict, generation, broken, unreadable, candidates) IS NULL)
 );
 INSERT INTO disks
 SELECT
     line ->> 'disk', line ->> 'status', line ->> 'text',
+    line ->> 'verdict',
+    iif(line ->> 'superblocks' = 0, 'null', line -> 'superblock_generation'),
+    line ->> 'shards_broken', line ->> 'unreadable_pages', line ->> 'candidate_bytes'
+FROM input WHERE json_type(line, '$.lines') IS NULL AND json_type(line, '$.broken') IS NULL;
+INSERT INTO disks
+SELECT
+    line ->> 'disk', line ->> 'status', line ->> 'text',
+    iif(line ->> 'clean', NULL, 'wrong'),
     line -> '$.super.generation',
     json_array_length(line, '$.broken'),
     json_array_length(line, '$.super.bad')
         + (SELECT total(json_array_length(value, '$.bad')) FROM json_each(line, '$.extents')),
     iif(line -> 'candidates' IS NULL, NULL, (SELECT total(value ->> 'free') FROM json_each(line, '$.candidates')))
-FROM input WHERE json_type(line, '$.lines') IS NULL;
+FROM input WHERE json_type(line, '$.broken') IS NOT NULL;
 
-CREATE TABLE broken (disk TEXT NOT NULL, shard TEXT NOT NULL);
+-- The broken shards. A row of summary doesn't name them: then the disk has one line here, and its shard is NULL.
+CREATE TABLE broken (disk TEXT NOT NULL, shard TEXT);
 INSERT INTO broken
-SELECT line ->> 'disk', value FROM input, json_each(line, '$.broken');
+SELECT line ->> 'disk', value FROM input, json_each(line, '$.broken')
+UNION ALL
+SELECT line ->> 'disk', NULL FROM input WHERE line ->> 'shards_broken' > 0;
 
 -- The rows of reclaimable. The gain is in bytes. It is 0 if there is a doubt, and NULL if reclaimable gave no answer.
 CREATE TABLE reclaimable (

@@ -13,12 +13,12 @@ except ImportError:
 
 @cache
 def validators():
-    """The validators of a report, of a row of scan, and of a row of reclaimable."""
+    """The validators of a report, and of the rows of scan, reclaimable and summary."""
     if Draft202012Validator is None:
         raise unittest.SkipTest("Python's jsonschema isn't there")
     schema = json.loads((TOP / "docs/report.schema.json").read_text(encoding="utf-8"))
     Draft202012Validator.check_schema(schema)
-    rows = ({"$defs": schema["$defs"], "$ref": f"#/$defs/{name}"} for name in ("row", "reclaimableRow"))
+    rows = ({"$defs": schema["$defs"], "$ref": f"#/$defs/{name}"} for name in ("row", "reclaimableRow", "summaryRow"))
     return [Draft202012Validator(schema), *map(Draft202012Validator, rows)]
 
 
@@ -39,7 +39,7 @@ def spoilt(row):
 def check_line(case, what, line):
     """Checks that the schema accepts a report or a row, and refuses it if it is spoilt."""
     row = json.loads(line)
-    validator = validators()[0 if "disk" not in row else 2 if "lines" in row else 1]
+    validator = validators()[0 if "disk" not in row else 2 if "lines" in row else 3 if "verdict" in row else 1]
     faults = [fault.message[:1000] for fault in validator.iter_errors(row)]
     case.same(f"{what}: faults", faults, [])
     taken = sum(map(validator.is_valid, spoilt(row)))
