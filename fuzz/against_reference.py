@@ -1,5 +1,6 @@
 #!/usr/bin/env python3
-"""Compares the program with the slow reference, tests/lib/reference.py, on made-up disks, byte for byte.
+"""Compares the program with the slow reference, tests/lib/reference.py, on made-up disks, byte for byte; and what it prints of a
+shard with its own manifest and report.
 
 A process stops at its first difference. It leaves the image, its map and both outputs in the folder shardscrub-difference, in the
 system's folder for temporary files. The last lines say how often each kind of line came up, and 'N passed, M failed', which
@@ -21,15 +22,26 @@ from lib.program import choose_program
 DIFFERENCE = Path(tempfile.gettempdir(), "shardscrub-difference")
 
 
-def leave(folder, call, found):
+def leave(folder, call, found, what):
     """Keeps the files of a difference, and prints what differs."""
     shutil.rmtree(DIFFERENCE, ignore_errors=True)
     shutil.copytree(folder, DIFFERENCE)
     (DIFFERENCE / "right").write_bytes(call.right[1])
     (DIFFERENCE / "printed").write_bytes(found[1])
-    print(f"{call.command} differs: status {found[0]}, right {call.right[0]}")
+    print(f"{what}: status {found[0]}, right {call.right[0]}")
     print(f"error stream {found[2]!r}, right {call.right[2]!r}")
     print("arguments:", call.line().replace(str(folder), str(DIFFERENCE)))
+
+
+def difference(program, disk, commands):
+    """The first call whose answer is wrong, the answer, and what is wrong; or None. Other commands are taken to answer rightly."""
+    found = []
+    for call in disk.calls:
+        found.append(call.found(program) if call.command in commands else call.right)
+        if found[-1] != call.right:
+            return call, found[-1], f"{call.command} differs"
+    broken = ((call, answer, f"a law is broken: {law}") for call, answer, law, is_kept in disk.laws(found) if not is_kept)
+    return next(broken, None)
 
 
 def compare(program, seed, turns, commands):
@@ -40,14 +52,11 @@ def compare(program, seed, turns, commands):
         with tempfile.TemporaryDirectory() as folder:
             disk = compared(seed, turn, folder)
             seen += disk.seen
-            for call in disk.calls:
-                if program is None or call.command not in commands:
-                    continue
-                found = call.found(program)
-                if found != call.right:
-                    leave(folder, call, found)
-                    print(f"seed {seed}, turn {turn}", flush=True)
-                    return same, 1, seen
+            wrong = difference(program, disk, commands) if program else None
+            if wrong:
+                leave(folder, *wrong)
+                print(f"seed {seed}, turn {turn}", flush=True)
+                return same, 1, seen
         same += 1
     return same, 0, seen
 

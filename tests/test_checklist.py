@@ -1,5 +1,5 @@
 """Walks the checklist of docs/RECLAIMING.md on made-up disks, and makes mistakes on the way, one at a time. Also holds the laws of
-spares, copies, resets and manifests on pairs of images. fuzz/checklist.py does so on others."""
+spares, copies, resets, manifests and shards on pairs of images. fuzz/checklist.py does so on others."""
 from collections import Counter
 
 from lib.cases import RoomCase, add_tests

@@ -74,9 +74,11 @@ class Costs(RoomCase):
         return (found.sized, found.threads) if status == wanted and found else (None, None)
 
     def check_merging(self, shards):
-        words = ["scan", "--workers", "0", *two_runs(self.room, shards)]
-        lists, _ = self.counts(words, 1, counted=LOCATORS * LOCATOR_BYTES)
+        disk = two_runs(self.room, shards)
+        lists, _ = self.counts(["scan", "--workers", "0", *disk], 1, counted=LOCATORS * LOCATOR_BYTES)
         self.same("lists of locators", lists, 2 * shards)
+        lists, _ = self.counts(["shard", "--workers", "0", "--id", shard(0).hex(), *disk], 0, counted=LOCATORS * LOCATOR_BYTES)
+        self.same("lists of locators for the bytes of a shard", lists, 2 * shards)
 
     def test_merging_16_shards(self):
         self.check_merging(16)
@@ -89,8 +91,8 @@ class Costs(RoomCase):
         for number in range(1, len(self.processors) + 1):
             yield number, self.counts(words, status, processors=set(self.processors[:number]))[1]
 
-    def check_nothing_to_look_at(self, command, wanted):
-        for number, started in self.on_each_number_of_processors([command, "--workers", "0", *self.sound], 0):
+    def check_nothing_to_look_at(self, command, wanted, *options):
+        for number, started in self.on_each_number_of_processors([command, "--workers", "0", *options, *self.sound], 0):
             self.same(f"threads on {number} processors", started, wanted)
 
     def test_scan_with_nothing_to_look_at(self):
@@ -101,6 +103,9 @@ class Costs(RoomCase):
 
     def test_locators_with_nothing_to_look_at(self):
         self.check_nothing_to_look_at("locators", 0)
+
+    def test_shard_with_nothing_to_look_at(self):
+        self.check_nothing_to_look_at("shard", 0, "--id", shard(7).hex())
 
     def test_locators_with_many_places(self):
         for number, started in self.on_each_number_of_processors(["locators", "--workers", "0", *self.hidden], 1):

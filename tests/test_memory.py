@@ -13,11 +13,14 @@ import unittest
 from lib import growths
 from lib.allocations import made, refusing
 from lib.cases import RoomCase, add_tests
+from lib.program import TOP
+from lib.reference import answered
 
 SMALL = "--page 64 --pages 4 --extents 3 examples/one-shard.img"
 SEVERAL = "--page 64 --pages 16 --extents 5 examples/several-findings.img 3:1"
 RECLAIMED = "--page 64 --pages 8 --extents 5 examples/reclaimed-before.img"
 RESCUED = "--page 512 --pages 4 --extents 4 --map examples/rescued.map examples/rescued.img"
+SHARD = "shard --id " + "0" * 31
 COMMAND_LINES = {
     "no words": "",
     "scan": f"scan {SMALL}",
@@ -39,10 +42,27 @@ COMMAND_LINES = {
     "superblocks with a map": f"superblocks {RESCUED}",
     "reclaimable with a map": f"reclaimable --workers 0 {RESCUED}",
     "items with a map": f"items --extent 3 {RESCUED}",
+    "shard": f"{SHARD}1 {SMALL}",
+    "shard without workers": f"{SHARD}1 --workers 0 {SEVERAL}",
+    "shard without sizes": f"{SHARD}2 examples/several-findings.img",
+    "shard with a map": f"{SHARD}1 --workers 2 {RESCUED}",
+    "hidden shard": f"{SHARD}1 --page 64 --pages 4 --extents 3 examples/collision.img",
+    "shard with a spare": f"{SHARD}1 --workers 0 --page 64 --pages 8 --extents 4 examples/rotted.img",
+    "doubtful shard": f"{SHARD}1 --page 64 --pages 4 --extents 4 examples/lost-run.img",
+    "lost payload": f"{SHARD}3 --workers 2 {SEVERAL}",
+    "no such shard": f"{SHARD}4 --workers 0 {SEVERAL}",
+    "refused shard": f"{SHARD} {SMALL}",
     "help": "scan --help",
     "refused words": "scan --workers 65",
 }
+# Those to which lib/reference.py has no answer.
+WITHOUT_REFERENCE = {"", "scan --help", "scan --workers 65"}
 OUT_OF_MEMORY = (4, b"", b"shardscrub: out of memory\n")
+
+
+def right(words):
+    """The right answer of a run in the repository's folder."""
+    return answered([str(TOP / word) if word.startswith("examples/") else word for word in words.split()])
 
 
 class LibraryCase(RoomCase):
@@ -58,6 +78,8 @@ class Runs(LibraryCase):
     def check(self, given):
         words, all_later = given
         whole, _ = refusing(self.program, words, self.library, 0)
+        if words not in WITHOUT_REFERENCE:
+            self.same("the answer", whole, right(words))
         refused = 0
         while True:
             refused += 1

@@ -13,12 +13,13 @@ import subprocess
 import tempfile
 import time
 from pathlib import Path
+from typing import NamedTuple
 
 from lib import disks, reference
 from lib.cases import RoomCase, add_tests
-from lib.disks import frame, geometry, locator, record, uuid
+from lib.disks import Disk, frame, geometry, locator, record, shard, uuid
 from lib.program import TOP, need, program
-from lib.reference import Image, item_line, reclaimable, report_text, scrub, superblocks, tile
+from lib.reference import Image, answered, items, reclaimable, report_text, scrub, scrub_all, superblocks
 from lib.traces import need_traces, opened, state, suspects, traced
 
 SECONDS = 60
@@ -27,8 +28,11 @@ ONE_SHARD = str(TOP / "examples/one-shard.img")
 SMALL = ["--page", "64", "--pages", "4", "--extents", "3"]
 SEVERAL = ["--page", "64", "--pages", "16", "--extents", "5"]
 SEVERAL_IMAGE = TOP / "examples/several-findings.img"
-ON_IMAGE = (["scan", *SEVERAL], ["index", *SEVERAL], ["locators", *SEVERAL], ["superblocks", *SEVERAL],
-            ["reclaimable", *SEVERAL], ["items", *SEVERAL, "--extent", "3"], ["sizes"])
+# The shard of the example of one shard. The other examples have one of that name, too.
+SHARD_1 = ["--id", f"{1:032}"]
+ON_IMAGE = (["scan", *SEVERAL], ["index", *SEVERAL], ["locators", *SEVERAL], ["superblocks", *SEVERAL], ["summary", *SEVERAL],
+            ["manifest", *SEVERAL], ["reclaimable", *SEVERAL], ["items", *SEVERAL, "--extent", "3"],
+            ["shard", *SEVERAL, *SHARD_1], ["sizes"])
 
 
 def answer(*words, **more):
@@ -51,16 +55,27 @@ def written(path, parts, size):
     return str(path)
 
 
-def items_of(raw, p, n, e, extent, pointer):
-    """The answer of `items` by the reference."""
-    items = tile(Image(raw, p, n, e, []), extent, pointer)
-    unclean = any(item[0] in ("torn", "noise", "lost") for item in items)
-    return int(unclean), "".join(item_line(item) + "\n" for item in items).encode(), b""
-
-
 def listed(lines, good):
     """The answer that prints these lines."""
     return 0 if good else 1, lines.encode(), b""
+
+
+def items_of(raw, p, n, e, extent, pointer):
+    """The answer of `items` by the reference."""
+    return listed(*items(Image(raw, p, n, e, []), extent, pointer))
+
+
+def shard_of(answers, name):
+    """The answer of `shard` by the reference."""
+    printed, wrong = answers.shard(bytes.fromhex(name))
+    return (0, printed, b"") if wrong is None else (1, printed, f"shardscrub: {wrong}\n".encode())
+
+
+def some_shards(answers):
+    """The first shard of a disk, the last one, one in the middle, a broken one, and one that isn't there."""
+    lines = map(str.split, answers.locators.splitlines())
+    named = sorted({words[1] for words in lines if words[0] == "shard"})
+    return {*named[:1], *named[-1:], *named[len(named) // 2:][:1], *answers.report["broken"][:1], "f" * 32}
 
 
 def sizes_of(path, blocks=None):
@@ -73,8 +88,8 @@ class DiskCase(RoomCase):
     def check_disk(self, path, p, n, e, workers=(0, 1, 3, 64)):
         """Compares all answers on a disk with those of the reference. Scans run with several numbers of workers."""
         image = Image(Path(path).read_bytes(), p, n, e, [])
-        report, index, clean, lines = scrub(image)
-        status = 0 if clean else 1
+        answers = scrub_all(image)
+        report, index, lines, status = answers.report, answers.index, answers.locators, 0 if answers.clean else 1
         right = listed(*reclaimable(image, ["tail"]))
         for number in workers:
             found = answer("reclaimable", "--accept", "tail", *geometry(p, n, e), "--workers", str(number), path)
@@ -86,6 +101,11 @@ class DiskCase(RoomCase):
             self.same(f"scan with {number} workers", found, (status, report_text(report), b""))
         self.same("index", answer("index", *geometry(p, n, e), path), (status, index, b""))
         self.same("locators", answer("locators", *geometry(p, n, e), path), (status, lines.encode(), b""))
+        for name in sorted(some_shards(answers)):
+            right = shard_of(answers, name)
+            for number in workers:
+                found = answer("shard", *geometry(p, n, e), "--workers", str(number), "--id", name, path)
+                self.same(f"shard {name} with {number} workers", found, right)
 
 
 class Files(DiskCase):
@@ -169,7 +189,8 @@ class Files(DiskCase):
         os.remove(path)
 
 
-COMMANDS = (["scan"], ["index"], ["locators"], ["reclaimable"], ["superblocks"], ["items", "--extent", "2"])
+COMMANDS = (["scan"], ["index"], ["locators"], ["summary"], ["manifest"], ["reclaimable"], ["superblocks"],
+            ["items", "--extent", "2"], ["shard", *SHARD_1])
 
 
 class Maps(RoomCase):
@@ -193,6 +214,12 @@ class Maps(RoomCase):
 
     def test_a_map(self):
         self.check_form(self.TEXT)
+
+    def test_a_file_that_ends_within_a_block(self):
+        """For `sizes` only bytes before the end of the file count. It has 768 bytes."""
+        for text in (b"0 +\n0 768 +\n", b"0 +\n0 767 +\n", b"0 +\n0 768 +\n768 64 -\n", b"0 +\n0 767 +\n768 64 +\n"):
+            right = sizes_of(ONE_SHARD, reference.read_map(text))
+            self.same(f"{text!r}", answer("sizes", "--map", self.given_map(text), ONE_SHARD), right)
 
     def test_carriage_returns(self):
         self.check_form(self.TEXT.replace(b"\n", b"\r\n"))
@@ -314,6 +341,75 @@ class LargeDisks(DiskCase):
         self.check_disk(path, p, n, e, (0, 3, 64))
 
 
+class Stage(NamedTuple):
+    """A fault: the part of the arguments that has it, the words that lead to it, the status, and its line."""
+    part: str
+    words: list
+    status: int
+    text: str
+
+
+class Faults(RoomCase):
+    """The order in which faults are found. Each comes before all later ones, whether these apply or not."""
+    # The faults of what a command alone takes, in their order, and the right words.
+    OWN = {"manifest": ([Stage("reset", ["--reset", "3"], 2, "extent out of range")], {"reset": ["--reset", "1"]}),
+           "items": ([Stage("extent", ["--extent", "3"], 2, "extent out of range"),
+                      Stage("pointer", ["--pointer", "257"], 2, "pointer out of range")],
+                     {"extent": ["--extent", "1"], "pointer": []}),
+           "shard": ([Stage("id", ["--id", "x"], 2, "shard refused: x")], {"id": SHARD_1})}
+
+    def files(self):
+        """The stages of the map; of an image that isn't there, that is too long, and that has no sizes; and the right words."""
+        raw = Path(ONE_SHARD).read_bytes()
+        for name, text in (("longer", raw + b"x"), ("map", b"0 ?\n0 4096 +\n"), ("no-map", b"0 ?\n0 1 x\n")):
+            (self.room / name).write_bytes(text)
+        map_stages = [Stage("map", ["--map", "/nothing/map"], 3, "map cannot be opened: /nothing/map"),
+                      Stage("map", ["--map", str(self.room / "no-map")], 2, "map refused: line 2")]
+        no_image = Stage("image", ["/nothing/image"], 3, "image cannot be opened: /nothing/image")
+        too_long = Stage("image", [str(self.room / "longer")], 3, "image too long")
+        no_sizes = Stage("image", [str(TOP / "examples/no-superblock.img")], 2, "sizes not found: run shardscrub sizes")
+        return map_stages, no_image, too_long, no_sizes, {"map": ["--map", str(self.room / "map")], "image": [ONE_SHARD]}
+
+    def check_order(self, command, stages, right):
+        """Runs the command with the faults from each stage on, and then without any."""
+        for number, stage in enumerate(stages):
+            later = {}
+            for other in reversed(stages[number:]):
+                later[other.part] = other.words
+            words = [command, *(word for part in right for word in later.get(part, right[part]))]
+            self.same(" ".join(words), answer(*words), (stage.status, b"", f"shardscrub: {stage.text}\n".encode()))
+        words = [command, *(word for part in right for word in right[part])]
+        self.same(" ".join(words), answer(*words), answered(words))
+
+    def check_with_sizes(self, command):
+        own, given = self.OWN.get(command, ([], {}))
+        map_stages, no_image, too_long, _, files = self.files()
+        stages = [Stage("sizes", geometry(60, 4, 3), 2, "geometry refused: PageSize"), *own,
+                  Stage("pairs", ["0:3", "1:4", "3:0"], 2, "bad page refused: 1:4"), *map_stages, no_image, too_long]
+        self.check_order(command, stages, {"sizes": SMALL, **given, **files, "pairs": ["0:3"]})
+
+    def check_without_sizes(self, command):
+        own, given = self.OWN.get(command, ([], {}))
+        map_stages, no_image, too_long, no_sizes, files = self.files()
+        stages = [*map_stages, no_image, no_sizes, *own, Stage("pairs", ["0:3", "1:4"], 2, "bad page refused: 1:4"), too_long]
+        self.check_order(command, stages, {**given, **files, "pairs": ["0:3"]})
+
+    def test_refused_arguments_come_first(self):
+        """Whatever else is wrong."""
+        wrong = [*geometry(60, 4, 3), "--map", "/nothing/map", "/nothing/image", "9:9"]
+        for words, part in ((["shard", *wrong], b"--id"), (["shard", "--id", "x", "--id", "y", *wrong], b"--id"),
+                            (["shard", "--id", "x", *wrong[2:]], b"--page "), (["items", *wrong], b"--extent"),
+                            (["shard", "--id", "x", "--workers", "65", *wrong], b"65")):
+            status, out, error = answer(*words)
+            self.same(" ".join(words), (status, out), (2, b""))
+            self.true(f"{' '.join(words)}: the message has {part}", error.startswith(b"error: ") and part in error, error)
+
+
+add_tests(Faults, Faults.check_with_sizes, [(f"{command[0]} with sizes", command[0]) for command in COMMANDS])
+add_tests(Faults, Faults.check_without_sizes, [(f"{command} without sizes", command)
+                                               for command in ("scan", "summary", "locators", "superblocks", "items", "shard")])
+
+
 class Words(RoomCase):
     """Arguments, refusals and help."""
 
@@ -354,6 +450,14 @@ class Words(RoomCase):
             (["superblocks", *SMALL, "x", "1:4"], 2, "bad page refused: 1:4"),
             (["reclaimable", *geometry(64, 4, 1), "x"], 2, "geometry refused: Extents"),
             (["sizes", "/nothing/here"], 3, "image cannot be opened: /nothing/here"),
+            (["shard", *geometry(60, 4, 3), *SHARD_1, "x"], 2, "geometry refused: PageSize"),
+            (["shard", *SMALL, "--id", "1", "x"], 2, "shard refused: 1"),
+            (["shard", *SMALL, "--id", "", "x"], 2, "shard refused: "),
+            (["shard", *SMALL, "--id", "0" * 31 + "g", "x"], 2, f"shard refused: {'0' * 31}g"),
+            (["shard", *SMALL, *SHARD_1, "x", "1:4"], 2, "bad page refused: 1:4"),
+            (["shard", *SMALL, *SHARD_1, "/nothing/here"], 3, "image cannot be opened: /nothing/here"),
+            (["shard", *SMALL, "--id", "0" * 32, ONE_SHARD], 1, "no such shard"),
+            (["shard", *SMALL, *SHARD_1, ONE_SHARD, "1:0"], 1, "payload lost: 00"),
         ]:
             self.same(f"{words[0]}: {text}", answer(*words), (status, b"", f"shardscrub: {text}\n".encode()))
 
@@ -364,49 +468,115 @@ class Words(RoomCase):
             (["superblocks", *SMALL, "--workers", "1", ONE_SHARD], b"--workers"),
             (["reclaimable", *SMALL, "--accept", "tie", ONE_SHARD], b"tie"),
             (["scan", *SMALL, "--accept", "tail", ONE_SHARD], b"--accept"),
+            (["scan", *SMALL, *SHARD_1, ONE_SHARD], b"--id"),
+            (["shard", *SMALL, ONE_SHARD], b"--id"),
+            (["shard", ONE_SHARD], b"--id"),
+            (["shard", *SMALL, ONE_SHARD, "--id"], b"--id"),
+            (["shard", *SMALL, *SHARD_1, *SHARD_1, ONE_SHARD], b"--id"),
+            (["shard", *SMALL, "--id", "-1", ONE_SHARD], b"-1"),
+            (["shard", *SMALL, *SHARD_1], b"IMAGE"),
+            (["shard", *SMALL, *SHARD_1, "--workers", "65", ONE_SHARD], b"65"),
+            (["shard", *SMALL, *SHARD_1, "--reset", "1", ONE_SHARD], b"--reset"),
+            (["shard", *SMALL, *SHARD_1, "--extent", "1", ONE_SHARD], b"--extent"),
+            (["shard", *SMALL[:2], *SHARD_1, ONE_SHARD], b"--pages"),
+            (["shard", *SMALL[2:], *SHARD_1, ONE_SHARD], b"--page "),
             (["sizes", *SMALL, ONE_SHARD], b"--page"),
             (["sizes", ONE_SHARD, "0:1"], b"0:1"),
             (["sizes"], b"IMAGE"),
         ]:
-            status, out, error = answer(*words)
-            self.same(" ".join(words), (status, out, part in error and len(error) > 16), (2, b"", True))
+            self.check_refused_words(words, part)
+
+    def check_refused_words(self, words, part):
+        status, out, error = answer(*words)
+        self.same(" ".join(words), (status, out), (2, b""))
+        self.true(f"{' '.join(words)}: the message has {part}", part in error and len(error) > 16, error)
 
     def test_help(self):
-        for words in [["--help"]] + [[name, "--help"] for name in ("scan", "index", "items", "superblocks", "reclaimable", "sizes")]:
+        for words in [["--help"]] + [[command[0], "--help"] for command in ON_IMAGE]:
             status, out, error = answer(*words)
             self.same(" ".join(words), (status, out, len(error) > 500 and error.endswith(b"\n")), (0, b"", True))
 
 
 class Streams(RoomCase):
-    """Outputs that fail."""
+    """Outputs that fail. Then nothing but that is said, also of a shard of which a newer entry may be lost."""
+    SCAN = ["scan", *SMALL, ONE_SHARD]
+    SHARD = ["shard", *SMALL, *SHARD_1, ONE_SHARD]
+    DOUBTFUL = ["shard", *geometry(64, 4, 4), *SHARD_1, str(TOP / "examples/lost-run.img")]
+    DOUBT = b"shardscrub: a newer entry may be lost\n"
 
-    def test_a_full_output(self):
+    def answer_to(self, out, words, **more):
+        """The status and the error stream of a run with this output."""
+        found = answer(*words, capture_output=False, stdout=out, stderr=subprocess.PIPE, **more)
+        return found and (found[0], found[2])
+
+    def answer_to_full(self, words):
         with open("/dev/full", "wb") as full:
-            run = answer("scan", *SMALL, ONE_SHARD, capture_output=False, stdout=full, stderr=subprocess.PIPE)
-        self.same("scan", run, (3, None, b"shardscrub: output failed after 0 bytes\n"))
+            return self.answer_to(full, words)
 
-    def test_an_output_without_a_reader(self):
+    def answer_without_reader(self, words):
         reader, writer = os.pipe()
         os.close(reader)
-        run = answer("scan", *SMALL, ONE_SHARD, capture_output=False, stdout=writer, stderr=subprocess.PIPE)
+        found = self.answer_to(writer, words)
         os.close(writer)
-        self.same("scan", run, (3, None, b"shardscrub: output failed after 0 bytes\n"))
+        return found
 
-    def test_an_output_that_fails_after_each_number_of_bytes(self):
-        _, report, _ = answer("scan", *SMALL, ONE_SHARD)
-        self.true("the report is long enough", len(report) > 500, len(report))
+    def test_a_full_output(self):
+        for words in (self.SCAN, self.SHARD, self.DOUBTFUL):
+            self.same(" ".join(words), self.answer_to_full(words), (3, b"shardscrub: output failed after 0 bytes\n"))
+
+    def test_an_output_without_a_reader(self):
+        for words in (self.SCAN, self.SHARD, self.DOUBTFUL):
+            self.same(" ".join(words), self.answer_without_reader(words), (3, b"shardscrub: output failed after 0 bytes\n"))
+
+    def test_nothing_to_write_cannot_fail(self):
+        """A shard without bytes, whole and doubtful; a lost payload; and no shard."""
+        disk = Disk(4, 4)
+        disk.chunk(1, 0, uuid(0x11), b"")
+        entries = (shard(1), [locator(1, 0, uuid(0x11), b"")]), (shard(2), [locator(1, 0, uuid(0x12), b"")])
+        older = disk.chunk(2, 0, uuid(0x22), disks.run(*entries))
+        for newer, runs in ((b"", [older]), (self.DOUBT, [locator(3, 0, uuid(0x33), b"lost"), older])):
+            disk.superblock(0, 1, *runs)
+            path = written(self.room / "nothing", [(0, bytes(disk.bytes))], len(disk.bytes))
+            for number, right in ((1, (1 if newer else 0, newer)), (2, (1, b"shardscrub: payload lost: 00\n")),
+                                  (3, (1, b"shardscrub: no such shard\n"))):
+                words = ["shard", *disk.geometry(), "--id", shard(number).hex(), path]
+                self.same(f"shard {number} of {len(runs)} runs", answer(*words), (right[0], b"", right[1]))
+                self.same(f"shard {number} of {len(runs)} runs, full", self.answer_to_full(words), right)
+                self.same(f"shard {number} of {len(runs)} runs, no reader", self.answer_without_reader(words), right)
+
+    def check_each_number_of_bytes(self, words, wanted):
+        """The output fails after each number of bytes, and then not at all."""
         path = self.room / "short"
 
         def limit(size):
             signal.signal(signal.SIGXFSZ, signal.SIG_IGN)
             resource.setrlimit(resource.RLIMIT_FSIZE, (size, size))
 
-        for size in range(len(report)):
+        status, whole, error = wanted
+        for size in range(len(whole) + 1):
             with open(path, "wb") as out:
-                status, _, error = answer("scan", *SMALL, ONE_SHARD, capture_output=False, stdout=out, stderr=subprocess.PIPE,
-                                          preexec_fn=lambda: limit(size))
-            text = f"shardscrub: output failed after {size} bytes\n".encode()
-            self.same(f"{size} bytes", (status, error, path.read_bytes()), (3, text, report[:size]))
+                found = self.answer_to(out, words, preexec_fn=lambda: limit(size))
+            right = (3, f"shardscrub: output failed after {size} bytes\n".encode()) if size < len(whole) else (status, error)
+            self.same(f"{size} bytes", (found, path.read_bytes()), (right, whole[:size]))
+
+    def test_a_report_that_fails_after_each_number_of_bytes(self):
+        wanted = answered(self.SCAN)
+        self.true("the report is long enough", len(wanted[1]) > 500, len(wanted[1]))
+        self.check_each_number_of_bytes(self.SCAN, wanted)
+
+    def test_a_shard_that_fails_after_each_number_of_bytes(self):
+        several = ["shard", *SEVERAL, *SHARD_1, str(SEVERAL_IMAGE)]
+        self.check_each_number_of_bytes(several, (0, b"the first shard, written anew at 12", b""))
+
+    def test_a_doubtful_shard_that_fails_after_each_number_of_bytes(self):
+        self.check_each_number_of_bytes(self.DOUBTFUL, (1, b"abc", self.DOUBT))
+
+    def test_an_error_stream_that_fails(self):
+        """The bytes and the status are the same."""
+        for words, right in ((self.DOUBTFUL, (1, b"abc")), (["shard", *SMALL, "--id", "0" * 32, ONE_SHARD], (1, b""))):
+            with open("/dev/full", "wb") as full:
+                status, out, _ = answer(*words, capture_output=False, stdout=subprocess.PIPE, stderr=full)
+            self.same(" ".join(words), (status, out), right)
 
 
 class Calls(RoomCase):
@@ -473,10 +643,10 @@ class Threads(RoomCase):
         _, calls = traced(self.room, *words)
         return sum(name in ("clone", "clone3") and gave.isdigit() for name, _, gave in calls)
 
-    def check_workers(self, command, others):
+    def check_workers(self, command, others, disk=DISK):
         for number in (0, 1, 3, 64):
-            self.same(f"{number} workers", self.started(command, "--workers", str(number), *self.DISK), number + others)
-        self.same("without the option", self.started(command, *self.DISK), 1 + others)
+            self.same(f"{number} workers", self.started(command, "--workers", str(number), *disk), number + others)
+        self.same("without the option", self.started(command, *disk), 1 + others)
 
     def test_scan(self):
         self.check_workers("scan", 2)
@@ -489,6 +659,10 @@ class Threads(RoomCase):
 
     def test_reclaimable(self):
         self.check_workers("reclaimable", 0)
+
+    def test_shard(self):
+        """Of a shard that is there: its run and its chunk are sound."""
+        self.check_workers("shard", 0, [*SMALL, *SHARD_1, ONE_SHARD])
 
     def test_items(self):
         self.same("threads", self.started("items", "--extent", "1", *self.DISK), 0)

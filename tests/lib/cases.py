@@ -3,12 +3,21 @@ import re
 import tempfile
 import unittest
 from functools import partialmethod
+from os.path import commonprefix
 from pathlib import Path
 
 from lib.program import program
 
-# How many characters of a wrong answer are shown.
-SHOWN = 1000
+# How many characters of a wrong answer are shown, and how many of them come before its first difference if it is longer.
+SHOWN, BEFORE = 1000, 200
+
+
+def shown(found, wanted):
+    """A wrong answer and the right one as texts, from shortly before their first difference if one of them is long."""
+    texts = str(found), str(wanted)
+    begin = max(0, len(commonprefix(texts)) - BEFORE) if max(map(len, texts)) > SHOWN else 0
+    found, wanted = ("..." * (begin > 0) + text[begin:begin + SHOWN] for text in texts)
+    return f"{found}, and not {wanted}"
 
 
 class Compared:
@@ -20,7 +29,7 @@ class Case(unittest.TestCase):
     """A test that may compare many answers. Each that is wrong is shown with what it answers, and the test goes on."""
 
     def same(self, what, found, wanted):
-        self.true(what, found == wanted, f"{str(found)[:SHOWN]}, and not {str(wanted)[:SHOWN]}")
+        self.true(what, found == wanted, "" if found == wanted else shown(found, wanted))
 
     def true(self, what, is_right, found=""):
         Compared.count += 1

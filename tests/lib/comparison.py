@@ -1,18 +1,28 @@
 """Compares a program with the reference on made-up disks, byte for byte: report, index, summary, named locators with spares,
-manifests with resets, superblocks, what may be reclaimed, sizes, and the status of each. Some disks have a map of GNU ddrescue,
-and some of these maps are refused. Some texts to accept and some extents to reset are refused, too."""
+manifests with resets, superblocks, items, what may be reclaimed, sizes, bytes of shards, and the status and error stream of each;
+with the sizes and, where they may be left out, without them. Some disks have a map of GNU ddrescue, and some of these maps are
+refused. Some texts to accept, extents, pointers and identifiers are refused, too. What `shard` prints also has to agree with what
+the program prints by `manifest` and `scan`."""
+import json
 import os
 import random
 import subprocess
 from collections import Counter
 from typing import NamedTuple
 
+from lib.agreement import Listed
 from lib.disks import geometry
 from lib.made_up import Made, Tended
-from lib.reference import (ACCEPTABLE, Image, MapFault, lost_by_map, manifest, read_map, reclaimable, refusal, report_text, scrub,
-                           sizes, summary, superblocks)
+from lib.reference import ACCEPTABLE, answered, choose, disk_of, frame_at, read_arguments, read_run, refusal, scrub
 
-COMMANDS = ("scan", "index", "summary", "locators", "superblocks", "manifest", "reclaimable", "sizes")
+COMMANDS = ("scan", "index", "summary", "locators", "superblocks", "manifest", "reclaimable", "sizes", "items", "shard")
+# Those for which the sizes may be left out, except `items` and `shard`, which need more.
+LOOKING = ("scan", "summary", "locators", "superblocks")
+# How many known shards of a disk are asked for.
+MOST_SHARDS = 3
+# Texts that aren't an identifier.
+NO_IDENTIFIERS = ("", "0", "0" * 31, "0" * 33, "g" + "0" * 31, " " + "0" * 31, "0x" + "0" * 30, "0" * 31 + "\n", "\uff10" * 32,
+                  "00000000-0000-0000-0000-000000000001", "+" + "0" * 31)
 
 
 def texts_to_accept(c, doubts):
@@ -41,57 +51,95 @@ def extents_to_reset(c, extents):
     return some
 
 
-def calls(made, accepted, resets):
-    """The words of each call: of the whole answer, and of the function of the reference that prints it."""
-    options = geometry(made.p, made.n, made.e)
-    for command in COMMANDS:
-        if command == "manifest":
-            for extents in ([], *resets):
-                yield command, [command, *options, *(word for e in extents for word in ("--reset", str(e)))], extents
-        elif command == "reclaimable":
-            for texts in ([], accepted):
-                yield command, [command, *options, *(word for text in texts for word in ("--accept", text))], texts
-        else:
-            yield command, [command] + (options if command != "sizes" else []), []
+def extent_to_list(c, made):
+    """The options of `items`: an extent and mostly a pointer, sometimes out of range."""
+    extent = made.e if c.random() < .05 else c.randrange(made.e)
+    pointer = c.choice([c.randrange(made.size + 1), made.size, made.size + c.randrange(2), *made.w])
+    return ["--extent", str(extent), *(["--pointer", str(pointer)] if c.random() < .8 else [])]
 
 
-def refused(command, given, extents):
-    """The error stream where an argument of this call is refused before the map is read, or None."""
-    if command == "reclaimable":
-        return next(filter(None, map(refusal, given)), None)
-    if command == "manifest" and any(not 1 <= e < extents for e in given):
-        return "shardscrub: extent out of range\n"
-    return None
+def in_other_case(c, text):
+    """An identifier in upper or mixed case."""
+    return text.upper() if c.random() < .7 else "".join(c.choice([letter, letter.upper()]) for letter in text)
 
 
-def right_answers(made, unreadable, text, c):
-    """For each call its command, its words, and the right status, output and error stream. Also the report, or None if the map is
-    refused."""
-    pairs = [f"{e}:{g}" for e, g in unreadable]
-    raw, blocks, fault = bytes(made.raw), None, None
-    if text is not None:
-        try:
-            blocks = read_map(text)
-        except MapFault as found:
-            fault = f"shardscrub: map refused: line {found}\n"
-    lost = [divmod(q, made.n) for q in lost_by_map(blocks, made.p, made.n * made.e)] if blocks is not None else []
-    image = Image(raw, made.p, made.n, made.e, unreadable + lost)
-    report, index, clean, named = scrub(image)
-    known = {"scan": (report_text(report), clean), "index": (index, clean), "locators": (named, clean)}
-    of_call = {"summary": lambda _: summary(image), "superblocks": lambda _: superblocks(image),
-               "manifest": lambda given: manifest(image, given), "reclaimable": lambda given: reclaimable(image, given),
-               "sizes": lambda _: sizes(raw, blocks)}
-    doubts = [line.partition(" ")[2] for line in reclaimable(image)[0].splitlines() if line.startswith("doubt ")]
-    right = []
-    for command, words, given in calls(made, texts_to_accept(c, doubts), extents_to_reset(c, made.e)):
-        error = refused(command, given, made.e) or fault
-        if error:
-            right.append((command, words, [] if command == "sizes" else pairs, (2, b"", error.encode())))
-            continue
-        printed, good = known[command] if command in known else of_call[command](given)
-        printed = printed if isinstance(printed, bytes) else printed.encode()
-        right.append((command, words, [] if command == "sizes" else pairs, (0 if good else 1, printed, b"")))
-    return right, None if fault else report
+class Words(NamedTuple):
+    """The arguments of a call: its command, the options of the command alone, and those that all commands share. `of_shard` is
+    the identifier of the shard if the call has the sizes, the map and the pairs that `scan` and `manifest` get."""
+    command: str
+    own: list
+    shared: list
+    of_shard: str | None = None
+
+    def all(self):
+        return [self.command, *self.own, *self.shared]
+
+
+class MadeUp(NamedTuple):
+    """A made-up disk: how it was made, the options with its sizes, its map, its image, and its pairs."""
+    made: Made
+    sizes: list
+    map: list
+    image: str
+    pairs: list
+
+    def shared(self):
+        return [*self.sizes, *self.without_sizes()]
+
+    def without_sizes(self):
+        return [*self.map, self.image, *self.pairs]
+
+    def answer(self, *own):
+        """The right status, output and error stream."""
+        return answered([*own, *self.shared()])
+
+    def named(self):
+        """The identifiers of the known shards, rising."""
+        lines = map(str.split, self.answer("locators")[1].decode().splitlines())
+        return sorted({words[1] for words in lines if words[0] == "shard"})
+
+
+def option(name, values):
+    return [word for value in values for word in (name, str(value))]
+
+
+def calls_of_shards(c, disk):
+    """The calls of `shard`: for some known shards and some that aren't known, by 0 and by 3 workers, in another case, without the
+    sizes, the map or the pairs; and sometimes for what isn't an identifier."""
+    named = disk.named()
+    others = [one.hex() for one in disk.made.identifiers if one.hex() not in named]
+    some = c.sample(named, min(len(named), MOST_SHARDS)) + c.sample(others, min(len(others), 1 if named else 2))
+    some.append(c.randbytes(16).hex())
+    shared = [disk.sizes, disk.map, [disk.image], disk.pairs]
+    for place, one in enumerate(some):
+        for workers in ("0", "3") if place == 0 else (c.choice("03"),):
+            yield Words("shard", ["--id", one, "--workers", workers], disk.shared(), one)
+    one = some[0]
+    yield Words("shard", ["--id", in_other_case(c, one)], disk.shared(), one)
+    yield Words("shard", ["--workers", c.choice("03"), "--id", one], disk.without_sizes())
+    for place in (1, 3):
+        if shared[place]:
+            yield Words("shard", ["--id", c.choice(some)], sum(shared[:place] + shared[place + 1:], []))
+    if c.random() < .1:
+        yield Words("shard", ["--id", c.choice(NO_IDENTIFIERS)], c.choice([disk.shared(), disk.without_sizes()]))
+
+
+def calls(c, disk):
+    """The arguments of each call on a made-up disk."""
+    shared = disk.shared()
+    # The doubts of a disk with a refused map are those without the map.
+    accepting = disk._replace(map=[]) if disk.answer("scan")[0] == 2 else disk
+    listed = accepting.answer("reclaimable")[1].decode().splitlines()
+    doubts = [line.partition(" ")[2] for line in listed if line.startswith("doubt ")]
+    accepted, resets = texts_to_accept(c, doubts), extents_to_reset(c, disk.made.e)
+    yield from (Words(command, [], shared) for command in ("scan", "index", "summary", "locators", "superblocks"))
+    yield from (Words("manifest", option("--reset", extents), shared) for extents in ([], *resets))
+    yield from (Words("reclaimable", option("--accept", texts), shared) for texts in ([], accepted))
+    yield Words("sizes", [], [*disk.map, disk.image])
+    yield from (Words(command, [], disk.without_sizes()) for command in LOOKING)
+    yield Words("items", extent_to_list(c, disk.made), shared)
+    yield Words("items", extent_to_list(c, disk.made), disk.without_sizes())
+    yield from calls_of_shards(c, disk)
 
 
 def kind_of(command, words):
@@ -109,10 +157,34 @@ def kind_of(command, words):
         return " ".join([first, *words[4:5]]) if first == "record" else first
     if command == "summary":
         return " ".join(words) if first == "verdict" else None
-    return first if first == "lost" else words[1]
+    return words[1] if command == "sizes" and first != "lost" else first
 
 
-def count(seen, report, answers):
+def kinds_of_shard(listed, identifier, error, deleted):
+    """What is counted of a call of `shard` that isn't refused: why there is no such shard, or what its payloads come from."""
+    if "no such shard" in error:
+        return {"no superblock" if listed == [["no-superblock"]] else "deleted" if identifier in deleted else "unknown"}
+    locators = [words for words in listed if words[:2] == ["shard", identifier]]
+    places = {"sound": "sound", "hidden": "hidden"}
+    kinds = {places.get(words[5], words[-1]) + " of length 0" * (words[3] == "0") for words in locators}
+    if "payload lost" in error:
+        return {"lost of length 0" if kind == "none of length 0" else "lost" for kind in kinds if kind.startswith("none")}
+    return kinds | ({"doubtful"} if error else {"not doubtful"})
+
+
+def deleted_on(disk):
+    """The identifiers of the shards whose newest entry has no locator."""
+    image = disk_of(read_arguments(["scan", *disk.shared()]))
+    chosen, newest = choose(image), {}
+    for c, row in zip(chosen["runs"], scrub(image)[0]["runs"]):
+        if row["state"] == "read":
+            payload = frame_at(image, c["extent"], chosen["pointers"][c["extent"] - 1], c["offset"])[3]
+            for identifier, locators in read_run(payload):
+                newest.setdefault(identifier.hex(), locators)
+    return {identifier for identifier, locators in newest.items() if not locators}
+
+
+def count(seen, report, disk, calls):
     """Counts the findings of the disk, and the kinds of lines and statuses of its answers."""
     page = report["geometry"]["page"]
     for key in ("broken", "candidates", "dangling", "doubtful", "hidden", "orphans", "shared", "twins", "retired"):
@@ -127,19 +199,28 @@ def count(seen, report, answers):
     seen["scan: a byte between the pointer and the next page, behind padding"] += any(
         e["tail"] and e["items"] and e["items"][-1].startswith("pad") and e["pointer"] // page == e["tail_at"] // page
         for e in report["extents"])
-    for command, words, _, (status, printed, _) in answers:
-        with_option = "".join(sorted({f" {word}" for word in words if word in ("--accept", "--reset")}))
-        seen[f"{command}{with_option}: status {status}"] += 1
-        if command not in ("scan", "index"):
-            kinds = {kind_of(command, line.split()) for line in printed.decode().splitlines()}
-            seen.update(f"{command}: {kind}" for kind in kinds - {None})
+    listed = [line.split() for line in disk.answer("manifest")[1].decode().splitlines()]
+    deleted = deleted_on(disk)
+    of_shards = set()
+    for call in calls:
+        status, printed, error = call.right
+        with_option = "".join(sorted({f" {word}" for word in call.words if word in ("--accept", "--reset")}))
+        without = " without sizes" * (call.command != "sizes" and "--page" not in call.words)
+        seen[f"{call.command}{with_option}{without}: status {status}"] += 1
+        if call.of_shard:
+            of_shards |= kinds_of_shard(listed, call.of_shard, error.decode(), deleted)
+        elif call.command not in ("scan", "index", "shard"):
+            kinds = {kind_of(call.command, line.split()) for line in printed.decode().splitlines()}
+            seen.update(f"{call.command}{without}: {kind}" for kind in kinds - {None})
+    seen.update(f"shard: {kind}" for kind in of_shards)
 
 
 class Call(NamedTuple):
-    """A call of the program: its command, all its words, and the right status, output and error stream."""
+    """A call of the program: its command, all its words, the right status, output and error stream, and its `Words.of_shard`."""
     command: str
     words: list
     right: tuple
+    of_shard: str | None
 
     def found(self, program):
         """The status, the output and the error stream of this program."""
@@ -147,14 +228,39 @@ class Call(NamedTuple):
         return done.returncode, done.stdout, done.stderr
 
     def line(self):
-        return " ".join(repr(word) if " " in word else word for word in self.words)
+        return " ".join(repr(word) if not word or set(word) & set(" \n") else word for word in self.words)
 
 
 class Comparison(NamedTuple):
-    """A made-up disk in a folder: the calls to compare, and the kinds of lines in the right answers, with the findings of the
-    disk."""
+    """A made-up disk in a folder: the bytes of its image, the calls to compare, and the kinds of lines in the right answers, with
+    the findings of the disk."""
+    raw: bytes
     calls: list
     seen: Counter
+
+    def laws(self, found):
+        """Yields the laws that what a program answered to the calls of `shard` has to keep: the call, the answer, the law, and whether
+        it is kept. There are none if the program printed no manifest or no report."""
+        first = {}
+        for call, answer in zip(self.calls, found):
+            first.setdefault(call.command, answer)
+        if not {first["scan"][0], first["manifest"][0]} <= {0, 1}:
+            return
+        listed = Listed(self.raw, first["manifest"][1], first["scan"][1])
+        for call, answer in zip(self.calls, found):
+            if call.of_shard:
+                yield from ((call, answer, law, is_kept) for law, is_kept in listed.laws(call.of_shard, answer))
+
+
+def written(made, unreadable, text, folder):
+    """The made-up disk with its files in this folder: the image, and the map if it has one."""
+    image, map_file = os.path.join(folder, "image"), os.path.join(folder, "map")
+    for path, content in ((image, made.raw), (map_file, text)):
+        if content is not None:
+            with open(path, "wb") as file:
+                file.write(content)
+    return MadeUp(made, geometry(made.p, made.n, made.e), [] if text is None else ["--map", map_file], image,
+                  [f"{e}:{g}" for e, g in unreadable])
 
 
 def compared(seed, turn, folder):
@@ -163,14 +269,10 @@ def compared(seed, turn, folder):
     made = (Made if turn % 3 == 0 else Tended)(c)
     unreadable = made.make()
     text = made.map() if c.random() < (.5 if turn % 3 == 0 else .2) else None
-    answers, report = right_answers(made, unreadable, text, c)
-    seen = Counter({"map": text is not None, "map refused": report is None})
-    if report is not None:
-        count(seen, report, answers)
-    image, map_file = os.path.join(folder, "image"), os.path.join(folder, "map")
-    for path, content in ((image, made.raw), (map_file, text)):
-        if content is not None:
-            with open(path, "wb") as file:
-                file.write(content)
-    option = [] if text is None else ["--map", map_file]
-    return Comparison([Call(command, [*words, *option, image, *pairs], right) for command, words, pairs, right in answers], seen)
+    disk = written(made, unreadable, text, folder)
+    given = [Call(words.command, words.all(), answered(words.all()), words.of_shard) for words in calls(c, disk)]
+    status, report, _ = disk.answer("scan")
+    seen = Counter({"map": text is not None, "map refused": status == 2})
+    if status != 2:
+        count(seen, json.loads(report), disk, given)
+    return Comparison(bytes(made.raw), given, seen)

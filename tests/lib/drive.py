@@ -1,5 +1,6 @@
 """A disk in memory, the answers of a program or of the reference on it, and what a node's tools read and write on it."""
 import os
+import re
 import subprocess
 
 from lib import reference
@@ -55,16 +56,31 @@ class Engine:
                 return lines, clean
             options = {"reclaimable": [accepted], "manifest": [resets]}.get(command, [])
             return getattr(reference, command)(image, *options)
+        words = [word for text in accepted for word in ("--accept", text)] + [word for e in resets for word in ("--reset", str(e))]
+        done = self.run(drive, [command, *words])
+        if done.returncode not in (0, 1) or done.stderr:
+            raise RuntimeError(f"{done.args}: status {done.returncode}, {done.stderr.decode()}")
+        return done.stdout.decode(), done.returncode == 0
+
+    def run(self, drive, words):
+        """A run of the program on an image of the drive."""
         name = os.path.join(self.room, "image")
         with open(name, "wb") as file:
             file.write(drive.raw)
-        words = [self.program, command, *geometry(drive.page, drive.pages, drive.extents)]
-        words += [word for text in accepted for word in ("--accept", text)] + [word for e in resets for word in ("--reset", str(e))]
-        done = subprocess.run([*words, name, *(f"{e}:{g}" for e, g in sorted(drive.unreadable))], stdin=subprocess.DEVNULL,
-                              capture_output=True, text=True)
-        if done.returncode not in (0, 1) or done.stderr:
-            raise RuntimeError(f"{words}: status {done.returncode}, {done.stderr}")
-        return done.stdout, done.returncode == 0
+        pairs = [f"{e}:{g}" for e, g in sorted(drive.unreadable)]
+        return subprocess.run([self.program, *words, *geometry(drive.page, drive.pages, drive.extents), name, *pairs],
+                              stdin=subprocess.DEVNULL, capture_output=True)
+
+    def shard(self, drive, identifier):
+        """The bytes of a shard, and what is wrong with it, or None."""
+        self.calls += 1
+        if self.program is None:
+            return reference.shard(drive.image(), identifier)
+        done = self.run(drive, ["shard", "--id", identifier.hex()])
+        error = done.stderr.decode()
+        if done.returncode != (1 if error else 0) or not re.fullmatch("(shardscrub: .*\n)?", error):
+            raise RuntimeError(f"{done.args}: status {done.returncode}, {error}")
+        return done.stdout, error.removeprefix("shardscrub: ").removesuffix("\n") or None
 
 
 def doubts_in(text):

@@ -27,7 +27,7 @@ CALLED_WITHIN = {"scan_by", "scan_chosen", "scan_with_resets", "parts_of", "part
 LIBRARIES = ["sha_lanes"] + [
     f"scrub_{name}"
     for name in ("disk", "map", "frame", "super", "scan", "run", "merge", "check", "book", "pool", "report", "listings",
-                 "reclaim")
+                 "reclaim", "shard")
 ]
 # A public function: its indentation, its name, and its signature up to the clauses or the body.
 FUNCTION = re.compile(r"^( *)pub fn (\w+)(.*?)(?=\n *(?:requires|ensures|\{)| \{)", re.MULTILINE | re.DOTALL)

@@ -1,4 +1,4 @@
-"""The laws of spares, copies, resets and manifests, held on pairs of images."""
+"""The laws of spares, copies, resets, manifests and shards, held on pairs of images."""
 import random
 
 from lib import reference
@@ -78,6 +78,16 @@ def rewritten(choice, drive, pointers, retired, runs, unreadable=()):
     return after
 
 
+def hold_shards(engine, drive, after, which, seen):
+    """The bytes that `shard` writes of one disk, it writes of another. A payload that is lost may be found."""
+    for identifier in sorted({words[1] for words in lines_with(engine.ask(drive, "manifest")[0], "shard")}):
+        before, now = (engine.shard(one, bytes.fromhex(identifier)) for one in (drive, after))
+        is_lost = before[0] == b"" and str(before[1]).startswith("payload lost: ")
+        seen[f"{which}: bytes of a shard"] += not is_lost
+        seen[f"{which}: a lost payload"] += is_lost
+        require(before == now or is_lost, which, "shard", identifier, before, now)
+
+
 def hold_copies(engine, drive, choice, seen):
     text, clear = all_accepted(engine, drive)
     rooms = [(word, int(e), int(at)) for word in ("room", "last-room") for _, e, at, _ in lines_with(text, word)]
@@ -111,6 +121,7 @@ def hold_copies(engine, drive, choice, seen):
         seen["law of a copy: OFFSET behind the pointer"] += at > chosen["pointers"][x - 1]
         seen["law of a copy: frames"] += len(stops)
     seen["law of a copy: several extents"] += len(ends) > 1
+    hold_shards(engine, drive, after, "law of a copy (4)", seen)
 
 
 def spoilt_extents(choice, drive, extents):
@@ -163,6 +174,8 @@ def hold_resets(engine, drive, choice, seen):
         require(before == now, "law of a reset (2):", free, before, now)
         seen["law of a reset: listed without a move"] += 1
         seen["law of a reset: several listed"] += len(free) > 1
+        if not lines_with(text, "accepted spare"):
+            hold_shards(engine, drive, after, "law of a reset (4)", seen)
     if not lines_with(text, "accepted spare"):
         require(engine.ask(drive, "manifest", resets=free) == engine.ask(drive, "manifest"), "law of a reset (3):", free)
         seen["law of a reset: the manifest stays"] += 1

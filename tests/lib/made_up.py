@@ -9,7 +9,7 @@ PARTS = ("extent", "offset", "length", "uuid", "digest")
 
 class Made:
     """An arbitrary disk. `c` makes all choices; `p`, `n` and `e` are the bytes per page, pages per extent and extents; `w` has how far
-    each extent is written; `known` has the locators that may be named."""
+    each extent is written; `known` has the locators that may be named, and `identifiers` those of the shards that may name them."""
 
     def __init__(self, c):
         self.c = c
@@ -90,7 +90,8 @@ class Made:
     def bind(self):
         """Writes runs, some of them damaged. Returns their locators."""
         c = self.c
-        runs, ids = [], [c.choice([bytes(15) + bytes([i]), c.randbytes(16)]) for i in range(1, 7)]
+        runs = []
+        ids = self.identifiers = [c.choice([bytes(15) + bytes([i]), c.randbytes(16)]) for i in range(1, 7)]
         for _ in range(c.choice([0, 1, 1, 2, 3, 4])):
             some = sorted(set(c.sample(ids, c.randrange(0, 5))))
             entries = [(i, [self.named() for _ in range(c.choice([0, 1, 1, 1, 2, 3]))] if self.known else []) for i in some]
@@ -283,7 +284,7 @@ class Tended(Made):
     def bind(self):
         """Writes runs, the oldest first. Returns their locators, newest first."""
         c, runs = self.c, []
-        ids = [c.choice([bytes(15) + bytes([i]), c.randbytes(16)]) for i in range(1, 6)]
+        ids = self.identifiers = [c.choice([bytes(15) + bytes([i]), c.randbytes(16)]) for i in range(1, 6)]
         for _ in range(c.choice([1, 1, 2, 3, 4])):
             some = sorted(set(c.sample(ids, c.randrange(1, 5))))
             few = c.choice([self.known, c.sample(self.known, -(-len(self.known) // 3))])

@@ -8,6 +8,7 @@ from lib.disks import Disk, locator, run, sealed_frame, shard, uuid
 from lib.picture import items_of, kind_of
 from lib.program import TOP
 from lib.reference import ACCEPTABLE, Image, reclaimable, scrub, superblocks
+from lib.summaries import geometry_of
 
 
 class Pictured:
@@ -273,10 +274,11 @@ def disk_of(command):
     words = command.split()
     if "examples/" not in command:
         return None
-    page, pages, extents = (int(words[words.index(name) + 1]) for name in ("--page", "--pages", "--extents"))
+    given = [words[words.index(name) + 1] if name in words else "-" for name in ("--page", "--pages", "--extents")]
     file = next(index for index, word in enumerate(words) if word.startswith("examples/"))
+    raw = (TOP / words[file]).read_bytes()
     unreadable = [tuple(map(int, pair.split(":"))) for pair in words[file + 1:]]
-    return Pictured(Image((TOP / words[file]).read_bytes(), page, pages, extents, unreadable))
+    return Pictured(Image(raw, *geometry_of(raw, given, None), unreadable))
 
 
 def fitting_locators(report):

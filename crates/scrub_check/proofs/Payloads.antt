@@ -34,7 +34,7 @@ in_extent image e place x there = by (nat_lt place (extent_bytes image.geometry)
     by false less h = absurd (none-some x h)
 
 -- so a frame under any pointer is in the extent
-within : (image : Image) (e w p : ℕ) (f : Form) (u b : List ℕ) → FrameAt (extent_of image e w) p f u b →
+pub within : (image : Image) (e w p : ℕ) (f : Form) (u b : List ℕ) → FrameAt (extent_of image e w) p f u b →
     FrameAt (extent_of image e (extent_bytes image.geometry)) p f u b
 within image e w p f u b h =
     let long : length (frame f u b) ≡ frame_overhead f + length b = length-frame f u b h.has_frame.sixteen in

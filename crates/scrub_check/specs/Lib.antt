@@ -2,6 +2,7 @@
 pub mod WholeScan
 pub mod Status
 pub mod Runs
+pub mod ChunkRun
 pub mod Named
 pub mod Checked
 pub mod Live
@@ -22,7 +23,6 @@ pub mod OneScan
 pub mod Places
 pub mod Judged
 pub mod Open
-pub mod ChunkRun
 pub mod JudgedRun
 pub mod Distinct
 pub mod ChunkUuids

@@ -43,8 +43,8 @@ fn name_runs(alloc: Global, runs: &[Locator]) -> Result<Vec<Named>, OutOfMemory>
     Ok(named)
 }
 
-/// Appends the locators of a shard.
-fn name_shard(named: &mut Vec<Named>, binding: &Binding) -> Result<(), OutOfMemory>
+/// Appends the locators of a shard, in the binding's order.
+pub fn name_shard(named: &mut Vec<Named>, binding: &Binding) -> Result<(), OutOfMemory>
     ensures { OnOk result (named.new.items ≡ named.old.items ++ named_by_shard binding.now) }
 {
     for locator in binding.locators() {

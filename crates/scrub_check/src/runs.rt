@@ -78,8 +78,9 @@ impl ReadRuns {
     }
 }
 
-/// The payload of the chunk that a locator names. The locator gives all of the frame but its form, which the head says.
-fn payload_of<D: PageSource>(
+/// The payload of the chunk that a locator names, which has to be there: the locator is sound or hidden. The locator gives all of
+/// the frame but its form, which the head says. The payload isn't hashed again.
+pub fn payload_at<D: PageSource>(
     alloc: Global,
     disk: &D,
     locator: &Locator,
@@ -111,7 +112,7 @@ fn run_in_chunk<D: PageSource>(
     requires { StandsThere (D.image disk.now) locator.now }
     ensures { IfOk result (λ r. IsStateOf (D.image disk.now) locator.now r.0 r.1) }
 {
-    let payload = payload_of(alloc, disk, locator)?;
+    let payload = payload_at(alloc, disk, locator)?;
     match read_run(alloc, &payload) {
         Ok(run) => Ok((Some(run), RunState::Read)),
         Err(RunFault::NotARun) => Ok((None, RunState::NotARun)),

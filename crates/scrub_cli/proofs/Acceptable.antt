@@ -1,5 +1,5 @@
 -- The first of some borrowed texts that can't be accepted.
-use Rattle.std.proofs.Common.{◌≡◌, ◌∙◌, List, Option, ap, map, not, sym}
+use Rattle.std.proofs.Common.{◌≡◌, ◌∙◌, List, Option, ap, not, sym}
 use Rattle.std.specs.Borrow.{Bor}
 use Rattle.std.specs.Prelude.{find, option_map}
 use Rattle.clap.specs.Words.{Text}

@@ -8,7 +8,7 @@ use Rattle.scrub_disk.specs.Image.{Image, disk_bytes}
 use Rattle.scrub_disk.specs.Raw.{IsLoadedWith}
 use Rattle.scrub_disk.proofs.LostPages.{loaded_with_more}
 use Rattle.scrub_cli.specs.declared.process.fault.Fault.{Fault}
-use Rattle.scrub_cli.specs.declared.process.fault.Fault.TheVariants.{NotUtf8, Help, Words, Geometry, NoSizes, Extent, Pointer, BadPage, NoMap, MapLine, NoImage, TooLong, Output, OutOfMemory}
+use Rattle.scrub_cli.specs.declared.process.fault.Fault.TheVariants.{NotUtf8, Help, Words, Geometry, NoSizes, Extent, BadShard, Pointer, BadPage, NoMap, MapLine, NoImage, TooLong, NoShard, PayloadLost, Output, OutOfMemory}
 use Rattle.scrub_cli.specs.declared.words.ImageWords.{ImageWords}
 use Rattle.scrub_cli.specs.DiskImage.{AreReadBefore, IsBadPageFault, IsDiskFault, NamePages}
 use Rattle.scrub_cli.specs.Fault.{fault_of_load}
@@ -26,11 +26,14 @@ bad_page_fault known maps words g (Words text) first = absurd first
 bad_page_fault known maps words g (Geometry fault) first = absurd first
 bad_page_fault known maps words g NoSizes first = absurd first
 bad_page_fault known maps words g Extent first = absurd first
+bad_page_fault known maps words g (BadShard text) first = absurd first
 bad_page_fault known maps words g Pointer first = absurd first
 bad_page_fault known maps words g (NoMap name) first = absurd first
 bad_page_fault known maps words g (MapLine k) first = absurd first
 bad_page_fault known maps words g (NoImage name) first = absurd first
 bad_page_fault known maps words g TooLong first = absurd first
+bad_page_fault known maps words g NoShard first = absurd first
+bad_page_fault known maps words g (PayloadLost number) first = absurd first
 bad_page_fault known maps words g (Output written) first = absurd first
 
 -- a map that isn't read is one
@@ -45,10 +48,13 @@ map_fault known maps words g pages (Words text) named why = absurd why
 map_fault known maps words g pages (Geometry fault) named why = absurd why
 map_fault known maps words g pages NoSizes named why = absurd why
 map_fault known maps words g pages Extent named why = absurd why
+map_fault known maps words g pages (BadShard text) named why = absurd why
 map_fault known maps words g pages Pointer named why = absurd why
 map_fault known maps words g pages (BadPage word) named why = absurd why
 map_fault known maps words g pages (NoImage name) named why = absurd why
 map_fault known maps words g pages TooLong named why = absurd why
+map_fault known maps words g pages NoShard named why = absurd why
+map_fault known maps words g pages (PayloadLost number) named why = absurd why
 map_fault known maps words g pages (Output written) named why = absurd why
 
 -- what holds for each fault that loading may have holds for the one that it has
@@ -65,12 +71,15 @@ of_disk_fault Holds known maps words g bad unopened line none long memory (Words
 of_disk_fault Holds known maps words g bad unopened line none long memory (Geometry fault) is = absurd is
 of_disk_fault Holds known maps words g bad unopened line none long memory NoSizes is = absurd is
 of_disk_fault Holds known maps words g bad unopened line none long memory Extent is = absurd is
+of_disk_fault Holds known maps words g bad unopened line none long memory (BadShard text) is = absurd is
 of_disk_fault Holds known maps words g bad unopened line none long memory Pointer is = absurd is
 of_disk_fault Holds known maps words g bad unopened line none long memory (BadPage word) is = bad word is
 of_disk_fault Holds known maps words g bad unopened line none long memory (NoMap name) is = unopened name is
 of_disk_fault Holds known maps words g bad unopened line none long memory (MapLine k) is = line k is
 of_disk_fault Holds known maps words g bad unopened line none long memory (NoImage name) is = none name is
 of_disk_fault Holds known maps words g bad unopened line none long memory TooLong is = long is
+of_disk_fault Holds known maps words g bad unopened line none long memory NoShard is = absurd is
+of_disk_fault Holds known maps words g bad unopened line none long memory (PayloadLost number) is = absurd is
 of_disk_fault Holds known maps words g bad unopened line none long memory (Output written) is = absurd is
 of_disk_fault Holds known maps words g bad unopened line none long memory OutOfMemory is = memory
 

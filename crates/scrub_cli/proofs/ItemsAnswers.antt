@@ -5,6 +5,7 @@ use Rattle.scrub_disk.specs.Image.{Image, extent_bytes}
 use Rattle.scrub_scan.specs.Extent.{extent_of}
 use Rattle.scrub_cli.specs.declared.process.fault.Fault.{Fault}
 use Rattle.scrub_cli.specs.declared.process.fault.Fault.TheVariants.{Pointer}
+use Rattle.scrub_cli.specs.declared.process.outcome.Outcome.{Outcome}
 use Rattle.scrub_cli.specs.declared.words.ItemsWords.{ItemsWords}
 use Rattle.scrub_cli.specs.DiskImage.{IsDiskFault, IsLoadedDisk}
 use Rattle.scrub_cli.specs.Items.{given_pointer, AreInDisk, IsItemsAnswer, IsItemsFault}
@@ -51,10 +52,10 @@ items_geometry_fault known maps words fault =
     (λ k is. inl is) (λ name is. inl is) tt fault
 
 pub items_answer : (known : KnownRaw) (maps : KnownMaps) (words : ItemsWords) (g : Sizes) (image : Image) (pointer : ℕ)
-    (text : List ℕ) (status : ℕ) →
+    (text : List ℕ) (outcome : Outcome) →
     AreInDisk known maps words g → IsLoadedDisk known maps words.image g image → pointer ≡ given_pointer words g →
-    IsListing (extent_of image words.extent pointer) text status → IsItemsAnswer known maps words text status
-items_answer known maps words g image pointer text status places loaded is listed = record {
+    IsListing (extent_of image words.extent pointer) text outcome → IsItemsAnswer known maps words text outcome
+items_answer known maps words g image pointer text outcome places loaded is listed = record {
   geometry = g;
   places = places;
   image = image;

@@ -1,5 +1,5 @@
 -- The numbers that are found for an option that may be repeated, and the same numbers rising, each once.
-use Rattle.std.proofs.Common.{◌≡◌, ◌∙◌, ◌++◌, ◌∷◌, [], All, Contains, ℕ, List, Option, None, Some, Result, Ok, Err, Bool, true, false, ap, arith, refl, sym, map}
+use Rattle.std.proofs.Common.{◌≡◌, ◌∙◌, ◌++◌, ◌∷◌, [], All, Contains, ℕ, List, Option, None, Some, Ok, Err, Bool, true, false, ap, arith, refl, sym, map}
 use Rattle.std.specs.Prelude.{◌↔◌, IfSome, find, if◌then◌else◌, option_map, pos, unwrap_or}
 use Rattle.std.specs.List.{AllZip, dedup}
 use Rattle.std.specs.List.Retain.{IsFiltered, DiffersFromLast}

@@ -22,14 +22,15 @@ use Rattle.scrub_cli.specs.declared.words.ItemsWords.{ItemsWords}
 use Rattle.scrub_cli.specs.declared.words.ScanWords.{ScanWords}
 use Rattle.scrub_cli.specs.declared.words.ManifestWords.{ManifestWords}
 use Rattle.scrub_cli.specs.declared.words.ReclaimWords.{ReclaimWords}
+use Rattle.scrub_cli.specs.declared.words.ShardWords.{ShardWords}
 use Rattle.scrub_cli.specs.declared.words.SizesWords.{SizesWords}
 use Rattle.scrub_cli.specs.declared.words.Request.{Request}
-use Rattle.scrub_cli.specs.declared.words.Request.TheVariants.{Demo, Items, Scan, Index, Locators, Manifest, Summary, Reclaimable, Superblocks, Sizes, Version}
+use Rattle.scrub_cli.specs.declared.words.Request.TheVariants.{Demo, Items, Scan, Index, Locators, Manifest, Shard, Summary, Reclaimable, Superblocks, Sizes, Version}
 use Rattle.scrub_cli.specs.CommandLine.{shardscrub_app}
 use Rattle.scrub_cli.specs.Order.{AreExchanged, HasOptions}
-use Rattle.scrub_cli.specs.Words.{AreImageWords, AreItemsWords, AreManifestWords, AreReclaimWords, AreScanWords, AreSizesGiven, AreSizesWords, IsAskedBy, IsNumberOf, IsWorkersOf, NameCommand}
+use Rattle.scrub_cli.specs.Words.{AreImageWords, AreItemsWords, AreManifestWords, AreReclaimWords, AreScanWords, AreShardWords, AreSizesGiven, AreSizesWords, IsAskedBy, IsNumberOf, IsWorkersOf, NameCommand}
 use Rattle.scrub_cli.proofs.Numbers.{many_same}
-use Rattle.scrub_cli.proofs.Whole.{built_items, built_manifest, built_reclaimable, built_sizes, built_superblocks, disk, looked}
+use Rattle.scrub_cli.proofs.Whole.{built_items, built_manifest, built_reclaimable, built_shard, built_sizes, built_superblocks, disk, looked}
 
 -- a pair that was found
 pair_names : {A B : Type 0} (a c : A) (b d : B) → ◌≡◌ {A = Option (A × B)} (Some (a, b)) (Some (c, d)) → a ≡ c
@@ -85,6 +86,12 @@ module _ (xs ys : List Row) (same : AreSame xs ys) where
       rising = read.resets.rising;
       same = read.resets.same;
     };
+  }
+
+  shard_same : (words : ShardWords) → AreShardWords xs words → AreShardWords ys words
+  shard_same words read = record {
+    scan = scan_same words.scan read.scan;
+    id = sym (first_same xs ys same (codes "id")) ∙ read.id;
   }
 
   reclaim_same : (words : ReclaimWords) → AreReclaimWords xs words → AreReclaimWords ys words
@@ -158,6 +165,11 @@ module _ (xs ys : List Row) (same : AreSame xs ys) where
     ys,
     renamed name (codes "manifest") asked.0 asked.1,
     manifest_same words (rw (pair_rows name (codes "manifest") xs asked.0 asked.1) at asked.2),
+  )
+  asked_same name (Shard words) asked = (
+    ys,
+    renamed name (codes "shard") asked.0 asked.1,
+    shard_same words (rw (pair_rows name (codes "shard") xs asked.0 asked.1) at asked.2),
   )
   asked_same name (Summary words) asked = (
     ys,
@@ -299,6 +311,34 @@ sizes_by_name : EachRule IsByName built_sizes.rules
 unfolding clap_on_literals
 sizes_by_name = ((refl, inr refl, refl, refl), ((refl, inl refl, refl, refl), ((refl, inr refl, refl, refl), tt)))
 
+shard_by_name : EachRule IsByName built_shard.rules
+unfolding clap_on_literals
+shard_by_name = (
+  (refl, inr refl, refl, refl),
+  (
+    (refl, inr refl, refl, refl),
+    (
+      (refl, inr refl, refl, refl),
+      (
+        (refl, inr refl, refl, refl),
+        (
+          (refl, inr refl, refl, refl),
+          (
+            (refl, inr refl, refl, refl),
+            (
+              (refl, inl refl, refl, refl),
+              (
+                (refl, inl refl, refl, refl),
+                ((refl, inr refl, refl, refl), tt),
+              ),
+            ),
+          ),
+        ),
+      ),
+    ),
+  ),
+)
+
 items_by_name : EachRule IsByName built_items.rules
 unfolding clap_on_literals
 items_by_name = (
@@ -362,6 +402,10 @@ enters_locators = record { first = refl; clean = refl; faults = λ words. refl; 
 enters_manifest : Enters (codes "manifest") built_manifest
 unfolding clap_on_literals
 enters_manifest = record { first = refl; clean = refl; faults = λ words. refl; rows = λ words. refl }
+
+enters_shard : Enters (codes "shard") built_shard
+unfolding clap_on_literals
+enters_shard = record { first = refl; clean = refl; faults = λ words. refl; rows = λ words. refl }
 
 enters_summary : Enters (codes "summary") (looked (codes "summary"))
 unfolding clap_on_literals
@@ -428,27 +472,22 @@ order_is_free words others request x asked = go x.options
   where
     go : HasOptions x.command → NameCommand others request
     go (inl scan) =
-        exchanged (codes "scan") (looked (codes "scan")) enters_scan (plain (looked_by_name (codes "scan")) refl) words others x
-        scan request asked
+        exchanged (codes "scan") (looked (codes "scan")) enters_scan (plain (looked_by_name (codes "scan")) refl) words others x scan request asked
     go (inr (inl index)) =
-        exchanged (codes "index") (disk (codes "index")) enters_index (plain (disk_by_name (codes "index")) refl) words others x
-        index request asked
+        exchanged (codes "index") (disk (codes "index")) enters_index (plain (disk_by_name (codes "index")) refl) words others x index request asked
     go (inr (inr (inl locators))) =
-        exchanged (codes "locators") (looked (codes "locators")) enters_locators (plain (looked_by_name (codes "locators")) refl)
-        words others x locators request asked
+        exchanged (codes "locators") (looked (codes "locators")) enters_locators (plain (looked_by_name (codes "locators")) refl) words others x locators request asked
     go (inr (inr (inr (inl manifest)))) =
-        exchanged (codes "manifest") built_manifest enters_manifest (plain manifest_by_name refl) words others x manifest
-        request asked
-    go (inr (inr (inr (inr (inl summary))))) =
-        exchanged (codes "summary") (looked (codes "summary")) enters_summary (plain (looked_by_name (codes "summary")) refl)
-        words others x summary request asked
-    go (inr (inr (inr (inr (inr (inl reclaimable)))))) =
-        exchanged (codes "reclaimable") built_reclaimable enters_reclaimable (plain reclaimable_by_name refl) words others x
-        reclaimable request asked
-    go (inr (inr (inr (inr (inr (inr (inl superblocks))))))) =
-        exchanged (codes "superblocks") built_superblocks enters_superblocks (plain superblocks_by_name refl) words others x
-        superblocks request asked
-    go (inr (inr (inr (inr (inr (inr (inr (inl sizes)))))))) =
+        exchanged (codes "manifest") built_manifest enters_manifest (plain manifest_by_name refl) words others x manifest request asked
+    go (inr (inr (inr (inr (inl shard))))) =
+        exchanged (codes "shard") built_shard enters_shard (plain shard_by_name refl) words others x shard request asked
+    go (inr (inr (inr (inr (inr (inl summary)))))) =
+        exchanged (codes "summary") (looked (codes "summary")) enters_summary (plain (looked_by_name (codes "summary")) refl) words others x summary request asked
+    go (inr (inr (inr (inr (inr (inr (inl reclaimable))))))) =
+        exchanged (codes "reclaimable") built_reclaimable enters_reclaimable (plain reclaimable_by_name refl) words others x reclaimable request asked
+    go (inr (inr (inr (inr (inr (inr (inr (inl superblocks)))))))) =
+        exchanged (codes "superblocks") built_superblocks enters_superblocks (plain superblocks_by_name refl) words others x superblocks request asked
+    go (inr (inr (inr (inr (inr (inr (inr (inr (inl sizes))))))))) =
         exchanged (codes "sizes") built_sizes enters_sizes (plain sizes_by_name refl) words others x sizes request asked
-    go (inr (inr (inr (inr (inr (inr (inr (inr items)))))))) =
+    go (inr (inr (inr (inr (inr (inr (inr (inr (inr items))))))))) =
         exchanged (codes "items") built_items enters_items (plain items_by_name refl) words others x items request asked

@@ -6,9 +6,9 @@ use Rattle.scrub_disk.specs.Held.{page_number}
 use Rattle.scrub_map.specs.declared.block.MapBlock.{MapBlock}
 use Rattle.scrub_map.specs.declared.map.RescueMap.{RescueMap}
 use Rattle.scrub_map.specs.Kept.{KeepsBlocks}
-use Rattle.scrub_map.specs.Rescued.{AreLostBlocks}
+use Rattle.scrub_map.specs.Rescued.{AreFirstLacking, AreLostBlocks}
 use Rattle.scrub_cli.specs.Rescue.{KeepsMap, LosesByMap, LosesMarked, LosesPages}
-use Rattle.scrub_cli.specs.SizesListed.{AreMarksOf}
+use Rattle.scrub_cli.specs.SizesListed.{AreLackingBy}
 
 -- marks for lost blocks of the size of a page make those pages unreadable
 pub loses_pages : (marks lost : List Bool) (blocks : List MapBlock) (before image : Image) (size count : ℕ) → marks ≡ lost →
@@ -47,15 +47,15 @@ pub some_blocks : (map : RescueMap) (blocks : Option (List MapBlock)) → KeepsM
 some_blocks map None keeps = absurd keeps
 some_blocks map (Some blocks) keeps = (blocks, keeps)
 
--- the blocks of 512 bytes that are lost by a map
-pub marks_by_map : (map : RescueMap) (marks : List Bool) →
-    ((blocks : List MapBlock) → KeepsBlocks map blocks → AreLostBlocks blocks 512 131072 marks) →
-    (blocks : Option (List MapBlock)) → KeepsMap (Some map) blocks → AreMarksOf blocks marks
-marks_by_map map marks are None keeps = absurd keeps
-marks_by_map map marks are (Some blocks) keeps = are blocks keeps
+-- the first bytes of the blocks of 512 bytes that a map lacks
+pub lacking_by_map : (map : RescueMap) (places : List ℕ) →
+    ((blocks : List MapBlock) → KeepsBlocks map blocks → AreFirstLacking blocks 512 131072 places) →
+    (blocks : Option (List MapBlock)) → KeepsMap (Some map) blocks → AreLackingBy blocks places
+lacking_by_map map places are None keeps = absurd keeps
+lacking_by_map map places are (Some blocks) keeps = are blocks keeps
 
--- without a map no block is marked
-pub marks_none : (marks : List Bool) → marks ≡ [] → (blocks : Option (List MapBlock)) → KeepsMap None blocks →
-    AreMarksOf blocks marks
-marks_none marks none None keeps = none
-marks_none marks none (Some blocks) keeps = absurd keeps
+-- without a map there are no places
+pub lacking_none : (places : List ℕ) → places ≡ [] → (blocks : Option (List MapBlock)) → KeepsMap None blocks →
+    AreLackingBy blocks places
+lacking_none places none None keeps = none
+lacking_none places none (Some blocks) keeps = absurd keeps

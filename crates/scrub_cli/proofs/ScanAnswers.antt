@@ -4,7 +4,7 @@ use Rattle.std.specs.Borrow.{Bor}
 use Rattle.scrub_disk.specs.declared.geometry.GeometryFault.{GeometryFault}
 use Rattle.scrub_disk.specs.declared.geometry.Geometry.{Geometry as Sizes}
 use Rattle.scrub_cli.specs.declared.process.fault.Fault.{Fault}
-use Rattle.scrub_cli.specs.declared.process.fault.Fault.TheVariants.{NotUtf8, Help, Words, Geometry, NoSizes, Extent, Pointer, BadPage, NoMap, MapLine, NoImage, TooLong, Output, OutOfMemory}
+use Rattle.scrub_cli.specs.declared.process.fault.Fault.TheVariants.{NotUtf8, Help, Words, Geometry, NoSizes, Extent, BadShard, Pointer, BadPage, NoMap, MapLine, NoImage, TooLong, NoShard, PayloadLost, Output, OutOfMemory}
 use Rattle.scrub_cli.specs.declared.words.GivenSizes.{GivenSizes}
 use Rattle.scrub_cli.specs.declared.words.ImageWords.{ImageWords}
 use Rattle.scrub_cli.specs.DiskImage.{IsDiskFault}
@@ -40,12 +40,15 @@ of_geometry_fault Holds known maps words limit found unopened line none memory (
 of_geometry_fault Holds known maps words limit found unopened line none memory (Geometry fault) is = limit fault is
 of_geometry_fault Holds known maps words limit found unopened line none memory NoSizes is = found is
 of_geometry_fault Holds known maps words limit found unopened line none memory Extent is = absurd (never words.sizes is)
+of_geometry_fault Holds known maps words limit found unopened line none memory (BadShard text) is = absurd (never words.sizes is)
 of_geometry_fault Holds known maps words limit found unopened line none memory Pointer is = absurd (never words.sizes is)
 of_geometry_fault Holds known maps words limit found unopened line none memory (BadPage word) is = absurd (never words.sizes is)
 of_geometry_fault Holds known maps words limit found unopened line none memory (NoMap name) is = unopened name is
 of_geometry_fault Holds known maps words limit found unopened line none memory (MapLine k) is = line k is
 of_geometry_fault Holds known maps words limit found unopened line none memory (NoImage name) is = none name is
 of_geometry_fault Holds known maps words limit found unopened line none memory TooLong is = absurd (never words.sizes is)
+of_geometry_fault Holds known maps words limit found unopened line none memory NoShard is = absurd (never words.sizes is)
+of_geometry_fault Holds known maps words limit found unopened line none memory (PayloadLost number) is = absurd (never words.sizes is)
 of_geometry_fault Holds known maps words limit found unopened line none memory (Output written) is = absurd (never words.sizes is)
 of_geometry_fault Holds known maps words limit found unopened line none memory OutOfMemory is = memory
 

@@ -11,6 +11,7 @@ use Rattle.scrub_run.specs.declared.shard_id.ShardId.{ShardId}
 use Rattle.scrub_run.specs.Run.{run_bytes}
 use Rattle.scrub_super.specs.Contents.{Contents}
 use Rattle.scrub_super.specs.Record.{record_bytes}
+use Rattle.scrub_cli.specs.declared.process.outcome.Outcome.{Outcome}
 use Rattle.scrub_cli.specs.declared.commands.answer.Wanted.TheVariants.{Report}
 use Rattle.scrub_cli.specs.Scan.{IsDiskAnswer}
 
@@ -54,8 +55,8 @@ pub record IsDemoDisk (image : Image) : Type 0 where
   pub run : Puts with_chunk with_run 2 0 (frame Plain twos demo_run)
   pub superblock : Puts with_run image 0 0 (record_bytes blank.geometry demo_superblock)
 
--- the answer is the report of the demo's disk, with its status
-pub record IsDemoAnswer (text : List ℕ) (status : ℕ) : Type 0 where
+-- the answer is the report of the demo's disk, with its outcome
+pub record IsDemoAnswer (text : List ℕ) (outcome : Outcome) : Type 0 where
   pub image : Image
   pub disk : IsDemoDisk image
-  pub answer : IsDiskAnswer Report image text status
+  pub answer : IsDiskAnswer Report image text outcome

@@ -1,6 +1,7 @@
 -- The program's fault for the fault of a call; the status and the text of each.
 use Rattle.std.specs.Prelude.{◌≡◌, ◌++◌, ◌∷◌, [], ℕ, List, codes}
 use Rattle.std.specs.Fmt.{decimal}
+use Rattle.scrub_listings.specs.Manifest.{two_digits}
 use Rattle.scrub_disk.specs.declared.geometry.GeometryFault.TheVariants.{PageSize, Pages, Extents, ExtentBytes, TotalBytes}
 use Rattle.scrub_disk.specs.declared.loading.LoadFault.{LoadFault}
 use Rattle.scrub_disk.specs.declared.loading.LoadFault.TheVariants.{TooLong as too_long, OutOfMemory as no_memory_to_load}
@@ -9,7 +10,7 @@ use Rattle.scrub_map.specs.declared.reading.MapFault.TheVariants.{Line, OutOfMem
 use Rattle.scrub_cli.specs.declared.words.WordsFault.{WordsFault}
 use Rattle.scrub_cli.specs.declared.words.WordsFault.TheVariants.{Refused, Help as help, OutOfMemory as no_memory_to_read}
 use Rattle.scrub_cli.specs.declared.process.fault.Fault.{Fault}
-use Rattle.scrub_cli.specs.declared.process.fault.Fault.TheVariants.{NotUtf8, Help, Words, Geometry, NoSizes, Extent, Pointer, BadPage, NoMap, MapLine, NoImage, TooLong, Output, OutOfMemory}
+use Rattle.scrub_cli.specs.declared.process.fault.Fault.TheVariants.{NotUtf8, Help, Words, Geometry, NoSizes, Extent, BadShard, Pointer, BadPage, NoMap, MapLine, NoImage, TooLong, NoShard, PayloadLost, Output, OutOfMemory}
 use Rattle.scrub_report.specs.Output.{AppendsFront}
 use Rattle.scrub_cli.specs.Streams.{Held}
 
@@ -29,8 +30,8 @@ fault_of_words (help text) = Help text
 fault_of_words (Refused text) = Words text
 fault_of_words no_memory_to_read = OutOfMemory
 
--- the status of a fault: 0 for help, 2 for arguments and the text of a map, 3 for files and the output, 4 if memory ran
--- out
+-- the status of a fault: 0 for help, 1 for a shard that can't be had, 2 for arguments and the text of a map, 3 for files and
+-- the output, 4 if memory ran out
 abbrev pub status_of : Fault → ℕ
 status_of NotUtf8 = 2
 status_of (Help text) = 0
@@ -38,12 +39,15 @@ status_of (Words text) = 2
 status_of (Geometry fault) = 2
 status_of NoSizes = 2
 status_of Extent = 2
+status_of (BadShard text) = 2
 status_of Pointer = 2
 status_of (BadPage word) = 2
 status_of (NoMap name) = 3
 status_of (MapLine k) = 2
 status_of (NoImage name) = 3
 status_of TooLong = 3
+status_of NoShard = 1
+status_of (PayloadLost number) = 1
 status_of (Output written) = 3
 status_of OutOfMemory = 4
 
@@ -63,12 +67,15 @@ text_of (Geometry ExtentBytes) = line (codes "geometry refused: ExtentBytes")
 text_of (Geometry TotalBytes) = line (codes "geometry refused: TotalBytes")
 text_of NoSizes = line (codes "sizes not found: run shardscrub sizes")
 text_of Extent = line (codes "extent out of range")
+text_of (BadShard text) = line (codes "shard refused: " ++ text.now)
 text_of Pointer = line (codes "pointer out of range")
 text_of (BadPage word) = line (codes "bad page refused: " ++ word.now)
 text_of (NoMap name) = line (codes "map cannot be opened: " ++ name.now)
 text_of (MapLine k) = line (codes "map refused: line " ++ decimal k)
 text_of (NoImage name) = line (codes "image cannot be opened: " ++ name.now)
 text_of TooLong = line (codes "image too long")
+text_of NoShard = line (codes "no such shard")
+text_of (PayloadLost number) = line (codes "payload lost: " ++ two_digits number)
 text_of (Output written) = line (codes "output failed after " ++ decimal written ++ codes " bytes")
 text_of OutOfMemory = line (codes "out of memory")
 

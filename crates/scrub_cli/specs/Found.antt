@@ -1,5 +1,5 @@
 -- The sizes of a disk: those that the arguments give, or else those that its superblock records have.
-use Rattle.std.specs.Prelude.{◌≡◌, ◌≤◌, ℕ, List, Bool, Option, None, Some, MatchOption}
+use Rattle.std.specs.Prelude.{◌≡◌, ◌≤◌, ℕ, List, Option, None, Some, MatchOption}
 use Rattle.std.specs.Borrow.{Bor}
 use Rattle.scrub_disk.specs.declared.geometry.Geometry.{Geometry as Sizes}
 use Rattle.scrub_disk.specs.Faults.{HasSizes, IsFirstBroken}
@@ -9,23 +9,24 @@ use Rattle.scrub_cli.specs.declared.process.fault.Fault.{Fault}
 use Rattle.scrub_cli.specs.declared.process.fault.Fault.TheVariants.{Geometry, NoSizes, NoMap, MapLine, NoImage, OutOfMemory}
 use Rattle.scrub_cli.specs.declared.words.GivenSizes.{GivenSizes}
 use Rattle.scrub_cli.specs.declared.words.ImageWords.{ImageWords}
-use Rattle.scrub_cli.specs.Known.{KnownMaps, KnownRaw}
+use Rattle.scrub_cli.specs.Known.{KnownMaps, KnownRaw, known_bytes}
 use Rattle.scrub_cli.specs.Rescue.{AreBlocksOf, IsMapFault}
-use Rattle.scrub_cli.specs.SizesListed.{AreMarksOf}
+use Rattle.scrub_cli.specs.SizesListed.{AreLackingBy}
 
--- the sizes of all records in a raw image of which this is known, or None if there are none, with the marked blocks lost
-pub record AreSizesRead (known : KnownRaw) (marks : List Bool) (found : Option Sizes) : Type 0 where
+-- the sizes of all records in a raw image of which this is known, or None if there are none, with the blocks lost that lack
+-- a byte before its end
+pub record AreSizesRead (known : KnownRaw) (lacking : List ℕ) (found : Option Sizes) : Type 0 where
   pub failures : ℕ
   pub few : failures ≤ known.most_failures
-  pub sizes : AreSizesOf known.bytes marks failures found
+  pub sizes : AreSizesOf known.bytes lacking failures found
 
 -- the same with the blocks lost that the map lacks
 pub record AreSizesFound (known : KnownRaw) (maps : KnownMaps) (named : Option (Bor (List ℕ))) (found : Option Sizes) : Type 0 where
   pub blocks : Option (List MapBlock)
   pub mapped : AreBlocksOf maps named blocks
-  pub marks : List Bool
-  pub marked : AreMarksOf blocks marks
-  pub read : AreSizesRead known marks found
+  pub lacking : List ℕ
+  pub lacks : AreLackingBy blocks lacking
+  pub read : AreSizesRead known lacking found
 
 -- why no sizes are found: a fault of the map, then an image that can't be opened, then that there are none; or memory ran out
 abbrev pub IsFoundFault : KnownRaw → KnownMaps → Option (Bor (List ℕ)) → Bor (List ℕ) → Fault → Type 0
@@ -52,3 +53,13 @@ IsGeometryOf known maps words g =
 abbrev pub IsGeometryFault : KnownRaw → KnownMaps → ImageWords → Fault → Type 0
 IsGeometryFault known maps words fault =
     MatchOption words.sizes (IsFoundFault known maps words.map words.name fault) (λ s. IsGivenFault s fault)
+
+-- the same arguments on a disk and its image, with these sizes
+abbrev pub with_sizes : ImageWords → GivenSizes → ImageWords
+with_sizes words s = record words { sizes = Some s }
+
+-- sizes are left out, all superblock records of these bytes have the sizes g, and s are those
+pub record MayBeLeftOut (bytes : List ℕ) (most : ℕ) (maps : KnownMaps) (words : ImageWords) (g : Sizes) (s : GivenSizes) : Type 0 where
+  pub left_out : words.sizes ≡ None
+  pub found : AreSizesFound (known_bytes bytes most) maps words.map (Some g)
+  pub given : HasSizes g s.page s.pages s.extents

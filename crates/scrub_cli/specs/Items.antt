@@ -5,6 +5,7 @@ use Rattle.scrub_disk.specs.Image.{Image, extent_bytes}
 use Rattle.scrub_scan.specs.Extent.{extent_of}
 use Rattle.scrub_cli.specs.declared.process.fault.Fault.{Fault}
 use Rattle.scrub_cli.specs.declared.process.fault.Fault.TheVariants.{Geometry, NoSizes, Extent, Pointer, NoMap, MapLine, NoImage, OutOfMemory}
+use Rattle.scrub_cli.specs.declared.process.outcome.Outcome.{Outcome}
 use Rattle.scrub_cli.specs.declared.words.ItemsWords.{ItemsWords}
 use Rattle.scrub_cli.specs.DiskImage.{IsLoadedDisk, IsDiskFault}
 use Rattle.scrub_cli.specs.Found.{IsGeometryFault, IsGeometryOf}
@@ -22,12 +23,12 @@ pub record AreInDisk (known : KnownRaw) (maps : KnownMaps) (words : ItemsWords) 
   pub in_extent : given_pointer words g ≤ extent_bytes g
 
 -- the answer of `items`: the listing of the extent under the pointer, in an image that was loaded from this raw image
-pub record IsItemsAnswer (known : KnownRaw) (maps : KnownMaps) (words : ItemsWords) (text : List ℕ) (status : ℕ) : Type 0 where
+pub record IsItemsAnswer (known : KnownRaw) (maps : KnownMaps) (words : ItemsWords) (text : List ℕ) (outcome : Outcome) : Type 0 where
   pub geometry : Sizes
   pub places : AreInDisk known maps words geometry
   pub image : Image
   pub loaded : IsLoadedDisk known maps words.image geometry image
-  pub listed : IsListing (extent_of image words.extent (given_pointer words geometry)) text status
+  pub listed : IsListing (extent_of image words.extent (given_pointer words geometry)) text outcome
 
 -- why no disk is loaded in which the extent and the pointer lie
 abbrev pub IsPlacedFault : KnownRaw → KnownMaps → ItemsWords → Fault → Type 0

@@ -1,5 +1,5 @@
 -- What is known of a raw image and of a map before they are opened.
-use Rattle.std.specs.Prelude.{◌^◌, ℕ, List, Option, None}
+use Rattle.std.specs.Prelude.{◌^◌, ℕ, List, Option, None, Some}
 
 -- what is known of a raw image: its bytes, if they are, and how many of its reads fail at most
 pub record KnownRaw : Type 0 where
@@ -9,6 +9,10 @@ pub record KnownRaw : Type 0 where
 -- what is known of a file: no bytes, and any of its reads may fail
 abbrev pub file : KnownRaw
 file = record { bytes = None; most_failures = 2 ^ 70 }
+
+-- what is known of bytes: these, and how many reads fail at most
+abbrev pub known_bytes : List ℕ → ℕ → KnownRaw
+known_bytes bytes most = record { bytes = Some bytes; most_failures = most }
 
 -- the text of the map under each name, if it is known
 abbrev pub KnownMaps : Type 0

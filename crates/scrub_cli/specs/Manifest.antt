@@ -7,23 +7,23 @@ use Rattle.scrub_report.specs.Answer.{IsPartitionOfPlanned}
 use Rattle.scrub_listings.specs.Manifest.{IsManifestBut, IsWholeBut}
 use Rattle.scrub_cli.specs.declared.process.fault.Fault.{Fault}
 use Rattle.scrub_cli.specs.declared.process.fault.Fault.TheVariants.{Geometry, NoSizes, Extent, NoMap, MapLine, NoImage, OutOfMemory}
+use Rattle.scrub_cli.specs.declared.process.outcome.Outcome.{Outcome}
 use Rattle.scrub_cli.specs.declared.words.ManifestWords.{ManifestWords}
 use Rattle.scrub_cli.specs.DiskImage.{IsLoadedDisk, IsDiskFault}
 use Rattle.scrub_cli.specs.Found.{IsGeometryFault, IsGeometryOf}
 use Rattle.scrub_cli.specs.Known.{KnownMaps, KnownRaw}
-use Rattle.scrub_cli.specs.Lines.{status_of_clean}
+use Rattle.scrub_cli.specs.Outcome.{outcome_of}
 
--- the status of a manifest: 0 if nothing is missing of what is found in the image, as if these extents had been reset, and 1
--- if something is
-pub record IsStatusOfManifest (resets : List ℕ) (image : Image) (status : ℕ) : Type 0 where
+-- the outcome of a manifest: whether nothing is missing of what is found in the image, as if these extents had been reset
+pub record IsOutcomeOfManifest (resets : List ℕ) (image : Image) (outcome : Outcome) : Type 0 where
   pub is_whole : Bool
   pub verdict : IsWholeBut resets image is_whole
-  pub ended : status ≡ status_of_clean is_whole
+  pub ended : outcome ≡ outcome_of is_whole
 
--- the manifest of an image, as if these extents had been reset, with its status
-pub record IsManifestListed (resets : List ℕ) (image : Image) (text : List ℕ) (status : ℕ) : Type 0 where
+-- the manifest of an image, as if these extents had been reset, with its outcome
+pub record IsManifestListed (resets : List ℕ) (image : Image) (text : List ℕ) (outcome : Outcome) : Type 0 where
   pub text_is : IsManifestBut resets image text
-  pub ended : IsStatusOfManifest resets image status
+  pub ended : IsOutcomeOfManifest resets image outcome
 
 -- an extent that can be reset: any but extent 0, which has the superblocks
 abbrev pub may_be_reset : Sizes → ℕ → Bool
@@ -44,18 +44,18 @@ pub record IsManifestDisk (known : KnownRaw) (maps : KnownMaps) (words : Manifes
   pub places : MayBeReset known maps words geometry
   pub loaded : IsLoadedDisk known maps words.scan.image geometry image
 
--- the answer of `manifest`: the manifest of an image that was loaded so, as if these extents had been reset, with its status
-pub record IsManifestAnswer (known : KnownRaw) (maps : KnownMaps) (words : ManifestWords) (text : List ℕ) (status : ℕ) : Type 0 where
+-- the answer of `manifest`: the manifest of an image that was loaded so, as if these extents had been reset, with its outcome
+pub record IsManifestAnswer (known : KnownRaw) (maps : KnownMaps) (words : ManifestWords) (text : List ℕ) (outcome : Outcome) : Type 0 where
   pub image : Image
   pub disk : IsManifestDisk known maps words image
-  pub listed : IsManifestListed words.resets.items image text status
+  pub listed : IsManifestListed words.resets.items image text outcome
 
 -- that answer, and each planned extent of the image is in one of the lists, once
-pub record AreManifestTakings (known : KnownRaw) (maps : KnownMaps) (words : ManifestWords) (text : List ℕ) (status : ℕ)
+pub record AreManifestTakings (known : KnownRaw) (maps : KnownMaps) (words : ManifestWords) (text : List ℕ) (outcome : Outcome)
     (lists : List (List ℕ)) : Type 0 where
   pub image : Image
   pub disk : IsManifestDisk known maps words image
-  pub listed : IsManifestListed words.resets.items image text status
+  pub listed : IsManifestListed words.resets.items image text outcome
   pub partition : IsPartitionOfPlanned image lists
 
 -- why no disk is loaded, though the extents can be reset

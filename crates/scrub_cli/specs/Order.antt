@@ -7,7 +7,7 @@ use Rattle.clap_walk.specs.Exchanged.{AreNeighboursExchanged}
 abbrev pub HasOptions : Text → Type 0
 HasOptions command =
     (command ≡ codes "scan") ⊎ (command ≡ codes "index") ⊎ (command ≡ codes "locators")
-    ⊎ (command ≡ codes "manifest") ⊎ (command ≡ codes "summary") ⊎ (command ≡ codes "reclaimable")
+    ⊎ (command ≡ codes "manifest") ⊎ (command ≡ codes "shard") ⊎ (command ≡ codes "summary") ⊎ (command ≡ codes "reclaimable")
     ⊎ (command ≡ codes "superblocks") ⊎ (command ≡ codes "sizes") ⊎ (command ≡ codes "items")
 
 -- the same arguments of a command, but for two neighbouring options that are exchanged

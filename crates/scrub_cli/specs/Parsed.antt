@@ -37,9 +37,13 @@ IsReadNumber text = (value : Text) × (text ≡ without_minus value) × IsSigned
 abbrev pub HasNumbers : List Row → Text → Type 0
 HasNumbers found name = All IsReadNumber (unwrap_or (many_of name found) [])
 
+-- a text was found for the option or the argument
+abbrev pub HasText : List Row → Text → Type 0
+HasText found name = (text : Text) × (first_of name found ≡ Some text)
+
 -- the name of an image was found
 abbrev pub HasImageName : List Row → Type 0
-HasImageName found = (name : Text) × (first_of (codes "image") found ≡ Some name)
+HasImageName found = HasText found (codes "image")
 
 -- what `clap` found has all that a command on an image file needs
 pub record HasImage (found : List Row) : Type 0 where
@@ -58,41 +62,47 @@ pub record HasManifest (found : List Row) : Type 0 where
   pub scan : HasScan found
   pub resets : HasNumbers found (codes "reset")
 
+-- what `clap` found has all that `shard` needs
+pub record HasShard (found : List Row) : Type 0 where
+  pub scan : HasScan found
+  pub id : HasText found (codes "id")
+
 -- what `clap` found has all that `items` needs
 pub record HasItems (found : List Row) : Type 0 where
   pub disk : HasImage found
   pub extent : HasNumber found (codes "extent")
   pub pointer : (one_of (codes "pointer") found ≡ None) ⊎ HasNumber found (codes "pointer")
 
--- the command is one on the whole disk, other than `manifest`
+-- the command is one on the whole disk, other than `manifest` and `shard`
 abbrev pub IsDiskCommand : Text → Type 0
 IsDiskCommand name =
     (name ≡ codes "scan") ⊎ (name ≡ codes "index") ⊎ (name ≡ codes "locators") ⊎ (name ≡ codes "summary")
     ⊎ (name ≡ codes "reclaimable")
 
--- whether the command is one on the whole disk, other than `manifest`
+-- whether the command is one on the whole disk, other than `manifest` and `shard`
 abbrev pub is_disk_command : Text → Bool
 is_disk_command name =
     bytes_eq name (codes "scan") || (bytes_eq name (codes "index")
     || (bytes_eq name (codes "locators")
     || (bytes_eq name (codes "summary") || bytes_eq name (codes "reclaimable"))))
 
--- what a command needs, by the first of these that it is: one on the whole disk, `manifest`, `superblocks`, `sizes`,
+-- what a command needs, by the first of these that it is: one on the whole disk, `manifest`, `shard`, `superblocks`, `sizes`,
 -- `items`, `demo`
-abbrev pub HasNeeds : (disk manifest superblocks sizes items demo : Bool) → List Row → Type 0
-HasNeeds true manifest superblocks sizes items demo found = HasScan found
-HasNeeds false true superblocks sizes items demo found = HasManifest found
-HasNeeds false false true sizes items demo found = HasImage found
-HasNeeds false false false true items demo found = HasImageName found
-HasNeeds false false false false true demo found = HasItems found
-HasNeeds false false false false false true found = Unit {0}
-HasNeeds false false false false false false found = ⊥
+abbrev pub HasNeeds : (disk manifest shard superblocks sizes items demo : Bool) → List Row → Type 0
+HasNeeds true manifest shard superblocks sizes items demo found = HasScan found
+HasNeeds false true shard superblocks sizes items demo found = HasManifest found
+HasNeeds false false true superblocks sizes items demo found = HasShard found
+HasNeeds false false false true sizes items demo found = HasImage found
+HasNeeds false false false false true items demo found = HasImageName found
+HasNeeds false false false false false true demo found = HasItems found
+HasNeeds false false false false false false true found = Unit {0}
+HasNeeds false false false false false false false found = ⊥
 
 -- the command is one of the program's, and has all that it needs
 abbrev pub IsWholeCommand : Text → List Row → Type 0
 IsWholeCommand name found =
-    HasNeeds (is_disk_command name) (bytes_eq name (codes "manifest")) (bytes_eq name (codes "superblocks"))
-    (bytes_eq name (codes "sizes")) (bytes_eq name (codes "items")) (bytes_eq name (codes "demo")) found
+    HasNeeds (is_disk_command name) (bytes_eq name (codes "manifest")) (bytes_eq name (codes "shard"))
+    (bytes_eq name (codes "superblocks")) (bytes_eq name (codes "sizes")) (bytes_eq name (codes "items")) (bytes_eq name (codes "demo")) found
 
 -- if a command was found, it is one of the program's, and has all that it needs
 abbrev pub IsWholeParse : Option (Text × List Row) → Type 0

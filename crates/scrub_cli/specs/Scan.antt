@@ -13,30 +13,31 @@ use Rattle.scrub_cli.specs.declared.commands.answer.Wanted.{Wanted}
 use Rattle.scrub_cli.specs.declared.commands.answer.Wanted.TheVariants.{Report, Index, Locators, Summary, Reclaimable}
 use Rattle.scrub_cli.specs.declared.process.fault.Fault.{Fault}
 use Rattle.scrub_cli.specs.declared.process.fault.Fault.TheVariants.{Geometry, NoSizes, NoMap, MapLine, NoImage, OutOfMemory}
+use Rattle.scrub_cli.specs.declared.process.outcome.Outcome.{Outcome}
 use Rattle.scrub_cli.specs.declared.words.ImageWords.{ImageWords}
 use Rattle.scrub_cli.specs.DiskImage.{IsLoadedDisk, IsDiskFault}
 use Rattle.scrub_cli.specs.Known.{KnownMaps, KnownRaw}
 use Rattle.scrub_cli.specs.Found.{IsGeometryFault, IsGeometryOf}
-use Rattle.scrub_cli.specs.Lines.{status_of_clean}
+use Rattle.scrub_cli.specs.Outcome.{outcome_of}
 use Rattle.scrub_report.specs.Scrubbed.{IsCleanImage}
 
--- the status of an image: 0 if it is clean, and 1 if it isn't
-pub record IsStatusOfImage (image : Image) (status : ℕ) : Type 0 where
+-- the outcome of an image: whether it is clean
+pub record IsOutcomeOfImage (image : Image) (outcome : Outcome) : Type 0 where
   pub is_clean : Bool
   pub verdict : IsCleanImage image is_clean
-  pub ended : status ≡ status_of_clean is_clean
+  pub ended : outcome ≡ outcome_of is_clean
 
--- the status of a summary: 0 if the verdict on the image is that it is sound, or else 1
-pub record IsStatusOfSummary (image : Image) (status : ℕ) : Type 0 where
+-- the outcome of a summary: whether the verdict on the image is that it is sound
+pub record IsOutcomeOfSummary (image : Image) (outcome : Outcome) : Type 0 where
   pub is_sound : Bool
   pub verdict : IsSoundImage image is_sound
-  pub ended : status ≡ status_of_clean is_sound
+  pub ended : outcome ≡ outcome_of is_sound
 
--- the status of the doubts of an image: 0 if each is accepted, and 1 if one isn't
-pub record IsStatusOfDoubts (image : Image) (accepted : Accepted) (status : ℕ) : Type 0 where
+-- the outcome of the doubts of an image: whether each is accepted
+pub record IsOutcomeOfDoubts (image : Image) (accepted : Accepted) (outcome : Outcome) : Type 0 where
   pub is_clear : Bool
   pub verdict : IsClear image accepted is_clear
-  pub ended : status ≡ status_of_clean is_clear
+  pub ended : outcome ≡ outcome_of is_clear
 
 -- the text is what is wanted of the image: its report, its index, the lines of its named locators, its summary, or the lines
 -- of what may be reclaimed
@@ -47,18 +48,18 @@ Tells Locators image text = AreLocatorLines image text
 Tells Summary image text = IsSummary image text
 Tells (Reclaimable accepted) image text = AreReclaimLines image accepted text
 
--- the status is that of the image, for a summary that of its verdict, or for what may be reclaimed that of its doubts
-abbrev pub IsStatusOf : Wanted → Image → ℕ → Type 0
-IsStatusOf Report image status = IsStatusOfImage image status
-IsStatusOf Index image status = IsStatusOfImage image status
-IsStatusOf Locators image status = IsStatusOfImage image status
-IsStatusOf Summary image status = IsStatusOfSummary image status
-IsStatusOf (Reclaimable accepted) image status = IsStatusOfDoubts image accepted status
+-- the outcome is that of the image, for a summary that of its verdict, or for what may be reclaimed that of its doubts
+abbrev pub IsOutcomeOf : Wanted → Image → Outcome → Type 0
+IsOutcomeOf Report image outcome = IsOutcomeOfImage image outcome
+IsOutcomeOf Index image outcome = IsOutcomeOfImage image outcome
+IsOutcomeOf Locators image outcome = IsOutcomeOfImage image outcome
+IsOutcomeOf Summary image outcome = IsOutcomeOfSummary image outcome
+IsOutcomeOf (Reclaimable accepted) image outcome = IsOutcomeOfDoubts image accepted outcome
 
--- the text is what is wanted of an image, with its status
-pub record IsDiskAnswer (wanted : Wanted) (image : Image) (text : List ℕ) (status : ℕ) : Type 0 where
+-- the text is what is wanted of an image, with its outcome
+pub record IsDiskAnswer (wanted : Wanted) (image : Image) (text : List ℕ) (outcome : Outcome) : Type 0 where
   pub tells : Tells wanted image text
-  pub ended : IsStatusOf wanted image status
+  pub ended : IsOutcomeOf wanted image outcome
 
 -- an image of the sizes that are given or found, loaded from this raw image
 pub record IsDiskOf (known : KnownRaw) (maps : KnownMaps) (words : ImageWords) (image : Image) : Type 0 where
@@ -66,20 +67,20 @@ pub record IsDiskOf (known : KnownRaw) (maps : KnownMaps) (words : ImageWords) (
   pub sizes : IsGeometryOf known maps words geometry
   pub loaded : IsLoadedDisk known maps words geometry image
 
--- the text is what is wanted of an image that was loaded so, with its status
+-- the text is what is wanted of an image that was loaded so, with its outcome
 pub record IsScanAnswer (wanted : Wanted) (known : KnownRaw) (maps : KnownMaps) (words : ImageWords) (text : List ℕ)
-    (status : ℕ) : Type 0 where
+    (outcome : Outcome) : Type 0 where
   pub image : Image
   pub disk : IsDiskOf known maps words image
-  pub answered : IsDiskAnswer wanted image text status
+  pub answered : IsDiskAnswer wanted image text outcome
 
 -- the text is what is wanted of an image that was loaded so, and each of its planned extents is in one of the lists,
 -- once
 pub record AreTakingsOf (wanted : Wanted) (known : KnownRaw) (maps : KnownMaps) (words : ImageWords) (text : List ℕ)
-    (status : ℕ) (lists : List (List ℕ)) : Type 0 where
+    (outcome : Outcome) (lists : List (List ℕ)) : Type 0 where
   pub image : Image
   pub disk : IsDiskOf known maps words image
-  pub answered : IsDiskAnswer wanted image text status
+  pub answered : IsDiskAnswer wanted image text outcome
   pub partition : IsPartitionOfPlanned image lists
 
 -- why no disk of the sizes that are given or found is loaded

@@ -2,21 +2,22 @@
 use Rattle.std.specs.Prelude.{◌≡◌, ℕ, List, Bool}
 use Rattle.scrub_disk.specs.Image.{Image}
 use Rattle.scrub_listings.specs.Superblocks.{AreSuperblockLines, AreCleanSuperblocks}
+use Rattle.scrub_cli.specs.declared.process.outcome.Outcome.{Outcome}
 use Rattle.scrub_cli.specs.declared.words.ImageWords.{ImageWords}
 use Rattle.scrub_cli.specs.Known.{KnownMaps, KnownRaw}
-use Rattle.scrub_cli.specs.Lines.{status_of_clean}
+use Rattle.scrub_cli.specs.Outcome.{outcome_of}
 use Rattle.scrub_cli.specs.Scan.{IsDiskOf}
 
--- the lines of the superblocks of an image, and status 0 if they are in good order, and else 1
-pub record AreSuperblocksListed (image : Image) (text : List ℕ) (status : ℕ) : Type 0 where
+-- the lines of the superblocks of an image, and whether they are in good order
+pub record AreSuperblocksListed (image : Image) (text : List ℕ) (outcome : Outcome) : Type 0 where
   pub lines : AreSuperblockLines image text
   pub is_clean : Bool
   pub clean : AreCleanSuperblocks image is_clean
-  pub ended : status ≡ status_of_clean is_clean
+  pub ended : outcome ≡ outcome_of is_clean
 
 -- the answer of `superblocks`, for an image of the sizes that are given, loaded from this raw image
 pub record IsSuperblocksAnswer (known : KnownRaw) (maps : KnownMaps) (words : ImageWords) (text : List ℕ)
-    (status : ℕ) : Type 0 where
+    (outcome : Outcome) : Type 0 where
   pub image : Image
   pub disk : IsDiskOf known maps words image
-  pub answered : AreSuperblocksListed image text status
+  pub answered : AreSuperblocksListed image text outcome

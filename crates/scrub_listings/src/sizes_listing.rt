@@ -59,46 +59,46 @@ fn sizes_in(found: &FoundSuperblocks) -> Option<Geometry>
 
 /// Finds the sizes of the disk in a raw image: those that all superblock records in its first 67,108,864 bytes have. None if
 /// there is no record, if not all have the same sizes, or if something is lost there. `find_superblocks` reads the image, whose
-/// blocks are marked as for `list_sizes`. The only fault is `OutOfMemory`.
+/// blocks lack what `lacking` says, as for `list_sizes`. The only fault is `OutOfMemory`.
 pub fn find_sizes<R: RawImage>(
     alloc: Global,
     raw: &mut R,
-    marked: &[bool],
+    lacking: &[u32],
 ) -> Result<Option<Geometry>, OutOfMemory>
     requires few_reads { R.reads raw.old < 2 ^ 62 }
-    ensures sizes { IfOk result (AreSizesOf (R.bytes raw.old) marked.now (R.failures raw.new - R.failures raw.old)) }
+    ensures sizes { IfOk result (AreSizesOf (R.bytes raw.old) lacking.now (R.failures raw.new - R.failures raw.old)) }
     ensures failures { R.failures raw.old ≤ R.failures raw.new }
     ensures same_bytes { R.bytes raw.new ≡ R.bytes raw.old }
     ensures same_bound { R.most_failures raw.new ≡ R.most_failures raw.old }
     ensures reads { R.reads raw.new ≤ R.reads raw.old + max_extent_bytes }
 {
-    let found = find_superblocks(alloc, raw, marked)?;
+    let found = find_superblocks(alloc, raw, lacking)?;
     Ok(sizes_in(&found))
 }
 
-/// A law: the sizes that are found in given bytes are the same whatever is marked and whichever reads fail.
+/// A law: the sizes that are found in given bytes are the same whatever blocks lack and whichever reads fail.
 pub fn one_size()
-    ensures { (bytes : List ℕ) (marks others : List Bool) (failures more : ℕ) (g h : Geometry) →
-        AreSizesOf (Some bytes) marks failures (Some g) → AreSizesOf (Some bytes) others more (Some h) → g ≡ h }
+    ensures { (bytes lacking others : List ℕ) (failures more : ℕ) (g h : Geometry) →
+        AreSizesOf (Some bytes) lacking failures (Some g) → AreSizesOf (Some bytes) others more (Some h) → g ≡ h }
 {}
 
 /// Lists the superblock records of a raw image, each with its own sizes, and what is lost of the first 67,108,864 bytes.
-/// `find_superblocks` reads the image. `marked` says for each of the first blocks of 512 bytes whether a rescue's map marks it
-/// as lost. The only fault is `OutOfMemory`.
+/// `find_superblocks` reads the image. `lacking` has for each of the first blocks of 512 bytes the place of its first byte that
+/// a rescue's map lacks, counted from the block's start: 512 if the map lacks none. The only fault is `OutOfMemory`.
 pub fn list_sizes<R: RawImage>(
     alloc: Global,
     raw: &mut R,
-    marked: &[bool],
+    lacking: &[u32],
 ) -> Result<SizesListing, OutOfMemory>
     requires few_reads { R.reads raw.old < 2 ^ 62 }
     ensures listing { IfOk result (λ l.
-        IsSizesListingOf (R.bytes raw.old) marked.now (R.failures raw.new - R.failures raw.old) l.text.items l.is_clean) }
+        IsSizesListingOf (R.bytes raw.old) lacking.now (R.failures raw.new - R.failures raw.old) l.text.items l.is_clean) }
     ensures failures { R.failures raw.old ≤ R.failures raw.new }
     ensures same_bytes { R.bytes raw.new ≡ R.bytes raw.old }
     ensures same_bound { R.most_failures raw.new ≡ R.most_failures raw.old }
     ensures reads { R.reads raw.new ≤ R.reads raw.old + max_extent_bytes }
 {
-    let found = find_superblocks(alloc, raw, marked)?;
+    let found = find_superblocks(alloc, raw, lacking)?;
     let lines = lines_in_order(alloc, &found.records, &found.lost)?;
     let text = lines_text(alloc, &lines)?;
     let is_clean = is_clean(&found);

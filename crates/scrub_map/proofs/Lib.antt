@@ -1,4 +1,5 @@
 pub mod FieldCuts
+pub mod FirstLacking
 pub mod Keeping
 pub mod Lost
 pub mod MapLaws

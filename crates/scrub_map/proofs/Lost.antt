@@ -35,7 +35,7 @@ hit_between gap size n some low high =
     ]
 
 -- it hits no other block
-between_hit : (gap : Gap) (size n : ℕ) → 0 < size → IsHitBy gap size n →
+pub between_hit : (gap : Gap) (size n : ℕ) → 0 < size → IsHitBy gap size n →
     (gap.from / size ≤ n) × (n ≤ (gap.to - 1) / size)
 between_hit gap size n some hit = (
   elim (cases_lt n (gap.from / size)) [

@@ -18,7 +18,7 @@ impl RescueMap {
     ghost use Rattle.std.specs.Prelude.{[], ◌++◌, ◌∷◌};
     ghost use Rattle.scrub_map.specs.declared.block.MapBlock.{MapBlock};
     ghost use Rattle.scrub_map.specs.Kept.{HasGapsBelowEnd, KeepsBlocks};
-    ghost use Rattle.scrub_map.specs.Rescued.{AreLostBlocks};
+    ghost use Rattle.scrub_map.specs.Rescued.{AreFirstLacking, AreLostBlocks};
 
     /// A map without blocks: nothing was rescued.
     pub(crate) fn new(alloc: Global) -> RescueMap
@@ -79,5 +79,30 @@ impl RescueMap {
         };
         behind.mark(&mut marks, u64::from(size));
         Ok(marks)
+    }
+
+    /// Says for each of the first `count` blocks of `size` bytes where in it the first byte is that no block of the map with
+    /// status `+` covers: 0 is its first byte, and `size` says that all its bytes are covered.
+    pub fn first_lacking(
+        &self,
+        alloc: Global,
+        size: u32,
+        count: usize,
+    ) -> Result<Vec<u32>, OutOfMemory>
+        requires size { 0 < size }
+        requires within { size * count ≤ 2 ^ 63 }
+        ensures { IfOk result (λ places. (blocks : List MapBlock) → KeepsBlocks self.now blocks →
+            AreFirstLacking blocks size count places.items) }
+    {
+        let mut places = vec![in alloc; size; count]?;
+        for gap in &self.gaps {
+            gap.lower(&mut places, size);
+        }
+        let behind = Gap {
+            from: self.end,
+            to: u64::MAX,
+        };
+        behind.lower(&mut places, size);
+        Ok(places)
     }
 }

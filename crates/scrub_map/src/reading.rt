@@ -1,10 +1,10 @@
 //! Reading the text of a map line by line. For what one line says see `line`, for what is kept of it see `map`.
 
-ghost use Rattle.std.specs.Prelude.{◌≡◌, ◌≤◌, ◌<◌, ◌+◌, [], ◌∷◌, ◌++◌, ℕ, Bool, List, IfErr, IfOk, OnOk, length, true, false};
+ghost use Rattle.std.specs.Prelude.{◌≡◌, ◌≤◌, ◌<◌, ◌+◌, ◌*◌, ◌↔◌, [], ◌∷◌, ◌++◌, ℕ, Bool, List, IfErr, IfOk, OnOk, length, true, false};
 ghost use Rattle.scrub_map.specs.Map.{BeginsMap, IsFirstBadLine, IsMap};
 ghost use Rattle.scrub_map.specs.Kept.{KeepsBlocks};
 ghost use Rattle.scrub_map.specs.Fault.{IfBadLine};
-ghost use Rattle.scrub_map.specs.Rescued.{AreLostBlocks};
+ghost use Rattle.scrub_map.specs.Rescued.{AreFirstLacking, AreLostBlocks, IsFirstLacking, LacksBefore};
 ghost use Rattle.scrub_map.specs.declared.block.MapBlock.{MapBlock};
 
 use crate::line::{block_of, is_silent, is_state, next_line, without_carriage_return};
@@ -160,4 +160,13 @@ pub fn one_first_bad_line()
 pub fn one_list_of_lost_blocks()
     ensures { (blocks : List MapBlock) (size count : ℕ) (a b : List Bool) →
         AreLostBlocks blocks size count a → AreLostBlocks blocks size count b → a ≡ b }
+{}
+
+/// A law: the blocks of a map decide the first byte that each block of a size lacks, and a block lacks a byte before an end
+/// exactly if its first lacking byte is before the end.
+pub fn one_list_of_first_lacking_bytes()
+    ensures one { (blocks : List MapBlock) (size count : ℕ) (a b : List ℕ) →
+        AreFirstLacking blocks size count a → AreFirstLacking blocks size count b → a ≡ b }
+    ensures before { (blocks : List MapBlock) (size n place end : ℕ) → IsFirstLacking blocks size n place →
+        ((place < size) × (n * size + place < end)) ↔ LacksBefore blocks size n end }
 {}

@@ -80,6 +80,33 @@ fn a_map_lacks_the_blocks_that_were_not_rescued_whole(rt: HostRuntime) -> Result
     Ok(())
 }
 
+/// Three blocks of four bytes.
+#[test]
+fn a_map_says_which_byte_of_a_block_it_lacks_first(rt: HostRuntime) -> Result<(), Fail> {
+    for (blocks, wanted) in [
+        ("", [0, 0, 0]),
+        ("0 8 +", [4, 4, 0]),
+        ("0 7 +", [4, 3, 0]),
+        ("0 9 +", [4, 4, 1]),
+        ("1 11 +", [0, 4, 4]),
+        ("2 8 +", [0, 4, 2]),
+        ("0 4 +\n8 4 +", [4, 0, 4]),
+        ("0 3 +\n3 5 +", [4, 4, 0]),
+        ("0 1 +\n2 1 +\n4 7 +", [1, 4, 3]),
+        ("0 5 +\n7 1 +\n9 3 +", [4, 1, 0]),
+        ("0 6 -\n6 6 +", [0, 0, 4]),
+        ("0 6 +\n6 0 -\n6 6 +", [4, 4, 4]),
+        ("0 99 +", [4, 4, 4]),
+        ("9223372036854775807 0 +", [0, 0, 0]),
+    ] {
+        let text = format!(in rt.alloc(); "0x0 + 1\n{blocks}")?;
+        let map = read_map(rt.alloc(), text.as_bytes())?;
+        let places = map.first_lacking(rt.alloc(), 4, 3)?;
+        assert!(rt; places.as_slice() == wanted.as_slice(), "{blocks}");
+    }
+    Ok(())
+}
+
 #[test]
 fn a_text_that_is_not_a_map_is_refused_at_its_line(rt: HostRuntime) {
     for (text, line) in [

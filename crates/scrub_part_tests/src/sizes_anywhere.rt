@@ -7,6 +7,7 @@ use crate::compare::same;
 use scrub_disk::{Geometry, RawImage};
 use scrub_fakes::RawBytes;
 use scrub_frame::digest_of;
+use scrub_map::read_map;
 use scrub_super::{FoundRecord, RecordKind, find_superblocks};
 use std::alloc::Global;
 use std::process::Abort;
@@ -49,13 +50,13 @@ fn finds<R: RawImage>(
     rt: &impl Abort,
     alloc: Global,
     raw: &mut R,
-    marked: &[bool],
+    lacking: &[u32],
     offsets: &[u32],
     lost: &[(u32, u32)],
 ) -> Result<(), Fail>
     requires { R.reads raw.old < 2 ^ 62 }
 {
-    let found = find_superblocks(alloc, raw, marked)?;
+    let found = find_superblocks(alloc, raw, lacking)?;
     let mut starts = Vec::new(alloc);
     for one in &found.records {
         starts.push(one.offset)?;
@@ -106,14 +107,7 @@ fn a_record_ends_with_the_image_or_is_cut_off(rt: HostRuntime) -> Result<(), Fai
     for (len, offsets) in cuts {
         assert!(rt; len <= 2048);
         let mut raw = RawBytes::failing(&image[..len], 100, 0, 0);
-        finds(
-            &rt,
-            rt.alloc(),
-            &mut raw,
-            &[true, true, true][..0],
-            offsets,
-            &[],
-        )?;
+        finds(&rt, rt.alloc(), &mut raw, &[0, 0, 0][..0], offsets, &[])?;
     }
     Ok(())
 }
@@ -135,24 +129,57 @@ fn a_failed_read_loses_its_block(rt: HostRuntime) -> Result<(), Fail> {
 }
 
 #[test]
-fn a_marked_block_is_lost_if_it_begins_before_the_end(rt: HostRuntime) -> Result<(), Fail> {
+fn a_block_is_lost_if_it_lacks_a_byte_before_the_end(rt: HostRuntime) -> Result<(), Fail> {
     let image = formatted_twice(&rt);
-    let marks = [
-        (2048, &[true][..], &[512][..], &[(0, 512)][..]),
+    let rows = [
+        (2048, &[0][..], &[512][..], &[(0, 512)][..]),
+        (2048, &[511][..], &[512][..], &[(0, 512)][..]),
+        (2048, &[512, 4294967295][..], &[64, 512][..], &[][..]),
         (
             2048,
-            &[false, true, false, true][..],
+            &[512, 0, 512, 0][..],
             &[64][..],
             &[(512, 1024), (1536, 2048)][..],
         ),
-        (700, &[false, true, true][..], &[64][..], &[(512, 1024)][..]),
-        (512, &[false, true, true][..], &[64][..], &[][..]),
-        (0, &[true][..], &[][..], &[][..]),
+        (700, &[512, 0, 0][..], &[64][..], &[(512, 1024)][..]),
+        (700, &[512, 187, 0][..], &[64][..], &[(512, 1024)][..]),
+        (700, &[512, 188, 0][..], &[64, 512][..], &[][..]),
+        (512, &[512, 0, 0][..], &[64][..], &[][..]),
+        (0, &[0][..], &[][..], &[][..]),
     ];
-    for (len, marked, offsets, lost) in marks {
+    for (len, lacking, offsets, lost) in rows {
         assert!(rt; len <= 2048);
         let mut raw = RawBytes::failing(&image[..len], 4096, 0, 0);
-        finds(&rt, rt.alloc(), &mut raw, marked, offsets, lost)?;
+        finds(&rt, rt.alloc(), &mut raw, lacking, offsets, lost)?;
+    }
+    Ok(())
+}
+
+/// The image ends in its second block.
+#[test]
+fn a_map_loses_a_block_by_bytes_before_the_end(rt: HostRuntime) -> Result<(), Fail> {
+    let image = formatted_twice(&rt);
+    let rows = [
+        (668, "", &[][..], &[(0, 1024)][..]),
+        (668, "0x0 0x29C +", &[64, 512][..], &[][..]),
+        (668, "0x0 0x29B +", &[64][..], &[(512, 1024)][..]),
+        (668, "0x0 0x29C +\n0x29C 0x64 -", &[64, 512][..], &[][..]),
+        (
+            668,
+            "0 0x29B +\n0x29B 1 -\n0x29C 0x64 +",
+            &[64][..],
+            &[(512, 1024)][..],
+        ),
+        (668, "0 0x29C +\n0x300 0x400 +", &[64, 512][..], &[][..]),
+        (668, "0 511 +\n512 156 +", &[512][..], &[(0, 512)][..]),
+    ];
+    for (len, blocks, offsets, lost) in rows {
+        assert!(rt; len <= 2048);
+        let text = format!(in rt.alloc(); "0 +\n{blocks}")?;
+        let map = read_map(rt.alloc(), text.as_bytes())?;
+        let lacking = map.first_lacking(rt.alloc(), 512, 4)?;
+        let mut raw = RawBytes::failing(&image[..len], 4096, 0, 0);
+        finds(&rt, rt.alloc(), &mut raw, &lacking, offsets, lost)?;
     }
     Ok(())
 }

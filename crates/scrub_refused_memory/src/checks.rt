@@ -1,11 +1,14 @@
-//! Calls that read index runs and find the statuses of locators.
+//! Calls that read index runs, find the statuses of locators, and read the payloads that they name.
+
+ghost use Rattle.scrub_disk.specs.Memory.{image_of};
+ghost use Rattle.scrub_scan.specs.Standing.{Stands};
 
 use crate::calls::Trial;
 use crate::disks::{NINE_STATUSES, names_in, names_with_status};
 use crate::ending::{Stop, Wanted, right};
 use crate::runs::is_one_shard;
-use scrub_check::{ReadRuns, RunState, Status};
-use scrub_disk::MemDisk;
+use scrub_check::{Named, Owner, ReadRuns, RunState, Status};
+use scrub_disk::{MemDisk, PageSource};
 use scrub_fakes::worked::{
     broken_newest_run, deleted_in_the_newest_run, nine_locators, nine_of_a_shard,
 };
@@ -13,7 +16,7 @@ use scrub_fakes::{SHARD, plan_of};
 use scrub_frame::Locator;
 use scrub_merge::merge;
 use scrub_run::Run;
-use scrub_scan::scan_in_order;
+use scrub_scan::{Standing, frame_stands, scan_in_order};
 use std::alloc::Global;
 use std::io::Write;
 use std::thread::Threads;
@@ -130,6 +133,52 @@ fn check_named_on<R: Threads + Sync>(
     right(checked.as_slice() == expected.as_slice())
 }
 
+/// The nine locators of a shard, behind that of its run.
+pub fn name_shard(alloc: Global, wanted: Wanted) -> Result<(), Stop> {
+    let (disk, run) = nine_locators(alloc)?;
+    let plan = plan_of(alloc, &disk)?;
+    let all = scan_in_order(alloc, &disk, &plan)?;
+    let read = scrub_check::read_runs(alloc, &disk, &plan, &all)?;
+    let map = merge(alloc, read.runs())?;
+    let binding = map.get(&SHARD).ok_or(Stop::Wrong)?;
+    let names = names_in(alloc, &names_with_status(alloc, run)?)?;
+    let mut named = Vec::new(alloc);
+    named.push(Named {
+        owner: Owner::Run(0),
+        locator: run,
+    })?;
+    wanted.made()?;
+    scrub_check::name_shard(&mut named, binding)?;
+    right(named.as_slice() == names.as_slice())
+}
+
+/// The payload of a frame that is on a disk, by the locator of its chunk.
+fn payload_of(alloc: Global, disk: &MemDisk, standing: &Standing) -> Result<Vec<u8>, Stop>
+    requires { Stands (image_of disk.now) standing.now }
+{
+    let locator = Locator {
+        extent: standing.extent,
+        offset: standing.offset,
+        length: standing.length,
+        uuid: standing.uuid,
+        digest: standing.digest,
+    };
+    Ok(scrub_check::payload_at(alloc, disk, &locator)?)
+}
+
+/// The payload of the one of nine locators that is hidden.
+pub fn payload_at(alloc: Global, wanted: Wanted) -> Result<(), Stop> {
+    let (disk, _) = nine_locators(alloc)?;
+    let geometry = disk.geometry();
+    if geometry.extents() <= 2 || geometry.extent_bytes() < 297 {
+        return Err(Stop::Wrong);
+    }
+    let hidden = frame_stands(alloc, &disk, 297, 2, 256)?.ok_or(Stop::Wrong)?;
+    wanted.made()?;
+    let payload = payload_of(alloc, &disk, &hidden)?;
+    right(payload.as_slice() == b"abc".as_slice())
+}
+
 /// The calls of this module.
 pub fn calls<R: Threads + Sync, O: Write>(rt: &R, alloc: Global, trial: &mut Trial<'_, O>) {
     made!(trial, "read_runs", "", wanted => read_runs(alloc, wanted));
@@ -138,4 +187,6 @@ pub fn calls<R: Threads + Sync, O: Write>(rt: &R, alloc: Global, trial: &mut Tri
     made!(trial, "named_locators", "", wanted => named_locators(alloc, wanted));
     made!(trial, "check_all", "", wanted => check_all(rt, alloc, wanted));
     made!(trial, "check_named", "", wanted => check_named(rt, alloc, wanted));
+    made!(trial, "name_shard", "", wanted => name_shard(alloc, wanted));
+    made!(trial, "payload_at", "", wanted => payload_at(alloc, wanted));
 }

@@ -109,12 +109,12 @@ pub fn unreadable_pages(alloc: Global, wanted: Wanted) -> Result<(), Stop> {
     right(pages.as_slice() == [0, 2, 4].as_slice())
 }
 
-/// The superblock in the bytes of the disk with one shard. The second block of 512 bytes is marked as lost.
+/// The superblock in the bytes of the disk with one shard. The second block of 512 bytes lacks its first byte.
 pub fn find_superblocks(alloc: Global, wanted: Wanted) -> Result<(), Stop> {
     let bytes = one_shard_bytes(alloc)?;
     let mut raw = RawBytes::new(&bytes);
     wanted.made()?;
-    let found = scrub_super::find_superblocks(alloc, &mut raw, &[false, true])?;
+    let found = scrub_super::find_superblocks(alloc, &mut raw, &[512, 0])?;
     let record = FoundRecord {
         offset: 0,
         kind: RecordKind::Ssb1,
@@ -136,7 +136,7 @@ pub fn list_sizes(alloc: Global, wanted: Wanted) -> Result<(), Stop> {
     let bytes = one_shard_bytes(alloc)?;
     let mut raw = RawBytes::new(&bytes);
     wanted.made()?;
-    let listing = scrub_listings::list_sizes(alloc, &mut raw, &[false, true])?;
+    let listing = scrub_listings::list_sizes(alloc, &mut raw, &[512, 0])?;
     right(
         listing.text.as_slice() == b"0 SSB1 1 64 4 3\nlost 512 1024\n".as_slice()
             && !listing.is_clean,

@@ -29,8 +29,17 @@ pub fn lost_blocks(alloc: Global, wanted: Wanted) -> Result<(), Stop> {
     right(has_two_gaps(alloc, &map)?)
 }
 
+/// The first byte that it lacks in each of them.
+pub fn first_lacking(alloc: Global, wanted: Wanted) -> Result<(), Stop> {
+    let map = scrub_map::read_map(alloc, MAP)?;
+    wanted.made()?;
+    let places = map.first_lacking(alloc, 64, 4)?;
+    right(places.as_slice() == [64, 0, 64, 0].as_slice())
+}
+
 /// The calls of this module.
 pub fn calls<O: Write>(alloc: Global, trial: &mut Trial<'_, O>) {
     made!(trial, "read_map", "", wanted => read_map(alloc, wanted));
     made!(trial, "RescueMap::lost_blocks", "", wanted => lost_blocks(alloc, wanted));
+    made!(trial, "RescueMap::first_lacking", "", wanted => first_lacking(alloc, wanted));
 }

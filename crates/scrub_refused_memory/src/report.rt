@@ -1,17 +1,19 @@
-//! Whole scrubs, compared with the published reports, and listings of a disk.
+//! Whole scrubs, compared with the published reports; listings of a disk; and a shard that is read.
 
 ghost use Rattle.std.specs.Prelude.{◌≤◌};
 
 use crate::calls::Trial;
-use crate::disks::{one_shard, twins_and_shared};
+use crate::disks::{one_shard, rotted_and_sound, twins_and_shared};
 use crate::ending::{Stop, Wanted, right};
 use crate::takings::{WORKERS, is_partition};
+use scrub_fakes::SHARD;
 use scrub_fakes::payloads::{one_shard_payload, two_shards_payload};
 use scrub_fakes::published::{ONE_SHARD, TWINS};
 use scrub_fakes::worked::rotted;
 use scrub_pool::NoGate;
 use scrub_reclaim::Accepted;
 use scrub_report::ScrubAnswer;
+use scrub_shard::ShardAnswer;
 use std::alloc::Global;
 use std::io::Write;
 use std::sync::Wait;
@@ -205,6 +207,33 @@ pub fn list_summary<R: Threads + Wait + Sync>(
     )
 }
 
+/// Whether a shard was found with these bytes, and isn't doubtful.
+fn is_found(answer: ShardAnswer, bytes: &[u8]) -> bool {
+    match answer {
+        ShardAnswer::Found(found) => {
+            let is_doubtful = found.is_doubtful();
+            let found_bytes = found.into_bytes();
+            !is_doubtful && found_bytes.as_slice() == bytes
+        }
+        _ => false,
+    }
+}
+
+/// Reads a shard of a rotted chunk, of which there is a copy, and a sound one, by `workers` workers and the caller.
+pub fn read_shard<R: Threads + Wait + Sync>(
+    rt: &R,
+    alloc: Global,
+    wanted: Wanted,
+    workers: u32,
+) -> Result<(), Stop>
+    requires { workers ≤ 64 }
+{
+    let disk = rotted_and_sound(alloc)?;
+    wanted.made()?;
+    let (answer, takings) = scrub_shard::read_shard(rt, alloc, &disk, workers, &NoGate, SHARD)?;
+    right(is_found(answer, b"abcde") && is_partition(&takings, workers))
+}
+
 /// The calls of this module.
 pub fn calls<R: Threads + Wait + Sync, O: Write>(rt: &R, alloc: Global, trial: &mut Trial<'_, O>) {
     made!(trial, "list_superblocks", "", wanted => list_superblocks(alloc, wanted));
@@ -216,5 +245,6 @@ pub fn calls<R: Threads + Wait + Sync, O: Write>(rt: &R, alloc: Global, trial: &
         made!(trial, "list_reclaimable", second, wanted => list_reclaimable(rt, alloc, wanted, count));
         made!(trial, "list_manifest", second, wanted => list_manifest(rt, alloc, wanted, count));
         made!(trial, "list_summary", second, wanted => list_summary(rt, alloc, wanted, count));
+        made!(trial, "read_shard", second, wanted => read_shard(rt, alloc, wanted, count));
     }
 }

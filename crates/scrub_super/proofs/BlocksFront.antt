@@ -1,5 +1,5 @@
 -- The front of a raw image, read block by block.
-use Rattle.std.proofs.Common.{◌≡◌, ◌<◌, ◌≤◌, ◌+◌, ◌-◌, ◌*◌, ◌/◌, ◌^◌, ◌⊎◌, ℕ, zero, suc, Bool, true, false, cond, List, [], ◌∷◌, ◌++◌, length, take, get_or, slice_get, arith, refl, sym, ◌∙◌, ap, inl, inr, Option, Some, None, IfSome, length-append}
+use Rattle.std.proofs.Common.{◌≡◌, ◌<◌, ◌≤◌, ◌+◌, ◌-◌, ◌*◌, ◌/◌, ◌^◌, ◌⊎◌, ℕ, zero, suc, Bool, true, false, cond, List, [], ◌∷◌, ◌++◌, length, take, get_or, slice_get, arith, refl, sym, ◌∙◌, ap, subst, inl, inr, Option, Some, None, IfSome, length-append}
 use Rattle.std.proofs.lemmas.Bool.{cases_lt, false≢true, false_from_ne_true}
 use Rattle.std.proofs.lemmas.Option.{slice_get_within, slice_get-get_or, slice_get_past, none-some}
 use Rattle.std.proofs.lemmas.List.{length-take-le, get_or_append_left, get_or-append_right}
@@ -8,30 +8,30 @@ use Rattle.std.proofs.Math.Seq.{get_or-append_seam}
 use Rattle.std.proofs.lemmas.List.{get_or-append-add}
 use Rattle.scrub_disk.specs.Image.{AreBytesAt}
 use Rattle.scrub_disk.specs.Limits.{max_extent_bytes}
-use Rattle.scrub_super.specs.Blocks.{IsMarked, byte_left, LosesBlocks}
+use Rattle.scrub_super.specs.Blocks.{IsMarked, LacksByte, byte_left, LosesBlocks}
 use Rattle.scrub_super.specs.BlocksRead.{IsBlockRead, AreBlockMarks, AreBlocksRead, AreAllRead, BeginsWith}
 
 -- ---- one block
 
--- a block that was read, which is lost only if it is marked and has a byte
-pub block_read : (raw : Option (List ℕ)) (offset before after n : ℕ) (m is_lost : Bool) (out : List ℕ) →
+-- a block that was read, which is lost only if its first lacking byte was read
+pub block_read : (raw : Option (List ℕ)) (offset lacking before after n : ℕ) (is_lost : Bool) (out : List ℕ) →
     n ≤ length out → length out ≡ 512 →
     IfSome raw (λ bytes. AreBytesAt (slice_get bytes) offset (take n out)) →
     (n < length out → IfSome raw (λ bytes. length bytes ≤ offset + n)) →
-    (is_lost ≡ true → (m ≡ true) × (0 < n)) → (m ≡ true → 0 < n → is_lost ≡ true) →
-    IfSome raw (λ bytes. IsBlockRead bytes offset m before after out n is_lost)
-block_read None offset before after n m is_lost out le size stands ends only all = tt
-block_read (Some bytes) offset before after n m is_lost out le size stands ends only all = record {
+    (is_lost ≡ true → lacking < n) → (lacking < n → is_lost ≡ true) →
+    IfSome raw (λ bytes. IsBlockRead bytes offset lacking before after out n is_lost)
+block_read None offset lacking before after n is_lost out le size stands ends only all = tt
+block_read (Some bytes) offset lacking before after n is_lost out le size stands ends only all = record {
   read = λ _. stands;
   ended = λ short. ends (omega (arith, short, size));
-  marked = λ is_marked low. elim (cases_lt 0 n) [
-    | inl some ↦ all is_marked some
-    | inr none ↦ absurd (omega (arith, ends (omega (arith, none, size)), low, none))
+  lacks = λ in_block low. elim (cases_lt lacking n) [
+    | inl there ↦ all there
+    | inr behind ↦ absurd (omega (arith, ends (omega (arith, behind, in_block, size)), low, behind))
   ];
   only = λ lost.
-      let o = only lost in
-      let first = stands 0 (omega (arith, o.1, length-take-le n out le)) in
-      inl (omega (arith, slice_get_within bytes (offset + 0) _ first), o.0);
+      let there : lacking < n = only lost in
+      let byte = stands lacking (omega (arith, there, length-take-le n out le)) in
+      inl (omega (arith, there, le, size), slice_get_within bytes (offset + lacking) _ byte);
 }
 
 -- ---- marks
@@ -86,12 +86,12 @@ module _ {read out new : List ℕ} {lost more : List Bool} {len : ℕ} {is_lost 
   ]
 
   -- the failures that were counted, and one more if they rose
-  one_block : {known : List ℕ} {marks : List Bool} {start : ℕ} (before after : ℕ) {former latter : ℕ} →
+  one_block : {known places : List ℕ} {start : ℕ} (before after : ℕ) {former latter : ℕ} →
       length read ≡ 512 * length lost → start ≡ length lost * 512 → before ≤ after →
-      (former < latter → before < after) → AreBlocksRead known marks before read lost →
-      IsBlockRead known start (get_or marks (length lost) false) former latter out len is_lost →
-      AreBlocksRead known marks after new more
-  one_block {known} {marks} {start} before after size place le counted old block = by is_lost refl
+      (former < latter → before < after) → AreBlocksRead known places before read lost →
+      IsBlockRead known start (get_or places (length lost) 512) former latter out len is_lost →
+      AreBlocksRead known places after new more
+  one_block {known} {places} {start} before after size place le counted old block = by is_lost refl
     where
       held' : (i : ℕ) → i < length new → (IsMarked more (i / 512) → ⊥) → slice_get known i ≡ Some (get_or new i 0)
       held' i hi unmarked = rw adds.bytes (elim (cases_lt i (length read)) [
@@ -110,18 +110,19 @@ module _ {read out new : List ℕ} {lost more : List Bool} {len : ℕ} {is_lost 
             ∙ ap Some (sym (get_or-append_right read (take len out) (length read) i 0 refl high))
       ])
 
-      marked' : (n : ℕ) → n < length more → n * 512 < length known → IsMarked marks n → IsMarked more n
-      marked' n hn before_end m = elim (cases_lt n (length lost)) [
-        | inl low ↦ mark_before n low ∙ old.marked n low before_end m
+      lacks' : (n : ℕ) → n < length more → LacksByte known places n → IsMarked more n
+      lacks' n hn l = elim (cases_lt n (length lost)) [
+        | inl low ↦ mark_before n low ∙ old.lacks n low l
         | inr high ↦
             let last : n ≡ length lost = omega (arith, high, hn, length-marks) in
-            rw last (last_mark ∙ block.marked (rw last at m) (omega (arith, before_end, last, place)))
+            let here : LacksByte known places (length lost) = subst (LacksByte known places) last l in
+            rw last (last_mark ∙ block.lacks here.in_block (omega (arith, here.before_end, place)))
       ]
 
-      by : (b : Bool) → is_lost ≡ b → AreBlocksRead known marks after new more
+      by : (b : Bool) → is_lost ≡ b → AreBlocksRead known places after new more
       by false kept = record {
         held = held';
-        marked = marked';
+        lacks = lacks';
         failed = old.failed;
         few = omega (arith, old.few, le);
         only = λ n m. elim (mark_cases n m) [
@@ -130,19 +131,19 @@ module _ {read out new : List ℕ} {lost more : List Bool} {len : ℕ} {is_lost 
         ];
       }
       by true gone = elim (block.only gone) [
-        | inl marked ↦ record {
+        | inl lacking ↦ record {
           held = held';
-          marked = marked';
+          lacks = lacks';
           failed = old.failed;
           few = omega (arith, old.few, le);
           only = λ n m. elim (mark_cases n m) [
             | inl was ↦ old.only n was
-            | inr is ↦ inl (omega (arith, marked.0, is.0, place), rw is.0 marked.1)
+            | inr is ↦ inl (rw is.0 (record { in_block = lacking.0; before_end = omega (arith, lacking.1, place) }))
           ];
         }
         | inr rose ↦ record {
           held = held';
-          marked = marked';
+          lacks = lacks';
           failed = old.failed ++ length lost ∷ [];
           few = omega (arith, old.few, counted rose, length-append old.failed (length lost ∷ []));
           only = λ n m. elim (mark_cases n m) [
@@ -171,29 +172,29 @@ module _ {read out new : List ℕ} {lost more : List Bool} {len : ℕ} {is_lost 
       ∙ get_or-append-add read (take len out) k 0)
 
   -- the same if the raw image's bytes are known
-  module _ {raw was : Option (List ℕ)} (marks : List Bool) {n start : ℕ} (first before after : ℕ) {m : Bool}
-      (same : was ≡ raw) (number : length lost ≡ n) (mark : m ≡ get_or marks n false) (size : length read ≡ 512 * n)
+  module _ {raw was : Option (List ℕ)} (places : List ℕ) {n start : ℕ} (first before after : ℕ) {lacking : ℕ}
+      (same : was ≡ raw) (number : length lost ≡ n) (place_is : lacking ≡ get_or places n 512) (size : length read ≡ 512 * n)
       (place : start ≡ n * 512) (low : first ≤ before) (le : before ≤ after)
-      (old : IfSome raw (λ known. AreBlocksRead known marks (before - first) read lost))
-      (block : IfSome was (λ known. IsBlockRead known start m before after out len is_lost)) where
-    pub blocks_next : IfSome raw (λ known. AreBlocksRead known marks (after - first) new more)
-    blocks_next = by raw old (rw (same, mark, ← number) at block)
+      (old : IfSome raw (λ known. AreBlocksRead known places (before - first) read lost))
+      (block : IfSome was (λ known. IsBlockRead known start lacking before after out len is_lost)) where
+    pub blocks_next : IfSome raw (λ known. AreBlocksRead known places (after - first) new more)
+    blocks_next = by raw old (rw (same, place_is, ← number) at block)
       where
-        by : (o : Option (List ℕ)) → IfSome o (λ known. AreBlocksRead known marks (before - first) read lost) →
-            IfSome o (λ known. IsBlockRead known start (get_or marks (length lost) false) before after out len is_lost) →
-            IfSome o (λ known. AreBlocksRead known marks (after - first) new more)
+        by : (o : Option (List ℕ)) → IfSome o (λ known. AreBlocksRead known places (before - first) read lost) →
+            IfSome o (λ known. IsBlockRead known start (get_or places (length lost) 512) before after out len is_lost) →
+            IfSome o (λ known. AreBlocksRead known places (after - first) new more)
         by None old block = tt
         by (Some known) old block =
             one_block (before - first) (after - first) (omega (arith, size, number)) (omega (arith, place, number))
             (omega (arith, le, low)) (λ rose. omega (arith, rose, low)) old block
 
     -- the image ended in the block
-    pub blocks_end : len < 512 → IfSome raw (λ known. AreAllRead known marks (after - first) new more)
+    pub blocks_end : len < 512 → IfSome raw (λ known. AreAllRead known places (after - first) new more)
     blocks_end short = by raw blocks_next (rw same at block)
       where
-        by : (o : Option (List ℕ)) → IfSome o (λ known. AreBlocksRead known marks (after - first) new more) →
-            IfSome o (λ known. IsBlockRead known start m before after out len is_lost) →
-            IfSome o (λ known. AreAllRead known marks (after - first) new more)
+        by : (o : Option (List ℕ)) → IfSome o (λ known. AreBlocksRead known places (after - first) new more) →
+            IfSome o (λ known. IsBlockRead known start lacking before after out len is_lost) →
+            IfSome o (λ known. AreAllRead known places (after - first) new more)
         by None blocks block = tt
         by (Some known) blocks block = record {
           blocks = blocks;
@@ -203,11 +204,11 @@ module _ {read out new : List ℕ} {lost more : List Bool} {len : ℕ} {is_lost 
 -- ---- all blocks
 
 -- as many bytes as the largest extent has are all that matters
-pub all_read_full : (raw : Option (List ℕ)) (marks lost : List Bool) (read : List ℕ) (failures : ℕ) →
-    length read ≡ max_extent_bytes → IfSome raw (λ known. AreBlocksRead known marks failures read lost) →
-    IfSome raw (λ known. AreAllRead known marks failures read lost)
-all_read_full None marks lost read failures full blocks = tt
-all_read_full (Some known) marks lost read failures full blocks = record { blocks = blocks; ended = inr full }
+pub all_read_full : (raw : Option (List ℕ)) (places : List ℕ) (lost : List Bool) (read : List ℕ) (failures : ℕ) →
+    length read ≡ max_extent_bytes → IfSome raw (λ known. AreBlocksRead known places failures read lost) →
+    IfSome raw (λ known. AreAllRead known places failures read lost)
+all_read_full None places lost read failures full blocks = tt
+all_read_full (Some known) places lost read failures full blocks = record { blocks = blocks; ended = inr full }
 
 -- bytes begin with themselves
 pub begins_itself : (bytes : List ℕ) → BeginsWith bytes bytes
@@ -229,8 +230,8 @@ left_there bytes lost i x is = by (get_or lost (i / 512) false) refl is
     by true e h = absurd (none-some x h)
     by false e h = ((λ marked. false≢true (sym e ∙ marked)), h)
 
-module _ {known : List ℕ} {marks lost : List Bool} {failures : ℕ} {read : List ℕ}
-    (all : AreAllRead known marks failures read lost) where
+module _ {known places : List ℕ} {lost : List Bool} {failures : ℕ} {read : List ℕ}
+    (all : AreAllRead known places failures read lost) where
   -- below byte 2^26 those of what was read are those of the raw image
   pub same_left : (i : ℕ) → i < max_extent_bytes → byte_left known lost i ≡ byte_left read lost i
   same_left i small = by (get_or lost (i / 512) false) refl
@@ -250,10 +251,10 @@ module _ {known : List ℕ} {marks lost : List Bool} {failures : ℕ} {read : Li
       by false e = unlost (λ marked. false≢true (sym e ∙ marked))
 
   -- and only those blocks are lost that may be
-  pub loses_blocks : AreBlockMarks read lost → LosesBlocks known marks failures lost
+  pub loses_blocks : AreBlockMarks read lost → LosesBlocks known places failures lost
   loses_blocks blocks = record {
     few_blocks = blocks.few;
-    marked = λ n hn before_end m. all.blocks.marked n (listed n hn before_end) before_end m;
+    lacks = λ n hn l. all.blocks.lacks n (listed n hn (omega (arith, l.before_end))) l;
     failed = all.blocks.failed;
     few = all.blocks.few;
     only = all.blocks.only;

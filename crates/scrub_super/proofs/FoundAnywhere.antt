@@ -36,29 +36,29 @@ same_records {at} {also} same h = record {
   );
 }
 
-found_in : (known : List ℕ) (marks : List Bool) (failures : ℕ) {lost : List Bool} {read : List ℕ} {records : List FoundRecord} {ranges : List LostBytes} →
-    AreAllRead known marks failures read lost → AreBlockMarks read lost →
-    AreFoundRecords (byte_left read lost) records → AreLostRanges lost ranges → AreFoundWith known marks failures records ranges
-found_in known marks failures {lost} all blocks hr hl = record {
+found_in : (known : List ℕ) (lacking : List ℕ) (failures : ℕ) {lost : List Bool} {read : List ℕ} {records : List FoundRecord} {ranges : List LostBytes} →
+    AreAllRead known lacking failures read lost → AreBlockMarks read lost →
+    AreFoundRecords (byte_left read lost) records → AreLostRanges lost ranges → AreFoundWith known lacking failures records ranges
+found_in known lacking failures {lost} all blocks hr hl = record {
   lost = lost;
   loses = loses_blocks all blocks;
   found = record { records_are = same_records (λ i small. sym (same_left all i small)) hr; ranges_are = hl };
 }
 
 -- in the raw image's bytes if they are known, or else in those that were read
-pub found_known : (raw : Option (List ℕ)) (marks : List Bool) (failures : ℕ) {lost : List Bool} {read : List ℕ} {records : List FoundRecord} {ranges : List LostBytes} →
-    IfSome raw (λ known. AreAllRead known marks failures read lost) → AreBlockMarks read lost →
+pub found_known : (raw : Option (List ℕ)) (lacking : List ℕ) (failures : ℕ) {lost : List Bool} {read : List ℕ} {records : List FoundRecord} {ranges : List LostBytes} →
+    IfSome raw (λ known. AreAllRead known lacking failures read lost) → AreBlockMarks read lost →
     AreFoundRecords (byte_left read lost) records → AreLostRanges lost ranges →
-    AreAllRead read marks failures read lost → AreFoundInSome raw marks failures records ranges
-found_known None marks failures {lost} {read} all blocks hr hl own = record {
+    AreAllRead read lacking failures read lost → AreFoundInSome raw lacking failures records ranges
+found_known None lacking failures {lost} {read} all blocks hr hl own = record {
   bytes = read;
   known = tt;
-  found = found_in read marks failures own blocks hr hl;
+  found = found_in read lacking failures own blocks hr hl;
 }
-found_known (Some known) marks failures all blocks hr hl own = record {
+found_known (Some known) lacking failures all blocks hr hl own = record {
   bytes = known;
   known = refl;
-  found = found_in known marks failures all blocks hr hl;
+  found = found_in known lacking failures all blocks hr hl;
 }
 
 pub one_answer_lem : (bytes : List ℕ) (lost : List Bool) (a b : List FoundRecord) (r s : List LostBytes) →

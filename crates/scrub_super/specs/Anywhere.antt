@@ -42,16 +42,16 @@ pub record AreFoundAnywhere (bytes : List ℕ) (lost : List Bool) (records : Lis
   pub records_are : AreFoundRecords (byte_left bytes lost) records
   pub ranges_are : AreLostRanges lost ranges
 
--- all superblock records of raw bytes, and all lost bytes, for some lost blocks that fit these marks and this number of
--- failures
-pub record AreFoundWith (bytes : List ℕ) (marks : List Bool) (failures : ℕ) (records : List FoundRecord) (ranges : List LostBytes) : Type 0 where
+-- all superblock records of raw bytes, and all lost bytes, for some lost blocks that fit these first lacking bytes and this
+-- number of failures
+pub record AreFoundWith (bytes lacking : List ℕ) (failures : ℕ) (records : List FoundRecord) (ranges : List LostBytes) : Type 0 where
   pub lost : List Bool
-  pub loses : LosesBlocks bytes marks failures lost
+  pub loses : LosesBlocks bytes lacking failures lost
   pub found : AreFoundAnywhere bytes lost records ranges
 
 -- the same for some bytes: those of the raw image if they are known, or else any that it may have had when it was read
-pub record AreFoundInSome (raw : Option (List ℕ)) (marks : List Bool) (failures : ℕ) (records : List FoundRecord)
+pub record AreFoundInSome (raw : Option (List ℕ)) (lacking : List ℕ) (failures : ℕ) (records : List FoundRecord)
     (ranges : List LostBytes) : Type 0 where
   pub bytes : List ℕ
   pub known : IfSome raw (λ text. bytes ≡ text)
-  pub found : AreFoundWith bytes marks failures records ranges
+  pub found : AreFoundWith bytes lacking failures records ranges

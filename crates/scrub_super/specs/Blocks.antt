@@ -10,14 +10,21 @@ IsMarked marks n = slice_index_or marks n false ≡ true
 abbrev pub byte_left : List ℕ → List Bool → ℕ → Option ℕ
 byte_left bytes lost i = if slice_index_or lost (i / 512) false then None else slice_get bytes i
 
--- among the blocks of 512 bytes below byte 2^26 each marked one that begins before the end is lost, and of the others only
--- those that failures cost, listed here by their numbers, at most as many as the failures that were counted
-pub record LosesBlocks (bytes : List ℕ) (marks : List Bool) (failures : ℕ) (lost : List Bool) : Type 0 where
+-- block n of 512 bytes lacks a byte before the end: the first one that it lacks, whose place is counted from the block's
+-- start, is in the block and before the end; a block past the list of places lacks none
+pub record LacksByte (bytes places : List ℕ) (n : ℕ) : Type 0 where
+  pub in_block : slice_index_or places n 512 < 512
+  pub before_end : n * 512 + slice_index_or places n 512 < len bytes
+
+-- among the blocks of 512 bytes below byte 2^26 each is lost that lacks a byte before the end, by the places of the first
+-- lacking bytes, and of the others only those that failures cost, listed here by their numbers, at most as many as the
+-- failures that were counted
+pub record LosesBlocks (bytes lacking : List ℕ) (failures : ℕ) (lost : List Bool) : Type 0 where
   pub few_blocks : len lost ≤ 2 ^ 17
-  pub marked : (n : ℕ) → n < 2 ^ 17 → n * 512 < len bytes → IsMarked marks n → IsMarked lost n
+  pub lacks : (n : ℕ) → n < 2 ^ 17 → LacksByte bytes lacking n → IsMarked lost n
   pub failed : List ℕ
   pub few : len failed ≤ failures
-  pub only : (n : ℕ) → IsMarked lost n → ((n * 512 < len bytes) × IsMarked marks n) ⊎ Contains failed n
+  pub only : (n : ℕ) → IsMarked lost n → LacksByte bytes lacking n ⊎ Contains failed n
 
 -- the blocks from `first` on up to `stop` are lost, and the ones before and behind them aren't
 pub record IsLostRun (lost : List Bool) (first stop : ℕ) : Type 0 where

@@ -9,14 +9,15 @@ use Rattle.scrub_super.specs.declared.anywhere.LostBytes.{LostBytes}
 use Rattle.scrub_super.specs.Contents.{Contents}
 use Rattle.scrub_super.specs.Record.{BeginsWithRecord, record_bytes}
 use Rattle.scrub_super.specs.Pages.{kind_of}
-use Rattle.scrub_super.specs.Blocks.{IsMarked}
+use Rattle.scrub_super.specs.Blocks.{IsMarked, LacksByte}
 
--- a block at an offset gave `n` bytes in the front of `out`, or is lost, by its mark or because a failure was counted
-pub record IsBlockRead (bytes : List ℕ) (offset : ℕ) (is_marked : Bool) (before after : ℕ) (out : List ℕ) (n : ℕ) (is_lost : Bool) : Type 0 where
+-- a block at an offset gave `n` bytes in the front of `out`, or is lost, because its first lacking byte is before the end or
+-- because a failure was counted
+pub record IsBlockRead (bytes : List ℕ) (offset lacking before after : ℕ) (out : List ℕ) (n : ℕ) (is_lost : Bool) : Type 0 where
   pub read : is_lost ≡ false → AreBytesAt (slice_get bytes) offset (take n out)
   pub ended : n < 512 → len bytes ≤ offset + n
-  pub marked : is_marked ≡ true → offset < len bytes → is_lost ≡ true
-  pub only : is_lost ≡ true → ((offset < len bytes) × (is_marked ≡ true)) ⊎ (before < after)
+  pub lacks : lacking < 512 → offset + lacking < len bytes → is_lost ≡ true
+  pub only : is_lost ≡ true → ((lacking < 512) × (offset + lacking < len bytes)) ⊎ (before < after)
 
 -- the first list begins with the bytes of the second
 abbrev pub BeginsWith : List ℕ → List ℕ → Type 0
@@ -28,18 +29,18 @@ pub record AreBlockMarks (bytes : List ℕ) (lost : List Bool) : Type 0 where
   pub few : len lost ≤ 2 ^ 17
   pub begins : (n : ℕ) → IsMarked lost n → n * 512 < len bytes
 
--- the bytes of blocks that aren't lost are those of the raw image, and the lost blocks are the marked ones and those that
--- failures cost
-pub record AreBlocksRead (bytes : List ℕ) (marks : List Bool) (failures : ℕ) (read : List ℕ) (lost : List Bool) : Type 0 where
+-- the bytes of blocks that aren't lost are those of the raw image, and the lost blocks are those that lack a byte and those
+-- that failures cost
+pub record AreBlocksRead (bytes lacking : List ℕ) (failures : ℕ) (read : List ℕ) (lost : List Bool) : Type 0 where
   pub held : (i : ℕ) → i < len read → ¬ IsMarked lost (i / 512) → slice_get bytes i ≡ Some (slice_index read i)
-  pub marked : (n : ℕ) → n < len lost → n * 512 < len bytes → IsMarked marks n → IsMarked lost n
+  pub lacks : (n : ℕ) → n < len lost → LacksByte bytes lacking n → IsMarked lost n
   pub failed : List ℕ
   pub few : len failed ≤ failures
-  pub only : (n : ℕ) → IsMarked lost n → ((n * 512 < len bytes) × IsMarked marks n) ⊎ Contains failed n
+  pub only : (n : ℕ) → IsMarked lost n → LacksByte bytes lacking n ⊎ Contains failed n
 
 -- all that matters was read: up to the end of the raw image, or 2^26 bytes
-pub record AreAllRead (bytes : List ℕ) (marks : List Bool) (failures : ℕ) (read : List ℕ) (lost : List Bool) : Type 0 where
-  pub blocks : AreBlocksRead bytes marks failures read lost
+pub record AreAllRead (bytes lacking : List ℕ) (failures : ℕ) (read : List ℕ) (lost : List Bool) : Type 0 where
+  pub blocks : AreBlocksRead bytes lacking failures read lost
   pub ended : (len bytes ≤ len read) ⊎ (len read ≡ max_extent_bytes)
 
 -- no byte from the offset on up to `end` is lost, and at `end` the bytes end or one is lost

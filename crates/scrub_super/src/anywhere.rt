@@ -47,23 +47,24 @@ pub struct FoundSuperblocks {
 /// begins at one of its page bounds, ends in its extent 0, and has no byte in a lost block. The image is read once, in
 /// blocks of 512 bytes, up to byte 67,108,864 or its end.
 ///
-/// A block is lost if a read for it failed, or if it is marked and begins before the end. `marked` has a mark for each of
-/// the first blocks; a block past the list's end isn't marked. If the last reads fail, the end of the image isn't known,
-/// and their blocks are lost too. Memory: the bytes, a mark for each block, and the two lists.
+/// A block is lost if a read for it failed, or if it lacks a byte before the end. `lacking` has for each of the first
+/// blocks the place of the first byte that it lacks, counted from the block's start: 512 or more says that it lacks none, as
+/// does a block past the list's end. If the last reads fail, the end of the image isn't known, and their blocks are lost too.
+/// Memory: the bytes, a mark for each block, and the two lists.
 pub fn find_superblocks<R: RawImage>(
     alloc: Global,
     raw: &mut R,
-    marked: &[bool],
+    lacking: &[u32],
 ) -> Result<FoundSuperblocks, OutOfMemory>
     requires few_reads { R.reads raw.old < 2 ^ 62 }
     ensures found { IfOk result (λ f.
-        AreFoundInSome (R.bytes raw.old) marked.now (R.failures raw.new - R.failures raw.old) f.records.items f.lost.items) }
+        AreFoundInSome (R.bytes raw.old) lacking.now (R.failures raw.new - R.failures raw.old) f.records.items f.lost.items) }
     ensures failures { R.failures raw.old ≤ R.failures raw.new }
     ensures same_bytes { R.bytes raw.new ≡ R.bytes raw.old }
     ensures same_bound { R.most_failures raw.new ≡ R.most_failures raw.old }
     ensures reads { R.reads raw.new ≤ R.reads raw.old + max_extent_bytes }
 {
-    let blocks = blocks::read_blocks(alloc, raw, marked)?;
+    let blocks = blocks::read_blocks(alloc, raw, lacking)?;
     let records = search::find_records(alloc, &blocks.bytes, &blocks.lost)?;
     let lost = ranges::lost_ranges(alloc, &blocks.lost)?;
     Ok(FoundSuperblocks { records, lost })

@@ -1,4 +1,4 @@
-//! Tests of whole scrubs: reports, indexes, listings, and lists longer than in any example.
+//! Tests of whole scrubs: reports, indexes, listings, shards that are read, and lists longer than in any example.
 
 pub mod copies;
 pub mod large;
@@ -10,5 +10,6 @@ pub mod reclaimable;
 pub mod retired;
 pub mod rooms;
 pub mod scrub;
+pub mod shards;
 pub mod sizes;
 pub mod writing;

@@ -9,6 +9,7 @@ mod listings;
 mod meeting;
 mod pausing;
 mod reading_watch;
+mod shards;
 mod taking;
 mod watch;
 

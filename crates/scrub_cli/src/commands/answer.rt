@@ -1,4 +1,4 @@
-//! The answer of a command: its text and its status, for one extent, a whole disk or a raw image. For loading the disk see
+//! The answer of a command: its text and its outcome, for one extent, a whole disk or a raw image. For loading the disk see
 //! `disk_image`, and for writing the answer `running`.
 
 ghost use Rattle.std.specs.Prelude.{◌≡◌, ◌+◌, ◌≤◌, ◌<◌, ◌^◌, IfOk, length};
@@ -7,12 +7,14 @@ ghost use Rattle.std.specs.List.Sorted.{IsStrictlyIncreasing};
 ghost use Rattle.scrub_report.specs.Answer.{IsPartitionOfPlanned};
 ghost use Rattle.scrub_report.specs.Scrubbed.{is_clean_item};
 ghost use Rattle.scrub_cli.specs.Answer.{IsVersionAnswer};
-ghost use Rattle.scrub_cli.specs.Lines.{lines_of, status_of_clean};
+ghost use Rattle.scrub_cli.specs.Lines.{lines_of};
+ghost use Rattle.scrub_cli.specs.Outcome.{outcome_of};
 ghost use Rattle.scrub_cli.specs.Manifest.{IsManifestListed};
 ghost use Rattle.scrub_cli.specs.Scan.{IsDiskAnswer};
 ghost use Rattle.scrub_cli.specs.SizesListed.{AreSizesListed};
 ghost use Rattle.scrub_cli.specs.Superblock.{AreSuperblocksListed};
 
+use crate::process::outcome::Outcome;
 use crate::words::command::VERSION;
 use scrub_disk::{OutOfMemory, PageSource, RawImage};
 use scrub_listings::{list_locators, list_manifest, list_sizes, list_summary, list_superblocks};
@@ -29,18 +31,18 @@ use std::thread::Threads;
 pub struct Answer {
     /// The bytes for the output: lines, each with its line feed, or an index.
     pub text: Vec<u8>,
-    /// The status that the run ends with once all of it is written: 0 clean, 1 findings.
-    pub status: u8,
+    /// How the run ends once all of it is written.
+    pub outcome: Outcome,
 }
 
 impl Answer {
-    /// The answer with this text, and the status 0 if it is clean, else 1.
+    /// The answer with this text, which is clean or has findings.
     fn new(text: Vec<u8>, is_clean: bool) -> Answer
         ensures text { result.text.items ≡ text.items }
-        ensures status { result.status ≡ status_of_clean is_clean }
+        ensures outcome { result.outcome ≡ outcome_of is_clean }
     {
-        let status = if is_clean { 0 } else { 1 };
-        Answer { text, status }
+        let outcome = Outcome::of(is_clean);
+        Answer { text, outcome }
     }
 }
 
@@ -61,11 +63,11 @@ pub enum Wanted<'v, 'a> {
 
 /// The program's name and version.
 pub fn version(alloc: Global) -> Result<Answer, OutOfMemory>
-    ensures { IfOk result (λ a. IsVersionAnswer a.text.items a.status) }
+    ensures { IfOk result (λ a. IsVersionAnswer a.text.items a.outcome) }
 {
     Ok(Answer {
         text: Vec::from_slice(alloc, VERSION.as_bytes())?,
-        status: 0,
+        outcome: Outcome::Clean,
     })
 }
 
@@ -85,7 +87,7 @@ fn lines(alloc: Global, items: &[Item]) -> Result<Vec<u8>, OutOfMemory>
 /// The lines of the items of an extent. The status is 0 if no item is torn, noise or lost, else 1.
 pub fn listing(alloc: Global, items: &[Item]) -> Result<Answer, OutOfMemory>
     ensures text { IfOk result (λ a. a.text.items ≡ lines_of items.now) }
-    ensures status { IfOk result (λ a. a.status ≡ status_of_clean (list_all is_clean_item items.now)) }
+    ensures outcome { IfOk result (λ a. a.outcome ≡ outcome_of (list_all is_clean_item items.now)) }
 {
     let text = lines(alloc, items)?;
     Ok(Answer::new(text, are_clean_items(items)))
@@ -93,23 +95,23 @@ pub fn listing(alloc: Global, items: &[Item]) -> Result<Answer, OutOfMemory>
 
 /// The lines of the superblocks of a disk.
 pub fn superblock_listing<D: PageSource>(alloc: Global, disk: &D) -> Result<Answer, OutOfMemory>
-    ensures { IfOk result (λ a. AreSuperblocksListed (D.image disk.now) a.text.items a.status) }
+    ensures { IfOk result (λ a. AreSuperblocksListed (D.image disk.now) a.text.items a.outcome) }
 {
     let listing = list_superblocks(alloc, disk)?;
     Ok(Answer::new(listing.text, listing.is_clean))
 }
 
-/// The lines of the superblock records of a raw image, whose lost blocks are marked.
+/// The lines of the superblock records of a raw image, whose blocks lack what `lacking` says.
 pub fn sizes_listing<R: RawImage>(
     alloc: Global,
     raw: &mut R,
-    marked: &[bool],
+    lacking: &[u32],
 ) -> Result<Answer, OutOfMemory>
     requires { R.reads raw.old < 2 ^ 62 }
     ensures { IfOk result (λ a. AreSizesListed (record { bytes = R.bytes raw.old; most_failures = R.most_failures raw.old })
-        marked.now a.text.items a.status) }
+        lacking.now a.text.items a.outcome) }
 {
-    let listing = list_sizes(alloc, raw, marked)?;
+    let listing = list_sizes(alloc, raw, lacking)?;
     Ok(Answer::new(listing.text, listing.is_clean))
 }
 
@@ -124,7 +126,7 @@ pub fn disk_answer<R: Threads + Wait + Sync, D: PageSource>(
     wanted: Wanted<'_, '_>,
 ) -> Result<(Answer, Takings), ScrubFault>
     requires { workers ≤ 64 }
-    ensures answer { IfOk result (λ r. IsDiskAnswer wanted.entry (D.image disk.now) r.0.text.items r.0.status) }
+    ensures answer { IfOk result (λ r. IsDiskAnswer wanted.entry (D.image disk.now) r.0.text.items r.0.outcome) }
     ensures workers { IfOk result (λ r. length r.1.lists ≡ workers + 1) }
     ensures partition { IfOk result (λ r. IsPartitionOfPlanned (D.image disk.now) r.1.lists) }
 {
@@ -167,7 +169,7 @@ pub fn manifest_listing<R: Threads + Wait + Sync, D: PageSource>(
 ) -> Result<(Answer, Takings), ScrubFault>
     requires workers { workers ≤ 64 }
     requires rising { IsStrictlyIncreasing resets.now }
-    ensures answer { IfOk result (λ r. IsManifestListed resets.now (D.image disk.now) r.0.text.items r.0.status) }
+    ensures answer { IfOk result (λ r. IsManifestListed resets.now (D.image disk.now) r.0.text.items r.0.outcome) }
     ensures workers { IfOk result (λ r. length r.1.lists ≡ workers + 1) }
     ensures partition { IfOk result (λ r. IsPartitionOfPlanned (D.image disk.now) r.1.lists) }
 {

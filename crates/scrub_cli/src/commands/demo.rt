@@ -94,7 +94,7 @@ pub fn demo<R: Threads + Wait + Sync>(
     rt: &R,
     alloc: Global,
 ) -> Result<(Answer, Takings), ScrubFault>
-    ensures answer { IfOk result (λ r. IsDemoAnswer r.0.text.items r.0.status) }
+    ensures answer { IfOk result (λ r. IsDemoAnswer r.0.text.items r.0.outcome) }
     ensures workers { IfOk result (λ r. length r.1.lists ≡ 3) }
 {
     let disk = demo_disk(alloc)?;

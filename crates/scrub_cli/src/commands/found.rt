@@ -3,7 +3,7 @@
 ghost use Rattle.std.specs.Prelude.{◌≡◌, ◌<◌, ◌^◌, IfOk, MatchResult, Some};
 ghost use Rattle.scrub_cli.specs.Found.{AreSizesFound, AreSizesRead, IsFoundFault, IsGeometryFault, IsGeometryOf};
 
-use crate::commands::rescue::{lost_blocks, rescue_map};
+use crate::commands::rescue::{first_lacking, rescue_map};
 use crate::process::fault::Fault;
 use crate::process::images::Images;
 use crate::words::ImageWords;
@@ -11,16 +11,16 @@ use scrub_disk::{Geometry, OutOfMemory, RawImage};
 use scrub_listings::find_sizes;
 use std::alloc::Global;
 
-/// The sizes that all superblock records in the front of a raw image have, whose lost blocks are marked.
+/// The sizes that all superblock records in the front of a raw image have, whose blocks lack what `lacking` says.
 fn sizes_of<R: RawImage>(
     alloc: Global,
     raw: &mut R,
-    marked: &[bool],
+    lacking: &[u32],
 ) -> Result<Option<Geometry>, OutOfMemory>
     requires { R.reads raw.old < 2 ^ 62 }
-    ensures { IfOk result (AreSizesRead (record { bytes = R.bytes raw.old; most_failures = R.most_failures raw.old }) marked.now) }
+    ensures { IfOk result (AreSizesRead (record { bytes = R.bytes raw.old; most_failures = R.most_failures raw.old }) lacking.now) }
 {
-    find_sizes(alloc, raw, marked)
+    find_sizes(alloc, raw, lacking)
 }
 
 /// The sizes that all superblock records in the front of the image of this name have, without the blocks that the map lacks.
@@ -42,8 +42,8 @@ fn found_geometry<'a, I: Images>(
     let Some(mut raw) = images.image(name) else {
         return Err(Fault::NoImage(name));
     };
-    let marked = lost_blocks(alloc, &map)?;
-    match sizes_of(alloc, &mut raw, &marked)? {
+    let lacking = first_lacking(alloc, &map)?;
+    match sizes_of(alloc, &mut raw, &lacking)? {
         Some(geometry) => Ok(geometry),
         None => Err(Fault::NoSizes),
     }

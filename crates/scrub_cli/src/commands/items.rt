@@ -22,7 +22,7 @@ pub fn items<'a, R: Threads + Sync, I: Images>(
 ) -> Result<Answer, Fault<'a>>
     ensures { MatchResult result
         (λ a. IsItemsAnswer (I.known images.old words.now.image.name.now) (I.known_map images.old) words.now
-        a.text.items a.status)
+        a.text.items a.outcome)
         (IsItemsFault (I.known images.old words.now.image.name.now) (I.known_map images.old) words.now) }
 {
     let image = &words.image;

@@ -37,12 +37,12 @@ pub fn manifest<'a, R: Threads + Wait + Sync, I: Images>(
     requires rising { IsStrictlyIncreasing words.now.resets.items }
     ensures answer { MatchResult result
         (λ r. IsManifestAnswer (I.known images.old words.now.scan.image.name.now) (I.known_map images.old) words.now
-        r.0.text.items r.0.status)
+        r.0.text.items r.0.outcome)
         (IsManifestFault (I.known images.old words.now.scan.image.name.now) (I.known_map images.old) words.now) }
     ensures workers { IfOk result (λ r. length r.1.lists ≡ words.now.scan.workers + 1) }
     ensures takings { IfOk result
         (λ r. AreManifestTakings (I.known images.old words.now.scan.image.name.now) (I.known_map images.old) words.now
-        r.0.text.items r.0.status r.1.lists) }
+        r.0.text.items r.0.outcome r.1.lists) }
 {
     let image = &words.scan.image;
     let geometry = geometry_of(alloc, image, images)?;

@@ -5,7 +5,7 @@ ghost use Rattle.std.specs.Prelude.{◌≡◌, ◌*◌, IfOk, List, MatchResult,
 ghost use Rattle.scrub_disk.specs.Parted.{image_of};
 ghost use Rattle.scrub_map.specs.declared.block.MapBlock.{MapBlock};
 ghost use Rattle.scrub_map.specs.Kept.{KeepsBlocks};
-ghost use Rattle.scrub_cli.specs.SizesListed.{AreMarksOf};
+ghost use Rattle.scrub_cli.specs.SizesListed.{AreLackingBy};
 ghost use Rattle.scrub_cli.specs.Rescue.{IsMapFault, IsMapNamed, KeepsMap, LosesByMap, LosesMarked, LosesPages};
 
 use crate::process::fault::Fault;
@@ -44,13 +44,14 @@ const BLOCKS: usize = 1 << 17;
 /// Bytes of a block, which is lost as a whole if the sizes of the disk aren't known.
 const BLOCK: u32 = 512;
 
-/// Whether the map lacks each of the first blocks of 512 bytes; empty without a map.
-pub fn lost_blocks(alloc: Global, map: &Option<RescueMap>) -> Result<Vec<bool>, OutOfMemory>
-    ensures { IfOk result (λ marks. (blocks : Option (List MapBlock)) → KeepsMap map.now blocks →
-        AreMarksOf blocks marks.items) }
+/// The place of the first byte that the map lacks in each of the first blocks of 512 bytes, counted from the block's start;
+/// empty without a map.
+pub fn first_lacking(alloc: Global, map: &Option<RescueMap>) -> Result<Vec<u32>, OutOfMemory>
+    ensures { IfOk result (λ places. (blocks : Option (List MapBlock)) → KeepsMap map.now blocks →
+        AreLackingBy blocks places.items) }
 {
     match map {
-        Some(map) => map.lost_blocks(alloc, BLOCK, BLOCKS),
+        Some(map) => map.first_lacking(alloc, BLOCK, BLOCKS),
         None => Ok(Vec::new(alloc)),
     }
 }

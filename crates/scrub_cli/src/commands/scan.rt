@@ -1,14 +1,7 @@
 //! The commands on a whole disk in an image file: `scan`, `index`, `locators`, `summary` and `reclaimable`, which scan it, and
 //! `superblocks`, which reads its extent 0. For `manifest` see `manifest`.
 
-ghost use Rattle.std.specs.Prelude.{◌≡◌, ◌+◌, ◌≤◌, ℕ, List, IfOk, MatchResult, None, Some, length};
-ghost use Rattle.scrub_disk.specs.declared.geometry.Geometry.{Geometry};
-ghost use Rattle.scrub_disk.specs.Faults.{HasSizes};
-ghost use Rattle.scrub_cli.specs.declared.commands.answer.Wanted.{Wanted};
-ghost use Rattle.scrub_cli.specs.declared.words.GivenSizes.{GivenSizes};
-ghost use Rattle.scrub_cli.specs.declared.words.ImageWords.{ImageWords};
-ghost use Rattle.scrub_cli.specs.Found.{AreSizesFound};
-ghost use Rattle.scrub_cli.specs.Known.{KnownMaps};
+ghost use Rattle.std.specs.Prelude.{◌≡◌, ◌+◌, ◌≤◌, IfOk, MatchResult, length};
 ghost use Rattle.scrub_disk.specs.Parted.{image_of};
 ghost use Rattle.scrub_cli.specs.Scan.{AreTakingsOf, IsDiskOf, IsScanAnswer, IsScanFault};
 ghost use Rattle.scrub_cli.specs.Superblock.{IsSuperblocksAnswer};
@@ -53,12 +46,12 @@ pub fn scan<'a, R: Threads + Wait + Sync, I: Images>(
     requires { words.now.workers ≤ 64 }
     ensures answer { MatchResult result
         (λ r. IsScanAnswer wanted.entry (I.known images.old words.now.image.name.now) (I.known_map images.old) words.now.image
-        r.0.text.items r.0.status)
+        r.0.text.items r.0.outcome)
         (IsScanFault (I.known images.old words.now.image.name.now) (I.known_map images.old) words.now.image) }
     ensures workers { IfOk result (λ r. length r.1.lists ≡ words.now.workers + 1) }
     ensures takings { IfOk result
         (λ r. AreTakingsOf wanted.entry (I.known images.old words.now.image.name.now) (I.known_map images.old) words.now.image
-        r.0.text.items r.0.status r.1.lists) }
+        r.0.text.items r.0.outcome r.1.lists) }
 {
     let disk = disk_of(rt, alloc, &words.image, images)?;
     Ok(disk_answer(rt, alloc, &disk, words.workers, wanted)?)
@@ -73,19 +66,9 @@ pub fn superblocks<'a, R: Threads + Sync, I: Images>(
 ) -> Result<Answer, Fault<'a>>
     ensures { MatchResult result
         (λ a. IsSuperblocksAnswer (I.known images.old words.now.name.now) (I.known_map images.old) words.now
-        a.text.items a.status)
+        a.text.items a.outcome)
         (IsScanFault (I.known images.old words.now.name.now) (I.known_map images.old) words.now) }
 {
     let disk = disk_of(rt, alloc, words, images)?;
     Ok(superblock_listing(alloc, &disk)?)
 }
-
-/// A law: if the bytes of an image are known, and all its records have these sizes, an answer without sizes is one with them.
-pub fn sizes_may_be_left_out()
-    ensures { (bytes : List ℕ) (most : ℕ) (maps : KnownMaps) (wanted : Wanted) (words : ImageWords) (g : Geometry) (s : GivenSizes)
-        (text : List ℕ) (status : ℕ) → words.sizes ≡ None →
-        AreSizesFound (record { bytes = Some bytes; most_failures = most }) maps words.map (Some g) →
-        HasSizes g s.page s.pages s.extents →
-        IsScanAnswer wanted (record { bytes = Some bytes; most_failures = most }) maps words text status →
-        IsScanAnswer wanted (record { bytes = Some bytes; most_failures = most }) maps (record words { sizes = Some s }) text status }
-{}

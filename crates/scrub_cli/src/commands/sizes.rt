@@ -4,7 +4,7 @@ ghost use Rattle.std.specs.Prelude.{◌≡◌, IfOk, MatchResult};
 ghost use Rattle.scrub_cli.specs.SizesListed.{IsSizesAnswer, IsSizesFault};
 
 use crate::commands::answer::{Answer, sizes_listing};
-use crate::commands::rescue::{lost_blocks, rescue_map};
+use crate::commands::rescue::{first_lacking, rescue_map};
 use crate::process::fault::Fault;
 use crate::process::images::Images;
 use crate::words::SizesWords;
@@ -18,13 +18,13 @@ pub fn sizes<'a, I: Images>(
     images: &mut I,
 ) -> Result<Answer, Fault<'a>>
     ensures { MatchResult result
-        (λ a. IsSizesAnswer (I.known images.old words.now.name.now) (I.known_map images.old) words.now a.text.items a.status)
+        (λ a. IsSizesAnswer (I.known images.old words.now.name.now) (I.known_map images.old) words.now a.text.items a.outcome)
         (IsSizesFault (I.known_map images.old) words.now) }
 {
     let map = rescue_map(alloc, words.map, images)?;
     let Some(mut raw) = images.image(words.name) else {
         return Err(Fault::NoImage(words.name));
     };
-    let marked = lost_blocks(alloc, &map)?;
-    Ok(sizes_listing(alloc, &mut raw, &marked)?)
+    let lacking = first_lacking(alloc, &map)?;
+    Ok(sizes_listing(alloc, &mut raw, &lacking)?)
 }

@@ -5,6 +5,7 @@ ghost use Rattle.std.specs.Fmt.{decimal};
 ghost use Rattle.std.specs.Io.KnownBytes.{Appends};
 ghost use Rattle.scrub_cli.specs.declared.process.fault.Fault.TheVariants.{Geometry, OutOfMemory};
 ghost use Rattle.scrub_cli.specs.Fault.{line, text_of};
+ghost use Rattle.scrub_listings.specs.Manifest.{two_digits};
 ghost use Rattle.scrub_report.specs.Output.{AppendsFront};
 
 use crate::process::decimal::write_decimal;
@@ -30,6 +31,8 @@ pub enum Fault<'a> {
     NoSizes,
     /// The disk has no such extent, or it is extent 0 and can't be reset.
     Extent,
+    /// This argument isn't the identifier of a shard.
+    BadShard(&'a str),
     /// The write pointer is past the end of the extent.
     Pointer,
     /// This argument isn't `EXTENT:PAGE`, or the disk has no such page.
@@ -42,6 +45,10 @@ pub enum Fault<'a> {
     NoImage(&'a str),
     /// The image has a byte after the disk's last page.
     TooLong,
+    /// The shard map has no such shard.
+    NoShard,
+    /// The payload of this number, from 0 in the order of the shard's entry, is lost. It is the first such.
+    PayloadLost(usize),
     /// The output failed after this many bytes.
     Output { written: usize },
     /// Memory ran out.
@@ -132,11 +139,13 @@ impl Fault<'_> {
     {
         match self {
             Fault::Help(_) => 0,
+            Fault::NoShard | Fault::PayloadLost(_) => 1,
             Fault::NotUtf8
             | Fault::Words(_)
             | Fault::Geometry(_)
             | Fault::NoSizes
             | Fault::Extent
+            | Fault::BadShard(_)
             | Fault::Pointer
             | Fault::BadPage(_)
             | Fault::MapLine(_) => 2,
@@ -157,12 +166,15 @@ impl Fault<'_> {
             Fault::Geometry(fault) => write_line(err, "geometry refused: ", limit(*fault)),
             Fault::NoSizes => write_line(err, "sizes not found: run shardscrub sizes", ""),
             Fault::Extent => write_line(err, "extent out of range", ""),
+            Fault::BadShard(word) => write_line(err, "shard refused: ", word),
             Fault::Pointer => write_line(err, "pointer out of range", ""),
             Fault::BadPage(word) => write_line(err, "bad page refused: ", word),
             Fault::NoMap(name) => write_line(err, "map cannot be opened: ", name),
             Fault::MapLine(line) => write_number(err, "map refused: line ", *line as usize, ""),
             Fault::NoImage(name) => write_line(err, "image cannot be opened: ", name),
             Fault::TooLong => write_line(err, "image too long", ""),
+            Fault::NoShard => write_line(err, "no such shard", ""),
+            Fault::PayloadLost(number) => write_number(err, before_number(*number), *number, ""),
             Fault::Output { written } => write_number(
                 err,
                 "output failed after ",
@@ -196,8 +208,19 @@ fn limit(fault: GeometryFault) -> &'static str
     }
 }
 
+/// What comes before the number of a lost payload, which has two digits.
+fn before_number(number: usize) -> &'static str
+    ensures { result.now ++ decimal number ≡ codes "payload lost: " ++ two_digits number }
+{
+    if number < 10 {
+        "payload lost: 0"
+    } else {
+        "payload lost: "
+    }
+}
+
 /// Writes a line: the program's name, then two parts.
-fn write_line<E: Write>(err: &mut E, what: &str, which: &str) -> Result<(), WriteFault>
+pub fn write_line<E: Write>(err: &mut E, what: &str, which: &str) -> Result<(), WriteFault>
     ensures front { AppendsFront (E.contents err.old) (E.contents err.new) (line (what.now ++ which.now)) }
     ensures whole { OnOk result (Appends (E.contents err.old) (E.contents err.new) (line (what.now ++ which.now))) }
 {

@@ -419,6 +419,64 @@ fn the_first_of_several_faults_is_reported(rt: HostRuntime) -> Result<(), Fail> 
     Ok(())
 }
 
+/// The same for the identifier of a shard, with sizes and without: each case also has the faults of all cases below it.
+#[test]
+fn the_place_of_a_refused_identifier_among_the_faults(rt: HostRuntime) -> Result<(), Fail> {
+    for (words, status, expected) in [
+        (
+            "--page 60 --pages 4 --extents 3 --id 0 other.img 1:4",
+            2,
+            "geometry refused: PageSize",
+        ),
+        (
+            "--page 64 --pages 4 --extents 3 --id 0 other.img 1:4",
+            2,
+            "shard refused: 0",
+        ),
+        (
+            "--page 64 --pages 4 --extents 3 --id 0123456789abcdefABCDEF0123456789 other.img 1:4",
+            2,
+            "bad page refused: 1:4",
+        ),
+        (
+            "--page 64 --pages 4 --extents 3 --id 0123456789abcdefABCDEF0123456789 other.img 1:3",
+            3,
+            "image cannot be opened: other.img",
+        ),
+        (
+            "--page 64 --pages 4 --extents 3 --id 0123456789abcdefABCDEF0123456789 disk.img 1:3",
+            3,
+            "image too long",
+        ),
+        (
+            "--id 0 --map disk.map other.img 1:4",
+            2,
+            "map refused: line 1",
+        ),
+        (
+            "--id 0 other.img 1:4",
+            3,
+            "image cannot be opened: other.img",
+        ),
+        (
+            "--id 0 disk.img 1:4",
+            2,
+            "sizes not found: run shardscrub sizes",
+        ),
+    ] {
+        let words = format!(in rt.alloc(); "shard {words}")?;
+        let expected = format!(in rt.alloc(); "shardscrub: {expected}\n")?;
+        check(
+            &rt,
+            rt.alloc(),
+            &words,
+            image(&[0; 769]),
+            (status, "", &expected),
+        )?;
+    }
+    Ok(())
+}
+
 #[test]
 fn a_fault_of_the_error_stream_is_ignored(rt: HostRuntime) -> Result<(), Fail> {
     for fails in [true, false] {
@@ -470,6 +528,8 @@ fn invalid_arguments_are_refused(rt: HostRuntime) -> Result<(), Fail> {
         "scan --page 64 --pages 4 --extents 3 --workers 65 disk.img",
         "index --page 64 --pages 4 --extents 3",
         "locators --page 64 --pages 4 --extents 3",
+        "shard --page 64 --pages 4 --extents 3 disk.img",
+        "shard --page 64 --id 00000000000000000000000000000001 disk.img",
         "locators --page 64 --pages 4 --extents 3 --extent 1 disk.img",
         "superblocks --page 64 --pages 4 --extents 3 --workers 1 disk.img",
         "reclaimable --page 64 --pages 4 --extents 3 --accept tie disk.img",
@@ -484,7 +544,7 @@ fn invalid_arguments_are_refused(rt: HostRuntime) -> Result<(), Fail> {
 #[test]
 fn the_version_goes_to_the_output(rt: HostRuntime) -> Result<(), Fail> {
     for words in ["--version", "-V"] {
-        let wanted = (0, "shardscrub 2.0.0\n", "");
+        let wanted = (0, "shardscrub 2.1.0\n", "");
         check(&rt, rt.alloc(), words, image(&[]), wanted)?;
     }
     Ok(())

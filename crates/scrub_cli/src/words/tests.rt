@@ -72,7 +72,7 @@ fn items_with_all_options(rt: HostRuntime) -> Result<(), Fail> {
 }
 
 #[test]
-fn scan_index_locators_manifest_and_summary_with_their_arguments(
+fn scan_index_locators_manifest_shard_and_summary_with_their_arguments(
     rt: HostRuntime,
 ) -> Result<(), Fail> {
     let words = "scan --page 64 --pages 4 --extents 3 disk.img 1:3 x 2:0";
@@ -103,6 +103,13 @@ fn scan_index_locators_manifest_and_summary_with_their_arguments(
     };
     check_image(&rt, &manifest.scan.image);
     assert!(rt; manifest.scan.workers == 2 && manifest.resets.is_empty());
+    let words = "shard --page 64 --id 00X --workers 0 --extents 3 --pages 4 disk.img 1:3 x 2:0";
+    let split: Vec<&str> = words.split_whitespace().collect(rt.alloc())?;
+    let Request::Shard(shard) = read_words(rt.alloc(), &split)? else {
+        panic!(rt; "not shard");
+    };
+    check_image(&rt, &shard.scan.image);
+    assert!(rt; shard.scan.workers == 0 && shard.id == "00X");
     let words = "summary --page 64 --workers=3 --extents 3 --pages 4 disk.img 1:3 x 2:0";
     let split: Vec<&str> = words.split_whitespace().collect(rt.alloc())?;
     let Request::Summary(summary) = read_words(rt.alloc(), &split)? else {
@@ -322,6 +329,7 @@ fn the_help_of_the_program_and_of_each_command(rt: HostRuntime) -> Result<(), Fa
             "Usage: shardscrub [COMMAND]",
             "\n  summary ",
             "\n  scan ",
+            "\n  shard ",
             "\n  index ",
             "\n  locators ",
             "\n  manifest ",
@@ -331,7 +339,7 @@ fn the_help_of_the_program_and_of_each_command(rt: HostRuntime) -> Result<(), Fa
             "\n  items ",
             "\n  demo ",
             "Exit status",
-            "shardscrub scan --page 64 --pages 4 --extents 3 examples/one-shard.img",
+            "\n  shardscrub summary examples/one-shard.img",
             "--extent 1 --pointer 41 examples/one-shard.img",
         ],
     )?;
@@ -360,7 +368,7 @@ fn the_help_of_the_program_and_of_each_command(rt: HostRuntime) -> Result<(), Fa
             "[EXTENT:PAGE]...",
             "\n  sealed ",
             "Exit status",
-            "--extent 1 --pointer 41 examples/one-chunk.img",
+            "--extent 1 --pointer 41 examples/one-shard.img",
         ],
     )
 }
@@ -382,7 +390,7 @@ fn the_help_of_the_commands_on_a_disk(rt: HostRuntime) -> Result<(), Fail> {
             "\n  dangling ",
             "torn, noise or lost",
             "Exit status",
-            "\n  shardscrub scan --page 64 --pages 4 --extents 3 examples/one-shard.img",
+            "\n  shardscrub scan examples/one-shard.img",
         ],
     )?;
     check_help(
@@ -410,7 +418,7 @@ fn the_help_of_the_commands_on_a_disk(rt: HostRuntime) -> Result<(), Fail> {
             "\n  STATUS ",
             "wrong_digest",
             "Exit status",
-            "\n  shardscrub locators --page 64 --pages 4 --extents 3 examples/one-shard.img",
+            "\n  shardscrub locators examples/one-shard.img",
             "\n  shard 00000000000000000000000000000001 1 0 3 11111111-1111-1111-1111-111111111111 sound\n",
         ],
     )?;
@@ -432,6 +440,22 @@ fn the_help_of_the_commands_on_a_disk(rt: HostRuntime) -> Result<(), Fail> {
     )?;
     check_help(
         &rt,
+        "shard --help",
+        &[
+            "Usage: shardscrub shard",
+            "--workers <COUNT>",
+            "--id <ID>",
+            "Without --page, --pages and --extents",
+            "[EXTENT:PAGE]...",
+            "\n  no such shard ",
+            "\n  payload lost: NUMBER ",
+            "a newer entry may be lost",
+            "Exit status",
+            "\n  shardscrub shard --id 00000000000000000000000000000001 examples/one-shard.img > restored",
+        ],
+    )?;
+    check_help(
+        &rt,
         "summary --help",
         &[
             "Usage: shardscrub summary",
@@ -440,7 +464,7 @@ fn the_help_of_the_commands_on_a_disk(rt: HostRuntime) -> Result<(), Fail> {
             "\n  verdict WORD ",
             "\n  candidates candidate_bytes chunks_to_move\n",
             "Exit status",
-            "\n  shardscrub summary --page 64 --pages 4 --extents 3 examples/one-shard.img",
+            "\n  shardscrub summary examples/one-shard.img",
             "\n  verdict sound\n",
         ],
     )

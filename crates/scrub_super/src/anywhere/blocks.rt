@@ -1,6 +1,6 @@
 //! Reads the front of a raw image in blocks of 512 bytes, some of which may be lost. `search` looks at the bytes.
 
-ghost use Rattle.std.specs.Prelude.{◌≡◌, ◌+◌, ◌-◌, ◌*◌, ◌<◌, ◌≤◌, ◌^◌, ◌++◌, ◌∷◌, [], true, false, ℕ, List, IfOk, IfSome, OnErr, OnOk, length, slice_get, slice_index_or, take};
+ghost use Rattle.std.specs.Prelude.{◌≡◌, ◌+◌, ◌-◌, ◌*◌, ◌<◌, ◌≤◌, ◌^◌, ◌++◌, ◌∷◌, [], true, ℕ, List, IfOk, IfSome, OnErr, OnOk, length, slice_get, slice_index_or, take};
 ghost use Rattle.scrub_disk.specs.Limits.{max_extent_bytes};
 ghost use Rattle.scrub_disk.specs.Image.{AreBytesAt};
 ghost use Rattle.scrub_super.specs.BlocksRead.{AreAllRead, AreBlockMarks, IsBlockRead};
@@ -56,19 +56,20 @@ fn read_front<R: RawImage>(raw: &mut R, offset: u64, out: &mut [u8]) -> Result<u
     Ok(done)
 }
 
-/// Reads a block into `out`, which has its size. A block that can't be read counts as whole, and is lost.
-fn read_block<R: RawImage>(raw: &mut R, offset: u64, is_marked: bool, out: &mut [u8]) -> Block
+/// Reads a block into `out`, which has its size. A block that can't be read counts as whole, and is lost. `lacking` is the
+/// place of the first byte that the block lacks, 512 if it lacks none: if the image ends before it, the block isn't lost.
+fn read_block<R: RawImage>(raw: &mut R, offset: u64, lacking: usize, out: &mut [u8]) -> Block
     requires few_reads { R.reads raw.old + 512 < 2 ^ 63 }
     requires in_range { offset + 512 < 2 ^ 64 }
     requires size { length out.old ≡ 512 }
     ensures within { result.len ≤ 512 }
     ensures lost { result.is_lost ≡ true → 0 < result.len }
     ensures read { IfSome (R.bytes raw.old) (λ bytes.
-        IsBlockRead bytes offset is_marked (R.failures raw.old) (R.failures raw.new) out.new result.len result.is_lost) }
+        IsBlockRead bytes offset lacking (R.failures raw.old) (R.failures raw.new) out.new result.len result.is_lost) }
     // The same of any bytes that hold what was read.
     ensures own { (bytes : List ℕ) → AreBytesAt (slice_get bytes) offset (take result.len out.new) →
         (result.len < 512 → length bytes ≤ offset + result.len) →
-        IsBlockRead bytes offset is_marked (R.failures raw.old) (R.failures raw.new) out.new result.len result.is_lost }
+        IsBlockRead bytes offset lacking (R.failures raw.old) (R.failures raw.new) out.new result.len result.is_lost }
     ensures failures { R.failures raw.old ≤ R.failures raw.new }
     ensures same_bytes { R.bytes raw.new ≡ R.bytes raw.old }
     ensures same_bound { R.most_failures raw.new ≡ R.most_failures raw.old }
@@ -77,7 +78,7 @@ fn read_block<R: RawImage>(raw: &mut R, offset: u64, is_marked: bool, out: &mut 
     match read_front(raw, offset, out) {
         Ok(len) => Block {
             len,
-            is_lost: is_marked && len > 0,
+            is_lost: lacking < len,
         },
         Err(_) => Block {
             len: BLOCK_BYTES,
@@ -86,11 +87,15 @@ fn read_block<R: RawImage>(raw: &mut R, offset: u64, is_marked: bool, out: &mut 
     }
 }
 
-/// Whether a block is marked. A block past the list's end isn't marked.
-fn is_marked(marks: &[bool], number: usize) -> bool
-    ensures { result ≡ slice_index_or marks.now number false }
+/// The place of the first byte that a block lacks. A block past the list's end lacks none.
+fn first_lacking(places: &[u32], number: usize) -> usize
+    ensures { result ≡ slice_index_or places.now number 512 }
 {
-    number < marks.len() && marks[number]
+    if number < places.len() {
+        places[number] as usize
+    } else {
+        BLOCK_BYTES
+    }
 }
 
 /// Adds a block behind those so far.
@@ -107,15 +112,15 @@ fn add_block(blocks: &mut Blocks, bytes: &[u8], is_lost: bool) -> Result<(), Out
 pub(crate) fn read_blocks<R: RawImage>(
     alloc: Global,
     raw: &mut R,
-    marked: &[bool],
+    lacking: &[u32],
 ) -> Result<Blocks, OutOfMemory>
     requires few_reads { R.reads raw.old < 2 ^ 62 }
     ensures marks { IfOk result (λ b. AreBlockMarks b.bytes.items b.lost.items) }
     ensures read { IfOk result (λ b. IfSome (R.bytes raw.old) (λ known.
-        AreAllRead known marked.now (R.failures raw.new - R.failures raw.old) b.bytes.items b.lost.items)) }
+        AreAllRead known lacking.now (R.failures raw.new - R.failures raw.old) b.bytes.items b.lost.items)) }
     // The bytes that were read could be those of the raw image.
     ensures own { IfOk result (λ b.
-        AreAllRead b.bytes.items marked.now (R.failures raw.new - R.failures raw.old) b.bytes.items b.lost.items) }
+        AreAllRead b.bytes.items lacking.now (R.failures raw.new - R.failures raw.old) b.bytes.items b.lost.items) }
     ensures failures { R.failures raw.old ≤ R.failures raw.new }
     ensures same_bytes { R.bytes raw.new ≡ R.bytes raw.old }
     ensures same_bound { R.most_failures raw.new ≡ R.most_failures raw.old }
@@ -128,7 +133,7 @@ pub(crate) fn read_blocks<R: RawImage>(
     let mut buffer = [0u8; BLOCK_BYTES];
     for number in 0..MOST_BLOCKS {
         let start = number as u64 * BLOCK_BYTES as u64;
-        let block = read_block(raw, start, is_marked(marked, number), &mut buffer);
+        let block = read_block(raw, start, first_lacking(lacking, number), &mut buffer);
         add_block(&mut blocks, &buffer[..block.len], block.is_lost)?;
         if block.len < BLOCK_BYTES {
             break;

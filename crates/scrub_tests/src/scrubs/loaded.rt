@@ -141,16 +141,16 @@ fn a_last_read_that_fails_is_no_fault(rt: HostRuntime) -> Result<(), Fail> {
     Ok(())
 }
 
-/// The bytes of the superblock are all there, marked as lost, or zeros.
+/// The bytes of the superblock are all there, lack the first one, or are zeros.
 #[test]
 fn the_sizes_of_a_disk_are_those_of_its_superblock(rt: HostRuntime) -> Result<(), Fail> {
     let bytes = raw_bytes(&rt, rt.alloc())?;
-    for (raw, marked, wanted) in [
-        (bytes.as_slice(), [false].as_slice(), Some(small_geometry())),
-        (bytes.as_slice(), [true].as_slice(), None),
-        ([0; 768].as_slice(), [false].as_slice(), None),
+    for (raw, lacking, wanted) in [
+        (bytes.as_slice(), [512].as_slice(), Some(small_geometry())),
+        (bytes.as_slice(), [0].as_slice(), None),
+        ([0; 768].as_slice(), [512].as_slice(), None),
     ] {
-        let found = find_sizes(rt.alloc(), &mut RawBytes::new(raw), marked)?;
+        let found = find_sizes(rt.alloc(), &mut RawBytes::new(raw), lacking)?;
         same(&rt, found, wanted);
     }
     Ok(())

@@ -4,7 +4,7 @@ use Rattle.clap.specs.Words.{Text}
 use Rattle.scrub_cli.specs.declared.commands.answer.Wanted.TheVariants.{Reclaimable as what_is_reclaimable}
 use Rattle.scrub_cli.specs.Scan.{IsScanAnswer, IsScanFault}
 use Rattle.scrub_cli.specs.Words.{AskFor, texts}
-use Rattle.scrub_cli.specs.declared.words.Request.TheVariants.{Items, Scan, Index, Locators, Manifest, Summary, Reclaimable, Superblocks, Sizes}
+use Rattle.scrub_cli.specs.declared.words.Request.TheVariants.{Items, Scan, Index, Locators, Manifest, Shard, Summary, Reclaimable, Superblocks, Sizes}
 use Rattle.scrub_cli.proofs.RunAnswers.{answered}
 use Rattle.scrub_cli.proofs.WordsFound.{few_workers}
 use Rattle.scrub_cli.proofs.running.answer.Goals as goal
@@ -41,6 +41,12 @@ manifest_answer-requires g c =
       (search rules, (few_workers asked.1.0 c.in-Manifest.words.scan.workers asked.1.2.scan.workers, asked.1.2.resets.rising)),
     )
 
+pub shard_answer-requires : goal.shard_answer-requires
+shard_answer-requires g c =
+    let asked : AskFor (map (λ word. word.now) c.args.words.now) (Shard c.in-Shard.words) =
+    rw c.in-Shard.is at c.in_ok-read_words.ensures in
+    (search rules, (search rules, few_workers asked.1.0 c.in-Shard.words.scan.workers asked.1.2.scan.workers))
+
 pub scan_answer-requires-in-Summary : goal.scan_answer-requires-in-Summary
 scan_answer-requires-in-Summary g c =
     let asked : AskFor (map (λ word. word.now) c.args.words.now) (Summary c.in-Summary.words) =
@@ -70,6 +76,12 @@ returns-in-Manifest g c =
     answered (g.I.Images.known c.args.images.now) (g.I.Images.known_map c.args.images.now)
     (map (λ word. word.now) c.args.words.now) (Manifest c.in-Manifest.words) c.manifest_answer.result
     (rw c.in-Manifest.is at c.in_ok-read_words.ensures) c.manifest_answer.ensures
+
+pub returns-in-Shard : goal.returns-in-Shard
+returns-in-Shard g c =
+    answered (g.I.Images.known c.args.images.now) (g.I.Images.known_map c.args.images.now)
+    (map (λ word. word.now) c.args.words.now) (Shard c.in-Shard.words) c.shard_answer.result
+    (rw c.in-Shard.is at c.in_ok-read_words.ensures) c.shard_answer.ensures
 
 pub returns-in-Summary : goal.returns-in-Summary
 returns-in-Summary g c =
@@ -105,6 +117,6 @@ returns-in-Reclaimable g c =
     c.scan_answer-in-Reclaimable.result (rw c.in-Reclaimable.is at c.in_ok-read_words.ensures)
     (subst
     (λ (words : List Text). MatchResult c.scan_answer-in-Reclaimable.result
-    (λ a. IsScanAnswer (what_is_reclaimable words) (known image.name.now) maps image a.text.items a.status)
+    (λ a. IsScanAnswer (what_is_reclaimable words) (known image.name.now) maps image a.text.items a.outcome)
     (IsScanFault (known image.name.now) maps image))
     given c.scan_answer-in-Reclaimable.ensures)

@@ -1,13 +1,12 @@
 -- The whole answer was written, or the fault of the output is reported.
-use Rattle.std.proofs.Common.{inl, inr, refl}
-use Rattle.std.proofs.KnownBytes.{Keeps-refl}
+use Rattle.std.proofs.Common.{inl, inr}
 use Rattle.scrub_cli.proofs.running.give.Goals as goal
 
 pub returns-in-Ok : goal.returns-in-Ok
 returns-in-Ok g c = inl (record {
-  status = refl;
+  status = c.status.ensures;
   whole = rw c.deref.ensures.value at c.in-Ok.ensures.whole;
-  silent = Keeps-refl (g.E.Write.contents c.args.err.now);
+  warns = c.warn.ensures;
 })
 
 pub returns-in-Err : goal.returns-in-Err

@@ -1,6 +1,6 @@
 -- Each value was accepted as a number, and is read as it.
-use Rattle.std.proofs.Common.{◌≡◌, ◌∙◌, List, Option, Some, ap}
-use Rattle.clap.specs.Words.{Text, found_of, many_of, rows_of, values_left}
+use Rattle.std.proofs.Common.{◌≡◌, ◌∙◌, Some, ap}
+use Rattle.clap.specs.Words.{found_of, many_of, rows_of, values_left}
 use Rattle.clap.proofs.WalkLemmas.{typed_values-rows}
 use Rattle.scrub_cli.proofs.Numbers.{all_read, each_number, next_read, no_numbers, none_fails, none_read, numbers_found}
 use Rattle.scrub_cli.proofs.words.numbers.Goals as goal

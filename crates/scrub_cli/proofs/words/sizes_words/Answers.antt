@@ -6,6 +6,6 @@ use Rattle.scrub_cli.proofs.words.sizes_words.Goals as goal
 
 pub returns : goal.returns
 returns c = record {
-  name = c.image_name.ensures;
+  name = c.text.ensures;
   map_name = c.get_str.ensures ∙ first_value-rows (found_of c.args.matches.now) (codes "map");
 }

@@ -68,6 +68,34 @@ fn one_shard(alloc: Global) -> Result<(Vec<u8>, Vec<u8>), Fail> {
     Ok((disk, payload))
 }
 
+/// The bytes of the shard, that there is no such shard, and that its payload is lost; with sizes and without.
+#[test]
+fn the_bytes_of_a_shard(rt: HostRuntime) -> Result<(), Fail> {
+    let (disk, _) = one_shard(rt.alloc())?;
+    for (words, wanted) in [
+        (
+            "--id 00000000000000000000000000000001 disk.img",
+            (0, "abc", ""),
+        ),
+        (
+            "--page 64 --pages 4 --extents 3 --workers 0 --id 00000000000000000000000000000001 disk.img 1:3",
+            (0, "abc", ""),
+        ),
+        (
+            "--id 00000000000000000000000000000002 disk.img",
+            (1, "", "shardscrub: no such shard\n"),
+        ),
+        (
+            "--id 00000000000000000000000000000001 disk.img 1:0",
+            (1, "", "shardscrub: payload lost: 00\n"),
+        ),
+    ] {
+        let words = format!(in rt.alloc(); "shard {words}")?;
+        check(&rt, rt.alloc(), &words, image(&disk), wanted)?;
+    }
+    Ok(())
+}
+
 /// The payload of a run of two shards, which both name the chunk at byte 41 of extent 1.
 fn run_of_two(alloc: Global) -> Result<Vec<u8>, Fail> {
     let mut run = Vec::from_slice(alloc, b"RUN1")?;

@@ -12,5 +12,5 @@ returns g c =
       few = omega (arith, bound, same);
       is_clean = listing.is_clean;
       listed = rw c.new.ensures.text c.in_ok-listing.ensures.listing;
-      ended = c.new.ensures.status;
+      ended = c.new.ensures.outcome;
     }

@@ -1,5 +1,5 @@
 -- The map wasn't read, there is no image of this name, or the sizes of its records are found, or none.
-use Rattle.std.proofs.Common.{◌≡◌, ◌∙◌, ap, refl, subst, List, ℕ, Option, Some, None}
+use Rattle.std.proofs.Common.{◌∙◌, ap, refl, subst, List, ℕ, None}
 use Rattle.std.proofs.lemmas.Result.{err_from_is_err_and}
 use Rattle.scrub_cli.specs.Known.{KnownRaw}
 use Rattle.scrub_cli.specs.Found.{AreSizesRead}
@@ -24,11 +24,11 @@ returns-clause-geometry g c =
     record {
       blocks = map.blocks;
       mapped = map.are;
-      marks = c.in_ok-marked.marked.items;
-      marked = c.in_ok-marked.ensures map.blocks map.keeps;
+      lacking = c.in_ok-lacking.lacking.items;
+      lacks = c.in_ok-lacking.ensures map.blocks map.keeps;
       read =
           subst
-          (λ marks. AreSizesRead known marks None)
+          (λ lacking. AreSizesRead known lacking None)
           c.deref.ensures.value
           (read_as_known known _ _ _ _ (c.in-Some.ensures.known ∙ ap (λ k. k.bytes) same)
           (c.in-Some.ensures.bounded ∙ ap (λ k. k.most_failures) same)

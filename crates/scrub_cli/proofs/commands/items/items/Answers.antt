@@ -4,7 +4,8 @@ use Rattle.std.specs.List.{list_all}
 use Rattle.std.proofs.lemmas.Result.{err_from_is_err_and}
 use Rattle.scrub_disk.specs.Parted.{image_of}
 use Rattle.scrub_report.specs.Scrubbed.{is_clean_item}
-use Rattle.scrub_cli.specs.Lines.{lines_of, status_of_clean}
+use Rattle.scrub_cli.specs.Lines.{lines_of}
+use Rattle.scrub_cli.specs.Outcome.{outcome_of}
 use Rattle.scrub_cli.proofs.ItemsAnswers.{placed, pointer_fault, items_disk_fault, items_geometry_fault, items_answer}
 use Rattle.scrub_cli.proofs.commands.items.items.Goals as goal
 
@@ -56,11 +57,11 @@ returns g c =
     let answer = c.in_ok-listing.field-0 in
     let tiling = c.in_ok-tiling.tiling in
     items_answer known (g.I.Images.known_map c.args.images.now) words disk (image_of c.in_ok-disk.disk)
-    c.unwrap_or-pointer.result answer.text.items answer.status at.0
+    c.unwrap_or-pointer.result answer.text.items answer.outcome at.0
     (rw (c.geometry_of.ensures.same_images, c.geometry_of.ensures.same_maps) at c.in_ok-disk.ensures) at.1
     (record {
       items = tiling;
       tiled = c.in_ok-tiling.ensures;
       spelled = c.in_ok-listing.ensures.text ∙ ap lines_of c.as_slice.ensures;
-      ended = c.in_ok-listing.ensures.status ∙ ap (λ is. status_of_clean (list_all is_clean_item is)) c.as_slice.ensures;
+      ended = c.in_ok-listing.ensures.outcome ∙ ap (λ is. outcome_of (list_all is_clean_item is)) c.as_slice.ensures;
     })

@@ -24,11 +24,11 @@ returns g c =
     record {
       blocks = map.blocks;
       mapped = map.are;
-      marks = c.in_ok-marked.marked.items;
-      marked = c.in_ok-marked.ensures map.blocks map.keeps;
+      lacking = c.in_ok-lacking.lacking.items;
+      lacks = c.in_ok-lacking.ensures map.blocks map.keeps;
       listed =
           subst
-          (λ marks. AreSizesListed known marks c.in_ok-sizes_listing.field-0.text.items c.in_ok-sizes_listing.field-0.status)
+          (λ lacking. AreSizesListed known lacking c.in_ok-sizes_listing.field-0.text.items c.in_ok-sizes_listing.field-0.outcome)
           c.deref.ensures.value
           (listed_as_known known _ _ _ _ _ (c.in-Some.ensures.known ∙ ap (λ k. k.bytes) same)
           (c.in-Some.ensures.bounded ∙ ap (λ k. k.most_failures) same)

@@ -14,9 +14,9 @@ invariant-loop-number g l = record {
   marks : length l.blocks.lost.items ≡ l.number;
   begins : (n : ℕ) → IsMarked l.blocks.lost.items n → n * 512 < length l.blocks.bytes.items;
   read : IfSome (g.R.RawImage.bytes l.initial.raw) (λ known.
-      AreBlocksRead known l.marked (g.R.RawImage.failures l.raw - g.R.RawImage.failures l.initial.raw)
+      AreBlocksRead known l.lacking (g.R.RawImage.failures l.raw - g.R.RawImage.failures l.initial.raw)
       l.blocks.bytes.items l.blocks.lost.items);
   own : (known : List ℕ) → BeginsWith known l.blocks.bytes.items →
-      AreBlocksRead known l.marked (g.R.RawImage.failures l.raw - g.R.RawImage.failures l.initial.raw)
+      AreBlocksRead known l.lacking (g.R.RawImage.failures l.raw - g.R.RawImage.failures l.initial.raw)
       l.blocks.bytes.items l.blocks.lost.items;
 }

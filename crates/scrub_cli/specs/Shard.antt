@@ -1,0 +1,84 @@
+-- What the command `shard` answers for an image file, and why it doesn't.
+use Rattle.std.specs.Prelude.{◌≡◌, ◌⊎◌, ℕ, List}
+use Rattle.scrub_disk.specs.declared.geometry.Geometry.{Geometry as Sizes}
+use Rattle.scrub_disk.specs.Image.{Image}
+use Rattle.scrub_report.specs.Answer.{IsPartitionOfPlanned}
+use Rattle.scrub_run.specs.declared.shard_id.ShardId.{ShardId}
+use Rattle.scrub_shard.specs.Shard.{IsShardAnswer}
+use Rattle.scrub_shard.specs.declared.shard.ShardAnswer.{ShardAnswer}
+use Rattle.scrub_shard.specs.declared.shard.ShardAnswer.TheVariants.{NoSuchShard, PayloadLost as payload_is_lost, Found}
+use Rattle.scrub_cli.specs.declared.process.fault.Fault.{Fault}
+use Rattle.scrub_cli.specs.declared.process.fault.Fault.TheVariants.{Geometry, NoSizes, BadShard, NoMap, MapLine, NoImage, NoShard, PayloadLost, OutOfMemory}
+use Rattle.scrub_cli.specs.declared.process.outcome.Outcome.{Outcome}
+use Rattle.scrub_cli.specs.declared.words.ShardWords.{ShardWords}
+use Rattle.scrub_cli.specs.DiskImage.{IsLoadedDisk, IsDiskFault}
+use Rattle.scrub_cli.specs.Found.{IsGeometryFault, IsGeometryOf}
+use Rattle.scrub_cli.specs.Known.{KnownMaps, KnownRaw}
+use Rattle.scrub_cli.specs.Outcome.{outcome_of_shard}
+use Rattle.scrub_cli.specs.ShardId.{IsIdText, IsNoIdText}
+
+-- the text is the bytes that were found, and the outcome says whether the entry is doubtful
+abbrev pub IsWrittenFor : ShardAnswer → List ℕ → Outcome → Type 0
+IsWrittenFor (Found found) text outcome = (text ≡ found.bytes) × (outcome ≡ outcome_of_shard found.is_doubtful)
+IsWrittenFor answer text outcome = ⊥
+
+-- the fault for a shard that isn't there, or that has a lost payload
+abbrev pub IsFaultFor : ShardAnswer → Fault → Type 0
+IsFaultFor NoSuchShard fault = fault ≡ NoShard
+IsFaultFor (payload_is_lost number) fault = fault ≡ PayloadLost number
+IsFaultFor (Found found) fault = ⊥
+
+-- the disk has these sizes, and the argument is this identifier
+pub record IsNamed (known : KnownRaw) (maps : KnownMaps) (words : ShardWords) (g : Sizes) (id : ShardId) : Type 0 where
+  pub sizes : IsGeometryOf known maps words.scan.image g
+  pub id_is : IsIdText words.id.now id
+
+-- the answer for the shard that is named, in an image that was loaded from this raw image
+pub record IsShardRead (known : KnownRaw) (maps : KnownMaps) (words : ShardWords) (image : Image) (answer : ShardAnswer) : Type 0 where
+  pub geometry : Sizes
+  pub id : ShardId
+  pub named : IsNamed known maps words geometry id
+  pub loaded : IsLoadedDisk known maps words.scan.image geometry image
+  pub answered : IsShardAnswer image id answer
+
+-- the answer of `shard`: the bytes of the shard that is named
+pub record IsShardWritten (known : KnownRaw) (maps : KnownMaps) (words : ShardWords) (text : List ℕ) (outcome : Outcome) : Type 0 where
+  pub image : Image
+  pub answer : ShardAnswer
+  pub is_read : IsShardRead known maps words image answer
+  pub written : IsWrittenFor answer text outcome
+
+-- that answer, and each planned extent of the image is in one of the lists, once
+pub record AreShardTakings (known : KnownRaw) (maps : KnownMaps) (words : ShardWords) (text : List ℕ) (outcome : Outcome)
+    (lists : List (List ℕ)) : Type 0 where
+  pub image : Image
+  pub answer : ShardAnswer
+  pub is_read : IsShardRead known maps words image answer
+  pub written : IsWrittenFor answer text outcome
+  pub partition : IsPartitionOfPlanned image lists
+
+-- the shard that is named isn't there, or has a lost payload, and this is the fault for that
+pub record IsShardLost (known : KnownRaw) (maps : KnownMaps) (words : ShardWords) (fault : Fault) : Type 0 where
+  pub image : Image
+  pub answer : ShardAnswer
+  pub is_read : IsShardRead known maps words image answer
+  pub why : IsFaultFor answer fault
+
+-- why no disk is loaded, though a shard is named
+abbrev pub IsFaultAfterId : KnownRaw → KnownMaps → ShardWords → Fault → Type 0
+IsFaultAfterId known maps words fault =
+    (g : Sizes) × (id : ShardId) × IsNamed known maps words g id × IsDiskFault known maps words.scan.image g fault
+
+-- why no bytes are written: each fault only if none before it applies, or memory ran out, anywhere
+abbrev pub IsShardFault : KnownRaw → KnownMaps → ShardWords → Fault → Type 0
+IsShardFault known maps words (Geometry fault) = IsGeometryFault known maps words.scan.image (Geometry fault)
+IsShardFault known maps words NoSizes = IsGeometryFault known maps words.scan.image NoSizes
+IsShardFault known maps words (BadShard text) =
+    (g : Sizes) × IsGeometryOf known maps words.scan.image g × (text ≡ words.id) × IsNoIdText words.id.now
+IsShardFault known maps words NoShard = IsShardLost known maps words NoShard
+IsShardFault known maps words (PayloadLost number) = IsShardLost known maps words (PayloadLost number)
+IsShardFault known maps words OutOfMemory = Unit {0}
+IsShardFault known maps words (NoMap name) = IsGeometryFault known maps words.scan.image (NoMap name) ⊎ IsFaultAfterId known maps words (NoMap name)
+IsShardFault known maps words (MapLine k) = IsGeometryFault known maps words.scan.image (MapLine k) ⊎ IsFaultAfterId known maps words (MapLine k)
+IsShardFault known maps words (NoImage name) = IsGeometryFault known maps words.scan.image (NoImage name) ⊎ IsFaultAfterId known maps words (NoImage name)
+IsShardFault known maps words fault = IsFaultAfterId known maps words fault

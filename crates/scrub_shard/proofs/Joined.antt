@@ -1,0 +1,63 @@
+-- The payloads for the locators of a shard, one directly after another, by the spares that were found and by those that they
+-- have.
+use Rattle.std.proofs.Common.{◌≡◌, ◌<◌, ◌≤◌, ◌+◌, ◌++◌, ◌∷◌, [], ℕ, List, length, get_or, take, refl, sym, ◌∙◌, ap, subst}
+use Rattle.std.specs.List.{All, AllZip, flat_map}
+use Rattle.std.proofs.lemmas.Grind.{flat_map-append}
+use Rattle.std.proofs.lemmas.List.{append-nil, take_all}
+use Rattle.std.proofs.lemmas.List.Elements.{All-head, All-tail}
+use Rattle.scrub_disk.specs.Image.{Image}
+use Rattle.scrub_disk.proofs.Zips.{AllZip-take_more}
+use Rattle.scrub_scan.specs.declared.standing.Standing.{Standing}
+use Rattle.scrub_scan.specs.Scanned.{Scanned}
+use Rattle.scrub_check.specs.declared.statuses.checked.Checked.{Checked}
+use Rattle.scrub_check.specs.Spares.{spares_by, spares_of}
+use Rattle.scrub_shard.specs.Shard.{AreBytesFor, IsPayloadFor, IsPayloadOf}
+use Rattle.scrub_shard.specs.Steps.{AreBytesBy, IsPayloadBy}
+
+module _ (image : Image) (found : List Standing) (own : List Checked) where
+  -- none so far
+  pub none : AreBytesBy image found (take 0 own) []
+  none = record { payloads = []; each = tt; joined = refl }
+
+  -- one more
+  pub one_more : (i : ℕ) (one : Checked) (bytes more payload : List ℕ) → i < length own → AreBytesBy image found (take i own) bytes →
+      one ≡ get_or own i one → IsPayloadBy image found one payload → more ≡ bytes ++ payload →
+      AreBytesBy image found (take (i + 1) own) more
+  one_more i one bytes more payload below so_far is next grown = record {
+    payloads = so_far.payloads ++ payload ∷ [];
+    each =
+        AllZip-take_more (IsPayloadBy image found) own so_far.payloads (so_far.payloads ++ payload ∷ []) i one payload below
+        so_far.each (subst (λ (c : Checked). IsPayloadBy image found c payload) is next) refl;
+    joined =
+        grown
+        ∙ ap (λ (b : List ℕ). b ++ payload) so_far.joined
+        ∙ ap (λ (b : List ℕ). flat_map (λ (p : List ℕ). p) so_far.payloads ++ b) (sym (append-nil payload))
+        ∙ sym (flat_map-append (λ (p : List ℕ). p) so_far.payloads (payload ∷ []));
+  }
+
+  -- all
+  pub all_of_them : (i : ℕ) (bytes : List ℕ) → length own ≤ i → AreBytesBy image found (take i own) bytes → AreBytesBy image found own bytes
+  all_of_them i bytes end so_far = subst (λ (cs : List Checked). AreBytesBy image found cs bytes) (take_all i own end) so_far
+
+-- the spares that were found are those that the locator has
+abbrev pub HasItsSpares : List Scanned → List Standing → Checked → Type 0
+HasItsSpares all found c = spares_by found c ≡ spares_of all c
+
+zipped : (image : Image) (all : List Scanned) (found : List Standing) (own : List Checked) (payloads : List (List ℕ)) →
+    All (HasItsSpares all found) own → AllZip (IsPayloadBy image found) own payloads → AllZip (IsPayloadFor image all) own payloads
+zipped image all found [] [] same each = tt
+zipped image all found [] (p ∷ ps) same each = each
+zipped image all found (c ∷ cs) [] same each = each
+zipped image all found (c ∷ cs) (p ∷ ps) same each = (
+  subst (λ (ss : List Standing). IsPayloadOf image ss c p) (All-head (HasItsSpares all found) c cs same) each.0,
+  zipped image all found cs ps (All-tail (HasItsSpares all found) c cs same) each.1,
+)
+
+-- so the bytes by them are those of the locators
+pub bytes_are : (image : Image) (all : List Scanned) (found : List Standing) (own : List Checked) (bytes : List ℕ) →
+    All (HasItsSpares all found) own → AreBytesBy image found own bytes → AreBytesFor image all own bytes
+bytes_are image all found own bytes same by = record {
+  payloads = by.payloads;
+  each = zipped image all found own by.payloads same by.each;
+  joined = by.joined;
+}

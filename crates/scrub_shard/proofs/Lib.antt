@@ -1,0 +1,6 @@
+mod Frames
+mod Joined
+mod Lost
+mod Answered
+mod OneAnswer
+mod Contents

@@ -1,0 +1,122 @@
+-- Which locators have no payload: the first of them, and that all others have one that can be read.
+use Rattle.std.proofs.Common.{◌≡◌, ◌⊎◌, ◌<◌, ◌≤◌, ◌+◌, ◌==◌, ◌&&◌, ◌∷◌, [], ℕ, Bool, true, false, not, List, MatchBool, Option, Some, None, length, get_or, nat_lt, cond, if◌then◌else◌, arith, inl, inr, refl, sym, ◌∙◌, ap, subst}
+use Rattle.std.specs.List.{All, position, position_or_len}
+use Rattle.std.proofs.lemmas.Bool.{false≢true}
+use Rattle.std.proofs.lemmas.Bool.Decides.{nat_tests}
+use Rattle.std.proofs.lemmas.Option.{none-some, same_Some}
+use Rattle.std.proofs.lemmas.List.Elements.{All-contains_itself, All-filter, All-head, All-nil, All-tail}
+use Rattle.std.proofs.lemmas.List.Sums.{fails_before_first, passes_at_first}
+use Rattle.scrub_disk.specs.Image.{Image}
+use Rattle.scrub_super.specs.Plan.{PlanValue}
+use Rattle.scrub_scan.specs.declared.standing.Standing.{Standing}
+use Rattle.scrub_scan.specs.Scanned.{Scanned}
+use Rattle.scrub_scan.specs.Standing.{Stands}
+use Rattle.scrub_check.specs.declared.statuses.checked.Checked.{Checked}
+use Rattle.scrub_check.specs.declared.statuses.status.Status.{Status}
+use Rattle.scrub_check.specs.declared.statuses.status.Status.TheVariants.{OutOfRange, Retired, PastPointer, Unreadable, NoFrame, WrongUuid, WrongLength, WrongDigest, Hidden, Sound}
+use Rattle.scrub_check.specs.Checked.{HaveStatuses, is_dangling}
+use Rattle.scrub_check.specs.ChunkRun.{StandsThere}
+use Rattle.scrub_check.specs.Spares.{AreSpares, asks_for_spares, copies_of, frames, is_copy_of, spares_by, spares_of}
+use Rattle.scrub_check.specs.Status.{HasStatusIn}
+use Rattle.scrub_check.specs.WholeScan.{IsWholeScan}
+use Rattle.scrub_check.proofs.Payloads.{stands_there}
+use Rattle.scrub_listings.specs.Manifest.{is_without_spare}
+use Rattle.scrub_shard.specs.Shard.{first_lost}
+use Rattle.scrub_shard.specs.Steps.{AreReadable, HasPayloadLeft, is_lost_by}
+use Rattle.scrub_shard.proofs.Frames.{frames_stand}
+use Rattle.scrub_shard.proofs.Joined.{HasItsSpares}
+
+-- ---- the first that passes
+
+-- no element passes if there is no first that does
+pub none_passes : {X : Type 0} (p : X → Bool) (xs : List X) → position p xs ≡ None → All (λ x. p x ≡ false) xs
+none_passes {X} p xs none k d below = fails_before_first p xs k d (omega (arith, below, end (nat_lt (position_or_len p xs) (length xs)) refl none))
+  where
+    end : (b : Bool) → nat_lt (position_or_len p xs) (length xs) ≡ b → cond b (Some (position_or_len p xs)) None ≡ None →
+        length xs ≤ position_or_len p xs
+    end true less e = absurd (none-some (position_or_len p xs) (sym e))
+    end false less e = grind (arith, nat_tests)
+
+-- the first that does is there, and passes
+pub first_passes : {X : Type 0} (p : X → Bool) (xs : List X) (n : ℕ) (d : X) → position p xs ≡ Some n →
+    (n < length xs) × (p (get_or xs n d) ≡ true)
+first_passes {X} p xs n d is = by (nat_lt (position_or_len p xs) (length xs)) refl is
+  where
+    by : (b : Bool) → nat_lt (position_or_len p xs) (length xs) ≡ b → cond b (Some (position_or_len p xs)) None ≡ Some n →
+        (n < length xs) × (p (get_or xs n d) ≡ true)
+    by false less e = absurd (none-some n e)
+    by true less e =
+        let within : position_or_len p xs < length xs = grind (arith, nat_tests) in
+        subst (λ (m : ℕ). (m < length xs) × (p (get_or xs m d) ≡ true)) (same_Some (position_or_len p xs) n e)
+        (within, passes_at_first p xs d within)
+
+-- two tests that agree on all elements have the same first
+lengths_agree : {X : Type 0} (p q : X → Bool) (xs : List X) → All (λ x. p x ≡ q x) xs → position_or_len p xs ≡ position_or_len q xs
+lengths_agree p q [] same = refl
+lengths_agree {X} p q (x ∷ xs) same =
+    (λ i. cond (not (All-head (λ (y : X). p y ≡ q y) x xs same i)) (1 + lengths_agree p q xs (All-tail (λ (y : X). p y ≡ q y) x xs same) i) 0)
+
+firsts_agree : {X : Type 0} (p q : X → Bool) (xs : List X) → All (λ x. p x ≡ q x) xs → position p xs ≡ position q xs
+firsts_agree p q xs same =
+    ap (λ (n : ℕ). cond (nat_lt n (length xs)) (Some n) None) (lengths_agree p q xs same)
+
+-- ---- the locators of an entry
+
+module _ (all : List Scanned) (found : List Standing) (own : List Checked) where
+  -- each has the spares that were found for it
+  pub have_spares : AreSpares all own found → All (HasItsSpares all found) own
+  have_spares are k d below = are (get_or own k d) (All-contains_itself own k d below)
+
+  -- so the first lost one is the same by them
+  pub same_lost : All (HasItsSpares all found) own → position (is_lost_by found) own ≡ first_lost all own
+  same_lost same =
+      firsts_agree (is_lost_by found) (is_without_spare all) own
+      (λ k d below. ap (λ (ss : List Standing). is_dangling (get_or own k d).status && (length ss == 0)) (same k d below))
+
+-- a locator that doesn't dangle is sound or hidden
+not_dangling : (s : Status) → is_dangling s ≡ false → (s ≡ Sound) ⊎ (s ≡ Hidden)
+not_dangling OutOfRange e = absurd (false≢true (sym e))
+not_dangling Retired e = absurd (false≢true (sym e))
+not_dangling PastPointer e = absurd (false≢true (sym e))
+not_dangling Unreadable e = absurd (false≢true (sym e))
+not_dangling NoFrame e = absurd (false≢true (sym e))
+not_dangling WrongUuid e = absurd (false≢true (sym e))
+not_dangling WrongLength e = absurd (false≢true (sym e))
+not_dangling WrongDigest e = absurd (false≢true (sym e))
+not_dangling Hidden e = inr refl
+not_dangling Sound e = inl refl
+
+-- the spares of a locator stand in the image
+spares_stand : (image : Image) (plan : PlanValue) (all : List Scanned) (c : Checked) → IsWholeScan image plan all →
+    All (Stands image) (spares_of all c)
+spares_stand image plan all c whole = by (asks_for_spares c)
+  where
+    by : (b : Bool) → All (Stands image) (if b then copies_of all c.locator else [])
+    by true = All-filter (is_copy_of c.locator) (Stands image) (frames all) (frames_stand image plan all whole)
+    by false = All-nil (Stands image)
+
+-- a locator that isn't lost can be read
+pub can_be_read : (image : Image) (plan : PlanValue) (all : List Scanned) (found : List Standing) (c : Checked) →
+    IsWholeScan image plan all → HasStatusIn image plan c.locator c.status → HasItsSpares all found c → is_lost_by found c ≡ false →
+    HasPayloadLeft image found c
+can_be_read image plan all found c whole status same kept = by (is_dangling c.status) refl kept
+  where
+    some : (ss : List Standing) → (length ss == 0) ≡ false → 0 < length ss
+    some [] e = absurd (false≢true (sym e))
+    some (s ∷ ss) e = omega arith
+
+    by : (b : Bool) → is_dangling c.status ≡ b → (b && (length (spares_by found c) == 0)) ≡ false →
+        MatchBool b (AreReadable image (spares_by found c)) (StandsThere image c.locator)
+    by true dangling e = record {
+      some = some (spares_by found c) e;
+      stand = subst (λ (ss : List Standing). All (Stands image) ss) (sym same) (spares_stand image plan all c whole);
+    }
+    by false dangling e = stands_there image plan c.locator c.status (not_dangling c.status dangling) status
+
+-- so each can if none is lost
+pub all_can_be_read : (image : Image) (plan : PlanValue) (all : List Scanned) (found : List Standing) (own : List Checked) →
+    IsWholeScan image plan all → HaveStatuses image plan own → All (HasItsSpares all found) own →
+    position (is_lost_by found) own ≡ None → All (HasPayloadLeft image found) own
+all_can_be_read image plan all found own whole statuses same none k d below =
+    can_be_read image plan all found (get_or own k d) whole (statuses k d below) (same k d below)
+    (none_passes (is_lost_by found) own none k d below)

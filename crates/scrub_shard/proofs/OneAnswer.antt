@@ -1,0 +1,160 @@
+-- There is one answer for each shard of an image, since what is found on it up to its shard map is unique.
+use Rattle.std.proofs.Common.{◌≡◌, ◌<◌, ◌∷◌, [], ℕ, Bool, true, false, List, MatchBool, length, get_or, arith, inl, inr, refl, sym, ◌∙◌, ap, subst}
+use Rattle.std.proofs.Math.Path.{ap₂}
+use Rattle.std.specs.List.{AllZip, Contains, flat_map}
+use Rattle.std.proofs.lemmas.Bool.{cases_lt}
+use Rattle.std.proofs.lemmas.List.{get_or_default}
+use Rattle.std.proofs.lemmas.Option.{none-some, same_Some}
+use Rattle.scrub_disk.specs.Image.{Image, extent_bytes}
+use Rattle.scrub_super.proofs.Laws.{one_choice_lem}
+use Rattle.scrub_scan.specs.declared.standing.Standing.{Standing}
+use Rattle.scrub_scan.specs.Extent.{extent_of}
+use Rattle.scrub_scan.specs.OneFrame.{one_frame_at}
+use Rattle.scrub_scan.specs.Scanned.{Scanned}
+use Rattle.scrub_scan.specs.Standing.{HasPayload}
+use Rattle.scrub_run.specs.declared.shard_id.ShardId.{ShardId}
+use Rattle.scrub_run.specs.Entry.{IsBelow}
+use Rattle.scrub_merge.specs.Binding.{BindingValue}
+use Rattle.scrub_merge.specs.ShardMap.{AreBindings}
+use Rattle.scrub_merge.proofs.Identifiers.{not_below_itself}
+use Rattle.scrub_merge.proofs.Maps.{one_shard_map_lem}
+use Rattle.scrub_check.specs.declared.statuses.checked.Checked.{Checked}
+use Rattle.scrub_check.specs.Checked.{is_dangling}
+use Rattle.scrub_check.specs.ChunkRun.{HasPayloadThere}
+use Rattle.scrub_check.specs.Named.{named_by_shard}
+use Rattle.scrub_check.specs.Spares.{spares_of}
+use Rattle.scrub_check.proofs.Payloads.{one_payload}
+use Rattle.scrub_report.proofs.OneIndex.{one_list_of_checked, one_list_of_runs, read_runs_are_runs}
+use Rattle.scrub_report.proofs.OneReader.{one_plan, one_reader}
+use Rattle.scrub_shard.specs.Bytes.{BytesValue}
+use Rattle.scrub_shard.specs.Shard.{AreBytesFor, HasFirstPayload, IsAnswerBy, IsAnswerIn, IsAnswerOf, IsBoundBy, IsMapped, IsPayloadFor, IsShardAnswer, Mapped}
+use Rattle.scrub_shard.specs.declared.shard.ShardAnswer.{ShardAnswer}
+use Rattle.scrub_shard.specs.declared.shard.ShardAnswer.TheVariants.{NoSuchShard, PayloadLost, Found}
+
+-- ---- what is found
+
+-- each part is determined by those before it
+pub one_mapped : (image : Image) (s t : Mapped) → IsMapped image s → IsMapped image t → s ≡ t
+one_mapped image s t x y = λ i. record {
+  choice = choice i;
+  plan = plan i;
+  all = all i;
+  read = read i;
+  bindings = bindings i;
+}
+  where
+    choice : s.choice ≡ t.choice
+    choice = one_choice_lem image s.choice t.choice x.choice y.choice
+
+    plan : s.plan ≡ t.plan
+    plan = one_plan t.choice s.plan t.plan (rw choice at x.plan) y.plan
+
+    all : s.all ≡ t.all
+    all = one_reader image t.plan s.all t.all (rw plan at x.all) y.all
+
+    read : s.read ≡ t.read
+    read = one_list_of_runs image t.plan s.read t.read (rw plan at x.read) y.read
+
+    bindings : s.bindings ≡ t.bindings
+    bindings = one_shard_map_lem t.read.runs s.bindings t.bindings (read_runs_are_runs image t.plan t.read y.read)
+        (rw read at x.bindings) y.bindings
+
+-- two entries of a shard are one
+pub one_bound : (bindings : List BindingValue) (id : ShardId) (b c : BindingValue) → AreBindings bindings → IsBoundBy bindings id b →
+    IsBoundBy bindings id c → b ≡ c
+one_bound bindings id b c are x y = by x.among y.among
+  where
+    below : (i j : ℕ) (d e : BindingValue) → i < j → j < length bindings → get_or bindings i d ≡ d → get_or bindings j e ≡ e →
+        d.id ≡ id → e.id ≡ id → ⊥
+    below i j d e less within is also own other =
+        let step : IsBelow (get_or bindings i d).id (get_or bindings j d).id = are.rising i j d less within in
+        let second : get_or bindings j d ≡ e = get_or_default bindings j d e within ∙ also in
+        let both : IsBelow d.id e.id =
+        subst (λ (v : BindingValue). IsBelow d.id v.id) second (subst (λ (v : BindingValue). IsBelow v.id (get_or bindings j d).id) is step) in
+        not_below_itself id
+        (subst (λ (k : ShardId). IsBelow id k) other (subst (λ (k : ShardId). IsBelow k e.id) own both))
+
+    by : Contains bindings b → Contains bindings c → b ≡ c
+    by (i, within, is) (j, inside, also) = elim (cases_lt i j) [
+      | inl less ↦ absurd (below i j b c less inside is also x.named y.named)
+      | inr le ↦ elim (cases_lt j i) [
+        | inl more ↦ absurd (below j i c b more within also is y.named x.named)
+        | inr ge ↦
+            let same : i ≡ j = omega (arith, le, ge) in
+            sym is ∙ ap (λ (k : ℕ). get_or bindings k b) same ∙ get_or_default bindings j b c inside ∙ also
+      ]
+    ]
+
+-- ---- the bytes
+
+one_first : (image : Image) (spares : List Standing) (a b : List ℕ) → HasFirstPayload image spares a → HasFirstPayload image spares b → a ≡ b
+one_first image [] a b x y = absurd x
+one_first image (s ∷ ss) a b x y =
+    (one_frame_at (extent_of image s.extent (extent_bytes image.geometry)) s.offset s.form s.uuid a s.form s.uuid b x.frame.frame y.frame.frame).2
+
+one_payload_for : (image : Image) (all : List Scanned) (c : Checked) (a b : List ℕ) → IsPayloadFor image all c a → IsPayloadFor image all c b → a ≡ b
+one_payload_for image all c a b = by (is_dangling c.status)
+  where
+    by : (t : Bool) → MatchBool t (HasFirstPayload image (spares_of all c) a) (HasPayloadThere image c.locator a) →
+        MatchBool t (HasFirstPayload image (spares_of all c) b) (HasPayloadThere image c.locator b) → a ≡ b
+    by true x y = one_first image (spares_of all c) a b x y
+    by false x y = one_payload image c.locator a b x y
+
+one_list : (image : Image) (all : List Scanned) (own : List Checked) (ps qs : List (List ℕ)) → AllZip (IsPayloadFor image all) own ps →
+    AllZip (IsPayloadFor image all) own qs → ps ≡ qs
+one_list image all [] [] [] x y = refl
+one_list image all [] [] (q ∷ qs) x y = absurd y
+one_list image all [] (p ∷ ps) qs x y = absurd x
+one_list image all (c ∷ cs) [] qs x y = absurd x
+one_list image all (c ∷ cs) (p ∷ ps) [] x y = absurd y
+one_list image all (c ∷ cs) (p ∷ ps) (q ∷ qs) x y =
+    ap₂ (λ (b : List ℕ) bs. b ∷ bs) (one_payload_for image all c p q x.0 y.0) (one_list image all cs ps qs x.1 y.1)
+
+one_bytes : (image : Image) (all : List Scanned) (own : List Checked) (a b : List ℕ) → AreBytesFor image all own a → AreBytesFor image all own b → a ≡ b
+one_bytes image all own a b x y =
+    x.joined ∙ ap (flat_map (λ (p : List ℕ). p)) (one_list image all own x.payloads y.payloads x.each y.each) ∙ sym y.joined
+
+same_found : (a b : BytesValue) → a.bytes ≡ b.bytes → a.is_doubtful ≡ b.is_doubtful → a ≡ b
+same_found a b bytes doubt = λ i. record { bytes = bytes i; is_doubtful = doubt i }
+
+-- ---- the answer
+
+one_by : (image : Image) (all : List Scanned) (doubtful : Bool) (own : List Checked) (a b : ShardAnswer) →
+    IsAnswerBy image all doubtful own a → IsAnswerBy image all doubtful own b → a ≡ b
+one_by image all doubtful own NoSuchShard b x y = absurd x
+one_by image all doubtful own (PayloadLost n) NoSuchShard x y = absurd y
+one_by image all doubtful own (PayloadLost n) (PayloadLost m) x y = ap (λ (k : ℕ). PayloadLost k) (same_Some n m (sym x ∙ y))
+one_by image all doubtful own (PayloadLost n) (Found g) x y = absurd (none-some n (sym y.0 ∙ x))
+one_by image all doubtful own (Found f) NoSuchShard x y = absurd y
+one_by image all doubtful own (Found f) (PayloadLost n) x y = absurd (none-some n (sym x.0 ∙ y))
+one_by image all doubtful own (Found f) (Found g) x y =
+    ap (λ (v : BytesValue). Found v) (same_found f g (one_bytes image all own f.bytes g.bytes x.1 y.1) (x.2 ∙ sym y.2))
+
+one_of_entry : (image : Image) (m : Mapped) (id : ShardId) (a b : ShardAnswer) (v w : BindingValue) → IsMapped image m →
+    IsBoundBy m.bindings id v → IsAnswerOf image m.plan m.all v a → IsBoundBy m.bindings id w → IsAnswerOf image m.plan m.all w b → a ≡ b
+one_of_entry image m id a b v w mapped bound x also y =
+    let same : w ≡ v = one_bound m.bindings id w v mapped.bindings.bindings_of_map also bound in
+    let z : IsAnswerOf image m.plan m.all v b = subst (λ (u : BindingValue). IsAnswerOf image m.plan m.all u b) same y in
+    let own : z.own ≡ x.own = one_list_of_checked image m.plan (named_by_shard v) z.own x.own z.checked x.checked in
+    one_by image m.all v.doubtful x.own a b x.answer
+    (subst (λ (cs : List Checked). IsAnswerBy image m.all v.doubtful cs b) own z.answer)
+
+one_in : (image : Image) (m : Mapped) (id : ShardId) (a b : ShardAnswer) → IsMapped image m → IsAnswerIn image m id a →
+    IsAnswerIn image m id b → a ≡ b
+one_in image m id NoSuchShard NoSuchShard mapped x y = refl
+one_in image m id NoSuchShard (PayloadLost n) mapped x y = absurd (x y.0 y.1)
+one_in image m id NoSuchShard (Found g) mapped x y = absurd (x y.0 y.1)
+one_in image m id (PayloadLost n) NoSuchShard mapped x y = absurd (y x.0 x.1)
+one_in image m id (Found f) NoSuchShard mapped x y = absurd (y x.0 x.1)
+one_in image m id (PayloadLost n) (PayloadLost k) mapped x y =
+    one_of_entry image m id (PayloadLost n) (PayloadLost k) x.0 y.0 mapped x.1 x.2 y.1 y.2
+one_in image m id (PayloadLost n) (Found g) mapped x y =
+    one_of_entry image m id (PayloadLost n) (Found g) x.0 y.0 mapped x.1 x.2 y.1 y.2
+one_in image m id (Found f) (PayloadLost k) mapped x y =
+    one_of_entry image m id (Found f) (PayloadLost k) x.0 y.0 mapped x.1 x.2 y.1 y.2
+one_in image m id (Found f) (Found g) mapped x y = one_of_entry image m id (Found f) (Found g) x.0 y.0 mapped x.1 x.2 y.1 y.2
+
+pub one_answer : (image : Image) (id : ShardId) (a b : ShardAnswer) → IsShardAnswer image id a → IsShardAnswer image id b → a ≡ b
+one_answer image id a b x y =
+    let same : x.found ≡ y.found = one_mapped image x.found y.found x.mapped y.mapped in
+    one_in image y.found id a b y.mapped (subst (λ (m : Mapped). IsAnswerIn image m id a) same x.answer) y.answer

@@ -1,0 +1,144 @@
+-- The bytes of a shard: the payloads of the locators of its entry in the shard map, one directly after another.
+use Rattle.std.specs.Prelude.{◌≡◌, ◌<◌, ◌==◌, ◌⊎◌, ℕ, Bool, true, List, [], ◌∷◌, Option, None, Some, MatchBool, Contains, length, slice_get}
+use Rattle.std.specs.List.{AllZip, flat_map, position}
+use Rattle.sha2.specs.Sha256.{sha256}
+use Rattle.scrub_disk.specs.Image.{Image}
+use Rattle.scrub_frame.specs.declared.locator.Locator.{Locator}
+use Rattle.scrub_super.specs.Chosen.{Choice, IsChoice}
+use Rattle.scrub_super.specs.Plan.{PlanValue, IsPlanOf}
+use Rattle.scrub_scan.specs.declared.standing.Standing.{Standing}
+use Rattle.scrub_scan.specs.AllFindings.{AreAllFindings}
+use Rattle.scrub_scan.specs.Scanned.{Scanned}
+use Rattle.scrub_scan.specs.Standing.{HasPayload}
+use Rattle.scrub_run.specs.declared.shard_id.ShardId.{ShardId}
+use Rattle.scrub_merge.specs.Binding.{BindingValue}
+use Rattle.scrub_merge.specs.ShardMap.{IsShardMap}
+use Rattle.scrub_check.specs.declared.statuses.checked.Checked.{Checked}
+use Rattle.scrub_check.specs.Checked.{AreChecked, is_dangling}
+use Rattle.scrub_check.specs.ChunkRun.{HasPayloadThere}
+use Rattle.scrub_check.specs.Named.{named_by_shard}
+use Rattle.scrub_check.specs.Runs.{ReadRunsValue, AreReadRuns}
+use Rattle.scrub_check.specs.Spares.{frames, spares_of}
+use Rattle.scrub_listings.specs.Manifest.{is_without_spare}
+use Rattle.scrub_shard.specs.Bytes.{BytesValue}
+use Rattle.scrub_shard.specs.declared.shard.ShardAnswer.{ShardAnswer}
+use Rattle.scrub_shard.specs.declared.shard.ShardAnswer.TheVariants.{NoSuchShard, PayloadLost, Found}
+
+-- ---- the shard map
+
+-- what is found on a disk up to its shard map: the choice, the plan, the scanned extents, the runs and the bindings
+pub record Mapped : Type 0 where
+  pub choice : Choice
+  pub plan : PlanValue
+  pub all : List Scanned
+  pub read : ReadRunsValue
+  pub bindings : List BindingValue
+
+-- each part of it is as it is in the image
+pub record IsMapped (image : Image) (m : Mapped) : Type 0 where
+  pub choice : IsChoice image m.choice
+  pub plan : IsPlanOf m.choice m.plan
+  pub all : AreAllFindings image m.plan m.all
+  pub read : AreReadRuns image m.plan m.read
+  pub bindings : IsShardMap m.read.runs m.bindings
+
+-- the entry of a shard in the shard map
+pub record IsBoundBy (bindings : List BindingValue) (id : ShardId) (b : BindingValue) : Type 0 where
+  pub among : Contains bindings b
+  pub named : b.id ≡ id
+
+-- the shard map has no entry of the shard
+abbrev pub IsUnbound : List BindingValue → ShardId → Type 0
+IsUnbound bindings id = (b : BindingValue) → ¬ IsBoundBy bindings id b
+
+-- ---- the payloads
+
+-- the payload of the first of some spares
+abbrev pub HasFirstPayload : Image → List Standing → List ℕ → Type 0
+HasFirstPayload image [] payload = ⊥
+HasFirstPayload image (s ∷ ss) payload = HasPayload image s payload
+
+-- the payload for a locator with these spares: that of its chunk if the locator is sound or hidden, or else that of its
+-- first spare
+abbrev pub IsPayloadOf : Image → List Standing → Checked → List ℕ → Type 0
+IsPayloadOf image spares c payload =
+    MatchBool (is_dangling c.status) (HasFirstPayload image spares payload) (HasPayloadThere image c.locator payload)
+
+-- the payload for a locator, by the spares that it has
+abbrev pub IsPayloadFor : Image → List Scanned → Checked → List ℕ → Type 0
+IsPayloadFor image all c payload = IsPayloadOf image (spares_of all c) c payload
+
+-- the bytes are the payloads for these locators, one directly after another
+pub record AreBytesFor (image : Image) (all : List Scanned) (own : List Checked) (bytes : List ℕ) : Type 0 where
+  pub payloads : List (List ℕ)
+  pub each : AllZip (IsPayloadFor image all) own payloads
+  pub joined : bytes ≡ flat_map (λ payload. payload) payloads
+
+-- the number of the first locator that dangles and has no spare, from 0
+abbrev pub first_lost : List Scanned → List Checked → Option ℕ
+first_lost all own = position (is_without_spare all) own
+
+-- ---- the answer
+
+-- the answer by the locators of the entry: their bytes, and whether the entry is doubtful; or, if one has no payload, the
+-- number of the first such
+abbrev pub IsAnswerBy : Image → List Scanned → Bool → List Checked → ShardAnswer → Type 0
+IsAnswerBy image all doubtful own NoSuchShard = ⊥
+IsAnswerBy image all doubtful own (PayloadLost number) = first_lost all own ≡ Some number
+IsAnswerBy image all doubtful own (Found found) =
+    (first_lost all own ≡ None) × AreBytesFor image all own found.bytes × (found.is_doubtful ≡ doubtful)
+
+-- the answer by an entry of the shard map, the plan and the scanned extents: that by its locators, with their statuses
+pub record IsAnswerOf (image : Image) (plan : PlanValue) (all : List Scanned) (b : BindingValue) (a : ShardAnswer) : Type 0 where
+  pub own : List Checked
+  pub checked : AreChecked image plan (named_by_shard b) own
+  pub answer : IsAnswerBy image all b.doubtful own a
+
+-- the answer by the shard map: that of the shard's entry, or that there is none
+abbrev pub IsAnswerIn : Image → Mapped → ShardId → ShardAnswer → Type 0
+IsAnswerIn image m id NoSuchShard = IsUnbound m.bindings id
+IsAnswerIn image m id (PayloadLost number) =
+    (b : BindingValue) × IsBoundBy m.bindings id b × IsAnswerOf image m.plan m.all b (PayloadLost number)
+IsAnswerIn image m id (Found found) = (b : BindingValue) × IsBoundBy m.bindings id b × IsAnswerOf image m.plan m.all b (Found found)
+
+-- the answer for a shard of an image
+pub record IsShardAnswer (image : Image) (id : ShardId) (a : ShardAnswer) : Type 0 where
+  pub found : Mapped
+  pub mapped : IsMapped image found
+  pub answer : IsAnswerIn image found id a
+
+-- ---- what the answer says of the entry
+
+-- the payload has the length and the digest that the locator has
+pub record HasContentOf (l : Locator) (payload : List ℕ) : Type 0 where
+  pub length_is : length payload ≡ l.length
+  pub digest_is : sha256 payload ≡ l.digest
+
+-- the bytes are a list of bytes for each of these locators, in their order, one directly after another, each with the
+-- locator's length and digest
+pub record HaveContentsOf (locators : List Locator) (bytes : List ℕ) : Type 0 where
+  pub payloads : List (List ℕ)
+  pub each : AllZip HasContentOf locators payloads
+  pub joined : bytes ≡ flat_map (λ payload. payload) payloads
+
+-- the bytes have the contents that the newest entry of the shard in the readable runs asks for
+pub record HaveContentsOfEntry (image : Image) (id : ShardId) (bytes : List ℕ) : Type 0 where
+  pub found : Mapped
+  pub mapped : IsMapped image found
+  pub entry : BindingValue
+  pub bound : IsBoundBy found.bindings id entry
+  pub contents : HaveContentsOf entry.locators bytes
+
+-- the locator asks for nothing, or no chunk of the scanned extents has what it asks for
+abbrev pub IsNowhere : List Scanned → Locator → Type 0
+IsNowhere all l = (l.length ≡ 0) ⊎ ((s : Standing) → Contains (frames all) s → (s.length ≡ l.length) × (s.digest ≡ l.digest) → ⊥)
+
+-- the locator of this number in the entry of the shard asks for nothing, or for what no chunk of a scanned extent has
+pub record IsLostInEntry (image : Image) (id : ShardId) (number : ℕ) : Type 0 where
+  pub found : Mapped
+  pub mapped : IsMapped image found
+  pub entry : BindingValue
+  pub bound : IsBoundBy found.bindings id entry
+  pub locator : Locator
+  pub is : slice_get entry.locators number ≡ Some locator
+  pub nowhere : IsNowhere found.all locator

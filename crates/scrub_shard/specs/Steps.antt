@@ -1,0 +1,34 @@
+-- Steps of the code: payloads by the spares that were found.
+use Rattle.std.specs.Prelude.{◌≡◌, ◌<◌, ◌==◌, ◌&&◌, ℕ, Bool, List, MatchBool, All, length}
+use Rattle.std.specs.List.{AllZip, flat_map}
+use Rattle.scrub_disk.specs.Image.{Image}
+use Rattle.scrub_scan.specs.declared.standing.Standing.{Standing}
+use Rattle.scrub_scan.specs.Standing.{Stands}
+use Rattle.scrub_check.specs.declared.statuses.checked.Checked.{Checked}
+use Rattle.scrub_check.specs.Checked.{is_dangling}
+use Rattle.scrub_check.specs.ChunkRun.{StandsThere}
+use Rattle.scrub_check.specs.Spares.{spares_by}
+use Rattle.scrub_shard.specs.Shard.{IsPayloadOf}
+
+-- a locator dangles, and has no spare among these chunks
+abbrev pub is_lost_by : List Standing → Checked → Bool
+is_lost_by found c = is_dangling c.status && length (spares_by found c) == 0
+
+-- spares that can be read, at least one
+pub record AreReadable (image : Image) (spares : List Standing) : Type 0 where
+  pub some : 0 < length spares
+  pub stand : All (Stands image) spares
+
+-- a payload is left for the locator: its chunk is there, or it has spares among these chunks
+abbrev pub HasPayloadLeft : Image → List Standing → Checked → Type 0
+HasPayloadLeft image found c = MatchBool (is_dangling c.status) (AreReadable image (spares_by found c)) (StandsThere image c.locator)
+
+-- the payload for a locator, by the spares among these chunks
+abbrev pub IsPayloadBy : Image → List Standing → Checked → List ℕ → Type 0
+IsPayloadBy image found c payload = IsPayloadOf image (spares_by found c) c payload
+
+-- the bytes are such payloads for these locators, one directly after another
+pub record AreBytesBy (image : Image) (found : List Standing) (own : List Checked) (bytes : List ℕ) : Type 0 where
+  pub payloads : List (List ℕ)
+  pub each : AllZip (IsPayloadBy image found) own payloads
+  pub joined : bytes ≡ flat_map (λ payload. payload) payloads

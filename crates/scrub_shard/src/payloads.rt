@@ -1,0 +1,61 @@
+//! The payloads for the locators of a shard: each from the locator's own place, or else from its first spare.
+
+ghost use Rattle.std.specs.Prelude.{◌≡◌, All, IfOk};
+ghost use Rattle.std.specs.List.{position};
+ghost use Rattle.scrub_shard.specs.Steps.{AreBytesBy, HasPayloadLeft, IsPayloadBy, is_lost_by};
+
+use scrub_check::{Checked, Spares, payload_at};
+use scrub_disk::{OutOfMemory, PageSource};
+use scrub_scan::read_payload;
+use std::alloc::Global;
+
+/// Whether no payload is left for a locator: it dangles, and has no spare.
+fn is_lost(spares: &Spares, one: &Checked) -> bool
+    ensures { result ≡ is_lost_by spares.now one.now }
+{
+    one.status.is_dangling() && spares.of_one(one).is_empty()
+}
+
+/// The number of the first locator without a payload, if there is one.
+pub(crate) fn first_lost(spares: &Spares, own: &[Checked]) -> Option<usize>
+    ensures { result ≡ position (is_lost_by spares.now) own.now }
+{
+    own.iter().position(|one| is_lost(spares, one))
+}
+
+/// The payload for a locator: that of its chunk if the locator is sound or hidden, or else that of its first spare.
+fn payload_for<D: PageSource>(
+    alloc: Global,
+    disk: &D,
+    spares: &Spares,
+    one: &Checked,
+) -> Result<Vec<u8>, OutOfMemory>
+    requires { HasPayloadLeft (D.image disk.now) spares.now one.now }
+    ensures { IfOk result (λ payload. IsPayloadBy (D.image disk.now) spares.now one.now payload.items) }
+{
+    if !one.status.is_dangling() {
+        return payload_at(alloc, disk, &one.locator);
+    }
+    match spares.of_one(one).first() {
+        Some(spare) => read_payload(alloc, disk, spare),
+        None => unreachable!(),
+    }
+}
+
+/// The payloads for these locators, one directly after another.
+pub(crate) fn bytes_for<D: PageSource>(
+    alloc: Global,
+    disk: &D,
+    spares: &Spares,
+    own: &[Checked],
+) -> Result<Vec<u8>, OutOfMemory>
+    requires { All (HasPayloadLeft (D.image disk.now) spares.now) own.now }
+    ensures { IfOk result (λ bytes. AreBytesBy (D.image disk.now) spares.now own.now bytes.items) }
+{
+    let mut bytes = Vec::new(alloc);
+    for one in own {
+        let payload = payload_for(alloc, disk, spares, one)?;
+        bytes.extend_from_slice(&payload)?;
+    }
+    Ok(bytes)
+}

@@ -1,0 +1,169 @@
+//! Reads one shard of a disk: its entry in the shard map, and the payloads for the locators of that entry.
+
+ghost use Rattle.std.specs.Prelude.{◌≡◌, ◌+◌, ◌≤◌, IfOk, List, length, ℕ};
+ghost use Rattle.scrub_disk.specs.Image.{Image};
+ghost use Rattle.scrub_run.specs.declared.shard_id.ShardId.{ShardId};
+ghost use Rattle.scrub_check.specs.Named.{named_by_shard};
+ghost use Rattle.scrub_check.specs.WholeScan.{IsWholeScan};
+ghost use Rattle.scrub_report.specs.Answer.{IsPartitionOfPlanned, IsCountOfPlanned};
+ghost use Rattle.scrub_report.specs.Parts.{IsScan};
+ghost use Rattle.scrub_shard.specs.Bytes.{BytesValue};
+ghost use Rattle.scrub_shard.specs.Shard.{HaveContentsOfEntry, IsAnswerOf, IsLostInEntry, IsShardAnswer};
+ghost use Rattle.scrub_shard.specs.declared.shard.ShardAnswer.{ShardAnswer};
+ghost use Rattle.scrub_shard.specs.declared.shard.ShardAnswer.TheVariants.{Found, PayloadLost};
+
+use crate::payloads::{bytes_for, first_lost};
+use scrub_check::{Named, Spares, check_all, name_shard, read_all_runs};
+use scrub_disk::{OutOfMemory, PageSource};
+use scrub_merge::{Binding, merge_owned};
+use scrub_pool::{Gate, Takings};
+use scrub_report::ScrubFault;
+use scrub_report::scanning::{Scan, scan_by};
+use scrub_run::ShardId;
+use scrub_scan::AllFindings;
+use scrub_super::Plan;
+use std::alloc::Global;
+use std::marker::Model;
+use std::sync::Wait;
+use std::thread::Threads;
+
+/// The bytes of a shard: the payloads of its chunks, one directly after another.
+#[derive(Drop)]
+pub struct ShardBytes {
+    bytes: Vec<u8>,
+    is_doubtful: bool,
+}
+
+impl Model for ShardBytes {
+    ghost use Rattle.scrub_shard.specs.Bytes.{BytesValue};
+
+    ghost Value = { BytesValue };
+
+    ghost view = { λ s. record { bytes = s.bytes.items; is_doubtful = s.is_doubtful } };
+}
+
+impl ShardBytes {
+    /// Whether the shard's entry is doubtful: a lost index run may have a newer one.
+    pub fn is_doubtful(&self) -> bool
+        ensures { result ≡ self.now.is_doubtful }
+    {
+        self.is_doubtful
+    }
+
+    /// The bytes, handed out.
+    pub fn into_bytes(self) -> Vec<u8>
+        ensures { result.items ≡ self.bytes }
+    {
+        self.bytes
+    }
+}
+
+/// What is read of a shard.
+#[derive(Drop)]
+pub enum ShardAnswer {
+    /// The shard map has no such shard: its newest readable entry says deleted, or no readable run has one.
+    NoSuchShard,
+    /// The locator of this number, from 0 in the order of the entry, dangles and has no spare. It is the first such.
+    PayloadLost(usize),
+    /// The payloads of all its locators.
+    Found(ShardBytes),
+}
+
+/// The locators of a shard's entry, each owned by that shard.
+fn own_locators(alloc: Global, binding: &Binding) -> Result<Vec<Named>, OutOfMemory>
+    ensures { IfOk result (λ v. v.items ≡ named_by_shard binding.now) }
+{
+    let mut own = Vec::with_capacity(alloc, binding.locators().len())?;
+    name_shard(&mut own, binding)?;
+    Ok(own)
+}
+
+/// The answer by an entry of the shard map. No payload is read unless each locator has one.
+fn entry_answer<R: Threads + Sync, D: PageSource>(
+    rt: &R,
+    alloc: Global,
+    disk: &D,
+    plan: &Plan,
+    all: &AllFindings<'_, D>,
+    binding: &Binding,
+) -> Result<ShardAnswer, OutOfMemory>
+    requires { IsWholeScan (D.image disk.now) plan.now all.now.extents }
+    ensures { IfOk result (IsAnswerOf (D.image disk.now) plan.now all.now.extents binding.now) }
+{
+    let names = own_locators(alloc, binding)?;
+    let own = check_all(rt, alloc, disk, plan, all, &names)?;
+    let spares = Spares::of(alloc, all, &own)?;
+    match first_lost(&spares, &own) {
+        Some(number) => Ok(ShardAnswer::PayloadLost(number)),
+        None => Ok(ShardAnswer::Found(ShardBytes {
+            bytes: bytes_for(alloc, disk, &spares, &own)?,
+            is_doubtful: binding.doubtful(),
+        })),
+    }
+}
+
+/// The answer for a shard of a scanned disk.
+fn shard_of<R: Threads + Sync, D: PageSource>(
+    rt: &R,
+    alloc: Global,
+    scan: Scan<'_, D>,
+    id: ShardId,
+) -> Result<ShardAnswer, OutOfMemory>
+    requires { IsScan (D.image scan.disk.now) scan.chosen scan.plan scan.all.extents }
+    ensures { IfOk result (IsShardAnswer (D.image scan.entry.disk.now) id) }
+{
+    let Scan {
+        disk,
+        plan,
+        all,
+        ..
+    } = scan;
+    let (read, _) = read_all_runs(rt, alloc, disk, &plan, &all)?;
+    let (runs, _) = read.into_parts();
+    let map = merge_owned(alloc, runs)?;
+    match map.get(&id) {
+        Some(binding) => entry_answer(rt, alloc, disk, &plan, &all, binding),
+        None => Ok(ShardAnswer::NoSuchShard),
+    }
+}
+
+/// Reads a shard of a disk, by its newest entry in the index runs that can be read, and returns which extents the caller and
+/// each worker took. It scans as `scrub` does, with this many workers (0 to 64) beside the caller. The only fault is
+/// `OutOfMemory`, returned once every started worker has ended.
+pub fn read_shard<D: PageSource, G: Gate, R: Threads + Wait + Sync>(
+    rt: &R,
+    alloc: Global,
+    disk: &D,
+    workers: u32,
+    gate: &G,
+    id: ShardId,
+) -> Result<(ShardAnswer, Takings), ScrubFault>
+    requires { workers ≤ 64 }
+    ensures shard { IfOk result (λ r. IsShardAnswer (D.image disk.now) id r.0) }
+    ensures workers { IfOk result (λ r. length r.1.lists ≡ workers + 1) }
+    ensures partition { IfOk result (λ r. IsPartitionOfPlanned (D.image disk.now) r.1.lists) }
+    ensures counted { IfOk result (λ r. IsCountOfPlanned (D.image disk.now) r.1.counted) }
+{
+    let (scan, takings) = scan_by(rt, alloc, disk, workers, gate)?;
+    let answer = shard_of(rt, alloc, scan, id)?;
+    Ok((answer, takings))
+}
+
+/// A law: there is one answer for each shard of an image.
+pub fn one_shard_answer()
+    ensures { (image : Image) (id : ShardId) (a b : ShardAnswer) → IsShardAnswer image id a → IsShardAnswer image id b → a ≡ b }
+{}
+
+/// A law: the bytes of a shard are a list of bytes for each locator of its entry, in their order, each with the locator's length
+/// and SHA-256.
+pub fn bytes_are_as_the_entry_says()
+    ensures { (image : Image) (id : ShardId) (found : BytesValue) → IsShardAnswer image id (Found found) →
+        HaveContentsOfEntry image id found.bytes }
+{}
+
+/// A law: if the payload for a locator is lost, the locator's length is 0, or no chunk of an extent in use has its length and
+/// SHA-256.
+pub fn a_lost_payload_is_nowhere()
+    ensures { (image : Image) (id : ShardId) (number : ℕ) → IsShardAnswer image id (PayloadLost number) →
+        IsLostInEntry image id number }
+{}

@@ -1,0 +1,597 @@
+"""What `shard` writes of disks that are made by hand.
+
+Right answers are written out here from what the command promises: the payloads of the shard's newest entry, in its order, each
+from the place of its locator, or else from its first spare. lib/reference.py has to give the same. Each disk is read with its
+sizes by several numbers of workers, and without the sizes if all its records have the same.
+"""
+import random
+import subprocess
+
+from lib.cases import RoomCase
+from lib.disks import MIB, Disk, frame, geometry, locator, record, run, sealed_frame, shard, uuid
+from lib.reference import answered
+
+SECONDS = 60
+PAGE, PAGES, EXTENTS = 64, 16, 6
+# The extent of the runs.
+RUNS = 5
+WORKERS = ("0", "1", "3", "64")
+NONE = (1, b"", b"shardscrub: no such shard\n")
+FIRST, SECOND, THIRD = b"the first payload", b"the second one", b"and the third, which is longer than the others"
+
+
+def whole(*payloads):
+    """The answer with these payloads."""
+    return 0, b"".join(payloads), b""
+
+
+def doubtful(*payloads):
+    """The same where a lost run may have a newer entry."""
+    return 1, b"".join(payloads), b"shardscrub: a newer entry may be lost\n"
+
+
+def lost(number):
+    """The answer where the payload of this locator is the first that is lost."""
+    return 1, b"", f"shardscrub: payload lost: {number:02}\n".encode()
+
+
+class Made(Disk):
+    """A disk with its runs in one extent, the oldest first, and its superblock on page 0."""
+
+    def __init__(self):
+        super().__init__(PAGES, EXTENTS, PAGE)
+        self.runs = []
+
+    def put_run(self, *entries):
+        """Writes a run behind the others, and returns where its chunk begins."""
+        begin = self.pointers[RUNS - 1]
+        self.runs.insert(0, self.chunk(RUNS, begin, uuid(0xE0 + len(self.runs)), run(*entries)))
+        return begin
+
+    def finish(self, *entries, retired=None):
+        """Writes a run with these entries if there are any, and then the superblock."""
+        if entries:
+            self.put_run(*entries)
+        self.superblock(0, 7, *self.runs, retired=retired)
+        return self
+
+    def rot(self, extent, offset):
+        """Changes the first byte of the payload of a plain chunk."""
+        self.spoil(extent, offset + 22)
+
+
+def rotted(payload=FIRST):
+    """A disk, and a locator on it whose chunk has rotted."""
+    disk = Made()
+    chunk = disk.chunk(1, 0, uuid(0x11), payload)
+    disk.rot(1, 0)
+    return disk, chunk
+
+
+class ShardCase(RoomCase):
+    def answer(self, *words):
+        done = subprocess.run([self.program, "shard", *words], stdin=subprocess.DEVNULL, capture_output=True, timeout=SECONDS)
+        return done.returncode, done.stdout, done.stderr
+
+    def write(self, content):
+        path = self.room / "image"
+        path.write_bytes(content)
+        return str(path)
+
+    def check_words(self, what, words, right):
+        self.same(what, self.answer(*words), right)
+        self.same(f"{what}, by the reference", answered(["shard", *words]), right)
+
+    def check(self, disk, right, *pairs, identifier=shard(1), sizes_are_found=True):
+        """Compares the answers on a disk, with its sizes and without."""
+        image, name = self.write(disk.bytes), identifier.hex()
+        given, what = ["--id", name, image, *pairs], " ".join([name, *pairs])
+        for workers in WORKERS:
+            self.check_words(f"{what}, {workers} workers", [*disk.geometry(), "--workers", workers, *given], right)
+        if sizes_are_found:
+            self.check_words(f"{what}, without sizes", given, right)
+
+
+class Places(ShardCase):
+    """Payloads from the places of their locators."""
+
+    def test_payloads_come_in_the_order_of_the_entry(self):
+        """Neither that of their places nor that of their UUIDs. One comes twice."""
+        disk = Made()
+        first, second = disk.chunk(1, 0, uuid(0x33), FIRST), disk.chunk(1, 55, uuid(0x22), SECOND)
+        third = disk.chunk(2, 0, uuid(0x11), THIRD)
+        disk.finish((shard(1), [third, first, second, first]))
+        self.check(disk, whole(THIRD, FIRST, SECOND, FIRST))
+
+    def test_both_forms(self):
+        disk = Made()
+        sealed, plain = disk.chunk(1, 0, uuid(0x11), FIRST, sealed_frame), disk.chunk(2, 0, uuid(0x22), SECOND)
+        self.check(disk.finish((shard(1), [sealed, plain])), whole(FIRST, SECOND))
+
+    def test_each_byte_is_written_as_it_is(self):
+        disk, payload = Made(), bytes(range(256))
+        sealed, plain = disk.chunk(1, 0, uuid(0x11), payload, sealed_frame), disk.chunk(2, 0, uuid(0x22), payload[::-1])
+        self.check(disk.finish((shard(1), [sealed, plain])), whole(payload, payload[::-1]))
+
+    def test_a_payload_of_frames(self):
+        """A payload that is itself frames, and the payload of a run."""
+        disk = Made()
+        payload = frame(uuid(0x33), FIRST) + sealed_frame(uuid(0x44), SECOND)
+        chunk, index_run = disk.chunk(1, 0, uuid(0x11), payload), run((shard(2), []))
+        other = disk.chunk(2, 0, uuid(0x22), index_run)
+        self.check(disk.finish((shard(1), [chunk, other])), whole(payload, index_run))
+
+    def test_a_hidden_chunk(self):
+        """Chunks of both forms inside of another chunk."""
+        disk = Made()
+        inner, sealed = frame(uuid(0x22), FIRST), sealed_frame(uuid(0x33), SECOND)
+        disk.chunk(1, 0, uuid(0x11), b"--" + inner + sealed)
+        named = [locator(1, 24, uuid(0x22), FIRST), locator(1, 24 + len(inner), uuid(0x33), SECOND)]
+        self.check(disk.finish((shard(1), named)), whole(FIRST, SECOND))
+
+    def test_a_chunk_hidden_by_the_collision(self):
+        """A crash lost the end of a chunk. What was written there looks like its end."""
+        disk = Made()
+        disk.chunk(1, 0, b"\x33" * 14 + b"\xc5\x5e", b"x" * 28)
+        self.check(disk.finish((shard(1), [disk.chunk(1, 64, uuid(0x11), FIRST)])), whole(FIRST))
+
+    def test_a_chunk_hidden_by_damage(self):
+        """The page is unreadable on which the chunk before it begins, so the items have noise there."""
+        disk = Made()
+        before, behind = disk.chunk(1, 0, uuid(0x11), THIRD), disk.chunk(1, 84, uuid(0x22), SECOND)
+        disk.finish((shard(1), [behind]), (shard(2), [behind, before]))
+        self.check(disk, whole(SECOND), "1:0")
+        self.check(disk, lost(1), "1:0", identifier=shard(2))
+        self.check(disk, whole(SECOND, THIRD), identifier=shard(2))
+
+    def test_a_chunk_of_two_shards(self):
+        disk = Made()
+        both, other = disk.chunk(1, 0, uuid(0x11), FIRST), disk.chunk(2, 0, uuid(0x22), SECOND)
+        disk.finish((shard(1), [both]), (shard(2), [other, both]))
+        self.check(disk, whole(FIRST))
+        self.check(disk, whole(SECOND, FIRST), identifier=shard(2))
+
+    def test_64_locators(self):
+        disk = Made()
+        chunks = [disk.chunk(1, disk.pointers[0], uuid(number), bytes([number]) * (number % 3)) for number in range(1, 22)]
+        named = [chunks[(5 * place) % 21] for place in range(64)]
+        payloads = [bytes([number]) * (number % 3) for number in (1 + (5 * place) % 21 for place in range(64))]
+        disk = disk_with_room(disk, named)
+        self.check(disk, whole(*payloads))
+
+    def test_an_empty_payload(self):
+        """Alone, between others, and hidden. A shard of nothing but empty payloads has no bytes, and is whole."""
+        disk = Made()
+        empty, first = disk.chunk(1, 0, uuid(0x11), b""), disk.chunk(1, 38, uuid(0x22), FIRST)
+        sealed = disk.chunk(2, 0, uuid(0x33), b"", sealed_frame)
+        disk.chunk(3, 0, uuid(0x44), frame(uuid(0x55), b""))
+        hidden = locator(3, 22, uuid(0x55), b"")
+        disk.finish((shard(1), [empty]), (shard(2), [first, empty, sealed, hidden, first]), (shard(3), [hidden, sealed]))
+        self.check(disk, whole())
+        self.check(disk, whole(FIRST, FIRST), identifier=shard(2))
+        self.check(disk, whole(), identifier=shard(3))
+
+
+def disk_with_room(disk, named):
+    """The disk with a shard of so many locators that the run needs an extent of its own, on more pages."""
+    large = Disk(64, EXTENTS, PAGE)
+    size = disk.page * disk.pages
+    for extent in range(1, EXTENTS):
+        large.put(extent, 0, bytes(disk.bytes[extent * size:(extent + 1) * size]))
+    large.pointers = list(disk.pointers)
+    large.superblock(0, 7, large.chunk(RUNS, 0, uuid(0xE0), run((shard(1), named))))
+    return large
+
+
+class Spares(ShardCase):
+    """Payloads of locators that dangle."""
+
+    def check_with_spare(self, disk, *pairs, retired=None):
+        """The payload of the shard's one locator is lost. Then it comes from a spare, of either form."""
+        self.check(disk, lost(0), *pairs)
+        for form in (frame, sealed_frame):
+            disk.chunk(3, 0, uuid(0x33), FIRST, form)
+            self.check(disk.finish(retired=retired), whole(FIRST), *pairs)
+
+    def test_a_chunk_that_has_rotted(self):
+        disk, chunk = rotted()
+        self.check_with_spare(disk.finish((shard(1), [chunk])))
+
+    def test_an_owned_spare(self):
+        disk, chunk = rotted()
+        other = disk.chunk(2, 0, uuid(0x22), FIRST)
+        disk.finish((shard(1), [chunk]), (shard(2), [other]))
+        self.check(disk, whole(FIRST))
+
+    def test_a_spare_at_the_place_of_the_locator(self):
+        """The chunk there has another UUID."""
+        disk = Made()
+        disk.chunk(1, 0, uuid(0x11), FIRST)
+        self.check(disk.finish((shard(1), [locator(1, 0, uuid(0x22), FIRST)])), whole(FIRST))
+
+    def test_several_spares(self):
+        """One of them behind a chunk, one behind zeros."""
+        disk, chunk = rotted()
+        disk.chunk(2, 128, uuid(0x22), FIRST, sealed_frame)
+        disk.chunk(3, 0, uuid(0x33), SECOND)
+        disk.chunk(3, 52, uuid(0x44), FIRST)
+        self.check(disk.finish((shard(1), [chunk])), whole(FIRST))
+
+    def test_the_extent_is_unknown(self):
+        for extent in (EXTENTS, 2 ** 32 - 1):
+            self.check_with_spare(Made().finish((shard(1), [locator(extent, 0, uuid(0x11), FIRST)])))
+
+    def test_the_chunk_would_leave_its_extent(self):
+        for offset in (PAGE * PAGES - 54, PAGE * PAGES, 2 ** 32 - 1):
+            self.check_with_spare(Made().finish((shard(1), [locator(1, offset, uuid(0x11), FIRST)])))
+
+    def test_the_extent_is_that_of_superblocks(self):
+        """A frame in extent 0 is no chunk, neither for its locator nor as a spare."""
+        disk = Made().finish((shard(1), [locator(0, 960, uuid(0x11), FIRST)]), (shard(2), [locator(1, 0, uuid(0x11), FIRST)]))
+        disk.put(0, 960, frame(uuid(0x11), FIRST))
+        self.check(disk, lost(0))
+        self.check(disk, lost(0), identifier=shard(2))
+
+    def test_the_extent_is_retired(self):
+        """Its pages aren't read, though the chunk is there."""
+        disk = Made()
+        disk.finish((shard(1), [disk.chunk(1, 0, uuid(0x11), FIRST)]), retired=[1])
+        self.check_with_spare(disk, retired=[1])
+
+    def test_the_chunk_is_past_the_pointer(self):
+        """Its last byte alone, or all of it."""
+        for pointer in (54, 0):
+            disk = Made()
+            chunk = disk.chunk(1, 0, uuid(0x11), FIRST)
+            disk.pointers[0] = pointer
+            self.check_with_spare(disk.finish((shard(1), [chunk])))
+
+    def test_a_page_is_unreadable(self):
+        """Any page of the chunk; the pages beside it don't matter."""
+        for pair in ("1:1", "1:2"):
+            disk = Made()
+            disk.finish((shard(1), [disk.chunk(1, 127, uuid(0x11), FIRST)]))
+            self.check(disk, whole(FIRST), "1:0", "1:3", "0:9")
+            self.check_with_spare(disk, pair)
+            self.check(disk, lost(0), pair, "3:0")
+
+    def test_what_is_no_spare(self):
+        """Other bytes of that length; a longer payload that begins with the bytes; and a chunk that has rotted, was cut off, is past
+        a pointer, is hidden, or is in a retired extent."""
+        disk, chunk = rotted()
+        disk.chunk(2, 0, uuid(0x22), FIRST[::-1])
+        disk.chunk(2, 64, uuid(0x23), FIRST + b"x")
+        disk.chunk(2, 128, uuid(0x24), FIRST)
+        disk.rot(2, 128)
+        disk.chunk(2, 192, uuid(0x25), FIRST, sealed_frame)
+        disk.spoil(2, 192 + 60)
+        disk.put(3, 0, frame(uuid(0x33), FIRST)[:-1])
+        disk.chunk(3, 64, uuid(0x34), b"--" + frame(uuid(0x35), FIRST))
+        disk.chunk(4, 0, uuid(0x44), FIRST)
+        disk.put(3, 256, frame(uuid(0x36), FIRST))
+        self.check(disk.finish((shard(1), [chunk]), retired=[4]), lost(0))
+        self.check(disk.finish(), whole(FIRST))
+
+    def test_a_locator_of_another_length(self):
+        """The digest alone isn't enough."""
+        disk = Made()
+        disk.chunk(1, 0, uuid(0x11), FIRST)
+        named = locator(1, 0, uuid(0x11), FIRST)
+        named = named[:8] + (len(FIRST) + 1).to_bytes(4, "big") + named[12:]
+        disk.chunk(2, 0, uuid(0x22), FIRST + b"x")
+        self.check(disk.finish((shard(1), [named])), lost(0))
+
+    def test_an_empty_payload_has_no_spare(self):
+        """However many empty chunks there are, also at its place."""
+        disk = Made()
+        disk.chunk(1, 0, uuid(0x11), b"")
+        disk.chunk(2, 0, uuid(0x22), b"", sealed_frame)
+        disk.chunk(2, 72, uuid(0x33), FIRST)
+        named = [locator(2, 72, uuid(0x33), FIRST), locator(1, 0, uuid(0x12), b"")]
+        self.check(disk.finish((shard(1), named)), lost(1))
+
+    def test_the_number_of_the_first_lost_payload(self):
+        """At each place of an entry, and of several."""
+        for bad in ([0], [1], [2], [1, 2], [2, 3], [0, 3]):
+            disk = Made()
+            chunks = [disk.chunk(1 + k, 0, uuid(0x11 + k), FIRST[k:]) for k in range(4)]
+            for k in bad:
+                disk.rot(1 + k, 0)
+            disk.finish((shard(1), chunks), (shard(2), [chunk for k, chunk in enumerate(chunks) if k not in bad]))
+            self.check(disk, lost(bad[0]))
+            self.check(disk, whole(*(FIRST[k:] for k in range(4) if k not in bad)), identifier=shard(2))
+
+    def test_great_numbers_of_lost_payloads(self):
+        """Always in two digits, up to the last one of 64."""
+        for number in (9, 10, 63):
+            disk, chunk = rotted()
+            good = disk.chunk(2, 0, uuid(0x22), SECOND)
+            self.check(disk_with_room(disk, [good] * number + [chunk] + [good] * (63 - number)), lost(number))
+
+    def test_payloads_from_everywhere(self):
+        """A sound locator, a hidden one, and one with a spare."""
+        disk, chunk = rotted()
+        disk.chunk(2, 0, uuid(0x22), frame(uuid(0x23), SECOND))
+        disk.chunk(3, 0, uuid(0x33), FIRST, sealed_frame)
+        sound = disk.chunk(4, 0, uuid(0x44), THIRD)
+        named = [chunk, sound, locator(2, 22, uuid(0x23), SECOND)]
+        self.check(disk.finish((shard(1), named)), whole(FIRST, THIRD, SECOND))
+
+
+class Entries(ShardCase):
+    """Which entry counts, and whether a newer one may be lost."""
+
+    def two(self):
+        """A disk with two chunks, and their locators."""
+        disk = Made()
+        return disk, disk.chunk(1, 0, uuid(0x11), FIRST), disk.chunk(2, 0, uuid(0x22), SECOND)
+
+    def test_the_newest_entry(self):
+        disk, first, second = self.two()
+        disk.put_run((shard(1), [first]))
+        self.check(disk.finish((shard(1), [second])), whole(SECOND))
+
+    def test_an_older_entry_is_no_help(self):
+        """The newest entry has a lost payload, and an older one is whole."""
+        disk, first, second = self.two()
+        disk.put_run((shard(1), [first]))
+        disk.rot(2, 0)
+        self.check(disk.finish((shard(1), [second])), lost(0))
+
+    def test_runs_without_the_shard(self):
+        disk, first, second = self.two()
+        disk.put_run((shard(1), [first]))
+        disk.put_run((shard(2), [second]))
+        self.check(disk.finish((shard(0), [second])), whole(FIRST))
+
+    def test_a_deleted_shard(self):
+        """Whatever older runs have, and also if a newer run is lost."""
+        disk, first, _ = self.two()
+        disk.put_run((shard(1), [first]))
+        self.check(disk.finish((shard(1), [])), NONE)
+        begin = disk.put_run((shard(1), [first]))
+        disk.rot(RUNS, begin)
+        self.check(disk.finish(), NONE)
+
+    def test_a_shard_that_was_deleted_and_written_again(self):
+        disk, first, second = self.two()
+        disk.put_run((shard(1), [first]))
+        disk.put_run((shard(1), []))
+        self.check(disk.finish((shard(1), [second])), whole(SECOND))
+
+    def check_lost_run(self, spoil, retired=None, *pairs):
+        """A lost run is newer than the shard's entry: the bytes are written, and it is said. Then a still newer run has an entry, and
+        nothing is said."""
+        disk, first, second = self.two()
+        disk.put_run((shard(1), [first]))
+        disk.runs.insert(0, disk.chunk(4, 0, uuid(0xEE), run((shard(1), [second]))))
+        spoil(disk)
+        self.check(disk.finish(retired=retired), doubtful(FIRST), *pairs)
+        self.check(disk, NONE, *pairs, identifier=shard(2))
+        disk.put_run((shard(1), [second, first]))
+        self.check(disk.finish(retired=retired), whole(SECOND, FIRST), *pairs)
+
+    def test_a_lost_run_that_has_rotted(self):
+        self.check_lost_run(lambda disk: disk.rot(4, 0))
+
+    def test_a_lost_run_that_is_no_run(self):
+        """Its chunk is good."""
+        def spoil(disk):
+            disk.runs[0] = disk.chunk(4, 0, uuid(0xEE), b"RUN1 is only how this begins")
+        self.check_lost_run(spoil)
+
+    def test_a_lost_run_past_the_pointer(self):
+        def spoil(disk):
+            disk.pointers[3] -= 1
+        self.check_lost_run(spoil)
+
+    def test_a_lost_run_in_a_retired_extent(self):
+        self.check_lost_run(lambda disk: None, [4])
+
+    def test_a_lost_run_on_an_unreadable_page(self):
+        self.check_lost_run(lambda disk: None, None, "4:1")
+
+    def test_a_lost_run_out_of_range(self):
+        def spoil(disk):
+            disk.runs[0] = locator(EXTENTS, 0, uuid(0xEE), b"a run")
+        self.check_lost_run(spoil)
+
+    def test_a_lost_run_that_another_chunk_holds(self):
+        """A spare of a run isn't read in its place."""
+        def spoil(disk):
+            disk.chunk(3, 0, uuid(0xEF), run((shard(1), [disk.chunk(2, 0, uuid(0x22), SECOND)])))
+            disk.rot(4, 0)
+        self.check_lost_run(spoil)
+
+    def test_a_hidden_run_is_read(self):
+        disk, first, second = self.two()
+        disk.put_run((shard(1), [first]))
+        payload = run((shard(1), [second]))
+        disk.chunk(4, 0, uuid(0xEE), frame(uuid(0xEF), payload))
+        disk.runs.insert(0, locator(4, 22, uuid(0xEF), payload))
+        self.check(disk.finish(), whole(SECOND))
+
+    def test_a_doubtful_shard_with_a_spare(self):
+        disk, first, _ = self.two()
+        disk.chunk(3, 0, uuid(0x33), FIRST)
+        disk.rot(1, 0)
+        disk.put_run((shard(1), [first]))
+        disk.rot(RUNS, disk.put_run())
+        self.check(disk.finish(), doubtful(FIRST))
+
+    def test_a_doubtful_shard_with_a_lost_payload(self):
+        """Nothing is written, and only the lost payload is said."""
+        disk, first, second = self.two()
+        disk.rot(2, 0)
+        disk.put_run((shard(1), [first, second]))
+        disk.rot(RUNS, disk.put_run())
+        self.check(disk.finish(), lost(1))
+
+    def test_a_doubtful_shard_without_bytes(self):
+        disk = Made()
+        disk.put_run((shard(1), [disk.chunk(1, 0, uuid(0x11), b"")]))
+        disk.rot(RUNS, disk.put_run())
+        self.check(disk.finish(), doubtful())
+
+    def test_only_one_shard_is_doubtful(self):
+        """The one whose newest entry is older than the lost run."""
+        disk, first, second = self.two()
+        disk.put_run((shard(1), [first]), (shard(2), [second]))
+        disk.rot(RUNS, disk.put_run())
+        disk.finish((shard(2), [second, second]))
+        self.check(disk, doubtful(FIRST))
+        self.check(disk, whole(SECOND, SECOND), identifier=shard(2))
+
+    def test_no_such_shard(self):
+        """Another one, also one that is like it but for its first or last byte; no runs; a run without entries; no superblock."""
+        disk, first, _ = self.two()
+        name = bytes(range(16))
+        disk.finish((name, [first]))
+        self.check(disk, whole(FIRST), identifier=name)
+        for other in (bytes(16), b"\xff" * 16, name[::-1], b"\x01" + name[1:], name[:-1] + b"\x0e", name[:-1] + b"\x10"):
+            self.check(disk, NONE, identifier=other)
+        self.check(Made().finish(), NONE)
+        without_entries = Made()
+        without_entries.put_run()
+        self.check(without_entries.finish(), NONE)
+        disk.spoil(0, 11)
+        self.check(disk, NONE, identifier=name, sizes_are_found=False)
+
+    def test_a_shard_in_a_lost_run_alone(self):
+        disk, first, _ = self.two()
+        disk.put_run((shard(2), [first]))
+        disk.rot(RUNS, disk.put_run((shard(1), [first])))
+        self.check(disk.finish(), NONE)
+
+    def test_the_smallest_and_the_greatest_identifier(self):
+        disk, first, second = self.two()
+        disk.finish((bytes(16), [first]), (b"\xff" * 16, [second]))
+        self.check(disk, whole(FIRST), identifier=bytes(16))
+        self.check(disk, whole(SECOND), identifier=b"\xff" * 16)
+
+    def test_the_superblock_that_counts(self):
+        """The newest one; on a tie that on the lowest page."""
+        disk, first, second = self.two()
+        disk.put_run((shard(1), [first]))
+        disk.put_run((shard(1), [second]))
+        second_run, first_run = disk.runs
+        for pages, right in (([(0, 7, first_run), (8, 6, second_run)], FIRST), ([(0, 6, first_run), (8, 7, second_run)], SECOND),
+                             ([(0, 7, first_run), (8, 7, second_run)], FIRST)):
+            for page, generation, named in pages:
+                disk.superblock(page, generation, named)
+            self.check(disk, whole(right))
+
+    def test_what_else_is_wrong_with_the_disk(self):
+        """A torn chunk, noise, a tail, unreadable pages, twins, a damaged superblock, a broken shard, and a lost run that is older."""
+        disk, first, second = self.two()
+        disk.put(1, 64, frame(uuid(0x12), THIRD)[:40])
+        disk.put(1, 128, b"noise")
+        disk.pointers[0] = 192
+        disk.put(1, 300, b"tail")
+        disk.chunk(2, 64, uuid(0x22), THIRD)
+        disk.put(0, 512, b"SSB1")
+        gone = disk.chunk(3, 0, uuid(0x33), THIRD)
+        disk.rot(3, 0)
+        disk.rot(RUNS, disk.put_run((shard(1), [second])))
+        disk.finish((shard(1), [first, second]), (shard(2), [gone, gone[:12] + uuid(0x34) + b"x" * 32]))
+        self.check(disk, whole(FIRST, SECOND), "0:15", "1:15", "4:3")
+
+
+class Words(ShardCase):
+    """How a shard, its sizes and unreadable pages are given."""
+
+    NAME = bytes.fromhex("0123456789abcdef00ff0a1b2c3d4e5f")
+
+    @classmethod
+    def setUpClass(cls):
+        super().setUpClass()
+        disk = Made()
+        disk.finish((cls.NAME, [disk.chunk(1, 0, uuid(0x11), FIRST)]))
+        cls.disk, cls.sizes = disk, disk.geometry()
+
+    def test_an_identifier_in_any_case(self):
+        image, text = self.write(self.disk.bytes), self.NAME.hex()
+        for given in (text, text.upper(), text.title(), text[:16] + text[16:].upper()):
+            self.check_words(given, ["--id", given, *self.sizes, image], whole(FIRST))
+            self.check_words(f"{given} after =", [f"--id={given}", image], whole(FIRST))
+            self.check_words(f"{given} at the end", [*self.sizes, image, "--id", given], whole(FIRST))
+
+    def test_what_is_no_identifier(self):
+        """The refusal has the word as it was given. With the sizes no image is needed."""
+        text, image = self.NAME.hex(), self.write(self.disk.bytes)
+        short = text[:-1]
+        lengths = ["", "0", short, text + "0", text[:-2], text + text]
+        letters = [short + "g", short + "G", "0x" + text[:-2], "+" + short, " " + short, short + " ", short + ":", short + "/",
+                   short + "@", short + "`", text[:8] + "-" + text[9:], "01234567-89ab-cdef-00ff-0a1b2c3d4e5f", "shard " + text]
+        # Line feeds, and digits and letters that aren't ASCII.
+        others = [text + "\n", "\n" + text[1:], short + "\uff10", "\uff10" * 32, "\u0660" * 16, short + "\u0430", "\xe9"]
+        for given in (*lengths, *letters, *others, "-" + short, "--map"):
+            right = 2, b"", f"shardscrub: shard refused: {given}\n".encode()
+            self.check_words(repr(given), [f"--id={given}", *self.sizes, "/nothing/here"], right)
+            self.check_words(f"{given!r} without sizes", [f"--id={given}", image], right)
+            if not given.startswith("-"):
+                self.check_words(f"{given!r} as a word", ["--id", given, *self.sizes, "/nothing/here"], right)
+
+    def test_a_map(self):
+        """A map that lacks the page of the chunk, that of the record, or the run's; or something else."""
+        image, chunk, index_run = self.write(self.disk.bytes), PAGE * PAGES, RUNS * PAGE * PAGES
+        end = EXTENTS * PAGE * PAGES
+        for place, right in ((chunk, lost(0)), (0, NONE), (index_run, NONE), (chunk + PAGE, whole(FIRST))):
+            lines = f"0 ?\n0 {place} +\n{place} 1 -\n{place + 1} {end - place - 1} +\n"
+            given = self.room / "map"
+            given.write_text(lines)
+            self.check_words(f"without byte {place}", ["--map", str(given), "--id", self.NAME.hex(), *self.sizes, image], right)
+            refusal = 2, b"", b"shardscrub: sizes not found: run shardscrub sizes\n"
+            self.check_words(f"without byte {place} and sizes", ["--map", str(given), "--id", self.NAME.hex(), image], refusal)
+
+    def test_a_file_that_is_cut_short(self):
+        """In the chunk, and behind it but before the run."""
+        for size, right in ((PAGE * PAGES + 54, NONE), (RUNS * PAGE * PAGES, NONE), (RUNS * PAGE * PAGES + 192, whole(FIRST))):
+            image = self.write(self.disk.bytes[:size])
+            self.check_words(f"{size} bytes", ["--id", self.NAME.hex(), *self.sizes, image], right)
+            self.check_words(f"{size} bytes, without sizes", ["--id", self.NAME.hex(), image], right)
+
+    def test_sizes_that_are_left_out(self):
+        """They are those of all records. Records that differ are refused, and so is an image that is longer than their disk."""
+        image = self.write(self.disk.bytes + b"x")
+        given = ["--id", self.NAME.hex(), image]
+        self.check_words("a longer image", given, (3, b"", b"shardscrub: image too long\n"))
+        disk = Made()
+        disk.bytes[:] = self.disk.bytes
+        disk.put(0, 512, record(64, 16, 3, [0, 0], []))
+        image = self.write(disk.bytes)
+        self.check_words("two sizes", given, (2, b"", b"shardscrub: sizes not found: run shardscrub sizes\n"))
+        self.check_words("two sizes, given", ["--id", self.NAME.hex(), *self.sizes, image], whole(FIRST))
+        self.check_words("other sizes, given", ["--id", self.NAME.hex(), *geometry(64, 16, 7), image], NONE)
+
+
+class Large(ShardCase):
+    """Shards of many bytes."""
+
+    def test_64_mebibytes(self):
+        """64 payloads of a MiB each, some of them hidden, some from spares, in no order."""
+        page, pages, extents = 4096, 1024, 20
+        choice, disk = random.Random(1), Disk(1024, 20, 4096)
+        payloads, named, at = [], [], {extent: 0 for extent in range(1, extents - 1)}
+        for number in range(64):
+            extent, payload = 1 + number % (extents - 2), choice.randbytes(MIB - 256)
+            begin, form = at[extent], choice.choice([frame, sealed_frame])
+            inner, name = form(choice.randbytes(16), payload), choice.randbytes(16)
+            if number % 8 == 3:
+                disk.chunk(extent, begin, name, inner)
+                named.append(locator(extent, begin + 22, inner[2:18], payload))
+            elif number % 8 == 5:
+                disk.chunk(extent, begin, name, payload, form)
+                named.append(locator(1 + choice.randrange(extents), begin, choice.randbytes(16), payload))
+            else:
+                named.append(disk.chunk(extent, begin, name, payload, form))
+            at[extent] = disk.pointers[extent - 1]
+            payloads.append(payload)
+        order = choice.sample(range(64), 64)
+        disk.superblock(0, 7, disk.chunk(extents - 1, 0, uuid(0xE0), run((shard(1), [named[k] for k in order]))))
+        image, right = self.write(disk.bytes), whole(*(payloads[k] for k in order))
+        for workers in WORKERS:
+            found = self.answer(*geometry(page, pages, extents), "--workers", workers, "--id", shard(1).hex(), image)
+            self.true(f"{workers} workers", found == right, (found[0], len(found[1]), found[2]))
+        self.true("the reference", answered(["shard", "--id", shard(1).hex(), image]) == right)
+
