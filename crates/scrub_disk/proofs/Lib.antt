@@ -4,8 +4,11 @@ pub mod HeldBytes
 pub mod RawBytes
 pub mod RawImages
 pub mod ReadAhead
-pub mod JoinedParts
+pub mod AllZero
+pub mod Texts
+pub mod StoredPages
 pub mod PartsRead
+pub mod JoinedBlocks
 pub mod LostPages
 pub mod PagesRead
 pub mod Filters

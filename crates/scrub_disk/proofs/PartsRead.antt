@@ -1,14 +1,12 @@
--- The parts of a disk that readers read, put together.
-use Rattle.std.proofs.Common.{◌≡◌, ◌<◌, ◌≤◌, ◌+◌, ◌-◌, ◌*◌, ◌/◌, ◌%◌, ℕ, Bool, true, false, List, [], ◌∷◌, ◌++◌, ◌⊎◌, length, length-append, get_or, slice_get, min, arith, refl, sym, ◌∙◌, ap, inl, inr, Option, Some, None, Vec, All, sum_by, Contains}
+-- The shares of a disk that readers read, put together.
+use Rattle.std.proofs.Common.{◌≡◌, ◌<◌, ◌≤◌, ◌+◌, ◌-◌, ◌*◌, ◌/◌, ◌%◌, ℕ, Bool, true, false, List, [], ◌∷◌, ◌++◌, ◌⊎◌, length, length-append, get_or, slice_get, arith, refl, sym, ◌∙◌, ap, inl, inr, Option, Some, None, IfSome, All, sum_by, Contains}
 use Rattle.std.proofs.lemmas.Nat.{div_below, div-mul-add, div-add-mod'}
 use Rattle.std.proofs.Math.Nat.{mod-lt}
 use Rattle.std.proofs.lemmas.Bool.{cases_lt}
-use Rattle.std.proofs.lemmas.List.{get_or_append_left, get_or-append_right, append-nil}
-use Rattle.std.proofs.lemmas.List.Concat.{flat_map-append}
+use Rattle.std.proofs.lemmas.List.{get_or_append_left, get_or-append_right}
 use Rattle.std.proofs.lemmas.List.Elements.{All-cons, All-head, All-nil, All-same, All-tail, Contains-append_left, Contains-append_right}
 use Rattle.std.proofs.lemmas.List.Sums.{sum_by-append, sum_by-cons}
-use Rattle.scrub_disk.specs.Ahead.{IsReadPart, IsReadFrom}
-use Rattle.scrub_disk.specs.Joined.{joined}
+use Rattle.scrub_disk.specs.Ahead.{HoldsFrom, IsReadPart, IsReadFrom, MarksFrom}
 
 -- what was read with few failures was read with at most more of them
 pub read_from_more : (known : Option (List ℕ)) (first first' page few many : ℕ) (bytes : List ℕ) (marks : List Bool) →
@@ -24,11 +22,11 @@ read_from_more (Some text) first first' page few many bytes marks is le r = rw (
 })
 
 -- pages that were read behind the first ones
-read_more_text : (text : List ℕ) (page x c f1 f2 : ℕ) (bytes more : List ℕ) (marks marked : List Bool) → 0 < page →
+read_more_text : (text : List ℕ) (page s x c f1 f2 : ℕ) (bytes more : List ℕ) (marks marked : List Bool) → 0 < page →
     length bytes ≡ page * x → length marks ≡ x → length more ≡ page * c → length marked ≡ c →
-    IsReadPart text 0 page f1 bytes marks → IsReadPart text x page f2 more marked →
-    IsReadPart text 0 page (f1 + f2) (bytes ++ more) (marks ++ marked)
-read_more_text text page x c f1 f2 bytes more marks marked pos lb lm lmore lmarked r1 r2 = record {
+    IsReadPart text s page f1 bytes marks → IsReadPart text (s + x) page f2 more marked →
+    IsReadPart text s page (f1 + f2) (bytes ++ more) (marks ++ marked)
+read_more_text text page s x c f1 f2 bytes more marks marked pos lb lm lmore lmarked r1 r2 = record {
   held = λ i hi unmarked. elim (cases_lt i (length bytes)) [
     | inl less ↦
         let q : i / page < x = div_below i page x pos (omega (arith, less, lb)) in
@@ -42,7 +40,7 @@ read_more_text text page x c f1 f2 bytes more marks marked pos lb lm lmore lmark
     only = λ n hn is. elim (cases_lt n x) [
       | inl less ↦ elim (r1.lost.only n (omega (arith, less, lm)) (sym (get_or_append_left marks marked false n (omega (arith, less, lm))) ∙ is)) [
         | inl cut ↦ inl cut
-        | inr there ↦ inr (Contains-append_left r1.lost.failed r2.lost.failed (0 + n) there)
+        | inr there ↦ inr (Contains-append_left r1.lost.failed r2.lost.failed (s + n) there)
       ]
       | inr past ↦ behind_mark (n - x) n (omega (arith, past)) (omega (arith, past, hn, length-append marks marked, lm)) is
     ];
@@ -50,7 +48,7 @@ read_more_text text page x c f1 f2 bytes more marks marked pos lb lm lmore lmark
 }
   where
     behind : (j i : ℕ) → i ≡ length bytes + j → j < length more → get_or (marks ++ marked) (i / page) true ≡ false →
-        slice_get text (0 * page + i) ≡ Some (get_or (bytes ++ more) i 0)
+        slice_get text (s * page + i) ≡ Some (get_or (bytes ++ more) i 0)
     behind j i e hj unmarked =
         let small : j % page < page = mod-lt j pos in
         let whole : j / page * page + j % page ≡ j = div-add-mod' j page in
@@ -60,40 +58,58 @@ read_more_text text page x c f1 f2 bytes more marks marked pos lb lm lmore lmark
         ap (λ m. get_or marked m true) (let k : j / page ≡ x + j / page - x = omega arith in k)
         ∙ sym (get_or-append_right marks marked x (x + j / page) true lm (omega arith))
         ∙ ap (λ m. get_or (marks ++ marked) m true) (sym own) ∙ unmarked in
-        ap (slice_get text) (let k : 0 * page + i ≡ x * page + j = omega (arith, e, lb) in k)
+        ap (slice_get text) (let k : s * page + i ≡ (s + x) * page + j = omega (arith, e, lb) in k)
         ∙ r2.held j hj clear
         ∙ ap Some
         (ap (λ m. get_or more m 0) (let k : j ≡ i - length bytes = omega (arith, e) in k)
         ∙ sym (get_or-append_right bytes more (length bytes) i 0 refl (omega (arith, e))))
 
     behind_mark : (k n : ℕ) → n ≡ x + k → k < length marked → get_or (marks ++ marked) n false ≡ true →
-        (length text < (0 + n) * page + page) ⊎ Contains (r1.lost.failed ++ r2.lost.failed) (0 + n)
+        (length text < (s + n) * page + page) ⊎ Contains (r1.lost.failed ++ r2.lost.failed) (s + n)
     behind_mark k n e hk is =
         let set' : get_or marked k false ≡ true =
         ap (λ m. get_or marked m false) (let h : k ≡ n - x = omega (arith, e) in h)
         ∙ sym (get_or-append_right marks marked x n false lm (omega (arith, e))) ∙ is in
-        let same : 0 + n ≡ x + k = omega (arith, e) in
+        let same : s + n ≡ s + x + k = omega (arith, e) in
         rw same (elim (r2.lost.only k hk set') [
           | inl cut ↦ inl cut
-          | inr there ↦ inr (Contains-append_right r1.lost.failed r2.lost.failed (x + k) there)
+          | inr there ↦ inr (Contains-append_right r1.lost.failed r2.lost.failed (s + x + k) there)
         ])
 
 -- the same if the raw bytes are known
-pub read_more_parts : (known : Option (List ℕ)) (page x c f1 f2 : ℕ) (bytes more all : List ℕ) (marks marked every : List Bool) →
+pub read_more_parts : (known : Option (List ℕ)) (page s t x c f1 f2 : ℕ) (bytes more all : List ℕ) (marks marked every : List Bool) →
     0 < page → length bytes ≡ page * x → length marks ≡ x → length more ≡ page * c → length marked ≡ c →
     all ≡ bytes ++ more → every ≡ marks ++ marked →
-    IsReadFrom known 0 page f1 bytes marks → IsReadFrom known x page f2 more marked →
-    IsReadFrom known 0 page (f1 + f2) all every
-read_more_parts None page x c f1 f2 bytes more all marks marked every pos lb lm lmore lmarked is marks_are r1 r2 = tt
-read_more_parts (Some text) page x c f1 f2 bytes more all marks marked every pos lb lm lmore lmarked is marks_are r1 r2 =
-    rw (is, marks_are) (read_more_text text page x c f1 f2 bytes more marks marked pos lb lm lmore lmarked r1 r2)
+    t ≡ s + x → IsReadFrom known s page f1 bytes marks → IsReadFrom known t page f2 more marked →
+    IsReadFrom known s page (f1 + f2) all every
+read_more_parts None page s t x c f1 f2 bytes more all marks marked every pos lb lm lmore lmarked is marks_are at r1 r2 = tt
+read_more_parts (Some text) page s t x c f1 f2 bytes more all marks marked every pos lb lm lmore lmarked is marks_are at r1 r2 =
+    rw (is, marks_are) (read_more_text text page s x c f1 f2 bytes more marks marked pos lb lm lmore lmarked r1 (rw at at r2))
 
--- the bytes of the first parts and one more
-pub joined_more : {Z : Type 0} (parts all : List (Vec ℕ Z)) (part : Vec ℕ Z) → all ≡ parts ++ part ∷ [] →
-    joined all ≡ joined parts ++ part.items
-joined_more parts all part is =
-    ap (λ xs. joined xs) is ∙ flat_map-append (λ v. v.items) parts (part ∷ [])
-    ∙ ap (λ xs. joined parts ++ xs) (append-nil part.items)
+-- pages whose bytes were read, wherever they aren't marked
+read_into : (raw : List ℕ) (first page failures : ℕ) (bytes text : List ℕ) (marks : List Bool) →
+    length text ≡ length bytes →
+    ((i : ℕ) → i < length bytes → get_or marks (i / page) true ≡ false → get_or text i 0 ≡ get_or bytes i 0) →
+    IsReadPart raw first page failures bytes marks → IsReadPart raw first page failures text marks
+read_into raw first page failures bytes text marks size same r = record {
+  held = λ i hi unmarked.
+      let within : i < length bytes = omega (arith, hi, size) in
+      r.held i within unmarked ∙ ap Some (sym (same i within unmarked));
+  lost = r.lost;
+}
+
+-- pages that were read into a buffer and put into a block
+pub block_read : (known : Option (List ℕ)) (first from page failures : ℕ) (bytes text all : List ℕ) (marks every : List Bool) →
+    first ≡ from → every ≡ marks → all ≡ text → length text ≡ length bytes →
+    ((i : ℕ) → i < length bytes → get_or every (i / page) true ≡ false → get_or text i 0 ≡ get_or bytes i 0) →
+    IfSome known (λ raw. HoldsFrom raw (first * page) page marks bytes) →
+    IfSome known (λ raw. MarksFrom raw first page (length marks) failures marks) →
+    IsReadFrom known from page failures all every
+block_read None first from page failures bytes text all marks every at marked is size same holds lost = tt
+block_read (Some raw) first from page failures bytes text all marks every at marked is size same holds lost =
+    rw (← at, is)
+    (read_into raw first page failures bytes text every size same
+    (rw marked (record { held = holds; lost = lost })))
 
 -- what holds of all elements holds of those before the last and of the last
 pub all_ends : {X : Type 0} (P : X → Type 0) (xs all : List X) (x : X) → all ≡ xs ++ x ∷ [] → All P all → All P xs × P x
@@ -109,10 +125,3 @@ all_ends P xs all x is h = go xs (All-same P (xs ++ x ∷ []) all (sym is) h)
 pub sum_ends : {X : Type 0} (f : X → ℕ) (xs all : List X) (x : X) → all ≡ xs ++ x ∷ [] → sum_by f all ≡ sum_by f xs + f x
 sum_ends f xs all x is =
     ap (λ l. sum_by f l) is ∙ sum_by-append f xs (x ∷ []) ∙ ap (λ m. sum_by f xs + m) (sum_by-cons f x [] ∙ (let none : f x + sum_by f [] ≡ f x = omega arith in none))
-
--- as many parts as it takes have all bytes
-pub whole_disk : (page pages extents stride count size : ℕ) → pages * extents ≤ stride * count →
-    size ≡ page * min (pages * extents) (count * stride) → size ≡ page * pages * extents
-whole_disk page pages extents stride count size enough is =
-    let all : min (pages * extents) (count * stride) ≡ pages * extents = omega (arith, enough) in
-    is ∙ ap (λ n. page * n) all ∙ omega arith

@@ -6,6 +6,7 @@ pub mod Buffered
 pub mod Held
 pub mod Memory
 pub mod Raw
+pub mod Stored
 pub mod Joined
 pub mod Parted
 -- Steps of the code: marks while an image is loaded, and the search for the next unreadable page.

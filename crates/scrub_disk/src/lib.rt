@@ -2,6 +2,7 @@
 //! from raw bytes. For what the bytes mean see `scrub_super` (extent 0) and `scrub_scan` (the other extents).
 #![tactic(auto)]
 
+mod blocks;
 pub mod buffered_extent;
 pub mod geometry;
 pub mod loading;
@@ -11,6 +12,7 @@ pub mod parts;
 pub mod raw;
 pub mod reading;
 pub mod source;
+pub mod zeros;
 
 pub use buffered_extent::{BufferedExtent, read_extent, unreadable_pages};
 pub use geometry::{Geometry, GeometryFault};
@@ -21,3 +23,4 @@ pub use parts::PartedDisk;
 pub use raw::{RawFault, RawImage};
 pub use source::{PageSource, Unreadable};
 pub use std::alloc::AllocError as OutOfMemory;
+pub use zeros::is_zero;

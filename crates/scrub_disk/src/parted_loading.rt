@@ -2,15 +2,16 @@
 //! time, see `loading`.
 
 ghost use Rattle.std.specs.Thread.{IsSync};
-ghost use Rattle.std.specs.Prelude.{◌≡◌, ◌≤◌, ◌+◌, ◌-◌, ◌*◌, ◌<◌, ◌^◌, ◌++◌, ◌∷◌, [], ℕ, List, Option, All, IfOk, IfSome, OnOk, Err, length, sum_by, vec_len, min};
+ghost use Rattle.std.specs.Prelude.{◌≡◌, ◌≤◌, ◌+◌, ◌-◌, ◌*◌, ◌<◌, ◌^◌, ◌++◌, [], ℕ, List, Option, All, IfOk, IfSome, OnOk, Err, length, sum_by, vec_len};
 ghost use Rattle.scrub_disk.specs.Ahead.{IsReadFrom};
 ghost use Rattle.scrub_disk.specs.Image.{disk_bytes};
-ghost use Rattle.scrub_disk.specs.Joined.{AreFirstParts, joined};
+ghost use Rattle.scrub_disk.specs.Joined.{AreBlocks, first_page, joined};
 ghost use Rattle.scrub_disk.specs.Marked.{MarksAll};
 ghost use Rattle.scrub_disk.specs.Parted.{image_of};
 ghost use Rattle.scrub_disk.specs.Raw.{IsLoadedWith, IsReadOn};
 
 use crate::OutOfMemory;
+use crate::blocks::Block;
 use crate::geometry::Geometry;
 use crate::loading::{LoadFault, has_byte_at};
 use crate::parts::PartedDisk;
@@ -25,102 +26,154 @@ const MOST_AT_ONCE: usize = 1 << 18;
 /// One read asks for at most a disk's pages divided by this.
 const PART_AT_ONCE: usize = 64;
 
-/// How many bytes one read asks for: pages of a small part of the disk.
+/// How many pages one read asks for: a small part of the disk. A block has as many.
 fn at_once(geometry: Geometry) -> usize
-    ensures { geometry.page ≤ result }
+    ensures some { 1 ≤ result }
+    ensures few { result ≤ 4096 }
 {
-    let page = geometry.page() as usize;
     let pages = geometry.pages() as usize * geometry.extents() as usize;
-    (pages / PART_AT_ONCE * page).min(MOST_AT_ONCE).max(page)
+    (pages / PART_AT_ONCE)
+        .min(MOST_AT_ONCE / geometry.page() as usize)
+        .max(1)
 }
 
-/// The bytes of pages that follow one another, and a mark for each.
+/// How the pages of a disk are divided into blocks, and these among readers.
+#[derive(Clone, Copy)]
+struct Division {
+    geometry: Geometry,
+    /// How many pages a block has; the last one may have fewer.
+    stride: usize,
+    /// How many blocks a reader reads. Those behind the last page have none.
+    share: usize,
+    ghost some: { 1 ≤ stride },
+    ghost few: { stride ≤ 4096 },
+}
+
+/// As many blocks a reader as it takes to read all pages.
+fn divide(geometry: Geometry, readers: usize) -> Division
+    requires some { 0 < readers }
+    requires few { readers < 2 ^ 32 }
+    ensures geometry { result.geometry ≡ geometry }
+    ensures enough { geometry.pages * geometry.extents ≤ readers * result.share * result.stride }
+    ensures in_range { readers * result.share * result.stride < 2 ^ 62 }
+{
+    let pages = geometry.pages() as usize * geometry.extents() as usize;
+    let stride = at_once(geometry);
+    Division {
+        geometry,
+        stride,
+        share: pages.div_ceil(stride).div_ceil(readers),
+    }
+}
+
+/// Blocks that follow one another, and a mark for each of their pages.
 #[derive(Drop)]
 struct Part {
-    bytes: Vec<u8>,
+    blocks: Vec<Block>,
     marks: Vec<bool>,
 }
 
-/// Pages from page `first` of the disk on, as a raw image has them.
-fn read_part<R: RawImage>(
-    alloc: Global,
-    raw: &mut R,
-    geometry: Geometry,
-    first: usize,
-    pages: usize,
-) -> Result<Part, OutOfMemory>
-    requires few_reads { R.reads raw.old < 2 ^ 62 }
-    requires in_disk { first + pages ≤ geometry.pages * geometry.extents }
-    ensures bytes { IfOk result (λ p. length p.bytes.items ≡ geometry.page * pages) }
-    ensures marks { IfOk result (λ p. length p.marks.items ≡ pages) }
-    ensures read { IfOk result (λ p.
-        IsReadFrom (R.bytes raw.old) first geometry.page (R.failures raw.new - R.failures raw.old) p.bytes.items p.marks.items) }
-    ensures image { IsReadOn (λ r. R.bytes r) (λ r. R.most_failures r) (λ r. R.failures r) raw.old raw.new }
-    ensures reads { R.reads raw.new ≤ R.reads raw.old + (geometry.page + 1) * pages }
-{
-    let page = geometry.page() as usize;
-    let mut bytes = vec![in alloc; 0u8; page * pages]?;
-    let mut marks = vec![in alloc; false; pages]?;
-    read_pages(raw, first, page, at_once(geometry), &mut bytes, &mut marks);
-    Ok(Part { bytes, marks })
-}
-
-/// The first parts of a disk, and the marks of their pages.
-#[derive(Drop)]
-struct Parts {
-    bytes: Vec<Vec<u8>>,
-    marks: Vec<bool>,
-}
-
-impl Parts {
-    /// No part yet.
-    fn new(alloc: Global) -> Parts
-        ensures bytes { result.bytes.items ≡ [] }
+impl Part {
+    /// No block yet.
+    fn new(alloc: Global) -> Part
+        ensures blocks { result.blocks.items ≡ [] }
         ensures marks { result.marks.items ≡ [] }
     {
-        Parts {
-            bytes: Vec::new(alloc),
+        Part {
+            blocks: Vec::new(alloc),
             marks: Vec::new(alloc),
         }
     }
 
-    /// One more part.
-    fn add(&mut self, part: Part) -> Result<(), OutOfMemory>
-        ensures bytes { OnOk result (self.new.bytes.items ≡ self.old.bytes.items ++ part.bytes ∷ []) }
-        ensures marks { OnOk result (self.new.marks.items ≡ self.old.marks.items ++ part.marks.items) }
+    /// More blocks, which follow these.
+    fn add(&mut self, mut behind: Part) -> Result<(), OutOfMemory>
+        ensures blocks { OnOk result (self.new.blocks.items ≡ self.old.blocks.items ++ behind.blocks.items) }
+        ensures marks { OnOk result (self.new.marks.items ≡ self.old.marks.items ++ behind.marks.items) }
     {
-        self.marks.extend_from_slice(&part.marks)?;
-        self.bytes.push(part.bytes)?;
+        self.marks.extend_from_slice(&behind.marks)?;
+        self.blocks.append(&mut behind.blocks)?;
         Ok(())
     }
 }
 
-/// Reads part `number`, of `stride` pages, or of those that are left, and gives the reader back.
+/// Reads block `number` of the disk, as a raw image has it. `buffer` has room for its bytes.
+fn read_block<R: RawImage>(
+    alloc: Global,
+    raw: &mut R,
+    division: Division,
+    number: usize,
+    buffer: &mut [u8],
+) -> Result<Part, OutOfMemory>
+    requires few_reads { R.reads raw.old < 2 ^ 62 + 2 ^ 33 }
+    requires in_range { number * division.stride + division.stride < 2 ^ 63 }
+    requires room { length buffer.old ≡ division.geometry.page * division.stride }
+    ensures shape { IfOk result (λ p. AreBlocks division.geometry division.stride number 1 p.blocks.items p.marks.items) }
+    ensures read { IfOk result (λ p. IsReadFrom (R.bytes raw.old) (first_page division.geometry division.stride number) division.geometry.page
+        (R.failures raw.new - R.failures raw.old) (joined division.geometry.page p.blocks.items) p.marks.items) }
+    ensures image { IsReadOn (λ r. R.bytes r) (λ r. R.most_failures r) (λ r. R.failures r) raw.old raw.new }
+    ensures reads { R.reads raw.new ≤ R.reads raw.old + (division.geometry.page + 1)
+        * (first_page division.geometry division.stride (number + 1) - first_page division.geometry division.stride number) }
+{
+    let geometry = division.geometry;
+    let page = geometry.page() as usize;
+    let pages = geometry.pages() as usize * geometry.extents() as usize;
+    let first = pages.min(number * division.stride);
+    let count = division.stride.min(pages - first);
+    let bytes = &mut buffer[..count * page];
+    let mut marks = vec![in alloc; false; count]?;
+    read_pages(raw, first, page, division.stride * page, bytes, &mut marks);
+    let block = Block::of_pages(alloc, bytes, page, &marks)?;
+    let only = Vec::from_array(alloc, [block])?;
+    Ok(Part {
+        blocks: only,
+        marks,
+    })
+}
+
+/// Reads a reader's share of blocks, from block `first` of the disk on, one after another into the same buffer.
+fn read_share<R: RawImage>(
+    alloc: Global,
+    raw: &mut R,
+    division: Division,
+    first: usize,
+) -> Result<Part, OutOfMemory>
+    requires few_reads { R.reads raw.old < 2 ^ 62 }
+    requires in_range { (first + division.share) * division.stride < 2 ^ 62 }
+    ensures shape { IfOk result (λ p. AreBlocks division.geometry division.stride first division.share p.blocks.items p.marks.items) }
+    ensures read { IfOk result (λ p. IsReadFrom (R.bytes raw.old) (first_page division.geometry division.stride first) division.geometry.page
+        (R.failures raw.new - R.failures raw.old) (joined division.geometry.page p.blocks.items) p.marks.items) }
+    ensures image { IsReadOn (λ r. R.bytes r) (λ r. R.most_failures r) (λ r. R.failures r) raw.old raw.new }
+    ensures reads { R.reads raw.new ≤ R.reads raw.old + 2 ^ 33 }
+{
+    let mut buffer = vec![in alloc; 0u8; division.geometry.page() as usize * division.stride]?;
+    let mut part = Part::new(alloc);
+    for number in first..first + division.share {
+        part.add(read_block(alloc, raw, division, number, &mut buffer)?)?;
+    }
+    Ok(part)
+}
+
+/// Reads share `number` of the blocks, and gives the reader back.
 fn read_number<R: RawImage>(
     alloc: Global,
     mut raw: R,
-    geometry: Geometry,
-    stride: usize,
+    division: Division,
     number: usize,
 ) -> (Result<Part, OutOfMemory>, R)
     requires few_reads { R.reads raw < 2 ^ 62 }
-    requires in_range { number * stride < 2 ^ 63 }
-    ensures bytes { IfOk result.0 (λ p. length p.bytes.items
-        ≡ geometry.page * min stride (geometry.pages * geometry.extents - number * stride)) }
-    ensures marks { IfOk result.0 (λ p. length p.marks.items
-        ≡ min stride (geometry.pages * geometry.extents - number * stride)) }
-    ensures read { IfOk result.0 (λ p. IsReadFrom (R.bytes raw) (min (geometry.pages * geometry.extents) (number * stride)) geometry.page (R.most_failures raw) p.bytes.items p.marks.items) }
+    requires in_range { (number + 1) * division.share * division.stride < 2 ^ 62 }
+    ensures shape { IfOk result.0 (λ p.
+        AreBlocks division.geometry division.stride (number * division.share) division.share p.blocks.items p.marks.items) }
+    ensures read { IfOk result.0 (λ p. IsReadFrom (R.bytes raw) (first_page division.geometry division.stride (number * division.share)) division.geometry.page (R.most_failures raw) (joined division.geometry.page p.blocks.items) p.marks.items) }
     ensures same_bytes { R.bytes result.1 ≡ R.bytes raw }
     ensures same_bound { R.most_failures result.1 ≡ R.most_failures raw }
     ensures few_reads { R.reads result.1 < 2 ^ 63 }
 {
-    let pages = geometry.pages() as usize * geometry.extents() as usize;
-    let first = pages.min(number * stride);
-    let part = read_part(alloc, &mut raw, geometry, first, stride.min(pages - first));
+    let part = read_share(alloc, &mut raw, division, number * division.share);
     (part, raw)
 }
 
-/// Reads the first parts by as many readers, which begin on a new thread, and the part behind them by one more reader, at
+/// Reads the first shares by as many readers, which begin on a new thread, and the share behind them by one more reader, at
 /// the same time.
 #[cycle(parts)]
 fn read_beside<T: Threads + Sync, R: RawImage + Send + Drop>(
@@ -128,72 +181,66 @@ fn read_beside<T: Threads + Sync, R: RawImage + Send + Drop>(
     alloc: Global,
     readers: Vec<R>,
     last: R,
-    geometry: Geometry,
-    stride: usize,
-) -> (Result<Parts, OutOfMemory>, (Result<Part, OutOfMemory>, R))
+    division: Division,
+) -> (Result<Part, OutOfMemory>, (Result<Part, OutOfMemory>, R))
     requires few_reads { All (λ r. R.reads r < 2 ^ 62) readers.items }
     requires few_reads_of_last { R.reads last < 2 ^ 62 }
-    requires in_range { vec_len readers * stride < 2 ^ 63 }
+    requires in_range { (vec_len readers + 1) * division.share * division.stride < 2 ^ 62 }
     ensures shape { IfOk result.0 (λ p.
-        AreFirstParts geometry.page stride (geometry.pages * geometry.extents) (vec_len readers) p.bytes.items p.marks.items) }
+        AreBlocks division.geometry division.stride 0 (vec_len readers * division.share) p.blocks.items p.marks.items) }
     ensures read { IfOk result.0 (λ p. (known : Option (List ℕ)) → All (λ r. R.bytes r ≡ known) readers.items →
-        IsReadFrom known 0 geometry.page (sum_by (λ r. R.most_failures r) readers.items) (joined p.bytes.items) p.marks.items) }
-    ensures bytes { IfOk result.1.0 (λ p. length p.bytes.items
-        ≡ geometry.page * min stride (geometry.pages * geometry.extents - vec_len readers * stride)) }
-    ensures marks { IfOk result.1.0 (λ p. length p.marks.items
-        ≡ min stride (geometry.pages * geometry.extents - vec_len readers * stride)) }
-    ensures part_read { IfOk result.1.0 (λ p. IsReadFrom (R.bytes last) (min (geometry.pages * geometry.extents) (vec_len readers * stride)) geometry.page (R.most_failures last) p.bytes.items p.marks.items) }
+        IsReadFrom known 0 division.geometry.page (sum_by (λ r. R.most_failures r) readers.items) (joined division.geometry.page p.blocks.items) p.marks.items) }
+    ensures part_shape { IfOk result.1.0 (λ p.
+        AreBlocks division.geometry division.stride (vec_len readers * division.share) division.share p.blocks.items p.marks.items) }
+    ensures part_read { IfOk result.1.0 (λ p. IsReadFrom (R.bytes last) (first_page division.geometry division.stride (vec_len readers * division.share)) division.geometry.page (R.most_failures last) (joined division.geometry.page p.blocks.items) p.marks.items) }
     ensures same_bytes { R.bytes result.1.1 ≡ R.bytes last }
     ensures same_bound { R.most_failures result.1.1 ≡ R.most_failures last }
     ensures few_reads { R.reads result.1.1 < 2 ^ 63 }
 {
     let number = readers.len();
     if readers.is_empty() {
-        let none = read_parts(rt, alloc, readers, geometry, stride);
-        return (none, read_number(alloc, last, geometry, stride, number));
+        let none = read_parts(rt, alloc, readers, division);
+        return (none, read_number(alloc, last, division, number));
     }
     join(
         rt,
-        move || -> Result<Parts, OutOfMemory>
+        move || -> Result<Part, OutOfMemory>
             requires sync { IsSync T.row }
             requires few_reads { All (λ r. R.reads r < 2 ^ 62) readers.items }
-            requires in_range { vec_len readers * stride < 2 ^ 63 }
+            requires in_range { vec_len readers * division.share * division.stride < 2 ^ 62 }
             ensures shape { IfOk result (λ p.
-                AreFirstParts geometry.page stride (geometry.pages * geometry.extents) (vec_len readers) p.bytes.items p.marks.items) }
+                AreBlocks division.geometry division.stride 0 (vec_len readers * division.share) p.blocks.items p.marks.items) }
             ensures read { IfOk result (λ p. (known : Option (List ℕ)) → All (λ r. R.bytes r ≡ known) readers.items →
-                IsReadFrom known 0 geometry.page (sum_by (λ r. R.most_failures r) readers.items) (joined p.bytes.items) p.marks.items) }
-        { read_parts(rt, alloc, readers, geometry, stride) },
+                IsReadFrom known 0 division.geometry.page (sum_by (λ r. R.most_failures r) readers.items) (joined division.geometry.page p.blocks.items) p.marks.items) }
+        { read_parts(rt, alloc, readers, division) },
         move || -> (Result<Part, OutOfMemory>, R)
             requires few_reads { R.reads last < 2 ^ 62 }
-            requires in_range { number * stride < 2 ^ 63 }
-            ensures bytes { IfOk result.0 (λ p. length p.bytes.items
-                ≡ geometry.page * min stride (geometry.pages * geometry.extents - number * stride)) }
-            ensures marks { IfOk result.0 (λ p. length p.marks.items
-                ≡ min stride (geometry.pages * geometry.extents - number * stride)) }
-            ensures read { IfOk result.0 (λ p. IsReadFrom (R.bytes last) (min (geometry.pages * geometry.extents) (number * stride)) geometry.page (R.most_failures last) p.bytes.items p.marks.items) }
+            requires in_range { (number + 1) * division.share * division.stride < 2 ^ 62 }
+            ensures shape { IfOk result.0 (λ p.
+                AreBlocks division.geometry division.stride (number * division.share) division.share p.blocks.items p.marks.items) }
+            ensures read { IfOk result.0 (λ p. IsReadFrom (R.bytes last) (first_page division.geometry division.stride (number * division.share)) division.geometry.page (R.most_failures last) (joined division.geometry.page p.blocks.items) p.marks.items) }
             ensures same_bytes { R.bytes result.1 ≡ R.bytes last }
             ensures same_bound { R.most_failures result.1 ≡ R.most_failures last }
             ensures few_reads { R.reads result.1 < 2 ^ 63 }
-        { read_number(alloc, last, geometry, stride, number) },
+        { read_number(alloc, last, division, number) },
     )
 }
 
-/// Reads all these parts, each by its reader, on a thread of its own, and gives the last reader back.
+/// Reads all these shares, each by its reader, on a thread of its own, and gives the last reader back.
 #[cycle(parts)]
 fn read_all<T: Threads + Sync, R: RawImage + Send + Drop>(
     rt: &T,
     alloc: Global,
     mut readers: Vec<R>,
-    geometry: Geometry,
-    stride: usize,
-) -> Result<(Parts, R), OutOfMemory>
+    division: Division,
+) -> Result<(Part, R), OutOfMemory>
     requires some { 0 < vec_len readers }
     requires few_reads { All (λ r. R.reads r < 2 ^ 62) readers.items }
-    requires in_range { vec_len readers * stride < 2 ^ 63 }
+    requires in_range { vec_len readers * division.share * division.stride < 2 ^ 62 }
     ensures shape { IfOk result (λ p.
-        AreFirstParts geometry.page stride (geometry.pages * geometry.extents) (vec_len readers) p.0.bytes.items p.0.marks.items) }
+        AreBlocks division.geometry division.stride 0 (vec_len readers * division.share) p.0.blocks.items p.0.marks.items) }
     ensures read { IfOk result (λ p. (known : Option (List ℕ)) → All (λ r. R.bytes r ≡ known) readers.items →
-        IsReadFrom known 0 geometry.page (sum_by (λ r. R.most_failures r) readers.items) (joined p.0.bytes.items) p.0.marks.items) }
+        IsReadFrom known 0 division.geometry.page (sum_by (λ r. R.most_failures r) readers.items) (joined division.geometry.page p.0.blocks.items) p.0.marks.items) }
     ensures same_bytes { IfOk result (λ p. (known : Option (List ℕ)) → All (λ r. R.bytes r ≡ known) readers.items →
         R.bytes p.1 ≡ known) }
     ensures within { IfOk result (λ p. R.most_failures p.1 ≤ sum_by (λ r. R.most_failures r) readers.items) }
@@ -202,32 +249,31 @@ fn read_all<T: Threads + Sync, R: RawImage + Send + Drop>(
     let Some(last) = readers.pop() else {
         unreachable!()
     };
-    let (parts, (part, last)) = read_beside(rt, alloc, readers, last, geometry, stride);
+    let (parts, (part, last)) = read_beside(rt, alloc, readers, last, division);
     let mut parts = parts?;
     parts.add(part?)?;
     Ok((parts, last))
 }
 
-/// Reads the first parts by as many readers, each on a thread of its own.
+/// Reads the first shares by as many readers, each on a thread of its own.
 #[cycle(parts)]
 fn read_parts<T: Threads + Sync, R: RawImage + Send + Drop>(
     rt: &T,
     alloc: Global,
     readers: Vec<R>,
-    geometry: Geometry,
-    stride: usize,
-) -> Result<Parts, OutOfMemory>
+    division: Division,
+) -> Result<Part, OutOfMemory>
     requires few_reads { All (λ r. R.reads r < 2 ^ 62) readers.items }
-    requires in_range { vec_len readers * stride < 2 ^ 63 }
+    requires in_range { vec_len readers * division.share * division.stride < 2 ^ 62 }
     ensures shape { IfOk result (λ p.
-        AreFirstParts geometry.page stride (geometry.pages * geometry.extents) (vec_len readers) p.bytes.items p.marks.items) }
+        AreBlocks division.geometry division.stride 0 (vec_len readers * division.share) p.blocks.items p.marks.items) }
     ensures read { IfOk result (λ p. (known : Option (List ℕ)) → All (λ r. R.bytes r ≡ known) readers.items →
-        IsReadFrom known 0 geometry.page (sum_by (λ r. R.most_failures r) readers.items) (joined p.bytes.items) p.marks.items) }
+        IsReadFrom known 0 division.geometry.page (sum_by (λ r. R.most_failures r) readers.items) (joined division.geometry.page p.blocks.items) p.marks.items) }
 {
     if readers.is_empty() {
-        return Ok(Parts::new(alloc));
+        return Ok(Part::new(alloc));
     }
-    let (parts, _last) = read_all(rt, alloc, readers, geometry, stride)?;
+    let (parts, _last) = read_all(rt, alloc, readers, division)?;
     Ok(parts)
 }
 
@@ -263,9 +309,8 @@ pub fn load_in_parts<T: Threads + Sync, R: RawImage + Send + Drop>(
     ensures too_long { result ≡ Err LoadFault.TooLong → (known : Option (List ℕ)) → All (λ r. R.bytes r ≡ known) readers.items →
         IfSome known (λ text. disk_bytes geometry < length text) }
 {
-    let pages = geometry.pages() as usize * geometry.extents() as usize;
-    let stride = pages.div_ceil(readers.len());
-    let (parts, mut last) = match read_all(rt, alloc, readers, geometry, stride) {
+    let division = divide(geometry, readers.len());
+    let (parts, mut last) = match read_all(rt, alloc, readers, division) {
         Ok(read) => read,
         Err(OutOfMemory) => return Err(LoadFault::OutOfMemory),
     };
@@ -273,7 +318,7 @@ pub fn load_in_parts<T: Threads + Sync, R: RawImage + Send + Drop>(
     if has_byte_at(&mut last, end) {
         return Err(LoadFault::TooLong);
     }
-    let mut disk = PartedDisk::from_parts(geometry, stride, parts.bytes, parts.marks);
+    let mut disk = PartedDisk::from_blocks(geometry, division.stride, parts.blocks, parts.marks);
     mark_all(&mut disk, bad);
     Ok(disk)
 }

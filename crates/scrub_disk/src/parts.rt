@@ -1,25 +1,29 @@
-//! A disk in memory whose bytes lie in parts, so that threads can make and fill one each. For a disk in one piece, which
-//! can be written, see `memory`.
+//! A disk in memory whose pages lie in blocks, so that threads can make and fill some each, and pages of zeros needn't be
+//! stored. For a disk in one piece, which can be written, see `memory`.
 
-ghost use Rattle.std.specs.Prelude.{◌≡◌, ◌+◌, ◌*◌, ◌<◌, ◌≤◌, length};
-ghost use Rattle.scrub_disk.specs.Joined.{AreParts, joined};
+ghost use Rattle.std.specs.Prelude.{◌≡◌, ◌+◌, ◌*◌, ◌<◌, ◌≤◌, All, length};
+ghost use Rattle.std.proofs.Props.{props};
+ghost use Rattle.scrub_disk.specs.Joined.{HaveSizes, joined};
+ghost use Rattle.scrub_disk.specs.Stored.{HasPages};
 
+use crate::blocks::Block;
 use crate::geometry::Geometry;
 use crate::source::{PageSource, Unreadable};
 
-/// A disk's image in memory: the bytes of all pages, in parts of as many pages each, of which the last ones may have fewer,
-/// and a mark on each unreadable page.
+/// A disk's image in memory: its pages, in blocks of as many pages each, of which the last ones may have fewer, and a mark
+/// on each unreadable page.
 #[derive(Drop)]
 pub struct PartedDisk {
     geometry: Geometry,
-    /// How many pages a part has.
+    /// How many pages a block has.
     stride: usize,
-    parts: Vec<Vec<u8>>,
+    blocks: Vec<Block>,
     bad: Vec<bool>,
     ghost some: { 0 < stride },
-    ghost sizes: { AreParts geometry.page stride (geometry.pages * geometry.extents) parts.items },
-    ghost enough: { geometry.pages * geometry.extents ≤ stride * length parts.items },
-    ghost whole: { length (joined parts.items) ≡ geometry.page * geometry.pages * geometry.extents },
+    ghost sizes: { HaveSizes geometry.page stride (geometry.pages * geometry.extents) 0 blocks.items },
+    ghost stored: { All (HasPages geometry.page) blocks.items } by { Prim.hlevel props },
+    ghost enough: { geometry.pages * geometry.extents ≤ stride * length blocks.items },
+    ghost whole: { length (joined geometry.page blocks.items) ≡ geometry.page * geometry.pages * geometry.extents },
     ghost each_page: { length bad.items ≡ geometry.pages * geometry.extents },
 }
 
@@ -28,25 +32,26 @@ impl PartedDisk {
     ghost use Rattle.scrub_disk.specs.Memory.{Marks};
     ghost use Rattle.scrub_disk.specs.Parted.{image_of};
 
-    /// A disk with the bytes of all its pages, in parts of `stride` pages, and a mark for each page: true if it is
+    /// A disk with the bytes of all its pages, in blocks of `stride` pages, and a mark for each page: true if it is
     /// unreadable.
-    pub(crate) fn from_parts(
+    pub(crate) fn from_blocks(
         geometry: Geometry,
         stride: usize,
-        parts: Vec<Vec<u8>>,
+        blocks: Vec<Block>,
         bad: Vec<bool>,
     ) -> PartedDisk
         requires some { 0 < stride }
-        requires sizes { AreParts geometry.page stride (geometry.pages * geometry.extents) parts.items }
-        requires enough { geometry.pages * geometry.extents ≤ stride * length parts.items }
-        requires whole { length (joined parts.items) ≡ geometry.page * geometry.pages * geometry.extents }
+        requires sizes { HaveSizes geometry.page stride (geometry.pages * geometry.extents) 0 blocks.items }
+        requires stored { All (HasPages geometry.page) blocks.items }
+        requires enough { geometry.pages * geometry.extents ≤ stride * length blocks.items }
+        requires whole { length (joined geometry.page blocks.items) ≡ geometry.page * geometry.pages * geometry.extents }
         requires each_page { length bad.items ≡ geometry.pages * geometry.extents }
-        ensures { image_of result ≡ held geometry (joined parts.items) bad.items }
+        ensures { image_of result ≡ held geometry (joined geometry.page blocks.items) bad.items }
     {
         PartedDisk {
             geometry,
             stride,
-            parts,
+            blocks,
             bad,
         }
     }
@@ -69,7 +74,7 @@ impl PageSource for PartedDisk {
 
     ghost image = { image_of };
 
-    ghost whole_pages = { λ d. held_whole d.geometry (joined d.parts.items) d.bad.items d.whole };
+    ghost whole_pages = { λ d. held_whole d.geometry (joined d.geometry.page d.blocks.items) d.bad.items d.whole };
 
     fn geometry(&self) -> Geometry {
         self.geometry
@@ -80,10 +85,8 @@ impl PageSource for PartedDisk {
         if self.bad[number] {
             return Err(Unreadable);
         }
-        let part = &self.parts[number / self.stride];
-        let size = self.geometry.page() as usize;
-        let start = number % self.stride * size;
-        out.copy_from_slice(&part[start..start + size]);
+        let block = &self.blocks[number / self.stride];
+        block.read_page(number % self.stride, out);
         Ok(())
     }
 }

@@ -19,16 +19,25 @@ fn numbered(alloc: Global) -> Result<Vec<u8>, OutOfMemory> {
     Ok(bytes)
 }
 
-/// The first byte of each page, or 255 if it is unreadable.
-fn first_bytes<D: PageSource>(alloc: Global, disk: &D) -> Result<Vec<u8>, OutOfMemory> {
+/// The bytes of 256 pages of 64 bytes, of which two of three are zero, and some but for their last byte.
+fn sparse(alloc: Global) -> Result<Vec<u8>, OutOfMemory> {
+    let mut bytes = Vec::new(alloc);
+    for place in 0..16_384u32 {
+        let is_zero = place / 64 % 3 > 0 && place % 640 < 639;
+        bytes.push(if is_zero { 0 } else { (place % 251) as u8 })?;
+    }
+    Ok(bytes)
+}
+
+/// The bytes of all pages. Each byte of an unreadable page is 255.
+fn bytes_of<D: PageSource>(alloc: Global, disk: &D) -> Result<Vec<u8>, OutOfMemory> {
     let geometry = disk.geometry();
     let mut bytes = Vec::new(alloc);
     for extent in 0..geometry.extents() {
         for page in 0..geometry.pages() {
-            let mut out = vec![in alloc; 0; geometry.page() as usize]?;
+            let mut out = vec![in alloc; 255; geometry.page() as usize]?;
             match disk.read_page(extent, page, &mut out) {
-                Ok(()) => bytes.push(out[0])?,
-                Err(Unreadable) => bytes.push(255)?,
+                Ok(()) | Err(Unreadable) => bytes.extend_from_slice(&out)?,
             }
         }
     }
@@ -58,7 +67,7 @@ fn readers_of<'a>(
     Ok(readers)
 }
 
-/// Loads four extents of 64 pages of 64 bytes by `count` readers and one more, and gives the first byte of each page.
+/// Loads four extents of 64 pages of 64 bytes by `count` readers and one more, and gives their bytes.
 fn loaded<R: Threads + Sync>(
     rt: &R,
     alloc: Global,
@@ -72,14 +81,30 @@ fn loaded<R: Threads + Sync>(
 {
     let readers = readers_of(alloc, bytes, count, most, failing, faults)?;
     let disk = load_in_parts(rt, alloc, readers, Geometry::new(64, 64, 4)?, &[(1, 2)])?;
-    Ok(first_bytes(alloc, &disk)?)
+    Ok(bytes_of(alloc, &disk)?)
 }
 
 /// The same by one reader, page by page, without a fault.
 fn wanted(alloc: Global, bytes: &[u8]) -> Result<Vec<u8>, Fail> {
     let mut raw = RawBytes::new(bytes);
     let disk = load(alloc, &mut raw, Geometry::new(64, 64, 4)?, &[(1, 2)])?;
-    Ok(first_bytes(alloc, &disk)?)
+    Ok(bytes_of(alloc, &disk)?)
+}
+
+/// Checks that one reader and 2, 3, 7 and 64 of them load the same disk of these bytes, whatever a read gives at most.
+fn same_by_more_readers<R: Threads + Sync + Abort>(
+    rt: &R,
+    alloc: Global,
+    bytes: &[u8],
+) -> Result<(), Fail> {
+    let wanted = wanted(alloc, bytes)?;
+    for count in [0, 1, 2, 6, 63] {
+        for most in [1, 40, 64, 4096, 65_536] {
+            let found = loaded(rt, alloc, bytes, count, most, 0, 0)?;
+            same(rt, found.as_slice(), wanted.as_slice());
+        }
+    }
+    Ok(())
 }
 
 #[test]
@@ -87,15 +112,20 @@ fn any_number_of_readers_loads_the_same_disk(rt: HostRuntime) -> Result<(), Fail
     let bytes = numbered(rt.alloc())?;
     for length in [16_384, 16_383, 10_000, 63, 0] {
         let front = bytes.get(..length).ok_or("a length of the disk")?;
-        let wanted = wanted(rt.alloc(), front)?;
-        for count in [0, 1, 2, 6, 63] {
-            for most in [1, 40, 64, 4096, 65_536] {
-                let found = loaded(&rt, rt.alloc(), front, count, most, 0, 0)?;
-                same(&rt, found.as_slice(), wanted.as_slice());
-            }
-        }
+        same_by_more_readers(&rt, rt.alloc(), front)?;
     }
     Ok(())
+}
+
+#[test]
+fn pages_of_zeros_between_others_are_loaded_as_they_are(rt: HostRuntime) -> Result<(), Fail> {
+    let bytes = sparse(rt.alloc())?;
+    for length in [16_384, 10_000] {
+        let front = bytes.get(..length).ok_or("a length of the disk")?;
+        same_by_more_readers(&rt, rt.alloc(), front)?;
+    }
+    let zeros = vec![in rt.alloc(); 0; 16_384]?;
+    same_by_more_readers(&rt, rt.alloc(), &zeros)
 }
 
 /// A read asks for four pages. If it fails once, each of them is read alone; if the next read fails too, that costs a page.
@@ -109,8 +139,8 @@ fn a_failed_read_of_several_pages_costs_none_and_one_of_a_page_costs_it(
     let found = loaded(&rt, rt.alloc(), front, 0, 4096, 3, 1)?;
     same(&rt, found.as_slice(), wanted.as_slice());
     let twice = loaded(&rt, rt.alloc(), front, 0, 4096, 3, 2)?;
-    if let Some(first) = wanted.get_mut(12) {
-        *first = 255;
+    if let Some(lost) = wanted.as_mut_slice().get_mut(12 * 64..13 * 64) {
+        lost.fill(255);
     }
     same(&rt, twice.as_slice(), wanted.as_slice());
     Ok(())
@@ -137,7 +167,7 @@ fn a_byte_behind_the_last_page_is_too_long_for_any_number_of_readers(
 fn readers_that_always_fail_load_no_page(rt: HostRuntime) -> Result<(), Fail> {
     let bytes = numbered(rt.alloc())?;
     let found = loaded(&rt, rt.alloc(), &bytes, 0, 4096, 0, u64::MAX)?;
-    let none = vec![in rt.alloc(); 255; 256]?;
+    let none = vec![in rt.alloc(); 255; 16_384]?;
     same(&rt, found.as_slice(), none.as_slice());
     Ok(())
 }

@@ -1,53 +1,53 @@
--- The first parts, which the other readers read, and the last one.
-use Rattle.std.proofs.Common.{rules, arith, ◌≡◌, ◌+◌, ◌-◌, ◌*◌, ◌++◌, ◌∷◌, [], ◌∙◌, length, min, vec_len, sum_by}
+-- The first shares, which the other readers read, and the last one.
+use Rattle.std.proofs.Common.{rules, arith, ◌≡◌, ◌+◌, ◌*◌, ◌++◌, ◌∷◌, [], ◌∙◌, ap, refl, vec_len, sum_by}
 use Rattle.scrub_disk.specs.Ahead.{IsReadFrom}
-use Rattle.scrub_disk.specs.Joined.{AreFirstParts, joined}
-use Rattle.scrub_disk.proofs.JoinedParts.{one_more_part}
-use Rattle.scrub_disk.proofs.PartsRead.{all_ends, joined_more, read_more_parts, sum_ends}
+use Rattle.scrub_disk.specs.Joined.{AreBlocks, first_page, joined}
+use Rattle.scrub_disk.proofs.JoinedBlocks.{blocks_read, more_blocks}
+use Rattle.scrub_disk.proofs.PartsRead.{all_ends, sum_ends}
 use Rattle.scrub_disk.proofs.parted_loading.+parts.Goals as goal
 
 pub read_all-returns-clause-shape : goal.read_all-returns-clause-shape
 read_all-returns-clause-shape g t c =
+    let d = c.args.division in
     let parts = c.in_ok-parts.parts in
     let part = c.in_ok-part.field-0 in
-    let all = c.args.geometry.pages * c.args.geometry.extents in
+    let all = c.add.new.self in
     let count = vec_len c.pop.new.self in
     let number : vec_len c.args.readers ≡ count + 1 = search rules in
-    let shape : AreFirstParts c.args.geometry.page c.args.stride all count parts.bytes.items parts.marks.items = search rules in
-    let size : length part.bytes.items ≡ c.args.geometry.page * min c.args.stride (all - count * c.args.stride) = search rules in
-    let few : length part.marks.items ≡ min c.args.stride (all - count * c.args.stride) = search rules in
-    let bytes : c.add.new.self.bytes.items ≡ parts.bytes.items ++ part.bytes ∷ [] = search rules in
-    let marks : c.add.new.self.marks.items ≡ parts.marks.items ++ part.marks.items = search rules in
-    rw number
-    (one_more_part c.args.geometry.page c.args.stride all count parts.bytes.items c.add.new.self.bytes.items part.bytes
-    parts.marks.items part.marks.items c.add.new.self.marks.items shape size few bytes marks)
+    let times : vec_len c.args.readers * d.share ≡ (count + 1) * d.share = ap (λ m. m * d.share) number in
+    let shape : AreBlocks d.geometry d.stride 0 (count * d.share) parts.blocks.items parts.marks.items = search rules in
+    let behind : AreBlocks d.geometry d.stride (count * d.share) d.share part.blocks.items part.marks.items = search rules in
+    let blocks : all.blocks.items ≡ parts.blocks.items ++ part.blocks.items = search rules in
+    let marks : all.marks.items ≡ parts.marks.items ++ part.marks.items = search rules in
+    more_blocks d.geometry d.stride 0 (count * d.share) (count * d.share) d.share (vec_len c.args.readers * d.share)
+    parts.blocks.items part.blocks.items all.blocks.items parts.marks.items part.marks.items all.marks.items
+    (omega arith) (omega (arith, times)) shape behind blocks marks
 
 pub read_all-returns-clause-read : goal.read_all-returns-clause-read
 read_all-returns-clause-read g t c known every =
+    let d = c.args.division in
     let parts = c.in_ok-parts.parts in
     let part = c.in_ok-part.field-0 in
-    let all = c.args.geometry.pages * c.args.geometry.extents in
+    let all = c.add.new.self in
     let count = vec_len c.pop.new.self in
     let front = c.pop.new.self.items in
     let is : c.args.readers.items ≡ front ++ c.in-Some.last ∷ [] = search rules in
     let ends = all_ends (λ r. g.R.RawImage.bytes r ≡ known) front c.args.readers.items c.in-Some.last is every in
-    let shape : AreFirstParts c.args.geometry.page c.args.stride all count parts.bytes.items parts.marks.items = search rules in
-    let size : length part.bytes.items ≡ c.args.geometry.page * min c.args.stride (all - count * c.args.stride) = search rules in
-    let few : length part.marks.items ≡ min c.args.stride (all - count * c.args.stride) = search rules in
-    let bytes : c.add.new.self.bytes.items ≡ parts.bytes.items ++ part.bytes ∷ [] = search rules in
-    let marks : c.add.new.self.marks.items ≡ parts.marks.items ++ part.marks.items = search rules in
-    let before : IsReadFrom known 0 c.args.geometry.page (sum_by (λ r. g.R.RawImage.most_failures r) front) (joined parts.bytes.items) parts.marks.items =
+    let shape : AreBlocks d.geometry d.stride 0 (count * d.share) parts.blocks.items parts.marks.items = search rules in
+    let behind : AreBlocks d.geometry d.stride (count * d.share) d.share part.blocks.items part.marks.items = search rules in
+    let blocks : all.blocks.items ≡ parts.blocks.items ++ part.blocks.items = search rules in
+    let marks : all.marks.items ≡ parts.marks.items ++ part.marks.items = search rules in
+    let before : IsReadFrom known 0 d.geometry.page (sum_by (λ r. g.R.RawImage.most_failures r) front) (joined d.geometry.page parts.blocks.items) parts.marks.items =
     (rw c.in_ok-parts.was at c.read_beside-parts.ensures.read) known ends.0 in
-    let behind : IsReadFrom (g.R.RawImage.bytes c.in-Some.last) (min all (count * c.args.stride)) c.args.geometry.page (g.R.RawImage.most_failures c.in-Some.last) part.bytes.items part.marks.items =
+    let rest : IsReadFrom (g.R.RawImage.bytes c.in-Some.last) (first_page d.geometry d.stride (count * d.share)) d.geometry.page (g.R.RawImage.most_failures c.in-Some.last) (joined d.geometry.page part.blocks.items) part.marks.items =
     rw c.in_ok-part.was at c.read_beside-parts.ensures.part_read in
-    rw (sum_ends (λ r. g.R.RawImage.most_failures r) front c.args.readers.items c.in-Some.last is)
-    (read_more_parts known c.args.geometry.page (min all (count * c.args.stride))
-    (min c.args.stride (all - count * c.args.stride))
+    blocks_read d.geometry d.stride 0 (count * d.share) (count * d.share) d.share 0 (first_page d.geometry d.stride (count * d.share))
     (sum_by (λ r. g.R.RawImage.most_failures r) front) (g.R.RawImage.most_failures c.in-Some.last)
-    (joined parts.bytes.items) part.bytes.items (joined c.add.new.self.bytes.items)
-    parts.marks.items part.marks.items c.add.new.self.marks.items
-    (omega (arith, c.args.geometry.page_size.least)) shape.whole shape.each_page size few
-    (joined_more parts.bytes.items c.add.new.self.bytes.items part.bytes bytes) marks before (rw ends.1 at behind))
+    (sum_by (λ r. g.R.RawImage.most_failures r) c.args.readers.items)
+    known parts.blocks.items part.blocks.items all.blocks.items parts.marks.items part.marks.items
+    all.marks.items (omega arith) (omega arith) refl
+    (sum_ends (λ r. g.R.RawImage.most_failures r) front c.args.readers.items c.in-Some.last is)
+    shape behind blocks marks before (rw ends.1 at rest)
 
 pub read_all-returns-clause-same_bytes : goal.read_all-returns-clause-same_bytes
 read_all-returns-clause-same_bytes g t c known every =

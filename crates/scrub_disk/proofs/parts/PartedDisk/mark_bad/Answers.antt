@@ -5,6 +5,7 @@ use Rattle.scrub_disk.proofs.parts.PartedDisk.mark_bad.Goals as goal
 
 pub returns : goal.returns
 returns c =
+    let d = c.args.self.now in
     rw c.pages.ensures
-    (marks c.args.self.now.geometry (joined c.args.self.now.parts.items) c.args.self.now.bad.items c.args.extent c.args.page
-    c.args.self.now.each_page c.requires.in_extents c.requires.in_pages)
+    (marks d.geometry (joined d.geometry.page d.blocks.items) d.bad.items c.args.extent c.args.page d.each_page
+    c.requires.in_extents c.requires.in_pages)
