@@ -7,7 +7,7 @@ use Rattle.sha2.specs.Sha256.{compress, hash_after, initial_hash_256}
 use Rattle.sha2.proofs.Absorbing256.{hash_after_next}
 use Rattle.sha_lanes.specs.declared.lanes.Lanes.{Lanes}
 use Rattle.sha_lanes.specs.declared.lanes.Span.{Span}
-use Rattle.sha_lanes.specs.Lanes.{block_at, lane, Carries, AreLanes, IsWithin}
+use Rattle.sha_lanes.specs.Lanes.{block_at, lane, lane_count, Carries, AreLanes, IsWithin}
 
 -- a lane that stays as it was
 pub Carries_same : {bytes : List ℕ} {old new : Lanes} {l : ℕ} {span : Span}
@@ -57,10 +57,10 @@ Carries_begun place left state = record { done = 0; here = omega arith; rest = o
 
 -- a lane that has a block left has it within the bytes
 pub block_within : {bytes : List ℕ} {spans : List Span} {lanes : Lanes} (l : ℕ) → AreLanes bytes spans lanes
-    → All (IsWithin bytes) spans → l < 4 → 0 < slice_index lanes.left l → slice_index lanes.place l + 64 ≤ length bytes
+    → All (IsWithin bytes) spans → l < lane_count → 0 < slice_index lanes.left l → slice_index lanes.place l + 64 ≤ length bytes
 block_within {bytes} {spans} {lanes} l are within lt more = elim (cases_lt (slice_index lanes.index l) (length spans)) [
   | inl below ↦
-      let d : Span = record { start = 0; blocks = 0 } in
+      let d : Span = record { start = 0; blocks = 0; length = 0 } in
       let span : Span = slice_index_or spans (slice_index lanes.index l) d in
       let is : slice_index_or spans (slice_index lanes.index l) span ≡ span =
       get_or_default spans (slice_index lanes.index l) span d below in

@@ -6,7 +6,7 @@ use Rattle.sha2.specs.Sha256.{hash_after, initial_hash_256, digest_bytes, padded
 use Rattle.sha2.proofs.Absorbing256.{hash_after-append}
 use Rattle.sha_lanes.specs.declared.lanes.Span.{Span}
 use Rattle.sha_lanes.specs.Lanes.{digest_of}
-use Rattle.sha_lanes.specs.Gathered.{IsMessage, AreMessages}
+use Rattle.sha_lanes.specs.Gathered.{IsMessage, AreMessages, message_of}
 
 All_first : (P : Span → Type 0) (span : Span) (spans : List Span) → All P (span ∷ spans) → P span
 All_first P span spans all = all 0 span (omega arith)
@@ -21,6 +21,7 @@ IsMessage_grown bytes more span message within is = record {
   padded = drop-append-le span.start bytes more within ∙ ap (λ (xs : List ℕ). xs ++ more) is.padded
       ∙ append_assoc (padded_message message) is.rest more;
   whole = is.whole;
+  long = is.long;
 }
 
 -- bytes that are added change no message
@@ -51,6 +52,7 @@ IsMessage_cut bytes begun span message within is =
       padded = sym (take-append-drop n (drop span.start (take begun bytes)))
           ∙ ap (λ (xs : List ℕ). xs ++ drop n (drop span.start (take begun bytes))) front;
       whole = is.whole;
+      long = is.long;
     }
 
 -- nor do bytes that are cut off behind the messages
@@ -93,14 +95,16 @@ whole_blocks message =
 
 -- the message that the bytes from `begun` on are, with its padding
 pub ended : (bytes message : List ℕ) (begun : ℕ) (span : Span) → drop begun bytes ≡ padded_message message
-    → span.start ≡ begun → span.blocks ≡ (length (drop begun bytes)) / 64 → IsMessage bytes span message
-ended bytes message begun span is start blocks =
+    → span.start ≡ begun → span.blocks ≡ (length (drop begun bytes)) / 64 → span.length ≡ length message
+    → IsMessage bytes span message
+ended bytes message begun span is start blocks size =
     let long : length (drop begun bytes) ≡ length (padded_message message) = ap length is in
     let whole = whole_blocks message in
     record {
       rest = [];
       padded = ap (λ (n : ℕ). drop n bytes) start ∙ is ∙ sym (append-nil (padded_message message));
       whole = omega (arith, long, whole, blocks);
+      long = size;
     }
 
 digest_is : (bytes : List ℕ) (span : Span) (message : List ℕ) → IsMessage bytes span message → digest_of bytes span ≡ sha256 message
@@ -123,3 +127,18 @@ digests_are bytes [] (message ∷ messages) are = absurd are
 digests_are bytes (span ∷ spans) [] are = absurd are
 digests_are bytes (span ∷ spans) (message ∷ messages) are =
     ap₂ (λ x xs. x ∷ xs) (digest_is bytes span message are.0) (digests_are bytes spans messages are.1)
+
+-- the message of a span is that message
+message_is : (bytes : List ℕ) (span : Span) (message : List ℕ) → IsMessage bytes span message → message_of bytes span ≡ message
+message_is bytes span message is =
+    ap (take span.length) (is.padded ∙ append_assoc message (padding (length message)) is.rest)
+    ∙ take_at message (padding (length message) ++ is.rest) span.length (sym is.long)
+
+-- so its digest is the message's
+pub digests_alone : (bytes : List ℕ) (spans : List Span) (messages : List (List ℕ)) → AreMessages bytes spans messages
+    → map (λ s. sha256 (message_of bytes s)) spans ≡ map sha256 messages
+digests_alone bytes [] [] are = refl
+digests_alone bytes [] (message ∷ messages) are = absurd are
+digests_alone bytes (span ∷ spans) [] are = absurd are
+digests_alone bytes (span ∷ spans) (message ∷ messages) are =
+    ap₂ (λ x xs. x ∷ xs) (ap sha256 (message_is bytes span message are.0)) (digests_alone bytes spans messages are.1)

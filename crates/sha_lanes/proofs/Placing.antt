@@ -2,12 +2,12 @@
 use Rattle.std.proofs.Common.{◌≡◌, ◌≢◌, ◌<◌, ◌≤◌, ◌⊎◌, ℕ, List, [], length, slice_index, slice_index_or, ◌∙◌, sym, inl, inr}
 use Rattle.std.proofs.lemmas.Bool.{cases_eq}
 use Rattle.sha_lanes.specs.declared.lanes.Span.{Span}
-use Rattle.sha_lanes.specs.Lanes.{digest_of}
+use Rattle.sha_lanes.specs.Lanes.{digest_of, lane_count}
 
 -- span i is in one of the lanes from `from` on, or its digest is written
 abbrev pub IsPlaced : List ℕ → List Span → List ℕ → List (List ℕ) → ℕ → ℕ → Type 0
 IsPlaced bytes spans index digests from i = (span : Span) → slice_index_or spans i span ≡ span →
-    ((j : ℕ) × (from ≤ j) × (j < 4) × (slice_index index j ≡ i)) ⊎ (slice_index_or digests i [] ≡ digest_of bytes span)
+    ((j : ℕ) × (from ≤ j) × (j < lane_count) × (slice_index index j ≡ i)) ⊎ (slice_index_or digests i [] ≡ digest_of bytes span)
 
 -- the same once lane l has ended, and other spans are in the lanes
 pub placed_on : (bytes : List ℕ) (spans : List Span) (index later : List ℕ) (digests more : List (List ℕ)) (l from to i : ℕ)
@@ -15,7 +15,7 @@ pub placed_on : (bytes : List ℕ) (spans : List Span) (index later : List ℕ) 
     → ((span : Span) → slice_index index l < length spans → slice_index_or spans (slice_index index l) span ≡ span →
     slice_index_or more (slice_index index l) [] ≡ digest_of bytes span)
     → ((k : ℕ) → k ≢ slice_index index l → slice_index_or more k [] ≡ slice_index_or digests k [])
-    → ((j : ℕ) → from ≤ j → j < 4 → j ≢ l → (to ≤ j) × (slice_index later j ≡ slice_index index j))
+    → ((j : ℕ) → from ≤ j → j < lane_count → j ≢ l → (to ≤ j) × (slice_index later j ≡ slice_index index j))
     → IsPlaced bytes spans index digests from i → IsPlaced bytes spans later more to i
 placed_on bytes spans index later digests more l from to i below written others kept placed = λ span is.
     elim (cases_eq i (slice_index index l)) [

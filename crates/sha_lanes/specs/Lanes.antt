@@ -4,6 +4,10 @@ use Rattle.sha2.specs.Sha256.{digest_bytes, hash_after, initial_hash_256}
 use Rattle.sha_lanes.specs.declared.lanes.Lanes.{Lanes}
 use Rattle.sha_lanes.specs.declared.lanes.Span.{Span}
 
+-- how many lanes there are: the code's LANES
+abbrev pub lane_count : ℕ
+lane_count = 4
+
 -- the word of lane l in vector i
 abbrev pub word_in : ℕ → List (List ℕ) → ℕ → ℕ
 word_in l rows i = slice_index (slice_index_or rows i []) l
@@ -43,6 +47,6 @@ pub record Carries (bytes : List ℕ) (lanes : Lanes) (l : ℕ) (span : Span) : 
 
 -- a lane has one of the spans, or nothing
 pub record AreLanes (bytes : List ℕ) (spans : List Span) (lanes : Lanes) : Type 0 where
-  pub carried : (l : ℕ) (span : Span) → l < 4 → slice_index lanes.index l < length spans →
+  pub carried : (l : ℕ) (span : Span) → l < lane_count → slice_index lanes.index l < length spans →
       slice_index_or spans (slice_index lanes.index l) span ≡ span → Carries bytes lanes l span
-  pub idle : (l : ℕ) → l < 4 → length spans ≤ slice_index lanes.index l → slice_index lanes.left l ≡ 0
+  pub idle : (l : ℕ) → l < lane_count → length spans ≤ slice_index lanes.index l → slice_index lanes.left l ≡ 0

@@ -12,13 +12,15 @@ use std::alloc::{AllocError, Global};
 /// The most spans that are put in order by their lengths.
 const MOST_SORTED: usize = 64;
 
-/// Some blocks of 64 bytes, one behind another.
+/// Some blocks of 64 bytes, one behind another: a message with its padding.
 #[derive(Clone, Copy)]
 pub(crate) struct Span {
     /// The byte at which the first begins.
     pub start: usize,
     /// How many there are.
     pub blocks: usize,
+    /// The bytes of the message, without its padding.
+    pub length: usize,
 }
 
 /// What the lanes do.

@@ -1,10 +1,11 @@
 use Rattle.std.proofs.Common.{refl}
+use Rattle.sha_lanes.specs.Lanes.{lane_count}
 use Rattle.sha_lanes.proofs.LaneByLane.{HasIn, splat}
 use Rattle.sha_lanes.proofs.block.round.Goals as goal
 
 pub returns : goal.returns
 returns c l lt =
-    let constant : HasIn 4 l _ c.args.k = splat c.args.k lt in
+    let constant : HasIn lane_count l _ c.args.k = splat c.args.k lt in
     rw (
       c.add.ensures l lt,
       c.add-2.ensures l lt,

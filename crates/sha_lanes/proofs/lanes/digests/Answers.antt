@@ -27,7 +27,7 @@ spans-preserved c =
     rw whole
     (record {
       size = omega arith;
-      lanes = c.begin.ensures.lanes bytes spans (get_or_default spans m _ (record { start = 0; blocks = 0 }) below) below c.end.ensures.lanes;
+      lanes = c.begin.ensures.lanes bytes spans (get_or_default spans m _ (record { start = 0; blocks = 0; length = 0 }) below) below c.end.ensures.lanes;
       placed = λ i lt. elim (cases_lt i c.spans.k) [
         | inl less ↦
             placed_on bytes spans was c.begin.new.self.index c.spans.digests.items c.end.new.digests l 0 0 (slice_index order i) (number i (omega arith))
@@ -83,10 +83,10 @@ returns c =
     (c.rest.invariant.size ∙ sym (length-map c.args.spans.now (digest_of c.args.bytes.now)))
     (λ k d lt.
     let below : k < length c.args.spans.now = omega (arith, c.rest.invariant.size) in
-    let span : Span = slice_index_or c.args.spans.now k (record { start = 0; blocks = 0 }) in
+    let span : Span = slice_index_or c.args.spans.now k (record { start = 0; blocks = 0; length = 0 }) in
     elim (c.rest.invariant.placed k below span (get_or_default c.args.spans.now k span _ below)) [
       | inl at ↦ absurd (omega (arith, at.1, at.2))
       | inr done ↦
           get_or_default c.rest.digests.items k d [] lt ∙ done
-          ∙ sym (get_or-map (digest_of c.args.bytes.now) c.args.spans.now k (record { start = 0; blocks = 0 }) d below)
+          ∙ sym (get_or-map (digest_of c.args.bytes.now) c.args.spans.now k (record { start = 0; blocks = 0; length = 0 }) d below)
     ])

@@ -28,7 +28,7 @@ returns c = λ messages next held.
     record {
       messages_are = rw (items, c.in_ok-push.ensures.items)
           (one_more (old ++ (pad ++ bits)) batch.spans.items messages _ next
-          (ended (old ++ (pad ++ bits)) next at _ (rw items at whole) refl (ap (λ n. n / 64) count))
+          (ended (old ++ (pad ++ bits)) next at _ (rw items at whole) refl (ap (λ n. n / 64) count) same)
           (grown old (pad ++ bits) at batch.spans.items messages batch.begun_within batch.spans_within held.messages_are));
       next_is = drop_all _ all (omega arith);
     }

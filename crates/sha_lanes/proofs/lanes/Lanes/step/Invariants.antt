@@ -1,12 +1,12 @@
 use Rattle.std.proofs.Common.{◌≡◌, ◌<◌, ◌≤◌, ◌+◌, ℕ, length, slice_index}
-use Rattle.sha_lanes.specs.Lanes.{lane}
+use Rattle.sha_lanes.specs.Lanes.{lane, lane_count}
 use Rattle.sha_lanes.proofs.Carrying.{IsStepped}
 use Rattle.sha_lanes.proofs.lanes.Lanes.step.Given as goal
 
 abbrev pub invariant-places : goal.invariant-places
 invariant-places l = record {
-  size : length l.places ≡ 4;
-  within : (j : ℕ) → j < 4 → slice_index l.places j + 64 ≤ length l.bytes;
+  size : length l.places ≡ lane_count;
+  within : (j : ℕ) → j < lane_count → slice_index l.places j + 64 ≤ length l.bytes;
   so_far : (j : ℕ) → j < l.l → 0 < slice_index l.self.left j → slice_index l.places j ≡ slice_index l.self.place j;
 }
 
