@@ -13,7 +13,7 @@ use crate::job::Job;
 use crate::tally::{Tally, claim, count};
 use scrub_book::WorkerCore;
 use scrub_disk::PageSource;
-use scrub_scan::scan_extent;
+use scrub_scan::{Workspace, scan_extent_in};
 use std::sync::ledger::{Ledger, Share};
 use std::sync::{Mutex, Wait};
 
@@ -41,6 +41,7 @@ pub(crate) fn take_until_empty<'d, D: PageSource, L: Ledger + Send + Sync, G: Ga
     ensures all { OnOk result (pass.new.first ≡ true → pass.new.out ≡ 0 → HasTakenAll pass.new) }
     ensures rising { OnOk result (IsStrictlyIncreasing pass.new.own × All IsStrictlyIncreasing pass.new.joined) }
 {
+    let mut workspace = Workspace::new(job.alloc);
     for _ in rt.forever() {
         core.reserve(1)?;
         let Some(extent) = job.queue.take(rt, pass) else {
@@ -48,7 +49,7 @@ pub(crate) fn take_until_empty<'d, D: PageSource, L: Ledger + Send + Sync, G: Ga
         };
         core.took(extent);
         job.gate.passed(number, extent);
-        let found = scan_extent(job.alloc, disk, job.plan, extent)?;
+        let found = scan_extent_in(job.alloc, &mut workspace, disk, job.plan, extent)?;
         core.done(found);
         let Some(total) = count(rt, tally, share) else {
             return Err(OutOfMemory);

@@ -1,12 +1,13 @@
 -- What a head, and what closes the frame that it claims, say of the frame between them.
-use Rattle.std.proofs.Common.{◌≡◌, ◌<◌, ◌+◌, ◌^◌, ℕ, List, ◌++◌, map, take, length, arith, refl, sym, ◌∙◌, ap, subst, Option, Some, None, IfSome, IfNone}
+use Rattle.std.proofs.Common.{◌≡◌, ◌<◌, ◌+◌, ◌^◌, ℕ, List, [], ◌++◌, map, take, length, arith, refl, sym, ◌∙◌, ap, subst, Option, Some, None, IfSome, IfNone}
 use Rattle.std.specs.List.{range_with_len}
 use Rattle.std.proofs.lemmas.List.FromFn.{get_or-map-range_with_len, length-map-range_with_len}
 use Rattle.scrub_disk.specs.Image.{Image, byte, AreBytesAt}
 use Rattle.scrub_frame.specs.declared.form.Form.{Form}
 use Rattle.scrub_frame.specs.declared.form.Form.TheVariants.{Plain}
 use Rattle.scrub_frame.specs.declared.frame.Head.{Head}
-use Rattle.scrub_frame.specs.Frame.{head, head_size, magic, mark, payload_start, frame_overhead}
+use Rattle.scrub_frame.specs.Frame.{head, head_size, magic, seal, mark, payload_start, frame_overhead}
+use Rattle.scrub_frame.proofs.Frames.{length-seal}
 use Rattle.scrub_scan.specs.Extent.{Extent, extent_of, FrameAt, NoFrameAt, HasGap}
 use Rattle.scrub_scan.specs.Standing.{IsClaimedAt, IsOnlyFrame, HasPlainFrame}
 use Rattle.scrub_scan.proofs.FrameBytes.{length-head_of, claimed_head, claimed_frame, has_magic, close_stands}
@@ -71,27 +72,39 @@ bytes_stand at p n whole k below =
     (λ none. whole (record { place = p + k; low = omega arith; high = omega (arith, few); unreadable = none }))
     ∙ ap Some (sym (get_or-map-range_with_len (λ i. byte_or_zero (at i)) p n k (p + k) 0 few refl))
 
--- a plain frame is there, if bytes of its length are between its two ends
+-- the frame of a head is there, if its seal and bytes of its payload's length are between its two ends
+pub frame_of : (x : Extent) (p : ℕ) (h : Head) (s b : List ℕ) → IsClaimedAt x p h → h.length ≡ length b →
+    s ≡ seal h.form b → AreBytesAt x.byte (p + head_size) s → AreBytesAt x.byte (p + payload_start h.form) b →
+    FrameAt x p h.form h.uuid b
+frame_of x p h s b claim size is sealed between =
+    let start : AreBytesAt x.byte p (head h.form h.uuid (length b)) =
+    subst (λ (m : ℕ). AreBytesAt x.byte p (head h.form h.uuid m)) size claim.head_stands in
+    let stop : AreBytesAt x.byte (p + payload_start h.form + h.length) (h.uuid ++ mark h.form) =
+    subst (λ (q : ℕ). AreBytesAt x.byte q (h.uuid ++ mark h.form))
+    (let e : p + h.length + payload_start h.form ≡ p + payload_start h.form + h.length = omega arith in e)
+    claim.close_stands in
+    let behind : AreBytesAt x.byte (p + payload_start h.form) (b ++ (h.uuid ++ mark h.form)) =
+    bytes_joined x.byte (p + payload_start h.form) (p + payload_start h.form + h.length) b (h.uuid ++ mark h.form)
+    (omega (arith, size)) between stop in
+    let middle : AreBytesAt x.byte (p + head_size) (s ++ (b ++ (h.uuid ++ mark h.form))) =
+    bytes_joined x.byte (p + head_size) (p + payload_start h.form) s (b ++ (h.uuid ++ mark h.form))
+    (omega (arith, ap length is, length-seal h.form b)) sealed behind in
+    record {
+      has_frame = record { sixteen = claim.sixteen; short = omega (arith, size, claim.short) };
+      fits = omega (arith, size, claim.fits);
+      stands =
+          bytes_joined x.byte p (p + head_size) (head h.form h.uuid (length b))
+          (seal h.form b ++ (b ++ (h.uuid ++ mark h.form)))
+          (omega (arith, length-head_of h.form h.uuid (length b) claim.sixteen)) start (rw is at middle);
+    }
+
+-- a plain one is there, if bytes of its length are
 pub plain_frame_of : (x : Extent) (p : ℕ) (h : Head) (b : List ℕ) → IsClaimedAt x p h → h.form ≡ Plain →
     h.length ≡ length b → AreBytesAt x.byte (p + head_size) b → FrameAt x p Plain h.uuid b
 plain_frame_of x p h b claim is size between =
-    let start : AreBytesAt x.byte p (head Plain h.uuid (length b)) =
-    subst (λ (m : ℕ). AreBytesAt x.byte p (head Plain h.uuid m)) size
-    (subst (λ (f : Form). AreBytesAt x.byte p (head f h.uuid h.length)) is claim.head_stands) in
-    let stop : AreBytesAt x.byte (p + head_size + h.length) (h.uuid ++ mark Plain) =
-    subst (λ (q : ℕ). AreBytesAt x.byte q (h.uuid ++ mark Plain))
-    (let e : p + h.length + head_size ≡ p + head_size + h.length = omega arith in e) (rw is at claim.close_stands) in
-    let round : frame_overhead h.form ≡ frame_overhead Plain = ap frame_overhead is in
-    let behind : AreBytesAt x.byte (p + head_size) (b ++ (h.uuid ++ mark Plain)) =
-    bytes_joined x.byte (p + head_size) (p + head_size + h.length) b (h.uuid ++ mark Plain) (omega (arith, size)) between
-    stop in
-    record {
-      has_frame = record { sixteen = claim.sixteen; short = omega (arith, size, claim.short) };
-      fits = omega (arith, size, round, claim.fits);
-      stands =
-          bytes_joined x.byte p (p + head_size) (head Plain h.uuid (length b)) (b ++ (h.uuid ++ mark Plain))
-          (omega (arith, length-head_of Plain h.uuid (length b) claim.sixteen)) start behind;
-    }
+    subst (λ (f : Form). FrameAt x p f h.uuid b) is
+    (frame_of x p h [] b claim size (sym (ap (λ (f : Form). seal f b) is)) (λ k below. absurd (omega (arith, below)))
+    (subst (λ (f : Form). AreBytesAt x.byte (p + payload_start f) b) (sym is) between))
 
 -- so a plain frame is there, if all its bytes can be read
 pub plain_frame : (x : Extent) (p : ℕ) (h : Head) → IsClaimedAt x p h → h.form ≡ Plain →

@@ -1,17 +1,22 @@
 -- A payload that is gathered piece by piece, and digests that are put in later.
-use Rattle.std.proofs.Common.{◌≡◌, ◌<◌, ◌≤◌, ◌+◌, ◌-◌, ℕ, zero, suc, List, All, [], ◌++◌, ◌∷◌, refl, slice_set, slice_index_or, Bool, true, false, length, drop, min, slice_index, arith, sym, ◌∙◌, ap, inl, inr, Option, Some, length-append, length-drop}
+use Rattle.std.proofs.Common.{◌≡◌, ◌<◌, ◌≤◌, ◌+◌, ◌-◌, ℕ, zero, suc, List, All, [], ◌++◌, ◌∷◌, refl, subst, slice_set, slice_index_or, Bool, true, false, length, take, drop, min, slice_index, arith, sym, ◌∙◌, ap, inl, inr, Option, Some, length-append, append_assoc, length-drop}
 use Rattle.std.proofs.Math.Seq.{get_or-append_right}
 use Rattle.std.proofs.lemmas.Bool.{cases_lt}
-use Rattle.std.proofs.lemmas.List.{get_or_append_left, get_or-take, get_or-drop, length-take-le}
+use Rattle.std.proofs.lemmas.Option.{same_Some}
+use Rattle.std.proofs.lemmas.List.{get_or_append_left, get_or-take, get_or-drop, length-take-le, take_at, take_all}
 use Rattle.std.specs.List.{slice_range}
 use Rattle.std.proofs.lemmas.List.Elements.{All-head, All-tail, All-push}
 use Rattle.sha2.specs.Sha256.{sha256}
 use Rattle.sha_lanes.specs.declared.batch.Batch.{Batch}
+use Rattle.sha_lanes.specs.Gathered.{Gathers}
 use Rattle.scrub_disk.specs.Image.{AreBytesAt}
+use Rattle.scrub_frame.specs.declared.form.Form.{Form}
+use Rattle.scrub_frame.specs.declared.form.Form.TheVariants.{Plain, Sealed}
+use Rattle.scrub_frame.specs.Frame.{digest_size, seal, seal_size}
 use Rattle.scrub_scan.specs.declared.item.Item.{Item}
 use Rattle.scrub_scan.specs.declared.item.Item.TheVariants.{Chunk, Pad, Torn, Noise, Lost}
 use Rattle.scrub_scan.specs.Item.{start_of, stop_of}
-use Rattle.scrub_scan.specs.Gathering.{IsAdded, IsCollected, with_digest, settled_one, settled}
+use Rattle.scrub_scan.specs.Gathering.{IsAdded, seal_in, with_digest, settled_one, settled}
 
 -- the payload so far, with the bytes of one more part that belong to it
 pub payload_more : (at : ℕ → Option ℕ) (place stop first last : ℕ) (next part piece : List ℕ)
@@ -36,6 +41,30 @@ payload_more at place stop first last next part piece ends order part_is size ne
             ap at here ∙ part_is (a + j) (omega arith) ∙ ap Some (sym (get_or-append_right next piece k 0 behind ∙ read))
       ],
     )
+
+-- the same, put behind what a list has from before
+pub put_more : (at : ℕ → Option ℕ) (place first last done : ℕ) (out new part piece : List ℕ) → first ≤ last
+    → last ≤ first + length out → done ≡ min place last - first → AreBytesAt at place part
+    → piece ≡ slice_range part (min (length part) (first - place)) (min (length part) (last - place))
+    → new ≡ take done out ++ (piece ++ drop (done + length piece) out)
+    → AreBytesAt at first (take (min place last - first) out)
+    → AreBytesAt at first (take (min (place + length part) last - first) new)
+put_more at place first last done out new part piece order room done_is part_is piece_is new_is so_far =
+    let size : length (take done out) ≡ done = length-take-le done out (omega (arith, done_is, room)) in
+    let more = payload_more at place (place + length part) first last (take done out) part piece refl order part_is
+    (omega (arith, size, done_is)) (subst (λ n. AreBytesAt at first (take n out)) (sym done_is) so_far) piece_is in
+    let long : min (place + length part) last - first ≡ length (take done out ++ piece) = omega (arith, more.0) in
+    rw (ap (take (min (place + length part) last - first))
+    (new_is ∙ sym (append_assoc (take done out) piece (drop (done + length piece) out)))
+    ∙ take_at (take done out ++ piece) (drop (done + length piece) out) (min (place + length part) last - first) (sym long))
+    more.1
+
+-- the seal that was read is the frame's, if it is the payload's digest
+pub seal_read : (form : Form) (payload bytes : List ℕ) → length bytes ≡ digest_size
+    → seal_in form (sha256 payload) ≡ seal_in form bytes → take (seal_size form) bytes ≡ seal form payload
+seal_read Plain payload bytes size agrees = refl
+seal_read Sealed payload bytes size agrees =
+    take_all digest_size bytes (omega (arith, size)) ∙ sym (same_Some (sha256 payload) bytes agrees)
 
 -- ---- digests that are put in later
 
@@ -100,40 +129,40 @@ settled_one_is (first ∷ items) zero item digest lt is = ap (λ x. with_digest 
 settled_one_is (first ∷ items) (suc i) item digest lt is = ap (λ rest. first ∷ rest) (settled_one_is items i item digest (omega arith) is)
 
 -- one more item, whose digest is in the batch or was known
-pub collected_more : (items : List Item) (pending later : List ℕ) (old new : Batch) (all : List Item) (item : Item) (gathered : Bool) (digest : List ℕ)
-    → (held : IsCollected items pending old all) → All (λ i. i < length items) pending
+pub record SettledMore (items : List Item) (later : List ℕ) (new : Batch) (before : List Item) (item done : Item) : Type 0 where
+  pub payloads : List (List ℕ)
+  pub gathers : Gathers new payloads []
+  pub count : length later ≡ length payloads
+  pub settled_is : settled (items ++ item ∷ []) later payloads ≡ before ++ done ∷ []
+
+pub settled_next : (items : List Item) (pending later : List ℕ) (payloads : List (List ℕ)) (new : Batch) (item : Item) (gathered : Bool) (digest : List ℕ)
+    → length pending ≡ length payloads → All (λ i. i < length items) pending
     → (gathered ≡ true → later ≡ pending ++ length items ∷ []) → (gathered ≡ false → later ≡ pending)
-    → IsAdded gathered (with_digest item digest ≡ item) digest held.payloads new
-    → IsCollected (items ++ item ∷ []) later new (all ++ with_digest item digest ∷ [])
-collected_more items pending later old new all item true digest held within more same added =
-    let ps = held.payloads in
+    → IsAdded gathered (with_digest item digest ≡ item) digest payloads new
+    → SettledMore items later new (settled items pending payloads) item (with_digest item digest)
+settled_next items pending later ps new item true digest count within more same added =
     let b = added.0 in
     let n : length items ≡ length (settled items pending ps) = sym (length-settled items pending ps) in
     record {
       payloads = ps ++ b ∷ [];
       gathers = added.2;
-      count = omega (arith, ap length (more refl), length-append pending (length items ∷ []), length-append ps (b ∷ []), held.count);
-      all_is =
-          ap (λ xs. xs ++ with_digest item digest ∷ []) held.all_is
-          ∙ ap (λ d. settled items pending ps ++ with_digest item d ∷ []) added.1
-          ∙ sym (
+      count = omega (arith, ap length (more refl), length-append pending (length items ∷ []), length-append ps (b ∷ []), count);
+      settled_is =
           ap (λ l. settled (items ++ item ∷ []) l (ps ++ b ∷ [])) (more refl)
-          ∙ settled_more (items ++ item ∷ []) pending ps (length items) b held.count
+          ∙ settled_more (items ++ item ∷ []) pending ps (length items) b count
           ∙ ap (λ xs. settled_one xs (length items) (sha256 b)) (settled_push items item pending ps within)
           ∙ ap (λ i. settled_one (settled items pending ps ++ item ∷ []) i (sha256 b)) n
           ∙ settled_one_last (settled items pending ps) item (sha256 b)
-          );
+          ∙ sym (ap (λ d. settled items pending ps ++ with_digest item d ∷ []) added.1);
     }
-collected_more items pending later old new all item false digest held within more same added =
-    let ps = held.payloads in
+settled_next items pending later ps new item false digest count within more same added =
     record {
       payloads = ps;
       gathers = added.1;
-      count = ap length (same refl) ∙ held.count;
-      all_is =
-          ap (λ xs. xs ++ with_digest item digest ∷ []) held.all_is
-          ∙ ap (λ x. settled items pending ps ++ x ∷ []) added.0
-          ∙ sym (ap (λ l. settled (items ++ item ∷ []) l ps) (same refl) ∙ settled_push items item pending ps within);
+      count = ap length (same refl) ∙ count;
+      settled_is =
+          ap (λ l. settled (items ++ item ∷ []) l ps) (same refl) ∙ settled_push items item pending ps within
+          ∙ sym (ap (λ x. settled items pending ps ++ x ∷ []) added.0);
     }
 
 -- and the numbers are still of items

@@ -9,15 +9,10 @@ use Rattle.scrub_scan.specs.declared.item.Item.{Item}
 use Rattle.scrub_scan.specs.declared.item.Item.TheVariants.{Chunk, Pad, Torn, Noise, Lost}
 use Rattle.sha2.specs.Sha256.{sha256}
 use Rattle.scrub_scan.specs.Extent.{Extent, bound, IsZero, IsUnreadableAt}
+use Rattle.scrub_scan.specs.Gathering.{TiledTo}
 use Rattle.scrub_scan.specs.Item.{start_of, stop_of, IsItem, IsChunk, Fits, Spans}
 use Rattle.scrub_scan.specs.OneFrame.{one_frame_at}
 use Rattle.scrub_scan.specs.Tiling.{Joins, IsTiling}
-
--- the items tile the extent up to a place at or before the pointer
-pub record TiledTo (x : Extent) (place : ℕ) (items : List Item) : Type 0 where
-  pub joined : Joins 0 place items
-  pub each : All (IsItem x) items
-  pub within : place ≤ x.pointer
 
 pub Joins-push : (a : ℕ) (items : List Item) (item : Item) → Joins a (start_of item) items →
     Joins a (stop_of item) (items ++ item ∷ [])
@@ -25,7 +20,7 @@ Joins-push a [] item h = (sym h, refl)
 Joins-push a (first ∷ items) item h = (h.0, Joins-push (stop_of first) items item h.1)
 
 -- a bound is above its place, and not above the pointer
-bound_above : (x : Extent) (p : ℕ) → 0 < x.page → p < x.pointer → (p < bound x p) × (bound x p ≤ x.pointer)
+pub bound_above : (x : Extent) (p : ℕ) → 0 < x.page → p < x.pointer → (p < bound x p) × (bound x p ≤ x.pointer)
 bound_above x p pos h =
     let m : p % x.page < x.page = mod-lt p pos in
     let s : p < (p / x.page + 1) * x.page = omega (arith, div-add-mod' p x.page, m) in

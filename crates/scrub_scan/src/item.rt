@@ -1,6 +1,6 @@
 //! The items of an extent, and their lines of text. `tiling` finds where they begin and end.
 
-ghost use Rattle.std.specs.Prelude.{◌≡◌, IfOk, length, string_bytes};
+ghost use Rattle.std.specs.Prelude.{◌≡◌, ◌↔◌, IsTrue, IfOk, length, string_bytes};
 
 use scrub_disk::OutOfMemory;
 use scrub_frame::{DIGEST_BYTES, Form};
@@ -62,7 +62,7 @@ impl Model for Items {
 
 impl Item {
     ghost use Rattle.scrub_scan.specs.Item.{span_of, start_of, stop_of};
-    ghost use Rattle.scrub_scan.specs.Gathering.{with_digest};
+    ghost use Rattle.scrub_scan.specs.Gathering.{with_digest, AgreesWith};
 
     /// The byte of the extent at which the item begins, and the one behind its last.
     fn span(&self) -> (u32, u32)
@@ -100,6 +100,20 @@ impl Item {
                 }
             }
             _ => self,
+        }
+    }
+
+    /// Whether this digest is its seal, or it has no seal.
+    pub(crate) fn agrees_with(&self, digest: &[u8; DIGEST_BYTES]) -> bool
+        ensures { IsTrue result ↔ AgreesWith self.now digest.now }
+    {
+        match self {
+            Item::Chunk {
+                form: Form::Sealed,
+                digest: seal,
+                ..
+            } => digest == seal,
+            _ => true,
         }
     }
 

@@ -1,30 +1,28 @@
 //! Finds the item at a place of an extent, reading one page at a time. `tiling` decides which places to look at.
 
-ghost use Rattle.std.specs.Prelude.{◌≡◌, ◌+◌, ◌-◌, ◌*◌, ◌/◌, ◌^◌, ◌<◌, ◌≤◌, ◌↔◌, ◌++◌, ◌∷◌, [], ℕ, List, true, false, None, Some, IsTrue, IfOk, IfSome, IfNone, min, length, slice_index, slice_range, option_map};
+ghost use Rattle.std.specs.Prelude.{◌≡◌, ◌+◌, ◌-◌, ◌*◌, ◌/◌, ◌^◌, ◌<◌, ◌≤◌, ◌↔◌, ◌++◌, ◌∷◌, [], ℕ, List, true, false, None, Some, IsTrue, IfOk, IfSome, IfNone, Option, min, length, take, slice_index, slice_range, option_map};
 ghost use Rattle.scrub_disk.specs.Limits.{max_extent_bytes};
 ghost use Rattle.scrub_disk.specs.Image.{Image, byte, extent_bytes, AreBytesAt};
 ghost use Rattle.scrub_frame.specs.declared.form.Form.{Form};
 ghost use Rattle.scrub_frame.specs.Frame.{magic, frame_overhead};
 ghost use Rattle.scrub_frame.specs.Matching.{left};
 ghost use Rattle.scrub_scan.specs.declared.pages.Target.{Target};
-ghost use Rattle.scrub_scan.specs.Extent.{Extent, FrameAt, NoFrameAt, HasGap, bound};
+ghost use Rattle.scrub_scan.specs.Extent.{Extent, NoFrameAt, HasGap, bound};
 ghost use Rattle.scrub_scan.specs.Item.{start_of, stop_of, IsItem};
 ghost use Rattle.scrub_scan.specs.Pages.{HoldBoth, IsTarget, target_of, Scans, IsFound, Passes, IsPassed, AskedBy, HasRead, KeepsNear, Reaches, place_behind, last_page, frame_cost};
 ghost use Rattle.scrub_scan.specs.Standing.{IsClaimedAt};
-ghost use Rattle.scrub_scan.specs.Gathering.{IsMet, IsReached, with_digest};
+ghost use Rattle.scrub_scan.specs.Gathering.{IsGathered, IsMet, IsReached, AgreesWith, with_digest, seal_in};
 ghost use Rattle.sha_lanes.specs.Gathered.{Gathers};
 
 use crate::counted_source::{CountedSource, PagesAsked};
 use crate::item::Item;
-use crate::pages::{Target, TwoPages};
-use crate::zeros::is_zero;
-use scrub_disk::{OutOfMemory, PageSource};
+use crate::pages::{PageMemory, Target, TwoPages};
+use scrub_disk::{OutOfMemory, PageSource, is_zero};
 use scrub_frame::{
     CLOSE_BYTES, DIGEST_BYTES, Fed, Form, HEAD_BYTES, Head, LEAST_OVERHEAD, Matcher, put_part,
     read_head,
 };
 use sha_lanes::Batch;
-use std::alloc::Global;
 use uuid::Uuid;
 
 /// A frame that was found at a place.
@@ -41,14 +39,14 @@ pub(crate) struct Found {
 /// The longest payload that is gathered in a batch, to be hashed beside others; a longer one is hashed at once.
 pub(crate) const LONGEST_GATHERED: u32 = 1_048_576;
 
-/// An item that was found, and whether its payload is in the batch, so that it has no digest yet.
+/// An item that was found, and whether its payload is in the batch: then it has no digest yet, or its seal for one.
 #[derive(Clone, Copy)]
 pub(crate) struct Reached {
     pub item: Item,
     pub is_gathered: bool,
 }
 
-/// A frame that was found, and whether its payload is in the batch, so that it has no digest yet.
+/// A frame that was found, and whether its payload is in the batch: then it has no digest yet, or its seal for one.
 #[derive(Clone, Copy)]
 pub(crate) struct Met {
     pub found: Found,
@@ -93,7 +91,7 @@ fn readable_item(part: &[u8], start: u32, stop: u32) -> Item
 }
 
 /// The bytes of a part that are between two places of the extent. The part begins at `place`.
-fn payload_in(part: &[u8], place: usize, first: usize, last: usize) -> &[u8]
+fn bytes_between(part: &[u8], place: usize, first: usize, last: usize) -> &[u8]
     requires order { first ≤ last }
     requires small { place + length part.now ≤ max_extent_bytes }
     ensures { result.now ≡ slice_range part.now (min (length part.now) (first - place)) (min (length part.now) (last - place)) }
@@ -103,16 +101,38 @@ fn payload_in(part: &[u8], place: usize, first: usize, last: usize) -> &[u8]
     &part[from..to]
 }
 
+/// Puts the bytes of a part that are between two places of the extent behind those that `out` has from before. The part
+/// begins at `place`.
+fn put_between(out: &mut [u8], part: &[u8], place: usize, first: usize, last: usize)
+    requires order { first ≤ last }
+    requires room { last ≤ first + length out.old }
+    requires small { place + length part.now ≤ max_extent_bytes }
+    ensures size { length out.new ≡ length out.old }
+    ensures put { (at : ℕ → Option ℕ) → AreBytesAt at place part.now →
+        AreBytesAt at first (take (min place last - first) out.old) →
+        AreBytesAt at first (take (min (place + length part.now) last - first) out.new) }
+{
+    let done = place.min(last).saturating_sub(first);
+    put_part(out, done, bytes_between(part, place, first, last));
+}
+
+/// Whether the payload of a frame with this head is added to a batch. That of a sealed frame is if its seal is trusted.
+fn gathers(head: &Head, trusts: bool) -> bool
+    ensures { result ≡ true → trusts ≡ false → head.now.form ≡ Form.Plain }
+{
+    head.length <= LONGEST_GATHERED && (trusts || head.form == Form::Plain)
+}
+
 impl Scanner {
     /// A scanner that has read nothing.
-    pub fn new(alloc: Global, page: usize, asked: PagesAsked) -> Result<Scanner, OutOfMemory>
+    pub fn new(memory: PageMemory, page: usize, asked: PagesAsked) -> Result<Scanner, OutOfMemory>
         requires page { 0 < page }
         requires none { asked ≡ 0 }
         ensures scans { (image : Image) (t : Target) → page ≡ image.geometry.page → IfOk result (Scans image t) }
         ensures asked { IfOk result (λ s. s.pages.asked ≡ 0) }
         ensures read { IfOk result (λ s. HasRead s.pages 0) }
     {
-        let pages = TwoPages::new(alloc, page, asked)?;
+        let pages = TwoPages::new(memory, page, asked)?;
         Ok(Scanner {
             pages,
             matcher: Matcher::new(1),
@@ -120,22 +140,32 @@ impl Scanner {
         })
     }
 
-    /// The count of its reads, when it is done.
-    pub fn into_asked(self) -> PagesAsked
-        ensures { result ≡ self.pages.asked }
+    /// The memory of its buffers and the count of its reads, when it is done.
+    pub fn into_parts(self) -> (PageMemory, PagesAsked)
+        ensures { result.1 ≡ self.pages.asked }
     {
         let Scanner { pages, .. } = self;
-        let TwoPages { asked, .. } = pages;
-        asked
+        pages.into_parts()
+    }
+
+    /// Whether the tiling could go back to a page after one more item, and go on from there without asking for more pages
+    /// than a tiling may: for each page, one call for each page of the extent and five more.
+    pub fn may_return<D: PageSource>(&self, disk: &CountedSource<'_, D>, page: usize) -> bool
+        requires { page ≤ max_extent_bytes }
+        ensures { result ≡ true → self.now.pages.asked + 4 + (D.image disk.now).geometry.pages ≤ page * ((D.image disk.now).geometry.pages + 5) }
+    {
+        let pages = disk.geometry().pages() as u64;
+        self.pages.asked.count().saturating_add(pages + 4) <= page as u64 * (pages + 5)
     }
 
     /// The item that begins at a place below the pointer. If it is a chunk, its payload may be added to the batch in place
-    /// of being hashed.
+    /// of being hashed; that of a sealed chunk only if seals are trusted.
     pub fn item_at<D: PageSource>(
         &mut self,
         disk: &CountedSource<'_, D>,
         target: &Target,
         start: usize,
+        trusts: bool,
         batch: &mut Batch,
     ) -> Result<Reached, OutOfMemory>
         requires target { IsTarget (D.image disk.now) target.now }
@@ -143,8 +173,10 @@ impl Scanner {
         requires below { start < target.now.pointer }
         ensures scans { IfOk result (λ _. Scans (D.image disk.now) target.now self.new) }
         ensures start { IfOk result (λ r. start_of r.item ≡ start) }
+        ensures rises { IfOk result (λ r. start < stop_of r.item) }
+        ensures stop { IfOk result (λ r. stop_of r.item ≤ target.now.pointer) }
         ensures item { (messages : List (List ℕ)) → Gathers batch.old messages [] →
-            IfOk result (λ r. IsReached (target_of (D.image disk.now) target.now) r messages batch.new) }
+            IfOk result (λ r. IsReached (target_of (D.image disk.now) target.now) trusts r messages batch.new) }
         ensures asked { (n : ℕ) → AskedBy self.old.pages (start / target.now.page) n →
             IfOk result (λ _. self.new.pages.asked ≤ n + 4 + (D.image disk.now).geometry.pages) }
         ensures asked_next { (n : ℕ) → AskedBy self.old.pages (start / target.now.page) n →
@@ -153,7 +185,7 @@ impl Scanner {
         ensures read { HasRead self.old.pages (start / target.now.page) →
             IfOk result (λ r. HasRead self.new.pages (stop_of r.item / target.now.page)) }
     {
-        let met = self.meet_frame(disk, target, start, batch)?;
+        let met = self.meet_frame(disk, target, start, trusts, batch)?;
         match met {
             Some(met) => {
                 Ok(Reached {
@@ -171,12 +203,14 @@ impl Scanner {
     }
 
     /// The frame at a place below the pointer, if there is one. The page of the place becomes the near one. A short payload
-    /// of a plain frame is added to the batch in place of being hashed.
+    /// is added to the batch in place of being hashed, unless it is of a sealed frame and seals aren't trusted: if one is
+    /// wrong, there is no frame.
     fn meet_frame<D: PageSource>(
         &mut self,
         disk: &CountedSource<'_, D>,
         target: &Target,
         start: usize,
+        trusts: bool,
         batch: &mut Batch,
     ) -> Result<Option<Met>, OutOfMemory>
         requires target { IsTarget (D.image disk.now) target.now }
@@ -185,7 +219,7 @@ impl Scanner {
         ensures scans { IfOk result (λ _. Scans (D.image disk.now) target.now self.new) }
         ensures near { IfOk result (λ _. self.new.pages.near.number ≡ Some (start / target.now.page)) }
         ensures found { (messages : List (List ℕ)) → Gathers batch.old messages [] → IfOk result (λ found.
-            IfSome found (λ m. IsMet (target_of (D.image disk.now) target.now) start m messages batch.new)) }
+            IfSome found (λ m. IsMet (target_of (D.image disk.now) target.now) start trusts m messages batch.new)) }
         ensures fits { IfOk result (λ found. IfSome found (λ m.
             start + m.found.length + frame_overhead m.found.form ≤ target.now.pointer)) }
         ensures none { (messages : List (List ℕ)) → Gathers batch.old messages [] → IfOk result (λ found.
@@ -202,7 +236,7 @@ impl Scanner {
         let Some(head) = self.may_stand(disk, target, start) else {
             return Ok(None);
         };
-        if head.form == Form::Sealed || head.length > LONGEST_GATHERED {
+        if !gathers(&head, trusts) {
             return match self.pass_frame(disk, target, start) {
                 Some(found) => {
                     Ok(Some(Met {
@@ -213,15 +247,15 @@ impl Scanner {
                 None => Ok(None),
             };
         }
-        if !self.pass_plain(disk, target, start, &head, batch)? {
+        let Some(digest) = self.gather_frame(disk, target, start, &head, batch)? else {
             return Ok(None);
-        }
+        };
         Ok(Some(Met {
             found: Found {
                 form: head.form,
                 uuid: head.uuid,
                 length: head.length,
-                digest: [0; DIGEST_BYTES],
+                digest,
             },
             is_gathered: true,
         }))
@@ -268,6 +302,8 @@ impl Scanner {
             (record { form = found.form; uuid = found.uuid; length = found.length; digest = digest }) →
             IsItem (target_of image target.now) (with_digest result digest) }
         ensures digest { with_digest result found.digest ≡ result }
+        ensures seal { (digest : List ℕ) → AgreesWith result digest → seal_in found.form digest ≡ seal_in found.form found.digest }
+        ensures sealed { (digest : List ℕ) → seal_in found.form digest ≡ seal_in found.form found.digest → AgreesWith result digest }
         ensures near { self.old.pages.near.number ≡ Some (stop_of result / target.now.page) →
             self.new.pages.near.number ≡ Some (stop_of result / target.now.page) }
         ensures asked { self.new.pages.asked ≡ self.old.pages.asked }
@@ -509,39 +545,40 @@ impl Scanner {
         self.matcher.feed(part)
     }
 
-    /// Passes a plain frame that is there if all its bytes can be read, and adds its payload to the batch. False if one
-    /// can't be read.
-    fn pass_plain<D: PageSource>(
+    /// Passes a frame that its head claims, if all its bytes can be read, and adds its payload to the batch. Returns the seal
+    /// of a sealed frame, which stands if that is the payload's digest; for a plain one, which stands, zeros. `None` if a
+    /// byte can't be read.
+    fn gather_frame<D: PageSource>(
         &mut self,
         disk: &CountedSource<'_, D>,
         target: &Target,
         start: usize,
         head: &Head,
         batch: &mut Batch,
-    ) -> Result<bool, OutOfMemory>
+    ) -> Result<Option<[u8; DIGEST_BYTES]>, OutOfMemory>
         requires target { IsTarget (D.image disk.now) target.now }
         requires scans { Scans (D.image disk.now) target.now self.old }
-        requires plain { head.now.form ≡ Form.Plain }
         requires claimed { IsClaimedAt (target_of (D.image disk.now) target.now) start head.now }
         ensures scans { IfOk result (λ _. Scans (D.image disk.now) target.now self.new) }
         ensures near { IfOk result (λ _. self.new.pages.near ≡ self.old.pages.near) }
-        ensures found { (messages : List (List ℕ)) → Gathers batch.old messages [] → IfOk result (λ found. found ≡ true →
-            (payload : List ℕ) × FrameAt (target_of (D.image disk.now) target.now) start head.now.form head.now.uuid payload
-            × (head.now.length ≡ length payload) × Gathers batch.new (messages ++ payload ∷ []) []) }
-        ensures none { (messages : List (List ℕ)) → Gathers batch.old messages [] → IfOk result (λ found. found ≡ false →
-            NoFrameAt (target_of (D.image disk.now) target.now) start × Gathers batch.new messages []) }
-        ensures asked_found { self.old.pages.near.number ≡ Some (start / target.now.page) → IfOk result (λ found. found ≡ true →
-            self.new.pages.asked ≤ self.old.pages.asked + (last_page target.now start head.now.form head.now.length - start / target.now.page)) }
-        ensures asked_none { self.old.pages.near.number ≡ Some (start / target.now.page) → IfOk result (λ found. found ≡ false →
-            self.new.pages.asked < self.old.pages.asked + (D.image disk.now).geometry.pages) }
-        ensures read_found { HasRead self.old.pages (start / target.now.page) → IfOk result (λ found. found ≡ true →
-            HasRead self.new.pages ((start + head.now.length + frame_overhead head.now.form) / target.now.page)) }
-        ensures read_none { HasRead self.old.pages (start / target.now.page) → IfOk result (λ found. found ≡ false →
-            HasRead self.new.pages (start / target.now.page)) }
+        ensures found { (messages : List (List ℕ)) → Gathers batch.old messages [] → IfOk result (λ found. IfSome found (λ seal.
+            IsGathered (target_of (D.image disk.now) target.now) start head.now seal messages batch.new)) }
+        ensures none { (messages : List (List ℕ)) → Gathers batch.old messages [] → IfOk result (λ found. IfNone found
+            (NoFrameAt (target_of (D.image disk.now) target.now) start × Gathers batch.new messages [])) }
+        ensures asked_found { self.old.pages.near.number ≡ Some (start / target.now.page) → IfOk result (λ found. IfSome found (λ _.
+            self.new.pages.asked ≤ self.old.pages.asked + (last_page target.now start head.now.form head.now.length - start / target.now.page))) }
+        ensures asked_none { self.old.pages.near.number ≡ Some (start / target.now.page) → IfOk result (λ found. IfNone found
+            (self.new.pages.asked < self.old.pages.asked + (D.image disk.now).geometry.pages)) }
+        ensures read_found { HasRead self.old.pages (start / target.now.page) → IfOk result (λ found. IfSome found (λ _.
+            HasRead self.new.pages ((start + head.now.length + frame_overhead head.now.form) / target.now.page))) }
+        ensures read_none { HasRead self.old.pages (start / target.now.page) → IfOk result (λ found. IfNone found
+            (HasRead self.new.pages (start / target.now.page))) }
     {
-        let first = start + HEAD_BYTES;
+        let sealed = start + HEAD_BYTES;
+        let first = start + head.form.payload_start();
         let last = first + head.length as usize;
         let end = start + head.frame_bytes() as usize;
+        let mut seal = [0; DIGEST_BYTES];
         let mut place = start;
         while place < end {
             let stop = target.bound(place);
@@ -550,15 +587,16 @@ impl Scanner {
             let Some(part) = self.pages.part(place, stop) else {
                 self.gap = Some(page);
                 batch.cancel();
-                return Ok(false);
+                return Ok(None);
             };
-            batch.append(payload_in(part, place, first, last))?;
+            put_between(&mut seal, part, place, sealed, first);
+            batch.append(bytes_between(part, place, first, last))?;
             if end <= stop {
                 batch.end()?;
-                return Ok(true);
+                return Ok(Some(seal));
             }
             place = stop;
         }
-        Ok(false)
+        Ok(None)
     }
 }

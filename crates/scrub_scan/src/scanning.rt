@@ -10,17 +10,20 @@ use crate::all_findings::AllFindings;
 use crate::counted_source::lend;
 use crate::extent_result::ExtentResult;
 use crate::findings::{Findings, PageNumbers};
-use crate::pages::Target;
+use crate::pages::{PageMemory, Target};
 use crate::scanner::Scanner;
 use crate::tail::{Surveyed, survey};
 use crate::tiling::tile_by;
+use crate::workspace::Workspace;
 use scrub_disk::{OutOfMemory, PageSource};
 use scrub_super::Plan;
 use std::alloc::Global;
+use std::mem;
 
 /// Scans an extent with a write pointer.
 fn scan_under<'d, D: PageSource>(
     alloc: Global,
+    workspace: &mut Workspace,
     disk: &'d D,
     extent: u32,
     pointer: u32,
@@ -34,8 +37,15 @@ fn scan_under<'d, D: PageSource>(
     // The source is lent only here: all reads below go through it, and the result gets its count.
     let (counted, asked) = lend(disk);
     let target = Target::new(&counted, extent, pointer);
-    let mut scanner = Scanner::new(alloc, target.page, asked)?;
-    let items = tile_by(alloc, &counted, &target, &mut scanner)?;
+    let pages = mem::replace(&mut workspace.pages, PageMemory::new(alloc));
+    let mut scanner = Scanner::new(pages, target.page, asked)?;
+    let items = tile_by(
+        alloc,
+        &counted,
+        &target,
+        &mut scanner,
+        &mut workspace.collected,
+    )?;
     let Surveyed { tail, bad_pages } = survey(
         alloc,
         &counted,
@@ -49,10 +59,13 @@ fn scan_under<'d, D: PageSource>(
         tail_first: tail.first,
         bad_pages: PageNumbers { pages: bad_pages },
     };
-    Ok(ExtentResult::new(disk, extent, pointer, findings, scanner.into_asked()))
+    let (pages, asked) = scanner.into_parts();
+    workspace.pages = pages;
+    Ok(ExtentResult::new(disk, extent, pointer, findings, asked))
 }
 
-/// Scans a planned extent with the plan's write pointer. `pages_asked` of the result is the number of page reads.
+/// Scans a planned extent with the plan's write pointer. `pages_asked` of the result is the number of page reads. `OutOfMemory`
+/// if there isn't enough for the result or for what the scan needs besides.
 pub fn scan_extent<'d, D: PageSource>(
     alloc: Global,
     disk: &'d D,
@@ -65,9 +78,26 @@ pub fn scan_extent<'d, D: PageSource>(
     ensures extent { IfOk result (λ r. (scanned r).extent ≡ extent) }
     ensures pointer { IfOk result (λ r. pointer_of plan.now extent ≡ Some (scanned r).pointer) }
 {
+    scan_extent_in(alloc, &mut Workspace::new(alloc), disk, plan, extent)
+}
+
+/// The same, in the memory of a workspace. The result doesn't depend on what was scanned in it before.
+pub fn scan_extent_in<'d, D: PageSource>(
+    alloc: Global,
+    workspace: &mut Workspace,
+    disk: &'d D,
+    plan: &Plan,
+    extent: u32,
+) -> Result<ExtentResult<'d, D>, OutOfMemory>
+    requires geometry { plan.now.geometry ≡ (D.image disk.now).geometry }
+    requires planned { Contains plan.now.planned extent }
+    ensures image { IfOk result (λ r. result_image r ≡ D.image disk.now) }
+    ensures extent { IfOk result (λ r. (scanned r).extent ≡ extent) }
+    ensures pointer { IfOk result (λ r. pointer_of plan.now extent ≡ Some (scanned r).pointer) }
+{
     // For the proof alone: the contract of `planned` says that the planned extents are below the disk's number of extents.
     let _ = plan.planned();
-    scan_under(alloc, disk, extent, plan.pointer(extent))
+    scan_under(alloc, workspace, disk, extent, plan.pointer(extent))
 }
 
 /// Scans all planned extents one after another, in rising order.
@@ -80,9 +110,10 @@ pub fn scan_in_order<'d, D: PageSource>(
     ensures image { IfOk result (λ all. IsOfImage (λ s. D.image s) all (D.image disk.now)) }
     ensures findings { IfOk result (λ all. AreAllFindings (D.image disk.now) plan.now all.extents) }
 {
+    let mut workspace = Workspace::new(alloc);
     let mut slots = Vec::new(alloc);
     for extent in plan.planned() {
-        slots.push(Some(scan_extent(alloc, disk, plan, *extent)?))?;
+        slots.push(Some(scan_extent_in(alloc, &mut workspace, disk, plan, *extent)?))?;
     }
     Ok(AllFindings::from_slots(plan, slots))
 }

@@ -9,7 +9,7 @@ ghost use Rattle.scrub_scan.specs.Extent.{Extent, extent_of, FrameAt, NoFrameAt,
 ghost use Rattle.scrub_scan.specs.Standing.{IsStandingAt, Stands, HasPayload, IsClaimedAt, IsOnlyFrame, HasPlainFrame};
 
 use crate::counted_source::lend;
-use crate::pages::Target;
+use crate::pages::{PageMemory, Target};
 use crate::reading::read_bytes;
 use crate::scanner::{Found, Scanner};
 use scrub_disk::{OutOfMemory, PageSource};
@@ -54,7 +54,7 @@ pub fn frame_stands<D: PageSource>(
     }
     let (counted, asked) = lend(disk);
     let target = Target::new(&counted, extent, pointer);
-    let mut scanner = Scanner::new(alloc, target.page, asked)?;
+    let mut scanner = Scanner::new(PageMemory::new(alloc), target.page, asked)?;
     match scanner.frame_at(&counted, &target, offset as usize) {
         Some(found) => {
             let Found {

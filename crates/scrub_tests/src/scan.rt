@@ -10,3 +10,5 @@ pub mod sealed_frames;
 pub mod standing_frames;
 pub mod swept;
 pub mod tiling;
+pub mod trusted_seals;
+pub mod workspaces;

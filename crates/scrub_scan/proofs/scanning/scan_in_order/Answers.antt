@@ -19,13 +19,13 @@ pub loop-extent-preserved : goal.loop-extent-preserved
 loop-extent-preserved g c =
     let image = g.D.PageSource.image c.args.disk.now in
     let plan = c.args.plan.now in
-    let found : ExtentResult g.row.D.Denot g.D.PageSource = c.in_ok-scan_extent.field-0 in
+    let found : ExtentResult g.row.D.Denot g.D.PageSource = c.in_ok-scan_extent_in.field-0 in
     let planned = c.planned-extent-items.result.now in
     let i = c.loop-extent.extent-index in
     let is : IsPlannedResult image plan (get_or planned i 0) found = record {
-      image_is = c.in_ok-scan_extent.ensures.image;
-      extent_is = c.in_ok-scan_extent.ensures.extent;
-      pointer_is = c.in_ok-scan_extent.ensures.pointer;
+      image_is = c.in_ok-scan_extent_in.ensures.image;
+      extent_is = c.in_ok-scan_extent_in.ensures.extent;
+      pointer_is = c.in_ok-scan_extent_in.ensures.pointer;
     } in record {
       are =
           AllZip-take_more (λ e slot. IfSome slot (λ r. IsPlannedResult image plan e r)) planned

@@ -1,7 +1,9 @@
 -- What a frame costs, or that there is none.
-use Rattle.std.proofs.Common.{arith, ap, refl, sym, ◌∙◌, ◌≡◌, ◌≤◌, ◌/◌, inl, inr}
+use Rattle.std.proofs.Common.{arith, ap, refl, subst, sym, ◌∙◌, ◌≡◌, ◌≤◌, ◌/◌, inl, inr}
 use Rattle.std.proofs.lemmas.Bool.{cases_lt}
 use Rattle.sha2.specs.Sha256.{sha256}
+use Rattle.scrub_frame.specs.declared.form.Form.{Form}
+use Rattle.scrub_scan.specs.Gathering.{seal_in}
 use Rattle.scrub_scan.specs.Pages.{target_of, last_page}
 use Rattle.scrub_scan.proofs.Asked.{cost_none, cost_some}
 use Rattle.scrub_scan.proofs.Claims.{only_frame}
@@ -54,27 +56,16 @@ returns-in-None-clause-asked_none g c = λ n h.
     let near = ap (λ p. p.number) c.may_stand.ensures.kept.near ∙ c.approach.ensures.number in
     omega (arith, c.approach.ensures.asked n h, c.may_stand.ensures.asked, c.in-None.ensures.asked_none near)
 
-pub returns-then-not-branch-clause-none : goal.returns-then-not-branch-clause-none
-returns-then-not-branch-clause-none g c = λ messages held.
-    c.in_ok-pass_plain.ensures.none messages held c.if-not-branch.true
-
-pub returns-then-not-branch-clause-asked_none : goal.returns-then-not-branch-clause-asked_none
-returns-then-not-branch-clause-asked_none g c = λ n h.
-    let near = ap (λ p. p.number) c.may_stand.ensures.kept.near ∙ c.approach.ensures.number in
-    omega (
-      arith,
-      c.approach.ensures.asked n h,
-      c.may_stand.ensures.asked,
-      c.in_ok-pass_plain.ensures.asked_none near c.if-not-branch.true,
-    )
-
 pub returns-clause-found : goal.returns-clause-found
 returns-clause-found g c = λ messages held.
-    let passed = c.in_ok-pass_plain.ensures.found messages held c.if-not-branch.false in
+    let passed = rw c.in-Some-2.is at (c.in_ok-digest.ensures.found messages held) in
     record {
-      digest = sha256 passed.0;
-      found = record { payload = passed.0; frame = passed.1; size = passed.2; digest = refl };
-      added = (passed.0, refl, passed.3);
+      digest = sha256 passed.payload;
+      found = λ agrees. record { payload = passed.payload; frame = passed.frame agrees; size = passed.size; digest = refl };
+      compared = λ no.
+          subst (λ (f : Form). seal_in f (sha256 passed.payload) ≡ seal_in f c.in-Some-2.digest)
+          (sym (c.gathers.ensures c.if-not-gathers.false no)) refl;
+      added = (passed.payload, refl, passed.gathers);
     }
 
 pub returns-clause-asked_found : goal.returns-clause-asked_found
@@ -83,7 +74,7 @@ returns-clause-asked_found g c = λ n h.
     let q = c.args.start / t.page in
     let near = ap (λ p. p.number) c.may_stand.ensures.kept.near ∙ c.approach.ensures.number in
     let head = c.in-Some.head in
-    let calls = c.in_ok-pass_plain.ensures.asked_found near c.if-not-branch.false in
+    let calls = rw c.in-Some-2.is at (c.in_ok-digest.ensures.asked_found near) in
     elim (cases_lt q (last_page t c.args.start head.form head.length)) [
       | inl later ↦
           omega (
@@ -105,3 +96,17 @@ returns-clause-asked_found g c = λ n h.
             same,
           )
     ]
+
+pub returns-in_default-2-clause-none : goal.returns-in_default-2-clause-none
+returns-in_default-2-clause-none g c = λ messages held.
+    rw c.in_default-2.is at (c.in_ok-digest.ensures.none messages held)
+
+pub returns-in_default-2-clause-asked_none : goal.returns-in_default-2-clause-asked_none
+returns-in_default-2-clause-asked_none g c = λ n h.
+    let near = ap (λ p. p.number) c.may_stand.ensures.kept.near ∙ c.approach.ensures.number in
+    omega (
+      arith,
+      c.approach.ensures.asked n h,
+      c.may_stand.ensures.asked,
+      rw c.in_default-2.is at (c.in_ok-digest.ensures.asked_none near),
+    )

@@ -1,18 +1,19 @@
 -- One more page has passed, the frame has ended, or a page of it can't be read.
-use Rattle.std.proofs.Common.{arith, ap, ◌∙◌, ◌≡◌, ◌<◌, ◌≤◌, ◌+◌, ◌/◌, ◌-◌, ◌++◌, length, Some}
-use Rattle.scrub_frame.specs.Frame.{head_size, frame_overhead}
+use Rattle.std.proofs.Common.{arith, ap, subst, ℕ, ◌∙◌, ◌≡◌, ◌<◌, ◌≤◌, ◌+◌, ◌/◌, ◌-◌, ◌++◌, length, take, min, Some}
+use Rattle.scrub_disk.specs.Image.{AreBytesAt}
+use Rattle.scrub_frame.specs.Frame.{head_size, seal_size, frame_overhead}
 use Rattle.scrub_scan.specs.Pages.{target_of, last_page}
 use Rattle.scrub_scan.proofs.PlacePages.{page_rises}
 use Rattle.scrub_scan.proofs.Asked.{next_bound, one_more}
 use Rattle.scrub_scan.proofs.ReadPages.{read_fewer, read_next, next_at_most}
 use Rattle.scrub_scan.proofs.Passing.{gap_byte}
 use Rattle.scrub_scan.proofs.FrameBytes.{no_gap}
-use Rattle.scrub_scan.proofs.Claims.{only_frame, plain_frame_of}
-use Rattle.scrub_scan.proofs.Gathering.{payload_more}
-use Rattle.scrub_scan.proofs.scanner.Scanner.pass_plain.Goals as goal
+use Rattle.scrub_scan.proofs.Claims.{only_frame, frame_of}
+use Rattle.scrub_scan.proofs.Gathering.{payload_more, seal_read}
+use Rattle.scrub_scan.proofs.scanner.Scanner.gather_frame.Goals as goal
 
 pub returns-in_default-clause-none : goal.returns-in_default-clause-none
-returns-in_default-clause-none g c = λ messages held _.
+returns-in_default-clause-none g c = λ messages held.
     let image = g.D.PageSource.image c.args.disk.now in
     let t = c.args.target.now in
     let x = target_of image t in
@@ -34,7 +35,7 @@ returns-in_default-clause-none g c = λ messages held _.
     )
 
 pub returns-in_default-clause-read_none : goal.returns-in_default-clause-read_none
-returns-in_default-clause-read_none g c = λ h _.
+returns-in_default-clause-read_none g c = λ h.
     let t = c.args.target.now in
     let inv = c.loop-place.invariant in
     read_fewer c.reach.new.self (c.loop-place.place / t.page) (c.args.start / t.page)
@@ -42,26 +43,37 @@ returns-in_default-clause-read_none g c = λ h _.
     (c.reach.ensures.read (c.loop-place.place / t.page) (inv.read h))
 
 pub returns-then-end-stop-clause-found : goal.returns-then-end-stop-clause-found
-returns-then-end-stop-clause-found g c = λ messages held _.
+returns-then-end-stop-clause-found g c = λ messages held.
     let image = g.D.PageSource.image c.args.disk.now in
     let t = c.args.target.now in
     let x = target_of image t in
     let h = c.args.head.now in
     let inv = c.loop-place.invariant in
     let so_far = inv.gathered messages held in
-    let first = c.args.start + head_size in
-    let more = payload_more x.byte c.loop-place.place c.bound-stop.result first (first + h.length) so_far.0 c.in-Some.part.now c.payload_in.result.now
-    c.in-Some.ensures.size (omega arith) (c.in-Some.ensures.bytes image t.extent c.reach.ensures.held) so_far.2 so_far.3 c.payload_in.ensures in
-    let size : h.length ≡ length (so_far.0 ++ c.payload_in.result.now) =
-    omega (arith, more.0, c.if-end-stop.true, c.frame_bytes.ensures.value) in (
-      so_far.0 ++ c.payload_in.result.now,
-      rw c.requires.plain (plain_frame_of x c.args.start h (so_far.0 ++ c.payload_in.result.now) c.requires.claimed c.requires.plain size more.1),
-      size,
-      c.in_ok-end.ensures messages (so_far.0 ++ c.payload_in.result.now) (c.in_ok-append.ensures messages so_far.0 so_far.1),
-    )
+    let sealed = c.args.start + head_size in
+    let first = c.args.start + c.payload_start.result in
+    let stand = c.in-Some.ensures.bytes image t.extent c.reach.ensures.held in
+    let more = payload_more x.byte c.loop-place.place c.bound-stop.result first (first + h.length) so_far.0 c.in-Some.part.now c.bytes_between.result.now
+    c.in-Some.ensures.size (omega arith) stand so_far.2 so_far.3 c.bytes_between.ensures in
+    let payload = so_far.0 ++ c.bytes_between.result.now in
+    let size : h.length ≡ length payload =
+    omega (arith, more.0, c.if-end-stop.true, c.frame_bytes.ensures.value, c.payload_start.ensures.value) in
+    let whole : min (c.loop-place.place + length c.in-Some.part.now) first - sealed ≡ seal_size h.form =
+    omega (arith, c.in-Some.ensures.size, c.if-end-stop.true, c.frame_bytes.ensures.value, c.payload_start.ensures.value) in
+    record {
+      payload = payload;
+      size = size;
+      frame = λ agrees.
+          frame_of x c.args.start h (take (seal_size h.form) c.put_between.new.out) payload c.requires.claimed size
+          (seal_read h.form payload c.put_between.new.out (omega arith) agrees)
+          (rw whole at (c.put_between.ensures.put x.byte stand inv.sealed))
+          (subst (λ (q : ℕ). AreBytesAt x.byte (c.args.start + q) payload) c.payload_start.ensures.value more.1);
+      gathers =
+          c.in_ok-end.ensures messages payload (c.in_ok-append.ensures messages so_far.0 so_far.1);
+    }
 
 pub returns-then-end-stop-clause-asked_found : goal.returns-then-end-stop-clause-asked_found
-returns-then-end-stop-clause-asked_found g c = λ near _.
+returns-then-end-stop-clause-asked_found g c = λ near.
     let t = c.args.target.now in
     let h = c.args.head.now in
     let inv = c.loop-place.invariant in
@@ -75,7 +87,7 @@ returns-then-end-stop-clause-asked_found g c = λ near _.
     omega (arith, calls, last)
 
 pub returns-then-end-stop-clause-read_found : goal.returns-then-end-stop-clause-read_found
-returns-then-end-stop-clause-read_found g c = λ h _.
+returns-then-end-stop-clause-read_found g c = λ h.
     let t = c.args.target.now in
     let head = c.args.head.now in
     let r = c.loop-place.place / t.page in
@@ -93,7 +105,9 @@ loop-place-preserved g c =
     let x = target_of image t in
     let h = c.args.head.now in
     let inv = c.loop-place.invariant in
-    let first = c.args.start + head_size in
+    let first = c.args.start + c.payload_start.result in
+    let sealed = c.args.start + head_size in
+    let stand = c.in-Some.ensures.bytes image t.extent c.reach.ensures.held in
     let below : c.bound-stop.result < t.pointer =
     omega (arith, c.if-end-stop.false, c.frame_bytes.ensures.value, c.requires.claimed.fits) in
     let next : c.bound-stop.result / t.page ≡ c.loop-place.place / t.page + 1 =
@@ -105,13 +119,16 @@ loop-place-preserved g c =
       below = c.if-end-stop.false;
       gathered = λ messages held.
           let so_far = inv.gathered messages held in
-          let more = payload_more x.byte c.loop-place.place c.bound-stop.result first (first + h.length) so_far.0 c.in-Some.part.now c.payload_in.result.now
-          c.in-Some.ensures.size (omega arith) (c.in-Some.ensures.bytes image t.extent c.reach.ensures.held) so_far.2 so_far.3 c.payload_in.ensures in (
-            so_far.0 ++ c.payload_in.result.now,
+          let more = payload_more x.byte c.loop-place.place c.bound-stop.result first (first + h.length) so_far.0 c.in-Some.part.now c.bytes_between.result.now
+          c.in-Some.ensures.size (omega arith) stand so_far.2 so_far.3 c.bytes_between.ensures in (
+            so_far.0 ++ c.bytes_between.result.now,
             c.in_ok-append.ensures messages so_far.0 so_far.1,
             more.0,
             more.1,
           );
+      sealed =
+          subst (λ (q : ℕ). AreBytesAt x.byte sealed (take (min q first - sealed) c.put_between.new.out)) c.in-Some.ensures.size
+          (c.put_between.ensures.put x.byte stand inv.sealed);
       asked = λ near.
           let from : c.args.start / t.page ≤ c.loop-place.place / t.page =
           page_rises c.args.start c.loop-place.place t.page t.positive inv.low in
