@@ -16,7 +16,7 @@ AreBarredExtents checked extents = IsPermutation (map (λ c. c.locator.extent) (
 
 -- the starts of the sound ones of these locators, and the extents of the others
 pub record IsLocatorIndex (checked : List Checked) (v : LocatorIndex) : Type 0 where
-  pub sound : AreSoundPlaces checked v.sound.now
+  pub sound : AreSoundPlaces checked v.sound
   pub barred : AreBarredExtents checked v.barred
 
 -- the extents that may be reclaimed, if the sizes of the disk are given; else none

@@ -5,6 +5,7 @@ pub mod checked;
 pub mod chunk_form;
 pub(crate) mod counted_items;
 pub(crate) mod extents;
+pub(crate) mod nearby;
 pub(crate) mod open_place;
 pub mod searching;
 pub mod status;

@@ -39,7 +39,7 @@ pub fn end(alloc: Global, wanted: Wanted) -> Result<(), Stop> {
     right(batch.size() == 64 && batch.count() == 1)
 }
 
-/// The digests of three messages, of which one is empty.
+/// The digests of three messages, of which one is empty and one has most blocks: they are hashed one by one.
 pub fn digests(alloc: Global, wanted: Wanted) -> Result<(), Stop> {
     let mut batch = begun(alloc)?;
     batch.end()?;
@@ -51,9 +51,23 @@ pub fn digests(alloc: Global, wanted: Wanted) -> Result<(), Stop> {
     right(are_digests(&digests, &[b"ab", b"", &[7; 100]]))
 }
 
+/// The digests of four messages of a block each, which are hashed side by side.
+pub fn digests_of_alike(alloc: Global, wanted: Wanted) -> Result<(), Stop> {
+    let messages: [&[u8]; 4] = [b"ab", b"", b"cd", &[7; 50]];
+    let mut batch = Batch::new(alloc);
+    for message in messages {
+        batch.append(message)?;
+        batch.end()?;
+    }
+    wanted.made()?;
+    let digests = batch.digests(alloc)?;
+    right(are_digests(&digests, &messages))
+}
+
 /// The calls of this module.
 pub fn calls<O: Write>(alloc: Global, trial: &mut Trial<'_, O>) {
     made!(trial, "Batch::append", "", wanted => append(alloc, wanted));
     made!(trial, "Batch::end", "", wanted => end(alloc, wanted));
     made!(trial, "Batch::digests", "", wanted => digests(alloc, wanted));
+    made!(trial, "Batch::digests", "alike", wanted => digests_of_alike(alloc, wanted));
 }

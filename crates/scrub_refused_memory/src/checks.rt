@@ -109,7 +109,24 @@ pub fn check_all<R: Threads + Sync>(rt: &R, alloc: Global, wanted: Wanted) -> Re
     right(checked.as_slice() == expected.as_slice())
 }
 
-/// The same, with the run read before.
+/// So many locators that it is noted where items are, before they are looked for: 4,096 times that of the run.
+pub fn check_many<R: Threads + Sync>(rt: &R, alloc: Global, wanted: Wanted) -> Result<(), Stop> {
+    let (disk, run) = nine_locators(alloc)?;
+    let plan = plan_of(alloc, &disk)?;
+    let all = scan_in_order(alloc, &disk, &plan)?;
+    let expected = names_with_status(alloc, run)?;
+    let one = *expected.first().ok_or(Stop::Wrong)?;
+    let named = Named {
+        owner: one.owner,
+        locator: one.locator,
+    };
+    let named = vec![in alloc; named; 4_096]?;
+    wanted.made()?;
+    let checked = scrub_check::check_all(rt, alloc, &disk, &plan, &all, &named)?;
+    right(checked.len() == 4_096 && checked.iter().all(|found| *found == one))
+}
+
+/// The statuses of all locators of the disk, with the run read before.
 pub fn check_named<R: Threads + Sync>(rt: &R, alloc: Global, wanted: Wanted) -> Result<(), Stop> {
     let (disk, run) = nine_locators(alloc)?;
     check_named_on(rt, alloc, wanted, &disk, run)
@@ -186,6 +203,7 @@ pub fn calls<R: Threads + Sync, O: Write>(rt: &R, alloc: Global, trial: &mut Tri
     made!(trial, "status_of", "", wanted => status_of(alloc, wanted));
     made!(trial, "named_locators", "", wanted => named_locators(alloc, wanted));
     made!(trial, "check_all", "", wanted => check_all(rt, alloc, wanted));
+    made!(trial, "check_all", "many", wanted => check_many(rt, alloc, wanted));
     made!(trial, "check_named", "", wanted => check_named(rt, alloc, wanted));
     made!(trial, "name_shard", "", wanted => name_shard(alloc, wanted));
     made!(trial, "payload_at", "", wanted => payload_at(alloc, wanted));

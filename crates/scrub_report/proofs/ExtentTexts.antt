@@ -1,6 +1,5 @@
 -- The text of the report's extents, piece by piece, and the text before and behind it.
-use Rattle.std.proofs.Common.{◌≡◌, ◌<◌, ◌≤◌, ◌+◌, ◌-◌, ◌*◌, ℕ, zero, suc, List, [], ◌∷◌, ◌++◌, Bool, true, false, codes, fold, get_or, length, min, take, drop, nat_lt, arith, refl, sym, ap, ap₂, ◌∙◌, append_assoc, append-nil}
-use Rattle.std.specs.List.{zip}
+use Rattle.std.proofs.Common.{◌≡◌, ◌<◌, ◌≤◌, ◌+◌, ◌-◌, ◌*◌, ℕ, zero, suc, List, [], ◌∷◌, ◌++◌, Bool, true, false, codes, fold, get_or, length, min, take, drop, map, nat_lt, arith, refl, sym, ap, ap₂, ◌∙◌, append_assoc, append-nil}
 use Rattle.std.specs.Int.{div_ceil}
 use Rattle.std.proofs.Math.Nat.{mul-le-mul_right}
 use Rattle.std.proofs.Math.Seq.{take-add}
@@ -16,10 +15,10 @@ use Rattle.serde_json.specs.Written.{comma_if, compact_text}
 use Rattle.serde_json.proofs.Texts.{print-outline}
 use Rattle.scrub_scan.specs.Scanned.{Scanned}
 use Rattle.scrub_report.specs.Json.{list, natural, natural_or_null, with_keys}
-use Rattle.scrub_report.specs.Report.{extent_data, extents_data, items_data, numbers_data}
-use Rattle.scrub_report.specs.declared.parts.Parts.{Parts}
-use Rattle.scrub_report.specs.Tokens.{all_keys, begun_tokens, ended_tokens, extent_keys, extents_tokens, first_keys, hidden_keys, last_keys, members_tokens, piece_text, run_keys, value_tokens}
-use Rattle.scrub_report.proofs.ScannedLive.{beside_scanned}
+use Rattle.scrub_report.specs.Report.{extent_data, items_data, numbers_data}
+use Rattle.scrub_run.specs.declared.shard_id.ShardId.{ShardId}
+use Rattle.scrub_report.specs.declared.listed.Listed.{Listed}
+use Rattle.scrub_report.specs.Tokens.{all_keys, begun_tokens, ended_tokens, extent_keys, extent_pairs, extents_tokens, first_keys, hidden_keys, last_keys, members_tokens, piece_text, run_keys, value_tokens}
 use Rattle.scrub_report.proofs.Tokens.{keys_joined, list_tokens, object_tokens}
 
 -- whether the last token ends a value
@@ -151,46 +150,43 @@ unfolding print_from
 closing true ts = refl
 closing false ts = refl
 
-module _ {D : Type 0} {s : _} (p : Parts D s) (clean : Bool) where
+module _ {D : Type 0} (l : Listed D) (broken : List ShardId) (clean : Bool) where
   abbrev pairs : List (Scanned × ℕ)
-  pairs = zip p.all.extents p.liveness.live.items
+  pairs = extent_pairs l
 
   abbrev behind_hidden : List Token
-  behind_hidden = members_tokens (run_keys p) ++ (members_tokens (last_keys p) ++ end_object ∷ [])
+  behind_hidden = members_tokens (run_keys l) ++ (members_tokens (last_keys l) ++ end_object ∷ [])
 
   abbrev opens : List Token
   opens = key (codes "extents") ∷ begin_array ∷ []
 
-  extents_are : value_tokens (extents_data p.checked.items p.all.extents) ≡ begin_array ∷ (extents_tokens pairs ++ end_array ∷ [])
-  extents_are =
-      ap (λ ds. value_tokens (list ds))
-      (sym (beside_scanned p.checked.items p.all.extents p.liveness.live.items p.live_found))
-      ∙ list_tokens (λ (q : Scanned × ℕ). extent_data q.1 q.0) pairs
+  extents_are : value_tokens (list (map (λ (q : Scanned × ℕ). extent_data q.1 q.0) pairs)) ≡ begin_array ∷ (extents_tokens pairs ++ end_array ∷ [])
+  extents_are = list_tokens (λ (q : Scanned × ℕ). extent_data q.1 q.0) pairs
 
-  extents_written : members_tokens (extent_keys p) ++ behind_hidden ≡ opens ++ (extents_tokens pairs ++ ended_tokens p)
+  extents_written : members_tokens (extent_keys l) ++ behind_hidden ≡ opens ++ (extents_tokens pairs ++ ended_tokens l)
   extents_written =
-      append_assoc (key (codes "extents") ∷ value_tokens (extents_data p.checked.items p.all.extents))
-      (members_tokens (hidden_keys p)) behind_hidden
-      ∙ ap (λ ts. key (codes "extents") ∷ (ts ++ (members_tokens (hidden_keys p) ++ behind_hidden))) extents_are
+      append_assoc (key (codes "extents") ∷ value_tokens (list (map (λ (q : Scanned × ℕ). extent_data q.1 q.0) pairs)))
+      (members_tokens (hidden_keys l)) behind_hidden
+      ∙ ap (λ ts. key (codes "extents") ∷ (ts ++ (members_tokens (hidden_keys l) ++ behind_hidden))) extents_are
       ∙ ap (λ ts. opens ++ ts)
-      (append_assoc (extents_tokens pairs) (end_array ∷ []) (members_tokens (hidden_keys p) ++ behind_hidden))
+      (append_assoc (extents_tokens pairs) (end_array ∷ []) (members_tokens (hidden_keys l) ++ behind_hidden))
 
-  tokens_are : begun_tokens p clean ++ (extents_tokens pairs ++ ended_tokens p) ≡ value_tokens (with_keys (all_keys p clean))
+  tokens_are : begun_tokens l broken clean ++ (extents_tokens pairs ++ ended_tokens l) ≡ value_tokens (with_keys (all_keys l broken clean))
   tokens_are =
       ap (λ ts. begin_object ∷ ts)
-      (append_assoc (members_tokens (first_keys p clean)) opens (extents_tokens pairs ++ ended_tokens p)
-      ∙ ap (λ ts. members_tokens (first_keys p clean) ++ ts) (sym extents_written))
-      ∙ keys_joined p clean
+      (append_assoc (members_tokens (first_keys l broken clean)) opens (extents_tokens pairs ++ ended_tokens l)
+      ∙ ap (λ ts. members_tokens (first_keys l broken clean) ++ ts) (sym extents_written))
+      ∙ keys_joined l broken clean
 
-  begun : left false (begun_tokens p clean) ≡ false
-  begun = fold-append (λ _ t. ends t) false (members_tokens (first_keys p clean)) opens
+  begun : left false (begun_tokens l broken clean) ≡ false
+  begun = fold-append (λ _ t. ends t) false (members_tokens (first_keys l broken clean)) opens
 
   -- the text is that of its three parts
-  pub report_printed : print (begun_tokens p clean) ++ (print (extents_tokens pairs) ++ print (ended_tokens p)) ≡ compact_text (with_keys (all_keys p clean))
+  pub report_printed : print (begun_tokens l broken clean) ++ (print (extents_tokens pairs) ++ print (ended_tokens l)) ≡ compact_text (with_keys (all_keys l broken clean))
   report_printed =
-      let rest = extents_tokens pairs ++ ended_tokens p in
-      ap (λ t. print (begun_tokens p clean) ++ t)
-      (sym (print_from-append false (extents_tokens pairs) (ended_tokens p) ∙ ap (λ t. print (extents_tokens pairs) ++ t) (closing _ _)))
+      let rest = extents_tokens pairs ++ ended_tokens l in
+      ap (λ t. print (begun_tokens l broken clean) ++ t)
+      (sym (print_from-append false (extents_tokens pairs) (ended_tokens l) ∙ ap (λ t. print (extents_tokens pairs) ++ t) (closing _ _)))
       ∙ sym
-      (print_from-append false (begun_tokens p clean) rest ∙ ap (λ c. print (begun_tokens p clean) ++ print_from c rest) begun)
-      ∙ ap print tokens_are ∙ print-outline (with_keys (all_keys p clean))
+      (print_from-append false (begun_tokens l broken clean) rest ∙ ap (λ c. print (begun_tokens l broken clean) ++ print_from c rest) begun)
+      ∙ ap print tokens_are ∙ print-outline (with_keys (all_keys l broken clean))

@@ -27,11 +27,12 @@ use Rattle.scrub_frame.specs.Locator.{locator_bytes}
 use Rattle.scrub_run.specs.Entry.{EntryValue, entry_bytes, IsBelow, IsEntry}
 use Rattle.scrub_run.specs.Run.{AreEntries, RisesById, run_body, run_bytes, run_magic}
 use Rattle.scrub_merge.specs.Binding.{BindingValue, Runs, IsNewestBinding}
+use Rattle.scrub_merge.specs.ShardMap.{IsShardMap}
 use Rattle.scrub_merge.proofs.Elements.{Contains-cases}
 use Rattle.scrub_check.specs.Checked.{is_broken}
-use Rattle.scrub_check.specs.Runs.{NamesRun}
+use Rattle.scrub_check.specs.Runs.{AreReadRuns, NamesRun, ReadRunsValue}
 use Rattle.scrub_report.specs.Index.{index_entries, indexed}
-use Rattle.scrub_report.specs.Scrubbed.{Scrubbed, IsScrubbed, IsScrubbedBut}
+use Rattle.scrub_report.specs.Scrubbed.{IsPlanBut, Scrubbed, IsScrubbed, IsScrubbedBut}
 use Rattle.scrub_report.proofs.OneIndex.{read_of, read_runs_are_runs}
 use Rattle.scrub_report.proofs.ResetPlans.{plan_before}
 
@@ -153,44 +154,62 @@ planned_few image choice plan chosen is = by choice.superblock choice.page chose
     by (Some c) (Some q) found planned = omega (arith, ap length planned.runs, found.stands.contents.runs.count)
 
 -- a plan has few runs
-pub runs_few : {resets : List ℕ} (image : Image) (s : Scrubbed) → IsScrubbedBut resets image s → length s.plan.runs ≤ 32
-runs_few {resets} image s x =
-    let old = plan_before resets s.choice s.plan x.plan in
-    let few : length old.0.runs ≤ 32 = planned_few image s.choice old.0 x.choice old.1 in
+runs_few_by : (resets : List ℕ) (image : Image) (choice : Choice) (plan : PlanValue) → IsChoice image choice → IsPlanBut resets choice plan →
+    length plan.runs ≤ 32
+runs_few_by resets image choice plan chosen planned =
+    let old = plan_before resets choice plan planned in
+    let few : length old.0.runs ≤ 32 = planned_few image choice old.0 chosen old.1 in
     omega (arith, few, ap length old.3)
+
+pub runs_few : {resets : List ℕ} (image : Image) (s : Scrubbed) → IsScrubbedBut resets image s → length s.plan.runs ≤ 32
+runs_few {resets} image s x = runs_few_by resets image s.choice s.plan x.choice x.plan
 
 few_runs : {resets : List ℕ} (image : Image) (s : Scrubbed) → IsScrubbedBut resets image s → length s.read.runs ≤ 32
 few_runs image s x = omega (arith, x.read.count, runs_few image s x)
 
--- a run can have this many entries
+-- a run can have as many entries as a map of read runs has bindings, and each of these is an entry
+module _ (resets : List ℕ) (image : Image) (choice : Choice) (plan : PlanValue) (read : ReadRunsValue) (bindings : List BindingValue)
+    (chosen : IsChoice image choice) (planned : IsPlanBut resets choice plan) (read_are : AreReadRuns image plan read)
+    (map_is : IsShardMap read.runs bindings) where
+  pub countable_map : length bindings < 2 ^ 32
+  countable_map =
+      let ids = length-le_from_is_member same_bytes_laws (bound_ids bindings) (ids_of_runs read.runs) (distinct bindings map_is.bindings_of_map.rising)
+      (λ q h. bound_among (same_bytes q) read.runs bindings map_is.newest h) in
+      let all =
+      sum_by-le (λ (r : Option (List EntryValue)). length (ids_of_run r)) (2 ^ 26) read.runs
+      (runs_within read.runs (λ k es here. let found = read_of image plan read read_are k es here in read_within image found.1 found.0 es found.2)) in
+      omega (
+        arith,
+        ids,
+        length-map bindings (λ (b : BindingValue). b.id.0),
+        length-flat_map ids_of_run read.runs,
+        all,
+        read_are.count,
+        runs_few_by resets image choice plan chosen planned,
+      )
+
+  entries_of_map : All (λ b. IsEntry (indexed b)) bindings
+  entries_of_map k d hk = entry (get_or bindings k d) (map_is.newest k d hk)
+    where
+      entry : (b : BindingValue) → IsNewestBinding read.runs b → IsEntry (indexed b)
+      entry b is =
+          let entries = read_runs_are_runs image plan read read_are b.run is.entry.entries is.entry.is_read in
+          All-contains IsEntry is.entry.entries (indexed b) entries.each is.entry.among
+
+  -- each has at most as many locators as an entry can have
+  pub locators_fit : All (λ b. length b.locators ≤ 64) bindings
+  locators_fit k d hk = (entries_of_map k d hk).few
+
 pub countable : {resets : List ℕ} (image : Image) (s : Scrubbed) → IsScrubbedBut resets image s → length s.bindings < 2 ^ 32
-countable image s x =
-    let ids = length-le_from_is_member same_bytes_laws (bound_ids s.bindings) (ids_of_runs s.read.runs) (distinct s.bindings x.bindings.bindings_of_map.rising)
-    (λ q h. bound_among (same_bytes q) s.read.runs s.bindings x.bindings.newest h) in
-    let all =
-    sum_by-le (λ (r : Option (List EntryValue)). length (ids_of_run r)) (2 ^ 26) s.read.runs
-    (runs_within s.read.runs (λ k es here. let found = read_of image s.plan s.read x.read k es here in read_within image found.1 found.0 es found.2)) in
-    omega (
-      arith,
-      ids,
-      length-map s.bindings (λ (b : BindingValue). b.id.0),
-      length-flat_map ids_of_run s.read.runs,
-      all,
-      few_runs image s x,
-    )
+countable {resets} image s x = countable_map resets image s.choice s.plan s.read s.bindings x.choice x.plan x.read x.bindings
 
 -- each binding is an entry
 pub entries_are : {resets : List ℕ} (image : Image) (s : Scrubbed) → IsScrubbedBut resets image s → All (λ b. IsEntry (indexed b)) s.bindings
-entries_are image s x k d hk = entry (get_or s.bindings k d) (x.bindings.newest k d hk)
-  where
-    entry : (b : BindingValue) → IsNewestBinding s.read.runs b → IsEntry (indexed b)
-    entry b is =
-        let entries = read_runs_are_runs image s.plan s.read x.read b.run is.entry.entries is.entry.is_read in
-        All-contains IsEntry is.entry.entries (indexed b) entries.each is.entry.among
+entries_are {resets} image s x = entries_of_map resets image s.choice s.plan s.read s.bindings x.choice x.plan x.read x.bindings
 
 -- each has at most as many locators as an entry can have
 pub entries_fit : {resets : List ℕ} (image : Image) (s : Scrubbed) → IsScrubbedBut resets image s → All (λ b. length b.locators ≤ 64) s.bindings
-entries_fit image s x k d hk = (entries_are image s x k d hk).few
+entries_fit {resets} image s x = locators_fit resets image s.choice s.plan s.read s.bindings x.choice x.plan x.read x.bindings
 
 -- ---- the index is a run
 

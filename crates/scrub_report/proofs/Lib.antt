@@ -14,3 +14,4 @@ pub mod Indexable
 pub mod CleanLists
 pub mod RunRows
 pub mod KeptRuns
+pub mod ListedReport

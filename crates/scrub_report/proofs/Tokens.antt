@@ -10,7 +10,8 @@ use Rattle.serde_json.specs.Data.{Data}
 use Rattle.serde_json.specs.View.{items_of}
 use Rattle.serde_json.specs.Written.{items_outline, members_outline}
 use Rattle.scrub_report.specs.Json.{list, members, with_keys}
-use Rattle.scrub_report.specs.declared.parts.Parts.{Parts}
+use Rattle.scrub_run.specs.declared.shard_id.ShardId.{ShardId}
+use Rattle.scrub_report.specs.declared.listed.Listed.{Listed}
 use Rattle.scrub_report.specs.Tokens.{all_keys, extent_keys, first_keys, last_keys, list_begun, member_tokens, members_tokens, run_keys, value_tokens}
 
 -- two steps of writing are one
@@ -95,17 +96,17 @@ object_closed ms a b c d (Err e) begun all closed = tt
 
 -- ---- the report, whose keys are written in four steps
 
-module _ {D : Type 0} {s : _} (p : Parts D s) (clean : Bool) where
-  pub keys_joined : begin_object ∷ (members_tokens (first_keys p clean) ++ (members_tokens (extent_keys p) ++ (members_tokens (run_keys p) ++ (members_tokens (last_keys p) ++ end_object ∷ []))))
-      ≡ value_tokens (with_keys (all_keys p clean))
+module _ {D : Type 0} (l : Listed D) (broken : List ShardId) (clean : Bool) where
+  pub keys_joined : begin_object ∷ (members_tokens (first_keys l broken clean) ++ (members_tokens (extent_keys l) ++ (members_tokens (run_keys l) ++ (members_tokens (last_keys l) ++ end_object ∷ []))))
+      ≡ value_tokens (with_keys (all_keys l broken clean))
   keys_joined =
       let closed = end_object ∷ [] in
-      let last = members_joined (run_keys p) (last_keys p) closed in
+      let last = members_joined (run_keys l) (last_keys l) closed in
       let scanned =
-      members_joined (extent_keys p) (run_keys p ++ last_keys p) closed
-      ∙ ap (λ ts. members_tokens (extent_keys p) ++ ts) last in
+      members_joined (extent_keys l) (run_keys l ++ last_keys l) closed
+      ∙ ap (λ ts. members_tokens (extent_keys l) ++ ts) last in
       let all =
-      members_joined (first_keys p clean) (extent_keys p ++ (run_keys p ++ last_keys p)) closed
-      ∙ ap (λ ts. members_tokens (first_keys p clean) ++ ts) scanned in
+      members_joined (first_keys l broken clean) (extent_keys l ++ (run_keys l ++ last_keys l)) closed
+      ∙ ap (λ ts. members_tokens (first_keys l broken clean) ++ ts) scanned in
       ap (λ ts. begin_object ∷ ts) (sym all)
-      ∙ sym (object_tokens (first_keys p clean ++ (extent_keys p ++ (run_keys p ++ last_keys p))))
+      ∙ sym (object_tokens (first_keys l broken clean ++ (extent_keys l ++ (run_keys l ++ last_keys l))))

@@ -8,6 +8,7 @@ pub mod Index
 pub mod Answer
 pub mod Parts
 -- Steps of the code.
+pub mod Lists
 pub mod Tokens
 pub mod Values
 pub mod Kept

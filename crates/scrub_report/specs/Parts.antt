@@ -11,12 +11,14 @@ use Rattle.scrub_check.specs.declared.runs.RunState.{RunState}
 use Rattle.scrub_check.specs.Runs.{AreReadRuns, ReadRunsValue}
 use Rattle.scrub_check.specs.declared.lists.liveness.Liveness.{Liveness}
 use Rattle.scrub_check.specs.Candidates.{AreCandidates}
+use Rattle.scrub_check.specs.declared.statuses.checked.Checked.{Checked}
 use Rattle.scrub_check.specs.Checked.{AreChecked}
 use Rattle.scrub_check.specs.Chunks.{orphans}
 use Rattle.scrub_check.specs.Live.{live_bytes}
 use Rattle.scrub_check.specs.Named.{named}
 use Rattle.scrub_check.specs.Shared.{AreShared}
 use Rattle.scrub_check.specs.WholeScan.{IsWholeScan}
+use Rattle.scrub_merge.specs.Binding.{BindingValue}
 use Rattle.scrub_merge.specs.ShardMap.{IsShardMap}
 use Rattle.scrub_report.specs.declared.parts.Judged.{Judged}
 use Rattle.scrub_report.specs.declared.parts.Parts.{Parts}
@@ -46,10 +48,17 @@ pub record AreRowsOf (locators : List Locator) (read : ReadRunsValue) (rows : Li
   pub entries_are : map (λ r. r.entries) rows ≡ entry_counts read.runs
   pub states_are : run_states rows ≡ read.states
 
+-- what follows from which chunks are live
+pub record IsLivenessBy (plan : PlanValue) (all : List Scanned) (checked : List Checked) (in_doubt : Bool) (l : Liveness) : Type 0 where
+  pub live : l.live.items ≡ map (live_bytes checked) all
+  pub orphans_are : l.orphans.items ≡ orphans all checked
+  pub shared : AreShared checked l.shared.items
+  pub candidates : AreCandidates plan all checked in_doubt l.candidates.items
+
 module _ {D : Type 0} where
-  -- the locators are judged as they are in an image, as if these extents had been reset, and the rows are those of the runs
-  -- that were read
-  pub record AreJudgedBut (resets : List ℕ) (image : Image) (j : Judged D) : Type 0 where
+  -- the locators are judged as they are in an image, as if these extents had been reset, by a shard map of these bindings, and
+  -- the rows are those of the runs that were read
+  pub record AreJudgedBut (resets : List ℕ) (image : Image) (bindings : List BindingValue) (j : Judged D) : Type 0 where
     pub read : ReadRunsValue
     pub rows : AreRowsOf j.plan.runs read j.runs.items
     pub doubt : j.in_doubt ≡ is_in_doubt j.chosen read
@@ -57,15 +66,12 @@ module _ {D : Type 0} where
     pub plan : IsPlanBut resets j.chosen j.plan
     pub all : AreAllFindings image j.plan j.all.extents
     pub read_are : AreReadRuns image j.plan read
-    pub bindings : IsShardMap read.runs j.map
-    pub checked : AreChecked image j.plan (named j.plan.runs j.map) j.checked.items
+    pub map_is : IsShardMap read.runs bindings
+    pub checked : AreChecked image j.plan (named j.plan.runs bindings) j.checked.items
 
   -- what follows from which of its chunks are live
-  pub record IsLivenessOf (j : Judged D) (l : Liveness) : Type 0 where
-    pub live : l.live.items ≡ map (live_bytes j.checked.items) j.all.extents
-    pub orphans_are : l.orphans.items ≡ orphans j.all.extents j.checked.items
-    pub shared : AreShared j.checked.items l.shared.items
-    pub candidates : AreCandidates j.plan j.all.extents j.checked.items j.in_doubt l.candidates.items
+  abbrev pub IsLivenessOf : Judged D → Liveness → Type 0
+  IsLivenessOf j l = IsLivenessBy j.plan j.all.extents j.checked.items j.in_doubt l
 
 module _ {D : Type 0} {s : _} where
   -- what is found on the disk, by the parts that the code keeps and the runs that were read

@@ -1,9 +1,10 @@
 -- The values of an object's members, as the code keeps them, and what they are as JSON.
-use Rattle.std.specs.Prelude.{map}
+use Rattle.std.specs.Prelude.{cond, map}
 use Rattle.serde_json.specs.Data.{Data, boolean, string}
-use Rattle.scrub_check.specs.Checked.{dangling, hidden}
+use Rattle.scrub_check.specs.declared.statuses.checked.Checked.{Checked}
+use Rattle.scrub_check.specs.Checked.{is_hidden}
 use Rattle.scrub_report.specs.Json.{list, natural, natural_or_null}
-use Rattle.scrub_report.specs.Report.{candidate_data, dangling_data, doubtful_ids, geometry_data, hidden_data, ids_data, items_data, numbers_data, place_data, run_data, shared_data, super_data}
+use Rattle.scrub_report.specs.Report.{candidate_data, dangling_data, geometry_data, hidden_data, ids_data, items_data, numbers_data, place_data, run_data, shared_data, super_data}
 use Rattle.scrub_report.specs.Texts.{owner_text, state_text, status_text, uuid_text}
 use Rattle.scrub_report.specs.declared.keys.KeyValue.{KeyValue}
 use Rattle.scrub_report.specs.declared.keys.KeyValue.TheVariants as key
@@ -28,16 +29,18 @@ value_data (Items items) = items_data items.now
 abbrev pub row_data : RunRow → Data
 row_data r = run_data r.locator r.entries r.state
 
+-- the value of a hidden or of a dangling locator, by its status
+abbrev pub locator_data : Checked → Data
+locator_data c = cond (is_hidden c.status) (hidden_data c) (dangling_data c)
+
 -- the value of a key of the report, as JSON
 abbrev pub key_data : KeyValue → Data
 key_data (key.Candidates cs) = list (map candidate_data cs.now)
 key_data (key.Count n) = natural n
-key_data (key.Dangling cs) = list (map dangling_data (dangling cs.now))
-key_data (key.Doubtful bs) = ids_data (doubtful_ids bs.now)
 key_data (key.Flag b) = boolean b
 key_data (key.Geometry g) = geometry_data g
-key_data (key.Hidden cs) = list (map hidden_data (hidden cs.now))
 key_data (key.Ids ids) = ids_data ids.now
+key_data (key.Locators cs) = list (map locator_data cs.now)
 key_data (key.Numbers ns) = numbers_data ns.now
 key_data (key.Places ps) = list (map place_data ps.now)
 key_data (key.Runs rs) = list (map row_data rs.now)

@@ -1,28 +1,34 @@
 //! The whole scrub of a disk, by one reader or by many workers, and its answer.
 
-ghost use Rattle.std.specs.Prelude.{◌≡◌, ◌+◌, ◌<◌, ◌≤◌, ◌^◌, ℕ, All, List, length, IfOk};
+ghost use Rattle.std.specs.Prelude.{◌≡◌, ◌+◌, ◌<◌, ◌≤◌, ◌^◌, ℕ, All, AllPairs, List, [], length, IfOk};
 ghost use Rattle.scrub_disk.specs.Image.{Image};
+ghost use Rattle.scrub_run.specs.Entry.{IsBelow};
 ghost use Rattle.scrub_run.specs.Run.{IsRun, run_bytes};
+ghost use Rattle.scrub_merge.specs.Binding.{BindingValue};
+ghost use Rattle.scrub_check.specs.declared.statuses.checked.Checked.{Checked};
 ghost use Rattle.scrub_check.specs.Checked.{AreBrokenShards};
-ghost use Rattle.scrub_check.specs.Chunks.{twins};
 ghost use Rattle.scrub_report.specs.Answer.{AnswerValue, IsScrubAnswer, ArePlannedExtents, IsPartitionOfPlanned, IsCountOfPlanned};
 ghost use Rattle.scrub_report.specs.Index.{IsIndex, index_entries};
-ghost use Rattle.scrub_report.specs.Parts.{IsScan};
+ghost use Rattle.scrub_report.specs.Lists.{AreShardsOf, IsReported};
+ghost use Rattle.scrub_report.specs.Parts.{AreJudgedBut, IsScan};
 ghost use Rattle.scrub_report.specs.Scrubbed.{IsScrubbed, Scrubbed};
-ghost use Rattle.scrub_report.specs.Tokens.{kept_text};
 
 use crate::index::index_bytes;
-use crate::parts::Parts;
+use crate::listed::{is_clean_listed, listed_of};
+use crate::parts::Judged;
 use crate::report::report_text;
 use crate::scanning::{Scan, scan_by, scan_by_one};
-use crate::scrubbing::{is_clean, parts_and_twins};
-use scrub_check::Place;
+use crate::scrubbing::judged_of;
+use crate::shards::{Shards, shards_of};
+use scrub_check::broken_shards;
 use scrub_disk::{OutOfMemory, PageSource};
+use scrub_merge::ShardMap;
 use scrub_pool::{Gate, PoolFault, Takings};
+use scrub_run::ShardId;
 use std::alloc::Global;
 use std::marker::Model;
 use std::sync::Wait;
-use std::thread::{Threads, join_mut};
+use std::thread::{Threads, join};
 
 /// Why a scrub failed.
 #[derive(Debug, Clone, Copy, PartialEq, Eq)]
@@ -96,34 +102,55 @@ impl ScrubAnswer {
     }
 }
 
-/// The bytes of the recovered index and the text of the report, made at the same time on two threads.
+/// The text of the report, and whether the disk is clean.
+fn report_of<R: Threads + Sync, D: PageSource>(
+    rt: &R,
+    alloc: Global,
+    judged: Judged<'_, D>,
+    shards: Shards,
+    broken: &[ShardId],
+) -> Result<(Vec<u8>, bool), OutOfMemory>
+    ensures { (image : Image) (bindings : List BindingValue) → AreJudgedBut [] image bindings judged.entry →
+        AreShardsOf bindings shards → AreBrokenShards judged.entry.checked.items broken.now →
+        IfOk result (λ r. IsReported image bindings judged.entry.checked.items r.0.items r.1) }
+{
+    let listed = listed_of(rt, alloc, judged, shards)?;
+    let is_clean = is_clean_listed(&listed);
+    let text = report_text(rt, alloc, &listed, broken, is_clean)?;
+    Ok((text, is_clean))
+}
+
+/// The recovered index, and the text of the report with whether the disk is clean. The index needs the shard map and the
+/// broken shards alone, so it is made on a thread of its own while all else is listed and written.
 fn index_and_report<R: Threads + Sync, D: PageSource>(
     rt: &R,
     alloc: Global,
-    parts: &Parts<'_, D>,
-    twin_chunks: &[Place],
-    is_clean: bool,
-) -> Result<(Vec<u8>, Vec<u8>), OutOfMemory>
-    requires twins { twin_chunks.now ≡ twins parts.now.all.extents }
-    requires broken { AreBrokenShards parts.now.checked.items parts.now.broken.items }
-    requires few { All (λ b. length b.locators ≤ 64) parts.now.map }
-    requires count { length parts.now.map < 2 ^ 32 }
-    ensures index { IfOk result (λ r. r.0.items ≡ run_bytes (index_entries parts.now.checked.items parts.now.map)) }
-    ensures report { IfOk result (λ r. r.1.items ≡ kept_text parts.now is_clean) }
+    judged: Judged<'_, D>,
+    map: ShardMap,
+    shards: Shards,
+    broken: &[ShardId],
+) -> Result<(Vec<u8>, (Vec<u8>, bool)), OutOfMemory>
+    requires broken { AreBrokenShards judged.checked.items broken.now }
+    requires few { All (λ b. length b.locators ≤ 64) map }
+    requires count { length map < 2 ^ 32 }
+    ensures index { IfOk result (λ r. r.0.items ≡ run_bytes (index_entries judged.entry.checked.items map)) }
+    ensures report { (image : Image) → AreJudgedBut [] image map judged.entry → AreShardsOf map shards →
+        IfOk result (λ r. IsReported image map judged.entry.checked.items r.1.0.items r.1.1) }
 {
-    let (index, report) = join_mut(
+    let (index, report) = join(
         rt,
-        &mut || -> Result<Vec<u8>, OutOfMemory>
-            requires broken { AreBrokenShards parts.now.checked.items parts.now.broken.items }
-            requires few { All (λ b. length b.locators ≤ 64) parts.now.map }
-            requires count { length parts.now.map < 2 ^ 32 }
-            ensures index { IfOk result (λ bytes.
-                bytes.items ≡ run_bytes (index_entries parts.entry.now.checked.items parts.entry.now.map)) }
-        { index_bytes(alloc, parts.map.bindings(), &parts.broken) },
-        &mut || -> Result<Vec<u8>, OutOfMemory>
-            requires twins { twin_chunks.now ≡ twins parts.now.all.extents }
-            ensures report { IfOk result (λ text. text.items ≡ kept_text parts.entry.now is_clean) }
-        { report_text(rt, alloc, parts, twin_chunks, is_clean) },
+        move || -> Result<Vec<u8>, OutOfMemory>
+            requires sorted { AllPairs IsBelow broken.now }
+            requires few { All (λ b. length b.locators ≤ 64) map }
+            requires count { length map < 2 ^ 32 }
+            ensures index { (checked : List Checked) → AreBrokenShards checked broken.entry.now →
+                IfOk result (λ bytes. bytes.items ≡ run_bytes (index_entries checked map)) }
+        { index_bytes(alloc, map, broken) },
+        move || -> Result<(Vec<u8>, bool), OutOfMemory>
+            ensures report { (image : Image) (bindings : List BindingValue) → AreJudgedBut [] image bindings judged.entry →
+                AreShardsOf bindings shards → AreBrokenShards judged.entry.checked.items broken.entry.now →
+                IfOk result (λ r. IsReported image bindings judged.entry.checked.items r.0.items r.1) }
+        { report_of(rt, alloc, judged, shards, broken) },
     );
     Ok((index?, report?))
 }
@@ -137,9 +164,10 @@ fn answer_of<R: Threads + Sync, D: PageSource>(
     requires { IsScan (D.image scan.disk.now) scan.chosen scan.plan scan.all.extents }
     ensures { IfOk result (IsScrubAnswer (D.image scan.entry.disk.now)) }
 {
-    let (parts, twin_chunks) = parts_and_twins(rt, alloc, scan)?;
-    let is_clean = is_clean(&parts);
-    let (index, report) = index_and_report(rt, alloc, &parts, &twin_chunks, is_clean)?;
+    let (judged, map) = judged_of(rt, alloc, scan, &[])?;
+    let shards = shards_of(alloc, &map)?;
+    let broken = broken_shards(alloc, &judged.checked)?;
+    let (index, (report, is_clean)) = index_and_report(rt, alloc, judged, map, shards, &broken)?;
     Ok(ScrubAnswer {
         report,
         index,

@@ -3,14 +3,14 @@
 ghost use Rattle.std.specs.Prelude.{◌≡◌, ◌+◌, ◌*◌, ◌++◌, ◌≤◌, ◌<◌, ◌^◌, ◌↔◌, All, AllPairs, Contains, IfOk, IsTrue, List, OnOk, length, not};
 ghost use Rattle.std.specs.List.{flat_map};
 ghost use Rattle.scrub_run.specs.Entry.{IsBelow, entry_bytes};
-ghost use Rattle.scrub_run.specs.Run.{run_bytes};
+ghost use Rattle.scrub_run.specs.Run.{run_body, run_bytes};
 ghost use Rattle.scrub_check.specs.declared.statuses.checked.Checked.{Checked};
 ghost use Rattle.scrub_check.specs.Checked.{AreBrokenShards, is_broken};
 ghost use Rattle.scrub_report.specs.Index.{index_entries};
 ghost use Rattle.scrub_report.specs.Kept.{all_locators};
 
 use scrub_disk::OutOfMemory;
-use scrub_merge::Binding;
+use scrub_merge::{Binding, ShardMap};
 use scrub_run::{RunWriter, ShardId};
 use std::alloc::Global;
 
@@ -73,20 +73,33 @@ fn append_kept(
     Ok(())
 }
 
-/// The bytes of the recovered index, in a buffer of just their size.
-pub(crate) fn index_bytes(
-    alloc: Global,
-    bindings: &[Binding],
-    broken: &[ShardId],
-) -> Result<Vec<u8>, OutOfMemory>
+/// The recovered index but for its digest, in a buffer with room for just the whole. The shard map is freed.
+fn begun_index(alloc: Global, map: ShardMap, broken: &[ShardId]) -> Result<RunWriter, OutOfMemory>
     requires sorted { AllPairs IsBelow broken.now }
-    requires few { All (λ b. length b.locators ≤ 64) bindings.now }
-    requires count { length bindings.now < 2 ^ 32 }
+    requires few { All (λ b. length b.locators ≤ 64) map }
+    requires count { length map < 2 ^ 32 }
     ensures { (checked : List Checked) → AreBrokenShards checked broken.now →
-        IfOk result (λ bytes. bytes.items ≡ run_bytes (index_entries checked bindings.now)) }
+        IfOk result (λ run. run ≡ run_body (index_entries checked map)) }
 {
+    let bindings = map.bindings();
     let (entries, locators) = kept_sizes(bindings, broken);
     let mut run = RunWriter::new(alloc, entries as u32, locators)?;
     append_kept(&mut run, bindings, broken)?;
+    Ok(run)
+}
+
+/// The bytes of the recovered index. The shard map is freed before they are hashed.
+pub(crate) fn index_bytes(
+    alloc: Global,
+    map: ShardMap,
+    broken: &[ShardId],
+) -> Result<Vec<u8>, OutOfMemory>
+    requires sorted { AllPairs IsBelow broken.now }
+    requires few { All (λ b. length b.locators ≤ 64) map }
+    requires count { length map < 2 ^ 32 }
+    ensures { (checked : List Checked) → AreBrokenShards checked broken.now →
+        IfOk result (λ bytes. bytes.items ≡ run_bytes (index_entries checked map)) }
+{
+    let run = begun_index(alloc, map, broken)?;
     run.finish()
 }

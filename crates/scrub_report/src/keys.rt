@@ -1,20 +1,16 @@
-//! The report's keys and their values, in the order of the keys. Each list that only the report needs is freed once it is
-//! written.
+//! The report's keys and their values, in the order of the keys.
 
 ghost use Rattle.std.specs.Prelude.{◌≡◌, ◌++◌, OnOk};
-ghost use Rattle.scrub_check.specs.Chunks.{twins};
 ghost use Rattle.scrub_report.specs.Tokens.{first_keys, hidden_keys, last_keys, members_tokens, run_keys};
 
 use crate::json_values::{WriteJson, write_list};
+use crate::listed::Listed;
 use crate::object::write_members;
-use crate::parts::Parts;
 use crate::runs::RunRow;
-use crate::shards::doubtful_ids;
 use crate::sizes::{write_geometry, write_super};
 use json::Writer;
-use scrub_check::{Candidate, Checked, Place, SharedPlace, dangling, hidden};
+use scrub_check::{Candidate, Checked, Place, SharedPlace};
 use scrub_disk::{Geometry, OutOfMemory, PageSource};
-use scrub_merge::Binding;
 use scrub_run::ShardId;
 use scrub_super::Chosen;
 use std::alloc::Global;
@@ -26,18 +22,14 @@ pub(crate) enum KeyValue<'a> {
     Candidates(&'a [Candidate]),
     /// A number of elements.
     Count(usize),
-    /// The dangling ones of these checked locators.
-    Dangling(&'a [Checked]),
-    /// The shards of the doubtful ones of these bindings.
-    Doubtful(&'a [Binding]),
     /// `true` or `false`.
     Flag(bool),
     /// The sizes of the disk.
     Geometry(Geometry),
-    /// The hidden ones of these checked locators.
-    Hidden(&'a [Checked]),
     /// Shards.
     Ids(&'a [ShardId]),
+    /// Dangling or hidden locators.
+    Locators(&'a [Checked]),
     /// Numbers of extents.
     Numbers(&'a [u32]),
     /// Chunks.
@@ -59,12 +51,10 @@ impl WriteJson for KeyValue<'_> {
         match self {
             KeyValue::Candidates(candidates) => write_list(alloc, out, candidates),
             KeyValue::Count(count) => out.u64(*count as u64),
-            KeyValue::Dangling(checked) => write_list(alloc, out, &dangling(alloc, checked)?),
-            KeyValue::Doubtful(bindings) => write_list(alloc, out, &doubtful_ids(alloc, bindings)?),
             KeyValue::Flag(flag) => out.boolean(*flag),
             KeyValue::Geometry(geometry) => write_geometry(alloc, out, *geometry),
-            KeyValue::Hidden(checked) => write_list(alloc, out, &hidden(alloc, checked)?),
             KeyValue::Ids(ids) => write_list(alloc, out, ids),
+            KeyValue::Locators(locators) => write_list(alloc, out, locators),
             KeyValue::Numbers(numbers) => write_list(alloc, out, numbers),
             KeyValue::Places(places) => write_list(alloc, out, places),
             KeyValue::Runs(runs) => write_list(alloc, out, runs),
@@ -75,27 +65,28 @@ impl WriteJson for KeyValue<'_> {
 }
 
 /// Writes the keys from `broken` up to `doubtful`.
-pub(crate) fn write_first<D: PageSource>(
+pub(crate) fn write_first<'a, D: PageSource>(
     alloc: Global,
     out: &mut Writer,
-    parts: &Parts<'_, D>,
+    listed: &'a Listed<'_, D>,
+    broken: &'a [ShardId],
     clean: bool,
 ) -> Result<(), OutOfMemory>
-    ensures tokens { OnOk result (out.new.tokens ≡ out.old.tokens ++ members_tokens (first_keys parts.now clean)) }
+    ensures tokens { OnOk result (out.new.tokens ≡ out.old.tokens ++ members_tokens (first_keys listed.now broken.now clean)) }
     ensures before { out.new.before ≡ out.old.before }
 {
     write_members(
         alloc,
         out,
         &[
-            ("broken", KeyValue::Ids(&parts.broken)),
+            ("broken", KeyValue::Ids(broken)),
             (
                 "candidates",
-                KeyValue::Candidates(&parts.liveness.candidates),
+                KeyValue::Candidates(&listed.liveness.candidates),
             ),
             ("clean", KeyValue::Flag(clean)),
-            ("dangling", KeyValue::Dangling(&parts.checked)),
-            ("doubtful", KeyValue::Doubtful(parts.map.bindings())),
+            ("dangling", KeyValue::Locators(&listed.dangling)),
+            ("doubtful", KeyValue::Ids(&listed.shards.doubtful)),
         ],
     )
 }
@@ -104,17 +95,17 @@ pub(crate) fn write_first<D: PageSource>(
 pub(crate) fn write_sizes<D: PageSource>(
     alloc: Global,
     out: &mut Writer,
-    parts: &Parts<'_, D>,
+    listed: &Listed<'_, D>,
 ) -> Result<(), OutOfMemory>
-    ensures tokens { OnOk result (out.new.tokens ≡ out.old.tokens ++ members_tokens (hidden_keys parts.now)) }
+    ensures tokens { OnOk result (out.new.tokens ≡ out.old.tokens ++ members_tokens (hidden_keys listed.now)) }
     ensures before { out.new.before ≡ out.old.before }
 {
     write_members(
         alloc,
         out,
         &[
-            ("geometry", KeyValue::Geometry(parts.plan.geometry())),
-            ("hidden", KeyValue::Hidden(&parts.checked)),
+            ("geometry", KeyValue::Geometry(listed.plan.geometry())),
+            ("hidden", KeyValue::Locators(&listed.hidden)),
         ],
     )
 }
@@ -123,41 +114,39 @@ pub(crate) fn write_sizes<D: PageSource>(
 pub(crate) fn write_index<D: PageSource>(
     alloc: Global,
     out: &mut Writer,
-    parts: &Parts<'_, D>,
+    listed: &Listed<'_, D>,
 ) -> Result<(), OutOfMemory>
-    ensures tokens { OnOk result (out.new.tokens ≡ out.old.tokens ++ members_tokens (run_keys parts.now)) }
+    ensures tokens { OnOk result (out.new.tokens ≡ out.old.tokens ++ members_tokens (run_keys listed.now)) }
     ensures before { out.new.before ≡ out.old.before }
 {
     write_members(
         alloc,
         out,
         &[
-            ("orphans", KeyValue::Places(&parts.liveness.orphans)),
-            ("retired", KeyValue::Numbers(parts.plan.retired())),
-            ("runs", KeyValue::Runs(&parts.runs)),
+            ("orphans", KeyValue::Places(&listed.liveness.orphans)),
+            ("retired", KeyValue::Numbers(listed.plan.retired())),
+            ("runs", KeyValue::Runs(&listed.runs)),
         ],
     )
 }
 
 /// Writes the keys from `shards` up to `twins`, the last one.
-pub(crate) fn write_last<'a, D: PageSource>(
+pub(crate) fn write_last<D: PageSource>(
     alloc: Global,
     out: &mut Writer,
-    parts: &'a Parts<'_, D>,
-    twin_chunks: &'a [Place],
+    listed: &Listed<'_, D>,
 ) -> Result<(), OutOfMemory>
-    requires { twin_chunks.now ≡ twins parts.now.all.extents }
-    ensures tokens { OnOk result (out.new.tokens ≡ out.old.tokens ++ members_tokens (last_keys parts.now)) }
+    ensures tokens { OnOk result (out.new.tokens ≡ out.old.tokens ++ members_tokens (last_keys listed.now)) }
     ensures before { out.new.before ≡ out.old.before }
 {
     write_members(
         alloc,
         out,
         &[
-            ("shards", KeyValue::Count(parts.map.bindings().len())),
-            ("shared", KeyValue::Shared(&parts.liveness.shared)),
-            ("super", KeyValue::Super(&parts.chosen)),
-            ("twins", KeyValue::Places(twin_chunks)),
+            ("shards", KeyValue::Count(listed.shards.count)),
+            ("shared", KeyValue::Shared(&listed.liveness.shared)),
+            ("super", KeyValue::Super(&listed.chosen)),
+            ("twins", KeyValue::Places(&listed.twins)),
         ],
     )
 }

@@ -9,6 +9,7 @@ mod extents;
 mod index;
 mod json_values;
 mod keys;
+mod listed;
 mod locators;
 mod object;
 pub mod output;

@@ -12,7 +12,8 @@ use scrub_run::ShardId;
 use scrub_scan::AllFindings;
 use scrub_super::{Chosen, Plan};
 
-/// What was found on a disk, up to the status of each named locator.
+/// What was found on a disk, up to the status of each named locator, without the shard map, which lives apart: the recovered
+/// index is made of it while all else is listed.
 #[derive(Drop)]
 pub(crate) struct Judged<'d, D: PageSource> {
     /// The choice of the superblock that counts.
@@ -25,8 +26,6 @@ pub(crate) struct Judged<'d, D: PageSource> {
     pub in_doubt: bool,
     /// The index runs of the plan, in its order.
     pub runs: Vec<RunRow>,
-    /// The shard map of the runs that were read.
-    pub map: ShardMap,
     /// The named locators, each with its status.
     pub checked: Vec<Checked>,
 }

@@ -4,8 +4,10 @@ ghost use Rattle.std.specs.Prelude.{◌≡◌, ℕ, IfOk, List, is_none, is_some
 ghost use Rattle.std.specs.List.{list_all, list_any};
 ghost use Rattle.scrub_disk.specs.Image.{Image};
 ghost use Rattle.scrub_check.specs.Checked.{is_sound};
+ghost use Rattle.scrub_check.specs.declared.statuses.checked.Checked.{Checked};
 ghost use Rattle.scrub_check.specs.Chunks.{twins};
-ghost use Rattle.scrub_report.specs.Parts.{AreJudgedBut, ArePartsBut, ArePartsOf, IsLivenessOf, IsScan, IsScanBut, is_clean_kept};
+ghost use Rattle.scrub_check.specs.LocatorIndex.{IsLocatorIndex};
+ghost use Rattle.scrub_report.specs.Parts.{AreJudgedBut, ArePartsBut, ArePartsOf, IsLivenessBy, IsLivenessOf, IsScan, IsScanBut, is_clean_kept};
 ghost use Rattle.scrub_report.specs.Scrubbed.{is_clean_list, is_in_doubt};
 
 use crate::clean::{are_clean_extents, is_clean_choice};
@@ -13,12 +15,13 @@ use crate::parts::{Judged, Parts};
 use crate::runs::{RunRow, run_rows};
 use crate::scanning::Scan;
 use scrub_check::{
-    Checked, Liveness, Place, ReadRuns, SharedPlace, broken_shards, check_named, liveness_of,
-    read_all_runs, twins,
+    Checked, Liveness, LocatorIndex, Place, ReadRuns, SharedPlace, broken_shards, check_named,
+    liveness_by, liveness_of, read_all_runs, twins,
 };
 use scrub_disk::{OutOfMemory, PageSource};
-use scrub_merge::merge_owned;
-use scrub_super::Chosen;
+use scrub_merge::{ShardMap, merge_owned};
+use scrub_scan::AllFindings;
+use scrub_super::{Chosen, Plan};
 use std::alloc::Global;
 use std::thread::{Threads, join_mut};
 
@@ -36,16 +39,16 @@ fn is_in_doubt(chosen: &Chosen, read: &ReadRuns) -> bool
     chosen.tie() || !chosen.bad_pages().is_empty() || has_lost_run(read)
 }
 
-/// What is found on a scanned disk, as if these extents had been reset, up to the status of each named locator. Once the runs are merged their entries are in the
-/// map, so only what the report needs of the runs is kept.
-fn judged_of<'d, R: Threads + Sync, D: PageSource>(
+/// What is found on a scanned disk, as if these extents had been reset, up to the status of each named locator, and the shard
+/// map. Once the runs are merged their entries are in the map, so only what the report needs of the runs is kept.
+pub(crate) fn judged_of<'d, R: Threads + Sync, D: PageSource>(
     rt: &R,
     alloc: Global,
     scan: Scan<'d, D>,
     resets: &[u32],
-) -> Result<Judged<'d, D>, OutOfMemory>
+) -> Result<(Judged<'d, D>, ShardMap), OutOfMemory>
     requires { IsScanBut resets.now (D.image scan.disk.now) scan.chosen scan.plan scan.all.extents }
-    ensures { IfOk result (AreJudgedBut resets.now (D.image scan.entry.disk.now)) }
+    ensures { IfOk result (λ r. AreJudgedBut resets.now (D.image scan.entry.disk.now) r.1 r.0) }
 {
     let Scan {
         disk,
@@ -59,15 +62,15 @@ fn judged_of<'d, R: Threads + Sync, D: PageSource>(
     let (read_runs, _) = read.into_parts();
     let map = merge_owned(alloc, read_runs)?;
     let checked = check_named(rt, alloc, disk, &plan, &all, &statuses, &map)?;
-    Ok(Judged {
+    let judged = Judged {
         chosen,
         plan,
         all,
         in_doubt,
         runs,
-        map,
         checked,
-    })
+    };
+    Ok((judged, map))
 }
 
 /// What follows from which chunks are live.
@@ -86,35 +89,55 @@ fn liveness_in<D: PageSource>(
     )
 }
 
+/// The same, by what the named locators say.
+fn liveness_with<D: PageSource>(
+    alloc: Global,
+    plan: &Plan,
+    all: &AllFindings<'_, D>,
+    locators: &LocatorIndex,
+    in_doubt: bool,
+) -> Result<Liveness, OutOfMemory>
+    ensures { (checked : List Checked) → IsLocatorIndex checked locators.now →
+        IfOk result (IsLivenessBy plan.now all.now.extents checked in_doubt) }
+{
+    liveness_by(alloc, plan, all, locators, in_doubt)
+}
+
 /// What follows from which chunks are live, and the twins among the chunks, found at the same time on two threads.
-fn liveness_and_twins<R: Threads + Sync, D: PageSource>(
+pub(crate) fn liveness_and_twins<R: Threads + Sync, D: PageSource>(
     rt: &R,
     alloc: Global,
-    judged: &Judged<'_, D>,
+    plan: &Plan,
+    all: &AllFindings<'_, D>,
+    locators: &LocatorIndex,
+    in_doubt: bool,
 ) -> Result<(Liveness, Vec<Place>), OutOfMemory>
-    ensures liveness { IfOk result (λ r. IsLivenessOf judged.now r.0) }
-    ensures twins { IfOk result (λ r. r.1.items ≡ twins judged.now.all.extents) }
+    ensures liveness { (checked : List Checked) → IsLocatorIndex checked locators.now →
+        IfOk result (λ r. IsLivenessBy plan.now all.now.extents checked in_doubt r.0) }
+    ensures twins { IfOk result (λ r. r.1.items ≡ twins all.now.extents) }
 {
     let (liveness, twin_chunks) = join_mut(
         rt,
         &mut || -> Result<Liveness, OutOfMemory>
-            ensures liveness { IfOk result (IsLivenessOf judged.entry.now) }
-        { liveness_in(alloc, judged) },
+            ensures liveness { (checked : List Checked) → IsLocatorIndex checked locators.entry.now →
+                IfOk result (IsLivenessBy plan.entry.now all.entry.now.extents checked in_doubt) }
+        { liveness_with(alloc, plan, all, locators, in_doubt) },
         &mut || -> Result<Vec<Place>, OutOfMemory>
-            ensures twins { IfOk result (λ v. v.items ≡ twins judged.entry.now.all.extents) }
-        { twins(alloc, &judged.all) },
+            ensures twins { IfOk result (λ v. v.items ≡ twins all.entry.now.extents) }
+        { twins(alloc, all) },
     );
     Ok((liveness?, twin_chunks?))
 }
 
-/// What is found on a disk, from its checked locators and what follows from which chunks are live.
+/// What is found on a disk, from its checked locators, its shard map and what follows from which chunks are live.
 fn parts_from<'d, D: PageSource>(
     alloc: Global,
     judged: Judged<'d, D>,
+    map: ShardMap,
     liveness: Liveness,
 ) -> Result<Parts<'d, D>, OutOfMemory>
     requires { IsLivenessOf judged liveness }
-    ensures parts { (resets : List ℕ) (image : Image) → AreJudgedBut resets image judged.entry →
+    ensures parts { (resets : List ℕ) (image : Image) → AreJudgedBut resets image map judged.entry →
         IfOk result (ArePartsBut resets image) }
     ensures all { IfOk result (λ parts. parts.all.extents ≡ judged.entry.all.extents) }
 {
@@ -123,7 +146,6 @@ fn parts_from<'d, D: PageSource>(
         plan,
         all,
         runs,
-        map,
         checked,
         ..
     } = judged;
@@ -149,12 +171,12 @@ pub fn parts_of<'d, R: Threads + Sync, D: PageSource>(
     requires { IsScanBut resets.now (D.image scan.disk.now) scan.chosen scan.plan scan.all.extents }
     ensures { IfOk result (ArePartsBut resets.now (D.image scan.entry.disk.now)) }
 {
-    let judged = judged_of(rt, alloc, scan, resets)?;
+    let (judged, map) = judged_of(rt, alloc, scan, resets)?;
     let liveness = liveness_in(alloc, &judged)?;
-    parts_from(alloc, judged, liveness)
+    parts_from(alloc, judged, map, liveness)
 }
 
-/// The same, and the twins among the chunks, which only the report has.
+/// The same, and the twins among the chunks.
 pub fn parts_and_twins<'d, R: Threads + Sync, D: PageSource>(
     rt: &R,
     alloc: Global,
@@ -164,9 +186,17 @@ pub fn parts_and_twins<'d, R: Threads + Sync, D: PageSource>(
     ensures parts { IfOk result (λ r. ArePartsOf (D.image scan.entry.disk.now) r.0) }
     ensures twins { IfOk result (λ r. r.1.items ≡ twins r.0.all.extents) }
 {
-    let judged = judged_of(rt, alloc, scan, &[])?;
-    let (liveness, twin_chunks) = liveness_and_twins(rt, alloc, &judged)?;
-    let parts = parts_from(alloc, judged, liveness)?;
+    let (judged, map) = judged_of(rt, alloc, scan, &[])?;
+    let locators = LocatorIndex::of(alloc, &judged.checked)?;
+    let (liveness, twin_chunks) = liveness_and_twins(
+        rt,
+        alloc,
+        &judged.plan,
+        &judged.all,
+        &locators,
+        judged.in_doubt,
+    )?;
+    let parts = parts_from(alloc, judged, map, liveness)?;
     Ok((parts, twin_chunks))
 }
 
@@ -185,7 +215,7 @@ fn is_clean_list(checked: &[Checked], shared: &[SharedPlace]) -> bool
 }
 
 /// Whether each index run is read.
-fn are_read(runs: &[RunRow]) -> bool
+pub(crate) fn are_read(runs: &[RunRow]) -> bool
     ensures { result ≡ list_all (λ r. is_some r.entries) runs.now }
 {
     runs.iter().all(|run| run.entries.is_some())

@@ -9,7 +9,6 @@ use crate::lists::chunk_uuids::ChunkUuids;
 use crate::lists::live_and_orphans::part_chunks;
 use crate::lists::locator_index::LocatorIndex;
 use crate::lists::place::Place;
-use crate::lists::sound_places::SoundPlaces;
 use crate::places::item_frames::frame_of_item;
 use crate::statuses::checked::Checked;
 use scrub_disk::{OutOfMemory, PageSource};
@@ -62,8 +61,7 @@ pub fn orphans<D: PageSource>(
 ) -> Result<Vec<Place>, OutOfMemory>
     ensures { IfOk result (λ v. v.items ≡ orphans all.now.extents checked.now) }
 {
-    let sound = SoundPlaces::of(alloc, checked)?;
-    let locators = LocatorIndex::of(alloc, checked, &sound)?;
+    let locators = LocatorIndex::of(alloc, checked)?;
     let parted = part_chunks(alloc, None, &locators, all)?;
     Ok(parted.orphans)
 }

@@ -109,12 +109,12 @@ fn live_among(
 fn add_extent<D: PageSource>(
     alloc: Global,
     geometry: Option<Geometry>,
-    locators: &LocatorIndex<'_>,
+    locators: &LocatorIndex,
     found: &ExtentResult<'_, D>,
     cursor: &mut Cursor<'_>,
     so_far: &mut LiveAndOrphans,
 ) -> Result<(), OutOfMemory>
-    requires over { cursor.old.starts.now ≡ locators.now.sound.now }
+    requires over { cursor.old.starts.now ≡ locators.now.sound }
     requires passed { HasPassed cursor.old (scanned found.now).extent 0 }
     ensures so_far { (checked : List Checked) (extents : List Scanned) → IsLocatorIndex checked locators.now →
         AreLiveAndOrphans geometry checked extents so_far.old →
@@ -135,7 +135,7 @@ fn add_extent<D: PageSource>(
 pub(crate) fn part_chunks<D: PageSource>(
     alloc: Global,
     geometry: Option<Geometry>,
-    locators: &LocatorIndex<'_>,
+    locators: &LocatorIndex,
     all: &AllFindings<'_, D>,
 ) -> Result<LiveAndOrphans, OutOfMemory>
     ensures so_far { (checked : List Checked) → IsLocatorIndex checked locators.now →
@@ -148,7 +148,7 @@ pub(crate) fn part_chunks<D: PageSource>(
         orphans: Vec::new(alloc),
         reclaimable: Vec::new(alloc),
     };
-    let mut cursor = Cursor::new(locators.sound);
+    let mut cursor = Cursor::new(&locators.sound);
     for i in 0..all.len() {
         add_extent(
             alloc,

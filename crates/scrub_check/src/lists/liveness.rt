@@ -1,6 +1,8 @@
 //! All that follows from which chunks are live, at once: for a report that lists all of it.
 
-ghost use Rattle.std.specs.Prelude.{◌≡◌, IfOk, map};
+ghost use Rattle.std.specs.Prelude.{◌≡◌, IfOk, List, map};
+ghost use Rattle.scrub_check.specs.declared.statuses.checked.Checked.{Checked};
+ghost use Rattle.scrub_check.specs.LocatorIndex.{IsLocatorIndex};
 ghost use Rattle.scrub_check.specs.Live.{live_bytes};
 ghost use Rattle.scrub_check.specs.Chunks.{orphans};
 ghost use Rattle.scrub_check.specs.Shared.{AreShared};
@@ -12,7 +14,6 @@ use crate::lists::locator_index::LocatorIndex;
 use crate::lists::place::{Place, SharedPlace};
 use crate::lists::reclaiming::candidates_among;
 use crate::lists::shared_places::shared_by;
-use crate::lists::sound_places::SoundPlaces;
 use crate::statuses::checked::Checked;
 use scrub_disk::{OutOfMemory, PageSource};
 use scrub_scan::AllFindings;
@@ -32,8 +33,34 @@ pub struct Liveness {
     pub candidates: Vec<Candidate>,
 }
 
-/// The live bytes of each extent, and what `orphans`, `shared` and `candidates` give, together. The places that sound locators
-/// point to are sorted once, and walked once beside the items of the extents, so that each chunk is visited once.
+/// The live bytes of each extent, and what `orphans`, `shared` and `candidates` give, together, by what the named locators say.
+/// The places that sound ones point to are walked once beside the items of the extents, so that each chunk is visited once.
+pub fn liveness_by<D: PageSource>(
+    alloc: Global,
+    plan: &Plan,
+    all: &AllFindings<'_, D>,
+    locators: &LocatorIndex,
+    in_doubt: bool,
+) -> Result<Liveness, OutOfMemory>
+    ensures live { (checked : List Checked) → IsLocatorIndex checked locators.now →
+        IfOk result (λ l. l.live.items ≡ map (live_bytes checked) all.now.extents) }
+    ensures orphans { (checked : List Checked) → IsLocatorIndex checked locators.now →
+        IfOk result (λ l. l.orphans.items ≡ orphans all.now.extents checked) }
+    ensures shared { (checked : List Checked) → IsLocatorIndex checked locators.now →
+        IfOk result (λ l. AreShared checked l.shared.items) }
+    ensures candidates { (checked : List Checked) → IsLocatorIndex checked locators.now →
+        IfOk result (λ l. AreCandidates plan.now all.now.extents checked in_doubt l.candidates.items) }
+{
+    let parted = part_chunks(alloc, Some(plan.geometry()), locators, all)?;
+    Ok(Liveness {
+        live: parted.live,
+        orphans: parted.orphans,
+        shared: shared_by(alloc, &locators.sound)?,
+        candidates: candidates_among(alloc, plan, in_doubt, parted.reclaimable)?,
+    })
+}
+
+/// The same by the locators themselves.
 pub fn liveness_of<D: PageSource>(
     alloc: Global,
     plan: &Plan,
@@ -46,13 +73,6 @@ pub fn liveness_of<D: PageSource>(
     ensures shared { IfOk result (λ l. AreShared checked.now l.shared.items) }
     ensures candidates { IfOk result (λ l. AreCandidates plan.now all.now.extents checked.now in_doubt l.candidates.items) }
 {
-    let sound = SoundPlaces::of(alloc, checked)?;
-    let locators = LocatorIndex::of(alloc, checked, &sound)?;
-    let parted = part_chunks(alloc, Some(plan.geometry()), &locators, all)?;
-    Ok(Liveness {
-        live: parted.live,
-        orphans: parted.orphans,
-        shared: shared_by(alloc, &sound)?,
-        candidates: candidates_among(alloc, plan, in_doubt, parted.reclaimable)?,
-    })
+    let locators = LocatorIndex::of(alloc, checked)?;
+    liveness_by(alloc, plan, all, &locators, in_doubt)
 }

@@ -6,7 +6,6 @@ ghost use Rattle.std.specs.Ordering.{nat_cmp};
 ghost use Rattle.std.specs.List.{filter, list_any};
 ghost use Rattle.std.specs.List.Sorted.{IsSorted};
 ghost use Rattle.scrub_check.specs.Checked.{is_sound};
-ghost use Rattle.scrub_check.specs.SoundPlaces.{AreSoundPlaces};
 ghost use Rattle.scrub_check.specs.LocatorIndex.{AreBarredExtents, IsLocatorIndex};
 
 use crate::lists::sound_places::SoundPlaces;
@@ -36,9 +35,9 @@ impl Model for BarredExtents {
 
 /// What the named locators say of places and extents.
 #[derive(Drop)]
-pub struct LocatorIndex<'a> {
+pub struct LocatorIndex {
     /// The places that sound ones point to.
-    pub(crate) sound: &'a SoundPlaces,
+    pub(crate) sound: SoundPlaces,
     /// The extents that others name.
     pub(crate) barred: BarredExtents,
 }
@@ -79,15 +78,12 @@ impl BarredExtents {
     }
 }
 
-impl<'a> LocatorIndex<'a> {
-    /// What these locators say, if the places that the sound ones point to are known.
-    pub(crate) fn of(
-        alloc: Global,
-        checked: &[Checked],
-        sound: &'a SoundPlaces,
-    ) -> Result<LocatorIndex<'a>, OutOfMemory>
-        ensures { AreSoundPlaces checked.now sound.now → IfOk result (IsLocatorIndex checked.now) }
+impl LocatorIndex {
+    /// What these locators say. They are sorted once, here, for all that asks for them.
+    pub fn of(alloc: Global, checked: &[Checked]) -> Result<LocatorIndex, OutOfMemory>
+        ensures { IfOk result (IsLocatorIndex checked.now) }
     {
+        let sound = SoundPlaces::of(alloc, checked)?;
         let barred = BarredExtents::of(alloc, checked)?;
         Ok(LocatorIndex { sound, barred })
     }

@@ -19,7 +19,6 @@ ghost use Rattle.scrub_check.specs.Kept.{CandidatesAreSafe};
 use crate::lists::candidate::Candidate;
 use crate::lists::live_and_orphans::{LiveChunks, part_chunks};
 use crate::lists::locator_index::LocatorIndex;
-use crate::lists::sound_places::SoundPlaces;
 use crate::statuses::checked::Checked;
 use scrub_disk::{Geometry, OutOfMemory, PageSource};
 use scrub_scan::{AllFindings, ExtentResult};
@@ -44,7 +43,7 @@ fn free_bytes<D: PageSource>(found: &ExtentResult<'_, D>, live: u32) -> u32
 }
 
 /// Whether each locator that names an extent is sound.
-fn has_sound_alone<D: PageSource>(locators: &LocatorIndex<'_>, found: &ExtentResult<'_, D>) -> bool
+fn has_sound_alone<D: PageSource>(locators: &LocatorIndex, found: &ExtentResult<'_, D>) -> bool
     ensures { (checked : List Checked) → IsLocatorIndex checked locators.now →
         result ≡ has_sound_alone checked (scanned found.now) }
 {
@@ -61,7 +60,7 @@ fn is_half_garbage<D: PageSource>(found: &ExtentResult<'_, D>, live: u32) -> boo
 /// Whether an extent may be reclaimed if its live chunks take so many bytes.
 fn is_reclaimable<D: PageSource>(
     geometry: Geometry,
-    locators: &LocatorIndex<'_>,
+    locators: &LocatorIndex,
     found: &ExtentResult<'_, D>,
     live: u32,
 ) -> bool
@@ -89,7 +88,7 @@ fn candidate_of<D: PageSource>(found: &ExtentResult<'_, D>, live: LiveChunks) ->
 /// Adds an extent of these live chunks to the candidates, if the sizes of the disk are given and it may be reclaimed.
 pub(crate) fn add_reclaimable<D: PageSource>(
     geometry: Option<Geometry>,
-    locators: &LocatorIndex<'_>,
+    locators: &LocatorIndex,
     found: &ExtentResult<'_, D>,
     live: LiveChunks,
     candidates: &mut Vec<Candidate>,
@@ -160,8 +159,7 @@ pub fn candidates<D: PageSource>(
 ) -> Result<Vec<Candidate>, OutOfMemory>
     ensures { IfOk result (λ v. AreCandidates plan.now all.now.extents checked.now in_doubt v.items) }
 {
-    let sound = SoundPlaces::of(alloc, checked)?;
-    let locators = LocatorIndex::of(alloc, checked, &sound)?;
+    let locators = LocatorIndex::of(alloc, checked)?;
     let parted = part_chunks(alloc, Some(plan.geometry()), &locators, all)?;
     candidates_among(alloc, plan, in_doubt, parted.reclaimable)
 }

@@ -13,6 +13,7 @@ ghost use Rattle.scrub_check.specs.WholeScan.{IsWholeScan};
 
 use crate::named::{Named, Owner, named_locators};
 use crate::statuses::by_place::{judge_places, open_locators, put_statuses};
+use crate::statuses::nearby::Nearby;
 use crate::statuses::open_place::status_by_place;
 use crate::statuses::status::{Status, status_by_findings};
 use crate::statuses::whole_scan::WholeScan;
@@ -45,12 +46,13 @@ fn known_by_findings<R: Threads + Sync, D: PageSource>(
 ) -> Result<Vec<Option<Status>>, OutOfMemory>
     ensures { IfOk result (λ v. AllZip (IsKnownBefore (D.image scan.now.disk.now) scan.now.plan.now) named.now v.items) }
 {
+    let nearby = Nearby::of(rt, alloc, scan.all, named.len())?;
     let known = named
         .par_iter()
         .map(
             |one: &Named| -> Option<Status>
                 ensures { IsKnownBefore (D.image scan.entry.now.disk.now) scan.entry.now.plan.now one.now result }
-            { status_by_findings(scan, &one.locator) },
+            { status_by_findings(scan, &one.locator, nearby.first(&one.locator)) },
         )
         .collect::<Vec<Option<Status>>>(rt, alloc)?;
     Ok(known)

@@ -7,6 +7,9 @@ ghost use Rattle.scrub_scan.specs.Item.{start_of};
 use crate::statuses::counted_items::{CountedItems, ShowsStarts};
 use scrub_scan::Item;
 
+/// How many items from the one to look at first are looked at, before all are searched.
+const MOST_LOOKS: usize = 16;
+
 /// What a search for an item came to.
 #[derive(Debug, Clone, Copy, PartialEq, Eq)]
 pub struct Found {
@@ -69,4 +72,28 @@ pub fn find_start(items: &[Item], start: u32) -> Found
     ensures looked { 0 < length items.now → 1 ≤ result.probes }
 {
     find(&mut CountedItems::new(items), start)
+}
+
+/// The item that begins at a byte of the extent, if it is one of the first from this index on.
+fn found_near(items: &[Item], start: u32, near: usize) -> Option<usize>
+    ensures { IfSome result (λ i. (i < length items.now) × (slice_index (map start_of items.now) i ≡ start)) }
+{
+    for i in near..near.saturating_add(MOST_LOOKS).min(items.len()) {
+        if items[i].start() == start {
+            return Some(i);
+        }
+    }
+    None
+}
+
+/// The item that begins at a byte of the extent, as `find_start` finds it, looked for from this index on first.
+pub(crate) fn find_near(items: &[Item], start: u32, near: usize) -> Option<usize>
+    requires { IsStrictlyIncreasing (map start_of items.now) }
+    ensures found { IfSome result (λ i. (i < length items.now) × (slice_index (map start_of items.now) i ≡ start)) }
+    ensures none { IfNone result (¬ Contains (map start_of items.now) start) }
+{
+    match found_near(items, start, near) {
+        Some(i) => Some(i),
+        None => find_start(items, start).at,
+    }
 }

@@ -15,7 +15,7 @@ ghost use Rattle.scrub_check.specs.Open.{IsOpen, IsStatusByItems};
 use crate::places::item_frames::frame_of_item;
 use crate::statuses::extents::{findings_of, has_gap};
 use crate::statuses::open_place::status_by_place;
-use crate::statuses::searching::find_start;
+use crate::statuses::searching::find_near;
 use crate::statuses::whole_scan::WholeScan;
 use scrub_disk::{Geometry, OutOfMemory, PageSource};
 use scrub_frame::{Form, Head, LEAST_OVERHEAD, Locator};
@@ -142,22 +142,25 @@ fn is_unreadable<D: PageSource>(disk: &D, bad_pages: &[u32], locator: &Locator) 
 }
 
 /// The status of a locator whose frame would be on readable pages, by the item that begins at its place; `None` if none does.
-fn status_by_item(items: &[Item], locator: &Locator) -> Option<Status>
+/// The item is looked for from the index `near` on first.
+fn status_by_item(items: &[Item], locator: &Locator, near: usize) -> Option<Status>
     requires { IsStrictlyIncreasing (map start_of items.now) }
     ensures { (image : Image) (w : ℕ) → CanStand image w locator.now →
         IsTiling (extent_of image locator.now.extent w) items.now → IsStatusByItems image w locator.now result }
 {
-    if let Some(i) = find_start(items, locator.offset).at {
+    if let Some(i) = find_near(items, locator.offset, near) {
         let standing = frame_of_item(locator.extent, &items[i]);
         return Some(judged(locator, standing, Status::Sound));
     }
     None
 }
 
-/// The status of a locator by the findings; `None` if its place has to be read.
+/// The status of a locator by the findings; `None` if its place has to be read. The item at its place is looked for from the
+/// index `near` on first.
 pub(crate) fn status_by_findings<D: PageSource>(
     scan: &WholeScan<'_, D>,
     locator: &Locator,
+    near: usize,
 ) -> Option<Status>
     ensures known { IfSome result (HasStatusIn (D.image scan.now.disk.now) scan.now.plan.now locator.now) }
     ensures open { IfNone result (IsOpen (D.image scan.now.disk.now) scan.now.plan.now locator.now) }
@@ -177,7 +180,7 @@ pub(crate) fn status_by_findings<D: PageSource>(
     if is_unreadable(scan.disk, findings.bad_pages(), locator) {
         return Some(Status::Unreadable);
     }
-    status_by_item(findings.items(), locator)
+    status_by_item(findings.items(), locator, near)
 }
 
 /// The status of a locator by what is claimed at its place; `None` if the payload has to be hashed. A sealed frame has to be
@@ -207,7 +210,7 @@ pub fn status_of<D: PageSource>(
     ensures { IfOk result (HasStatusIn (D.image disk.now) plan.now locator.now) }
 {
     let scan = WholeScan { disk, plan, all };
-    match status_by_findings(&scan, locator) {
+    match status_by_findings(&scan, locator, 0) {
         Some(status) => Ok(status),
         None => status_by_place(alloc, &scan, locator),
     }

@@ -1,7 +1,6 @@
--- The keys have what the parts have.
+-- The keys have what the lists have.
 use Rattle.scrub_report.proofs.keys.write_first.Goals as goal
 
 pub returns-clause-tokens : goal.returns-clause-tokens
-returns-clause-tokens g c =
-    rw (c.deref.ensures.value, c.deref-2.ensures.value, c.deref-3.ensures.value, c.bindings.ensures.bindings)
+returns-clause-tokens g c = rw (c.deref.ensures.value, c.deref-2.ensures.value, c.deref-3.ensures.value)
     at c.write_members.ensures.tokens

@@ -1,4 +1,4 @@
--- The keys have what the parts have.
+-- The keys have what the lists have.
 use Rattle.scrub_report.proofs.keys.write_sizes.Goals as goal
 
 pub returns-clause-tokens : goal.returns-clause-tokens

@@ -15,9 +15,9 @@ returns g c =
         c.end_object.ensures.room.0 ∙ c.in_ok-write_last.ensures.before ∙ c.in_ok-write_index.ensures.before ∙ c.in_ok-write_sizes.ensures.before
         ∙ c.end_array.ensures.room.0 ∙ c.new-out.ensures.before
 
-    tokens : c.end_object.new.self.tokens ≡ ended_tokens c.args.parts.now
+    tokens : c.end_object.new.self.tokens ≡ ended_tokens c.args.listed.now
     tokens =
-        let p = c.args.parts.now in
+        let p = c.args.listed.now in
         let t0 = c.new-out.result.tokens in
         let t1 = c.end_array.new.self.tokens in
         let t2 = c.write_sizes.new.out.tokens in

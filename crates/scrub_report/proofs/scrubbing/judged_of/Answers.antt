@@ -15,6 +15,6 @@ returns g c =
       plan = search rules;
       all = search rules;
       read_are = search rules;
-      bindings = search rules;
+      map_is = search rules;
       checked = search rules;
     }

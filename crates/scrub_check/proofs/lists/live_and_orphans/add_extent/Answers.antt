@@ -29,7 +29,7 @@ pub returns-clause-so_far : goal.returns-clause-so_far
 returns-clause-so_far g c = λ checked extents locators so_far.
     let geometry = c.args.geometry in
     let f : Scanned = scanned c.args.found.now in
-    let starts = c.args.locators.now.sound.now in
+    let starts = c.args.locators.now.sound in
     let e = c.extent.result in
     let items = c.items-items.result.now in
     let live = c.in_ok-live.live in

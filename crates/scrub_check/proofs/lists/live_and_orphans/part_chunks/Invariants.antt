@@ -10,6 +10,6 @@ abbrev pub invariant-loop-i : goal.invariant-loop-i
 invariant-loop-i g l = record {
   so_far : (checked : List Checked) → IsLocatorIndex checked l.fn.locators →
       AreLiveAndOrphans l.fn.geometry checked (take l.i l.all.extents) l.so_far;
-  over : l.cursor.starts.now ≡ l.fn.locators.sound.now;
+  over : l.cursor.starts.now ≡ l.fn.locators.sound;
   passed : HasPassedAll l.cursor l.all.extents l.i;
 }

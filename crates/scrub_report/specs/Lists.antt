@@ -1,0 +1,60 @@
+-- Steps of the code: what the report lists, and what it is drawn from.
+use Rattle.std.specs.Prelude.{◌≡◌, ◌&&◌, ◌==◌, ℕ, Bool, List, is_some, length}
+use Rattle.std.specs.List.{list_all}
+use Rattle.scrub_disk.specs.Image.{Image}
+use Rattle.scrub_merge.specs.Binding.{BindingValue}
+use Rattle.scrub_check.specs.declared.statuses.checked.Checked.{Checked}
+use Rattle.scrub_check.specs.Checked.{dangling, hidden}
+use Rattle.scrub_check.specs.Chunks.{twins}
+use Rattle.scrub_check.specs.LocatorIndex.{IsLocatorIndex}
+use Rattle.scrub_report.specs.declared.listed.Drawn.{Drawn}
+use Rattle.scrub_report.specs.declared.listed.Listed.{Listed}
+use Rattle.scrub_report.specs.declared.parts.Judged.{Judged}
+use Rattle.scrub_report.specs.declared.shards.Shards.{Shards}
+use Rattle.scrub_report.specs.Parts.{IsLivenessOf}
+use Rattle.scrub_report.specs.Report.{doubtful_ids, report_text}
+use Rattle.scrub_report.specs.Scrubbed.{IsScrubbed, Scrubbed, is_clean, is_clean_choice, is_clean_extent}
+
+-- how many shards a map has, and the doubtful ones
+pub record AreShardsOf (bindings : List BindingValue) (s : Shards) : Type 0 where
+  pub count_is : s.count ≡ length bindings
+  pub doubtful_are : s.doubtful.items ≡ doubtful_ids bindings
+
+-- what these locators say of places and extents, and those of them that dangle or are hidden
+pub record AreDrawnFrom (checked : List Checked) (d : Drawn) : Type 0 where
+  pub locators_are : IsLocatorIndex checked d.locators
+  pub dangling_are : d.dangling.items ≡ dangling checked
+  pub hidden_are : d.hidden.items ≡ hidden checked
+
+-- the text and the verdict are those of what is found in an image, where the map has these bindings and these are the
+-- checked locators
+pub record IsReported (image : Image) (bindings : List BindingValue) (checked : List Checked) (text : List ℕ) (clean : Bool) : Type 0 where
+  pub found : Scrubbed
+  pub scrubbed : IsScrubbed image found
+  pub bindings_are : found.bindings ≡ bindings
+  pub checked_are : found.checked ≡ checked
+  pub text_is : text ≡ report_text found
+  pub verdict : clean ≡ is_clean found
+
+module _ {D : Type 0} where
+  -- the lists are those of the judged locators, and what is said of the shard map is kept
+  pub record AreListsOf (j : Judged D) (s : Shards) (l : Listed D) : Type 0 where
+    pub chosen_is : l.chosen ≡ j.chosen
+    pub plan_is : l.plan ≡ j.plan
+    pub all_are : l.all.extents ≡ j.all.extents
+    pub runs_are : l.runs.items ≡ j.runs.items
+    pub shards_are : l.shards ≡ s
+    pub dangling_are : l.dangling.items ≡ dangling j.checked.items
+    pub hidden_are : l.hidden.items ≡ hidden j.checked.items
+    pub liveness_is : IsLivenessOf j l.liveness
+    pub twins_are : l.twins.items ≡ twins j.all.extents
+
+  -- no locator dangles or is hidden, and no place is shared
+  abbrev pub has_none : Listed D → Bool
+  has_none l = length l.dangling.items == 0 && length l.hidden.items == 0 && length l.liveness.shared.items == 0
+
+  -- whether the lists are clean: the choice, all scanned extents, each run has a number of entries, and none dangles, is
+  -- hidden or is shared
+  abbrev pub is_clean_listed : Listed D → Bool
+  is_clean_listed l =
+      is_clean_choice l.chosen && list_all is_clean_extent l.all.extents && list_all (λ r. is_some r.entries) l.runs.items && has_none l
