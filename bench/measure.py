@@ -97,16 +97,16 @@ class Measured:
     def __init__(self, subject, folder, mib):
         self.subject, self.path, self.answer = subject, f"{folder}/{subject.name}", f"{folder}/answer"
         self.made = apart(make_image, self.path, subject.make, mib)
-        self.hashes, self.loads, self.runs, self.digest, self.items = [], [], {}, None, 0
+        self.hashes, self.loads, self.runs, self.digest, self.items = [], {}, {}, None, 0
 
     def turn(self, programs, workers):
         """Runs sha256sum, loading alone, and each program with each number of workers, once. All answers are compared. The programs
         are given by their names in the table."""
         self.hashes.append(measured(["sha256sum", self.path], self.answer))
-        if self.subject.command == "scan":
-            words = ["items", *self.made["sizes"], "--extent", "1", "--pointer", "0", self.path]
-            self.loads.append(measured([next(iter(programs.values())), *words], self.answer))
         for name, program in programs.items():
+            if self.subject.command == "scan":
+                words = ["items", *self.made["sizes"], "--extent", "1", "--pointer", "0", self.path]
+                self.loads.setdefault(name, []).append(measured([program, *words], self.answer))
             for number in self.subject.of_workers(workers):
                 run = measured([program, *self.subject.words(self.made, self.path, number)], self.answer)
                 self.runs.setdefault((name, number), []).append(run)
@@ -128,8 +128,8 @@ class Measured:
         """A row for each program and number of workers. `first` is what the first disk of the group took, in seconds, or None."""
         made, size = self.made, self.made["bytes"]
         theirs = taken(self.hashes)[0] * made["hashed"] / size
-        load = taken(self.loads)[0] if self.loads else None
         for (program, number), runs in self.runs.items():
+            load = taken(self.loads[program])[0] if program in self.loads else None
             seconds, processor, memory = taken(runs)
             none = taken(self.runs[program, 0]) if (program, 0) in self.runs else None
             faster = (none[0] - load) / (seconds - load) if none and number and seconds > load else None

@@ -1,4 +1,4 @@
-"""How the released program is installed: by release/install, by release/Makefile, and by dpkg from the package that
+"""How the released programs are installed: by release/install, by release/Makefile, and by dpkg from the package that
 release/package makes. Nobody has to be superuser, and nothing outside a folder for passing files is touched."""
 import gzip
 import hashlib
@@ -16,11 +16,14 @@ import unittest
 from datetime import datetime, timezone
 from pathlib import Path
 
-from lib.program import TOP, need
+from lib.program import FASTER, GENERAL, TOP, V3_FLAGS, has_v3, need
+from lib.starting import HUGE_PAGES, V2_FLAGS, processors, with_processor, write
 
 # Each installed file: its mode, and what it is a copy of.
 INSTALLED = {
-    "bin/shardscrub": (0o755, "release/shardscrub"),
+    "bin/shardscrub": (0o755, "shardscrub"),
+    "lib/shardscrub/shardscrub": (0o755, "release/shardscrub"),
+    "lib/shardscrub/shardscrub-x86-64-v3": (0o755, "release/shardscrub-x86-64-v3"),
     "share/doc/shardscrub/README.md": (0o644, "README.md"),
     "share/doc/shardscrub/docs/FORMAT.md": (0o644, "docs/FORMAT.md"),
     "share/doc/shardscrub/docs/READING.md": (0o644, "docs/READING.md"),
@@ -115,10 +118,11 @@ class OfTheRelease(unittest.TestCase):
     def runs(self, program):
         version = f"shardscrub {newest()[0]}\n"
         for words, output, status in RUNS:
-            with self.subTest(words=words):
-                ended = run(program, *words)
-                wanted = (version if output is None else output, "", status)
-                self.assertEqual((ended.stdout, ended.stderr, ended.returncode), wanted)
+            for cpu in ("", "x86-64-v2", *["x86-64-v3"] * has_v3()):
+                with self.subTest(words=words, cpu=cpu):
+                    ended = run(program, *words, more={"SHARDSCRUB_CPU": cpu})
+                    wanted = (version if output is None else output, "", status)
+                    self.assertEqual((ended.stdout, ended.stderr, ended.returncode), wanted)
 
 
 class Install(OfTheRelease):
@@ -126,6 +130,26 @@ class Install(OfTheRelease):
         done("release/install", self.folder / "prefix", umask=0o077)
         self.installed(self.folder / "prefix", INSTALLED)
         self.runs(self.folder / "prefix/bin/shardscrub")
+
+    def test_which_program_is_started(self):
+        """By the processor, by SHARDSCRUB_CPU, and if one of the programs isn't there any more."""
+        done("release/install", self.folder / "a prefix")
+        script, programs, cpuinfo = (self.folder / "a prefix" / name for name in ("bin/shardscrub", "lib/shardscrub", "cpuinfo"))
+        link = self.folder / "link"
+        link.symlink_to(script)
+        with_processor(script, cpuinfo)
+        for name in (GENERAL, FASTER):
+            write(programs / name, f"#!/bin/sh\necho {name} \"$@\" $GLIBC_TUNABLES\n", 0o755)
+        for flags, name in ((V2_FLAGS, GENERAL), (V2_FLAGS | V3_FLAGS, FASTER)):
+            cpuinfo.write_text(processors(flags))
+            for cpu, started in (("", name), ("x86-64-v2", GENERAL), ("x86-64-v3", FASTER)):
+                self.assertEqual(done(link, "a  word", more={"SHARDSCRUB_CPU": cpu}), f"{started} a  word {HUGE_PAGES}\n")
+        (programs / FASTER).unlink()
+        self.assertEqual(done(script), f"{GENERAL} {HUGE_PAGES}\n")
+        (programs / GENERAL).unlink()
+        ended = run(script)
+        self.assertEqual((ended.stdout, ended.returncode), ("", 70))
+        self.assertEqual(ended.stderr, f"shardscrub: {programs} has no program shardscrub: install it again\n")
 
     def test_below_destdir(self):
         done("release/install", "/usr", more={"DESTDIR": str(self.folder / "stage")})
@@ -219,7 +243,7 @@ class Package(OfTheRelease):
 
     def test_least_c_library(self):
         need("objdump")
-        versions = re.findall(r"\(GLIBC_([0-9.]+)\)", done("objdump", "-T", "release/shardscrub"))
+        versions = re.findall(r"\(GLIBC_([0-9.]+)\)", done("objdump", "-T", "release/shardscrub", "release/shardscrub-x86-64-v3"))
         newest_symbols = max(versions, key=lambda version: [int(number) for number in version.split(".")])
         self.assertEqual(self.control()[0]["Depends"], f"libc6 (>= {newest_symbols})")
 

@@ -1,36 +1,43 @@
-"""Which program ./shardscrub starts, and that it never builds one: tried in a small tree, whose one crate, whose programs and
-whose toolchain, rt, are made up. And that release/make, which does build, renews the release."""
+"""Which program ./shardscrub starts, and that it never builds one: tried in a small tree, whose one crate, whose programs, whose
+processor and whose toolchain, rt, are made up. And that release/make, which does build, renews the release; and that the programs
+look at the processor."""
 import os
 import platform
+import re
 import shutil
 import subprocess
 import tempfile
 import unittest
 from pathlib import Path
 
-from lib.program import TOP, need
+from lib import preloaded
+from lib.cases import RoomCase
+from lib.program import FASTER, GENERAL, TOP, V3_FLAGS, find, has_v3, need
+from lib.starting import HUGE_PAGES, V2_FLAGS, processors, with_processor, write
 
 TOOLCHAIN = "rt of the tests"
-# It notes that it was called. As the command that builds the program, it makes one.
+# It notes that it was called. As the command that builds a program, it makes one, and ends as on a processor without x86-64-v3. With
+# the variable REFUSED it makes none for x86-64-v3. For that one the source has to be the changed one.
 RT = f"""#!/bin/sh
 echo "$*" >>"$CALLS"
 case $1 in
     version) echo '{TOOLCHAIN}' ;;
-    run) printf '%s\\n' '#!/bin/sh' 'echo made by rt' >out/scrub_cli && chmod +x out/scrub_cli ;;
+    run)
+        case $2 in --cpu=*) what=" ${{2#--cpu=}}" status=127 ;; *) what= status=0 ;; esac
+        mkdir -p out/incremental
+        if [ "$what" ] && ! grep -q faster src/main.rt; then echo "error: not changed"; exit 1; fi
+        if [ "$what" ] && [ "${{REFUSED-}}" ]; then echo "error: refused"; exit 1; fi
+        printf '%s\\n' '#!/bin/sh' "echo made by rt$what" >out/scrub_cli && chmod +x out/scrub_cli
+        exit "$status" ;;
 esac
 """
+# The lines of ./build that say what the sources of the program for x86-64-v3 have otherwise: each a file and a script of sed.
+CHANGES = re.compile(r"(?:^    echo 'crates/\S+ s/.*/'\n)+", re.MULTILINE)
 # It prints who it is, each argument, the folder and the variable of the C library on lines of their own, and ends with status 3.
 PROGRAM = """#!/bin/sh
-printf '%s\\n' NAME "$@" "$PWD" "$GLIBC_TUNABLES"
+printf '%s\\n' 'NAME' "$@" "$PWD" "$GLIBC_TUNABLES"
 exit 3
 """
-HUGE_PAGES = "glibc.malloc.hugetlb=1"
-
-
-def write(path, text, mode=0o644):
-    path.parent.mkdir(parents=True, exist_ok=True)
-    path.write_text(text)
-    path.chmod(mode)
 
 
 class Start(unittest.TestCase):
@@ -44,6 +51,12 @@ class Start(unittest.TestCase):
         for name in ("shardscrub", "build", "release/make"):
             (self.top / name).parent.mkdir(parents=True, exist_ok=True)
             shutil.copy(TOP / name, self.top / name)
+        script, count = CHANGES.subn("    echo 'crates/scrub_cli/src/main.rt s/the program/the faster program/'\n",
+                                     (TOP / "build").read_text())
+        self.assertEqual(count, 1)
+        (self.top / "build").write_text(script)
+        self.cpuinfo = self.folder / "cpuinfo"
+        with_processor(self.top / "shardscrub", self.cpuinfo)
         write(self.top / "crates.txt", "scrub_cli: clap\n")
         write(self.top / "HANDLES", "Handles allowed: Threads, Wait.\n")
         write(self.crate / "src/main.rt", "the program\n")
@@ -53,19 +66,27 @@ class Start(unittest.TestCase):
         environment = {"PATH": f"{self.folder}/tools:{os.environ['PATH']}", "CALLS": str(self.calls)} | more
         return subprocess.run(words, cwd=folder, env=environment, capture_output=True, text=True, timeout=60)
 
-    def build(self):
-        """A program that was built here, after the last change of its sources."""
-        write(self.crate / "out/scrub_cli", PROGRAM.replace("NAME", "built"), 0o755)
-        (self.crate / "out/shardscrub.built").touch()
-        self.age(self.crate / "out/shardscrub.built", 0)
+    def build(self, *names):
+        """Programs that were built here, after the last change of their sources; both if none is named."""
+        for name in names or (GENERAL, FASTER):
+            write(self.built(name), PROGRAM.replace("NAME", f"built {name}"), 0o755)
+            self.mark(name).touch()
+            self.age(self.mark(name), 0)
         for path in (self.top / "crates.txt", self.top / "HANDLES", self.crate / "src", self.crate / "src/main.rt"):
             self.age(path, 60)
 
-    def release(self):
-        """A released program, of these sources."""
+    def built(self, name):
+        return self.crate / "out" / ("scrub_cli" if name == GENERAL else name)
+
+    def mark(self, name):
+        return self.crate / "out" / f"{name}.built"
+
+    def release(self, *names):
+        """Released programs, of these sources; both if none is named."""
         if platform.machine() != "x86_64":
-            self.skipTest("the released program is for x86-64")
-        write(self.top / "release/shardscrub", PROGRAM.replace("NAME", "released"), 0o755)
+            self.skipTest("the released programs are for x86-64")
+        for name in names or (GENERAL, FASTER):
+            write(self.top / "release" / name, PROGRAM.replace("NAME", f"released {name}"), 0o755)
         checksum = self.run_in(self.top, "./build", "--sources", TOOLCHAIN).stdout
         write(self.top / "release/SOURCES", f"{checksum}{TOOLCHAIN}\n")
 
@@ -77,25 +98,52 @@ class Start(unittest.TestCase):
         write(self.crate / "src/main.rt", "the program, changed\n")
         self.age(self.crate / "src/main.rt", -60)
 
-    def starts(self, name):
+    def on(self, *flags, **more):
+        """The first line that ./shardscrub prints on processors with these flags, or its fault."""
+        self.cpuinfo.write_text(processors(*flags))
+        ended = self.run_in(self.folder, self.top / "shardscrub", **more)
+        return ended.stdout.partition("\n")[0] or ended.stderr
+
+    def passes(self, name):
         """Checks that the program of this name is started, with the arguments and in the folder, and gives its status."""
         away = self.folder / "away"
-        away.mkdir()
+        away.mkdir(exist_ok=True)
         words = ["scan", "", "a  b", "*", "--page"]
         for set_to in (None, "of the caller", ""):
             more = {} if set_to is None else {"GLIBC_TUNABLES": set_to}
             ended = self.run_in(away, self.top / "shardscrub", *words, **more)
             self.assertEqual(ended.stdout.splitlines(), [name, *words, str(away), more.get("GLIBC_TUNABLES", HUGE_PAGES)])
             self.assertEqual((ended.stderr, ended.returncode), ("", 3))
+
+    def starts(self, general, faster, forced=None):
+        """Checks which program is started: by an old processor, by a new one, and by SHARDSCRUB_CPU for x86-64-v3 on either."""
+        for flags, name in ((V2_FLAGS, general), (V2_FLAGS | V3_FLAGS, faster)):
+            self.cpuinfo.write_text(processors(flags, flags))
+            self.passes(name)
+            for cpu, named in (("x86-64-v2", general), ("x86-64-v3", forced or faster), ("", name)):
+                self.assertEqual(self.on(flags, SHARDSCRUB_CPU=cpu), named)
         self.assertFalse(self.calls.exists(), "rt was called")
 
-    def refuses(self):
+    def refuses(self, **more):
         """Checks that no program is started and none is built: one line names ./build, and the status is 70."""
-        ended = self.run_in(self.folder, self.top / "shardscrub", "scan")
-        self.assertFalse(self.calls.exists(), "rt was called")
-        self.assertEqual((ended.stdout, ended.returncode), ("", 70))
-        self.assertRegex(ended.stderr, r"\Ashardscrub: .*\n\Z")
-        self.assertIn(f"./build in {self.top}", ended.stderr)
+        for flags in (V2_FLAGS, V2_FLAGS | V3_FLAGS):
+            self.cpuinfo.write_text(processors(flags))
+            ended = self.run_in(self.folder, self.top / "shardscrub", "scan", **more)
+            self.assertFalse(self.calls.exists(), "rt was called")
+            self.assertEqual((ended.stdout, ended.returncode), ("", 70))
+            self.assertRegex(ended.stderr, r"\Ashardscrub: .*\n\Z")
+            self.assertIn(f"./build in {self.top}", ended.stderr)
+
+    def test_each_change_for_x86_64_v3_is_eight_in_the_place_of_four(self):
+        lines = CHANGES.search((TOP / "build").read_text())[0].splitlines()
+        changes = [line.strip().removeprefix("echo '").removesuffix("'").split(" ", 1) for line in lines]
+        self.assertEqual([file for file, _ in changes], ["crates/sha_lanes/src/block.rt", "crates/sha_lanes/specs/Lanes.antt"])
+        for file, script in changes:
+            text = (TOP / file).read_text(encoding="utf-8")
+            changed = subprocess.run(["sed", script], input=text, capture_output=True, encoding="utf-8", check=True).stdout
+            pairs = [pair for pair in zip(text.splitlines(), changed.splitlines(), strict=True) if pair[0] != pair[1]]
+            self.assertEqual([new for _, new in pairs], [old.replace("4", "8") for old, _ in pairs])
+            self.assertEqual(len(pairs), 1)
 
     def test_nothing_built_or_released(self):
         self.refuses()
@@ -112,7 +160,8 @@ class Start(unittest.TestCase):
 
     def test_a_build_that_failed(self):
         self.build()
-        (self.crate / "out/shardscrub.built").unlink()
+        for name in (GENERAL, FASTER):
+            self.mark(name).unlink()
         self.refuses()
 
     def test_released_from_other_sources(self):
@@ -128,40 +177,165 @@ class Start(unittest.TestCase):
 
     def test_released(self):
         self.release()
-        self.starts("released")
+        self.starts(f"released {GENERAL}", f"released {FASTER}")
 
     def test_built(self):
         self.build()
-        self.starts("built")
+        self.starts(f"built {GENERAL}", f"built {FASTER}")
 
     def test_built_and_released(self):
         self.release()
         self.build()
-        self.starts("built")
+        self.starts(f"built {GENERAL}", f"built {FASTER}")
 
     def test_released_and_changed_back_since_the_build(self):
         self.release()
         self.build()
         self.age(self.crate / "src/main.rt", -60)
-        self.starts("released")
+        self.starts(f"released {GENERAL}", f"released {FASTER}")
+
+    def test_the_general_one_built_and_both_released(self):
+        """As after ./check."""
+        self.release()
+        self.build(GENERAL)
+        self.starts(f"built {GENERAL}", f"built {GENERAL}", f"released {FASTER}")
+
+    def test_the_general_one_built_anew(self):
+        """The one for x86-64-v3 is older than the last change."""
+        self.build()
+        self.age(self.mark(FASTER), 120)
+        self.refuses(SHARDSCRUB_CPU="x86-64-v3")
+        for flags in (V2_FLAGS, V2_FLAGS | V3_FLAGS):
+            self.assertEqual(self.on(flags), f"built {GENERAL}")
+
+    def test_one_program(self):
+        """The one that runs anywhere runs on new processors, too. The other one has to be there if it is named."""
+        for make, what in ((self.build, "built"), (self.release, "released")):
+            make(GENERAL)
+            for flags in (V2_FLAGS, V2_FLAGS | V3_FLAGS):
+                self.assertEqual(self.on(flags), f"{what} {GENERAL}")
+            self.refuses(SHARDSCRUB_CPU="x86-64-v3")
+            shutil.rmtree(self.crate / "out", ignore_errors=True)
+
+    def test_only_the_one_for_x86_64_v3(self):
+        self.build(FASTER)
+        self.assertEqual(self.on(V2_FLAGS | V3_FLAGS), f"built {FASTER}")
+        self.assertIn("./build", self.on(V2_FLAGS))
+        self.refuses(SHARDSCRUB_CPU="x86-64-v2")
+
+    def test_each_flag_counts(self):
+        self.build()
+        for flag in V3_FLAGS:
+            self.assertEqual(self.on((V2_FLAGS | V3_FLAGS) - {flag}), f"built {GENERAL}", flag)
+
+    def test_a_processor_that_tells_nothing(self):
+        self.build()
+        self.assertEqual(self.on(), f"built {GENERAL}")
+        self.cpuinfo.unlink()
+        self.passes(f"built {GENERAL}")
+
+    def test_this_processor(self):
+        self.build()
+        shutil.copy(TOP / "shardscrub", self.top / "shardscrub")
+        self.passes(f"built {FASTER if has_v3() else GENERAL}")
+
+    def test_another_word_for_the_processor(self):
+        self.build()
+        for word in ("v3", "x86-64-v4", "x86-64-v3 ", "*"):
+            ended = self.run_in(self.folder, self.top / "shardscrub", SHARDSCRUB_CPU=word)
+            self.assertEqual((ended.stdout, ended.returncode), ("", 70))
+            self.assertEqual(ended.stderr, f"shardscrub: SHARDSCRUB_CPU is neither x86-64-v2 nor x86-64-v3: {word}\n")
 
     def test_by_a_link(self):
         self.build()
+        self.cpuinfo.write_text(processors(V2_FLAGS))
         link = self.folder / "tools/shardscrub"
         link.symlink_to(self.top / "shardscrub")
-        self.assertEqual(self.run_in(self.folder, "shardscrub").stdout, f"built\n{self.folder}\n{HUGE_PAGES}\n")
+        self.assertEqual(self.run_in(self.folder, "shardscrub").stdout, f"built {GENERAL}\n{self.folder}\n{HUGE_PAGES}\n")
+
+    def test_the_program_of_the_tests(self):
+        """./build --program, by which the tests choose, takes the names in their order, and the first one without a name."""
+        self.build()
+        for names, name in (([], GENERAL), ([GENERAL, FASTER], GENERAL), ([FASTER, GENERAL], FASTER)):
+            self.assertEqual(self.run_in(self.folder, self.top / "build", "--program", *names).stdout, f"{self.built(name)}\n")
 
     def test_release_make_builds(self):
         need("flock")
         self.build()
         self.release()
         self.change()
+        self.age(self.crate / "src/main.rt", 30)
+        for name in (GENERAL, FASTER):
+            self.age(self.mark(name), 60)
         self.refuses()
         made = self.run_in(self.folder, self.top / "release/make")
         self.assertEqual(made.returncode, 0, made.stderr)
-        self.assertEqual([call.split()[0] for call in self.calls.read_text().splitlines()], ["run", "version"])
-        shutil.rmtree(self.crate / "out")
-        self.assertEqual(self.run_in(self.folder, self.top / "shardscrub").stdout, "made by rt\n")
+        self.assertEqual([call.split()[0] for call in self.calls.read_text().splitlines()], ["run", "run", "version"])
+        sums = self.run_in(self.top / "release", "sha256sum", "-c", "SHA256SUMS")
+        self.assertEqual(sums.stdout, f"{GENERAL}: OK\n{FASTER}: OK\n", sums.stderr)
+        for times in ("built", "released"):
+            for flags, text in ((V2_FLAGS, "made by rt"), (V2_FLAGS | V3_FLAGS, "made by rt x86-64-v3")):
+                self.assertEqual(self.on(flags), text, times)
+            shutil.rmtree(self.crate / "out", ignore_errors=True)
+
+    def test_a_build_of_the_one_for_x86_64_v3_alone(self):
+        """The other one is up to date, so that its proofs are taken as they are."""
+        need("flock")
+        self.build(GENERAL)
+        (self.crate / "out/incremental").mkdir()
+        built = self.run_in(self.folder, self.top / "build")
+        self.assertEqual(built.returncode, 0, built.stderr)
+        self.assertEqual([call.split()[:2] for call in self.calls.read_text().splitlines()], [["run", "--cpu=x86-64-v3"]])
+        self.assertEqual(self.on(V2_FLAGS | V3_FLAGS), "made by rt x86-64-v3")
+        self.assertEqual(self.on(V2_FLAGS), f"built {GENERAL}")
+        self.calls.unlink()
+        self.assertEqual(self.run_in(self.folder, self.top / "build").returncode, 0)
+        self.assertFalse(self.calls.exists(), "rt was called")
+
+    def test_a_refused_build_of_the_one_for_x86_64_v3(self):
+        """The other one is built, and is started. Nothing is left in the folder of passing files."""
+        need("flock")
+        passing = self.folder / "passing"
+        passing.mkdir()
+        built = self.run_in(self.folder, self.top / "build", REFUSED="1", TMPDIR=str(passing))
+        self.assertEqual(built.returncode, 1, built.stderr)
+        self.assertIn("scrub_cli for x86-64-v3 is not proved and built", built.stderr)
+        self.assertIn("error: refused", built.stderr)
+        for flags in (V2_FLAGS, V2_FLAGS | V3_FLAGS):
+            self.assertEqual(self.on(flags), "made by rt")
+        self.assertIn("./build", self.on(V2_FLAGS, SHARDSCRUB_CPU="x86-64-v3"))
+        built = self.run_in(self.folder, self.top / "build", TMPDIR=str(passing))
+        self.assertEqual(built.returncode, 0, built.stderr)
+        self.assertEqual(self.on(V2_FLAGS | V3_FLAGS), "made by rt x86-64-v3")
+        self.assertEqual(list(passing.iterdir()), [])
+
+
+# What the programs ask of the processor, answered by one that has nothing.
+NO_FEATURES = """
+struct leaf { unsigned there[4], usable[4]; };
+static const struct leaf none;
+const struct leaf *__x86_get_cpuid_feature_leaf(unsigned number) { (void)number; return &none; }
+static void tell(int file) { (void)file; }
+"""
+
+
+class Processor(RoomCase):
+    """Each program looks for what it needs of the processor before anything else, and ends with 127 if something isn't there."""
+
+    def check(self, name, cpu):
+        library = preloaded.made(self.room, "no-features", NO_FEATURES)
+        path = find(name)
+        self.assertIsNotNone(path, f"there is no {name} of these sources: ./build or release/make makes it")
+        for words in (["--version"], ["scan", "/nothing/here"]):
+            (status, out, error), _ = preloaded.run(path, words, library, {})
+            self.same(f"{path} {words[0]}", (status, out), (127, b""))
+            self.true("it says what is missing", error.startswith(f"this machine lacks a feature of {cpu},".encode()), error)
+
+    def test_the_general_program(self):
+        self.check(GENERAL, "x86-64-v2")
+
+    def test_the_program_for_x86_64_v3(self):
+        self.check(FASTER, "x86-64-v3")
 
 
 if __name__ == "__main__":

@@ -1,17 +1,12 @@
 """Runs a program with a library that counts or refuses its allocations.
 
-`cc` makes the library, which is put before the C library. It refuses one allocation, by its number from 1 on, or that one and
-all later ones; or those of all threads except the first one, each after a tenth of a second. It counts the allocations of one
-size, and the threads that are started.
+The library refuses one allocation, by its number from 1 on, or that one and all later ones; or those of all threads except the
+first one, each after a tenth of a second. It counts the allocations of one size, and the threads that are started.
 """
-import os
-import subprocess
-from pathlib import Path
 from typing import NamedTuple
 
-from lib.program import TOP, need
+from lib import preloaded
 
-SECONDS = 60
 LIBRARY = r"""
 #define _GNU_SOURCE
 #include <dlfcn.h>
@@ -27,7 +22,7 @@ static void *(*real_realloc)(void *, size_t);
 static int (*real_create)(pthread_t *, const pthread_attr_t *, void *(*)(void *), void *);
 static long met, refused, sized, threads;
 static size_t size_counted;
-static int all_later, all_others, is_reported;
+static int all_later, all_others;
 
 __attribute__((constructor)) static void begin(void) {
     real_malloc = dlsym(RTLD_NEXT, "malloc");
@@ -69,29 +64,16 @@ int pthread_create(pthread_t *thread, const pthread_attr_t *how, void *(*run)(vo
     return real_create(thread, how, run, with);
 }
 
-__attribute__((destructor)) static void report(void) {
-    if (is_reported) return;
-    is_reported = 1;
+static void tell(int file) {
     refused = 0;
-    dprintf(atoi(getenv("COUNTS")), "%ld %ld %ld", met, sized, threads);
-}
-
-/* A program with threads ends by this call, which calls no destructors. */
-void _exit(int status) {
-    report();
-    syscall(SYS_exit_group, status);
-    __builtin_unreachable();
+    dprintf(file, "%ld %ld %ld", met, sized, threads);
 }
 """
 
 
 def made(folder):
     """Makes the library in this folder, and returns its path. Without a C compiler the test is skipped."""
-    need("cc")
-    source, library = Path(folder, "allocations.c"), Path(folder, "allocations.so")
-    source.write_text(LIBRARY, encoding="utf-8")
-    subprocess.run(["cc", "-shared", "-fPIC", "-O1", "-o", library, source, "-ldl", "-pthread"], check=True)
-    return library
+    return preloaded.made(folder, "allocations", LIBRARY)
 
 
 class Counts(NamedTuple):
@@ -105,19 +87,9 @@ class Counts(NamedTuple):
 def run(program, words, library, refused=0, counted=0, flags=(), processors=None):
     """The status and both outputs of a run on these processors, and its counts. The counts are None if the run took over a
     minute or ended by a signal. After a minute the status is None too."""
-    reader, writer = os.pipe()
-    given = dict(LD_PRELOAD=str(library), REFUSED=str(refused), COUNTED=str(counted), COUNTS=str(writer), **dict.fromkeys(flags, "1"))
-    limit = (lambda: os.sched_setaffinity(0, processors)) if processors else None
-    try:
-        done = subprocess.run([program, *words], stdin=subprocess.DEVNULL, capture_output=True, env={**os.environ, **given},
-                              pass_fds=[writer], preexec_fn=limit, cwd=TOP, timeout=SECONDS)
-        got = (done.returncode, done.stdout, done.stderr)
-    except subprocess.TimeoutExpired:
-        got = (None, b"", b"")
-    os.close(writer)
-    with os.fdopen(reader) as counts:
-        numbers = counts.read().split()
-    return got, Counts(*map(int, numbers)) if numbers else None
+    given = dict(REFUSED=str(refused), COUNTED=str(counted), **dict.fromkeys(flags, "1"))
+    got, numbers = preloaded.run(program, words, library, given, processors)
+    return got, Counts(*numbers) if numbers else None
 
 
 def refusing(program, words, library, refused, all_later=False, all_others=False):

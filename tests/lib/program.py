@@ -1,5 +1,6 @@
 """Which program the tests, the benchmarks and the comparison run, and which tools are there."""
 import os
+import re
 import shutil
 import subprocess
 import sys
@@ -8,8 +9,15 @@ from functools import cache
 from pathlib import Path
 
 TOP = Path(__file__).resolve().parent.parent.parent
-# The program that ./build and `rt ci` make.
-BUILT = TOP / "crates/scrub_cli/out/scrub_cli"
+# The programs of a build or a release: the one for x86-64-v2, which all processors since about 2009 have, and the one for x86-64-v3.
+GENERAL, FASTER = "shardscrub", "shardscrub-x86-64-v3"
+RELEASED = {name: TOP / "release" / name for name in (GENERAL, FASTER)}
+# What ./build makes; `rt ci` makes the first one.
+BUILT = {GENERAL: TOP / "crates/scrub_cli/out/scrub_cli", FASTER: TOP / "crates/scrub_cli/out" / FASTER}
+# The values of SHARDSCRUB_CPU, by which ./shardscrub takes one of them.
+FORCED = {"x86-64-v2": [GENERAL], "x86-64-v3": [FASTER]}
+# The words of /proc/cpuinfo for what x86-64-v3 has beyond x86-64-v2. lzcnt is abm there, and osxsave has no word.
+V3_FLAGS = {"abm", "avx", "avx2", "bmi1", "bmi2", "f16c", "fma", "movbe", "xsave"}
 # The name of the variable that names the program to run.
 NAMED = "SHARDSCRUB_PROGRAM"
 # The status if there is no program of these sources, as ./shardscrub ends if the build fails.
@@ -17,16 +25,31 @@ NO_PROGRAM = 70
 
 
 @cache
+def has_v3():
+    """Whether this processor has x86-64-v3."""
+    flags = re.search(r"^flags\s*:(.*)$", Path("/proc/cpuinfo").read_text(encoding="utf-8"), re.M)
+    return flags is not None and V3_FLAGS <= set(flags[1].split())
+
+
+@cache
+def find(*names):
+    """The path of the first of these programs that was built here if no source is newer, else of the first that is released if it
+    is of these sources; None if there is none."""
+    found = subprocess.run([TOP / "build", "--program", *names], capture_output=True, text=True)
+    return Path(found.stdout.strip()) if found.returncode == 0 else None
+
+
+@cache
 def program():
-    """The path of the program: that of the variable, else the one built here if no source is newer, else the released one if it
-    is of these sources. If there is none, the script ends."""
+    """The path of the program: that of the variable, else the one that ./shardscrub starts. If there is none, the script ends."""
     if named := os.environ.get(NAMED):
         return Path(named).resolve()
-    found = subprocess.run([TOP / "build", "--program"], capture_output=True, text=True)
-    if found.returncode != 0:
+    both = [FASTER, GENERAL] if has_v3() else [GENERAL]
+    found = find(*FORCED.get(os.environ.get("SHARDSCRUB_CPU"), both))
+    if found is None:
         print("shardscrub: there is no program of these sources; ./build builds it", file=sys.stderr)
         sys.exit(NO_PROGRAM)
-    return Path(found.stdout.strip())
+    return found
 
 
 def choose_program(parser, named):

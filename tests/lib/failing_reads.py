@@ -1,0 +1,87 @@
+"""Runs a program with a library in which reads of an image fail.
+
+Some ranges of the image's bytes can't be read. A read fails if it begins in such a range; one that begins before it ends there,
+as the page cache of Linux does it. With `touched` a read that meets such a range at all fails as a whole, as some devices and
+file systems do it.
+"""
+import os
+from typing import NamedTuple
+
+from lib import preloaded
+
+LIBRARY = r"""
+#define _GNU_SOURCE
+#include <dlfcn.h>
+#include <errno.h>
+#include <stdio.h>
+#include <stdlib.h>
+#include <sys/stat.h>
+#include <sys/types.h>
+
+#define MOST 100000
+
+static ssize_t (*real_pread)(int, void *, size_t, off_t);
+static off_t begins[MOST], ends[MOST];
+static int ranges, whole;
+static ino_t image;
+static size_t page;
+static long failed_long, failed_short, threads;
+static __thread int is_counted;
+
+__attribute__((constructor)) static void begin(void) {
+    real_pread = dlsym(RTLD_NEXT, "pread");
+    image = atoll(getenv("IMAGE"));
+    page = atoll(getenv("PAGE"));
+    whole = getenv("TOUCHED") != NULL;
+    char *text = getenv("FAILING");
+    while (*text) {
+        begins[ranges] = strtoll(text, &text, 10);
+        ends[ranges++] = strtoll(text + 1, &text, 10);
+        if (*text) text++;
+    }
+}
+
+static ssize_t fail(size_t size) {
+    __atomic_add_fetch(size > page ? &failed_long : &failed_short, 1, __ATOMIC_SEQ_CST);
+    errno = EIO;
+    return -1;
+}
+
+ssize_t pread(int file, void *to, size_t size, off_t at) {
+    struct stat about;
+    if (real_pread == NULL) real_pread = dlsym(RTLD_NEXT, "pread");
+    if (fstat(file, &about) != 0 || about.st_ino != image) return real_pread(file, to, size, at);
+    if (!is_counted) __atomic_add_fetch(&threads, 1, __ATOMIC_SEQ_CST);
+    is_counted = 1;
+    size_t wanted = size;
+    for (int number = 0; number < ranges; number++) {
+        if (at >= ends[number] || at + (off_t)size <= begins[number]) continue;
+        if (whole || at >= begins[number]) return fail(wanted);
+        size = begins[number] - at;
+    }
+    return real_pread(file, to, size, at);
+}
+
+ssize_t pread64(int file, void *to, size_t size, off_t at) { return pread(file, to, size, at); }
+
+static void tell(int file) { dprintf(file, "%ld %ld %ld", failed_long, failed_short, threads); }
+"""
+
+
+def made(folder):
+    """Makes the library in this folder, and returns its path. Without a C compiler the test is skipped."""
+    return preloaded.made(folder, "failing-reads", LIBRARY)
+
+
+class Counts(NamedTuple):
+    """How many reads of more than a page failed, how many others did, and how many threads read the image."""
+    failed_long: int
+    failed_short: int
+    threads: int
+
+
+def run(program, words, library, image, page, ranges, touched, processors=None):
+    """The status and both outputs of a run on these processors, and its counts; None in their place if it didn't end by itself."""
+    given = {"IMAGE": str(os.stat(image).st_ino), "PAGE": str(page), "FAILING": ",".join(f"{begin}-{end}" for begin, end in ranges)}
+    got, numbers = preloaded.run(program, words, library, given | ({"TOUCHED": "1"} if touched else {}), processors)
+    return got, Counts(*numbers) if numbers else None

@@ -1,0 +1,172 @@
+"""Images some of whose bytes can't be read. A page is lost just if a read of it alone fails: each answer has to be, byte for byte,
+the one on the same image with these pages named in the arguments, and that of lib/reference.py.
+
+An image of 4 MiB or more is read by a thread for each processor, in blocks of 256 KiB if it is large enough. A block that can't
+be read as a whole is read again page by page.
+"""
+import os
+import random
+from pathlib import Path
+
+from lib import disks, failing_reads
+from lib.cases import RoomCase, add_tests
+from lib.disks import KIB, MIB, Disk, locator, shard, uuid
+from lib.reference import answered
+
+BLOCK = 256 * KIB
+# With more processors than these no more threads load.
+MOST_READERS = 64
+
+
+def filled(page, pages, extents, superblocks):
+    """A disk with chunks of all sizes, named by the shards of a run, and with superblocks on these pages. Its last three extents
+    are empty. Without a superblock each page of the other extents counts in the report."""
+    c, disk, entries = random.Random(1), Disk(pages, extents, page), []
+    size = page * pages
+    for extent in range(1, extents - 4):
+        place = 0
+        while size - place > 120 * KIB:
+            payload = c.randbytes(c.choice([0, 3, 100, page - 38, page, 5 * page, 70 * KIB]))
+            chunk = uuid(0) if c.random() < .1 else c.randbytes(16)
+            named = disk.chunk(extent, place, chunk, payload, c.choice([disks.frame, disks.sealed_frame]))
+            entries.append((shard(len(entries)), [named]))
+            place = -(-disk.pointers[extent - 1] // page) * page if c.random() < .3 else disk.pointers[extent - 1]
+    payload = disks.run(*entries)
+    disk.chunk(extents - 4, 0, uuid(0x77), payload)
+    for generation, at in enumerate(superblocks, 1):
+        disk.superblock(at, generation, locator(extents - 4, 0, uuid(0x77), payload))
+    return disk
+
+
+class Image:
+    """A disk in a file."""
+
+    def __init__(self, room, page, pages, extents, superblocks):
+        disk = filled(page, pages, extents, superblocks)
+        self.page, self.pages, self.extents, self.sizes = page, pages, extents, disk.geometry()
+        self.path = str(room / f"image-{page}-{pages}-{extents}")
+        Path(self.path).write_bytes(disk.bytes)
+
+    def all_pages(self):
+        return self.pages * self.extents
+
+    def names(self, pages):
+        """The words for pages that are counted from the front of the disk."""
+        return [f"{page // self.pages}:{page % self.pages}" for page in sorted(pages)]
+
+    def ranges(self, pages):
+        return [(page * self.page, (page + 1) * self.page) for page in sorted(pages)]
+
+
+def some_in_each_part(image, readers):
+    """A page in the part of each reader, the first and the last page of each part, and those beside them."""
+    stride = -(-image.all_pages() // readers)
+    near = [number * stride + by for number in range(readers + 1) for by in (-2, -1, 0, 1, stride // 3)]
+    return {page for page in near if 0 <= page < image.all_pages()}
+
+
+# Pages by the number of pages in a block: one in a block's middle; several in one block; blocks that follow one another.
+FAILURES = {
+    "one in the middle of a block": lambda block: {5 * block + block // 2},
+    "two in one block": lambda block: {7 * block + 3, 7 * block + block - 9},
+    "two neighbours": lambda block: {9 * block + 20, 9 * block + 21},
+    "the first and the last of a block": lambda block: {11 * block, 12 * block - 1},
+    "the last of a block and the first of the next one": lambda block: {14 * block - 1, 14 * block},
+    "a whole block": lambda block: set(range(16 * block, 17 * block)),
+    "all but one of a block": lambda block: set(range(18 * block, 19 * block)) - {18 * block + 5},
+}
+
+
+class Reads(RoomCase):
+    @classmethod
+    def setUpClass(cls):
+        super().setUpClass()
+        cls.library = failing_reads.made(cls.room)
+        # Blocks of 256 KiB; and one that is read by several threads, but in smaller blocks.
+        cls.large, cls.small = Image(cls.room, 4096, 256, 24, []), Image(cls.room, 512, 1024, 20, [3, 300])
+        every = sorted(os.sched_getaffinity(0))
+        cls.processors = [set(every[:1]), set(every)] if len(every) > 1 else [set(every)]
+
+    def named(self, image, pages, command):
+        """The right answer: that of the reference on the image with these pages named. The program has to give it too, and another
+        one if they aren't named."""
+        words = [*command, *image.sizes, image.path]
+        right = answered([*words, *image.names(pages)])
+        self.same(f"{len(pages)} pages named", self.answer(words + image.names(pages), image, [])[0], right)
+        self.true("no page named", self.answer(words, image, [])[0] != right)
+        return right
+
+    def answer(self, words, image, ranges, touched=False, processors=None, block=None):
+        return failing_reads.run(self.program, words, self.library, image.path, block or image.page, ranges, touched, processors)
+
+    def check(self, image, pages, ranges=None, command=("scan",)):
+        """Compares a run in which reads of these pages fail with one in which they are named."""
+        right = self.named(image, pages, command)
+        for processors in self.processors:
+            for touched in (False, True):
+                words = [*command, "--workers", str(len(processors) - 1), *image.sizes, image.path]
+                got, counts = self.answer(words, image, ranges or image.ranges(pages), touched, processors)
+                what = f"{'touched' if touched else 'begun'} on {len(processors)} processors"
+                self.same(what, got, right)
+                self.true(f"{what}: each page fails alone", counts and counts.failed_short >= len(pages), counts)
+                self.true(f"{what}: the threads", counts and counts.threads == min(len(processors), MOST_READERS), counts)
+                self.true(f"{what}: a block fails", counts and (counts.failed_long > 0 or not touched), counts)
+
+    def check_of_large(self, pages_of):
+        self.check(self.large, pages_of(BLOCK // self.large.page))
+
+    def test_some_in_each_part(self):
+        self.check(self.large, some_in_each_part(self.large, len(self.processors[-1])))
+
+    def test_some_in_each_part_of_a_disk_with_smaller_blocks(self):
+        self.check(self.small, some_in_each_part(self.small, len(self.processors[-1])))
+
+    def test_pages_of_zeros(self):
+        """They are lost, and not zero."""
+        first = (self.large.extents - 2) * self.large.pages
+        self.check(self.large, {first + 3, first + 200})
+
+    def test_the_superblocks(self):
+        self.check(self.small, {300})
+        self.check(self.small, {3, 300}, command=("locators",))
+
+    def test_the_last_page(self):
+        self.check(self.large, {self.large.all_pages() - 1})
+
+    def test_a_sector_of_a_page(self):
+        """A page is lost as a whole."""
+        page = 5 * BLOCK // self.large.page + 7
+        begin = page * self.large.page + 1024
+        self.check(self.large, {page}, [(begin, begin + 512)])
+
+    def test_every_page(self):
+        image = self.small
+        self.check(image, set(range(image.all_pages())), [(0, image.page * image.all_pages())])
+
+    def test_the_byte_behind_the_last_page(self):
+        """If it can't be read, the image is taken as if it weren't there."""
+        image, size = self.small, self.small.page * self.small.all_pages()
+        right = answered(["scan", *image.sizes, image.path])
+        with open(image.path, "ab") as file:
+            file.write(b"x")
+        self.addCleanup(os.truncate, image.path, size)
+        for ranges, wanted in (([(size, size + 1)], right), ([], (3, b"", b"shardscrub: image too long\n"))):
+            got, _ = self.answer(["scan", *image.sizes, image.path], image, ranges)
+            self.same(f"{len(ranges)} bytes can't be read", got, wanted)
+
+    def test_sizes(self):
+        """`sizes` reads blocks of 512 bytes. One that can't be read is lost, as by a map."""
+        image, size = self.small, 512
+        for blocks in ({0}, {3}, {299, 300}):
+            text = "0 +\n" + "".join(f"{block * size} {size} {'-' if block in blocks else '+'}\n" for block in range(2 * MIB // size))
+            text += f"{2 * MIB} {image.page * image.all_pages() - 2 * MIB} +\n"
+            path = self.room / "map"
+            path.write_text(text)
+            right = answered(["sizes", "--map", str(path), image.path])
+            ranges = [(block * size, (block + 1) * size) for block in blocks]
+            for touched in (False, True):
+                got, _ = self.answer(["sizes", image.path], image, ranges, touched, block=size)
+                self.same(f"blocks {sorted(blocks)}", got, right)
+
+
+add_tests(Reads, Reads.check_of_large, FAILURES.items())
