@@ -544,7 +544,7 @@ fn invalid_arguments_are_refused(rt: HostRuntime) -> Result<(), Fail> {
 #[test]
 fn the_version_goes_to_the_output(rt: HostRuntime) -> Result<(), Fail> {
     for words in ["--version", "-V"] {
-        let wanted = (0, "shardscrub 2.1.0\n", "");
+        let wanted = (0, "shardscrub 2.2.0\n", "");
         check(&rt, rt.alloc(), words, image(&[]), wanted)?;
     }
     Ok(())
