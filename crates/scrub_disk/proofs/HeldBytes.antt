@@ -13,8 +13,8 @@ use Rattle.std.proofs.lemmas.Bool.{cases_lt, lt-ltb}
 use Rattle.scrub_disk.specs.Memory.{IsBlank, Puts, Marks}
 use Rattle.scrub_disk.specs.declared.geometry.Geometry.{Geometry}
 use Rattle.scrub_disk.specs.Image.{Image, byte}
-use Rattle.scrub_disk.specs.Held.{held}
-use Rattle.scrub_disk.specs.WholePages.{page_room}
+use Rattle.scrub_disk.specs.BytesAndMarks.{held}
+use Rattle.scrub_disk.specs.steps.WholePages.{page_room}
 use Rattle.scrub_disk.proofs.Writes.{put_within, put_outside, length-put}
 
 -- the place of byte i of extent e among all bytes, for P bytes a page and N pages an extent
@@ -35,11 +35,11 @@ in_page bytes n P k hk fits =
     ∙ ap Some (get_or-between bytes (n * P) (n * P + P) k 0 (omega arith))
 
 -- byte i of extent e of the image that bytes and marks hold
-pub byte-held : (g : Geometry) (bytes : List ℕ) (bad : List Bool) (e i : ℕ) →
+pub byte-held : (g : Geometry) (bytes : List ℕ) (unreadable : List Bool) (e i : ℕ) →
     length bytes ≡ g.page * g.pages * g.extents → e < g.extents → i < g.page * g.pages →
-    byte (held g bytes bad) e i
-    ≡ cond (get_or bad (e * g.pages + i / g.page) false) None (Some (get_or bytes (e * (g.page * g.pages) + i) 0))
-byte-held g bytes bad e i l he hi =
+    byte (held g bytes unreadable) e i
+    ≡ cond (get_or unreadable (e * g.pages + i / g.page) false) None (Some (get_or bytes (e * (g.page * g.pages) + i) 0))
+byte-held g bytes unreadable e i l he hi =
     let pos : 0 < g.page = omega (arith, g.page_size.least) in
     let w : (e * g.pages + i / g.page) * g.page + g.page ≤ length bytes =
     omega (arith, page_within g.page g.pages g.extents e i pos he hi, l) in
@@ -48,9 +48,9 @@ byte-held g bytes bad e i l he hi =
     ∙ ap (λ n. Some (get_or bytes n 0)) (place g.page g.pages e i) in
     let here : nat_lt i (g.page * g.pages) ≡ true = lt-ltb i (g.page * g.pages) hi in
     ap
-    (λ t. cond t (byte_of_page (get_or bad (e * g.pages + i / g.page) false) ((e * g.pages + i / g.page) * g.page)) None)
+    (λ t. cond t (byte_of_page (get_or unreadable (e * g.pages + i / g.page) false) ((e * g.pages + i / g.page) * g.page)) None)
     here
-    ∙ by_mark (get_or bad (e * g.pages + i / g.page) false) _ _ (i % g.page) at
+    ∙ by_mark (get_or unreadable (e * g.pages + i / g.page) false) _ _ (i % g.page) at
   where
     byte_of_page : Bool → ℕ → Option ℕ
     byte_of_page b from =
@@ -62,9 +62,9 @@ byte-held g bytes bad e i l he hi =
     by_mark false page x k h = h
 
 -- a marked page is unreadable
-pub marked_page : (g : Geometry) (bytes : List ℕ) (bad : List Bool) (e p : ℕ) →
-    get_or bad (e * g.pages + p) false ≡ true → (held g bytes bad).page e p ≡ None
-marked_page g bytes bad e p h = rw h refl
+pub marked_page : (g : Geometry) (bytes : List ℕ) (unreadable : List Bool) (e p : ℕ) →
+    get_or unreadable (e * g.pages + p) false ≡ true → (held g bytes unreadable).page e p ≡ None
+marked_page g bytes unreadable e p h = rw h refl
 
 -- if two pages have the same number, they have the same extent and are the same page of it
 pub apart : (N e p f q : ℕ) → p < N → q < N → e * N + p ≡ f * N + q → (e ≡ f) × (p ≡ q)
@@ -74,17 +74,17 @@ apart N e p f q hp hq eq = (
 )
 
 -- what a mark on one page changes
-pub marks : (g : Geometry) (bytes : List ℕ) (bad : List Bool) (e p : ℕ) → length bad ≡ g.pages * g.extents →
+pub marks : (g : Geometry) (bytes : List ℕ) (unreadable : List Bool) (e p : ℕ) → length unreadable ≡ g.pages * g.extents →
     e < g.extents → p < g.pages →
-    Marks (held g bytes bad) (held g bytes (set bad (e * g.pages + p) true)) e p
-marks g bytes bad e p l he hp =
+    Marks (held g bytes unreadable) (held g bytes (set unreadable (e * g.pages + p) true)) e p
+marks g bytes unreadable e p l he hp =
     let r : e * g.pages + g.pages ≤ g.extents * g.pages = row_fits e g.pages g.extents g.pages he (omega arith) in
-    let within : e * g.pages + p < length bad = omega (arith, l, r) in
+    let within : e * g.pages + p < length unreadable = omega (arith, l, r) in
     record {
       geometry = refl;
       marked =
-          marked_page g bytes (set bad (e * g.pages + p) true) e p
-          (get_or-set_same bad (e * g.pages + p) true false within);
+          marked_page g bytes (set unreadable (e * g.pages + p) true) e p
+          (get_or-set_same unreadable (e * g.pages + p) true false within);
       others = λ f q hf hq ne.
           let away : (f * g.pages + q) ≢ (e * g.pages + p) = λ eq. let a = apart g.pages f q e p hq hp eq in elim ne [
             | inl n ↦ n a.0
@@ -92,7 +92,7 @@ marks g bytes bad e p l he hp =
           ] in
           ap
           (λ b. cond b None (Some (between ((f * g.pages + q) * g.page) ((f * g.pages + q) * g.page + g.page) bytes)))
-          (get_or-set_other bad (e * g.pages + p) (f * g.pages + q) true false away);
+          (get_or-set_other unreadable (e * g.pages + p) (f * g.pages + q) true false away);
     }
 
 -- a disk of zeros is blank
@@ -122,32 +122,32 @@ blank g = record {
         ∙ get_or-replicate m (a + k) 0 d (omega (arith, l)) ∙ sym (get_or-replicate n k 0 d (omega (arith, l))))
 
 -- what a write of the bytes ys at an offset of extent e changes
-pub puts : (g : Geometry) (xs ys new : List ℕ) (bad : List Bool) (e offset : ℕ) →
+pub puts : (g : Geometry) (xs ys new : List ℕ) (unreadable : List Bool) (e offset : ℕ) →
     length xs ≡ g.page * g.pages * g.extents → length new ≡ length xs → e < g.extents →
     offset + length ys ≤ g.page * g.pages →
     ((k : ℕ) → k < length ys → get_or new (e * (g.page * g.pages) + offset + k) 0 ≡ get_or ys k 0) →
     ((i : ℕ) → i < length xs → (i < e * (g.page * g.pages) + offset) ⊎ (e * (g.page * g.pages) + offset + length ys ≤ i) → get_or new i 0 ≡ get_or xs i 0) →
-    Puts (held g xs bad) (held g new bad) e offset ys
-puts g xs ys new bad e offset l m he fits inside outside = record {
+    Puts (held g xs unreadable) (held g new unreadable) e offset ys
+puts g xs ys new unreadable e offset l m he fits inside outside = record {
   geometry = refl;
   written = λ k hk.
       let i : offset + k < g.page * g.pages = omega arith in
-      byte-held g new bad e (offset + k) (m ∙ l) he i
-      ∙ ap (λ n. cond (get_or bad (e * g.pages + (offset + k) / g.page) false) None (Some n))
+      byte-held g new unreadable e (offset + k) (m ∙ l) he i
+      ∙ ap (λ n. cond (get_or unreadable (e * g.pages + (offset + k) / g.page) false) None (Some n))
       (ap (λ n. get_or new n 0) (let q : e * (g.page * g.pages) + (offset + k) ≡ e * (g.page * g.pages) + offset + k = omega arith in q) ∙ inside k hk)
-      ∙ mapped (get_or bad (e * g.pages + (offset + k) / g.page) false) (get_or ys k 0)
+      ∙ mapped (get_or unreadable (e * g.pages + (offset + k) / g.page) false) (get_or ys k 0)
       (get_or xs (e * (g.page * g.pages) + (offset + k)) 0)
-      ∙ ap (option_map (λ _. get_or ys k 0)) (sym (byte-held g xs bad e (offset + k) l he i));
+      ∙ ap (option_map (λ _. get_or ys k 0)) (sym (byte-held g xs unreadable e (offset + k) l he i));
   kept = λ i hi away.
-      byte-held g new bad e i (m ∙ l) he hi
-      ∙ ap (λ n. cond (get_or bad (e * g.pages + i / g.page) false) None (Some n))
+      byte-held g new unreadable e i (m ∙ l) he hi
+      ∙ ap (λ n. cond (get_or unreadable (e * g.pages + i / g.page) false) None (Some n))
       (outside (e * (g.page * g.pages) + i) (within e i he hi) (elim away [ inl h ↦ inl (omega arith) | inr h ↦ inr (omega arith) ]))
-      ∙ sym (byte-held g xs bad e i l he hi);
+      ∙ sym (byte-held g xs unreadable e i l he hi);
   others = λ f i hf hi ne.
-      byte-held g new bad f i (m ∙ l) hf hi
-      ∙ ap (λ n. cond (get_or bad (f * g.pages + i / g.page) false) None (Some n))
+      byte-held g new unreadable f i (m ∙ l) hf hi
+      ∙ ap (λ n. cond (get_or unreadable (f * g.pages + i / g.page) false) None (Some n))
       (outside (f * (g.page * g.pages) + i) (within f i hf hi) (elsewhere f i hi ne))
-      ∙ sym (byte-held g xs bad f i l hf hi);
+      ∙ sym (byte-held g xs unreadable f i l hf hi);
 }
   where
     mapped : (b : Bool) (x y : ℕ) → cond b None (Some x) ≡ option_map (λ _. x) (cond b None (Some y))
@@ -172,23 +172,23 @@ puts g xs ys new bad e offset l m he fits inside outside = record {
     ]
 
 -- a page whose mark was read and is set is unreadable
-pub read_marked : (g : Geometry) (bytes : List ℕ) (bad : List Bool) (e p n : ℕ) (b : Bool) →
-    length bad ≡ g.pages * g.extents →
-    e < g.extents → p < g.pages → n ≡ g.pages → b ≡ get_or bad (e * n + p) b → b ≡ true →
-    (held g bytes bad).page e p ≡ None
-read_marked g bytes bad e p n b l he hp same reads set' =
+pub read_marked : (g : Geometry) (bytes : List ℕ) (unreadable : List Bool) (e p n : ℕ) (b : Bool) →
+    length unreadable ≡ g.pages * g.extents →
+    e < g.extents → p < g.pages → n ≡ g.pages → b ≡ get_or unreadable (e * n + p) b → b ≡ true →
+    (held g bytes unreadable).page e p ≡ None
+read_marked g bytes unreadable e p n b l he hp same reads set' =
     let r : e * g.pages + g.pages ≤ g.extents * g.pages = row_fits e g.pages g.extents g.pages he (omega arith) in
-    let i : e * g.pages + p < length bad = omega (arith, l, r) in
-    let at : b ≡ get_or bad (e * g.pages + p) b = reads ∙ ap (λ m. get_or bad (e * m + p) b) same in
-    marked_page g bytes bad e p (sym (get_or_read bad (e * g.pages + p) b i at false) ∙ set')
+    let i : e * g.pages + p < length unreadable = omega (arith, l, r) in
+    let at : b ≡ get_or unreadable (e * g.pages + p) b = reads ∙ ap (λ m. get_or unreadable (e * m + p) b) same in
+    marked_page g bytes unreadable e p (sym (get_or_read unreadable (e * g.pages + p) b i at false) ∙ set')
 
 -- the same write through a slice of the vector that has the bytes, as the code makes it
-pub put_all : (g : Geometry) (v : Vec ℕ Global) (ys xs zs : List ℕ) (bad : List Bool) (e offset size : ℕ) →
+pub put_all : (g : Geometry) (v : Vec ℕ Global) (ys xs zs : List ℕ) (unreadable : List Bool) (e offset size : ℕ) →
     length v.items ≡ g.page * g.pages * g.extents → e < g.extents → offset + length ys ≤ g.page * g.pages →
     size ≡ g.page * g.pages →
     xs ≡ v.items → zs ≡ ys →
-    Puts (held g v.items bad) (held g (with_items v (put_mid (e * size + offset) (e * size + offset + length ys - (e * size + offset)) xs zs)).items bad) e offset ys
-put_all g v ys xs zs bad e offset size l he fits hs hx hz =
+    Puts (held g v.items unreadable) (held g (with_items v (put_mid (e * size + offset) (e * size + offset + length ys - (e * size + offset)) xs zs)).items unreadable) e offset ys
+put_all g v ys xs zs unreadable e offset size l he fits hs hx hz =
     let r : e * (g.page * g.pages) + g.page * g.pages ≤ g.extents * (g.page * g.pages) =
     row_fits e (g.page * g.pages) g.extents (g.page * g.pages) he (omega arith) in
     let n : e * size + offset + length ys - (e * size + offset) ≡ length ys = omega arith in
@@ -197,7 +197,7 @@ put_all g v ys xs zs bad e offset size l he fits hs hx hz =
     let same : (with_items v (put_mid (e * (g.page * g.pages) + offset) (length ys) v.items ys)).items ≡ put_mid (e * (g.page * g.pages) + offset) (length ys) v.items ys =
     with_items_is v (put_mid (e * (g.page * g.pages) + offset) (length ys) v.items ys) (m ∙ sym v.ok.0) in
     rw (n, hs, hx, hz, same)
-    (puts g v.items ys (put_mid (e * (g.page * g.pages) + offset) (length ys) v.items ys) bad e offset l m he fits
+    (puts g v.items ys (put_mid (e * (g.page * g.pages) + offset) (length ys) v.items ys) unreadable e offset l m he fits
     (λ k hk. put_within v.items ys (e * (g.page * g.pages) + offset) (length ys) k refl (omega (arith, l, r)) hk)
     (λ i hi away. put_outside v.items ys (e * (g.page * g.pages) + offset) (length ys) i refl (omega (arith, l, r)) away hi))
 

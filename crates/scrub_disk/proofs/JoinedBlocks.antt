@@ -11,11 +11,11 @@ use Rattle.std.proofs.Math.Nat.{mod-lt, mul-le-mul_left, mul-le-mul_right}
 use Rattle.std.proofs.Common.{Bool, false, cond, Option, Some, None, inl, inr, ◌^◌}
 use Rattle.scrub_disk.specs.declared.blocks.Block.{Block}
 use Rattle.scrub_disk.specs.declared.geometry.Geometry.{Geometry}
-use Rattle.scrub_disk.specs.Ahead.{IsReadFrom}
-use Rattle.scrub_disk.specs.Held.{held}
+use Rattle.scrub_disk.specs.steps.Ahead.{IsReadFrom}
+use Rattle.scrub_disk.specs.BytesAndMarks.{held}
 use Rattle.scrub_disk.specs.Joined.{joined, text_at, first_page, HaveSizes, AreBlocks}
 use Rattle.scrub_disk.specs.Stored.{HasPages, block_text, page_text}
-use Rattle.scrub_disk.specs.WholePages.{page_room}
+use Rattle.scrub_disk.specs.steps.WholePages.{page_room}
 use Rattle.scrub_disk.proofs.PartsRead.{read_more_parts}
 use Rattle.scrub_disk.proofs.StoredPages.{length-texts, page_of_text, rows_below}
 use Rattle.scrub_disk.proofs.Texts.{AreFull, between-joined, text_at_is}
@@ -76,17 +76,17 @@ page_of_block P stride pages n blocks block some pos sizes stored enough hn here
     }
 
 -- an unmarked page that was read from its block is the page of the image
-pub read_in_block : (g : Geometry) (blocks : List Block) (bad : List Bool) (stride e q N size : ℕ) (b : Bool)
+pub read_in_block : (g : Geometry) (blocks : List Block) (unreadable : List Bool) (stride e q N size : ℕ) (b : Bool)
     (block : Block) (out : List ℕ) → 0 < stride → HaveSizes g.page stride (g.pages * g.extents) 0 blocks →
     All (HasPages g.page) blocks →
-    g.pages * g.extents ≤ stride * length blocks → length bad ≡ g.pages * g.extents → e < g.extents → q < g.pages →
+    g.pages * g.extents ≤ stride * length blocks → length unreadable ≡ g.pages * g.extents → e < g.extents → q < g.pages →
     N ≡ g.pages → size ≡ g.page →
-    b ≡ get_or bad (e * N + q) b → b ≡ false → block ≡ get_or blocks ((e * N + q) / stride) block →
+    b ≡ get_or unreadable (e * N + q) b → b ≡ false → block ≡ get_or blocks ((e * N + q) / stride) block →
     out ≡ page_text size block.bytes.items (get_or block.slots.items ((e * N + q) % stride) None) →
-    (held g (joined g.page blocks) bad).page e q ≡ Some out
-read_in_block g blocks bad stride e q N size b block out pos sizes stored enough marks he hq hN hP read unmarked is found =
+    (held g (joined g.page blocks) unreadable).page e q ≡ Some out
+read_in_block g blocks unreadable stride e q N size b block out pos sizes stored enough marks he hq hN hP read unmarked is found =
     by_number (e * g.pages + q) below
-    (sym (get_or_read bad (e * g.pages + q) b (omega (arith, marks, below)) (read ∙ ap (λ m. get_or bad (e * m + q) b) hN) false) ∙ unmarked)
+    (sym (get_or_read unreadable (e * g.pages + q) b (omega (arith, marks, below)) (read ∙ ap (λ m. get_or unreadable (e * m + q) b) hN) false) ∙ unmarked)
     (is ∙ ap (λ m. get_or blocks ((e * m + q) / stride) block) hN)
     (found ∙ ap (λ m. page_text m block.bytes.items (get_or block.slots.items ((e * N + q) % stride) None)) hP
     ∙ ap (λ m. page_text g.page block.bytes.items (get_or block.slots.items ((e * m + q) % stride) None)) hN)
@@ -94,9 +94,9 @@ read_in_block g blocks bad stride e q N size b block out pos sizes stored enough
     below : e * g.pages + q < g.pages * g.extents
     below = (page_room g.page g.pages g.extents e q he hq).0
 
-    by_number : (n : ℕ) → n < g.pages * g.extents → get_or bad n false ≡ false → block ≡ get_or blocks (n / stride) block →
+    by_number : (n : ℕ) → n < g.pages * g.extents → get_or unreadable n false ≡ false → block ≡ get_or blocks (n / stride) block →
         out ≡ page_text g.page block.bytes.items (get_or block.slots.items (n % stride) None) →
-        cond (get_or bad n false) None (Some (between (n * g.page) (n * g.page + g.page) (joined g.page blocks))) ≡ Some out
+        cond (get_or unreadable n false) None (Some (between (n * g.page) (n * g.page + g.page) (joined g.page blocks))) ≡ Some out
     by_number n hn clear here found' =
         rw clear
         (ap Some
@@ -114,7 +114,7 @@ slot_in_block g blocks stride e q N block pos sizes stored enough he hq hN is =
     pos sizes stored enough (rw hN (page_room g.page g.pages g.extents e q he hq).0) is in
     (page.within, page.stored)
 
--- blocks behind others
+-- blocks after others
 pub more_blocks : (g : Geometry) (stride first count next n both : ℕ) (blocks more all : List Block) (marks marked every : List Bool) →
     next ≡ first + count → both ≡ count + n →
     AreBlocks g stride first count blocks marks → AreBlocks g stride next n more marked →
@@ -176,29 +176,37 @@ no_block g stride first blocks marks none unmarked =
         sym (ap (λ m. g.page * m) zero_pages ∙ omega arith)
 
 -- one block
-pub one_block : (g : Geometry) (stride number first count size : ℕ) (block : Block) (marks : List Bool) →
-    first ≡ first_page g stride number → count ≡ min stride (g.pages * g.extents - first) → HasPages g.page block →
-    length (block_text g.page block) ≡ size → size ≡ count * g.page → length marks ≡ count →
-    AreBlocks g stride number 1 (block ∷ []) marks
-one_block g stride number first count size block marks at few has long is marked = record {
+pub one_block : (g : Geometry) (stride number first count : ℕ) (block : Block) (blocks : List Block) (marks : List Bool) →
+    first ≡ first_page g stride number → count ≡ min stride (g.pages * g.extents - first) → blocks ≡ block ∷ [] → HasPages g.page block →
+    length (block_text g.page block) ≡ count * g.page → length marks ≡ count → AreBlocks g stride number 1 blocks marks
+one_block g stride number first count block blocks marks at few only has long marked = rw only (record {
   number = refl;
   sizes = λ k hk.
       let here : k ≡ 0 = omega (arith, hk) in
-      rw here (long ∙ is ∙ omega (arith, ap (λ m. g.page * m) (few ∙ left)));
+      rw here (long ∙ omega (arith, ap (λ m. g.page * m) (few ∙ left)));
   stored = All-cons (HasPages g.page) block [] has (All-nil (HasPages g.page));
   whole =
-      ap length (append-nil (block_text g.page block)) ∙ long ∙ is
+      ap length (append-nil (block_text g.page block)) ∙ long
       ∙ (let e : g.page * count ≡ g.page * (first_page g stride (number + 1) - first_page g stride number) =
       ap (λ m. g.page * m) pages in
       omega (arith, e));
   each_page = marked ∙ pages;
-}
+})
   where
     left : min stride (g.pages * g.extents - first) ≡ min stride (g.pages * g.extents - (number + 0) * stride)
     left = omega (arith, at)
 
     pages : count ≡ first_page g stride (number + 1) - first_page g stride number
     pages = omega (arith, at, few)
+
+-- what was read into it
+pub one_block_read : (known : Option (List ℕ)) (first from page failures : ℕ) (block : Block) (blocks : List Block) (marks : List Bool) →
+    first ≡ from → blocks ≡ block ∷ [] → IsReadFrom known first page failures (block_text page block) marks →
+    IsReadFrom known from page failures (joined page blocks) marks
+one_block_read known first from page failures block blocks marks at only read =
+    let text : joined page blocks ≡ block_text page block =
+    ap (λ bs. joined page bs) only ∙ append-nil (block_text page block) in
+    rw (text, ← at) read
 
 -- pages from block a to block b, and from there to block c
 pub pages_more : (g : Geometry) (stride a b c times : ℕ) → a ≤ b → b ≤ c →
@@ -220,7 +228,7 @@ few_pages g stride a b =
     let one : 1 * (g.pages * g.extents) ≤ g.page * (g.pages * g.extents) = mul-le-mul_right (g.pages * g.extents) least in
     omega (arith, reads, one, g.total_fits)
 
--- pages that were read behind others
+-- pages that were read after others
 pub blocks_read : (g : Geometry) (stride first count next n from to x y both : ℕ) (known : Option (List ℕ)) (blocks more all : List Block)
     (marks marked every : List Bool) → next ≡ first + count → from ≡ first_page g stride first → to ≡ first_page g stride next → both ≡ x + y →
     AreBlocks g stride first count blocks marks → AreBlocks g stride next n more marked →

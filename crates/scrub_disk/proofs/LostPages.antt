@@ -7,10 +7,10 @@ use Rattle.scrub_disk.specs.declared.geometry.Geometry.{Geometry}
 use Rattle.std.specs.Bool.{OnFalse, OnTrue}
 use Rattle.std.proofs.lemmas.Bool.{false≢true}
 use Rattle.scrub_disk.specs.Image.{Image, HasWholePages, disk_bytes}
-use Rattle.scrub_disk.specs.Held.{held}
+use Rattle.scrub_disk.specs.BytesAndMarks.{held}
 use Rattle.scrub_disk.specs.Raw.{IsPageAt, HoldsRaw, LosesOnly, HoldsKnown, IsLoadedWith}
-use Rattle.scrub_disk.specs.Marked.{MarksAll, MarksOnly}
-use Rattle.scrub_disk.specs.Ahead.{IsReadFrom}
+use Rattle.scrub_disk.specs.steps.Marked.{MarksAll, MarksOnly}
+use Rattle.scrub_disk.specs.steps.Ahead.{IsReadFrom}
 use Rattle.scrub_disk.proofs.RawImages.{holds_raw}
 
 -- a page that is whole at its place isn't cut
@@ -91,8 +91,8 @@ holds_marked known named old new h m e q he hq =
       | inr gone ↦ rw gone.0 tt
     ]
 
--- a disk that was read from raw bytes, with no byte found behind its last page, is loaded once its named pages are
--- marked; the failures are counted before the reads, before the last one and behind it
+-- a disk that was read from raw bytes, with no byte found after its last page, is loaded once its named pages are
+-- marked; the failures are counted before the reads, before the last one and after it
 pub loaded_with : (raw was : Option (List ℕ)) (g : Geometry) (named : List (ℕ × ℕ)) (first before after end : ℕ) (there : Bool) (old new : Image) →
     was ≡ raw → end ≡ disk_bytes g → there ≡ false → old.geometry ≡ g → first ≤ before → before ≤ after →
     HasWholePages new →
@@ -149,7 +149,7 @@ loaded_with_more raw few many g named image le l = record {
       not_too_long = λ none. t.not_too_long (omega (arith, none, le));
     }
 
--- the same by several readers, of which at most `failures` reads may fail; the last one looked behind the last page
+-- the same by several readers, of which at most `failures` reads may fail; the last one looked after the last page
 pub loaded_by_readers : (raw was : Option (List ℕ)) (g : Geometry) (named : List (ℕ × ℕ)) (failures before after end : ℕ) (there : Bool) (old new : Image) →
     was ≡ raw → end ≡ disk_bytes g → there ≡ false → old.geometry ≡ g → after ≤ failures → HasWholePages new →
     IfSome raw (λ known. HoldsRaw known old) → IfSome raw (λ known. LosesOnly known g [] failures old) →
@@ -204,7 +204,7 @@ loses_read g (Some known) failures bytes marks image is lm holds r =
     })
     (rw is at holds))
 
--- a byte that was found behind the last page
+-- a byte that was found after the last page
 pub longer : (raw was : Option (List ℕ)) (end size : ℕ) (there : Bool) → was ≡ raw → end ≡ size → there ≡ true →
     IfSome was (λ known. OnTrue there (end < length known)) → IfSome raw (λ known. size < length known)
 longer None was end size there same at found short = tt

@@ -6,7 +6,10 @@ use Rattle.std.proofs.lemmas.Bool.{cases_lt}
 use Rattle.std.proofs.lemmas.List.{get_or_append_left, get_or-append_right}
 use Rattle.std.proofs.lemmas.List.Elements.{All-cons, All-head, All-nil, All-same, All-tail, Contains-append_left, Contains-append_right}
 use Rattle.std.proofs.lemmas.List.Sums.{sum_by-append, sum_by-cons}
-use Rattle.scrub_disk.specs.Ahead.{HoldsFrom, IsReadPart, IsReadFrom, MarksFrom}
+use Rattle.scrub_disk.specs.declared.blocks.Block.{Block}
+use Rattle.scrub_disk.specs.Stored.{block_text}
+use Rattle.scrub_disk.specs.steps.Added.{AddsPages}
+use Rattle.scrub_disk.specs.steps.Ahead.{HoldsFrom, IsReadPart, IsReadFrom, MarksFrom}
 
 -- what was read with few failures was read with at most more of them
 pub read_from_more : (known : Option (List ℕ)) (first first' page few many : ℕ) (bytes : List ℕ) (marks : List Bool) →
@@ -21,7 +24,7 @@ read_from_more (Some text) first first' page few many bytes marks is le r = rw (
   };
 })
 
--- pages that were read behind the first ones
+-- pages that were read after the first ones
 read_more_text : (text : List ℕ) (page s x c f1 f2 : ℕ) (bytes more : List ℕ) (marks marked : List Bool) → 0 < page →
     length bytes ≡ page * x → length marks ≡ x → length more ≡ page * c → length marked ≡ c →
     IsReadPart text s page f1 bytes marks → IsReadPart text (s + x) page f2 more marked →
@@ -110,6 +113,35 @@ block_read (Some raw) first from page failures bytes text all marks every at mar
     rw (← at, is)
     (read_into raw first page failures bytes text every size same
     (rw marked (record { held = holds; lost = lost })))
+
+-- pages that were read into a buffer and added to a block
+pub more_pages_read : (known was : Option (List ℕ)) (first at page done n failed more both : ℕ) (old new : Block) (bytes : List ℕ)
+    (marks unreadable marked every : List Bool) → 0 < page → was ≡ known → at ≡ first + done → both ≡ failed + more →
+    length (block_text page old) ≡ done * page → length marks ≡ done → length bytes ≡ n * page → length unreadable ≡ n →
+    marked ≡ unreadable → every ≡ marks ++ marked → AddsPages page old new (length marked) bytes marked →
+    IsReadFrom known first page failed (block_text page old) marks →
+    IfSome was (λ raw. HoldsFrom raw (at * page) page unreadable bytes) →
+    IfSome was (λ raw. MarksFrom raw at page (length unreadable) more unreadable) →
+    (length (block_text page new) ≡ (done + n) * page) × IsReadFrom known first page both (block_text page new) every
+more_pages_read known was first at page done n failed more both old new bytes marks unreadable marked every pos same is sum size each full count marked_is all adds read holds lost = (
+  ap length adds.text ∙ length-append (block_text page old) adds.added ∙ omega (arith, size, added),
+  rw sum
+      (read_more_parts known page first at done n failed more (block_text page old) adds.added (block_text page new) marks marked every pos
+      (omega (arith, size)) each (omega (arith, added)) counted adds.text all is read rest),
+)
+  where
+    counted : length marked ≡ n
+    counted = ap length marked_is ∙ count
+
+    added : length adds.added ≡ n * page
+    added = adds.size ∙ ap (λ m. m * page) counted
+
+    rest : IsReadFrom known at page more adds.added marked
+    rest =
+        block_read known at at page more bytes adds.added adds.added unreadable marked refl marked_is refl
+        (omega (arith, added, full))
+        (λ i hi clear. adds.same i (let m : length marked * page ≡ n * page = ap (λ m. m * page) counted in omega (arith, hi, full, m)) clear)
+        (rw same at holds) (rw same at lost)
 
 -- what holds of all elements holds of those before the last and of the last
 pub all_ends : {X : Type 0} (P : X → Type 0) (xs all : List X) (x : X) → all ≡ xs ++ x ∷ [] → All P all → All P xs × P x

@@ -9,7 +9,7 @@ use borrow.Rule.Slice.PartMut.{put_mid}
 use Rattle.scrub_disk.proofs.Writes.{put_within, put_outside}
 use Rattle.scrub_disk.specs.Image.{AreBytesAt}
 use Rattle.scrub_disk.specs.Raw.{ReadFrom, IsRead}
-use Rattle.scrub_disk.specs.Marked.{MarksOnly}
+use Rattle.scrub_disk.specs.steps.Marked.{MarksOnly}
 
 -- the first `done` bytes of the list are those at the offset
 abbrev pub StandsSoFar : List ℕ → ℕ → ℕ → List ℕ → Type 0

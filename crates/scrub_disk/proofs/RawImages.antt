@@ -11,11 +11,11 @@ use Rattle.std.specs.Vec.{with_items}
 use Rattle.std.proofs.lemmas.List.{with_items_is}
 use Rattle.scrub_disk.specs.declared.geometry.Geometry.{Geometry}
 use Rattle.scrub_disk.specs.Image.{Image}
-use Rattle.scrub_disk.specs.Held.{held}
-use Rattle.scrub_disk.specs.WholePages.{page_room}
+use Rattle.scrub_disk.specs.BytesAndMarks.{held}
+use Rattle.scrub_disk.specs.steps.WholePages.{page_room}
 use Rattle.scrub_disk.specs.Memory.{Marks}
 use Rattle.scrub_disk.specs.Raw.{IsReadOn, IsPageAt, HoldsRaw}
-use Rattle.scrub_disk.specs.Marked.{HoldsUnmarked, MarksAll}
+use Rattle.scrub_disk.specs.steps.Marked.{HoldsUnmarked, MarksAll}
 
 -- reads, and more reads
 pub read_on_more : {R : Type 0} {bytes : R → Option (List ℕ)} {most failures : R → ℕ} {a b c : R} →

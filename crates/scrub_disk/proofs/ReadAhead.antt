@@ -6,10 +6,10 @@ use Rattle.std.proofs.lemmas.Bool.{cases_lt, cases_eq, false≢true}
 use Rattle.std.proofs.lemmas.List.Elements.{Contains-push, Contains-append_left}
 use borrow.Rule.Slice.PartMut.{put_mid}
 use Rattle.scrub_disk.specs.Raw.{IsRead}
-use Rattle.scrub_disk.specs.Ahead.{StandsBetween, MarksFrom}
+use Rattle.scrub_disk.specs.steps.Ahead.{StandsBetween, MarksFrom}
 use Rattle.scrub_disk.proofs.RawBytes.{read_more}
 
--- one more read brought the bytes behind those at the front of a list
+-- one more read brought the bytes after those at the front of a list
 pub rest_more : (raw was : Option (List ℕ)) (offset done n : ℕ) (out piece : List ℕ) → was ≡ raw → done ≤ length out →
     length piece ≡ length out - done →
     IfSome raw (λ known. StandsBetween known offset 0 done out) → IsRead was (offset + done) piece n →

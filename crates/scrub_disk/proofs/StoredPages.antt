@@ -1,5 +1,5 @@
 -- The text of a block, of which pages of zeros aren't stored.
-use Rattle.std.proofs.Common.{◌≡◌, ◌<◌, ◌≤◌, ◌+◌, ◌-◌, ◌*◌, ◌/◌, ℕ, List, [], ◌∷◌, ◌++◌, length, length-append, get_or, arith, refl, sym, ◌∙◌, ap, All, Bool, true, false, cond, Option, Some, None, inl, inr, replicate}
+use Rattle.std.proofs.Common.{◌≡◌, ◌<◌, ◌≤◌, ◌+◌, ◌-◌, ◌*◌, ◌/◌, ℕ, List, [], ◌∷◌, ◌++◌, length, length-append, append_assoc, get_or, arith, refl, sym, ◌∙◌, ap, All, Bool, true, false, cond, Option, Some, None, inl, inr, replicate}
 use Rattle.std.specs.Bool.{OnFalse}
 use Rattle.std.specs.List.{between, flat_map}
 use Rattle.std.proofs.lemmas.List.{append-nil, get_or-map, get_or_append_left, get_or-append_right, length-replicate, same_lists, take_all}
@@ -12,6 +12,7 @@ use Rattle.std.proofs.Math.Nat.{le_of_mul-le-mul_left}
 use Rattle.scrub_disk.specs.declared.blocks.Block.{Block}
 use Rattle.scrub_disk.specs.Joined.{text_at}
 use Rattle.scrub_disk.specs.Stored.{HasPages, IsStored, block_text, page_text}
+use Rattle.scrub_disk.specs.steps.Added.{AddsPages}
 use Rattle.scrub_disk.proofs.Texts.{between-joined}
 
 -- a row that ends within `count` rows is one of them
@@ -54,7 +55,7 @@ page_of_text P stored slots j all within =
 
 -- ---- one more page
 
--- what is stored behind the stored pages changes none
+-- what is stored after the stored pages changes none
 page_kept : (P : ℕ) (stored more : List ℕ) (slot : Option ℕ) → IsStored P stored slot →
     page_text P (stored ++ more) slot ≡ page_text P stored slot
 page_kept P stored more None fits = refl
@@ -96,7 +97,7 @@ zero_page P old new has same is = rw (same, is) (
       (All-cons (IsStored P old.bytes.items) None [] tt (All-nil (IsStored P old.bytes.items))),
 )
 
--- a page that is stored behind the stored ones
+-- a page that is stored after the stored ones
 pub stored_page : (P n : ℕ) (old new : Block) (page : List ℕ) → length page ≡ P → length old.bytes.items ≡ n * P →
     HasPages P old → new.bytes.items ≡ old.bytes.items ++ page → new.slots.items ≡ old.slots.items ++ Some n ∷ [] →
     (block_text P new ≡ block_text P old ++ page) × HasPages P new
@@ -161,3 +162,31 @@ size_more P n text after piece true size whole is =
 size_more P n text after piece false size whole is =
     let zeros : length {A = ℕ} (replicate P 0) ≡ P = length-replicate P 0 in
     ap length is ∙ length-append text (replicate P 0) ∙ omega (arith, size, zeros)
+
+-- no page yet
+pub adds_none : (P : ℕ) (block : Block) (bytes : List ℕ) (marks : List Bool) → AddsPages P block block 0 bytes marks
+adds_none P block bytes marks = record {
+  added = [];
+  text = sym (append-nil (block_text P block));
+  size = omega arith;
+  same = λ i hi. absurd (omega (arith, hi));
+}
+
+-- one more page
+pub adds_more : (P n : ℕ) (old before after : Block) (bytes : List ℕ) (marks : List Bool) (kept : Bool) → 0 < P →
+    n * P + P ≤ length bytes → AddsPages P old before n bytes marks →
+    block_text P after ≡ block_text P before ++ cond kept (between (n * P) (n * P + P) bytes) (replicate P 0) →
+    OnFalse (get_or marks n true) (OnFalse kept (between (n * P) (n * P + P) bytes ≡ replicate P 0)) →
+    AddsPages P old after (n + 1) bytes marks
+adds_more P n old before after bytes marks kept pos fits so_far is zeros = record {
+  added = so_far.added ++ piece;
+  text = is ∙ ap (λ xs. xs ++ piece) so_far.text ∙ append_assoc (block_text P old) so_far.added piece;
+  size = size_more P n so_far.added (so_far.added ++ piece) (between (n * P) (n * P + P) bytes) kept so_far.size own refl;
+  same = same_more P n so_far.added (so_far.added ++ piece) bytes marks kept pos so_far.size fits refl zeros so_far.same;
+}
+  where
+    piece : List ℕ
+    piece = cond kept (between (n * P) (n * P + P) bytes) (replicate P 0)
+
+    own : length (between (n * P) (n * P + P) bytes) ≡ P
+    own = length-between bytes (n * P) (n * P + P) fits ∙ (let e : n * P + P - n * P ≡ P = omega arith in e)

@@ -13,6 +13,6 @@ pub record IsBuffered (image : Image) (e : ℕ) (bytes : List ℕ) (readable : L
       then Some (slice_range bytes (q * image.geometry.page) (q * image.geometry.page + image.geometry.page))
       else None)
 
--- the pages that aren't among the readable ones, rising
+-- the pages that aren't among the readable ones, in ascending order
 abbrev pub pages_without : List Bool → List ℕ
 pages_without readable = filter (λ q. not (slice_index_or readable q false)) (range_with_len 0 (length readable))

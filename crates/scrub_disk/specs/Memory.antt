@@ -4,11 +4,11 @@ use Rattle.std.specs.Option.{option_map}
 use Rattle.scrub_disk.specs.declared.geometry.Geometry.{Geometry}
 use Rattle.scrub_disk.specs.declared.memory.MemDisk.{MemDisk}
 use Rattle.scrub_disk.specs.Image.{Image, byte, extent_bytes}
-use Rattle.scrub_disk.specs.Held.{held}
+use Rattle.scrub_disk.specs.BytesAndMarks.{held}
 
 -- the image that the bytes and marks of a disk in memory hold
 abbrev pub image_of : MemDisk → Image
-image_of d = held d.geometry d.bytes.items d.bad.items
+image_of d = held d.geometry d.bytes.items d.unreadable.items
 
 -- each page is readable and all zero
 pub record IsBlank (d : Image) (g : Geometry) : Type 0 where

@@ -2,7 +2,7 @@
 use Rattle.std.specs.Prelude.{◌≡◌, ◌<◌, ◌≤◌, ◌+◌, ◌*◌, ℕ, List, length, take, slice_get, Option, None, IfSome, ◌⊎◌, All, Contains}
 use Rattle.scrub_disk.specs.declared.geometry.Geometry.{Geometry}
 use Rattle.scrub_disk.specs.Image.{Image, AreBytesAt, HasWholePages, disk_bytes}
-use Rattle.scrub_disk.specs.Held.{page_number}
+use Rattle.scrub_disk.specs.BytesAndMarks.{page_number}
 
 -- the first n bytes of `out` are those at the offset, and n is 0 only at the end or if `out` has no room
 pub record ReadFrom (bytes : List ℕ) (offset : ℕ) (out : List ℕ) (n : ℕ) : Type 0 where
@@ -50,7 +50,7 @@ pub record LosesOnly (bytes : List ℕ) (g : Geometry) (named : List (ℕ × ℕ
       Contains named (e, q) ⊎ (IsCut bytes g e q ⊎ Contains failed (page_number g e q))
 
 -- if the raw bytes are known, each readable page has the bytes of its place, pages are lost only as `LosesOnly` says,
--- and no byte is behind the last page unless a read failed
+-- and no byte is after the last page unless a read failed
 pub record HoldsKnown (bytes : List ℕ) (failures : ℕ) (g : Geometry) (named : List (ℕ × ℕ)) (image : Image) : Type 0 where
   pub pages : HoldsRaw bytes image
   pub lost : LosesOnly bytes g named failures image

@@ -37,7 +37,7 @@ pub fn read_extent<D: PageSource>(
     Ok(BufferedExtent { bytes, readable })
 }
 
-/// The numbers of the unreadable pages of an extent, rising. An extent has at most 65,536 pages.
+/// The numbers of the unreadable pages of an extent, in ascending order. An extent has at most 65,536 pages.
 pub fn unreadable_pages(alloc: Global, readable: &[bool]) -> Result<Vec<u32>, OutOfMemory>
     requires { length readable.now ≤ 65536 }
     ensures { IfOk result (λ v. v.items ≡ pages_without readable.now) }

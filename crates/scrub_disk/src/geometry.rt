@@ -50,7 +50,8 @@ pub struct Geometry {
 impl Geometry {
     ghost use Rattle.scrub_disk.specs.Faults.{IsFirstBroken, HasSizes};
 
-    /// A disk of `extents` extents, each of `pages` pages of `page` bytes, or the first limit that these sizes break.
+    /// A disk of `extents` extents, each of `pages` pages of `page` bytes, or the first limit that these
+    /// sizes break.
     pub fn new(page: u32, pages: u32, extents: u32) -> Result<Geometry, GeometryFault>
         ensures { MatchResult result (λ g. HasSizes g page pages extents) (IsFirstBroken page pages extents) }
     {

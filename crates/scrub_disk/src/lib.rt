@@ -1,5 +1,6 @@
-//! The disk of a storage node: its sizes, its image as a source of pages, an image in memory, and how one is loaded
-//! from raw bytes. For what the bytes mean see `scrub_super` (extent 0) and `scrub_scan` (the other extents).
+//! The disk of a storage node: its sizes, its image as a source of pages, an image in memory, and how one is
+//! loaded from raw bytes. For what the bytes mean see `scrub_super` (extent 0) and `scrub_scan` (the other
+//! extents).
 #![tactic(auto)]
 
 mod blocks;

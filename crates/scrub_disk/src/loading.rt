@@ -1,10 +1,11 @@
 //! Loads a raw image into memory, page by page. It doesn't look at what the bytes mean.
 
-ghost use Rattle.std.specs.Prelude.{◌≡◌, ◌≢◌, ◌≤◌, ◌+◌, ◌-◌, ◌*◌, ◌<◌, ◌^◌, ◌/◌, ◌⊎◌, [], All, false, true, IfOk, IfSome, length, slice_get, Err, Some};
+ghost use Rattle.std.specs.Prelude.{◌≡◌, ◌≢◌, ◌≤◌, ◌+◌, ◌-◌, ◌*◌, ◌<◌, ◌^◌, ◌/◌, ◌⊎◌, [], All, false, true};
+ghost use Rattle.std.specs.Prelude.{IfOk, IfSome, length, slice_get, Err, Some};
 ghost use Rattle.std.specs.Bool.{OnTrue, OnFalse};
 ghost use Rattle.scrub_disk.specs.Image.{AreBytesAt, disk_bytes};
 ghost use Rattle.scrub_disk.specs.Raw.{IsReadOn, HoldsRaw, LosesOnly, IsLoadedWith};
-ghost use Rattle.scrub_disk.specs.Marked.{HoldsUnmarked, MarksAll, MarksOnly};
+ghost use Rattle.scrub_disk.specs.steps.Marked.{HoldsUnmarked, MarksAll, MarksOnly};
 ghost use Rattle.scrub_disk.specs.Memory.{image_of};
 
 use crate::geometry::Geometry;
@@ -24,12 +25,13 @@ pub enum LoadFault {
     TooLong,
 }
 
-/// Fills `out` with the bytes from an offset on, in as many reads as it takes. False if a read failed or the bytes ended
-/// first.
+/// Fills `out` with the bytes from an offset on, in as many reads as it takes. False if a read failed or the
+/// bytes ended first.
 fn read_whole<R: RawImage>(raw: &mut R, offset: u64, out: &mut [u8]) -> bool
     requires few_reads { R.reads raw.old + length out.old < 2 ^ 63 }
     requires in_range { offset + length out.old < 2 ^ 64 }
-    ensures whole { IfSome (R.bytes raw.old) (λ bytes. OnTrue result (AreBytesAt (slice_get bytes) offset out.new)) }
+    ensures whole { IfSome (R.bytes raw.old)
+        (λ bytes. OnTrue result (AreBytesAt (slice_get bytes) offset out.new)) }
     ensures not_whole { IfSome (R.bytes raw.old) (λ bytes. OnFalse result
         ((length bytes < offset + length out.new) ⊎ (R.failures raw.old < R.failures raw.new))) }
     ensures image { IsReadOn (λ r. R.bytes r) (λ r. R.most_failures r) (λ r. R.failures r) raw.old raw.new }
@@ -52,7 +54,8 @@ fn read_pages<R: RawImage>(raw: &mut R, page: usize, bytes: &mut [u8], unreadabl
     requires whole { length bytes.old ≡ page * length unreadable.old }
     ensures read { IfSome (R.bytes raw.old) (λ known. HoldsUnmarked known page unreadable.new bytes.new) }
     ensures lost { IfSome (R.bytes raw.old) (λ known.
-        MarksOnly known page (length unreadable.new) (R.failures raw.new - R.failures raw.old) unreadable.new) }
+        MarksOnly known page (length unreadable.new) (R.failures raw.new - R.failures raw.old)
+        unreadable.new) }
     ensures image { IsReadOn (λ r. R.bytes r) (λ r. R.most_failures r) (λ r. R.failures r) raw.old raw.new }
     ensures reads { R.reads raw.new ≤ R.reads raw.old + length bytes.old }
 {
@@ -102,7 +105,8 @@ fn read_disk<R: RawImage>(
 
 /// Makes each named page unreadable. A name is an extent and a page of it.
 fn mark_all(disk: &mut MemDisk, named: &[(u32, u32)])
-    requires { All (λ at. (at.0 < (image_of disk.old).geometry.extents) × (at.1 < (image_of disk.old).geometry.pages)) named.now }
+    requires { All (λ at. (at.0 < (image_of disk.old).geometry.extents) ×
+        (at.1 < (image_of disk.old).geometry.pages)) named.now }
     ensures { MarksAll (image_of disk.old) (image_of disk.new) named.now }
 {
     for &(extent, page) in named {
@@ -110,13 +114,14 @@ fn mark_all(disk: &mut MemDisk, named: &[(u32, u32)])
     }
 }
 
-/// Loads an image of this geometry from raw bytes. With N pages an extent and P bytes a page, page q of extent e begins at
-/// byte (e × N + q) × P. A page is unreadable if a read of it failed, if the bytes end before it does, or if `bad` names
-/// it, by its extent and its number there. At most P + 1 reads are made for each page, and one more behind the last page;
-/// a failed read costs at most one page. On success the bytes are no longer than the disk, unless a read failed.
+/// Loads an image of this geometry from raw bytes. With N pages an extent and P bytes a page, page q of
+/// extent e begins at byte (e × N + q) × P. A page is unreadable if a read of it failed, if the bytes end
+/// before it does, or if `bad` names it, by its extent and its number there. At most P + 1 reads are made for
+/// each page, and one more after the last page; a failed read costs at most one page. On success the bytes
+/// are no longer than the disk, unless a read failed.
 ///
-/// Faults, in this order: `OutOfMemory`; `TooLong` if a byte follows the last page (if the read for it fails, that isn't a
-/// fault). Either may come after the raw image was read.
+/// Faults, in this order: `OutOfMemory`; `TooLong` if a byte follows the last page (if the read for it fails,
+/// that isn't a fault). Either may come after the raw image was read.
 pub fn load<R: RawImage>(
     alloc: Global,
     raw: &mut R,
@@ -126,12 +131,15 @@ pub fn load<R: RawImage>(
     requires few_reads { R.reads raw.old < 2 ^ 62 }
     requires in_range { All (λ at. (at.0 < geometry.extents) × (at.1 < geometry.pages)) bad.now }
     ensures loaded { IfOk result (λ disk.
-        IsLoadedWith (R.bytes raw.old) (R.failures raw.new - R.failures raw.old) geometry bad.now (image_of disk)) }
-    ensures too_long { result ≡ Err LoadFault.TooLong → IfSome (R.bytes raw.old) (λ known. disk_bytes geometry < length known) }
+        IsLoadedWith (R.bytes raw.old) (R.failures raw.new - R.failures raw.old) geometry bad.now
+        (image_of disk)) }
+    ensures too_long { result ≡ Err LoadFault.TooLong →
+        IfSome (R.bytes raw.old) (λ known. disk_bytes geometry < length known) }
     ensures failures { R.failures raw.old ≤ R.failures raw.new }
     ensures same_bytes { R.bytes raw.new ≡ R.bytes raw.old }
     ensures same_bound { R.most_failures raw.new ≡ R.most_failures raw.old }
-    ensures reads { R.reads raw.new ≤ R.reads raw.old + (geometry.page + 1) * (geometry.pages * geometry.extents) + 1 }
+    ensures reads { R.reads raw.new ≤ R.reads raw.old + (geometry.page + 1) *
+        (geometry.pages * geometry.extents) + 1 }
 {
     let mut disk = read_disk(alloc, raw, geometry)?;
     let end = geometry.extent_bytes() as u64 * geometry.extents() as u64;

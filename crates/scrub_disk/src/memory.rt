@@ -1,4 +1,5 @@
-//! A disk in memory: its owner writes and marks it, and it is read as a page source. `loading` loads one from raw bytes.
+//! A disk in memory: its owner writes and marks it, and it is read as a page source. `loading` loads one from
+//! raw bytes.
 
 ghost use Rattle.std.specs.Prelude.{◌≡◌, ◌+◌, ◌*◌, ◌<◌, ◌≤◌, length, IfOk};
 
@@ -11,25 +12,25 @@ use std::alloc::{AllocError as OutOfMemory, Global};
 pub struct MemDisk {
     geometry: Geometry,
     bytes: Vec<u8>,
-    bad: Vec<bool>,
+    unreadable: Vec<bool>,
     ghost whole: { length bytes.items ≡ geometry.page * geometry.pages * geometry.extents },
-    ghost each_page: { length bad.items ≡ geometry.pages * geometry.extents },
+    ghost each_page: { length unreadable.items ≡ geometry.pages * geometry.extents },
 }
 
 impl MemDisk {
     ghost use Rattle.scrub_disk.specs.Memory.{image_of, IsBlank, Puts, Marks};
-    ghost use Rattle.scrub_disk.specs.Held.{held};
+    ghost use Rattle.scrub_disk.specs.BytesAndMarks.{held};
 
     /// A disk with the bytes of all its pages, in order, and a mark for each page: true if it is unreadable.
-    pub(crate) fn from_parts(geometry: Geometry, bytes: Vec<u8>, bad: Vec<bool>) -> MemDisk
+    pub(crate) fn from_parts(geometry: Geometry, bytes: Vec<u8>, unreadable: Vec<bool>) -> MemDisk
         requires whole { length bytes.items ≡ geometry.page * geometry.pages * geometry.extents }
-        requires each_page { length bad.items ≡ geometry.pages * geometry.extents }
-        ensures { image_of result ≡ held geometry bytes.items bad.items }
+        requires each_page { length unreadable.items ≡ geometry.pages * geometry.extents }
+        ensures { image_of result ≡ held geometry bytes.items unreadable.items }
     {
         MemDisk {
             geometry,
             bytes,
-            bad,
+            unreadable,
         }
     }
 
@@ -39,18 +40,19 @@ impl MemDisk {
     {
         let pages = geometry.pages() as usize * geometry.extents() as usize;
         let bytes = vec![in alloc; 0u8; geometry.page() as usize * pages]?;
-        let bad = vec![in alloc; false; pages]?;
+        let unreadable = vec![in alloc; false; pages]?;
         Ok(MemDisk {
             geometry,
             bytes,
-            bad,
+            unreadable,
         })
     }
 
     /// Writes bytes into an extent, from a byte offset on. An unreadable page stays unreadable.
     pub fn put(&mut self, extent: u32, offset: u32, bytes: &[u8])
         requires in_extents { extent < (image_of self.old).geometry.extents }
-        requires fits { offset + length bytes.now ≤ (image_of self.old).geometry.page * (image_of self.old).geometry.pages }
+        requires fits { offset + length bytes.now ≤ (image_of self.old).geometry.page *
+            (image_of self.old).geometry.pages }
         ensures { Puts (image_of self.old) (image_of self.new) extent offset bytes.now }
     {
         let start = extent as usize * self.geometry.extent_bytes() as usize + offset as usize;
@@ -64,17 +66,17 @@ impl MemDisk {
         ensures { Marks (image_of self.old) (image_of self.new) extent page }
     {
         let number = extent as usize * self.geometry.pages() as usize + page as usize;
-        self.bad[number] = true;
+        self.unreadable[number] = true;
     }
 }
 
 impl PageSource for MemDisk {
     ghost use Rattle.scrub_disk.specs.Memory.{image_of};
-    ghost use Rattle.scrub_disk.specs.WholePages.{held_whole};
+    ghost use Rattle.scrub_disk.specs.steps.WholePages.{held_whole};
 
     ghost image = { image_of };
 
-    ghost whole_pages = { λ d. held_whole d.geometry d.bytes.items d.bad.items d.whole };
+    ghost whole_pages = { λ d. held_whole d.geometry d.bytes.items d.unreadable.items d.whole };
 
     fn geometry(&self) -> Geometry {
         self.geometry
@@ -82,7 +84,7 @@ impl PageSource for MemDisk {
 
     fn read_page(&self, extent: u32, page: u32, out: &mut [u8]) -> Result<(), Unreadable> {
         let number = extent as usize * self.geometry.pages() as usize + page as usize;
-        if self.bad[number] {
+        if self.unreadable[number] {
             return Err(Unreadable);
         }
         let size = self.geometry.page() as usize;

@@ -1,14 +1,16 @@
-//! Loads a raw image into memory by several readers of it, each on a thread of its own. For one reader, and one page at a
-//! time, see `loading`.
+//! Loads a raw image into memory by several readers of it, each on a thread of its own. For one reader, and
+//! one page at a time, see `loading`.
 
 ghost use Rattle.std.specs.Thread.{IsSync};
-ghost use Rattle.std.specs.Prelude.{◌≡◌, ◌≤◌, ◌+◌, ◌-◌, ◌*◌, ◌<◌, ◌^◌, ◌++◌, [], ℕ, List, Option, All, IfOk, IfSome, OnOk, Err, length, sum_by, vec_len};
-ghost use Rattle.scrub_disk.specs.Ahead.{IsReadFrom};
+ghost use Rattle.std.specs.Prelude.{◌≡◌, ◌≤◌, ◌+◌, ◌-◌, ◌*◌, ◌<◌, ◌^◌, ◌++◌, [], ℕ, List, Option, All, IfOk};
+ghost use Rattle.std.specs.Prelude.{IfSome, OnOk, Err, length, sum_by, vec_len};
+ghost use Rattle.scrub_disk.specs.steps.Ahead.{IsReadFrom};
 ghost use Rattle.scrub_disk.specs.Image.{disk_bytes};
 ghost use Rattle.scrub_disk.specs.Joined.{AreBlocks, first_page, joined};
-ghost use Rattle.scrub_disk.specs.Marked.{MarksAll};
+ghost use Rattle.scrub_disk.specs.steps.Marked.{MarksAll};
 ghost use Rattle.scrub_disk.specs.Parted.{image_of};
 ghost use Rattle.scrub_disk.specs.Raw.{IsLoadedWith, IsReadOn};
+ghost use Rattle.scrub_disk.specs.Stored.{HasPages, block_text};
 
 use crate::OutOfMemory;
 use crate::blocks::Block;
@@ -26,7 +28,14 @@ const MOST_AT_ONCE: usize = 1 << 18;
 /// One read asks for at most a disk's pages divided by this.
 const PART_AT_ONCE: usize = 64;
 
-/// How many pages one read asks for: a small part of the disk. A block has as many.
+/// The most bytes that the pages of a block have: so many that its room is mapped by itself, and can get huge
+/// pages.
+const MOST_BLOCK_BYTES: usize = 1 << 26;
+
+/// The most pages that a block has: as many as there are numbers of stored pages.
+const MOST_BLOCK_PAGES: usize = 1 << 16;
+
+/// How many pages one read asks for: a small part of the disk.
 fn at_once(geometry: Geometry) -> usize
     ensures some { 1 ≤ result }
     ensures few { result ≤ 4096 }
@@ -37,19 +46,31 @@ fn at_once(geometry: Geometry) -> usize
         .max(1)
 }
 
+/// How many pages a block has at most.
+fn most_pages(geometry: Geometry) -> usize
+    ensures some { 1 ≤ result }
+    ensures few { result ≤ 2 ^ 16 }
+{
+    MOST_BLOCK_PAGES.min(MOST_BLOCK_BYTES / geometry.page() as usize)
+}
+
 /// How the pages of a disk are divided into blocks, and these among readers.
 #[derive(Clone, Copy)]
 struct Division {
     geometry: Geometry,
+    /// How many pages one read asks for.
+    at_once: usize,
     /// How many pages a block has; the last one may have fewer.
     stride: usize,
-    /// How many blocks a reader reads. Those behind the last page have none.
+    /// How many blocks a reader reads. Those after the last page have none.
     share: usize,
+    ghost reads_some: { 1 ≤ at_once },
+    ghost reads_few: { at_once ≤ 4096 },
     ghost some: { 1 ≤ stride },
-    ghost few: { stride ≤ 4096 },
+    ghost few: { stride ≤ 2 ^ 16 },
 }
 
-/// As many blocks a reader as it takes to read all pages.
+/// As many blocks for each reader as it takes to read all pages.
 fn divide(geometry: Geometry, readers: usize) -> Division
     requires some { 0 < readers }
     requires few { readers < 2 ^ 32 }
@@ -58,45 +79,86 @@ fn divide(geometry: Geometry, readers: usize) -> Division
     ensures in_range { readers * result.share * result.stride < 2 ^ 62 }
 {
     let pages = geometry.pages() as usize * geometry.extents() as usize;
-    let stride = at_once(geometry);
+    let each = pages.div_ceil(readers);
+    let share = each.div_ceil(most_pages(geometry));
     Division {
         geometry,
-        stride,
-        share: pages.div_ceil(stride).div_ceil(readers),
+        at_once: at_once(geometry),
+        stride: each.div_ceil(share),
+        share,
     }
 }
 
-/// Blocks that follow one another, and a mark for each of their pages.
+/// Blocks that follow one another, filled by reads, and a mark for each of their pages.
 #[derive(Drop)]
 struct Part {
-    blocks: Vec<Block>,
+    filled: Vec<Block>,
     marks: Vec<bool>,
 }
 
 impl Part {
     /// No block yet.
     fn new(alloc: Global) -> Part
-        ensures blocks { result.blocks.items ≡ [] }
+        ensures blocks { result.filled.items ≡ [] }
         ensures marks { result.marks.items ≡ [] }
     {
         Part {
-            blocks: Vec::new(alloc),
+            filled: Vec::new(alloc),
             marks: Vec::new(alloc),
         }
     }
 
     /// More blocks, which follow these.
-    fn add(&mut self, mut behind: Part) -> Result<(), OutOfMemory>
-        ensures blocks { OnOk result (self.new.blocks.items ≡ self.old.blocks.items ++ behind.blocks.items) }
-        ensures marks { OnOk result (self.new.marks.items ≡ self.old.marks.items ++ behind.marks.items) }
+    fn add(&mut self, mut next: Part) -> Result<(), OutOfMemory>
+        ensures blocks { OnOk result (self.new.filled.items ≡ self.old.filled.items ++ next.filled.items) }
+        ensures marks { OnOk result (self.new.marks.items ≡ self.old.marks.items ++ next.marks.items) }
     {
-        self.marks.extend_from_slice(&behind.marks)?;
-        self.blocks.append(&mut behind.blocks)?;
+        self.marks.extend_from_slice(&next.marks)?;
+        self.filled.append(&mut next.filled)?;
         Ok(())
     }
 }
 
-/// Reads block `number` of the disk, as a raw image has it. `buffer` has room for its bytes.
+/// Reads `count` pages into a block, from page `first` of the disk on, by reads of as many pages as `buffer`
+/// has room for. Returns a mark for each page, too.
+fn read_into_block<R: RawImage>(
+    alloc: Global,
+    raw: &mut R,
+    division: Division,
+    first: usize,
+    count: usize,
+    buffer: &mut [u8],
+) -> Result<(Block, Vec<bool>), OutOfMemory>
+    requires few_reads { R.reads raw.old < 2 ^ 62 + 2 ^ 33 }
+    requires few { count ≤ 2 ^ 16 }
+    requires in_disk { first + count ≤ division.geometry.pages * division.geometry.extents }
+    requires room { length buffer.old ≡ division.geometry.page * division.at_once }
+    ensures pages { IfOk result (λ r. HasPages division.geometry.page r.0) }
+    ensures size { IfOk result
+        (λ r. length (block_text division.geometry.page r.0) ≡ count * division.geometry.page) }
+    ensures each_page { IfOk result (λ r. length r.1.items ≡ count) }
+    ensures read { IfOk result (λ r. IsReadFrom (R.bytes raw.old) first division.geometry.page
+        (R.failures raw.new - R.failures raw.old) (block_text division.geometry.page r.0) r.1.items) }
+    ensures image { IsReadOn (λ r. R.bytes r) (λ r. R.most_failures r) (λ r. R.failures r) raw.old raw.new }
+    ensures reads { R.reads raw.new ≤ R.reads raw.old + (division.geometry.page + 1) * count }
+{
+    let page = division.geometry.page() as usize;
+    let mut block = Block::with_room(alloc, page, count)?;
+    let mut marks = Vec::with_capacity(alloc, count)?;
+    let mut stored = 0;
+    while marks.len() < count {
+        let pages = division.at_once.min(count - marks.len());
+        let bytes = &mut buffer[..pages * page];
+        let mut unreadable = vec![in alloc; false; pages]?;
+        read_pages(raw, first + marks.len(), page, bytes, &mut unreadable);
+        stored = block.add_pages(stored, page, bytes, &unreadable)?;
+        marks.extend_from_slice(&unreadable)?;
+    }
+    block.give_back();
+    Ok((block, marks))
+}
+
+/// Reads block `number` of the disk, as a raw image has it. `buffer` has room for the bytes of one read.
 fn read_block<R: RawImage>(
     alloc: Global,
     raw: &mut R,
@@ -106,31 +168,30 @@ fn read_block<R: RawImage>(
 ) -> Result<Part, OutOfMemory>
     requires few_reads { R.reads raw.old < 2 ^ 62 + 2 ^ 33 }
     requires in_range { number * division.stride + division.stride < 2 ^ 63 }
-    requires room { length buffer.old ≡ division.geometry.page * division.stride }
-    ensures shape { IfOk result (λ p. AreBlocks division.geometry division.stride number 1 p.blocks.items p.marks.items) }
-    ensures read { IfOk result (λ p. IsReadFrom (R.bytes raw.old) (first_page division.geometry division.stride number) division.geometry.page
-        (R.failures raw.new - R.failures raw.old) (joined division.geometry.page p.blocks.items) p.marks.items) }
+    requires room { length buffer.old ≡ division.geometry.page * division.at_once }
+    ensures shape { IfOk result
+        (λ p. AreBlocks division.geometry division.stride number 1 p.filled.items p.marks.items) }
+    ensures read { IfOk result (λ p. IsReadFrom (R.bytes raw.old)
+        (first_page division.geometry division.stride number) division.geometry.page
+        (R.failures raw.new - R.failures raw.old) (joined division.geometry.page p.filled.items)
+        p.marks.items) }
     ensures image { IsReadOn (λ r. R.bytes r) (λ r. R.most_failures r) (λ r. R.failures r) raw.old raw.new }
     ensures reads { R.reads raw.new ≤ R.reads raw.old + (division.geometry.page + 1)
-        * (first_page division.geometry division.stride (number + 1) - first_page division.geometry division.stride number) }
+        * (first_page division.geometry division.stride (number + 1) -
+        first_page division.geometry division.stride number) }
 {
     let geometry = division.geometry;
-    let page = geometry.page() as usize;
     let pages = geometry.pages() as usize * geometry.extents() as usize;
     let first = pages.min(number * division.stride);
     let count = division.stride.min(pages - first);
-    let bytes = &mut buffer[..count * page];
-    let mut marks = vec![in alloc; false; count]?;
-    read_pages(raw, first, page, division.stride * page, bytes, &mut marks);
-    let block = Block::of_pages(alloc, bytes, page, &marks)?;
-    let only = Vec::from_array(alloc, [block])?;
+    let (block, marks) = read_into_block(alloc, raw, division, first, count, buffer)?;
     Ok(Part {
-        blocks: only,
+        filled: Vec::from_array(alloc, [block])?,
         marks,
     })
 }
 
-/// Reads a reader's share of blocks, from block `first` of the disk on, one after another into the same buffer.
+/// Reads a reader's share of blocks, from block `first` of the disk on, one after another by the same buffer.
 fn read_share<R: RawImage>(
     alloc: Global,
     raw: &mut R,
@@ -139,13 +200,16 @@ fn read_share<R: RawImage>(
 ) -> Result<Part, OutOfMemory>
     requires few_reads { R.reads raw.old < 2 ^ 62 }
     requires in_range { (first + division.share) * division.stride < 2 ^ 62 }
-    ensures shape { IfOk result (λ p. AreBlocks division.geometry division.stride first division.share p.blocks.items p.marks.items) }
-    ensures read { IfOk result (λ p. IsReadFrom (R.bytes raw.old) (first_page division.geometry division.stride first) division.geometry.page
-        (R.failures raw.new - R.failures raw.old) (joined division.geometry.page p.blocks.items) p.marks.items) }
+    ensures shape { IfOk result
+        (λ p. AreBlocks division.geometry division.stride first division.share p.filled.items p.marks.items) }
+    ensures read { IfOk result (λ p. IsReadFrom (R.bytes raw.old)
+        (first_page division.geometry division.stride first) division.geometry.page
+        (R.failures raw.new - R.failures raw.old) (joined division.geometry.page p.filled.items)
+        p.marks.items) }
     ensures image { IsReadOn (λ r. R.bytes r) (λ r. R.most_failures r) (λ r. R.failures r) raw.old raw.new }
     ensures reads { R.reads raw.new ≤ R.reads raw.old + 2 ^ 33 }
 {
-    let mut buffer = vec![in alloc; 0u8; division.geometry.page() as usize * division.stride]?;
+    let mut buffer = vec![in alloc; 0u8; division.geometry.page() as usize * division.at_once]?;
     let mut part = Part::new(alloc);
     for number in first..first + division.share {
         part.add(read_block(alloc, raw, division, number, &mut buffer)?)?;
@@ -163,8 +227,12 @@ fn read_number<R: RawImage>(
     requires few_reads { R.reads raw < 2 ^ 62 }
     requires in_range { (number + 1) * division.share * division.stride < 2 ^ 62 }
     ensures shape { IfOk result.0 (λ p.
-        AreBlocks division.geometry division.stride (number * division.share) division.share p.blocks.items p.marks.items) }
-    ensures read { IfOk result.0 (λ p. IsReadFrom (R.bytes raw) (first_page division.geometry division.stride (number * division.share)) division.geometry.page (R.most_failures raw) (joined division.geometry.page p.blocks.items) p.marks.items) }
+        AreBlocks division.geometry division.stride (number * division.share) division.share p.filled.items
+        p.marks.items) }
+    ensures read { IfOk result.0
+        (λ p. IsReadFrom (R.bytes raw)
+        (first_page division.geometry division.stride (number * division.share)) division.geometry.page
+        (R.most_failures raw) (joined division.geometry.page p.filled.items) p.marks.items) }
     ensures same_bytes { R.bytes result.1 ≡ R.bytes raw }
     ensures same_bound { R.most_failures result.1 ≡ R.most_failures raw }
     ensures few_reads { R.reads result.1 < 2 ^ 63 }
@@ -173,8 +241,8 @@ fn read_number<R: RawImage>(
     (part, raw)
 }
 
-/// Reads the first shares by as many readers, which begin on a new thread, and the share behind them by one more reader, at
-/// the same time.
+/// Reads the first shares by as many readers, which begin on a new thread, and the share after them by one
+/// more reader, at the same time.
 #[cycle(parts)]
 fn read_beside<T: Threads + Sync, R: RawImage + Send + Drop>(
     rt: &T,
@@ -187,12 +255,20 @@ fn read_beside<T: Threads + Sync, R: RawImage + Send + Drop>(
     requires few_reads_of_last { R.reads last < 2 ^ 62 }
     requires in_range { (vec_len readers + 1) * division.share * division.stride < 2 ^ 62 }
     ensures shape { IfOk result.0 (λ p.
-        AreBlocks division.geometry division.stride 0 (vec_len readers * division.share) p.blocks.items p.marks.items) }
-    ensures read { IfOk result.0 (λ p. (known : Option (List ℕ)) → All (λ r. R.bytes r ≡ known) readers.items →
-        IsReadFrom known 0 division.geometry.page (sum_by (λ r. R.most_failures r) readers.items) (joined division.geometry.page p.blocks.items) p.marks.items) }
+        AreBlocks division.geometry division.stride 0 (vec_len readers * division.share) p.filled.items
+        p.marks.items) }
+    ensures read { IfOk result.0
+        (λ p. (known : Option (List ℕ)) → All (λ r. R.bytes r ≡ known) readers.items →
+        IsReadFrom known 0 division.geometry.page (sum_by (λ r. R.most_failures r) readers.items)
+        (joined division.geometry.page p.filled.items) p.marks.items) }
     ensures part_shape { IfOk result.1.0 (λ p.
-        AreBlocks division.geometry division.stride (vec_len readers * division.share) division.share p.blocks.items p.marks.items) }
-    ensures part_read { IfOk result.1.0 (λ p. IsReadFrom (R.bytes last) (first_page division.geometry division.stride (vec_len readers * division.share)) division.geometry.page (R.most_failures last) (joined division.geometry.page p.blocks.items) p.marks.items) }
+        AreBlocks division.geometry division.stride (vec_len readers * division.share) division.share
+        p.filled.items p.marks.items) }
+    ensures part_read { IfOk result.1.0
+        (λ p. IsReadFrom (R.bytes last)
+        (first_page division.geometry division.stride (vec_len readers * division.share))
+        division.geometry.page (R.most_failures last) (joined division.geometry.page p.filled.items)
+        p.marks.items) }
     ensures same_bytes { R.bytes result.1.1 ≡ R.bytes last }
     ensures same_bound { R.most_failures result.1.1 ≡ R.most_failures last }
     ensures few_reads { R.reads result.1.1 < 2 ^ 63 }
@@ -209,16 +285,24 @@ fn read_beside<T: Threads + Sync, R: RawImage + Send + Drop>(
             requires few_reads { All (λ r. R.reads r < 2 ^ 62) readers.items }
             requires in_range { vec_len readers * division.share * division.stride < 2 ^ 62 }
             ensures shape { IfOk result (λ p.
-                AreBlocks division.geometry division.stride 0 (vec_len readers * division.share) p.blocks.items p.marks.items) }
-            ensures read { IfOk result (λ p. (known : Option (List ℕ)) → All (λ r. R.bytes r ≡ known) readers.items →
-                IsReadFrom known 0 division.geometry.page (sum_by (λ r. R.most_failures r) readers.items) (joined division.geometry.page p.blocks.items) p.marks.items) }
+                AreBlocks division.geometry division.stride 0 (vec_len readers * division.share)
+                p.filled.items p.marks.items) }
+            ensures read { IfOk result
+                (λ p. (known : Option (List ℕ)) → All (λ r. R.bytes r ≡ known) readers.items →
+                IsReadFrom known 0 division.geometry.page (sum_by (λ r. R.most_failures r) readers.items)
+                (joined division.geometry.page p.filled.items) p.marks.items) }
         { read_parts(rt, alloc, readers, division) },
         move || -> (Result<Part, OutOfMemory>, R)
             requires few_reads { R.reads last < 2 ^ 62 }
             requires in_range { (number + 1) * division.share * division.stride < 2 ^ 62 }
             ensures shape { IfOk result.0 (λ p.
-                AreBlocks division.geometry division.stride (number * division.share) division.share p.blocks.items p.marks.items) }
-            ensures read { IfOk result.0 (λ p. IsReadFrom (R.bytes last) (first_page division.geometry division.stride (number * division.share)) division.geometry.page (R.most_failures last) (joined division.geometry.page p.blocks.items) p.marks.items) }
+                AreBlocks division.geometry division.stride (number * division.share) division.share
+                p.filled.items p.marks.items) }
+            ensures read { IfOk result.0
+                (λ p. IsReadFrom (R.bytes last)
+                (first_page division.geometry division.stride (number * division.share))
+                division.geometry.page (R.most_failures last) (joined division.geometry.page p.filled.items)
+                p.marks.items) }
             ensures same_bytes { R.bytes result.1 ≡ R.bytes last }
             ensures same_bound { R.most_failures result.1 ≡ R.most_failures last }
             ensures few_reads { R.reads result.1 < 2 ^ 63 }
@@ -238,10 +322,13 @@ fn read_all<T: Threads + Sync, R: RawImage + Send + Drop>(
     requires few_reads { All (λ r. R.reads r < 2 ^ 62) readers.items }
     requires in_range { vec_len readers * division.share * division.stride < 2 ^ 62 }
     ensures shape { IfOk result (λ p.
-        AreBlocks division.geometry division.stride 0 (vec_len readers * division.share) p.0.blocks.items p.0.marks.items) }
+        AreBlocks division.geometry division.stride 0 (vec_len readers * division.share) p.0.filled.items
+        p.0.marks.items) }
     ensures read { IfOk result (λ p. (known : Option (List ℕ)) → All (λ r. R.bytes r ≡ known) readers.items →
-        IsReadFrom known 0 division.geometry.page (sum_by (λ r. R.most_failures r) readers.items) (joined division.geometry.page p.0.blocks.items) p.0.marks.items) }
-    ensures same_bytes { IfOk result (λ p. (known : Option (List ℕ)) → All (λ r. R.bytes r ≡ known) readers.items →
+        IsReadFrom known 0 division.geometry.page (sum_by (λ r. R.most_failures r) readers.items)
+        (joined division.geometry.page p.0.filled.items) p.0.marks.items) }
+    ensures same_bytes { IfOk result
+        (λ p. (known : Option (List ℕ)) → All (λ r. R.bytes r ≡ known) readers.items →
         R.bytes p.1 ≡ known) }
     ensures within { IfOk result (λ p. R.most_failures p.1 ≤ sum_by (λ r. R.most_failures r) readers.items) }
     ensures few_reads { IfOk result (λ p. R.reads p.1 < 2 ^ 63) }
@@ -266,9 +353,11 @@ fn read_parts<T: Threads + Sync, R: RawImage + Send + Drop>(
     requires few_reads { All (λ r. R.reads r < 2 ^ 62) readers.items }
     requires in_range { vec_len readers * division.share * division.stride < 2 ^ 62 }
     ensures shape { IfOk result (λ p.
-        AreBlocks division.geometry division.stride 0 (vec_len readers * division.share) p.blocks.items p.marks.items) }
+        AreBlocks division.geometry division.stride 0 (vec_len readers * division.share) p.filled.items
+        p.marks.items) }
     ensures read { IfOk result (λ p. (known : Option (List ℕ)) → All (λ r. R.bytes r ≡ known) readers.items →
-        IsReadFrom known 0 division.geometry.page (sum_by (λ r. R.most_failures r) readers.items) (joined division.geometry.page p.blocks.items) p.marks.items) }
+        IsReadFrom known 0 division.geometry.page (sum_by (λ r. R.most_failures r) readers.items)
+        (joined division.geometry.page p.filled.items) p.marks.items) }
 {
     if readers.is_empty() {
         return Ok(Part::new(alloc));
@@ -279,7 +368,8 @@ fn read_parts<T: Threads + Sync, R: RawImage + Send + Drop>(
 
 /// Makes each named page unreadable. A name is an extent and a page of it.
 fn mark_all(disk: &mut PartedDisk, named: &[(u32, u32)])
-    requires { All (λ at. (at.0 < (image_of disk.old).geometry.extents) × (at.1 < (image_of disk.old).geometry.pages)) named.now }
+    requires { All (λ at. (at.0 < (image_of disk.old).geometry.extents) ×
+        (at.1 < (image_of disk.old).geometry.pages)) named.now }
     ensures { MarksAll (image_of disk.old) (image_of disk.new) named.now }
 {
     for &(extent, page) in named {
@@ -287,12 +377,13 @@ fn mark_all(disk: &mut PartedDisk, named: &[(u32, u32)])
     }
 }
 
-/// Loads an image of this geometry from raw bytes by readers of them, each on a thread of its own. With N pages an extent
-/// and P bytes a page, page q of extent e begins at byte (e × N + q) × P. A page is unreadable if a read of it alone failed,
-/// if the bytes end before it does, or if `bad` names it, by its extent and its number there.
+/// Loads an image of this geometry from raw bytes by readers of them, each on a thread of its own. With N
+/// pages an extent and P bytes a page, page q of extent e begins at byte (e × N + q) × P. A page is
+/// unreadable if a read of it alone failed, if the bytes end before it does, or if `bad` names it, by its
+/// extent and its number there.
 ///
-/// Faults, in this order: `OutOfMemory`; `TooLong` if a byte follows the last page (if the read for it fails, that isn't a
-/// fault). Either may come after the raw image was read.
+/// Faults, in this order: `OutOfMemory`; `TooLong` if a byte follows the last page (if the read for it fails,
+/// that isn't a fault). Either may come after the raw image was read.
 pub fn load_in_parts<T: Threads + Sync, R: RawImage + Send + Drop>(
     rt: &T,
     alloc: Global,
@@ -304,9 +395,11 @@ pub fn load_in_parts<T: Threads + Sync, R: RawImage + Send + Drop>(
     requires few { vec_len readers < 2 ^ 32 }
     requires few_reads { All (λ r. R.reads r < 2 ^ 62) readers.items }
     requires in_range { All (λ at. (at.0 < geometry.extents) × (at.1 < geometry.pages)) bad.now }
-    ensures loaded { IfOk result (λ disk. (known : Option (List ℕ)) → All (λ r. R.bytes r ≡ known) readers.items →
+    ensures loaded { IfOk result
+        (λ disk. (known : Option (List ℕ)) → All (λ r. R.bytes r ≡ known) readers.items →
         IsLoadedWith known (sum_by (λ r. R.most_failures r) readers.items) geometry bad.now (image_of disk)) }
-    ensures too_long { result ≡ Err LoadFault.TooLong → (known : Option (List ℕ)) → All (λ r. R.bytes r ≡ known) readers.items →
+    ensures too_long { result ≡ Err LoadFault.TooLong → (known : Option (List ℕ)) →
+        All (λ r. R.bytes r ≡ known) readers.items →
         IfSome known (λ text. disk_bytes geometry < length text) }
 {
     let division = divide(geometry, readers.len());
@@ -318,7 +411,7 @@ pub fn load_in_parts<T: Threads + Sync, R: RawImage + Send + Drop>(
     if has_byte_at(&mut last, end) {
         return Err(LoadFault::TooLong);
     }
-    let mut disk = PartedDisk::from_blocks(geometry, division.stride, parts.blocks, parts.marks);
+    let mut disk = PartedDisk::from_blocks(geometry, division.stride, parts.filled, parts.marks);
     mark_all(&mut disk, bad);
     Ok(disk)
 }

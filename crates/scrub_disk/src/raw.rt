@@ -1,5 +1,5 @@
-//! Raw images: the bytes of a whole disk, as a file gives them, in pieces and with failures. `loading` cuts them into
-//! pages.
+//! Raw images: the bytes of a whole disk, as a file gives them, in pieces and with failures. `loading` cuts
+//! them into pages.
 
 ghost use Rattle.std.specs.Prelude.{◌≡◌, ◌≤◌, ◌+◌, ◌<◌, ◌^◌, ℕ, List, Option, IfOk, if◌then◌else◌, is_ok};
 ghost use Rattle.scrub_disk.specs.Raw.{IsRead};
@@ -11,8 +11,8 @@ use thiserror::Error;
 #[error("the raw image could not be read")]
 pub struct RawFault;
 
-/// The bytes of a whole disk, which never change. A read may give fewer bytes than were asked for, and it may fail. The
-/// counts exist in contracts only.
+/// The bytes of a whole disk, which never change. A read may give fewer bytes than were asked for, and it may
+/// fail. The counts exist in contracts only.
 pub trait RawImage {
     /// Its bytes, or None if they aren't known, as with a file.
     ghost bytes: { Self → Option (List ℕ) };
@@ -23,14 +23,16 @@ pub trait RawImage {
     /// A bound on how many of its reads ever fail. No read changes it, so a caller knows it beforehand.
     ghost most_failures: { Self → ℕ };
 
-    /// Reads bytes from a byte offset on into the front of `out`, and returns how many: 0 only if `out` is empty, or if the
-    /// offset is at the end or past it. The rest of `out` may then hold anything, and so may all of it after a failure.
+    /// Reads bytes from a byte offset on into the front of `out`, and returns how many. If the bytes of the
+    /// image are known, that is 0 only if `out` is empty, or if the offset is at the end or past it. The rest
+    /// of `out` may then hold anything, and so may all of it after a failure.
     fn read_at(&mut self, offset: u64, out: &mut [u8]) -> Result<usize, RawFault>
         requires { reads self.old < 2 ^ 63 }
         ensures same_bytes { bytes self.new ≡ bytes self.old }
         ensures same_bound { most_failures self.new ≡ most_failures self.old }
         ensures one_read { reads self.new ≡ reads self.old + 1 }
-        ensures one_failure { failures self.new ≡ (if is_ok result then failures self.old else failures self.old + 1) }
+        ensures one_failure { failures self.new ≡
+            (if is_ok result then failures self.old else failures self.old + 1) }
         ensures read { IfOk result (λ n. IsRead (bytes self.old) offset out.new n) };
 
     /// A failure is a failed read.

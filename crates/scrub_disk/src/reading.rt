@@ -1,21 +1,24 @@
-//! Reads pages that follow one another in a raw image, many at once where that can be. `loading` reads each page alone.
+//! Reads pages that follow one another in a raw image, many at once where that can be. `loading` reads each
+//! page alone.
 
-ghost use Rattle.std.specs.Prelude.{◌≡◌, ◌≤◌, ◌+◌, ◌-◌, ◌*◌, ◌<◌, ◌^◌, ◌⊎◌, ℕ, IfNone, IfSome, length, slice_get, slice_index};
+ghost use Rattle.std.specs.Prelude.{◌≡◌, ◌≤◌, ◌+◌, ◌-◌, ◌*◌, ◌<◌, ◌^◌, ◌⊎◌, ℕ, IfNone, IfSome, length};
+ghost use Rattle.std.specs.Prelude.{slice_get, slice_index};
 ghost use Rattle.std.specs.Bool.{OnTrue, OnFalse};
-ghost use Rattle.scrub_disk.specs.Ahead.{HoldsFrom, MarksFrom, StandsBetween};
+ghost use Rattle.scrub_disk.specs.steps.Ahead.{HoldsFrom, MarksFrom, StandsBetween};
 ghost use Rattle.scrub_disk.specs.Image.{AreBytesAt};
 ghost use Rattle.scrub_disk.specs.Raw.{IsReadOn};
 
 use crate::raw::RawImage;
 
-/// Reads once into `out`, which begins with a page, and returns how many bytes stand at its front then. None if that page
-/// is lost: the bytes ended there, or the read failed and was for this page alone.
+/// Reads once into `out`, which begins with a page, and returns how many bytes stand at its front then. None
+/// if that page is lost: the bytes ended there, or the read failed and was for this page alone.
 fn read_ahead<R: RawImage>(raw: &mut R, offset: u64, page: usize, out: &mut [u8]) -> Option<usize>
     requires few_reads { R.reads raw.old < 2 ^ 63 }
     requires page { 0 < page }
     requires room { page ≤ length out.old }
     ensures within { IfSome result (λ n. n ≤ length out.new) }
-    ensures front { IfSome (R.bytes raw.old) (λ known. IfSome result (λ n. StandsBetween known offset 0 n out.new)) }
+    ensures front { IfSome (R.bytes raw.old)
+        (λ known. IfSome result (λ n. StandsBetween known offset 0 n out.new)) }
     ensures lost { IfSome (R.bytes raw.old) (λ known. IfNone result
         ((length known < offset + page) ⊎ (R.failures raw.old < R.failures raw.new))) }
     ensures image { IsReadOn (λ r. R.bytes r) (λ r. R.most_failures r) (λ r. R.failures r) raw.old raw.new }
@@ -29,14 +32,15 @@ fn read_ahead<R: RawImage>(raw: &mut R, offset: u64, page: usize, out: &mut [u8]
     }
 }
 
-/// Fills `out`, whose first bytes were read before, in as many reads as it takes. False if a read failed or the bytes ended
-/// first.
+/// Fills `out`, whose first bytes were read before, in as many reads as it takes. False if a read failed or
+/// the bytes ended first.
 fn read_rest<R: RawImage>(raw: &mut R, offset: u64, have: usize, out: &mut [u8]) -> bool
     requires few_reads { R.reads raw.old + length out.old < 2 ^ 63 }
     requires in_range { offset + length out.old < 2 ^ 64 }
     requires have { have ≤ length out.old }
     requires front { IfSome (R.bytes raw.old) (λ known. StandsBetween known offset 0 have out.old) }
-    ensures whole { IfSome (R.bytes raw.old) (λ known. OnTrue result (AreBytesAt (slice_get known) offset out.new)) }
+    ensures whole { IfSome (R.bytes raw.old)
+        (λ known. OnTrue result (AreBytesAt (slice_get known) offset out.new)) }
     ensures not_whole { IfSome (R.bytes raw.old) (λ known. OnFalse result
         ((length known < offset + length out.new) ⊎ (R.failures raw.old < R.failures raw.new))) }
     ensures image { IsReadOn (λ r. R.bytes r) (λ r. R.most_failures r) (λ r. R.failures r) raw.old raw.new }
@@ -52,43 +56,35 @@ fn read_rest<R: RawImage>(raw: &mut R, offset: u64, have: usize, out: &mut [u8])
     true
 }
 
-/// At the first page of a block reads once for the whole block; `reached` is where what was read before ends. Returns where
-/// it ends then, or None if this page is lost.
+/// At the first page reads once for all pages; `reached` is where what was read before ends. Returns where it
+/// ends then, or None if this page is lost.
 fn reach<R: RawImage>(
     raw: &mut R,
     start: usize,
     page: usize,
-    block: usize,
     from: usize,
     reached: usize,
     bytes: &mut [u8],
 ) -> Option<usize>
     requires few_reads { R.reads raw.old < 2 ^ 63 }
     requires page { 0 < page }
-    requires block { page ≤ block }
     requires in_bytes { from + page ≤ length bytes.old }
     requires in_range { start + length bytes.old < 2 ^ 63 }
     requires reached { reached ≤ length bytes.old }
     requires stands { IfSome (R.bytes raw.old) (λ known. StandsBetween known start from reached bytes.old) }
     ensures within { IfSome result (λ r. r ≤ length bytes.new) }
     ensures before { (i : ℕ) → i < from → slice_index bytes.new i ≡ slice_index bytes.old i }
-    ensures stands { IfSome (R.bytes raw.old) (λ known. IfSome result (λ r. StandsBetween known start from r bytes.new)) }
+    ensures stands { IfSome (R.bytes raw.old)
+        (λ known. IfSome result (λ r. StandsBetween known start from r bytes.new)) }
     ensures lost { IfSome (R.bytes raw.old) (λ known. IfNone result
         ((length known < start + from + page) ⊎ (R.failures raw.old < R.failures raw.new))) }
     ensures image { IsReadOn (λ r. R.bytes r) (λ r. R.most_failures r) (λ r. R.failures r) raw.old raw.new }
     ensures reads { R.reads raw.new ≤ R.reads raw.old + 1 }
 {
-    if from % block > 0 {
+    if from > 0 {
         return Some(reached);
     }
-    let size = block.min(bytes.len() - from);
-    let ahead = read_ahead(
-        raw,
-        (start + from) as u64,
-        page,
-        &mut bytes[from..from + size],
-    )?;
-    Some(from + ahead)
+    read_ahead(raw, start as u64, page, bytes)
 }
 
 /// Whether a page was read whole, and where what was read ends.
@@ -96,28 +92,28 @@ fn read_next<R: RawImage>(
     raw: &mut R,
     start: usize,
     page: usize,
-    block: usize,
     from: usize,
     reached: usize,
     bytes: &mut [u8],
 ) -> (bool, usize)
     requires few_reads { R.reads raw.old + page + 1 < 2 ^ 63 }
     requires page { 0 < page }
-    requires block { page ≤ block }
     requires in_bytes { from + page ≤ length bytes.old }
     requires in_range { start + length bytes.old < 2 ^ 63 }
     requires reached { reached ≤ length bytes.old }
     requires stands { IfSome (R.bytes raw.old) (λ known. StandsBetween known start from reached bytes.old) }
     ensures within { result.1 ≤ length bytes.new }
     ensures before { (i : ℕ) → i < from → slice_index bytes.new i ≡ slice_index bytes.old i }
-    ensures whole { IfSome (R.bytes raw.old) (λ known. OnTrue result.0 (StandsBetween known start from (from + page) bytes.new)) }
-    ensures stands { IfSome (R.bytes raw.old) (λ known. StandsBetween known start (from + page) result.1 bytes.new) }
+    ensures whole { IfSome (R.bytes raw.old)
+        (λ known. OnTrue result.0 (StandsBetween known start from (from + page) bytes.new)) }
+    ensures stands { IfSome (R.bytes raw.old)
+        (λ known. StandsBetween known start (from + page) result.1 bytes.new) }
     ensures lost { IfSome (R.bytes raw.old) (λ known. OnFalse result.0
         ((length known < start + from + page) ⊎ (R.failures raw.old < R.failures raw.new))) }
     ensures image { IsReadOn (λ r. R.bytes r) (λ r. R.most_failures r) (λ r. R.failures r) raw.old raw.new }
     ensures reads { R.reads raw.new ≤ R.reads raw.old + page + 1 }
 {
-    let Some(ahead) = reach(raw, start, page, block, from, reached, bytes) else {
+    let Some(ahead) = reach(raw, start, page, from, reached, bytes) else {
         return (false, 0);
     };
     let have = ahead.saturating_sub(from).min(page);
@@ -130,39 +126,31 @@ fn read_next<R: RawImage>(
     (is_whole, ahead)
 }
 
-/// Reads the pages from page `first` of the raw image on, and marks each one that couldn't be read whole. Each `block` bytes
-/// are first asked for at once. If that fails, each page of the block is read alone; at most P + 1 reads are made for a
-/// page of P bytes.
+/// Reads the pages from page `first` of the raw image on, and marks each one that couldn't be read whole.
+/// They are first asked for at once. If that fails, each page is read alone; at most P + 1 reads are made for
+/// a page of P bytes.
 pub(crate) fn read_pages<R: RawImage>(
     raw: &mut R,
     first: usize,
     page: usize,
-    block: usize,
     bytes: &mut [u8],
     unreadable: &mut [bool],
 )
     requires few_reads { R.reads raw.old + (page + 1) * length unreadable.old < 2 ^ 63 }
     requires page { 0 < page }
-    requires block { page ≤ block }
     requires whole { length bytes.old ≡ page * length unreadable.old }
     requires in_range { first * page + length bytes.old < 2 ^ 63 }
-    ensures read { IfSome (R.bytes raw.old) (λ known. HoldsFrom known (first * page) page unreadable.new bytes.new) }
+    ensures read { IfSome (R.bytes raw.old)
+        (λ known. HoldsFrom known (first * page) page unreadable.new bytes.new) }
     ensures lost { IfSome (R.bytes raw.old) (λ known.
-        MarksFrom known first page (length unreadable.new) (R.failures raw.new - R.failures raw.old) unreadable.new) }
+        MarksFrom known first page (length unreadable.new) (R.failures raw.new - R.failures raw.old)
+        unreadable.new) }
     ensures image { IsReadOn (λ r. R.bytes r) (λ r. R.most_failures r) (λ r. R.failures r) raw.old raw.new }
     ensures reads { R.reads raw.new ≤ R.reads raw.old + (page + 1) * length unreadable.old }
 {
     let mut reached = 0;
     for (number, mark) in unreadable.iter_mut().enumerate() {
-        let (is_whole, ahead) = read_next(
-            raw,
-            first * page,
-            page,
-            block,
-            number * page,
-            reached,
-            bytes,
-        );
+        let (is_whole, ahead) = read_next(raw, first * page, page, number * page, reached, bytes);
         reached = ahead;
         *mark = !is_whole;
     }

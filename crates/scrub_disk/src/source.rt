@@ -20,8 +20,8 @@ pub trait PageSource: Sync {
     fn geometry(&self) -> Geometry
         ensures { result ≡ (image self.now).geometry };
 
-    /// Reads one page of an extent, both counted from 0, into `out`, which is one page long. If the page is unreadable,
-    /// `out` is unchanged.
+    /// Reads one page of an extent, both counted from 0, into `out`, which is one page long. If the page is
+    /// unreadable, `out` is unchanged.
     fn read_page(&self, extent: u32, page: u32, out: &mut [u8]) -> Result<(), Unreadable>
         requires in_extents { extent < (image self.now).geometry.extents }
         requires in_pages { page < (image self.now).geometry.pages }

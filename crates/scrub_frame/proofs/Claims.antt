@@ -11,7 +11,7 @@ use Rattle.scrub_frame.specs.declared.matcher.Matcher.{Matcher}
 use Rattle.scrub_frame.specs.Frame.{magic, head, head_size, seal, seal_size, mark, payload_start, close_size, frame_overhead, frame, BeginsWithFrame}
 use Rattle.scrub_frame.specs.Matching.{form_in, length_in, uuid_in, payload_end_in, close_in, HasTaken, NoFrameYet, NoFrameWithin, IsWhole}
 use Rattle.scrub_frame.proofs.Bytes.{part_at, number-bytes}
-use Rattle.scrub_frame.proofs.Frames.{stands, form-in_head, length-head, length-frame, length-close, seal-digest, frame_of_parts, BeginsWithHead, claimed, stands_claimed, too_short}
+use Rattle.scrub_frame.proofs.Frames.{stands, form-in_head, length-head, length-frame, length-close, seal-digest, overhead, frame_of_parts, BeginsWithHead, claimed, stands_claimed, too_short}
 use Rattle.scrub_frame.proofs.Feeding.{part_more}
 
 -- ---- what is in a head
@@ -63,7 +63,7 @@ no_frame_behind room a t x none =
 
 -- a frame has at least twenty-two bytes
 pub few_bytes : (t : List ℕ) (f : Form) (u b : List ℕ) → length t < head_size → BeginsWithFrame t f u b → ⊥
-few_bytes t f u b few k = omega (arith, (stands t f u b k).enough, few)
+few_bytes t f u b few k = omega (arith, overhead f, (stands t f u b k).enough, few)
 
 -- bytes whose first twenty-two begin with neither magic
 pub no_magic : {m : Matcher} {t : List ℕ} (room : ℕ) → HasTaken m t → length m.head ≡ head_size → head_size ≤ m.fed →
@@ -87,16 +87,16 @@ module _ {m : Matcher} {t : List ℕ} {f : Form} {u : List ℕ} {n : ℕ} (h : H
   pub no_room : (room : ℕ) → head_size ≤ m.fed → room < n + frame_overhead f → NoFrameWithin room t
   no_room room behind small rest g v b k =
       let same = claimed (t ++ rest) f u n g v b (claims rest behind) k in
-      omega (arith, same.2, ap frame_overhead same.0, small)
+      omega (arith, overhead f, same.2, ap frame_overhead same.0, small)
 
   -- bytes that are fewer than their head claims
   pub not_yet : head_size ≤ m.fed → m.fed < n + frame_overhead f → NoFrameYet t
   not_yet behind few g v b k =
-      too_short t f u n g v b (rw (append-nil t) at (claims [] behind)) (omega (arith, h.count, few)) k
+      too_short t f u n g v b (rw (append-nil t) at (claims [] behind)) (omega (arith, overhead f, h.count, few)) k
 
   -- ---- what closes the frame
 
-  -- the bytes behind the payload, by what the head says
+  -- the bytes after the payload, by what the head says
   close_of : drop (payload_start f + n) t ≡ take (m.fed - (payload_start f + n)) (u ++ mark f)
   close_of =
       ap (λ e. drop e t) (sym (payload_end-in i)) ∙ h.close
@@ -123,11 +123,11 @@ module _ {m : Matcher} {t : List ℕ} {f : Form} {u : List ℕ} {n : ℕ} (h : H
   other_bytes y rest g v b past fits differs k = differs (sym
       (ap (λ z. take (length y) (drop seen z)) (sym second)
       ∙ ap (λ j. take (length y) (drop seen (take j (take seen w ++ (y ++ rest)))))
-      (let e : size ≡ seen + (size - seen) = omega (arith, fits, past) in e)
+      (let e : size ≡ seen + (size - seen) = omega (arith, overhead f, fits, past) in e)
       ∙ ap (take (length y)) (drop-take seen (size - seen) (take seen w ++ (y ++ rest)))
       ∙ ap (λ z. take (length y) (take (size - seen) z))
-      (drop_at (take seen w) (y ++ rest) seen (length-take-le seen w (omega (arith, lw, fits, past))))
-      ∙ take-take (length y) (size - seen) (y ++ rest) (omega (arith, past, fits))
+      (drop_at (take seen w) (y ++ rest) seen (length-take-le seen w (omega (arith, overhead f, lw, fits, past))))
+      ∙ take-take (length y) (size - seen) (y ++ rest) (omega (arith, overhead f, past, fits))
       ∙ take_at y rest (length y) refl))
     where
       w : List ℕ
@@ -143,13 +143,13 @@ module _ {m : Matcher} {t : List ℕ} {f : Form} {u : List ℕ} {n : ℕ} (h : H
       lw = length-close f u (sixteen i)
 
       begins : BeginsWithHead ((t ++ y) ++ rest) f u n
-      begins = rw (append_assoc t y rest) (claims (y ++ rest) (omega (arith, past)))
+      begins = rw (append_assoc t y rest) (claims (y ++ rest) (omega (arith, overhead f, past)))
 
       second : take (close_size f) (take (m.fed - (payload_start f + n)) (u ++ mark f) ++ (y ++ rest)) ≡ u ++ mark f
       second =
           let s = stands_claimed ((t ++ y) ++ rest) f u n g v b begins k in
           ap (λ z. take size (z ++ (y ++ rest))) (sym close_of)
-          ∙ ap (take size) (sym (drop-append-le (payload_start f + n) t (y ++ rest) (omega (arith, h.count, past))))
+          ∙ ap (take size) (sym (drop-append-le (payload_start f + n) t (y ++ rest) (omega (arith, overhead f, h.count, past))))
           ∙ ap (λ z. take size (drop (payload_start f + n) z)) (sym (append_assoc t y rest))
           ∙ ap (λ j. take size (drop (payload_start f + j) ((t ++ y) ++ rest))) s.1
           ∙ s.0.close
@@ -164,8 +164,8 @@ module _ {m : Matcher} (t x : List ℕ) (a j : ℕ) {f : Form} {u : List ℕ} {n
     | inl before ↦ differs (rw (later before) refl)
     | inr past ↦
         let part : length (take j (drop a x)) ≡ j =
-        length-take-le j (drop a x) (omega (arith, length-drop a x, within)) in
-        other_bytes h i (take j (drop a x)) (drop (a + j) x ++ rest) g v b past (omega (arith, part, fits))
+        length-take-le j (drop a x) (omega (arith, overhead f, length-drop a x, within)) in
+        other_bytes h i (take j (drop a x)) (drop (a + j) x ++ rest) g v b past (omega (arith, overhead f, part, fits))
         (λ same. differs (ap (take j) (take_rest x a) ∙ rw part at same))
         (rw (ap (λ z. z ++ rest) (whole ∙ ap (λ z. z ++ drop (a + j) x) (part_more t x a j))
         ∙ append_assoc ((t ++ take a x) ++ take j (drop a x)) (drop (a + j) x) rest) at k)
@@ -188,27 +188,27 @@ module _ {m : Matcher} {t : List ℕ} {f : Form} {u : List ℕ} {n : ℕ} (h : H
   has_come = record {
     sealed =
         sym
-        (take_all (m.fed - head_size) (take (seal_size f) m.seal) (omega (arith, length-take (seal_size f) m.seal, full)))
+        (take_all (m.fed - head_size) (take (seal_size f) m.seal) (omega (arith, overhead f, length-take (seal_size f) m.seal, full)))
         ∙ rw (form-in i) at h.seal;
     held = rw (← (form-in i))
         (rw (length-in i) at h.payload);
-    size = length-take-le n (drop (payload_start f) t) (omega (arith, length-drop (payload_start f) t, h.count, full));
+    size = length-take-le n (drop (payload_start f) t) (omega (arith, overhead f, length-drop (payload_start f) t, h.count, full));
   }
 
   -- if d is the digest of the payload, and the frame has another one before it, the bytes begin with no frame
   pub other_digest : (d : List ℕ) (room : ℕ) → ((b : List ℕ) → Holds256 m.hasher b → d ≡ sha256 b) →
       (take (seal_size f) m.seal ≡ take (seal_size f) d → ⊥) → NoFrameWithin room t
   other_digest d room digest differs rest g v c k =
-      let s = stands_claimed (t ++ rest) f u n g v c (claims h i rest (omega (arith, full))) k in
+      let s = stands_claimed (t ++ rest) f u n g v c (claims h i rest (omega (arith, overhead f, full))) k in
       let payload : take n (drop (payload_start f) t) ≡ c =
       sym
-      (take-append-le n (drop (payload_start f) t) rest (omega (arith, length-drop (payload_start f) t, h.count, full)))
-      ∙ ap (take n) (sym (drop-append-le (payload_start f) t rest (omega (arith, h.count, full))))
+      (take-append-le n (drop (payload_start f) t) rest (omega (arith, overhead f, length-drop (payload_start f) t, h.count, full)))
+      ∙ ap (take n) (sym (drop-append-le (payload_start f) t rest (omega (arith, overhead f, h.count, full))))
       ∙ ap (λ j. take j (drop (payload_start f) (t ++ rest))) s.1 ∙ s.0.payload in
       absurd (differs
       (has_come.sealed
-      ∙ sym (take-append-le (seal_size f) (drop head_size t) rest (omega (arith, length-drop head_size t, h.count, full)))
-      ∙ ap (take (seal_size f)) (sym (drop-append-le head_size t rest (omega (arith, h.count, full))))
+      ∙ sym (take-append-le (seal_size f) (drop head_size t) rest (omega (arith, overhead f, length-drop head_size t, h.count, full)))
+      ∙ ap (take (seal_size f)) (sym (drop-append-le head_size t rest (omega (arith, overhead f, h.count, full))))
       ∙ s.0.sealed ∙ seal-digest f c ∙ ap (take (seal_size f)) (sym (digest c (rw payload at has_come.held)))))
 
 -- if it has that digest, the bytes up to a place of a piece are the frame
@@ -219,8 +219,8 @@ pub is_whole : {m : Matcher} (t x : List ℕ) (used : ℕ) {f : Form} {u : List 
 is_whole {m} t x used {f} {u} {n} d h i full within digest sealed_by = record {
   within = within;
   payload = b;
-  has_frame = record { sixteen = sixteen i; short = omega (arith, come.size, i.short) };
-  spelled = nothing_behind all b begins (omega (arith, h.count, full, come.size));
+  has_frame = record { sixteen = sixteen i; short = omega (arith, overhead f, come.size, i.short) };
+  spelled = nothing_behind all b begins (omega (arith, overhead f, h.count, full, come.size));
   length = sym come.size;
   digest_is = digest b come.held;
 }
@@ -238,21 +238,21 @@ is_whole {m} t x used {f} {u} {n} d h i full within digest sealed_by = record {
     sealed = sym come.sealed ∙ sealed_by ∙ ap (take (seal_size f)) (digest b come.held) ∙ sym (seal-digest f b)
 
     first : take head_size (t ++ take used x) ≡ head f u n
-    first = sym h.head ∙ take_all m.fed m.head (omega (arith, i.whole, full)) ∙ i.is
+    first = sym h.head ∙ take_all m.fed m.head (omega (arith, overhead f, i.whole, full)) ∙ i.is
 
     close : take (close_size f) (drop (payload_start f + n) (t ++ take used x)) ≡ u ++ mark f
     close =
         let lw : length (u ++ mark f) ≡ close_size f = length-close f u (sixteen i) in
-        ap (take (close_size f)) (close_of h i ∙ take_all (m.fed - (payload_start f + n)) (u ++ mark f) (omega (arith, lw, full)))
-        ∙ take_all (close_size f) (u ++ mark f) (omega (arith, lw))
+        ap (take (close_size f)) (close_of h i ∙ take_all (m.fed - (payload_start f + n)) (u ++ mark f) (omega (arith, overhead f, lw, full)))
+        ∙ take_all (close_size f) (u ++ mark f) (omega (arith, overhead f, lw))
 
     begins : BeginsWithFrame (t ++ take used x) f u (take n (drop (payload_start f) (t ++ take used x)))
-    begins = frame_of_parts all f u n (sixteen i) i.short (omega (arith, h.count, full)) first sealed close
+    begins = frame_of_parts all f u n (sixteen i) i.short (omega (arith, overhead f, h.count, full)) first sealed close
 
     nothing_behind : (y c : List ℕ) → BeginsWithFrame y f u c → length y ≡ length c + frame_overhead f → y ≡ frame f u c
     nothing_behind y c k l =
         let size = ap length k.spelled ∙ length-append (frame f u c) k.rest in
         k.spelled
         ∙ ap (λ z. frame f u c ++ z)
-        (nil_from_length k.rest (omega (arith, l, size, length-frame f u c k.has_frame.sixteen)))
+        (nil_from_length k.rest (omega (arith, overhead f, l, size, length-frame f u c k.has_frame.sixteen)))
         ∙ append-nil (frame f u c)

@@ -80,13 +80,18 @@ head_read x u f n l are_bytes first uuid size =
 
 -- ---- frames
 
+-- what a frame has besides its payload is what comes before it and what comes after it
+pub overhead : (f : Form) → frame_overhead f ≡ payload_start f + close_size f
+overhead Plain = refl
+overhead Sealed = refl
+
 -- the length of a frame
 pub length-frame : (f : Form) (u b : List ℕ) → length u ≡ 16 → length (frame f u b) ≡ frame_overhead f + length b
 length-frame f u b lu =
     let whole = length-append (head f u (length b)) (seal f b ++ (b ++ (u ++ mark f))) in
     let behind_head = length-append (seal f b) (b ++ (u ++ mark f)) in
     let behind_seal = length-append b (u ++ mark f) in
-    omega (arith, whole, behind_head, behind_seal, length-head f u (length b), length-seal f b, length-close f u lu, lu)
+    omega (arith, overhead f, whole, behind_head, behind_seal, length-head f u (length b), length-seal f b, length-close f u lu, lu)
 
 -- the parts of bytes that begin with the frame of this form, this UUID and this payload
 pub record Stands (x : List ℕ) (f : Form) (u b : List ℕ) : Type 0 where
@@ -165,7 +170,7 @@ frame_of_parts x f u n lu short enough first sealed close = record {
     behind = drop (payload_start f + n + close_size f) x
 
     lb : length (take n (drop (payload_start f) x)) ≡ n
-    lb = length-take-le n (drop (payload_start f) x) (omega (arith, length-drop (payload_start f) x, enough))
+    lb = length-take-le n (drop (payload_start f) x) (omega (arith, overhead f, length-drop (payload_start f) x, enough))
 
     behind_payload : drop (payload_start f + n) x ≡ (u ++ mark f) ++ drop (payload_start f + n + close_size f) x
     behind_payload =
@@ -262,7 +267,7 @@ pub too_short : (x : List ℕ) (f : Form) (u : List ℕ) (n : ℕ) (g : Form) (v
     length x < payload_start f + n + close_size f → BeginsWithFrame x g v b → ⊥
 too_short x f u n g v b h short k =
     let s = stands_claimed x f u n g v b h k in
-    omega (arith, s.0.enough, s.1, short)
+    omega (arith, overhead f, s.0.enough, s.1, short)
 
 -- nor do bytes with something else where the frame would close
 pub other_close : (x : List ℕ) (f : Form) (u : List ℕ) (n : ℕ) (g : Form) (v b : List ℕ) → BeginsWithHead x f u n →

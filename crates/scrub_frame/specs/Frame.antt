@@ -52,7 +52,8 @@ close_size form = 16 + length (mark form)
 
 -- how many bytes a frame has besides its payload: 38 in a plain frame, 72 in a sealed one
 abbrev pub frame_overhead : Form → ℕ
-frame_overhead form = payload_start form + close_size form
+frame_overhead Plain = 38
+frame_overhead Sealed = 72
 
 -- the least number of bytes that a frame of either form has besides its payload: 38
 abbrev pub least_overhead : ℕ

@@ -1,14 +1,16 @@
-//! The two forms of a frame, and everything that depends on the form: the magic, where the payload begins, and what
-//! closes the frame. `frame` and `matcher` read the bytes; `writing` writes them.
+//! The two forms of a frame, and everything that depends on the form: the magic, where the payload begins,
+//! and what closes the frame. `frame` and `matcher` read the bytes; `writing` writes them.
 
 ghost use Rattle.std.specs.Prelude.{◌≡◌, ◌≤◌, ◌++◌, ◌∷◌, [], IfSome, IfNone, length, take};
 ghost use Rattle.scrub_frame.specs.declared.form.Form.{Form};
-ghost use Rattle.scrub_frame.specs.Frame.{magic, mark, seal_size, payload_start, close_size, frame_overhead, longest_payload};
+ghost use Rattle.scrub_frame.specs.Frame.{magic, mark, seal_size, payload_start, close_size, frame_overhead};
+ghost use Rattle.scrub_frame.specs.Frame.{longest_payload};
 
 use crate::digest::DIGEST_BYTES;
 use uuid::Uuid;
 
-/// The size of a head in bytes, in either form: a magic (2), a UUID (16), and the payload's length, big-endian (4).
+/// The size of a head in bytes, in either form: a magic (2), a UUID (16), and the payload's length,
+/// big-endian (4).
 pub const HEAD_BYTES: usize = 22;
 
 /// The most bytes that follow a payload: the second UUID (16), and the closing mark of a sealed frame (2).
@@ -90,7 +92,8 @@ impl Form {
         self.payload_start() + self.close_bytes()
     }
 
-    /// The longest payload that is written, in bytes: its frame fills the largest extent, which has 2^26 bytes.
+    /// The longest payload that is written, in bytes: its frame fills the largest extent, which has 2^26
+    /// bytes.
     pub fn longest_payload(self) -> usize
         ensures { result ≡ longest_payload self }
     {

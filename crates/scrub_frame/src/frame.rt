@@ -1,8 +1,10 @@
 //! Reads frames from bytes. `scrub_scan` decides which bytes of a disk to read.
 
-ghost use Rattle.std.specs.Prelude.{◌≡◌, ◌+◌, ◌≤◌, ◌++◌, ◌↔◌, List, [], ℕ, length, take, slice_range, IfSome, IfNone, IsTrue};
+ghost use Rattle.std.specs.Prelude.{◌≡◌, ◌+◌, ◌≤◌, ◌++◌, ◌↔◌, List, [], ℕ, length, take, slice_range, IfSome};
+ghost use Rattle.std.specs.Prelude.{IfNone, IsTrue};
 ghost use Rattle.scrub_frame.specs.declared.form.Form.{Form};
-ghost use Rattle.scrub_frame.specs.Frame.{magic, head, seal, seal_size, payload_start, frame_overhead, frame, HasFrame, BeginsWithFrame, BeginsWithNoFrame};
+ghost use Rattle.scrub_frame.specs.Frame.{magic, head, seal, seal_size, payload_start, frame_overhead, frame};
+ghost use Rattle.scrub_frame.specs.Frame.{HasFrame, BeginsWithFrame, BeginsWithNoFrame};
 
 use crate::digest::digest_of;
 use crate::form::{Form, HEAD_BYTES};
@@ -38,9 +40,9 @@ impl Head {
     }
 }
 
-/// A frame that was found, without its payload. Its bytes are the magic of its form (2), a UUID (16), the payload's length
-/// as a big-endian number (4), the payload's SHA-256 (32, sealed only), the payload, the same UUID again (16), and the
-/// closing mark 3A A3 (2, sealed only).
+/// A frame that was found, without its payload. Its bytes are the magic of its form (2), a UUID (16), the
+/// payload's length as a big-endian number (4), the payload's SHA-256 (32, sealed only), the payload, the
+/// same UUID again (16), and the closing mark 3A A3 (2, sealed only).
 #[derive(Debug, Clone, Copy, PartialEq, Eq)]
 pub struct Frame {
     /// The form of the frame.
@@ -51,8 +53,8 @@ pub struct Frame {
     pub length: u32,
 }
 
-/// Parses a head of 22 bytes: a magic, a UUID, and a big-endian length. `None` if the magic is of neither form. A valid
-/// head doesn't mean that a whole frame follows.
+/// Parses a head of 22 bytes: a magic, a UUID, and a big-endian length. `None` if the magic is of neither
+/// form. A valid head doesn't mean that a whole frame follows.
 pub fn read_head(bytes: &[u8; HEAD_BYTES]) -> Option<Head>
     ensures found { IfSome result (λ h. bytes.now ≡ head h.form h.uuid h.length) }
     ensures none { IfNone result ((form : Form) → ¬ (take 2 bytes.now ≡ magic form)) }
@@ -65,11 +67,13 @@ pub fn read_head(bytes: &[u8; HEAD_BYTES]) -> Option<Head>
     })
 }
 
-/// The frame that the bytes begin with; its payload is the `length` bytes from `form.payload_start()` on. `None` if they
-/// begin with no frame, or end before the frame does. Only the payload of a sealed frame is checked, by its digest.
+/// The frame that the bytes begin with; its payload is the `length` bytes from `form.payload_start()` on.
+/// `None` if they begin with no frame, or end before the frame does. Only the payload of a sealed frame is
+/// checked, by its digest.
 pub fn read_frame(bytes: &[u8]) -> Option<Frame>
     ensures found { IfSome result (λ f.
-        BeginsWithFrame bytes.now f.form f.uuid (slice_range bytes.now (payload_start f.form) (payload_start f.form + f.length))) }
+        BeginsWithFrame bytes.now f.form f.uuid
+        (slice_range bytes.now (payload_start f.form) (payload_start f.form + f.length))) }
     ensures whole { IfSome result (λ f. f.length + frame_overhead f.form ≤ length bytes.now) }
     ensures none { IfNone result (BeginsWithNoFrame bytes.now) }
 {
@@ -116,16 +120,24 @@ pub(crate) fn uuid_at(bytes: &[u8]) -> Uuid
 
 /// A law: bytes begin with at most one frame, of either form. So `read_frame` finds the only one.
 pub fn one_frame()
-    ensures { (bytes : List ℕ) (form : Form) (uuid payload : List ℕ) (other_form : Form) (other_uuid other_payload : List ℕ) →
+    ensures { (bytes : List ℕ) (form : Form) (uuid payload : List ℕ) (other_form : Form)
+        (other_uuid other_payload : List ℕ) →
         BeginsWithFrame bytes form uuid payload → BeginsWithFrame bytes other_form other_uuid other_payload →
         (form ≡ other_form) × (uuid ≡ other_uuid) × (payload ≡ other_payload) }
 {}
 
-/// A law: no frame is a proper prefix of a frame, in either form. If one begins with another, nothing is left over, and
-/// both have the same form, UUID and payload.
+/// A law: no frame is a proper prefix of a frame, in either form. If one begins with another, nothing is left
+/// over, and both have the same form, UUID and payload.
 pub fn no_frame_begins_another()
-    ensures { (form : Form) (uuid payload rest : List ℕ) (other_form : Form) (other_uuid other_payload : List ℕ) →
+    ensures { (form : Form) (uuid payload rest : List ℕ) (other_form : Form)
+        (other_uuid other_payload : List ℕ) →
         HasFrame uuid payload → HasFrame other_uuid other_payload →
         frame form uuid payload ++ rest ≡ frame other_form other_uuid other_payload →
         (rest ≡ []) × (form ≡ other_form) × (uuid ≡ other_uuid) × (payload ≡ other_payload) }
+{}
+
+/// A law: besides its payload a frame has 38 bytes, or 72 if it is sealed.
+pub fn bytes_besides_the_payload()
+    ensures { (form : Form) (uuid payload : List ℕ) → HasFrame uuid payload →
+        length (frame form uuid payload) ≡ frame_overhead form + length payload }
 {}

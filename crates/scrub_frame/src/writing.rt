@@ -1,6 +1,7 @@
 //! Writes frames to the end of a byte list.
 
-ghost use Rattle.std.specs.Prelude.{◌≡◌, ◌+◌, ◌<◌, ◌≤◌, ◌++◌, ◌↔◌, length, vec_len, vec_capacity, OnOk, OnErr};
+ghost use Rattle.std.specs.Prelude.{◌≡◌, ◌+◌, ◌<◌, ◌≤◌, ◌++◌, ◌↔◌, length, vec_len, vec_capacity, OnOk};
+ghost use Rattle.std.specs.Prelude.{OnErr};
 ghost use Rattle.scrub_frame.specs.declared.form.Form.{Form};
 ghost use Rattle.scrub_frame.specs.Frame.{seal, seal_size, mark, close_size, frame, longest_payload};
 
@@ -21,8 +22,8 @@ pub enum FrameFault {
     OutOfMemory,
 }
 
-/// Appends the plain frame of a UUID and a payload. Faults, in this order: `TooLong`, `OutOfMemory`. After either, `out`
-/// is unchanged.
+/// Appends the plain frame of a UUID and a payload. Faults, in this order: `TooLong`, `OutOfMemory`. After
+/// either, `out` is unchanged.
 pub fn write_frame(out: &mut Vec<u8>, uuid: Uuid, payload: &[u8]) -> Result<(), FrameFault>
     ensures ok { OnOk result (out.new.items ≡ out.old.items ++ frame Form.Plain uuid payload.now) }
     ensures fits { OnOk result (length payload.now ≤ longest_payload Form.Plain) }
@@ -32,12 +33,13 @@ pub fn write_frame(out: &mut Vec<u8>, uuid: Uuid, payload: &[u8]) -> Result<(), 
     write_form(out, Form::Plain, uuid, payload)
 }
 
-/// Appends the sealed frame of a UUID and a payload. Faults, in this order: `TooLong`, `OutOfMemory`. After either, `out`
-/// is unchanged.
+/// Appends the sealed frame of a UUID and a payload. Faults, in this order: `TooLong`, `OutOfMemory`. After
+/// either, `out` is unchanged.
 pub fn write_sealed(out: &mut Vec<u8>, uuid: Uuid, payload: &[u8]) -> Result<(), FrameFault>
     ensures ok { OnOk result (out.new.items ≡ out.old.items ++ frame Form.Sealed uuid payload.now) }
     ensures fits { OnOk result (length payload.now ≤ longest_payload Form.Sealed) }
-    ensures too_long { (result ≡ Err FrameFault.TooLong) ↔ (longest_payload Form.Sealed < length payload.now) }
+    ensures too_long { (result ≡ Err FrameFault.TooLong) ↔
+        (longest_payload Form.Sealed < length payload.now) }
     ensures err { OnErr result (out.new.items ≡ out.old.items) }
 {
     write_form(out, Form::Sealed, uuid, payload)

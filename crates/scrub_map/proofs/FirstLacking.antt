@@ -8,9 +8,9 @@ use Rattle.std.proofs.Math.Nat.{mul-le-mul_left}
 use Rattle.scrub_map.specs.declared.gap.Gap.{Gap}
 use Rattle.scrub_map.specs.declared.block.MapBlock.{MapBlock}
 use Rattle.scrub_map.specs.declared.map.RescueMap.{RescueMap}
-use Rattle.scrub_map.specs.Kept.{KeepsBlocks}
+use Rattle.scrub_map.specs.MissingBytes.{KeepsBlocks}
 use Rattle.scrub_map.specs.Rescued.{AreFirstLacking, IsCovered, IsRescuedIn}
-use Rattle.scrub_map.specs.Gaps.{IsInGaps, IsLoweredBy, LowersByGap}
+use Rattle.scrub_map.specs.steps.Gaps.{IsInGaps, IsLoweredBy, LowersByGap}
 use Rattle.scrub_map.proofs.Lost.{between_hit, in_gaps_before, in_gaps_last, in_gaps_push}
 
 -- ---- one gap

@@ -5,8 +5,8 @@ use Rattle.std.proofs.lemmas.Bool.{cases_lt, false≢true}
 use Rattle.scrub_map.specs.declared.block.MapBlock.{MapBlock}
 use Rattle.scrub_map.specs.declared.gap.Gap.{Gap}
 use Rattle.scrub_map.specs.declared.map.RescueMap.{RescueMap}
-use Rattle.scrub_map.specs.Gaps.{IsInGaps}
-use Rattle.scrub_map.specs.Kept.{HasGapsBelowEnd, KeepsBlocks}
+use Rattle.scrub_map.specs.steps.Gaps.{IsInGaps}
+use Rattle.scrub_map.specs.MissingBytes.{HasGapsBelowEnd, KeepsBlocks}
 use Rattle.scrub_map.specs.Rescued.{IsCovered, IsRescuedIn}
 use Rattle.scrub_map.proofs.Lost.{in_gaps_before, in_gaps_last, in_gaps_push}
 

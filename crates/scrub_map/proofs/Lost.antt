@@ -9,9 +9,9 @@ use Rattle.std.proofs.Math.Nat.{mul-le-mul_left}
 use Rattle.scrub_map.specs.declared.gap.Gap.{Gap}
 use Rattle.scrub_map.specs.declared.block.MapBlock.{MapBlock}
 use Rattle.scrub_map.specs.declared.map.RescueMap.{RescueMap}
-use Rattle.scrub_map.specs.Kept.{KeepsBlocks}
+use Rattle.scrub_map.specs.MissingBytes.{KeepsBlocks}
 use Rattle.scrub_map.specs.Rescued.{AreLostBlocks}
-use Rattle.scrub_map.specs.Gaps.{IsHitBy, IsInGap, IsInGaps, MarksGap}
+use Rattle.scrub_map.specs.steps.Gaps.{IsHitBy, IsInGap, IsInGaps, MarksGap}
 
 -- a gap hits each block from that of its first byte to that of its last byte
 hit_between : (gap : Gap) (size n : ℕ) → 0 < size → gap.from / size ≤ n → n ≤ (gap.to - 1) / size → IsHitBy gap size n

@@ -10,13 +10,13 @@ use Rattle.scrub_map.specs.Fields.{line_fields}
 use Rattle.scrub_map.specs.Lines.{IsBlock, IsState, map_lines, says_nothing}
 use Rattle.scrub_map.specs.Map.{AreBlocksFrom, BeginsMap, IsFirstBadLine, IsMap, IsMapOf, statements}
 use Rattle.scrub_map.specs.Number.{IsNumber}
-use Rattle.scrub_map.specs.Reading.{AreSaid, HasReadLines, ReadsMore, end_from}
+use Rattle.scrub_map.specs.steps.Reading.{AreSaid, HasReadLines, ReadsMore, end_from}
 use Rattle.scrub_map.specs.Fault.{IfBadLine}
 use Rattle.scrub_map.specs.declared.reading.MapFault.{MapFault}
 use Rattle.scrub_map.specs.declared.reading.MapFault.TheVariants.{OutOfMemory, Line}
 use Rattle.scrub_map.specs.declared.map.RescueMap.{RescueMap}
 use Rattle.scrub_map.specs.declared.reading.Reading.{Reading}
-use Rattle.scrub_map.specs.Kept.{KeepsBlocks}
+use Rattle.scrub_map.specs.MissingBytes.{KeepsBlocks}
 
 -- the statements of lines that are joined
 pub statements-append : (lines more : List (List ℕ)) → statements (lines ++ more) ≡ statements lines ++ statements more

@@ -5,7 +5,6 @@ pub mod Lines
 pub mod Map
 pub mod Fault
 pub mod Rescued
-pub mod Kept
--- Steps of the code: marking gaps, and reading lines.
-pub mod Gaps
-pub mod Reading
+pub mod MissingBytes
+-- Steps of the code, and lemmas that types need.
+pub mod steps

@@ -6,7 +6,8 @@ ghost use Rattle.scrub_map.specs.Fields.{fields_of, is_field_blank, is_one_of};
 
 /// The first field of a text, and the bytes after it. None if the text has no field.
 pub(crate) fn next_field(text: &[u8]) -> Option<(&[u8], &[u8])>
-    ensures { MatchOption result (fields_of text.now ≡ []) (λ cut. fields_of text.now ≡ cut.0.now ∷ fields_of cut.1.now) }
+    ensures { MatchOption result (fields_of text.now ≡ [])
+        (λ cut. fields_of text.now ≡ cut.0.now ∷ fields_of cut.1.now) }
 {
     let text = &text[blanks_before(text)..];
     if text.is_empty() {

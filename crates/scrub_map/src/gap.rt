@@ -11,7 +11,7 @@ pub(crate) struct Gap {
 }
 
 impl Gap {
-    ghost use Rattle.scrub_map.specs.Gaps.{LowersByGap, MarksGap};
+    ghost use Rattle.scrub_map.specs.steps.Gaps.{LowersByGap, MarksGap};
 
     /// Marks each block of `size` bytes that has a byte of the gap.
     pub(crate) fn mark(self, marks: &mut [bool], size: u64)
@@ -24,8 +24,8 @@ impl Gap {
         }
     }
 
-    /// Lowers the place of each block of `size` bytes to that of the gap's first byte in it. A place is counted from the
-    /// start of its block.
+    /// Lowers the place of each block of `size` bytes to that of the gap's first byte in it. A place is
+    /// counted from the start of its block.
     pub(crate) fn lower(self, places: &mut [u32], size: u32)
         requires { 0 < size }
         ensures { LowersByGap self size places.old places.new }

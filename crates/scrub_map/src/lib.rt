@@ -1,5 +1,5 @@
-//! Map files of GNU ddrescue, which record what was copied from a disk. This crate reads a map and says which blocks it
-//! lacks. It knows nothing of pages, frames or superblocks.
+//! Map files of GNU ddrescue, which record what was copied from a disk. This crate reads a map and says which
+//! blocks it lacks. It knows nothing of pages, frames or superblocks.
 #![tactic(auto)]
 
 pub mod block;

@@ -81,7 +81,8 @@ pub(crate) fn is_state(line: &[u8]) -> bool
 
 /// The block that a line describes. None if it isn't a block.
 pub(crate) fn block_of(line: &[u8]) -> Option<MapBlock>
-    ensures { MatchOption result ((block : MapBlock) → ¬ IsBlock (fields_of line.now) block) (IsBlock (fields_of line.now)) }
+    ensures { MatchOption result ((block : MapBlock) → ¬ IsBlock (fields_of line.now) block)
+        (IsBlock (fields_of line.now)) }
 {
     let (position, size, status) = three_fields(line)?;
     let position = number(position)?;

@@ -6,7 +6,7 @@ use crate::block::MapBlock;
 use crate::gap::Gap;
 use std::alloc::{AllocError as OutOfMemory, Global};
 
-/// A map, kept as the bytes that it lacks: gaps in rising order, and all bytes from `end` on.
+/// A map, kept as the bytes that it lacks: gaps in ascending order, and all bytes from `end` on.
 #[derive(Drop)]
 pub struct RescueMap {
     gaps: Vec<Gap>,
@@ -17,7 +17,7 @@ pub struct RescueMap {
 impl RescueMap {
     ghost use Rattle.std.specs.Prelude.{[], ◌++◌, ◌∷◌};
     ghost use Rattle.scrub_map.specs.declared.block.MapBlock.{MapBlock};
-    ghost use Rattle.scrub_map.specs.Kept.{HasGapsBelowEnd, KeepsBlocks};
+    ghost use Rattle.scrub_map.specs.MissingBytes.{HasGapsBelowEnd, KeepsBlocks};
     ghost use Rattle.scrub_map.specs.Rescued.{AreFirstLacking, AreLostBlocks};
 
     /// A map without blocks: nothing was rescued.
@@ -55,9 +55,9 @@ impl RescueMap {
         Ok(())
     }
 
-    /// Says for each of the first `count` blocks of `size` bytes whether it is lost: whether it has a byte that no block of
-    /// the map with status `+` covers. A block after the end of the map is lost. Bytes after the last block asked for are
-    /// ignored.
+    /// Says for each of the first `count` blocks of `size` bytes whether it is lost: whether it has a byte
+    /// that no block of the map with status `+` covers. A block after the end of the map is lost. Bytes after
+    /// the last block asked for are ignored.
     pub fn lost_blocks(
         &self,
         alloc: Global,
@@ -81,8 +81,9 @@ impl RescueMap {
         Ok(marks)
     }
 
-    /// Says for each of the first `count` blocks of `size` bytes where in it the first byte is that no block of the map with
-    /// status `+` covers: 0 is its first byte, and `size` says that all its bytes are covered.
+    /// Says for each of the first `count` blocks of `size` bytes where in it the first byte is that no block
+    /// of the map with status `+` covers: 0 is its first byte, and `size` says that all its bytes are
+    /// covered.
     pub fn first_lacking(
         &self,
         alloc: Global,

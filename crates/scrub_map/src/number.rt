@@ -7,8 +7,8 @@ ghost use Rattle.scrub_map.specs.Number.{AppendsDigit, IsNumber, WritesNumber, i
 /// Each number of a map is below this, and so is the end of each block.
 pub(crate) const LIMIT: u64 = 1 << 63;
 
-/// The number that a text spells: hexadecimal digits after `0x` or `0X`, octal digits if it begins with 0, else decimal
-/// digits. None if it is anything else, or above 2^63 - 1.
+/// The number that a text spells: hexadecimal digits after `0x` or `0X`, octal digits if it begins with 0,
+/// else decimal digits. None if it is anything else, or above 2^63 - 1.
 #[tactic(auto, unfolding(crate::specs::Number::digits_of_number))]
 pub(crate) fn number(text: &[u8]) -> Option<u64>
     ensures { MatchOption result ((n : ℕ) → ¬ IsNumber text.now n) (IsNumber text.now) }
@@ -46,11 +46,13 @@ fn radix(text: &[u8]) -> u32
     }
 }
 
-/// The number that digits of this radix spell. None if there is no digit or anything else, or the number is above 2^63 - 1.
+/// The number that digits of this radix spell. None if there is no digit or anything else, or the number is
+/// above 2^63 - 1.
 pub(crate) fn numeral(radix: u32, digits: &[u8]) -> Option<u64>
     requires low { 2 ≤ radix }
     requires high { radix ≤ 16 }
-    ensures { MatchOption result ((n : ℕ) → ¬ WritesNumber radix digits.now n) (WritesNumber radix digits.now) }
+    ensures { MatchOption result ((n : ℕ) → ¬ WritesNumber radix digits.now n)
+        (WritesNumber radix digits.now) }
 {
     if digits.is_empty() {
         return None;
@@ -62,11 +64,13 @@ pub(crate) fn numeral(radix: u32, digits: &[u8]) -> Option<u64>
     Some(value)
 }
 
-/// The value with one more digit appended. None if that isn't a digit of the radix, or the number is above 2^63 - 1.
+/// The value with one more digit appended. None if that isn't a digit of the radix, or the number is above
+/// 2^63 - 1.
 fn with_digit(value: u64, radix: u32, digit: u8) -> Option<u64>
     requires low { 2 ≤ radix }
     requires high { radix ≤ 16 }
-    ensures { MatchOption result ((n : ℕ) → ¬ AppendsDigit radix value digit n) (AppendsDigit radix value digit) }
+    ensures { MatchOption result ((n : ℕ) → ¬ AppendsDigit radix value digit n)
+        (AppendsDigit radix value digit) }
 {
     let digit = char::from(digit).to_digit(radix)?;
     let more = value

@@ -1,8 +1,10 @@
-//! Reading the text of a map line by line. For what one line says see `line`, for what is kept of it see `map`.
+//! Reading the text of a map line by line. For what one line says see `line`, for what is kept of it see
+//! `map`.
 
-ghost use Rattle.std.specs.Prelude.{◌≡◌, ◌≤◌, ◌<◌, ◌+◌, ◌*◌, ◌↔◌, [], ◌∷◌, ◌++◌, ℕ, Bool, List, IfErr, IfOk, OnOk, length, true, false};
+ghost use Rattle.std.specs.Prelude.{◌≡◌, ◌≤◌, ◌<◌, ◌+◌, ◌*◌, ◌↔◌, [], ◌∷◌, ◌++◌, ℕ, Bool, List, IfErr, IfOk};
+ghost use Rattle.std.specs.Prelude.{OnOk, length, true, false};
 ghost use Rattle.scrub_map.specs.Map.{BeginsMap, IsFirstBadLine, IsMap};
-ghost use Rattle.scrub_map.specs.Kept.{KeepsBlocks};
+ghost use Rattle.scrub_map.specs.MissingBytes.{KeepsBlocks};
 ghost use Rattle.scrub_map.specs.Fault.{IfBadLine};
 ghost use Rattle.scrub_map.specs.Rescued.{AreFirstLacking, AreLostBlocks, IsFirstLacking, LacksBefore};
 ghost use Rattle.scrub_map.specs.declared.block.MapBlock.{MapBlock};
@@ -18,8 +20,8 @@ pub enum MapFault {
     /// Out of memory.
     #[error("out of memory")]
     OutOfMemory,
-    /// The first line that breaks a rule, counted from 1. A text without a state breaks a rule at the line after its last
-    /// one.
+    /// The first line that breaks a rule, counted from 1. A text without a state breaks a rule at the line
+    /// after its last one.
     #[error("line {0}")]
     Line(u64),
 }
@@ -36,7 +38,7 @@ struct Reading {
 impl Reading {
     ghost use Rattle.scrub_map.specs.Fields.{fields_of, line_fields};
     ghost use Rattle.scrub_map.specs.Lines.{says_nothing};
-    ghost use Rattle.scrub_map.specs.Reading.{BreaksRules, HasReadLines, AwaitsBlock, ReadsMore};
+    ghost use Rattle.scrub_map.specs.steps.Reading.{BreaksRules, HasReadLines, AwaitsBlock, ReadsMore};
 
     /// Nothing was read yet.
     fn new(alloc: Global) -> Reading
@@ -55,7 +57,8 @@ impl Reading {
         requires { AwaitsBlock self.old }
         ensures ready { OnOk result (AwaitsBlock self.new) }
         ensures read { OnOk result (ReadsMore (line_fields line.now) self.old self.new) }
-        ensures bad { IfErr result (λ fault. IfBadLine fault (λ k. (k ≡ number) × BreaksRules (line_fields line.now) self.old)) }
+        ensures bad { IfErr result
+            (λ fault. IfBadLine fault (λ k. (k ≡ number) × BreaksRules (line_fields line.now) self.old)) }
     {
         let line = without_carriage_return(line);
         if is_silent(line) {
@@ -74,7 +77,8 @@ impl Reading {
         requires first { self.old.has_state ≡ false }
         ensures ready { OnOk result (AwaitsBlock self.new) }
         ensures read { OnOk result (ReadsMore (fields_of line.now) self.old self.new) }
-        ensures bad { IfErr result (λ fault. IfBadLine fault (λ k. (k ≡ number) × BreaksRules (fields_of line.now) self.old)) }
+        ensures bad { IfErr result
+            (λ fault. IfBadLine fault (λ k. (k ≡ number) × BreaksRules (fields_of line.now) self.old)) }
     {
         if !is_state(line) {
             return Err(MapFault::Line(number));
@@ -90,7 +94,8 @@ impl Reading {
         requires behind { self.old.has_state ≡ true }
         ensures ready { OnOk result (AwaitsBlock self.new) }
         ensures read { OnOk result (ReadsMore (fields_of line.now) self.old self.new) }
-        ensures bad { IfErr result (λ fault. IfBadLine fault (λ k. (k ≡ number) × BreaksRules (fields_of line.now) self.old)) }
+        ensures bad { IfErr result
+            (λ fault. IfBadLine fault (λ k. (k ≡ number) × BreaksRules (fields_of line.now) self.old)) }
     {
         let Some(block) = block_of(line) else {
             return Err(MapFault::Line(number));
@@ -103,7 +108,8 @@ impl Reading {
         Ok(())
     }
 
-    /// The map that was read. If there was no state, the fault names this line, which is the one after the last.
+    /// The map that was read. If there was no state, the fault names this line, which is the one after the
+    /// last.
     fn finish(self, number: u64) -> Result<RescueMap, MapFault>
         ensures read { IfOk result (λ map. (self.has_state ≡ true) × (map ≡ self.map)) }
         ensures bad { IfErr result (λ fault. IfBadLine fault (λ k. (k ≡ number) × (self.has_state ≡ false))) }
@@ -126,11 +132,13 @@ impl From<AllocError> for MapFault {
     }
 }
 
-/// Reads a map that GNU ddrescue wrote. Blank lines, and comments whose first non-blank character is `#`, are skipped. The
-/// first other line is the state; the others are blocks, each at or after the end of the one before. The fault is the first
-/// line that breaks a rule, unless memory runs out before that line is reached.
+/// Reads a map that GNU ddrescue wrote. Blank lines, and comments whose first non-blank character is `#`, are
+/// skipped. The first other line is the state; the others are blocks, each at or after the end of the one
+/// before. The fault is the first line that breaks a rule, unless memory runs out before that line is
+/// reached.
 pub fn read_map(alloc: Global, text: &[u8]) -> Result<RescueMap, MapFault>
-    ensures map { IfOk result (λ map. (blocks : List MapBlock) × IsMap text.now blocks × KeepsBlocks map blocks) }
+    ensures map { IfOk result (λ map. (blocks : List MapBlock) × IsMap text.now blocks ×
+        KeepsBlocks map blocks) }
     ensures line { IfErr result (λ fault. IfBadLine fault (IsFirstBadLine text.now)) }
 {
     let mut reading = Reading::new(alloc);
@@ -152,7 +160,8 @@ pub fn one_list_of_blocks()
 
 /// A law: a map has no bad line, and any other text has at most one first bad line.
 pub fn one_first_bad_line()
-    ensures none { (text : List ℕ) (blocks : List MapBlock) (k : ℕ) → IsMap text blocks → ¬ IsFirstBadLine text k }
+    ensures none { (text : List ℕ) (blocks : List MapBlock) (k : ℕ) → IsMap text blocks →
+        ¬ IsFirstBadLine text k }
     ensures one { (text : List ℕ) (j k : ℕ) → IsFirstBadLine text j → IsFirstBadLine text k → j ≡ k }
 {}
 
@@ -162,8 +171,8 @@ pub fn one_list_of_lost_blocks()
         AreLostBlocks blocks size count a → AreLostBlocks blocks size count b → a ≡ b }
 {}
 
-/// A law: the blocks of a map decide the first byte that each block of a size lacks, and a block lacks a byte before an end
-/// exactly if its first lacking byte is before the end.
+/// A law: the blocks of a map decide the first byte that each block of a size lacks, and a block lacks a byte
+/// before an end exactly if its first lacking byte is before the end.
 pub fn one_list_of_first_lacking_bytes()
     ensures one { (blocks : List MapBlock) (size count : ℕ) (a b : List ℕ) →
         AreFirstLacking blocks size count a → AreFirstLacking blocks size count b → a ≡ b }

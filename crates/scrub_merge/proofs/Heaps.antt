@@ -18,8 +18,7 @@ use Rattle.std.proofs.lemmas.Option.{none-some, same_Some}
 use Rattle.scrub_run.specs.declared.shard_id.ShardId.{ShardId}
 use Rattle.scrub_run.specs.Entry.{EntryValue, IsBelow}
 use Rattle.scrub_merge.specs.Binding.{Runs}
-use Rattle.scrub_merge.specs.declared.under.Under.{Under}
-use Rattle.scrub_merge.specs.Cursors.{id_cmp, entry_at, ahead, first_of, under_by, under_cmp, StandsFirst, of_run, IsHeapOver, IsHeapOf, IsHeapBut, IsLeast, IsFirstWith, AreEmpty}
+use Rattle.scrub_merge.specs.steps.Cursors.{id_cmp, entry_at, ahead, first_of, Under, under_by, under_cmp, StandsFirst, of_run, IsHeapOver, IsHeapOf, IsHeapBut, IsLeast, IsFirstWith, AreEmpty}
 use Rattle.scrub_merge.proofs.Elements.{Contains-cases, Contains-behind}
 use Rattle.scrub_merge.proofs.Left.{first_at}
 use Rattle.scrub_merge.proofs.Moves.{one_on, first_elsewhere, first_moved}
@@ -31,25 +30,25 @@ abbrev one_if : Bool → ℕ
 one_if t = cond t 1 0
 
 -- one more is counted for the run with this number, if it is of that run
-counted : (k : ℕ) (x : Under) (xs : List Under) → of_run k (x ∷ xs) ≡ one_if (x.number == k) + of_run k xs
-counted k x xs = sum_by-cons (λ (u : Under). one_if (u.number == k)) x xs
+counted : (k : ℕ) (x : Under) (xs : List Under) → of_run k (x ∷ xs) ≡ one_if (x.0.1 == k) + of_run k xs
+counted k x xs = sum_by-cons (λ (u : Under). one_if (u.0.1 == k)) x xs
 
 same_count : (k : ℕ) (xs ys : List Under) → IsPermutation xs ys → of_run k ys ≡ of_run k xs
-same_count k xs ys = sum_by-IsPermutation (λ (u : Under). one_if (u.number == k)) xs ys
+same_count k xs ys = sum_by-IsPermutation (λ (u : Under). one_if (u.0.1 == k)) xs ys
 
-none_counted : (k : ℕ) (xs : List Under) → All (λ u. u.number ≡ k → ⊥) xs → of_run k xs ≡ 0
+none_counted : (k : ℕ) (xs : List Under) → All (λ u. u.0.1 ≡ k → ⊥) xs → of_run k xs ≡ 0
 none_counted k [] none = refl
 none_counted k (x ∷ xs) none =
     omega (
       arith,
       counted k x xs,
-      ap one_if (ne_eqb x.number k (none 0 x (omega arith))),
+      ap one_if (ne_eqb x.0.1 k (none 0 x (omega arith))),
       none_counted k xs (λ j d here. none (suc j) d (omega (arith, here))),
     )
 
-not_counted : (k : ℕ) (xs : List Under) → of_run k xs ≡ 0 → All (λ u. u.number ≡ k → ⊥) xs
+not_counted : (k : ℕ) (xs : List Under) → of_run k xs ≡ 0 → All (λ u. u.0.1 ≡ k → ⊥) xs
 not_counted k [] h j d here same = omega (arith, here)
-not_counted k (x ∷ xs) h zero d here same = omega (arith, counted k x xs, ap one_if (eq-eqb x.number k same), h)
+not_counted k (x ∷ xs) h zero d here same = omega (arith, counted k x xs, ap one_if (eq-eqb x.0.1 k same), h)
 not_counted k (x ∷ xs) h (suc j) d here same =
     not_counted k xs (omega (arith, counted k x xs, h)) j d (omega (arith, here)) same
 
@@ -64,7 +63,7 @@ pub pushed : {runs : Runs} {Were Are : ℕ → Type 0} (number : ℕ) {items new
 pushed {runs} {Were} {Are} number {items} {new} h apart now kept is moved keeps = by (first_of runs number) refl moved
   where
     Fits : Under → Type 0
-    Fits u = Are u.number × StandsFirst runs u
+    Fits u = Are u.0.1 × StandsFirst runs u
 
     still : All Fits items
     still k d here = let one = h.each k d here in (kept _ one.0, one.1)
@@ -104,7 +103,7 @@ pushed {runs} {Were} {Are} number {items} {new} h apart now kept is moved keeps 
 -- ---- the first is taken out
 
 pub popped : {runs : Runs} {x : Under} {items new : List Under} →
-    IsHeapOf runs items → IsPermutation items (x ∷ new) → IsHeap under_cmp new → IsHeapBut x.number runs new
+    IsHeapOf runs items → IsPermutation items (x ∷ new) → IsHeap under_cmp new → IsHeapBut x.0.1 runs new
 popped {runs} {x} {items} {new} h p order = record {
   order = order;
   each = λ k d here. (others k d here, (rest k d here).1);
@@ -115,8 +114,8 @@ popped {runs} {x} {items} {new} h p order = record {
   once = λ k. omega (arith, left_over k, h.once k);
 }
   where
-    left_over : (k : ℕ) → of_run k new + one_if (x.number == k) ≡ of_run k items
-    left_over k = sum_by_popped (λ (u : Under). one_if (u.number == k)) x items new p
+    left_over : (k : ℕ) → of_run k new + one_if (x.0.1 == k) ≡ of_run k items
+    left_over k = sum_by_popped (λ (u : Under). one_if (u.0.1 == k)) x items new p
 
     Stands : Under → Type 0
     Stands u = Unit {0} × StandsFirst runs u
@@ -124,10 +123,10 @@ popped {runs} {x} {items} {new} h p order = record {
     rest : All Stands new
     rest = All-tail Stands x new (All-permutation Stands items (x ∷ new) p h.each)
 
-    others : All (λ u. u.number ≡ x.number → ⊥) new
+    others : All (λ u. u.0.1 ≡ x.0.1 → ⊥) new
     others =
-        not_counted x.number new
-        (omega (arith, rw (eq-eqb x.number x.number refl) at (left_over x.number), h.once x.number))
+        not_counted x.0.1 new
+        (omega (arith, rw (eq-eqb x.0.1 x.0.1 refl) at (left_over x.0.1), h.once x.0.1))
 
 -- only the other runs count
 pub elsewhere : {runs after : Runs} (number : ℕ) {items : List Under} →
@@ -135,7 +134,7 @@ pub elsewhere : {runs after : Runs} (number : ℕ) {items : List Under} →
     IsHeapBut number after items
 elsewhere number {items} same h = record {
   order = h.order;
-  each = λ k d here. let one = h.each k d here in (one.0, rw (same (get_or items k d).number one.0) one.1);
+  each = λ k d here. let one = h.each k d here in (one.0, rw (same (get_or items k d).0.1 one.0) one.1);
   all = λ k e among first. h.all k e among (sym (same k among) ∙ first);
   once = h.once;
 }
@@ -144,32 +143,32 @@ elsewhere number {items} same h = record {
 
 -- what is in the heap is first in its run: an entry with its identifier
 pub in_heap : {runs : Runs} {items : List Under} (u : Under) → IsHeapOf runs items → Contains items u →
-    (e : EntryValue) × (first_of runs u.number ≡ Some e) × (e.id ≡ u.id)
+    (e : EntryValue) × (first_of runs u.0.1 ≡ Some e) × (e.id ≡ u.0.0)
 in_heap {runs} {items} u h among =
-    by (first_of runs u.number) refl (All-contains (λ v. Unit {0} × StandsFirst runs v) items u h.each among).1
+    by (first_of runs u.0.1) refl (All-contains (λ v. Unit {0} × StandsFirst runs v) items u h.each among).1
   where
-    by : (o : Option EntryValue) → first_of runs u.number ≡ o → option_map (under_by u.number) o ≡ Some u →
-        (e : EntryValue) × (first_of runs u.number ≡ Some e) × (e.id ≡ u.id)
+    by : (o : Option EntryValue) → first_of runs u.0.1 ≡ o → option_map (under_by u.0.1) o ≡ Some u →
+        (e : EntryValue) × (first_of runs u.0.1 ≡ Some e) × (e.id ≡ u.0.0)
     by None at same = cc
-    by (Some e) at same = (e, at, ap (λ (v : Under). v.id) (same_Some (under_by u.number e) u same))
+    by (Some e) at same = (e, at, ap (λ (v : Under). v.0.0) (same_Some (under_by u.0.1 e) u same))
 
 -- what is taken out was first in its run
 pub taken : {runs : Runs} {items new : List Under} {u : Under} → IsHeapOf runs items → IsPermutation items (u ∷ new) →
-    (e : EntryValue) × (first_of runs u.number ≡ Some e) × (e.id ≡ u.id)
+    (e : EntryValue) × (first_of runs u.0.1 ≡ Some e) × (e.id ≡ u.0.0)
 taken {items = items} {new = new} {u = u} h p =
     in_heap u h (Contains-permutation (u ∷ new) items u (IsPermutation-sym items (u ∷ new) p) (zero, omega arith, refl))
 
-not_lesser : (u v : Under) → is_lt (under_cmp u v) ≡ false → IsBelow v.id u.id → ⊥
+not_lesser : (u v : Under) → is_lt (under_cmp u v) ≡ false → IsBelow v.0.0 u.0.0 → ⊥
 not_lesser u v bound below = false≢true (sym (rw below at bound))
 
-not_newer : (u v : Under) → is_lt (under_cmp u v) ≡ false → v.id ≡ u.id → v.number < u.number → ⊥
+not_newer : (u v : Under) → is_lt (under_cmp u v) ≡ false → v.0.0 ≡ u.0.0 → v.0.1 < u.0.1 → ⊥
 not_newer u v bound same before = false≢true (sym (rw (tied, less) at bound))
   where
-    tied : id_cmp v.id u.id ≡ Equal
-    tied = rw same (tied_itself id_cmp_total u.id)
+    tied : id_cmp v.0.0 u.0.0 ≡ Equal
+    tied = rw same (tied_itself id_cmp_total u.0.0)
 
-    less : nat_cmp v.number u.number ≡ Less
-    less = sym (nat_cmp_is v.number u.number Less before)
+    less : nat_cmp v.0.1 u.0.1 ≡ Less
+    less = sym (nat_cmp_is v.0.1 u.0.1 Less before)
 
 module _ {runs : Runs} {items : List Under} (u : Under) (h : IsHeapOf runs items) (among : Contains items u)
     (bound : IsUpperBound under_cmp u items) where
@@ -178,16 +177,16 @@ module _ {runs : Runs} {items : List Under} (u : Under) (h : IsHeapOf runs items
       All-contains (λ w. is_lt (under_cmp u w) ≡ false) items (under_by k e)
       (All-from_recursion (λ w. is_lt (under_cmp u w) ≡ false) items bound) (h.all k e tt at)
 
-  pub first_least : IsLeast runs u.id
+  pub first_least : IsLeast runs u.0.0
   first_least = let own = in_heap u h among in record {
-    number = u.number;
+    number = u.0.1;
     entry = own.0;
     stands = own.1;
     own = own.2;
     least = λ k e at below. not_lesser u (under_by k e) (above_all k e at) below;
   }
 
-  pub first_newest : IsFirstWith runs u.id u.number
+  pub first_newest : IsFirstWith runs u.0.0 u.0.1
   first_newest = let own = in_heap u h among in record {
     entry = own.0;
     stands = own.1;
@@ -197,16 +196,16 @@ module _ {runs : Runs} {items : List Under} (u : Under) (h : IsHeapOf runs items
 
 -- if the first has another identifier than one that none is below, all have
 pub others_all : (items : List Under) {id : ShardId} (u : Under) → Contains items u → IsUpperBound under_cmp u items →
-    All (λ v. IsBelow v.id id → ⊥) items → is_eq (id_cmp u.id id) ≡ false →
-    All (λ v. v.id ≡ id → ⊥) items
+    All (λ v. IsBelow v.0.0 id → ⊥) items → is_eq (id_cmp u.0.0 id) ≡ false →
+    All (λ v. v.0.0 ≡ id → ⊥) items
 others_all items {id} u among bound least other k d here same =
     not_lesser u (get_or items k d) (All-from_recursion (λ w. is_lt (under_cmp u w) ≡ false) items bound k d here)
-    (rw same (not_less u.id id other (All-contains (λ v. IsBelow v.id id → ⊥) items u least among)))
+    (rw same (not_less u.0.0 id other (All-contains (λ v. IsBelow v.0.0 id → ⊥) items u least among)))
 
 -- the first that peek sees is the one that pop takes out
 pub first_own : (items : List Under) {x u : Under} (id : ShardId) → 0 < length items → x ≡ get_or items 0 x →
-    u ≡ get_or items 0 u → is_eq (id_cmp u.id id) ≡ true → x.id ≡ id
-first_own items {x} {u} id here is was tied = rw (is ∙ get_or_default items 0 x u here ∙ sym was) (same_id u.id id tied)
+    u ≡ get_or items 0 u → is_eq (id_cmp u.0.0 id) ≡ true → x.0.0 ≡ id
+first_own items {x} {u} id here is was tied = rw (is ∙ get_or_default items 0 x u here ∙ sym was) (same_id u.0.0 id tied)
 
 pub not_tied : (o : Ordering) → is_ne o ≡ true → is_eq o ≡ false
 not_tied Less h = refl

@@ -1,4 +1,4 @@
--- Identifiers as keys, and rising entries of them.
+-- Identifiers as keys, and ascending entries of them.
 use Rattle.std.proofs.Common.{◌≡◌, ◌<◌, ℕ, true, false, List, length, get_or, Contains, refl, sym, ◌∙◌, ap, arith, inl, inr}
 use Rattle.std.specs.Cmp.{IsTotalOrder}
 use Rattle.std.specs.Cmp.Lexicographic.{on_texts}
@@ -13,7 +13,7 @@ use Rattle.std.proofs.lemmas.Map.Views.{tells_apart}
 use Rattle.scrub_run.specs.declared.shard_id.ShardId.{ShardId}
 use Rattle.scrub_run.specs.Entry.{EntryValue, IsBelow}
 use Rattle.scrub_run.specs.Run.{RisesById}
-use Rattle.scrub_merge.specs.Cursors.{id_cmp}
+use Rattle.scrub_merge.specs.steps.Cursors.{id_cmp}
 
 pub id_cmp_total : IsTotalOrder id_cmp
 id_cmp_total = on_texts (λ s. s.0)
@@ -41,7 +41,7 @@ not_less a b differ not_below = id_cmp_total.antisymm b a ∙ ap ordering_revers
     greater Equal h = absurd (false≢true (sym differ ∙ ap is_eq h))
     greater Greater h = refl
 
--- in rising entries, two with the same identifier are the same
+-- in ascending entries, two with the same identifier are the same
 pub same_entry : (entries : List EntryValue) {e f : EntryValue} → RisesById entries → Contains entries e →
     Contains entries f → e.id ≡ f.id → e ≡ f
 same_entry entries {e} {f} rising (i, hi, is) (j, hj, js) same = elim (cases_lt i j) [

@@ -13,7 +13,7 @@ use Rattle.scrub_run.specs.declared.shard_id.ShardId.{ShardId}
 use Rattle.scrub_run.specs.Entry.{EntryValue, IsBelow}
 use Rattle.scrub_merge.specs.Binding.{BindingValue, Runs, IsNewestBinding}
 use Rattle.scrub_merge.specs.ShardMap.{AreRuns, AreBindings, IsShardMap}
-use Rattle.scrub_merge.specs.Cursors.{id_cmp, AreRising}
+use Rattle.scrub_merge.specs.steps.Cursors.{id_cmp, AreRising}
 use Rattle.scrub_merge.proofs.Elements.{Contains-cases, Contains-behind}
 use Rattle.scrub_merge.proofs.Identifiers.{id_cmp_total, itself, not_below_itself, same_entry}
 
@@ -74,7 +74,7 @@ none_found bindings id i b are search_ends (k, here, is) same = elim (cases_lt k
 abbrev Rise : List BindingValue → Type 0
 Rise xs = AllPairs (λ v w. IsBelow v.id w.id) xs
 
--- what comes after a binding in rising order is above it
+-- what comes after a binding in ascending order is above it
 above : (x : BindingValue) (xs : List BindingValue) (b : BindingValue) → Rise (x ∷ xs) → Contains xs b →
     IsBelow x.id b.id
 above x xs b rising (k, here, is) =
@@ -83,7 +83,7 @@ above x xs b rising (k, here, is) =
 tail_rises : (x : BindingValue) (xs : List BindingValue) → Rise (x ∷ xs) → Rise xs
 tail_rises x xs rising i j d order here = rising (suc i) (suc j) d (omega (arith, order)) (omega (arith, here))
 
--- two rising lists with the same bindings are equal
+-- two ascending lists with the same bindings are equal
 same_bindings : (xs ys : List BindingValue) → Rise xs → Rise ys → ((b : BindingValue) → Contains xs b ↔ Contains ys b) →
     xs ≡ ys
 same_bindings [] [] hx hy both = refl

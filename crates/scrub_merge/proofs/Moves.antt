@@ -11,7 +11,7 @@ use Rattle.scrub_run.specs.Entry.{EntryValue, IsBelow}
 use Rattle.scrub_run.specs.Run.{RisesById, AreEntries}
 use Rattle.scrub_merge.specs.Binding.{Runs}
 use Rattle.scrub_merge.specs.ShardMap.{AreRuns}
-use Rattle.scrub_merge.specs.Cursors.{id_cmp, entry_at, has_id, ahead, first_of, place_past, places_past, AreRising}
+use Rattle.scrub_merge.specs.steps.Cursors.{id_cmp, entry_at, has_id, ahead, first_of, place_past, places_past, AreRising}
 use Rattle.scrub_merge.proofs.Identifiers.{id_cmp_total, same_id, itself, not_below_itself}
 use Rattle.scrub_merge.proofs.Left.{first_left, length-behind, under_first, entries_left}
 

@@ -4,5 +4,5 @@ pub mod ShardMap
 -- Files of other crates that public clauses cite.
 pub use Rattle.scrub_run.specs.Entry
 pub use Rattle.scrub_run.specs.Run
--- Steps of the code: moving the cursors on.
-pub mod Cursors
+-- Steps of the code, and lemmas that types need.
+pub mod steps

@@ -4,13 +4,13 @@ use Rattle.scrub_run.specs.Entry.{EntryValue, IsBelow}
 use Rattle.scrub_run.specs.Run.{AreEntries}
 use Rattle.scrub_merge.specs.Binding.{BindingValue, Runs, IsNewestBinding}
 
--- bindings in strictly rising order of identifier, each with a locator
+-- bindings in strictly ascending order of identifier, each with a locator
 pub record AreBindings (bindings : List BindingValue) : Type 0 where
   pub rising : AllPairs (λ b c. IsBelow b.id c.id) bindings
   pub bound : All (λ b. 0 < length b.locators) bindings
 
--- the shard map: the newest bindings of all identifiers whose newest binding has a locator, in strictly rising order of
--- identifier
+-- the shard map: the newest bindings of all identifiers whose newest binding has a locator, in strictly ascending order of
+-- identifier; a shard whose newest entry deletes it is in no list, doubtful or not
 pub record IsShardMap (runs : Runs) (bindings : List BindingValue) : Type 0 where
   pub bindings_of_map : AreBindings bindings
   pub newest : All (IsNewestBinding runs) bindings

@@ -20,13 +20,23 @@ impl Model for Binding {
 
     ghost Value = { BindingValue };
 
-    ghost view = { λ b. record { id = b.entry.id; locators = b.entry.locators; run = b.run; doubtful = b.doubtful } };
+    ghost view = { λ b. record {
+      id = b.entry.id;
+      locators = b.entry.locators;
+      run = b.run;
+      doubtful = b.doubtful;
+    } };
 }
 
 impl Binding {
     /// The binding made by an entry of the run with this number.
     pub(crate) fn new(entry: Entry, run: u32, doubtful: bool) -> Binding
-        ensures { result ≡ record { id = entry.id; locators = entry.locators; run = run; doubtful = doubtful } }
+        ensures { result ≡ record {
+          id = entry.id;
+          locators = entry.locators;
+          run = run;
+          doubtful = doubtful;
+        } }
     {
         Binding {
             entry,

@@ -1,12 +1,11 @@
-//! The shard map of a list of index runs: the newest binding of each shard, and whether a lost run makes it doubtful. For
-//! which runs can be read, and for the status of locators, see `scrub_check`.
+//! The shard map of a list of index runs: the newest binding of each shard, and whether a lost run makes it
+//! doubtful. For which runs can be read, and for the status of locators, see `scrub_check`.
 #![tactic(auto)]
 
 pub mod binding;
 mod cursors;
 pub mod merging;
 pub mod shard_map;
-mod under;
 
 pub use binding::Binding;
 pub use merging::{merge, merge_owned, one_shard_map};

@@ -7,7 +7,7 @@ use crate::binding::Binding;
 use scrub_run::ShardId;
 use std::marker::Model;
 
-/// The newest binding of each shard that has a locator, in strictly rising order of identifier.
+/// The newest binding of each shard that has a locator, in strictly ascending order of identifier.
 #[derive(Debug, Drop)]
 pub struct ShardMap {
     bindings: Vec<Binding>,
@@ -28,7 +28,7 @@ impl Model for ShardMap {
 impl ShardMap {
     ghost use Rattle.scrub_merge.specs.ShardMap.{AreBindings};
 
-    /// The map of these bindings, which are in strictly rising order of identifier.
+    /// The map of these bindings, which are in strictly ascending order of identifier.
     pub(crate) fn new(bindings: Vec<Binding>) -> ShardMap
         requires { AreBindings bindings.items }
         ensures { result ≡ bindings.items }
@@ -36,8 +36,8 @@ impl ShardMap {
         ShardMap { bindings }
     }
 
-    /// The binding of an identifier. `None` if its newest binding says deleted, or if no readable run has it. Takes no
-    /// memory.
+    /// The binding of an identifier. `None` if its newest binding says deleted, or if no readable run has it.
+    /// Takes no memory.
     pub fn get(&self, id: &ShardId) -> Option<&Binding>
         ensures found { IfSome result (λ b. b.now.id ≡ id.now) }
         ensures among { IfSome result (λ b. Contains self.now b.now) }
@@ -53,7 +53,7 @@ impl ShardMap {
         }
     }
 
-    /// All bindings, in strictly rising order of identifier.
+    /// All bindings, in strictly ascending order of identifier.
     pub fn bindings(&self) -> &[Binding]
         ensures bindings { result.now ≡ self.now }
         // True of every value of the type.

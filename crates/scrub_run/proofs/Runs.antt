@@ -1,7 +1,6 @@
 -- What is read from the bytes of a run, and that nothing else could be.
-use Rattle.std.proofs.Common.{◌≡◌, ◌<◌, ◌≤◌, ◌-◌, ◌^◌, ℕ, List, [], ◌++◌, length, take, drop, get_or, All, arith, refl, sym, ◌∙◌, ap, length-append}
+use Rattle.std.proofs.Common.{◌≡◌, ◌<◌, ◌≤◌, ◌-◌, ◌^◌, ℕ, List, [], ◌++◌, length, take, drop, get_or, All, arith, refl, sym, ◌∙◌, ap, length-append, take-append-drop}
 use Rattle.std.specs.List.{flat_map}
-use Rattle.std.proofs.Math.Seq.{take-add}
 use Rattle.std.proofs.lemmas.List.{append-nil, drop_at, nil_from_length, take_at}
 use Rattle.byteorder.specs.Endian.{big_bytes, big_number}
 use Rattle.sha2.specs.Sha256.{sha256}
@@ -53,23 +52,29 @@ body_cut x s a d ha hd e = (
 pub no_body : (x s : List ℕ) → length x < 32 → x ≡ s ++ sha256 s → ⊥
 no_body x s short e = omega (arith, short, ap length e, length-append s (sha256 s), length-sha256 s)
 
--- the head that was read: the first four bytes, and the number in the next four
-pub head_read : (x first count : List ℕ) (n : ℕ) → ((i : ℕ) → get_or x i 0 < 256) → first ≡ take 4 x → first ≡ run_magic → count ≡ take 4 (drop 4 x) → 8 ≤ length x → n ≡ big_number 4 count →
-    take 8 x ≡ run_magic ++ big_bytes 4 n
-head_read x first count n bytes hf hm hc long hn =
-    take-add 4 4 x ∙ ap (λ t. t ++ take 4 (drop 4 x)) (sym hf ∙ hm)
-    ∙ ap (λ t. run_magic ++ t) (sym (bytes-number_at x 4 n bytes long (hn ∙ ap (big_number 4) hc)))
+-- the head that was read: the first four bytes, the number in the next four, and the rest
+pub head_read : (x magic after count rest : List ℕ) (n : ℕ) → ((i : ℕ) → get_or x i 0 < 256) →
+    magic ≡ take 4 x → after ≡ drop 4 x → count ≡ take 4 after → rest ≡ drop 4 after → 8 ≤ length x →
+    magic ≡ run_magic → n ≡ big_number 4 count → x ≡ run_magic ++ (big_bytes 4 n ++ rest)
+head_read x magic after count rest n bytes hm ha hc hr long is hn =
+    sym (take-append-drop 4 x) ∙ ap (λ t. t ++ drop 4 x) (sym hm ∙ is)
+    ∙ ap (λ t. run_magic ++ t) (sym (take-append-drop 4 (drop 4 x)) ∙ ap (λ t. t ++ drop 4 (drop 4 x)) number ∙ ap (λ t. big_bytes 4 n ++ t) (sym (rw ha at hr)))
+  where
+    number : take 4 (drop 4 x) ≡ big_bytes 4 n
+    number = sym (bytes-number_at x 4 n bytes long (hn ∙ ap (big_number 4) (rw ha at hc)))
 
 -- the part of a run before its digest
 pub body_of_run : (payload body : List ℕ) (entries : List EntryValue) → payload ≡ body ++ sha256 body → IsRun payload entries → body ≡ run_body entries
 body_of_run payload body entries e h = same_body body (run_body entries) (sym e ∙ h.spelled)
 
--- a run has as many entries as its head claims
-pub count_of_run : (payload body : List ℕ) (entries : List EntryValue) (n : ℕ) → payload ≡ body ++ sha256 body → IsRun payload entries → n < 2 ^ 32 → take 8 body ≡ run_magic ++ big_bytes 4 n → length entries ≡ n
-count_of_run payload body entries n e h small head =
-    bytes-injective (length entries) n h.entries_of_run.count small
-    (ap (drop 4) (sym (ap (take 8) (body_of_run payload body entries e h)) ∙ head))
-
--- and its entries follow the head
-pub entries_of_body : (payload body : List ℕ) (entries : List EntryValue) → payload ≡ body ++ sha256 body → IsRun payload entries → drop 8 body ≡ flat_map entry_bytes entries
-entries_of_body payload body entries e h = ap (drop 8) (body_of_run payload body entries e h)
+-- a run has as many entries as its head claims, and they follow the head
+pub entries_of_run : (payload body rest : List ℕ) (entries : List EntryValue) (n : ℕ) → payload ≡ body ++ sha256 body →
+    body ≡ run_magic ++ (big_bytes 4 n ++ rest) → n < 2 ^ 32 → IsRun payload entries →
+    (length entries ≡ n) × (rest ≡ flat_map entry_bytes entries)
+entries_of_run payload body rest entries n e head small h = (
+  bytes-injective (length entries) n h.entries_of_run.count small cut.0,
+  sym cut.1,
+)
+  where
+    cut : (big_bytes 4 (length entries) ≡ big_bytes 4 n) × (flat_map entry_bytes entries ≡ rest)
+    cut = same_head (length entries) n (flat_map entry_bytes entries) rest (sym (body_of_run payload body entries e h) ∙ head)

@@ -22,7 +22,7 @@ run_bytes entries = run_body entries ++ sha256 (run_body entries)
 abbrev pub RisesById : List EntryValue → Type 0
 RisesById entries = AllPairs (λ e f. IsBelow e.id f.id) entries
 
--- what a run can hold: fewer than 2^32 entries, each with at most 64 locators, in strictly rising order of identifier
+-- what a run can hold: fewer than 2^32 entries, each with at most 64 locators, in strictly ascending order of identifier
 pub record AreEntries (entries : List EntryValue) : Type 0 where
   pub count : length entries < 2 ^ 32
   pub each : All IsEntry entries

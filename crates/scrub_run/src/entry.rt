@@ -10,8 +10,8 @@ use std::alloc::Global;
 use std::marker::Model;
 use std::mem;
 
-/// A shard and the locators of its chunks, according to one index run. An entry without locators means that the shard was
-/// deleted.
+/// A shard and the locators of its chunks, according to one index run. An entry without locators means that
+/// the shard was deleted.
 #[derive(Debug, Drop)]
 pub struct Entry {
     id: ShardId,
@@ -28,8 +28,8 @@ impl Model for Entry {
 }
 
 impl Entry {
-    /// An entry made of its parts. Takes no memory. An entry of a run has at most 64 locators; an entry that is held here
-    /// may have more.
+    /// An entry made of its parts. Takes no memory. An entry of a run has at most 64 locators; an entry that
+    /// is held here may have more.
     pub fn new(id: ShardId, locators: Vec<Locator>) -> Entry
         ensures { result ≡ record { id = id; locators = locators.items } }
     {

@@ -1,6 +1,6 @@
-//! Index runs as bytes. An index run is a payload that lists shards by identifier, each with the locators of its chunks, or
-//! none if the shard was deleted; a digest ends it. For which run is newer see `scrub_super`, for the status of a locator
-//! see `scrub_check`.
+//! Index runs as bytes. An index run is a payload that lists shards by identifier, each with the locators of
+//! its chunks, or none if the shard was deleted; a digest ends it. For which run is newer see `scrub_super`,
+//! for the status of a locator see `scrub_check`.
 #![tactic(auto)]
 
 pub mod entry;

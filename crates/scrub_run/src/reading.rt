@@ -1,6 +1,7 @@
 //! Index runs, read from payloads. For which payloads are read, see `read_runs` of `scrub_check`.
 
-ghost use Rattle.std.specs.Prelude.{◌≡◌, ◌+◌, ◌*◌, ◌≤◌, ◌++◌, ◌↔◌, List, ℕ, All, IsTrue, IfOk, IfSome, IfNone, IsErrOf, length, take, slice_index};
+ghost use Rattle.std.specs.Prelude.{◌≡◌, ◌+◌, ◌*◌, ◌<◌, ◌≤◌, ◌^◌, ◌++◌, ◌↔◌, List, ℕ, All, IsTrue, IfOk};
+ghost use Rattle.std.specs.Prelude.{IfSome, IfNone, IsErrOf, length, slice_index};
 ghost use Rattle.std.specs.List.{flat_map};
 ghost use Rattle.byteorder.specs.Endian.{big_bytes};
 ghost use Rattle.sha2.specs.Sha256.{sha256};
@@ -49,34 +50,37 @@ fn checked_body(payload: &[u8]) -> Option<&[u8]>
     Some(body)
 }
 
-/// The number of entries that a run's head claims. `None` if the bytes don't begin with such a head.
-fn claimed_count(body: &[u8]) -> Option<u32>
-    ensures found { IfSome result (λ count. take 8 body.now ≡ run_magic ++ big_bytes 4 count) }
-    ensures long { IfSome result (λ _. 8 ≤ length body.now) }
-    ensures none { IfNone result ((count : ℕ) (entries : List ℕ) → ¬ (body.now ≡ run_magic ++ (big_bytes 4 count ++ entries))) }
+/// The number of entries that a run's head claims, and the bytes after the head. `None` if the bytes don't
+/// begin with such a head.
+fn split_head(body: &[u8]) -> Option<(u32, &[u8])>
+    ensures found { IfSome result (λ r. body.now ≡ run_magic ++ (big_bytes 4 r.0 ++ r.1.now)) }
+    ensures fits { IfSome result (λ r. r.0 < 2 ^ 32) }
+    ensures none { IfNone result ((count : ℕ) (entries : List ℕ) →
+        ¬ (body.now ≡ run_magic ++ (big_bytes 4 count ++ entries))) }
 {
-    let (first, behind) = body.split_first_chunk::<4>()?;
-    let count = behind.first_chunk::<4>()?;
-    if *first != MAGIC {
+    let (magic, rest) = body.split_first_chunk::<4>()?;
+    let (count, entries) = rest.split_first_chunk::<4>()?;
+    if *magic != MAGIC {
         return None;
     }
-    Some(BigEndian::read_u32(count))
+    Some((BigEndian::read_u32(count), entries))
 }
 
-/// The length in bytes of the entry that the bytes begin with, by the number of locators that it claims. `None` if they
-/// begin with no entry.
-fn entry_length(bytes: &[u8]) -> Option<usize>
-    ensures found { IfSome result (λ n. n ≡ 17 + 60 * slice_index bytes.now 16) }
-    ensures few { IfSome result (λ _. slice_index bytes.now 16 ≤ MAX_LOCATORS) }
-    ensures within { IfSome result (λ n. n ≤ length bytes.now) }
-    ensures none { IfNone result ((e : EntryValue) (rest : List ℕ) → IsEntry e → ¬ (bytes.now ≡ entry_bytes e ++ rest)) }
+/// The bytes of the entry that the bytes begin with, by the number of locators that it claims, and the bytes
+/// after it. `None` if they begin with no entry.
+fn split_entry(bytes: &[u8]) -> Option<(&[u8], &[u8])>
+    ensures found { IfSome result (λ r. bytes.now ≡ r.0.now ++ r.1.now) }
+    ensures long { IfSome result (λ r. length r.0.now ≡ 17 + 60 * slice_index r.0.now 16) }
+    ensures few { IfSome result (λ r. slice_index r.0.now 16 ≤ MAX_LOCATORS) }
+    ensures none { IfNone result ((e : EntryValue) (rest : List ℕ) → IsEntry e →
+        ¬ (bytes.now ≡ entry_bytes e ++ rest)) }
 {
     let count = *bytes.get(16)? as usize;
     let needed = BARE_ENTRY_BYTES + LOCATOR_BYTES * count;
     if count > MAX_LOCATORS || needed > bytes.len() {
         return None;
     }
-    Some(needed)
+    Some(bytes.split_at(needed))
 }
 
 /// Reads the entry that fills these bytes.
@@ -92,7 +96,7 @@ fn read_entry(alloc: Global, bytes: &[u8]) -> Result<Entry, OutOfMemory>
     Ok(Entry::of(ShardId(id), locators))
 }
 
-/// Whether an identifier is above those of all entries. They rise, so the last one decides.
+/// Whether an identifier is above those of all entries. They are ascending, so the last one decides.
 fn is_above_all(entries: &[Entry], id: ShardId) -> bool
     requires { RisesById entries.now }
     ensures { IsTrue result ↔ All (λ e. IsBelow e.id id) entries.now }
@@ -103,29 +107,29 @@ fn is_above_all(entries: &[Entry], id: ShardId) -> bool
     }
 }
 
-/// Reads `count` entries in strictly rising order that fill these bytes; `None` if the bytes are anything else. The list
-/// grows with the entries found, whatever number was claimed.
+/// Reads `count` entries in strictly ascending order that fill these bytes; `None` if the bytes are anything
+/// else. The list grows with the entries found, whatever number was claimed.
 fn read_entries(alloc: Global, bytes: &[u8], count: u32) -> Result<Option<Vec<Entry>>, OutOfMemory>
     ensures found { IfOk result (λ found. IfSome found (λ v. bytes.now ≡ flat_map entry_bytes v.items)) }
     ensures count { IfOk result (λ found. IfSome found (λ v. length v.items ≡ count)) }
     ensures each { IfOk result (λ found. IfSome found (λ v. All IsEntry v.items)) }
     ensures rising { IfOk result (λ found. IfSome found (λ v. RisesById v.items)) }
     ensures none { IfOk result (λ found. IfNone found ((entries : List EntryValue) →
-        length entries ≡ count → All IsEntry entries → RisesById entries → ¬ (bytes.now ≡ flat_map entry_bytes entries))) }
+        length entries ≡ count → All IsEntry entries → RisesById entries →
+        ¬ (bytes.now ≡ flat_map entry_bytes entries))) }
 {
     let mut entries = Vec::new(alloc);
     let mut rest = bytes;
     for _ in 0..count {
-        let Some(length) = entry_length(rest) else {
+        let Some((first, others)) = split_entry(rest) else {
             return Ok(None);
         };
-        let (first, behind) = rest.split_at(length);
         let entry = read_entry(alloc, first)?;
         if !is_above_all(&entries, entry.id()) {
             return Ok(None);
         }
         entries.push(entry)?;
-        rest = behind;
+        rest = others;
     }
     if !rest.is_empty() {
         return Ok(None);
@@ -133,20 +137,21 @@ fn read_entries(alloc: Global, bytes: &[u8], count: u32) -> Result<Option<Vec<En
     Ok(Some(entries))
 }
 
-/// Reads the run that fills a payload. Faults, in this order: `OutOfMemory`, and `NotARun` if the payload isn't a run. The
-/// digest is checked first, so a payload that isn't a run rarely takes memory. The memory taken grows with the length of the
-/// payload, whatever numbers are in it.
+/// Reads the run that fills a payload. Faults, in this order: `OutOfMemory`, and `NotARun` if the payload
+/// isn't a run. The digest is checked first, so a payload that isn't a run rarely takes memory. The memory
+/// taken grows with the length of the payload, whatever numbers are in it.
 pub fn read_run(alloc: Global, payload: &[u8]) -> Result<Run, RunFault>
     ensures ok { IfOk result (IsRun payload.now) }
-    ensures not_a_run { IsErrOf result RunFault.NotARun → (entries : List EntryValue) → ¬ IsRun payload.now entries }
+    ensures not_a_run { IsErrOf result RunFault.NotARun → (entries : List EntryValue) →
+        ¬ IsRun payload.now entries }
 {
     let Some(body) = checked_body(payload) else {
         return Err(RunFault::NotARun);
     };
-    let Some(count) = claimed_count(body) else {
+    let Some((count, entries)) = split_head(body) else {
         return Err(RunFault::NotARun);
     };
-    match read_entries(alloc, &body[8..], count) {
+    match read_entries(alloc, entries, count) {
         Ok(Some(entries)) => Ok(Run::new(entries)),
         Ok(None) => Err(RunFault::NotARun),
         Err(_) => Err(RunFault::OutOfMemory),

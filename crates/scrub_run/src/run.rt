@@ -1,4 +1,5 @@
-//! The entries of an index run, and the law that a payload is at most one run. For its bytes, see `reading` and `writing`.
+//! The entries of an index run, and the law that a payload is at most one run. For its bytes, see `reading`
+//! and `writing`.
 
 ghost use Rattle.std.specs.Prelude.{◌≡◌, [], Some, None, List, ℕ, IfOk, IfSome, IfNone, slice_get, slice_set};
 
@@ -7,7 +8,7 @@ use scrub_frame::OutOfMemory;
 use std::alloc::Global;
 use std::marker::Model;
 
-/// The entries of an index run, in strictly rising order of identifier.
+/// The entries of an index run, in strictly ascending order of identifier.
 #[derive(Debug, Drop)]
 pub struct Run {
     entries: Vec<Entry>,
@@ -36,7 +37,7 @@ impl Run {
         Run { entries }
     }
 
-    /// The entries, in strictly rising order of identifier.
+    /// The entries, in strictly ascending order of identifier.
     pub fn entries(&self) -> &[Entry]
         ensures entries { result.now ≡ self.now }
         // True of every value of the type.
@@ -56,11 +57,12 @@ impl Run {
         Ok(Run::new(entries))
     }
 
-    /// Hands out the entry at a place, counted from 0; `None` if there is none. The place keeps its identifier without
-    /// locators. Takes no memory.
+    /// Hands out the entry at a place, counted from 0; `None` if there is none. The place keeps its
+    /// identifier without locators. Takes no memory.
     pub fn take(&mut self, alloc: Global, place: usize) -> Option<Entry>
         ensures found { IfSome result (λ e. slice_get self.old place ≡ Some e) }
-        ensures emptied { IfSome result (λ e. self.new ≡ slice_set self.old place (record { id = e.id; locators = [] })) }
+        ensures emptied { IfSome result (λ e.
+            self.new ≡ slice_set self.old place (record { id = e.id; locators = [] })) }
         ensures none { IfNone result (slice_get self.old place ≡ None) }
         ensures same { IfNone result (self.new ≡ self.old) }
         // True of every value of the type.
@@ -76,7 +78,7 @@ impl Run {
 ghost use Rattle.scrub_run.specs.Entry.{EntryValue};
 ghost use Rattle.scrub_run.specs.Run.{IsRun};
 
-/// A law: a payload is the run of at most one list of entries, so the entries that are read are those that were written.
+/// A law: a payload is the run of at most one list of entries. So it can be read in one way alone.
 pub fn one_run()
     ensures { (payload : List ℕ) (entries others : List EntryValue) →
         IsRun payload entries → IsRun payload others → entries ≡ others }

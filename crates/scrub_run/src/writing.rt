@@ -31,7 +31,8 @@ impl Model for RunWriter {
 }
 
 impl RunWriter {
-    /// Begins a run of this many entries. It has room for the whole run if they have this many locators together.
+    /// Begins a run of this many entries. It has room for the whole run if they have this many locators
+    /// together.
     pub fn new(alloc: Global, entries: u32, locators: usize) -> Result<RunWriter, OutOfMemory>
         requires { locators ≤ 64 * entries }
         ensures { IfOk result (λ w. w ≡ run_magic ++ big_bytes 4 entries) }

@@ -1,5 +1,5 @@
 -- Bytes that are all zero: none is counted among those that aren't zero, and none is found.
-use Rattle.std.proofs.Common.{◌≡◌, ◌<◌, ◌+◌, ℕ, zero, suc, List, [], ◌∷◌, length, filter, arith, refl, sym, ◌∙◌, ap, Some, None, not, cond, eqb}
+use Rattle.std.proofs.Common.{◌≡◌, ◌+◌, ℕ, suc, List, [], ◌∷◌, length, filter, arith, refl, sym, ◌∙◌, ap, Some, None, not, cond, eqb}
 use Rattle.std.proofs.lemmas.List.Sums.{length-filter}
 use Rattle.std.proofs.lemmas.Iterator.Adapters.{position_from-zero}
 use Rattle.std.specs.List.{count_by, position, position_from}

@@ -1,16 +1,16 @@
 -- What a head, and what closes the frame that it claims, say of the frame between them.
-use Rattle.std.proofs.Common.{◌≡◌, ◌<◌, ◌+◌, ◌^◌, ℕ, List, [], ◌++◌, map, take, length, arith, refl, sym, ◌∙◌, ap, subst, Option, Some, None, IfSome, IfNone}
+use Rattle.std.proofs.Common.{◌≡◌, ◌<◌, ◌+◌, ℕ, List, [], ◌++◌, map, length, arith, refl, sym, ◌∙◌, ap, subst, Option, Some, None}
 use Rattle.std.specs.List.{range_with_len}
 use Rattle.std.proofs.lemmas.List.FromFn.{get_or-map-range_with_len, length-map-range_with_len}
-use Rattle.scrub_disk.specs.Image.{Image, byte, AreBytesAt}
+use Rattle.scrub_disk.specs.Image.{AreBytesAt}
 use Rattle.scrub_frame.specs.declared.form.Form.{Form}
 use Rattle.scrub_frame.specs.declared.form.Form.TheVariants.{Plain}
 use Rattle.scrub_frame.specs.declared.frame.Head.{Head}
-use Rattle.scrub_frame.specs.Frame.{head, head_size, magic, seal, mark, payload_start, frame_overhead}
+use Rattle.scrub_frame.specs.Frame.{head, head_size, seal, mark, payload_start, frame_overhead}
 use Rattle.scrub_frame.proofs.Frames.{length-seal}
-use Rattle.scrub_scan.specs.Extent.{Extent, extent_of, FrameAt, NoFrameAt, HasGap}
+use Rattle.scrub_scan.specs.Extent.{Extent, FrameAt, HasGap}
 use Rattle.scrub_scan.specs.Standing.{IsClaimedAt, IsOnlyFrame, HasPlainFrame}
-use Rattle.scrub_scan.proofs.FrameBytes.{length-head_of, claimed_head, claimed_frame, has_magic, close_stands}
+use Rattle.scrub_scan.proofs.FrameBytes.{length-head_of, claimed_head}
 use Rattle.scrub_scan.proofs.Passing.{bytes_joined}
 
 -- the frame has the fields of its head
@@ -18,38 +18,6 @@ pub only_frame : (x : Extent) (p : ℕ) (h : Head) → IsClaimedAt x p h → IsO
 only_frame x p h claim f u b k =
     claimed_head x p f u b h.form h.uuid (head h.form h.uuid h.length) h.length k
     (length-head_of h.form h.uuid h.length claim.sixteen) claim.head_stands claim.sixteen claim.short refl
-
--- if there is a frame, it is the one that its head claims
-pub claimed_of : (x : Extent) (p : ℕ) (h : Head) (f : Form) (u b : List ℕ) → length h.uuid ≡ 16 → h.length < 2 ^ 32 →
-    AreBytesAt x.byte p (head h.form h.uuid h.length) → FrameAt x p f u b → IsClaimedAt x p h
-claimed_of x p h f u b sixteen short stands k =
-    let same : FrameAt x p h.form h.uuid b × (h.length ≡ length b) =
-    claimed_frame x p f u b h.form h.uuid (head h.form h.uuid h.length) h.length k
-    (length-head_of h.form h.uuid h.length sixteen) stands sixteen short refl in
-    record {
-      sixteen = sixteen;
-      short = short;
-      head_stands = stands;
-      fits = omega (arith, same.1, same.0.fits);
-      close_stands =
-          close_stands x p (p + h.length + payload_start h.form) h.form h.uuid b same.0 (omega (arith, same.1));
-    }
-
--- bytes that were read as a head are at their place
-pub head_of_bytes : (at : ℕ → Option ℕ) (p : ℕ) (bytes slice : List ℕ) (found : Option Head) → slice ≡ bytes →
-    AreBytesAt at p bytes → IfSome found (λ h. slice ≡ head h.form h.uuid h.length) →
-    IfSome found (λ h. AreBytesAt at p (head h.form h.uuid h.length))
-head_of_bytes at p bytes slice None same read is = tt
-head_of_bytes at p bytes slice (Some h) same read is = subst (λ (b : List ℕ). AreBytesAt at p b) (sym same ∙ is) read
-
--- and if they are no head, there is no frame
-pub none_of_bytes : (image : Image) (e p : ℕ) (bytes slice : List ℕ) (found : Option Head) → slice ≡ bytes →
-    length bytes ≡ head_size → AreBytesAt (byte image e) p bytes →
-    IfNone found ((form : Form) → ¬ (take 2 slice ≡ magic form)) →
-    IfNone found ((w : ℕ) → NoFrameAt (extent_of image e w) p)
-none_of_bytes image e p bytes slice (Some h) same size read none = tt
-none_of_bytes image e p bytes slice None same size read none = λ w f u b k.
-    none f (ap (take 2) same ∙ has_magic (extent_of image e w) p f u b bytes k size read)
 
 -- the byte at a place, or 0 if it can't be read
 abbrev byte_or_zero : Option ℕ → ℕ

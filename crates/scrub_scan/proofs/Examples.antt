@@ -15,7 +15,7 @@ use Rattle.scrub_scan.specs.Extent.{Extent, FrameAt, NoFrameAt, IsZero, IsUnread
 use Rattle.scrub_scan.specs.Item.{IsItem}
 use Rattle.scrub_scan.specs.Line.{line_of}
 use Rattle.scrub_scan.specs.Tiling.{IsTiling}
-use Rattle.scrub_scan.specs.OneFrame.{one_frame_at}
+use Rattle.scrub_scan.specs.steps.OneFrame.{one_frame_at}
 
 -- the UUID of sixteen bytes 11
 ones : List ℕ

@@ -16,7 +16,7 @@ use Rattle.scrub_frame.specs.Frame.{digest_size, seal, seal_size}
 use Rattle.scrub_scan.specs.declared.item.Item.{Item}
 use Rattle.scrub_scan.specs.declared.item.Item.TheVariants.{Chunk, Pad, Torn, Noise, Lost}
 use Rattle.scrub_scan.specs.Item.{start_of, stop_of}
-use Rattle.scrub_scan.specs.Gathering.{IsAdded, seal_in, with_digest, settled_one, settled}
+use Rattle.scrub_scan.specs.steps.Gathering.{IsAdded, seal_in, with_digest, settled_one, settled}
 
 -- the payload so far, with the bytes of one more part that belong to it
 pub payload_more : (at : ℕ → Option ℕ) (place stop first last : ℕ) (next part piece : List ℕ)
@@ -42,7 +42,7 @@ payload_more at place stop first last next part piece ends order part_is size ne
       ],
     )
 
--- the same, put behind what a list has from before
+-- the same, put after what a list has from before
 pub put_more : (at : ℕ → Option ℕ) (place first last done : ℕ) (out new part piece : List ℕ) → first ≤ last
     → last ≤ first + length out → done ≡ min place last - first → AreBytesAt at place part
     → piece ≡ slice_range part (min (length part) (first - place)) (min (length part) (last - place))
@@ -98,7 +98,7 @@ settled_one_last : (items : List Item) (item : Item) (digest : List ℕ)
 settled_one_last [] item digest = refl
 settled_one_last (first ∷ items) item digest = ap (λ rest. first ∷ rest) (settled_one_last items item digest)
 
--- an item behind those of these numbers
+-- an item after those of these numbers
 settled_push : (items : List Item) (item : Item) (pending : List ℕ) (payloads : List (List ℕ))
     → All (λ i. i < length items) pending
     → settled (items ++ item ∷ []) pending payloads ≡ settled items pending payloads ++ item ∷ []

@@ -17,7 +17,7 @@ use Rattle.scrub_scan.specs.declared.pages.Target.{Target}
 use Rattle.scrub_scan.specs.Extent.{bound}
 use Rattle.scrub_scan.specs.Item.{start_of, stop_of, IsItem, IsChunk}
 use Rattle.scrub_scan.specs.Findings.{unreadable_below, lost_page}
-use Rattle.scrub_scan.specs.Pages.{IsTarget, target_of}
+use Rattle.scrub_scan.specs.steps.Pages.{IsTarget, target_of}
 use Rattle.scrub_scan.specs.Tiling.{Joins, IsTiling}
 use Rattle.scrub_scan.proofs.BytesAt.{page_byte}
 use Rattle.scrub_scan.proofs.Passing.{gap_byte}

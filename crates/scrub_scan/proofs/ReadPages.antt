@@ -1,5 +1,5 @@
 -- Which pages the source was asked for, and that it was asked as many times.
-use Rattle.std.proofs.Common.{◌≡◌, ◌<◌, ◌≤◌, ◌+◌, ◌*◌, ◌/◌, ◌^◌, ◌==◌, ℕ, List, ◌∷◌, suc, arith, refl, sym, ap, inl, inr, Some}
+use Rattle.std.proofs.Common.{◌≡◌, ◌<◌, ◌≤◌, ◌+◌, ◌*◌, ◌/◌, ◌^◌, ◌==◌, ℕ, List, ◌∷◌, suc, arith, refl, sym, ap, ◌∙◌, inl, inr, Some}
 use Rattle.std.specs.List.{Contains}
 use Rattle.std.proofs.lemmas.Bool.{cases_lt, eq-eqb}
 use Rattle.std.proofs.lemmas.Nat.{div_below}
@@ -9,7 +9,7 @@ use Rattle.std.proofs.lemmas.Map.Steps.{le-length_from_below}
 use Rattle.scrub_disk.specs.Image.{Image}
 use Rattle.scrub_scan.specs.declared.pages.Target.{Target}
 use Rattle.scrub_scan.specs.declared.pages.TwoPages.{TwoPages}
-use Rattle.scrub_scan.specs.Pages.{HasRead, IsTarget, Reaches}
+use Rattle.scrub_scan.specs.steps.Pages.{HasRead, IsTarget, HasLoaded, ReadsFar}
 
 -- what a list has, it still has with one more element in front
 later : (x : ℕ) (xs : List ℕ) (q : ℕ) → Contains xs q → Contains (x ∷ xs) q
@@ -48,7 +48,7 @@ read_fewer p n m le h = record {
 }
 
 -- and one more, which a buffer has
-pub read_next : (p : TwoPages) (n : ℕ) → Reaches p n → HasRead p n → HasRead p (n + 1)
+pub read_next : (p : TwoPages) (n : ℕ) → HasLoaded p n → HasRead p n → HasRead p (n + 1)
 read_next p n has h = record {
   calls = h.calls;
   each = h.each;
@@ -93,3 +93,21 @@ all_read p n small h = elim (cases_lt p.asked (2 ^ 32)) [
       )
   | inr many ↦ omega (arith, many, small)
 ]
+
+-- fewer reads, or none where less is on the near page
+pub reads_fewer : (less most : ℕ) (here there : Type 0) (old new : TwoPages) → less ≤ most → (there → here) → ReadsFar less here old new → ReadsFar most there old new
+reads_fewer less most here there old new few then reads = record {
+  near = reads.near;
+  read = reads.read;
+  asked = omega (arith, reads.asked, few);
+  known = λ h. reads.known (then h);
+}
+
+-- some reads and then more
+pub reads_both : (few more : ℕ) (first second here : Type 0) (old mid new : TwoPages) → (here → first) → (here → second) → ReadsFar few first old mid → ReadsFar more second mid new → ReadsFar (few + more) here old new
+reads_both few more first second here old mid new at then one two = record {
+  near = two.near ∙ one.near;
+  read = λ n h. two.read n (one.read n h);
+  asked = omega (arith, one.asked, two.asked);
+  known = λ h. two.known (then h) ∙ one.known (at h);
+}

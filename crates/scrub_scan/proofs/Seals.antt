@@ -13,7 +13,7 @@ use Rattle.scrub_scan.specs.declared.item.Item.{Item}
 use Rattle.scrub_scan.specs.declared.pages.Target.{Target}
 use Rattle.scrub_scan.specs.declared.pages.TwoPages.{TwoPages}
 use Rattle.scrub_scan.specs.Extent.{Extent}
-use Rattle.scrub_scan.specs.Gathering.{AgreesWith, HasReadTo, IsCollected, IsItemIfSealed, IsSettled, IsTrustedAt, IsRightTo, RiseWithin, TiledTo, TilesIfSealed, seal_of, settled, settled_one, with_digest}
+use Rattle.scrub_scan.specs.steps.Gathering.{AgreesWith, HasReadTo, IsCollected, IsItemIfSealed, IsSettled, IsTrustedAt, IsRightTo, RiseWithin, TiledTo, TilesIfSealed, seal_of, settled, settled_one, with_digest}
 use Rattle.scrub_scan.specs.Item.{start_of, stop_of, IsItem}
 use Rattle.scrub_scan.specs.Tiling.{Joins}
 use Rattle.scrub_scan.proofs.Gathering.{length-settled_one, same_places, settled_one_is}
@@ -218,7 +218,7 @@ module _ (x : Extent) (from : Option ℕ) where
 
   -- ---- how it grows
 
-  -- an item behind the others
+  -- an item after the others
   pub tiles_more : (p stop : ℕ) (items : List Item) (pending later : List ℕ) (payloads : List (List ℕ)) (item : Item) (digest : List ℕ)
       → TilesIfSealed x p from items pending payloads → start_of item ≡ p → p ≤ stop → stop ≡ stop_of item → stop ≤ x.pointer
       → (AgreesWith item digest → IsItem x (with_digest item digest)) → (¬ AgreesWith item digest → IsTrustedAt from p)

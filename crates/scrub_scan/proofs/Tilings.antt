@@ -5,13 +5,14 @@ use Rattle.std.proofs.lemmas.Nat.{div-add-mod'}
 use Rattle.std.proofs.lemmas.List.Elements.{All-push, All-head, All-tail}
 use Rattle.scrub_frame.specs.declared.form.Form.{Form}
 use Rattle.scrub_frame.specs.Frame.{frame_overhead}
+use Rattle.scrub_frame.proofs.Frames.{overhead}
 use Rattle.scrub_scan.specs.declared.item.Item.{Item}
 use Rattle.scrub_scan.specs.declared.item.Item.TheVariants.{Chunk, Pad, Torn, Noise, Lost}
 use Rattle.sha2.specs.Sha256.{sha256}
 use Rattle.scrub_scan.specs.Extent.{Extent, bound, IsZero, IsUnreadableAt}
-use Rattle.scrub_scan.specs.Gathering.{TiledTo}
+use Rattle.scrub_scan.specs.steps.Gathering.{TiledTo}
 use Rattle.scrub_scan.specs.Item.{start_of, stop_of, IsItem, IsChunk, Fits, Spans}
-use Rattle.scrub_scan.specs.OneFrame.{one_frame_at}
+use Rattle.scrub_scan.specs.steps.OneFrame.{one_frame_at}
 use Rattle.scrub_scan.specs.Tiling.{Joins, IsTiling}
 
 pub Joins-push : (a : ℕ) (items : List Item) (item : Item) → Joins a (start_of item) items →
@@ -31,7 +32,7 @@ pub advances : (x : Extent) (item : Item) → 0 < x.page → IsItem x item →
     (start_of item < stop_of item) × (stop_of item ≤ x.pointer)
 advances x (Chunk f start stop u n digest) pos h =
     let k : IsChunk x start f stop n u digest h.fits.1.0 = h.fits.1.1 in
-    (omega (arith, k.stop), omega (arith, k.stop, k.frame.fits))
+    (omega (arith, overhead f, k.stop), omega (arith, k.stop, k.frame.fits))
 advances x (Lost start stop) pos h =
     let b = bound_above x start pos h.below in
     (omega (arith, h.fits.0.1, b.0), omega (arith, h.fits.0.1, b.1))

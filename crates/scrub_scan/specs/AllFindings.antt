@@ -1,4 +1,4 @@
--- The findings of all planned extents, in rising order.
+-- The findings of all planned extents, in ascending order.
 use Rattle.std.specs.Prelude.{◌≡◌, ◌<◌, ◌==◌, ℕ, List, [], All, map, Some, Option, MatchOption, option_map, length, slice_index}
 use Rattle.std.specs.List.{find}
 use Rattle.std.specs.List.Sorted.{IsStrictlyIncreasing}
@@ -43,8 +43,8 @@ pub record AreScannedBy {D : Type 0} (image_of : D → Image) (all : ScannedDisk
   pub rising : IsStrictlyIncreasing (extent_numbers all.extents)
   pub findings : MatchOption all.source (all.extents ≡ []) (λ s. HaveFindings (image_of s) all.extents)
 
--- the planned extents, rising, each with what its image holds under the plan's write pointer
+-- the planned extents, ascending, each with what its image holds under the plan's write pointer
 pub record AreAllFindings (image : Image) (plan : PlanValue) (all : List Scanned) : Type 0 where
-  pub extents : extent_numbers all ≡ plan.planned
+  pub extents : map (λ f. f.extent) all ≡ plan.planned
   pub pointers : All (λ f. pointer_of plan f.extent ≡ Some f.pointer) all
-  pub findings : HaveFindings image all
+  pub findings : All (λ f. IsFindings image f.extent f.pointer f.findings) all

@@ -29,7 +29,7 @@ bound x p = min x.pointer ((p / x.page + 1) * x.page)
 abbrev pub NoFrameAt : Extent → ℕ → Type 0
 NoFrameAt x p = (f : Form) (u b : List ℕ) → ¬ FrameAt x p f u b
 
--- byte p of the extent can't be read, since its page is unreadable
+-- byte p of the extent can't be read: its page is unreadable, or it isn't in the extent
 abbrev pub IsUnreadableAt : Extent → ℕ → Type 0
 IsUnreadableAt x p = x.byte p ≡ None
 

@@ -1,6 +1,7 @@
 //! The findings of all planned extents, of which there may be none. `scanning` makes those of one extent.
 
-ghost use Rattle.std.specs.Prelude.{◌≡◌, ◌<◌, ℕ, map, length, IfSome, IfNone, Contains, Some, slice_get, slice_index};
+ghost use Rattle.std.specs.Prelude.{◌≡◌, ◌<◌, ℕ, map, length, IfSome, IfNone, Contains, Some, slice_get};
+ghost use Rattle.std.specs.Prelude.{slice_index};
 ghost use Rattle.std.specs.Option.{option_map_or};
 ghost use Rattle.std.specs.List.Sorted.{IsStrictlyIncreasing};
 ghost use Rattle.scrub_disk.specs.Image.{Image};
@@ -12,8 +13,9 @@ use crate::findings::Findings;
 use scrub_disk::PageSource;
 use scrub_super::Plan;
 use std::marker::Model;
+use std::slice::Iter;
 
-/// What was found in the scanned extents of one source: each extent once, in rising order.
+/// What was found in the scanned extents of one source: each extent once, in ascending order.
 #[derive(Drop)]
 pub struct AllFindings<'d, D: PageSource> {
     slots: Vec<Option<ExtentResult<'d, D>>>,
@@ -25,7 +27,10 @@ impl<'d, D: PageSource> Model for AllFindings<'d, D> {
 
     ghost Value = { ScannedDisk D };
 
-    ghost view = { λ a. record { source = first_source (held_in a.slots.items); extents = scanned_in a.slots.items } };
+    ghost view = { λ a. record {
+      source = first_source (held_in a.slots.items);
+      extents = scanned_in a.slots.items;
+    } };
 
     ghost invariant = { λ a. AreFull a.slots.items × AreScannedBy (λ s. D.image s)
         (record { source = first_source (held_in a.slots.items); extents = scanned_in a.slots.items }) };
@@ -56,18 +61,22 @@ fn position_of<D: PageSource>(slots: &[Option<ExtentResult<'_, D>>], extent: u32
 impl<'d, D: PageSource> AllFindings<'d, D> {
     ghost use Rattle.scrub_scan.specs.Scanned.{scanned};
     ghost use Rattle.scrub_scan.specs.Slots.{AreSlots};
-    ghost use Rattle.scrub_scan.specs.AllFindings.{entry_of, findings_in, AreScannedBy, AreAllFindings, IsOfImage};
+    ghost use Rattle.scrub_scan.specs.AllFindings.{entry_of, findings_in, AreScannedBy, AreAllFindings};
+    ghost use Rattle.scrub_scan.specs.AllFindings.{IsOfImage};
 
-    /// All findings, from slots that hold the results of the planned extents in order, none missing, of one image and with
-    /// the plan's pointers. Takes no memory: it keeps the slots.
+    /// All findings, from slots that hold the results of the planned extents in order, none missing, of one
+    /// image and with the plan's pointers. Takes no memory: it keeps the slots.
     pub fn from_slots(plan: &Plan, slots: Vec<Option<ExtentResult<'d, D>>>) -> AllFindings<'d, D>
         requires slots { (image : Image) × AreSlots image plan.now slots.items }
         requires full { AreFull slots.items }
         ensures extents { result.extents ≡ scanned_in slots.entry.items }
-        ensures image { (image : Image) → AreSlots image plan.now slots.entry.items → IsOfImage (λ s. D.image s) result image }
-        ensures findings { (image : Image) → AreSlots image plan.now slots.entry.items → AreAllFindings image plan.now result.extents }
+        ensures image { (image : Image) → AreSlots image plan.now slots.entry.items →
+            IsOfImage (λ s. D.image s) result image }
+        ensures findings { (image : Image) → AreSlots image plan.now slots.entry.items →
+            AreAllFindings image plan.now result.extents }
     {
-        // For the proof alone: the contract of `planned` says that the planned extents rise, as the type's invariant needs.
+        // For the proof alone: the contract of `planned` says that the planned extents rise, as the type's
+        // invariant needs.
         let _ = plan.planned();
         AllFindings { slots }
     }
@@ -104,6 +113,17 @@ impl<'d, D: PageSource> AllFindings<'d, D> {
         }
     }
 
+    /// The results of these extents, in ascending order.
+    pub fn results(&self) -> Results<'_, 'd, D>
+        ensures results { result ≡ self.now.extents }
+        // The type's invariant, for callers that only borrow the findings.
+        ensures scanned { AreScannedBy (λ s. D.image s) self.now }
+    {
+        Results {
+            slots: self.slots.iter(),
+        }
+    }
+
     /// The result of an extent, if it was scanned.
     pub fn result_of(&self, extent: u32) -> Option<&ExtentResult<'d, D>>
         ensures found { IfSome result (λ r. entry_of self.now.extents extent ≡ Some (scanned r.now)) }
@@ -123,5 +143,42 @@ impl<'d, D: PageSource> AllFindings<'d, D> {
         ensures scanned { AreScannedBy (λ s. D.image s) self.now }
     {
         Some(self.result_of(extent)?.findings())
+    }
+}
+
+/// An iterator over the results of scanned extents, in ascending order. Contracts see what is left of them.
+#[derive(Drop)]
+pub struct Results<'a, 'd, D: PageSource> {
+    slots: Iter<'a, Option<ExtentResult<'d, D>>>,
+}
+
+impl<'a, 'd, D: PageSource> Model for Results<'a, 'd, D> {
+    ghost use Rattle.std.specs.Prelude.{List};
+    ghost use Rattle.scrub_scan.specs.Scanned.{Scanned};
+    ghost use Rattle.scrub_scan.specs.Slots.{AreFull, scanned_in};
+    ghost use Rattle.std.specs.Slice.Iter.{iter_rest};
+
+    ghost Value = { List Scanned };
+
+    ghost view = { λ a. scanned_in (iter_rest a.slots) };
+
+    ghost invariant = { λ a. AreFull (iter_rest a.slots) };
+}
+
+impl<'a, 'd, D: PageSource> Iterator for Results<'a, 'd, D> {
+    ghost use Rattle.std.specs.Iterator.{YieldsFirstBy, item_count};
+    ghost use Rattle.scrub_scan.specs.Scanned.{scanned};
+
+    type Item = &'a ExtentResult<'d, D>;
+
+    ghost next_gives = { YieldsFirstBy (λ r. scanned r.now) (λ left. left) };
+
+    ghost remaining = { item_count (λ left. left) };
+
+    fn next(&mut self) -> Option<&'a ExtentResult<'d, D>> {
+        match self.slots.next()? {
+            Some(result) => Some(result),
+            None => unreachable!(),
+        }
     }
 }

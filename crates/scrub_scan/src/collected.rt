@@ -1,11 +1,12 @@
-//! What a tiling has collected: items, and payloads that are still to be hashed for some of them. `tiling` decides which
-//! places are looked at.
+//! What a tiling has collected: items, and payloads that are still to be hashed for some of them. `tiling`
+//! decides which places are looked at.
 
-ghost use Rattle.std.specs.Prelude.{◌≡◌, ◌<◌, ◌≤◌, ◌++◌, ◌∷◌, [], ℕ, List, All, Option, None, IfOk, IfSome, map, length, true, false};
+ghost use Rattle.std.specs.Prelude.{◌≡◌, ◌<◌, ◌≤◌, ◌++◌, ◌∷◌, [], ℕ, List, All, Option, None, IfOk, IfSome};
+ghost use Rattle.std.specs.Prelude.{map, length, true, false};
 ghost use Rattle.sha2.specs.Sha256.{sha256};
 ghost use Rattle.scrub_disk.specs.Limits.{max_extent_bytes};
 ghost use Rattle.scrub_scan.specs.Extent.{Extent};
-ghost use Rattle.scrub_scan.specs.Gathering.{TilesIfSealed, TiledTo, IsRightTo};
+ghost use Rattle.scrub_scan.specs.steps.Gathering.{TilesIfSealed, TiledTo, IsRightTo};
 
 use crate::counted_source::CountedSource;
 use crate::item::{Item, Items};
@@ -20,21 +21,23 @@ use std::mem;
 /// The most bytes that are gathered before they are hashed: as many as one longest payload for each lane.
 const MOST_GATHERED: usize = LANES * LONGEST_GATHERED as usize;
 
-/// The items of an extent so far, and the payloads that are hashed together later. The digests of plain chunks are put in
-/// then; those of sealed chunks, which have their seals for digests until then, are compared with them.
+/// The items of an extent so far, and the payloads that are hashed together later. The digests of plain
+/// chunks are put in then; those of sealed chunks, which have their seals for digests until then, are
+/// compared with them.
 #[derive(Drop)]
 pub(crate) struct Collected {
     pub items: Vec<Item>,
-    /// The numbers of the items whose payloads are in the batch, rising.
+    /// The numbers of the items whose payloads are in the batch, ascending.
     pub pending: Vec<usize>,
     pub batch: Batch,
-    /// The place from which seals were trusted, if they were since the batch was last hashed: a sealed chunk at or past it
-    /// may turn out to be none.
+    /// The place from which seals were trusted, if they were since the batch was last hashed: a sealed chunk
+    /// at or past it may turn out to be none.
     pub trusted_from: Option<usize>,
 }
 
-/// Puts digests into the items of these numbers, which tile the extent up to a place. If one of them isn't the seal of its
-/// item, that item and all behind it are dropped. Returns the place up to which the items tile the extent then.
+/// Puts digests into the items of these numbers, which tile the extent up to a place. If one of them isn't
+/// the seal of its item, that item and all after it are dropped. Returns the place up to which the items
+/// tile the extent then.
 fn put_digests(
     items: &mut Vec<Item>,
     pending: &[usize],
@@ -59,7 +62,7 @@ fn put_digests(
 }
 
 impl Collected {
-    ghost use Rattle.scrub_scan.specs.Gathering.{CanReturn, IsCollected, IsSettled};
+    ghost use Rattle.scrub_scan.specs.steps.Gathering.{CanReturn, IsCollected, IsSettled};
 
     /// Nothing yet.
     pub fn new(alloc: Global) -> Collected {
@@ -86,7 +89,8 @@ impl Collected {
         ensures items { IfOk result (λ _. self.new.items.items ≡ self.old.items.items ++ reached.item ∷ []) }
         ensures gathered { IfOk result (λ _. reached.is_gathered ≡ true →
             self.new.pending.items ≡ self.old.pending.items ++ length self.old.items.items ∷ []) }
-        ensures known { IfOk result (λ _. reached.is_gathered ≡ false → self.new.pending.items ≡ self.old.pending.items) }
+        ensures known { IfOk result (λ _.
+            reached.is_gathered ≡ false → self.new.pending.items ≡ self.old.pending.items) }
         ensures batch { self.new.batch ≡ self.old.batch }
         ensures trusted { self.new.trusted_from ≡ self.old.trusted_from }
     {
@@ -97,7 +101,8 @@ impl Collected {
         Ok(())
     }
 
-    /// Trusts the seals of frames from a place on, if that is allowed and the tiling could still go back there.
+    /// Trusts the seals of frames from a place on, if that is allowed and the tiling could still go back
+    /// there.
     pub fn trust<D: PageSource>(
         &mut self,
         disk: &CountedSource<'_, D>,
@@ -107,9 +112,11 @@ impl Collected {
         trusting: bool,
     )
         requires below { place < target.now.pointer }
-        requires affordable { CanReturn (D.image disk.now) target.now scanner.now.pages.asked self.old.trusted_from }
+        requires affordable { CanReturn (D.image disk.now) target.now
+            scanner.now.pages.asked self.old.trusted_from }
         ensures collected { (x : Extent) → IsCollected x place self.old → IsCollected x place self.new }
-        ensures affordable { CanReturn (D.image disk.now) target.now scanner.now.pages.asked self.new.trusted_from }
+        ensures affordable { CanReturn (D.image disk.now) target.now
+            scanner.now.pages.asked self.new.trusted_from }
         ensures never { trusting ≡ false → self.new.trusted_from ≡ self.old.trusted_from }
     {
         if !trusting || self.trusted_from.is_some() {
@@ -120,8 +127,8 @@ impl Collected {
         }
     }
 
-    /// Settles if the batch is full, or if the tiling couldn't go back any more after one more item. Returns the place up to
-    /// which the items tile the extent.
+    /// Settles if the batch is full, or if the tiling couldn't go back any more after one more item. Returns
+    /// the place up to which the items tile the extent.
     pub fn make_room<D: PageSource>(
         &mut self,
         alloc: Global,
@@ -136,10 +143,13 @@ impl Collected {
             right ≡ place → IsCollected x place self.new) }
         ensures settled { (x : Extent) → IsCollected x place self.old → IfOk result (λ right.
             right < place → IsSettled x right self.new) }
-        ensures right { (x : Extent) → IsCollected x place self.old → IfOk result (IsRightTo place self.old.trusted_from) }
-        ensures affordable { IfOk result (λ _. CanReturn (D.image disk.now) target.now scanner.now.pages.asked self.new.trusted_from) }
+        ensures right { (x : Extent) → IsCollected x place self.old →
+            IfOk result (IsRightTo place self.old.trusted_from) }
+        ensures affordable { IfOk result (λ _.
+            CanReturn (D.image disk.now) target.now scanner.now.pages.asked self.new.trusted_from) }
         ensures never { self.old.trusted_from ≡ None → IfOk result (λ _. self.new.trusted_from ≡ None) }
-        ensures within { IfOk result (λ _. All (λ i. i < length self.new.items.items) self.new.pending.items) }
+        ensures within { IfOk result (λ _.
+            All (λ i. i < length self.new.items.items) self.new.pending.items) }
     {
         if self.batch.size() < MOST_GATHERED && self.can_wait(disk, target, scanner) {
             return Ok(place);
@@ -155,7 +165,8 @@ impl Collected {
         scanner: &Scanner,
     ) -> bool
         requires trusted { IfSome self.now.trusted_from (λ first. first ≤ target.now.pointer) }
-        ensures { result ≡ true → CanReturn (D.image disk.now) target.now scanner.now.pages.asked self.now.trusted_from }
+        ensures { result ≡ true →
+            CanReturn (D.image disk.now) target.now scanner.now.pages.asked self.now.trusted_from }
     {
         match self.trusted_from {
             Some(place) => scanner.may_return(disk, place / target.page),
@@ -163,13 +174,15 @@ impl Collected {
         }
     }
 
-    /// Hashes the payloads, puts their digests in or compares them, and forgets the payloads. Returns the place up to which
-    /// the items tile the extent then: `place`, or the one of the first sealed chunk that is none, which is dropped with all
-    /// behind it.
+    /// Hashes the payloads, puts their digests in or compares them, and forgets the payloads. Returns the
+    /// place up to which the items tile the extent then: `place`, or the one of the first sealed chunk that
+    /// is none, which is dropped with all after it.
     pub fn settle(&mut self, alloc: Global, place: usize) -> Result<usize, OutOfMemory>
         requires within { All (λ i. i < length self.old.items.items) self.old.pending.items }
-        ensures settled { (x : Extent) → IsCollected x place self.old → IfOk result (λ right. IsSettled x right self.new) }
-        ensures right { (x : Extent) → IsCollected x place self.old → IfOk result (IsRightTo place self.old.trusted_from) }
+        ensures settled { (x : Extent) → IsCollected x place self.old →
+            IfOk result (λ right. IsSettled x right self.new) }
+        ensures right { (x : Extent) → IsCollected x place self.old →
+            IfOk result (IsRightTo place self.old.trusted_from) }
         ensures none { IfOk result (λ _. self.new.pending.items ≡ []) }
         ensures untrusted { IfOk result (λ _. self.new.trusted_from ≡ None) }
     {

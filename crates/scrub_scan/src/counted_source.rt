@@ -1,5 +1,5 @@
-//! A source whose reads are counted. Only a read raises the count, and code that has only the counted source can't read
-//! without raising it. `pages` decides which pages are read.
+//! A source whose reads are counted. Only a read raises the count, and code that has only the counted source
+//! can't read without raising it. `pages` decides which pages are read.
 
 ghost use Rattle.std.specs.Prelude.{◌≡◌, ◌+◌, ◌-◌, ◌^◌, ◌<◌, min, length, OnOk, OnErr, Some, None};
 ghost use Rattle.scrub_disk.specs.Image.{HasWholePages};
@@ -7,7 +7,8 @@ ghost use Rattle.scrub_disk.specs.Image.{HasWholePages};
 use scrub_disk::{Geometry, PageSource, Unreadable};
 use std::marker::Model;
 
-/// A source that counts each read. Its field is private, so nobody gets the bare source back. Contracts see the source.
+/// A source that counts each read. Its field is private, so nobody gets the bare source back. Contracts see
+/// the source.
 #[derive(Drop)]
 pub(crate) struct CountedSource<'d, D: PageSource> {
     source: &'d D,
@@ -19,8 +20,8 @@ impl<'d, D: PageSource> Model for CountedSource<'d, D> {
     ghost view = { λ c. c.source.now };
 }
 
-/// How often a counted source was asked for a page. It can't be copied or made from a number: `lend` makes it at 0, and
-/// only `read_page` raises it.
+/// How often a counted source was asked for a page. It can't be copied or made from a number: `count_reads`
+/// makes it at 0, and only `read_page` raises it.
 #[derive(Drop)]
 pub(crate) struct PagesAsked {
     count: u64,
@@ -35,7 +36,7 @@ impl Model for PagesAsked {
 }
 
 /// Wraps a source so that its reads are counted, from 0 on.
-pub(crate) fn lend<'d, D: PageSource>(source: &'d D) -> (CountedSource<'d, D>, PagesAsked)
+pub(crate) fn count_reads<'d, D: PageSource>(source: &'d D) -> (CountedSource<'d, D>, PagesAsked)
     ensures source { result.0 ≡ source.now }
     ensures none { result.1 ≡ 0 }
 {
@@ -61,7 +62,8 @@ impl<'d, D: PageSource> CountedSource<'d, D> {
         self.source.geometry()
     }
 
-    /// Reads one page of an extent into `out`, as the source does, and counts the call. The count stays at 2^64 - 1.
+    /// Reads one page of an extent into `out`, as the source does, and counts the call. The count stays at
+    /// 2^64 - 1.
     pub fn read_page(
         &self,
         asked: &mut PagesAsked,

@@ -5,7 +5,7 @@ ghost use Rattle.std.specs.Prelude.{◌≡◌};
 use crate::item::Items;
 use std::marker::Model;
 
-/// Numbers of pages of an extent, rising.
+/// Numbers of pages of an extent, ascending.
 #[derive(Drop)]
 pub struct PageNumbers {
     pub(crate) pages: Vec<u32>,
@@ -63,7 +63,7 @@ impl Findings {
         self.tail_first
     }
 
-    /// The numbers of all unreadable pages of the extent, rising.
+    /// The numbers of all unreadable pages of the extent, ascending.
     pub fn bad_pages(&self) -> &[u32]
         ensures { result.now ≡ self.now.bad_pages }
     {

@@ -9,12 +9,13 @@ use std::fmt;
 use std::marker::Model;
 use uuid::Uuid;
 
-/// A part of an extent, from byte `start` up to but not including byte `stop`. All items except chunks stop at the next
-/// page bound above their start, or at the write pointer if that comes first.
+/// A part of an extent, from byte `start` up to but not including byte `stop`. All items except chunks stop
+/// at the next page bound above their start, or at the write pointer if that comes first.
 #[derive(Debug, Clone, Copy, PartialEq, Eq)]
 pub enum Item {
-    /// A whole frame on readable pages, with its form, its UUID, the length of its payload in bytes (`stop - start` is
-    /// `form.overhead()` more), and the SHA-256 of its payload. The payload may still not be what its writer meant.
+    /// A whole frame on readable pages, with its form, its UUID, the length of its payload in bytes (`stop -
+    /// start` is `form.overhead()` more), and the SHA-256 of its payload. The payload may still not be what
+    /// its writer meant.
     Chunk {
         form: Form,
         start: u32,
@@ -45,7 +46,7 @@ pub enum Item {
     },
 }
 
-/// The items of an extent in rising order, without gaps or overlaps. Contracts see them as a list.
+/// The items of an extent in ascending order, without gaps or overlaps. Contracts see them as a list.
 #[derive(Drop)]
 pub struct Items {
     pub(crate) items: Vec<Item>,
@@ -62,9 +63,9 @@ impl Model for Items {
 
 impl Item {
     ghost use Rattle.scrub_scan.specs.Item.{span_of, start_of, stop_of};
-    ghost use Rattle.scrub_scan.specs.Gathering.{with_digest, AgreesWith};
+    ghost use Rattle.scrub_scan.specs.steps.Gathering.{with_digest, AgreesWith};
 
-    /// The byte of the extent at which the item begins, and the one behind its last.
+    /// The byte of the extent at which the item begins, and the one after its last.
     fn span(&self) -> (u32, u32)
         ensures { result ≡ span_of self.now }
     {
@@ -124,7 +125,7 @@ impl Item {
         self.span().0
     }
 
-    /// The byte of the extent behind the item's last one.
+    /// The byte of the extent after the item's last one.
     pub fn stop(&self) -> u32
         ensures { result ≡ stop_of self.now }
     {
@@ -171,8 +172,9 @@ impl fmt::Display for Item {
 
 ghost use Rattle.scrub_scan.specs.Line.{chunk_word, line_of};
 
-/// The line of an item, without a line feed: the word for its kind (`chunk` or `sealed` for a chunk, by its form), its
-/// start and stop in decimal, and for a chunk also its UUID (RFC 9562, lower case) and the length of its payload.
+/// The line of an item, without a line feed: the word for its kind (`chunk` or `sealed` for a chunk, by its
+/// form), its start and stop in decimal, and for a chunk also its UUID (RFC 9562, lower case) and the length
+/// of its payload.
 pub fn item_line(alloc: Global, item: &Item) -> Result<String, OutOfMemory>
     ensures { IfOk result (λ line. string_bytes line ≡ line_of item.now) }
 {
@@ -180,7 +182,7 @@ pub fn item_line(alloc: Global, item: &Item) -> Result<String, OutOfMemory>
 }
 
 impl Items {
-    /// The items as a slice, by rising start.
+    /// The items as a slice, by ascending start.
     pub fn as_slice(&self) -> &[Item]
         ensures { result.now ≡ self.now }
     {

@@ -3,13 +3,13 @@
 ghost use Rattle.std.specs.Prelude.{◌≡◌, ◌+◌, ◌<◌, ◌≤◌, IfOk, IfSome, IfNone, None, length};
 ghost use Rattle.scrub_disk.specs.Image.{byte, extent_bytes, AreBytesAt};
 ghost use Rattle.scrub_scan.specs.Extent.{HasGap};
-ghost use Rattle.scrub_scan.specs.FrameRead.{AppendsAtMost};
+ghost use Rattle.scrub_scan.specs.steps.FrameRead.{AppendsAtMost};
 
 use scrub_disk::{OutOfMemory, PageSource};
 use std::alloc::Global;
 
-/// Appends the bytes of an extent from `place` to the end of its page, at most `size` of them, and returns how many these
-/// are. `None` if the page is unreadable. The page is read into the buffer.
+/// Appends the bytes of an extent from `place` to the end of its page, at most `size` of them, and returns
+/// how many these are. `None` if the page is unreadable. The page is read into the buffer.
 fn append_part<D: PageSource>(
     disk: &D,
     extent: u32,
@@ -50,7 +50,8 @@ pub(crate) fn read_bytes<D: PageSource>(
     requires in_extents { extent < (D.image disk.now).geometry.extents }
     requires in_extent { start + size ≤ extent_bytes (D.image disk.now).geometry }
     ensures size { IfOk result (λ bytes. IfSome bytes (λ v. length v.items ≡ size)) }
-    ensures bytes { IfOk result (λ bytes. IfSome bytes (λ v. AreBytesAt (byte (D.image disk.now) extent) start v.items)) }
+    ensures bytes { IfOk result (λ bytes.
+        IfSome bytes (λ v. AreBytesAt (byte (D.image disk.now) extent) start v.items)) }
     ensures gap { IfOk result (λ bytes. IfNone bytes (HasGap (byte (D.image disk.now) extent) start size)) }
 {
     let mut buffer = vec![in alloc; 0u8; disk.geometry().page() as usize]?;

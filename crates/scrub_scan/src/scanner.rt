@@ -1,20 +1,28 @@
-//! Finds the item at a place of an extent, reading one page at a time. `tiling` decides which places to look at.
+//! Finds the item at a place of an extent, reading one page at a time. `tiling` decides which places to look
+//! at.
 
-ghost use Rattle.std.specs.Prelude.{◌≡◌, ◌+◌, ◌-◌, ◌*◌, ◌/◌, ◌^◌, ◌<◌, ◌≤◌, ◌↔◌, ◌++◌, ◌∷◌, [], ℕ, List, true, false, None, Some, IsTrue, IfOk, IfSome, IfNone, Option, min, length, take, slice_index, slice_range, option_map};
+ghost use Rattle.std.specs.Prelude.{◌≡◌, ◌+◌, ◌-◌, ◌*◌, ◌/◌, ◌^◌, ◌<◌, ◌≤◌, ◌↔◌, ◌++◌, ◌∷◌, [], ℕ, List};
+ghost use Rattle.std.specs.Prelude.{true, false, None, Some, IsTrue, IfOk, IfSome, Option, min};
+ghost use Rattle.std.specs.Prelude.{MatchBool, MatchOption, IsSomeAnd};
+ghost use Rattle.std.specs.Prelude.{length, take, slice_index, slice_range, option_map};
 ghost use Rattle.scrub_disk.specs.Limits.{max_extent_bytes};
 ghost use Rattle.scrub_disk.specs.Image.{Image, byte, extent_bytes, AreBytesAt};
 ghost use Rattle.scrub_frame.specs.declared.form.Form.{Form};
 ghost use Rattle.scrub_frame.specs.Frame.{magic, frame_overhead};
 ghost use Rattle.scrub_frame.specs.Matching.{left};
+ghost use Rattle.scrub_scan.specs.declared.item.Item.{Item};
 ghost use Rattle.scrub_scan.specs.declared.pages.Target.{Target};
 ghost use Rattle.scrub_scan.specs.Extent.{Extent, NoFrameAt, HasGap, bound};
 ghost use Rattle.scrub_scan.specs.Item.{start_of, stop_of, IsItem};
-ghost use Rattle.scrub_scan.specs.Pages.{HoldBoth, IsTarget, target_of, Scans, IsFound, Passes, IsPassed, AskedBy, HasRead, KeepsNear, Reaches, place_behind, last_page, frame_cost};
+ghost use Rattle.scrub_scan.specs.steps.Pages.{HoldBoth, IsTarget, target_of, Scans, IsFound, Passes};
+ghost use Rattle.scrub_scan.specs.steps.Pages.{IsPassed, HasRead, HasLoaded, IsNear, ReadsFar, ReadsFrame};
+ghost use Rattle.scrub_scan.specs.steps.Pages.{ReadsFrameAt, ReadsItem, KeepsReads, last_page, found_by};
 ghost use Rattle.scrub_scan.specs.Standing.{IsClaimedAt};
-ghost use Rattle.scrub_scan.specs.Gathering.{IsGathered, IsMet, IsReached, AgreesWith, with_digest, seal_in};
+ghost use Rattle.scrub_scan.specs.steps.Gathering.{IsGathered, IsMet, IsReached};
 ghost use Rattle.sha_lanes.specs.Gathered.{Gathers};
 
 use crate::counted_source::{CountedSource, PagesAsked};
+use crate::found_frame::FoundFrame;
 use crate::item::Item;
 use crate::pages::{PageMemory, Target, TwoPages};
 use scrub_disk::{OutOfMemory, PageSource, is_zero};
@@ -23,43 +31,35 @@ use scrub_frame::{
     read_head,
 };
 use sha_lanes::Batch;
-use uuid::Uuid;
 
-/// A frame that was found at a place.
-#[derive(Clone, Copy)]
-pub(crate) struct Found {
-    pub form: Form,
-    pub uuid: Uuid,
-    /// The length of its payload, in bytes.
-    pub length: u32,
-    /// The SHA-256 of its payload.
-    pub digest: [u8; DIGEST_BYTES],
-}
-
-/// The longest payload that is gathered in a batch, to be hashed beside others; a longer one is hashed at once.
+/// The longest payload that is gathered in a batch, to be hashed beside others; a longer one is hashed at
+/// once.
 pub(crate) const LONGEST_GATHERED: u32 = 1_048_576;
 
-/// An item that was found, and whether its payload is in the batch: then it has no digest yet, or its seal for one.
+/// An item that was found, and whether its payload is in the batch: then it has no digest yet, or its seal
+/// for one.
 #[derive(Clone, Copy)]
 pub(crate) struct Reached {
     pub item: Item,
     pub is_gathered: bool,
 }
 
-/// A frame that was found, and whether its payload is in the batch: then it has no digest yet, or its seal for one.
+/// A frame that was found, and whether its payload is in the batch: then it has no digest yet, or its seal
+/// for one.
 #[derive(Clone, Copy)]
 pub(crate) struct Met {
-    pub found: Found,
+    pub found: FoundFrame,
     pub is_gathered: bool,
 }
 
-/// Reads an extent page by page. It keeps two pages, the running digest of the current frame, and the number of one
-/// unreadable page.
+/// Reads an extent page by page. It keeps two pages, the running digest of the current frame, and the number
+/// of one unreadable page.
 #[derive(Drop)]
 pub(crate) struct Scanner {
     pub pages: TwoPages,
     matcher: Matcher,
-    /// The last unreadable page that cut off a frame. Other frames that claim it are refused without being read.
+    /// The last unreadable page that cut off a frame. Other frames that claim it are refused without being
+    /// read.
     gap: Option<u32>,
 }
 
@@ -67,7 +67,8 @@ pub(crate) struct Scanner {
 fn has_magic(part: &[u8]) -> bool
     ensures found { IsTrue result → (2 ≤ length part.now) ×
         ((f : Form) × (slice_index part.now 0 ∷ slice_index part.now 1 ∷ [] ≡ magic f)) }
-    ensures none { result ≡ false → 2 ≤ length part.now → (f : Form) → ¬ (slice_index part.now 0 ∷ slice_index part.now 1 ∷ [] ≡ magic f) }
+    ensures none { result ≡ false → 2 ≤ length part.now → (f : Form) →
+        ¬ (slice_index part.now 0 ∷ slice_index part.now 1 ∷ [] ≡ magic f) }
 {
     part.len() >= 2 && Form::with_magic(part[0], part[1]).is_some()
 }
@@ -94,15 +95,16 @@ fn readable_item(part: &[u8], start: u32, stop: u32) -> Item
 fn bytes_between(part: &[u8], place: usize, first: usize, last: usize) -> &[u8]
     requires order { first ≤ last }
     requires small { place + length part.now ≤ max_extent_bytes }
-    ensures { result.now ≡ slice_range part.now (min (length part.now) (first - place)) (min (length part.now) (last - place)) }
+    ensures { result.now ≡ slice_range part.now (min (length part.now) (first - place))
+        (min (length part.now) (last - place)) }
 {
     let from = first.saturating_sub(place).min(part.len());
     let to = last.saturating_sub(place).min(part.len());
     &part[from..to]
 }
 
-/// Puts the bytes of a part that are between two places of the extent behind those that `out` has from before. The part
-/// begins at `place`.
+/// Puts the bytes of a part that are between two places of the extent after those that `out` has from
+/// before. The part begins at `place`.
 fn put_between(out: &mut [u8], part: &[u8], place: usize, first: usize, last: usize)
     requires order { first ≤ last }
     requires room { last ≤ first + length out.old }
@@ -116,7 +118,8 @@ fn put_between(out: &mut [u8], part: &[u8], place: usize, first: usize, last: us
     put_part(out, done, bytes_between(part, place, first, last));
 }
 
-/// Whether the payload of a frame with this head is added to a batch. That of a sealed frame is if its seal is trusted.
+/// Whether the payload of a frame with this head is added to a batch. That of a sealed frame is if its seal
+/// is trusted.
 fn gathers(head: &Head, trusts: bool) -> bool
     ensures { result ≡ true → trusts ≡ false → head.now.form ≡ Form.Plain }
 {
@@ -128,7 +131,8 @@ impl Scanner {
     pub fn new(memory: PageMemory, page: usize, asked: PagesAsked) -> Result<Scanner, OutOfMemory>
         requires page { 0 < page }
         requires none { asked ≡ 0 }
-        ensures scans { (image : Image) (t : Target) → page ≡ image.geometry.page → IfOk result (Scans image t) }
+        ensures scans { (image : Image) (t : Target) → page ≡ image.geometry.page →
+            IfOk result (Scans image t) }
         ensures asked { IfOk result (λ s. s.pages.asked ≡ 0) }
         ensures read { IfOk result (λ s. HasRead s.pages 0) }
     {
@@ -148,18 +152,19 @@ impl Scanner {
         pages.into_parts()
     }
 
-    /// Whether the tiling could go back to a page after one more item, and go on from there without asking for more pages
-    /// than a tiling may: for each page, one call for each page of the extent and five more.
+    /// Whether the tiling could go back to a page after one more item, and go on from there without asking
+    /// for more pages than a tiling may: for each page, one call for each page of the extent and five more.
     pub fn may_return<D: PageSource>(&self, disk: &CountedSource<'_, D>, page: usize) -> bool
         requires { page ≤ max_extent_bytes }
-        ensures { result ≡ true → self.now.pages.asked + 4 + (D.image disk.now).geometry.pages ≤ page * ((D.image disk.now).geometry.pages + 5) }
+        ensures { result ≡ true → self.now.pages.asked + 4 + (D.image disk.now).geometry.pages ≤
+            page * ((D.image disk.now).geometry.pages + 5) }
     {
         let pages = disk.geometry().pages() as u64;
         self.pages.asked.count().saturating_add(pages + 4) <= page as u64 * (pages + 5)
     }
 
-    /// The item that begins at a place below the pointer. If it is a chunk, its payload may be added to the batch in place
-    /// of being hashed; that of a sealed chunk only if seals are trusted.
+    /// The item that begins at a place below the pointer. If it is a chunk, its payload may be added to the
+    /// batch in place of being hashed; that of a sealed chunk only if seals are trusted.
     pub fn item_at<D: PageSource>(
         &mut self,
         disk: &CountedSource<'_, D>,
@@ -172,18 +177,13 @@ impl Scanner {
         requires scans { Scans (D.image disk.now) target.now self.old }
         requires below { start < target.now.pointer }
         ensures scans { IfOk result (λ _. Scans (D.image disk.now) target.now self.new) }
-        ensures start { IfOk result (λ r. start_of r.item ≡ start) }
-        ensures rises { IfOk result (λ r. start < stop_of r.item) }
-        ensures stop { IfOk result (λ r. stop_of r.item ≤ target.now.pointer) }
+        ensures spans { IfOk result (λ r. (start_of r.item ≡ start) × (start < stop_of r.item) ×
+            (stop_of r.item ≤ target.now.pointer)) }
         ensures item { (messages : List (List ℕ)) → Gathers batch.old messages [] →
-            IfOk result (λ r. IsReached (target_of (D.image disk.now) target.now) trusts r messages batch.new) }
-        ensures asked { (n : ℕ) → AskedBy self.old.pages (start / target.now.page) n →
-            IfOk result (λ _. self.new.pages.asked ≤ n + 4 + (D.image disk.now).geometry.pages) }
-        ensures asked_next { (n : ℕ) → AskedBy self.old.pages (start / target.now.page) n →
-            IfOk result (λ r. stop_of r.item < target.now.pointer →
-            AskedBy self.new.pages (stop_of r.item / target.now.page) (n + (stop_of r.item / target.now.page - start / target.now.page) * ((D.image disk.now).geometry.pages + 5))) }
-        ensures read { HasRead self.old.pages (start / target.now.page) →
-            IfOk result (λ r. HasRead self.new.pages (stop_of r.item / target.now.page)) }
+            IfOk result (λ r.
+            IsReached (target_of (D.image disk.now) target.now) trusts r messages batch.new) }
+        ensures reads { IfOk result (λ r. ReadsItem (D.image disk.now) target.now start (stop_of r.item)
+            self.old.pages self.new.pages) }
     {
         let met = self.meet_frame(disk, target, start, trusts, batch)?;
         match met {
@@ -202,9 +202,9 @@ impl Scanner {
         }
     }
 
-    /// The frame at a place below the pointer, if there is one. The page of the place becomes the near one. A short payload
-    /// is added to the batch in place of being hashed, unless it is of a sealed frame and seals aren't trusted: if one is
-    /// wrong, there is no frame.
+    /// The frame at a place below the pointer, if there is one. The page of the place becomes the near one. A
+    /// short payload is added to the batch in place of being hashed, unless it is of a sealed frame and seals
+    /// aren't trusted: if one is wrong, there is no frame.
     fn meet_frame<D: PageSource>(
         &mut self,
         disk: &CountedSource<'_, D>,
@@ -217,27 +217,22 @@ impl Scanner {
         requires scans { Scans (D.image disk.now) target.now self.old }
         requires below { start < target.now.pointer }
         ensures scans { IfOk result (λ _. Scans (D.image disk.now) target.now self.new) }
-        ensures near { IfOk result (λ _. self.new.pages.near.number ≡ Some (start / target.now.page)) }
         ensures found { (messages : List (List ℕ)) → Gathers batch.old messages [] → IfOk result (λ found.
-            IfSome found (λ m. IsMet (target_of (D.image disk.now) target.now) start trusts m messages batch.new)) }
+            MatchOption found
+            (NoFrameAt (target_of (D.image disk.now) target.now) start × Gathers batch.new messages [])
+            (λ m. IsMet (target_of (D.image disk.now) target.now) start trusts m messages batch.new)) }
         ensures fits { IfOk result (λ found. IfSome found (λ m.
             start + m.found.length + frame_overhead m.found.form ≤ target.now.pointer)) }
-        ensures none { (messages : List (List ℕ)) → Gathers batch.old messages [] → IfOk result (λ found.
-            IfNone found (NoFrameAt (target_of (D.image disk.now) target.now) start × Gathers batch.new messages [])) }
-        ensures asked_found { (n : ℕ) → AskedBy self.old.pages (start / target.now.page) n → IfOk result (λ found.
-            IfSome found (λ m. self.new.pages.asked ≤ n + 1 + frame_cost (start / target.now.page) (last_page target.now start m.found.form m.found.length))) }
-        ensures asked_none { (n : ℕ) → AskedBy self.old.pages (start / target.now.page) n → IfOk result (λ found.
-            IfNone found (self.new.pages.asked ≤ n + 4 + (D.image disk.now).geometry.pages)) }
-        ensures read { HasRead self.old.pages (start / target.now.page) → IfOk result (λ found.
-            HasRead self.new.pages (place_behind start (option_map (λ m. m.found) found) / target.now.page)) }
+        ensures reads { IfOk result (λ found. ReadsFrameAt (D.image disk.now) target.now start
+            (option_map (λ m. m.found) found) self.old.pages self.new.pages) }
     {
         self.pages
-            .approach(disk, target.extent, (start / target.page) as u32);
-        let Some(head) = self.may_stand(disk, target, start) else {
+            .load_near(disk, target.extent, (start / target.page) as u32);
+        let Some(head) = self.claimed_head(disk, target, start) else {
             return Ok(None);
         };
         if !gathers(&head, trusts) {
-            return match self.pass_frame(disk, target, start) {
+            return match self.match_frame(disk, target, start) {
                 Some(found) => {
                     Ok(Some(Met {
                         found,
@@ -251,7 +246,7 @@ impl Scanner {
             return Ok(None);
         };
         Ok(Some(Met {
-            found: Found {
+            found: FoundFrame {
                 form: head.form,
                 uuid: head.uuid,
                 length: head.length,
@@ -267,64 +262,38 @@ impl Scanner {
         disk: &CountedSource<'_, D>,
         target: &Target,
         start: usize,
-    ) -> Option<Found>
+    ) -> Option<FoundFrame>
         requires target { IsTarget (D.image disk.now) target.now }
         requires scans { Scans (D.image disk.now) target.now self.old }
         requires below { start < target.now.pointer }
         ensures scans { Scans (D.image disk.now) target.now self.new }
-        ensures near { self.new.pages.near.number ≡ Some (start / target.now.page) }
-        ensures found { IfSome result (IsFound (target_of (D.image disk.now) target.now) start) }
-        ensures none { IfNone result (NoFrameAt (target_of (D.image disk.now) target.now) start) }
-        ensures asked_found { (n : ℕ) → AskedBy self.old.pages (start / target.now.page) n →
-            IfSome result (λ f. self.new.pages.asked ≤ n + 1 + frame_cost (start / target.now.page) (last_page target.now start f.form f.length)) }
-        ensures asked_none { (n : ℕ) → AskedBy self.old.pages (start / target.now.page) n →
-            IfNone result (self.new.pages.asked ≤ n + 4 + (D.image disk.now).geometry.pages) }
-        ensures read { HasRead self.old.pages (start / target.now.page) →
-            HasRead self.new.pages (place_behind start result / target.now.page) }
+        ensures found { MatchOption result (NoFrameAt (target_of (D.image disk.now) target.now) start)
+            (IsFound (target_of (D.image disk.now) target.now) start) }
+        ensures reads { ReadsFrameAt (D.image disk.now) target.now start result
+            self.old.pages self.new.pages }
     {
         self.pages
-            .approach(disk, target.extent, (start / target.page) as u32);
-        match self.may_stand(disk, target, start) {
-            Some(_) => self.pass_frame(disk, target, start),
+            .load_near(disk, target.extent, (start / target.page) as u32);
+        match self.claimed_head(disk, target, start) {
+            Some(_) => self.match_frame(disk, target, start),
             None => None,
         }
     }
 
-    /// The chunk of a frame that was found at a place. If the next item begins on the far page, that becomes the near one.
-    fn chunk_of(&mut self, target: &Target, start: usize, found: Found) -> Item
+    /// The chunk of a frame that was found at a place. If the next item begins on the far page, that becomes
+    /// the near one.
+    fn chunk_of(&mut self, target: &Target, start: usize, found: FoundFrame) -> Item
         requires below { start < target.now.pointer }
         requires fits { start + found.length + frame_overhead found.form ≤ target.now.pointer }
         ensures scans { (image : Image) → Scans image target.now self.old → Scans image target.now self.new }
-        ensures start { start_of result ≡ start }
-        ensures stop { stop_of result ≡ start + found.length + frame_overhead found.form }
-        ensures item { (image : Image) → IsFound (target_of image target.now) start found → IsItem (target_of image target.now) result }
-        ensures chunk { (image : Image) (digest : List ℕ) → IsFound (target_of image target.now) start
-            (record { form = found.form; uuid = found.uuid; length = found.length; digest = digest }) →
-            IsItem (target_of image target.now) (with_digest result digest) }
-        ensures digest { with_digest result found.digest ≡ result }
-        ensures seal { (digest : List ℕ) → AgreesWith result digest → seal_in found.form digest ≡ seal_in found.form found.digest }
-        ensures sealed { (digest : List ℕ) → seal_in found.form digest ≡ seal_in found.form found.digest → AgreesWith result digest }
-        ensures near { self.old.pages.near.number ≡ Some (stop_of result / target.now.page) →
-            self.new.pages.near.number ≡ Some (stop_of result / target.now.page) }
-        ensures asked { self.new.pages.asked ≡ self.old.pages.asked }
-        ensures read { (n : ℕ) → HasRead self.old.pages n → HasRead self.new.pages n }
+        ensures chunk { result ≡ Item.Chunk found.form start
+            (start + found.length + frame_overhead found.form) found.uuid found.length found.digest }
+        ensures kept { KeepsReads ((start + found.length + frame_overhead found.form) / target.now.page)
+            self.old.pages self.new.pages }
     {
-        let Found {
-            form,
-            uuid,
-            length,
-            digest,
-        } = found;
-        let stop = start + length as usize + form.overhead();
-        self.pages.turn((stop / target.page) as u32);
-        Item::Chunk {
-            form,
-            start: start as u32,
-            stop: stop as u32,
-            uuid,
-            length,
-            digest,
-        }
+        let stop = start + found.length as usize + found.form.overhead();
+        self.pages.swap_if_far_is((stop / target.page) as u32);
+        found.into_chunk(start as u32, stop as u32)
     }
 
     /// The item at a place on the near page with no frame: it goes up to the next bound.
@@ -333,8 +302,10 @@ impl Scanner {
         requires page { self.now.pages.page ≡ target.now.page }
         requires near { self.now.pages.near.number ≡ Some (start / target.now.page) }
         ensures start { start_of result ≡ start }
-        ensures stop { (image : Image) → IsTarget image target.now → stop_of result ≡ bound (target_of image target.now) start }
-        ensures item { (image : Image) → IsTarget image target.now → HoldBoth image target.now.extent self.now.pages →
+        ensures stop { (image : Image) → IsTarget image target.now →
+            stop_of result ≡ bound (target_of image target.now) start }
+        ensures item { (image : Image) → IsTarget image target.now →
+            HoldBoth image target.now.extent self.now.pages →
             NoFrameAt (target_of image target.now) start → IsItem (target_of image target.now) result }
     {
         let stop = target.bound(start);
@@ -347,10 +318,10 @@ impl Scanner {
         }
     }
 
-    /// The head of the frame that may be at a place: it is there, it doesn't contain the page known to be unreadable, and
-    /// what closes it is there. This is checked before anything is hashed, so a head without its far end costs at most three
-    /// page reads.
-    fn may_stand<D: PageSource>(
+    /// The head of the frame that is claimed at a place: it is there, the frame doesn't contain the page
+    /// known to be unreadable, and what closes it is there. This is checked before anything is hashed, so a
+    /// head without its far end costs at most three page reads.
+    pub fn claimed_head<D: PageSource>(
         &mut self,
         disk: &CountedSource<'_, D>,
         target: &Target,
@@ -360,12 +331,11 @@ impl Scanner {
         requires scans { Scans (D.image disk.now) target.now self.old }
         requires below { start < target.now.pointer }
         ensures scans { Scans (D.image disk.now) target.now self.new }
-        ensures kept { KeepsNear self.old.pages self.new.pages }
-        ensures claims { IfSome result (IsClaimedAt (target_of (D.image disk.now) target.now) start) }
-        ensures none { IfNone result (NoFrameAt (target_of (D.image disk.now) target.now) start) }
-        ensures asked { self.new.pages.asked ≤ self.old.pages.asked + 4 }
-        ensures known { IfSome result (λ h. last_page target.now start h.form h.length ≤ start / target.now.page →
-            self.old.pages.near.number ≡ Some (start / target.now.page) → self.new.pages.asked ≡ self.old.pages.asked) }
+        ensures claimed { MatchOption result (NoFrameAt (target_of (D.image disk.now) target.now) start)
+            (IsClaimedAt (target_of (D.image disk.now) target.now) start) }
+        ensures reads { ReadsFar 4 (IsSomeAnd result (λ h.
+            (last_page target.now start h.form h.length ≤ start / target.now.page) ×
+            (self.old.pages.near.number ≡ Some (start / target.now.page)))) self.old.pages self.new.pages }
     {
         let room = target.pointer - start;
         if room < LEAST_OVERHEAD {
@@ -418,13 +388,10 @@ impl Scanner {
         requires within { place + length wanted.now ≤ target.now.pointer }
         requires short { length wanted.now ≤ 18 }
         ensures scans { Scans (D.image disk.now) target.now self.new }
-        ensures kept { KeepsNear self.old.pages self.new.pages }
-        ensures found { result ≡ true → AreBytesAt (target_of (D.image disk.now) target.now).byte place wanted.now }
-        ensures none { result ≡ false → ¬ AreBytesAt (target_of (D.image disk.now) target.now).byte place wanted.now }
-        ensures asked { self.new.pages.asked ≤ self.old.pages.asked + 2 }
-        ensures known { self.old.pages.near.number ≡ Some (place / target.now.page) →
-            place + length wanted.now ≤ (place / target.now.page + 1) * target.now.page →
-            self.new.pages.asked ≡ self.old.pages.asked }
+        ensures found { IsTrue result ↔
+            AreBytesAt (target_of (D.image disk.now) target.now).byte place wanted.now }
+        ensures reads { ReadsFar 2 (IsNear target.now self.old.pages place (length wanted.now))
+            self.old.pages self.new.pages }
     {
         let mut bytes = [0; CLOSE_BYTES];
         let found = &mut bytes[..wanted.len()];
@@ -447,20 +414,18 @@ impl Scanner {
         requires within { place + length out.old ≤ target.now.pointer }
         requires short { length out.old ≤ 64 }
         ensures scans { Scans (D.image disk.now) target.now self.new }
-        ensures kept { KeepsNear self.old.pages self.new.pages }
-        ensures filled { result ≡ true → AreBytesAt (target_of (D.image disk.now) target.now).byte place out.new }
-        ensures gap { result ≡ false → HasGap (target_of (D.image disk.now) target.now).byte place (length out.old) }
-        ensures asked { self.new.pages.asked ≤ self.old.pages.asked + 2 }
-        ensures known { self.old.pages.near.number ≡ Some (place / target.now.page) →
-            place + length out.old ≤ (place / target.now.page + 1) * target.now.page →
-            self.new.pages.asked ≡ self.old.pages.asked }
+        ensures filled { MatchBool result
+            (AreBytesAt (target_of (D.image disk.now) target.now).byte place out.new)
+            (HasGap (target_of (D.image disk.now) target.now).byte place (length out.old)) }
+        ensures reads { ReadsFar 2 (IsNear target.now self.old.pages place (length out.old))
+            self.old.pages self.new.pages }
     {
         let mut done = 0;
         while done < out.len() {
             let from = place + done;
             let stop = target.bound(from).min(place + out.len());
             self.pages
-                .reach(disk, target.extent, (from / target.page) as u32);
+                .load_far(disk, target.extent, (from / target.page) as u32);
             let Some(part) = self.pages.part(from, stop) else {
                 return false;
             };
@@ -471,30 +436,24 @@ impl Scanner {
     }
 
     /// The frame at a place, if there is one. Its payload is hashed page by page.
-    fn pass_frame<D: PageSource>(
+    fn match_frame<D: PageSource>(
         &mut self,
         disk: &CountedSource<'_, D>,
         target: &Target,
         start: usize,
-    ) -> Option<Found>
+    ) -> Option<FoundFrame>
         requires target { IsTarget (D.image disk.now) target.now }
         requires scans { Scans (D.image disk.now) target.now self.old }
         requires below { start < target.now.pointer }
         ensures scans { Scans (D.image disk.now) target.now self.new }
-        ensures near { self.new.pages.near ≡ self.old.pages.near }
-        ensures found { IfSome result (IsFound (target_of (D.image disk.now) target.now) start) }
-        ensures none { IfNone result (NoFrameAt (target_of (D.image disk.now) target.now) start) }
-        ensures asked_found { self.old.pages.near.number ≡ Some (start / target.now.page) →
-            IfSome result (λ f. self.new.pages.asked ≤ self.old.pages.asked + (last_page target.now start f.form f.length - start / target.now.page)) }
-        ensures asked_none { self.old.pages.near.number ≡ Some (start / target.now.page) →
-            IfNone result (self.new.pages.asked < self.old.pages.asked + (D.image disk.now).geometry.pages) }
-        ensures read { HasRead self.old.pages (start / target.now.page) →
-            HasRead self.new.pages (place_behind start result / target.now.page) }
+        ensures found { MatchOption result (NoFrameAt (target_of (D.image disk.now) target.now) start)
+            (IsFound (target_of (D.image disk.now) target.now) start) }
+        ensures reads { ReadsFrame (D.image disk.now) target.now start result self.old.pages self.new.pages }
     {
         self.matcher = Matcher::new((target.pointer - start) as u64);
         let mut place = start;
         while place < target.pointer {
-            match self.pass_page(disk, target, place) {
+            match self.feed_page(disk, target, place) {
                 Fed::More => place = target.bound(place),
                 Fed::Whole {
                     form,
@@ -503,7 +462,7 @@ impl Scanner {
                     digest,
                     ..
                 } => {
-                    return Some(Found {
+                    return Some(FoundFrame {
                         form,
                         uuid,
                         length,
@@ -517,7 +476,7 @@ impl Scanner {
     }
 
     /// Feeds the matcher the bytes from a place up to the next bound. `No` if they are unreadable.
-    fn pass_page<D: PageSource>(
+    fn feed_page<D: PageSource>(
         &mut self,
         disk: &CountedSource<'_, D>,
         target: &Target,
@@ -528,16 +487,17 @@ impl Scanner {
         requires below { place < target.now.pointer }
         requires left { left self.old.matcher ≡ target.now.pointer - place }
         ensures scans { Scans (D.image disk.now) target.now self.new }
-        ensures kept { KeepsNear self.old.pages self.new.pages }
-        ensures answer { (start : ℕ) → Passes (target_of (D.image disk.now) target.now) start place self.old.matcher →
-            IsPassed (target_of (D.image disk.now) target.now) start (bound (target_of (D.image disk.now) target.now) place) self.new.matcher result }
-        ensures asked { self.new.pages.asked ≤ self.old.pages.asked + 1 }
-        ensures known { self.old.pages.near.number ≡ Some (place / target.now.page) → self.new.pages.asked ≡ self.old.pages.asked }
-        ensures reached { Reaches self.new.pages (place / target.now.page) }
+        ensures answer { (start : ℕ) →
+            Passes (target_of (D.image disk.now) target.now) start place self.old.matcher →
+            IsPassed (target_of (D.image disk.now) target.now) start
+            (bound (target_of (D.image disk.now) target.now) place) self.new.matcher result }
+        ensures reads { ReadsFar 1 (self.old.pages.near.number ≡ Some (place / target.now.page))
+            self.old.pages self.new.pages }
+        ensures loaded { HasLoaded self.new.pages (place / target.now.page) }
     {
         let stop = target.bound(place);
         let page = (place / target.page) as u32;
-        self.pages.reach(disk, target.extent, page);
+        self.pages.load_far(disk, target.extent, page);
         let Some(part) = self.pages.part(place, stop) else {
             self.gap = Some(page);
             return Fed::No;
@@ -545,9 +505,9 @@ impl Scanner {
         self.matcher.feed(part)
     }
 
-    /// Passes a frame that its head claims, if all its bytes can be read, and adds its payload to the batch. Returns the seal
-    /// of a sealed frame, which stands if that is the payload's digest; for a plain one, which stands, zeros. `None` if a
-    /// byte can't be read.
+    /// Passes a frame that its head claims, if all its bytes can be read, and adds its payload to the batch.
+    /// Returns the seal of a sealed frame, which stands if that is the payload's digest; for a plain one,
+    /// which stands, zeros. `None` if a byte can't be read.
     fn gather_frame<D: PageSource>(
         &mut self,
         disk: &CountedSource<'_, D>,
@@ -560,19 +520,13 @@ impl Scanner {
         requires scans { Scans (D.image disk.now) target.now self.old }
         requires claimed { IsClaimedAt (target_of (D.image disk.now) target.now) start head.now }
         ensures scans { IfOk result (λ _. Scans (D.image disk.now) target.now self.new) }
-        ensures near { IfOk result (λ _. self.new.pages.near ≡ self.old.pages.near) }
-        ensures found { (messages : List (List ℕ)) → Gathers batch.old messages [] → IfOk result (λ found. IfSome found (λ seal.
+        ensures found { (messages : List (List ℕ)) → Gathers batch.old messages [] → IfOk result (λ found.
+            MatchOption found
+            (NoFrameAt (target_of (D.image disk.now) target.now) start × Gathers batch.new messages [])
+            (λ seal.
             IsGathered (target_of (D.image disk.now) target.now) start head.now seal messages batch.new)) }
-        ensures none { (messages : List (List ℕ)) → Gathers batch.old messages [] → IfOk result (λ found. IfNone found
-            (NoFrameAt (target_of (D.image disk.now) target.now) start × Gathers batch.new messages [])) }
-        ensures asked_found { self.old.pages.near.number ≡ Some (start / target.now.page) → IfOk result (λ found. IfSome found (λ _.
-            self.new.pages.asked ≤ self.old.pages.asked + (last_page target.now start head.now.form head.now.length - start / target.now.page))) }
-        ensures asked_none { self.old.pages.near.number ≡ Some (start / target.now.page) → IfOk result (λ found. IfNone found
-            (self.new.pages.asked < self.old.pages.asked + (D.image disk.now).geometry.pages)) }
-        ensures read_found { HasRead self.old.pages (start / target.now.page) → IfOk result (λ found. IfSome found (λ _.
-            HasRead self.new.pages ((start + head.now.length + frame_overhead head.now.form) / target.now.page))) }
-        ensures read_none { HasRead self.old.pages (start / target.now.page) → IfOk result (λ found. IfNone found
-            (HasRead self.new.pages (start / target.now.page))) }
+        ensures reads { IfOk result (λ found. ReadsFrame (D.image disk.now) target.now start
+            (option_map (found_by head.now) found) self.old.pages self.new.pages) }
     {
         let sealed = start + HEAD_BYTES;
         let first = start + head.form.payload_start();
@@ -583,7 +537,7 @@ impl Scanner {
         while place < end {
             let stop = target.bound(place);
             let page = (place / target.page) as u32;
-            self.pages.reach(disk, target.extent, page);
+            self.pages.load_far(disk, target.extent, page);
             let Some(part) = self.pages.part(place, stop) else {
                 self.gap = Some(page);
                 batch.cancel();

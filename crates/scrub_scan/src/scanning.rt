@@ -7,12 +7,12 @@ ghost use Rattle.scrub_scan.specs.Scanned.{result_image, scanned};
 ghost use Rattle.scrub_scan.specs.AllFindings.{AreAllFindings, IsOfImage};
 
 use crate::all_findings::AllFindings;
-use crate::counted_source::lend;
+use crate::counted_source::count_reads;
 use crate::extent_result::ExtentResult;
 use crate::findings::{Findings, PageNumbers};
 use crate::pages::{PageMemory, Target};
 use crate::scanner::Scanner;
-use crate::tail::{Surveyed, survey};
+use crate::tail::{TailAndLostPages, tail_and_lost_pages};
 use crate::tiling::tile_by;
 use crate::workspace::Workspace;
 use scrub_disk::{OutOfMemory, PageSource};
@@ -35,7 +35,7 @@ fn scan_under<'d, D: PageSource>(
     ensures pointer { IfOk result (λ r. (scanned r).pointer ≡ pointer) }
 {
     // The source is lent only here: all reads below go through it, and the result gets its count.
-    let (counted, asked) = lend(disk);
+    let (counted, asked) = count_reads(disk);
     let target = Target::new(&counted, extent, pointer);
     let pages = mem::replace(&mut workspace.pages, PageMemory::new(alloc));
     let mut scanner = Scanner::new(pages, target.page, asked)?;
@@ -46,7 +46,7 @@ fn scan_under<'d, D: PageSource>(
         &mut scanner,
         &mut workspace.collected,
     )?;
-    let Surveyed { tail, bad_pages } = survey(
+    let TailAndLostPages { tail, bad_pages } = tail_and_lost_pages(
         alloc,
         &counted,
         &target,
@@ -64,8 +64,8 @@ fn scan_under<'d, D: PageSource>(
     Ok(ExtentResult::new(disk, extent, pointer, findings, asked))
 }
 
-/// Scans a planned extent with the plan's write pointer. `pages_asked` of the result is the number of page reads. `OutOfMemory`
-/// if there isn't enough for the result or for what the scan needs besides.
+/// Scans a planned extent with the plan's write pointer. `pages_asked` of the result is the number of page
+/// reads. `OutOfMemory` if there isn't enough for the result or for what the scan needs besides.
 pub fn scan_extent<'d, D: PageSource>(
     alloc: Global,
     disk: &'d D,
@@ -95,12 +95,13 @@ pub fn scan_extent_in<'d, D: PageSource>(
     ensures extent { IfOk result (λ r. (scanned r).extent ≡ extent) }
     ensures pointer { IfOk result (λ r. pointer_of plan.now extent ≡ Some (scanned r).pointer) }
 {
-    // For the proof alone: the contract of `planned` says that the planned extents are below the disk's number of extents.
+    // For the proof alone: the contract of `planned` says that the planned extents are below the disk's
+    // number of extents.
     let _ = plan.planned();
     scan_under(alloc, workspace, disk, extent, plan.pointer(extent))
 }
 
-/// Scans all planned extents one after another, in rising order.
+/// Scans all planned extents one after another, in ascending order.
 pub fn scan_in_order<'d, D: PageSource>(
     alloc: Global,
     disk: &'d D,

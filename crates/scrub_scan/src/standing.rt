@@ -1,19 +1,21 @@
-//! The frame at a given place of an extent, without the tiling. `scrub_check` finds out whether an item begins there.
+//! The frame at a given place of an extent, without the tiling. `scrub_check` finds out whether an item
+//! begins there.
 
-ghost use Rattle.std.specs.Prelude.{◌≡◌, ◌<◌, ◌≤◌, ◌+◌, ◌++◌, ℕ, List, true, false, take, length, IfOk, IfSome, IfNone};
-ghost use Rattle.scrub_disk.specs.Image.{Image, byte, extent_bytes, AreBytesAt};
+ghost use Rattle.std.specs.Prelude.{◌≡◌, ◌<◌, ◌≤◌, ◌+◌, ℕ, List, IfOk, IfSome, IfNone};
+ghost use Rattle.scrub_disk.specs.Image.{Image, extent_bytes};
 ghost use Rattle.scrub_frame.specs.declared.form.Form.{Form};
 ghost use Rattle.scrub_frame.specs.declared.frame.Head.{Head};
-ghost use Rattle.scrub_frame.specs.Frame.{magic, head, head_size, mark, payload_start, frame_overhead};
+ghost use Rattle.scrub_frame.specs.Frame.{frame_overhead};
 ghost use Rattle.scrub_scan.specs.Extent.{Extent, extent_of, FrameAt, NoFrameAt, HasGap};
-ghost use Rattle.scrub_scan.specs.Standing.{IsStandingAt, Stands, HasPayload, IsClaimedAt, IsOnlyFrame, HasPlainFrame};
+ghost use Rattle.scrub_scan.specs.Standing.{IsStandingAt, Stands, HasPayload, IsClaimedAt, IsOnlyFrame};
+ghost use Rattle.scrub_scan.specs.Standing.{HasPlainFrame};
 
-use crate::counted_source::lend;
+use crate::counted_source::count_reads;
 use crate::pages::{PageMemory, Target};
 use crate::reading::read_bytes;
-use crate::scanner::{Found, Scanner};
+use crate::scanner::Scanner;
 use scrub_disk::{OutOfMemory, PageSource};
-use scrub_frame::{DIGEST_BYTES, Form, HEAD_BYTES, Head, LEAST_OVERHEAD, read_head};
+use scrub_frame::{DIGEST_BYTES, Form, Head};
 use std::alloc::Global;
 use uuid::Uuid;
 
@@ -34,8 +36,8 @@ pub struct Standing {
     pub digest: [u8; DIGEST_BYTES],
 }
 
-/// The frame at byte `offset` of an extent, if there is one, all of it is readable, and it ends at or before the pointer
-/// (in bytes too). Only the pages that its head claims are read.
+/// The frame at byte `offset` of an extent, if there is one, all of it is readable, and it ends at or before
+/// the pointer (in bytes too). Only the pages that its head claims are read.
 pub fn frame_stands<D: PageSource>(
     alloc: Global,
     disk: &D,
@@ -46,95 +48,26 @@ pub fn frame_stands<D: PageSource>(
     requires in_extents { extent < (D.image disk.now).geometry.extents }
     requires pointer { pointer ≤ extent_bytes (D.image disk.now).geometry }
     requires offset { offset ≤ extent_bytes (D.image disk.now).geometry }
-    ensures found { IfOk result (λ found. IfSome found (IsStandingAt (D.image disk.now) pointer extent offset)) }
-    ensures none { IfOk result (λ found. IfNone found (NoFrameAt (extent_of (D.image disk.now) extent pointer) offset)) }
+    ensures found { IfOk result (λ found.
+        IfSome found (IsStandingAt (D.image disk.now) pointer extent offset)) }
+    ensures none { IfOk result (λ found.
+        IfNone found (NoFrameAt (extent_of (D.image disk.now) extent pointer) offset)) }
 {
     if offset >= pointer {
         return Ok(None);
     }
-    let (counted, asked) = lend(disk);
+    let (counted, asked) = count_reads(disk);
     let target = Target::new(&counted, extent, pointer);
     let mut scanner = Scanner::new(PageMemory::new(alloc), target.page, asked)?;
     match scanner.frame_at(&counted, &target, offset as usize) {
-        Some(found) => {
-            let Found {
-                form,
-                uuid,
-                length,
-                digest,
-            } = found;
-            Ok(Some(Standing {
-                extent,
-                offset,
-                form,
-                uuid,
-                length,
-                digest,
-            }))
-        }
+        Some(found) => Ok(Some(found.into_standing(extent, offset))),
         None => Ok(None),
     }
 }
 
-/// Parses a head.
-fn head_in(bytes: &[u8]) -> Option<Head>
-    requires { length bytes.now ≡ head_size }
-    ensures found { IfSome result (λ h. bytes.now ≡ head h.form h.uuid h.length) }
-    ensures none { IfNone result ((form : Form) → ¬ (take 2 bytes.now ≡ magic form)) }
-{
-    read_head(bytes.first_chunk::<HEAD_BYTES>()?)
-}
-
-/// The head at a place of an extent, if there is one and it is readable.
-fn head_at<D: PageSource>(
-    alloc: Global,
-    disk: &D,
-    extent: u32,
-    start: usize,
-) -> Result<Option<Head>, OutOfMemory>
-    requires in_extents { extent < (D.image disk.now).geometry.extents }
-    requires in_extent { start + head_size ≤ extent_bytes (D.image disk.now).geometry }
-    ensures found { IfOk result (λ found. IfSome found (λ h.
-        AreBytesAt (byte (D.image disk.now) extent) start (head h.form h.uuid h.length))) }
-    ensures none { IfOk result (λ found. IfNone found ((w : ℕ) → NoFrameAt (extent_of (D.image disk.now) extent w) start)) }
-{
-    match read_bytes(alloc, disk, extent, start, HEAD_BYTES)? {
-        Some(bytes) => Ok(head_in(&bytes)),
-        None => Ok(None),
-    }
-}
-
-/// Whether the frame that a head claims is closed where it would end.
-fn is_closed<D: PageSource>(
-    alloc: Global,
-    disk: &D,
-    extent: u32,
-    start: usize,
-    head: Head,
-) -> Result<bool, OutOfMemory>
-    requires in_extents { extent < (D.image disk.now).geometry.extents }
-    requires fits { start + head.length + frame_overhead head.form ≤ extent_bytes (D.image disk.now).geometry }
-    ensures found { IfOk result (λ closed. closed ≡ true →
-        AreBytesAt (byte (D.image disk.now) extent) (start + head.length + payload_start head.form) (head.uuid ++ mark head.form)) }
-    ensures none { IfOk result (λ closed. closed ≡ false →
-        ¬ AreBytesAt (byte (D.image disk.now) extent) (start + head.length + payload_start head.form) (head.uuid ++ mark head.form)) }
-{
-    let close = head.form.close_bytes();
-    match read_bytes(
-        alloc,
-        disk,
-        extent,
-        start + head.payload_end() as usize,
-        close,
-    )? {
-        Some(found) => Ok(found.as_slice() == &head.form.close(&head.uuid)[..close]),
-        None => Ok(false),
-    }
-}
-
-/// The head at a place of an extent, if the frame that it claims is closed where it would end, at or before the pointer. If
-/// a frame is there, it has this form, UUID and length. But there may be none: what is between the head and the close isn't
-/// read, and no payload is hashed. At most four pages are read.
+/// The head at a place of an extent, if the frame that it claims is closed where it would end, at or before
+/// the pointer. If a frame is there, it has this form, UUID and length. But there may be none: what is
+/// between the head and the close isn't read, and no payload is hashed. At most four pages are read.
 pub fn claimed_frame<D: PageSource>(
     alloc: Global,
     disk: &D,
@@ -145,22 +78,18 @@ pub fn claimed_frame<D: PageSource>(
     requires in_extents { extent < (D.image disk.now).geometry.extents }
     requires pointer { pointer ≤ extent_bytes (D.image disk.now).geometry }
     requires offset { offset ≤ extent_bytes (D.image disk.now).geometry }
-    ensures found { IfOk result (λ found. IfSome found (IsClaimedAt (extent_of (D.image disk.now) extent pointer) offset)) }
-    ensures none { IfOk result (λ found. IfNone found (NoFrameAt (extent_of (D.image disk.now) extent pointer) offset)) }
+    ensures found { IfOk result (λ found.
+        IfSome found (IsClaimedAt (extent_of (D.image disk.now) extent pointer) offset)) }
+    ensures none { IfOk result (λ found.
+        IfNone found (NoFrameAt (extent_of (D.image disk.now) extent pointer) offset)) }
 {
-    if (pointer as usize) < offset as usize + LEAST_OVERHEAD {
+    if offset >= pointer {
         return Ok(None);
     }
-    let Some(head) = head_at(alloc, disk, extent, offset as usize)? else {
-        return Ok(None);
-    };
-    if head.frame_bytes() > (pointer - offset) as u64 {
-        return Ok(None);
-    }
-    if !is_closed(alloc, disk, extent, offset as usize, head)? {
-        return Ok(None);
-    }
-    Ok(Some(head))
+    let (counted, asked) = count_reads(disk);
+    let target = Target::new(&counted, extent, pointer);
+    let mut scanner = Scanner::new(PageMemory::new(alloc), target.page, asked)?;
+    Ok(scanner.claimed_head(&counted, &target, offset as usize))
 }
 
 /// The payload of a frame that is in the disk's image.
@@ -185,15 +114,16 @@ pub fn read_payload<D: PageSource>(
     }
 }
 
-/// A law: at most one frame is at a place of an extent, whatever the pointers. So `frame_stands` finds the only one, and
-/// `read_payload` gives its payload.
+/// A law: at most one frame is at a place of an extent, whatever the pointers. So `frame_stands` finds the
+/// only one, and `read_payload` gives its payload.
 pub fn one_frame_stands()
     ensures { (image : Image) (e v w place : ℕ) (f : Form) (t b : List ℕ) (g : Form) (u c : List ℕ) →
-        FrameAt (extent_of image e v) place f t b → FrameAt (extent_of image e w) place g u c → (f ≡ g) × (t ≡ u) × (b ≡ c) }
+        FrameAt (extent_of image e v) place f t b → FrameAt (extent_of image e w) place g u c →
+        (f ≡ g) × (t ≡ u) × (b ≡ c) }
 {}
 
-/// A law: where `claimed_frame` finds a head, there is a frame with these fields or none; and if the head is plain and all
-/// its frame's bytes are readable, the frame is there.
+/// A law: where `claimed_frame` finds a head, there is a frame with these fields or none; and if the head is
+/// plain and all its frame's bytes are readable, the frame is there.
 pub fn a_claim_is_of_one_frame()
     ensures only { (x : Extent) (place : ℕ) (h : Head) → IsClaimedAt x place h → IsOnlyFrame x place h }
     ensures plain { (x : Extent) (place : ℕ) (h : Head) → IsClaimedAt x place h → h.form ≡ Form.Plain →

@@ -4,8 +4,9 @@ use crate::collected::Collected;
 use crate::pages::PageMemory;
 use std::alloc::Global;
 
-/// The memory that scans need besides their results: buffers for pages, and for the payloads that are hashed together (at most
-/// some 8 MiB). A worker that keeps it for all its scans asks for it once. It holds nothing that a scan depends on.
+/// The memory that scans need besides their results: buffers for pages, and for the payloads that are hashed
+/// together (at most some 8 MiB). A worker that keeps it for all its scans asks for it once. It holds nothing
+/// that a scan depends on.
 #[derive(Drop)]
 pub struct Workspace {
     pub(crate) pages: PageMemory,

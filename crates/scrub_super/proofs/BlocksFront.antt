@@ -9,7 +9,7 @@ use Rattle.std.proofs.lemmas.List.{get_or-append-add}
 use Rattle.scrub_disk.specs.Image.{AreBytesAt}
 use Rattle.scrub_disk.specs.Limits.{max_extent_bytes}
 use Rattle.scrub_super.specs.Blocks.{IsMarked, LacksByte, byte_left, LosesBlocks}
-use Rattle.scrub_super.specs.BlocksRead.{IsBlockRead, AreBlockMarks, AreBlocksRead, AreAllRead, BeginsWith}
+use Rattle.scrub_super.specs.steps.BlocksRead.{IsBlockRead, AreBlockMarks, AreBlocksRead, AreAllRead, BeginsWith}
 
 -- ---- one block
 
@@ -19,7 +19,7 @@ pub block_read : (raw : Option (List ℕ)) (offset lacking before after n : ℕ)
     IfSome raw (λ bytes. AreBytesAt (slice_get bytes) offset (take n out)) →
     (n < length out → IfSome raw (λ bytes. length bytes ≤ offset + n)) →
     (is_lost ≡ true → lacking < n) → (lacking < n → is_lost ≡ true) →
-    IfSome raw (λ bytes. IsBlockRead bytes offset lacking before after out n is_lost)
+    IfSome raw (λ bytes. IsBlockRead bytes offset lacking before after out (record { len = n; is_lost = is_lost }))
 block_read None offset lacking before after n is_lost out le size stands ends only all = tt
 block_read (Some bytes) offset lacking before after n is_lost out le size stands ends only all = record {
   read = λ _. stands;
@@ -89,7 +89,7 @@ module _ {read out new : List ℕ} {lost more : List Bool} {len : ℕ} {is_lost 
   one_block : {known places : List ℕ} {start : ℕ} (before after : ℕ) {former latter : ℕ} →
       length read ≡ 512 * length lost → start ≡ length lost * 512 → before ≤ after →
       (former < latter → before < after) → AreBlocksRead known places before read lost →
-      IsBlockRead known start (get_or places (length lost) 512) former latter out len is_lost →
+      IsBlockRead known start (get_or places (length lost) 512) former latter out (record { len = len; is_lost = is_lost }) →
       AreBlocksRead known places after new more
   one_block {known} {places} {start} before after size place le counted old block = by is_lost refl
     where
@@ -162,7 +162,7 @@ module _ {read out new : List ℕ} {lost more : List Bool} {len : ℕ} {is_lost 
       ∙ ap Some ((let e : get_or new i 0 ≡ get_or (read ++ take len out) i 0 = ap (λ (xs : List ℕ). get_or xs i 0) adds.bytes in e)
       ∙ get_or_append_left read (take len out) 0 i low)
 
-  -- and they have the block behind them
+  -- and they have the block after them
   pub block_stands : (known : List ℕ) (start : ℕ) → start ≡ length read → BeginsWith known new →
       AreBytesAt (slice_get known) start (take len out)
   block_stands known start place all k hk =
@@ -176,12 +176,12 @@ module _ {read out new : List ℕ} {lost more : List Bool} {len : ℕ} {is_lost 
       (same : was ≡ raw) (number : length lost ≡ n) (place_is : lacking ≡ get_or places n 512) (size : length read ≡ 512 * n)
       (place : start ≡ n * 512) (low : first ≤ before) (le : before ≤ after)
       (old : IfSome raw (λ known. AreBlocksRead known places (before - first) read lost))
-      (block : IfSome was (λ known. IsBlockRead known start lacking before after out len is_lost)) where
+      (block : IfSome was (λ known. IsBlockRead known start lacking before after out (record { len = len; is_lost = is_lost }))) where
     pub blocks_next : IfSome raw (λ known. AreBlocksRead known places (after - first) new more)
     blocks_next = by raw old (rw (same, place_is, ← number) at block)
       where
         by : (o : Option (List ℕ)) → IfSome o (λ known. AreBlocksRead known places (before - first) read lost) →
-            IfSome o (λ known. IsBlockRead known start (get_or places (length lost) 512) before after out len is_lost) →
+            IfSome o (λ known. IsBlockRead known start (get_or places (length lost) 512) before after out (record { len = len; is_lost = is_lost })) →
             IfSome o (λ known. AreBlocksRead known places (after - first) new more)
         by None old block = tt
         by (Some known) old block =
@@ -193,7 +193,7 @@ module _ {read out new : List ℕ} {lost more : List Bool} {len : ℕ} {is_lost 
     blocks_end short = by raw blocks_next (rw same at block)
       where
         by : (o : Option (List ℕ)) → IfSome o (λ known. AreBlocksRead known places (after - first) new more) →
-            IfSome o (λ known. IsBlockRead known start lacking before after out len is_lost) →
+            IfSome o (λ known. IsBlockRead known start lacking before after out (record { len = len; is_lost = is_lost })) →
             IfSome o (λ known. AreAllRead known places (after - first) new more)
         by None blocks block = tt
         by (Some known) blocks block = record {

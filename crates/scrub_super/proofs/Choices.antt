@@ -15,8 +15,12 @@ use Rattle.scrub_super.specs.Contents.{Contents}
 use Rattle.scrub_super.specs.Record.{record_bytes, BeginsWithRecord}
 use Rattle.scrub_disk.specs.Buffered.{IsBuffered}
 use Rattle.scrub_disk.specs.Image.{unreadable_pages}
-use Rattle.scrub_super.specs.Chosen.{RecordStandsAt, IsGreatest, IsTie, IsChoice}
-use Rattle.scrub_super.specs.RecordsSeen.{StandsFrom, IsNewestFrom, AreSeenFrom}
+use Rattle.scrub_super.specs.Chosen.{RecordStandsAt, IsChoice}
+use Rattle.scrub_super.specs.Pages.{IsRank}
+use Rattle.scrub_super.specs.declared.pages.Rank.{Rank}
+use Rattle.scrub_super.specs.steps.ByConditions.{AreRecordPages, IsGreatest, IsRankByConditions, IsTie}
+use Rattle.scrub_super.specs.steps.RecordsSeen.{StandsFrom, IsNewestFrom, AreSeenFrom}
+use Rattle.scrub_super.proofs.NewestRecords.{from_conditions, rank_from_conditions, records_of_pages}
 use Rattle.scrub_super.proofs.OneRecord.{one_record_lem}
 use Rattle.scrub_super.proofs.Standing.{byte_held, some_bytes}
 use Rattle.scrub_disk.proofs.Filters.{filter_same}
@@ -78,6 +82,20 @@ module _ {image : Image} {bytes : List ℕ} {readable : List Bool} (h : IsBuffer
       by_mark true s = refl
       by_mark false s = refl
 
+-- what was found are all pages with a record
+pub pages_found : {image : Image} {f : RecordsSeen} → (found : AreSeenFrom (StandsFrom image) 0 f) → AreRecordPages image found.pages
+pages_found found = record {
+  rising = found.are.rising;
+  exact = λ g. (
+    (λ there. let x = (found.are.exact g).0 there in (x.1.1.0, x.1.1.1)),
+    (λ x. (found.are.exact g).1 (omega arith, (x.0.generation, (x.0, x.1, refl)))),
+  );
+}
+
+pub rank_found : {image : Image} {f : RecordsSeen} → AreSeenFrom (StandsFrom image) 0 f → (n : ℕ) (rank : Rank) →
+    IsRankByConditions image n rank → IsRank image n rank
+rank_found found n rank is = let rs = records_of_pages (pages_found found) in rank_from_conditions rs.1 n rank is
+
 -- nothing was found
 module _ {image : Image} {f : RecordsSeen} (found : AreSeenFrom (StandsFrom image) 0 f) (is : f.newest ≡ None) where
   pub nothing_found : {g : ℕ} {c : Contents} → RecordStandsAt image g c → ⊥
@@ -88,7 +106,7 @@ module _ {image : Image} {f : RecordsSeen} (found : AreSeenFrom (StandsFrom imag
 
   pub choice_without : {bad : List ℕ} → bad ≡ unreadable_pages image 0 →
       IsChoice image (record { geometry = image.geometry; superblock = None; page = None; records = 0; tie = false; bad_pages = bad })
-  choice_without hb = record {
+  choice_without hb = from_conditions (record {
     geometry = refl;
     chosen = λ g c s. nothing_found s;
     records = (
@@ -101,7 +119,7 @@ module _ {image : Image} {f : RecordsSeen} (found : AreSeenFrom (StandsFrom imag
     );
     tie = ((λ wrong. absurd (false≢true wrong)), (λ t. absurd (nothing_found t.stands)));
     bad_pages = hb;
-  }
+  })
 
 -- the newest that was found
 module _ {image : Image} {f : RecordsSeen} {b : Newest} (found : AreSeenFrom (StandsFrom image) 0 f)
@@ -163,27 +181,17 @@ module _ {image : Image} {f : RecordsSeen} {b : Newest} (found : AreSeenFrom (St
     pub choice_by : {c : Contents} {bad : List ℕ} →
         BeginsWithRecord image.geometry (drop (b.page * image.geometry.page) bytes) c → bad ≡ unreadable_pages image 0 →
         IsChoice image (record { geometry = image.geometry; superblock = Some c; page = Some b.page; records = f.records; tie = b.tie; bad_pages = bad })
-    choice_by {c} begins hb = record {
+    choice_by {c} begins hb = from_conditions (record {
       geometry = refl;
       chosen = record {
         stands = rw same at newest.there.1;
         greatest = greatest_found (omega (arith, generation));
         lowest = λ g d s same. newest.lowest g (omega arith) (d, s, same ∙ generation);
       };
-      records = (
-        found.pages,
-        record {
-          rising = found.are.rising;
-          exact = λ g. (
-            (λ there. let x = (found.are.exact g).0 there in (x.1.1.0, x.1.1.1)),
-            (λ x. (found.are.exact g).1 (omega arith, (x.0.generation, (x.0, x.1, refl)))),
-          );
-        },
-        found.records,
-      );
+      records = (found.pages, pages_found found, found.records);
       tie = tie_found;
       bad_pages = hb;
-    }
+    })
       where
         same : newest.there.0 ≡ c
         same = one_record_lem image.geometry _ _ c (front_at h newest.there.1) begins

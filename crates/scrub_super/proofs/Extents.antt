@@ -1,4 +1,4 @@
--- Rising extents: read one after another, and searched.
+-- Ascending extents: read one after another, and searched.
 use Rattle.std.proofs.Common.{◌≡◌, ◌<◌, ◌≤◌, ◌+◌, ◌*◌, ◌-◌, ◌==◌, ◌++◌, ℕ, zero, suc, List, [], ◌∷◌, true, false, cond, length, take, drop, length-drop, get_or, arith, refl, sym, ◌∙◌, ap, Result, Ok, Err, is_ok, nat_cmp, inl, inr, MatchResult}
 use Rattle.std.specs.List.{list_any}
 use Rattle.std.specs.List.Sorted.{IsStrictlyIncreasing, IsBinarySearchResult}
@@ -12,7 +12,7 @@ use Rattle.std.proofs.lemmas.List.Kept.{AllPairs-from_increasing}
 use Rattle.std.proofs.lemmas.List.Sorted.{searched}
 use Rattle.byteorder.specs.Endian.{big_number}
 use Rattle.scrub_super.specs.Planned.{is_in_use, extents_in_use}
-use Rattle.scrub_super.specs.RecordRead.{number_in, SpellExtents}
+use Rattle.scrub_super.specs.steps.RecordRead.{number_in, SpellExtents}
 
 -- the first i numbers rise, each among 1 up to E, and the last of them is known
 pub record RiseTo (extents : ℕ) (bytes : List ℕ) (i last : ℕ) : Type 0 where
@@ -58,7 +58,7 @@ pub not_below : {e : ℕ} {x : List ℕ} (i : ℕ) {n : ℕ} → n ≡ number_in
     SpellExtents e x → ⊥
 not_below i is fits high s = omega (arith, is, high, s.below i fits)
 
--- a search among rising numbers
+-- a search among ascending numbers
 pub found_extent : (xs : List ℕ) (n : ℕ) (r : Result ℕ ℕ) → IsStrictlyIncreasing xs →
     IsBinarySearchResult (λ y. nat_cmp y n) xs r → is_ok r ≡ list_any (λ m. m == n) xs
 found_extent xs n r rising result = by r (searched xs n r result falls)

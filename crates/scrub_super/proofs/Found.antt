@@ -1,7 +1,7 @@
 -- A record, put together from what was read of it.
 use Rattle.std.proofs.Common.{◌≡◌, ◌<◌, ◌≤◌, ◌+◌, ◌*◌, ◌-◌, ◌^◌, ℕ, List, [], length, take, drop, get_or, arith, refl, sym, subst, ◌∙◌, ap, length-drop, All, Option, Some, None, IfSome, option_map}
-use Rattle.std.specs.List.{flat_map, between}
-use Rattle.std.specs.Option.{option_map_or, unwrap_or}
+use Rattle.std.specs.List.{flat_map}
+use Rattle.std.specs.Option.{unwrap_or}
 use Rattle.std.proofs.lemmas.List.{take_all, length-take-le, nil_from_length}
 use Rattle.std.proofs.lemmas.Grind.{same_number_lists}
 use Rattle.byteorder.specs.Endian.{big_bytes, big_number}
@@ -13,17 +13,15 @@ use Rattle.scrub_frame.specs.Locator.{locator_bytes, IsLocator}
 use Rattle.scrub_frame.proofs.Bytes.{bytes-number, number-take}
 use Rattle.scrub_frame.proofs.Locators.{fields_read, same_locators}
 use Rattle.scrub_frame.specs.Frame.{digest_size}
-use Rattle.scrub_super.specs.declared.head.Cuts.{Cuts}
-use Rattle.scrub_super.specs.declared.pages.RecordKind.TheVariants.{Ssb1, Ssb2}
 use Rattle.scrub_super.specs.Pages.{kind_of}
 use Rattle.scrub_super.specs.Contents.{Contents, retired_in}
 use Rattle.scrub_super.specs.Planned.{AreRetired}
 use Rattle.scrub_super.specs.Record.{ArePointers, BeginsWithRecord}
-use Rattle.scrub_super.specs.RecordRead.{record_head_size, retired_count, IsHead, AreCuts, BeginsWithSome, number_in, SpellExtents}
-use Rattle.scrub_super.proofs.Cuts.{four_parts}
+use Rattle.scrub_super.specs.steps.RecordRead.{record_head_size, retired_count, runs_place, digest_place, pointer_bytes, retired_bytes, run_locator_bytes, kind_by, IsHead, BeginsWithSome, number_in, SpellExtents}
+use Rattle.scrub_super.proofs.BytesInParts.{four_parts}
 use Rattle.scrub_super.proofs.Listed.{AreSmall, count_in, small_count, small_pointers, small_listed, same_numbers, same_listed}
 use Rattle.scrub_super.proofs.Parts.{AreBytes, AreBytes-drop, AreBytes-take, values, length-values, get_or-values, flat_map-values}
-use Rattle.scrub_super.proofs.RecordParts.{runs_place, digest_place, pointer_bytes, retired_bytes, run_bytes, pointers_cut, retired_cut, runs_cut, body_behind, AreRecordParts, record_of_parts, is_head, known_parts}
+use Rattle.scrub_super.proofs.RecordParts.{body_behind, AreRecordParts, record_of_parts, is_head, known_parts}
 
 -- ---- numbers and locators, by the bytes that spell them
 
@@ -136,13 +134,13 @@ listed_spelled (Some t) part l h = flat_map-values (big_bytes 4) (big_number 4) 
 -- ---- the record
 
 -- there is a record if there is a head, each pointer is within the limit, the retired extents rise, and the digest is right
-pub record_found : {g : Geometry} (x : List ℕ) {n r : ℕ} {k : Option ℕ} {cuts : Cuts} {most e : ℕ} → AreBytes x →
-    IsHead g (take (record_head_size k) x) n r k → AreCuts g r k cuts →
-    cuts.digest + digest_size ≤ length x → most ≡ g.page * g.pages →
-    ((j : ℕ) → 4 * j + 4 ≤ length (between cuts.pointers cuts.retired x) → number_in (between cuts.pointers cuts.retired x) j ≤ most) →
-    e ≡ g.extents → SpellExtents e (between cuts.retired cuts.runs x) →
-    take digest_size (drop cuts.digest x) ≡ sha256 (take cuts.digest x) → BeginsWithSome g x n r k
-record_found {g} x {n} {r} {k} bytes head at enough limit within count extents digest = record {
+pub record_found : {g : Geometry} (x : List ℕ) {n r : ℕ} {k : Option ℕ} {size most e : ℕ} {pointer_part retired_part body rest : List ℕ} →
+    AreBytes x → IsHead g (take (record_head_size k) x) n r k → size ≡ digest_place g r k → size + digest_size ≤ length x →
+    pointer_part ≡ pointer_bytes g k x → retired_part ≡ retired_bytes g k x → body ≡ take size x → rest ≡ drop size x →
+    most ≡ g.page * g.pages → ((j : ℕ) → 4 * j + 4 ≤ length pointer_part → number_in pointer_part j ≤ most) →
+    e ≡ g.extents → SpellExtents e retired_part →
+    take digest_size rest ≡ sha256 body → BeginsWithSome g x n r k
+record_found {g} x {n} {r} {k} bytes head at enough hps hts hbody hrest limit within count extents digest = record {
   contents = c;
   begins =
       record_of_parts
@@ -165,7 +163,7 @@ record_found {g} x {n} {r} {k} bytes head at enough limit within count extents d
     ts = retired_bytes g k x
 
     rs : List ℕ
-    rs = run_bytes g r k x
+    rs = run_locator_bytes g r k x
 
     c : Contents
     c = record {
@@ -176,7 +174,7 @@ record_found {g} x {n} {r} {k} bytes head at enough limit within count extents d
     }
 
     room : digest_place g r k + digest_size ≤ length x
-    room = omega (arith, at.digest_at)
+    room = omega (arith, at)
 
     p_long : length ps ≡ 4 * (g.extents - 1)
     p_long = length_part x _ _ (omega (arith, room))
@@ -191,10 +189,10 @@ record_found {g} x {n} {r} {k} bytes head at enough limit within count extents d
     r_bytes = bytes_part x (runs_place g k) (60 * r) (omega (arith, room)) bytes
 
     pointers : ArePointers g c.pointers
-    pointers = pointers_fit g ps _ limit p_long (rw (pointers_cut at x) at within)
+    pointers = pointers_fit g ps _ limit p_long (rw hps at within)
 
     retired : IfSome c.retired (AreRetired g.extents)
-    retired = listed_fit _ k ts t_long (rw (retired_cut at x, count) at extents)
+    retired = listed_fit _ k ts t_long (rw (hts, count) at extents)
 
     runs : All IsLocator c.runs
     runs = locators_fit r rs r_long r_bytes
@@ -210,8 +208,8 @@ record_found {g} x {n} {r} {k} bytes head at enough limit within count extents d
     hr : flat_map locator_bytes c.runs ≡ rs
     hr = flat_map-values locator_bytes locator_of 60 r rs locator_spelled r_long r_bytes
 
-    body : body_behind g n r k c ≡ take (digest_place g r k) x
-    body =
+    whole : body_behind g n r k c ≡ take (digest_place g r k) x
+    whole =
         rw (head.spelled, ← hp, ← ht, ← hr) at
         (four_parts x (record_head_size k) (4 * (g.extents - 1)) (4 * retired_count k) (60 * r))
 
@@ -222,7 +220,7 @@ record_found {g} x {n} {r} {k} bytes head at enough limit within count extents d
       pointers_are = sym hp;
       retired_are = sym ht;
       runs_are = sym hr;
-      digest_is = (rw at.digest_at at digest) ∙ ap sha256 (sym body);
+      digest_is = (rw (hrest, hbody, at) at digest) ∙ ap sha256 (sym whole);
     })
 
 pub small_some : {g : Geometry} {x : List ℕ} {n r : ℕ} {k : Option ℕ} → BeginsWithSome g x n r k →
@@ -231,31 +229,29 @@ small_some {g} some = rw some.listed at (small_count g some.contents.retired som
 
 -- a record is of the second kind if its head has a number of retired extents
 pub known_kind : {g : Geometry} {x : List ℕ} {n r : ℕ} {k : Option ℕ} (some : BeginsWithSome g x n r k) →
-    option_map_or (λ _. Ssb2) k Ssb1 ≡ kind_of some.contents
+    kind_by k ≡ kind_of some.contents
 known_kind some = rw (← some.listed) (by some.contents.retired)
   where
-    by : (o : Option (List ℕ)) → option_map_or (λ _. Ssb2) (option_map length o) Ssb1 ≡ option_map_or (λ _. Ssb2) o Ssb1
+    by : (o : Option (List ℕ)) → kind_by (option_map length o) ≡ kind_of (record some.contents { retired = o })
     by None = refl
     by (Some xs) = refl
 
 -- what was read from the parts of a record are its contents
-pub contents_read : {g : Geometry} {x ws : List ℕ} {o : Option (List ℕ)} {rs : List Locator} {n r : ℕ} {k : Option ℕ} {cuts : Cuts} →
-    BeginsWithSome g x n r k → AreCuts g r k cuts →
-    length ws ≡ g.extents - 1 → AreSmall ws → flat_map (big_bytes 4) ws ≡ between cuts.pointers cuts.retired x →
-    option_map length o ≡ k → IfSome o AreSmall →
-    flat_map (big_bytes 4) (unwrap_or o []) ≡ between cuts.retired cuts.runs x →
-    length rs ≡ r → All IsLocator rs → flat_map locator_bytes rs ≡ between cuts.runs cuts.digest x →
+pub contents_read : {g : Geometry} {x ws : List ℕ} {o : Option (List ℕ)} {rs : List Locator} {n r : ℕ} {k : Option ℕ} →
+    BeginsWithSome g x n r k → length ws ≡ g.extents - 1 → AreSmall ws → flat_map (big_bytes 4) ws ≡ pointer_bytes g k x →
+    option_map length o ≡ k → IfSome o AreSmall → flat_map (big_bytes 4) (unwrap_or o []) ≡ retired_bytes g k x →
+    length rs ≡ r → All IsLocator rs → flat_map locator_bytes rs ≡ run_locator_bytes g r k x →
     BeginsWithRecord g x (record { generation = n; pointers = ws; retired = o; runs = rs })
-contents_read {g} {x} {ws} {o} {rs} some at lw fits hw lo small ho lr are hr =
+contents_read {g} {x} {ws} {o} {rs} some lw fits hw lo small ho lr are hr =
     let b = some.begins in
     let parts = known_parts (rw (some.generation, some.count, some.listed) at (is_head b)) b in
     let pointers : some.contents.pointers ≡ ws =
     same_numbers _ _ (small_pointers b.contents.pointers) fits (omega (arith, b.contents.pointers.count, lw))
-    (sym parts.pointers_are ∙ sym (hw ∙ pointers_cut at x)) in
+    (sym parts.pointers_are ∙ sym hw) in
     let retired : some.contents.retired ≡ o =
     same_listed _ _ (some.listed ∙ sym lo) (small_listed g _ b.contents.retired) small
-    (sym parts.retired_are ∙ sym (ho ∙ retired_cut at x)) in
+    (sym parts.retired_are ∙ sym ho) in
     let runs : some.contents.runs ≡ rs =
-    same_locators _ _ b.contents.runs.each are (some.count ∙ sym lr) (sym parts.runs_are ∙ sym (hr ∙ runs_cut at x)) in
+    same_locators _ _ b.contents.runs.each are (some.count ∙ sym lr) (sym parts.runs_are ∙ sym hr) in
     subst (BeginsWithRecord g x)
     (λ i. record { generation = some.generation i; pointers = pointers i; retired = retired i; runs = runs i }) b

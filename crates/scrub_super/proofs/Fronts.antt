@@ -4,31 +4,46 @@ use Rattle.std.proofs.lemmas.List.{take-take}
 use Rattle.byteorder.specs.Endian.{big_number}
 use Rattle.byteorder.specs.Numbers.{big_number-reads_back}
 use Rattle.scrub_disk.specs.declared.geometry.Geometry.{Geometry}
-use Rattle.scrub_super.specs.Record.{digit_of, front_bytes, head_bytes}
-use Rattle.scrub_super.specs.RecordRead.{IsFront, IsHead, record_head_size}
+use Rattle.scrub_super.specs.declared.kind.RecordKind.{RecordKind}
+use Rattle.scrub_super.specs.declared.kind.RecordKind.TheVariants.{Ssb1, Ssb2}
+use Rattle.scrub_super.specs.Record.{front_bytes, head_bytes}
+use Rattle.scrub_super.specs.Pages.{magic_of}
+use Rattle.scrub_super.specs.steps.RecordRead.{IsFront, IsHead, digit_by, kind_by, record_head_size}
+
+-- two kinds with the same letters are the same
+pub one_magic : (j k : RecordKind) → magic_of j ≡ magic_of k → j ≡ k
+one_magic Ssb1 Ssb1 e = refl
+one_magic Ssb2 Ssb2 e = refl
+one_magic Ssb1 Ssb2 e = absurd (omega (arith, ap (λ t. get_or t 3 0) e))
+one_magic Ssb2 Ssb1 e = absurd (omega (arith, ap (λ t. get_or t 3 0) e))
+
+-- a front begins with the letters of its kind
+pub front_magic : {g : Geometry} {x : List ℕ} (k : RecordKind) {n r : ℕ} → IsFront g x k n r → take 4 x ≡ magic_of k
+front_magic Ssb1 h = ap (take 4) h.spelled
+front_magic Ssb2 h = ap (take 4) h.spelled
 
 -- what is read from a front
-module _ {g : Geometry} {x : List ℕ} {digit generation runs d n r : ℕ} (hd : digit ≡ get_or x 3 0)
+module _ {g : Geometry} {x : List ℕ} (kind : RecordKind) {k : RecordKind} {generation runs n r : ℕ} (hk : take 4 x ≡ magic_of kind)
     (hn : generation ≡ big_number 8 (take 8 (drop 4 x)))
-    (hr : runs ≡ big_number 2 (take 2 (drop 24 x))) (h : IsFront g x d n r) where
-  pub front_read : (digit ≡ d) × (generation ≡ n) × (runs ≡ r)
+    (hr : runs ≡ big_number 2 (take 2 (drop 24 x))) (h : IsFront g x k n r) where
+  pub front_read : (kind ≡ k) × (generation ≡ n) × (runs ≡ r)
   front_read = (
-    rw h.spelled at hd,
+    one_magic kind k (sym hk ∙ front_magic k h),
     (rw h.spelled at hn) ∙ big_number-reads_back 8 n [] h.fits,
     (rw h.spelled at hr) ∙ big_number-reads_back 2 r [] (omega (arith, h.few)),
   )
 
   -- what is read spells the front again
-  pub front_again : {y : List ℕ} → y ≡ front_bytes digit g generation runs → x ≡ y
+  pub front_again : {y : List ℕ} → y ≡ front_bytes (digit_by kind) g generation runs → x ≡ y
   front_again hy = h.spelled ∙ sym (rw (front_read.0, front_read.1, front_read.2) at hy)
 
 -- bytes are one front at most
-pub one_front : {g : Geometry} {x : List ℕ} {c d n m r s : ℕ} → IsFront g x c n r → IsFront g x d m s →
-    (c ≡ d) × (n ≡ m) × (r ≡ s)
-one_front h k =
-    let p = front_read refl refl refl h in
-    let q = front_read refl refl refl k in
-    (sym p.0 ∙ q.0, sym p.1 ∙ q.1, sym p.2 ∙ q.2)
+pub one_front : {g : Geometry} {x : List ℕ} {j k : RecordKind} {n m r s : ℕ} → IsFront g x j n r → IsFront g x k m s →
+    (j ≡ k) × (n ≡ m) × (r ≡ s)
+one_front {j = j} h i =
+    let p = front_read j (front_magic j h) refl refl h in
+    let q = front_read j (front_magic j h) refl refl i in
+    (q.0, sym p.1 ∙ q.1, sym p.2 ∙ q.2)
 
 pub length_head : (g : Geometry) (n r : ℕ) (k : Option ℕ) → length (head_bytes g n r k) ≡ record_head_size k
 length_head g n r None = refl
@@ -40,23 +55,27 @@ head_sizes (Some t) = omega arith
 
 -- the front of the bytes that begin with a head
 pub front_of_head : {g : Geometry} (x : List ℕ) {n r : ℕ} {k : Option ℕ} →
-    IsHead g (take (record_head_size k) x) n r k → IsFront g (take 26 x) (digit_of k) n r
-front_of_head x {k = k} h = record {
+    IsHead g (take (record_head_size k) x) n r k → IsFront g (take 26 x) (kind_by k) n r
+front_of_head {g} x {n} {r} {k} h = record {
   fits = h.fits;
   few = h.few;
-  spelled = sym (take-take 26 _ x (front_fits k)) ∙ ap (take 26) h.spelled;
+  spelled = sym (take-take 26 _ x (front_fits k)) ∙ ap (take 26) h.spelled ∙ begins k;
 }
   where
+    begins : (o : Option ℕ) → take 26 (head_bytes g n r o) ≡ front_bytes (digit_by (kind_by o)) g n r
+    begins None = refl
+    begins (Some t) = refl
+
     front_fits : (o : Option ℕ) → 26 ≤ record_head_size o
     front_fits None = omega arith
     front_fits (Some t) = omega arith
 
 one_count : {g : Geometry} (x : List ℕ) {n m r s : ℕ} (k j : Option ℕ) → IsHead g (take (record_head_size k) x) n r k →
     IsHead g (take (record_head_size j) x) m s j →
-    digit_of k ≡ digit_of j → k ≡ j
+    kind_by k ≡ kind_by j → k ≡ j
 one_count x None None h i same = refl
-one_count x None (Some u) h i same = absurd (omega (arith, same))
-one_count x (Some t) None h i same = absurd (omega (arith, same))
+one_count x None (Some u) h i same = cc
+one_count x (Some t) None h i same = cc
 one_count x (Some t) (Some u) h i same =
     ap Some
     (sym (big_number-reads_back 2 t [] h.small)

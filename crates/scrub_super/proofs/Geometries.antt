@@ -11,10 +11,12 @@ use Rattle.scrub_disk.specs.declared.geometry.GeometryFault.{GeometryFault}
 use Rattle.scrub_disk.specs.declared.geometry.GeometryFault.TheVariants.{PageSize, Pages, Extents, ExtentBytes, TotalBytes}
 use Rattle.scrub_disk.specs.Limits.{IsPageSize, ArePages, AreExtents, max_extent_bytes, max_disk_bytes}
 use Rattle.scrub_disk.specs.Faults.{HasSizes, IsFirstBroken}
+use Rattle.scrub_super.specs.declared.kind.RecordKind.{RecordKind}
 use Rattle.scrub_super.specs.Contents.{Contents}
+use Rattle.scrub_super.specs.Pages.{magic_of}
 use Rattle.scrub_super.specs.Record.{BeginsWithRecord}
-use Rattle.scrub_super.specs.RecordRead.{IsFront}
-use Rattle.scrub_super.proofs.Fronts.{front_of_head}
+use Rattle.scrub_super.specs.steps.RecordRead.{IsFront}
+use Rattle.scrub_super.proofs.Fronts.{front_magic, front_of_head}
 use Rattle.scrub_super.proofs.RecordParts.{is_head}
 
 -- ---- sizes are determined by their numbers, whatever shows that they are within their limits
@@ -60,7 +62,8 @@ sizes_accepted {g} (Err fault) hp hn he broken is = absurd (not_broken g fault (
 
 -- ---- the numbers are in the front
 
-front_sizes : {g : Geometry} {x : List ℕ} {d generation runs p n e : ℕ} → IsFront g x d generation runs →
+front_sizes : {g : Geometry} {x : List ℕ} {k : RecordKind} {generation runs p n e : ℕ} →
+    IsFront g x k generation runs →
     p ≡ big_number 4 (take 4 (drop 12 x)) → n ≡ big_number 4 (take 4 (drop 16 x)) →
     e ≡ big_number 4 (take 4 (drop 20 x)) → (p ≡ g.page) × (n ≡ g.pages) × (e ≡ g.extents)
 front_sizes {g} h hp hn he = (
@@ -68,6 +71,11 @@ front_sizes {g} h hp hn he = (
   (rw h.spelled at hn) ∙ big_number-reads_back 4 g.pages [] (omega (arith, g.page_count.most)),
   (rw h.spelled at he) ∙ big_number-reads_back 4 g.extents [] (omega (arith, g.extent_count.most)),
 )
+
+-- bytes that don't begin with the letters of a kind don't begin with a record
+pub no_kind : (x : List ℕ) {y : List ℕ} → IsFirstChunk x y 26 → ((k : RecordKind) → take 4 y ≡ magic_of k → ⊥) →
+    (g : Geometry) (c : Contents) → BeginsWithRecord g x c → ⊥
+no_kind x first none g c b = none _ (front_magic _ (rw (← first.same) at (front_of_head x (is_head b))))
 
 -- the sizes of a record are read where it begins
 pub sizes_read : (x : List ℕ) {y : List ℕ} (made : Result Geometry GeometryFault) {known : Option Geometry} {p n e : ℕ} →

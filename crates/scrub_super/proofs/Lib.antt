@@ -1,6 +1,6 @@
 -- Lemmas on records, the choice and the plan.
 pub mod Parts
-pub mod Cuts
+pub mod BytesInParts
 pub mod Fronts
 pub mod Listed
 pub mod RecordParts
@@ -17,11 +17,12 @@ pub mod RecordsSeenSteps
 pub mod Steps
 pub mod Choices
 pub mod Laws
+pub mod NewestRecords
 pub mod PageLaws
 pub mod PageSteps
 pub mod RisingLists
 pub mod Geometries
 pub mod BlocksFront
-pub mod AnywhereSteps
+pub mod UnknownSizesSteps
 pub mod LostRuns
-pub mod FoundAnywhere
+pub mod FoundByOwnSizes

@@ -14,7 +14,7 @@ use Rattle.scrub_frame.proofs.Parts.{length-flat_map_of, flat_map-injective}
 use Rattle.scrub_super.specs.Contents.{Contents}
 use Rattle.scrub_super.specs.Planned.{AreRetired}
 use Rattle.scrub_super.specs.Record.{ArePointers}
-use Rattle.scrub_super.specs.RecordRead.{retired_count}
+use Rattle.scrub_super.specs.steps.RecordRead.{retired_count}
 
 -- how many retired extents some contents list
 abbrev pub count_in : Contents → Option ℕ

@@ -4,10 +4,10 @@ use Rattle.std.specs.List.{Contains, AllPairs}
 use Rattle.std.proofs.lemmas.Bool.{cases_lt, false≢true}
 use Rattle.std.proofs.lemmas.List.{append-nil}
 use Rattle.std.proofs.lemmas.List.Elements.{Contains-push, Contains-push_cases, Contains-append_left}
-use Rattle.scrub_super.specs.declared.anywhere.LostBytes.{LostBytes}
+use Rattle.scrub_super.specs.declared.unknown_sizes.LostBytes.{LostBytes}
 use Rattle.scrub_super.specs.Blocks.{IsMarked, IsLostRun}
-use Rattle.scrub_super.specs.BlocksRead.{ended_run}
-use Rattle.scrub_super.specs.Anywhere.{AreLostRanges}
+use Rattle.scrub_super.specs.steps.BlocksRead.{ended_run}
+use Rattle.scrub_super.specs.UnknownSizes.{AreLostRanges}
 use Rattle.scrub_super.proofs.BlocksFront.{mark_within}
 use Rattle.scrub_super.proofs.RisingLists.{rises_more}
 

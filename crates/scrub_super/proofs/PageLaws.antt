@@ -1,20 +1,22 @@
 -- A page of extent 0 holds one thing, so an image has one list of what they hold.
-use Rattle.std.proofs.Common.{◌≡◌, ◌<◌, ◌≤◌, ◌+◌, ◌*◌, ◌/◌, ◌-◌, ℕ, List, [], ◌∷◌, All, length, take, get_or, arith, refl, sym, ◌∙◌, ap, Some, None}
+use Rattle.std.proofs.Common.{◌≡◌, ◌<◌, ◌≤◌, ◌+◌, ◌*◌, ◌/◌, ◌-◌, ℕ, List, [], ◌∷◌, All, length, take, get_or, arith, refl, sym, ◌∙◌, ap, Some, None, if◌then◌else◌, nat_lt}
+use Rattle.std.specs.List.{list_any}
 use Rattle.std.proofs.lemmas.Option.{same_Some, none-some, slice_get-get_or}
 use Rattle.std.proofs.lemmas.List.{same_lists}
 use Rattle.std.proofs.Math.Nat.{mul-le-mul_right, mul-div_cancel}
 use Rattle.scrub_disk.specs.Image.{Image, byte}
 use Rattle.scrub_disk.proofs.HeldBytes.{byte-unreadable}
-use Rattle.scrub_super.specs.declared.pages.RecordKind.{RecordKind}
-use Rattle.scrub_super.specs.declared.pages.RecordKind.TheVariants.{Ssb1, Ssb2}
+use Rattle.scrub_super.specs.declared.kind.RecordKind.{RecordKind}
+use Rattle.scrub_super.specs.declared.kind.RecordKind.TheVariants.{Ssb1, Ssb2}
 use Rattle.scrub_super.specs.declared.pages.Rank.{Rank}
 use Rattle.scrub_super.specs.declared.pages.Rank.TheVariants.{Tie, Counts, Older}
 use Rattle.scrub_super.specs.declared.pages.SuperblockPage.{SuperblockPage}
 use Rattle.scrub_super.specs.declared.pages.SuperblockPage.TheVariants.{Lost, Record, Covered, Zero, Damaged, Stray}
 use Rattle.scrub_super.specs.Contents.{Contents}
-use Rattle.scrub_super.specs.Chosen.{RecordStandsAt}
+use Rattle.scrub_super.specs.Chosen.{RecordStandsAt, newest}
 use Rattle.scrub_super.specs.Pages.{AreSuperblockPages, IsRank, IsSuperblockPage, IsUnclaimed, LiesInRecord, kind_of, magic_of}
-use Rattle.scrub_super.proofs.Laws.{one_record_on_page}
+use Rattle.scrub_super.proofs.Fronts.{one_magic}
+use Rattle.scrub_super.proofs.Laws.{one_list_of_records, one_record_on_page}
 use Rattle.scrub_super.proofs.Standing.{some_bytes}
 
 -- no byte of an unreadable page can be read
@@ -54,32 +56,27 @@ zeros_no_magic [] Ssb2 zeros is = absurd (omega (arith, ap length is))
 zeros_no_magic (x ∷ xs) Ssb1 zeros is = omega (arith, zeros 0 0 (omega arith), ap (λ t. get_or t 0 0) is)
 zeros_no_magic (x ∷ xs) Ssb2 zeros is = omega (arith, zeros 0 0 (omega arith), ap (λ t. get_or t 0 0) is)
 
-one_magic : (j k : RecordKind) → magic_of j ≡ magic_of k → j ≡ k
-one_magic Ssb1 Ssb1 e = refl
-one_magic Ssb2 Ssb2 e = refl
-one_magic Ssb1 Ssb2 e = absurd (omega (arith, ap (λ t. get_or t 3 0) e))
-one_magic Ssb2 Ssb1 e = absurd (omega (arith, ap (λ t. get_or t 3 0) e))
+-- how new a record is, by all records and its generation
+abbrev rank_among : List (ℕ × Contents) → ℕ → Rank
+rank_among rs n =
+    if list_any (λ r. nat_lt n r.1.generation) rs then Older else if nat_lt 1 (length (newest rs)) then Tie else Counts
 
-one_rank : (image : Image) (c : Contents) (a b : Rank) → IsRank image c a → IsRank image c b → a ≡ b
-one_rank image c Tie Tie x y = refl
-one_rank image c Counts Counts x y = refl
-one_rank image c Older Older x y = refl
-one_rank image c Tie Counts x y = absurd (y.1 x.1)
-one_rank image c Counts Tie x y = absurd (x.1 y.1)
-one_rank image c Tie Older x y = absurd (y x.0)
-one_rank image c Counts Older x y = absurd (y x.0)
-one_rank image c Older Tie x y = absurd (x y.0)
-one_rank image c Older Counts x y = absurd (x y.0)
+one_rank : {image : Image} {n m : ℕ} {a b : Rank} → n ≡ m → IsRank image n a → IsRank image m b → a ≡ b
+one_rank {n = n} same x y =
+    x.2
+    ∙ ap (λ (rs : List (ℕ × Contents)). rank_among rs n) (one_list_of_records x.1 y.1)
+    ∙ ap (rank_among y.0) same
+    ∙ sym y.2
 
 one_record_known : (image : Image) (q : ℕ) (j k : RecordKind) (n m : ℕ) (a b : Rank) (c d : Contents) →
     RecordStandsAt image q c → RecordStandsAt image q d →
-    j ≡ kind_of c → k ≡ kind_of d → n ≡ c.generation → m ≡ d.generation → IsRank image c a → IsRank image d b →
+    j ≡ kind_of c → k ≡ kind_of d → n ≡ c.generation → m ≡ d.generation → IsRank image n a → IsRank image m b →
     Record j n a ≡ Record k m b
 one_record_known image q j k n m a b c d s t hj hk hn hm x y =
     let same : c ≡ d = one_record_on_page image q c d s t in
     let kinds : j ≡ k = hj ∙ ap kind_of same ∙ sym hk in
     let generations : n ≡ m = hn ∙ ap (λ e. e.generation) same ∙ sym hm in
-    let ranks : a ≡ b = one_rank image d a b (rw same at x) y in
+    let ranks : a ≡ b = one_rank generations x y in
     λ i. Record (kinds i) (generations i) (ranks i)
 
 -- ---- what a page holds is one thing, by the first that applies

@@ -1,7 +1,6 @@
 -- What is found on each page of extent 0, what is seen from it, and how far records reach, one page at a time.
 use Rattle.std.proofs.Common.{◌≡◌, ◌<◌, ◌≤◌, ◌+◌, ◌*◌, ℕ, List, [], ◌∷◌, ◌++◌, Bool, false, length, get_or, set, arith, sym, ◌∙◌, ap, Option, Some, None, IfSome, IfNone, inl, inr, max, slice_get, length-append, nat_lt}
 use Rattle.std.specs.List.{between}
-use Rattle.std.specs.Option.{option_map_or}
 use Rattle.std.proofs.lemmas.Bool.{cases_lt, cases_eq, ltb-true, lt-ltb}
 use Rattle.std.proofs.lemmas.List.{get_or-set_same, get_or-set_other, get_or_append_left, get_or_push}
 use Rattle.std.proofs.lemmas.Option.{slice_get_within, slice_get-get_or, get_or_from_slice_get}
@@ -9,20 +8,18 @@ use Rattle.std.proofs.Math.Nat.{le-max_left, le-max_right, max-eq_left, max-eq_r
 use Rattle.scrub_disk.specs.declared.geometry.Geometry.{Geometry}
 use Rattle.scrub_disk.specs.Image.{Image}
 use Rattle.scrub_disk.specs.Buffered.{IsBuffered}
-use Rattle.scrub_disk.specs.NextUnreadable.{IsNextUnreadable}
+use Rattle.scrub_disk.specs.steps.NextUnreadable.{IsNextUnreadable}
 use Rattle.scrub_frame.specs.Frame.{digest_size}
 use Rattle.scrub_super.specs.declared.choosing.RecordsSeen.{RecordsSeen}
-use Rattle.scrub_super.specs.declared.pages.RecordKind.{RecordKind}
-use Rattle.scrub_super.specs.declared.pages.RecordKind.TheVariants.{Ssb1, Ssb2}
+use Rattle.scrub_super.specs.declared.kind.RecordKind.{RecordKind}
 use Rattle.scrub_super.specs.declared.pages.SuperblockPage.{SuperblockPage}
-use Rattle.scrub_super.specs.declared.surveying.Found.{Found}
+use Rattle.scrub_super.specs.declared.extent_zero.PageRecord.{PageRecord}
 use Rattle.scrub_super.specs.Contents.{Contents}
 use Rattle.scrub_super.specs.Record.{BeginsWithRecord}
-use Rattle.scrub_super.specs.declared.head.Cuts.{Cuts}
-use Rattle.scrub_super.specs.RecordRead.{AreCuts, BeginsWithSome, record_head_size, retired_count}
-use Rattle.scrub_super.specs.RecordsSeen.{AddsRecord, AreSeenFrom, StandsFrom}
+use Rattle.scrub_super.specs.steps.RecordRead.{BeginsWithSome, digest_place, kind_by, record_head_size, retired_count}
+use Rattle.scrub_super.specs.steps.RecordsSeen.{AddsRecord, AreSeenFrom, StandsFrom}
 use Rattle.scrub_super.specs.Pages.{AreSuperblockPages, IsSuperblockPage}
-use Rattle.scrub_super.specs.PagesFound.{AreFoundOnPages, IsFoundOf, IsFoundOnPage, IsKnownOfPage, IsRecordReach, image_with}
+use Rattle.scrub_super.specs.steps.PagesFound.{AreFoundOnPages, IsFoundOf, IsFoundOnPage, IsKnownOfPage, IsRecordReach, image_with}
 use Rattle.scrub_super.proofs.Laws.{one_record_on_page}
 use Rattle.scrub_super.proofs.Found.{known_kind}
 use Rattle.scrub_super.proofs.RecordParts.{length_record}
@@ -32,9 +29,8 @@ use Rattle.scrub_super.proofs.Standing.{stands_of_front, front_of_stands}
 -- ---- what is found
 
 -- the record, from its head
-pub found_by_head : {g : Geometry} {x y : List ℕ} {start n r to : ℕ} {k : Option ℕ} {cuts : Cuts} {kind : RecordKind} →
-    y ≡ x → BeginsWithSome g y n r k → AreCuts g r k cuts →
-    kind ≡ option_map_or (λ _. Ssb2) k Ssb1 → to ≡ start + cuts.digest + digest_size →
+pub found_by_head : {g : Geometry} {x y : List ℕ} {start size n r to : ℕ} {k : Option ℕ} {kind : RecordKind} →
+    y ≡ x → BeginsWithSome g y n r k → size ≡ digest_place g r k → kind ≡ kind_by k → to ≡ start + size + digest_size →
     (c : Contents) × BeginsWithRecord g x c × IsFoundOf g start c (record { kind = kind; generation = n; to = to })
 found_by_head hx some at hk ht = (
   some.contents,
@@ -47,7 +43,7 @@ found_by_head hx some at hk ht = (
           arith,
           ht,
           length_record some.begins.contents,
-          at.digest_at,
+          at,
           some.count,
           ap record_head_size some.listed,
           ap retired_count some.listed,
@@ -56,7 +52,7 @@ found_by_head hx some at hk ht = (
 )
 
 -- what is found in the bytes from a page on is what is found at the page
-pub found_at_page : {image : Image} {bytes : List ℕ} {readable : List Bool} {q s size : ℕ} (o : Option Found) →
+pub found_at_page : {image : Image} {bytes : List ℕ} {readable : List Bool} {q s size : ℕ} (o : Option PageRecord) →
     size ≡ image.geometry.page → IsBuffered image 0 bytes readable → IsNextUnreadable readable q s →
     IfSome o (λ f. (c : Contents) × BeginsWithRecord image.geometry (between (q * size) (s * size) bytes) c × IsFoundOf image.geometry (q * size) c f) →
     IfNone o ((c : Contents) → BeginsWithRecord image.geometry (between (q * size) (s * size) bytes) c → ⊥) →
@@ -67,7 +63,7 @@ found_at_page (Some f) hs h up some none =
 found_at_page None hs h up some none = λ x. (rw hs at none) x.0 (front_of_stands h up x.1)
 
 -- one more page is written down
-pub found_more_at : (image : Image) (found : List (Option Found)) {p q n : ℕ} (o : Option Found) → p ≡ q + 1 →
+pub found_more_at : (image : Image) (found : List (Option PageRecord)) {p q n : ℕ} (o : Option PageRecord) → p ≡ q + 1 →
     length found ≡ n → q < n → IsFoundOnPage image q o →
     ((r : ℕ) → p ≤ r → r < n → IsFoundOnPage image r (get_or found r None)) →
     (r : ℕ) → q ≤ r → r < n → IsFoundOnPage image r (get_or (set found q o) r None)
@@ -81,12 +77,12 @@ found_more_at image found {p} {q} {n} o hp hn here at later r low high = elim (c
 
 -- ---- what is seen
 
-module _ {image : Image} {found : List (Option Found)} {p q : ℕ} (hp : p ≡ q + 1) (are : AreFoundOnPages image found)
+module _ {image : Image} {found : List (Option PageRecord)} {p q : ℕ} (hp : p ≡ q + 1) (are : AreFoundOnPages image found)
     (here : q < length found) where
   on_page : IsFoundOnPage image q (get_or found q None)
   on_page = are.each q (omega (arith, are.count))
 
-  pub seen_more : {f : Found} {old new : RecordsSeen} → get_or found q None ≡ Some f →
+  pub seen_more : {f : PageRecord} {old new : RecordsSeen} → get_or found q None ≡ Some f →
       AddsRecord old new q f.generation → AreSeenFrom (StandsFrom image) p old → AreSeenFrom (StandsFrom image) q new
   seen_more {f} is adds seen =
       found_more f.generation (at.0, at.1, sym at.2.generation)
@@ -108,7 +104,7 @@ module _ {image : Image} {found : List (Option Found)} {p q : ℕ} (hp : p ≡ q
 -- ---- how far records reach
 
 module _ {image : Image} {q reach : ℕ} (h : IsRecordReach image q reach) where
-  pub reach_more : {new : ℕ} {f : Found} → new ≡ max reach f.to → IsFoundOnPage image q (Some f) →
+  pub reach_more : {new : ℕ} {f : PageRecord} → new ≡ max reach f.to → IsFoundOnPage image q (Some f) →
       IsRecordReach image (q + 1) new
   reach_more {new} {f} is at = record {
     ends = λ r c low s. elim (cases_lt r q) [
@@ -191,13 +187,13 @@ each_more image old {new} {q} page hq hn each here r p is = elim (cases_lt r q) 
 
 -- ---- what is found in memory is in the image
 
-module _ {image : Image} {g : Geometry} {xs bytes : List ℕ} {ys readable : List Bool} {found : List (Option Found)}
+module _ {image : Image} {g : Geometry} {xs bytes : List ℕ} {ys readable : List Bool} {found : List (Option PageRecord)}
     (hg : g ≡ image.geometry) (hx : xs ≡ bytes) (hy : ys ≡ readable) (h : IsBuffered image 0 bytes readable) where
   pub found_on : ((page : ℕ → ℕ → Option (List ℕ)) → IsBuffered (image_with g page) 0 xs ys → AreFoundOnPages (image_with g page) found) →
       AreFoundOnPages image found
   found_on all = (rw (hg, hx, hy) at all) image.page h
 
-  pub pages_on : {zs : List (Option Found)} {seen : RecordsSeen} {pages : List SuperblockPage} → zs ≡ found →
+  pub pages_on : {zs : List (Option PageRecord)} {seen : RecordsSeen} {pages : List SuperblockPage} → zs ≡ found →
       AreFoundOnPages image found → AreSeenFrom (StandsFrom image) 0 seen →
       ((page : ℕ → ℕ → Option (List ℕ)) → IsBuffered (image_with g page) 0 xs ys → AreFoundOnPages (image_with g page) zs → AreSeenFrom (StandsFrom (image_with g page)) 0 seen → AreSuperblockPages (image_with g page) pages) →
       AreSuperblockPages image pages

@@ -1,6 +1,6 @@
 -- The parts of the bytes that begin with a record, by its own numbers and by those in a head.
 use Rattle.std.proofs.Common.{◌≡◌, ◌+◌, ◌*◌, ◌-◌, ℕ, List, ◌++◌, length, take, drop, arith, length-append, sym, ◌∙◌, ap, Option}
-use Rattle.std.specs.List.{flat_map, between}
+use Rattle.std.specs.List.{flat_map}
 use Rattle.byteorder.specs.Endian.{big_bytes}
 use Rattle.sha2.specs.Sha256.{sha256}
 use Rattle.sha2.proofs.Facts256.{length-sha256}
@@ -8,47 +8,14 @@ use Rattle.scrub_disk.specs.declared.geometry.Geometry.{Geometry}
 use Rattle.scrub_frame.specs.Locator.{locator_bytes}
 use Rattle.scrub_frame.proofs.Locators.{length-locators}
 use Rattle.scrub_frame.specs.Frame.{digest_size}
-use Rattle.scrub_super.specs.declared.head.Cuts.{Cuts}
 use Rattle.scrub_super.specs.Contents.{Contents, retired_in}
 use Rattle.scrub_super.specs.Record.{head_bytes, record_body, record_bytes, AreContents, BeginsWithRecord}
-use Rattle.scrub_super.specs.RecordRead.{record_head_size, retired_count, IsHead, AreCuts}
-use Rattle.scrub_super.proofs.Cuts.{AreParts, parts_of, whole_of, body_of}
+use Rattle.scrub_super.specs.steps.RecordRead.{record_head_size, retired_count, digest_place, IsHead}
+use Rattle.scrub_super.proofs.BytesInParts.{AreParts, parts_of, whole_of, body_of}
 use Rattle.scrub_super.proofs.Fronts.{length_head, one_head}
 use Rattle.scrub_super.proofs.Listed.{count_in, length_pointers, length_retired, small_count}
 
--- where the parts of a record begin, by the numbers in its head
-abbrev pub retired_place : Geometry → Option ℕ → ℕ
-retired_place g k = record_head_size k + 4 * (g.extents - 1)
-
-abbrev pub runs_place : Geometry → Option ℕ → ℕ
-runs_place g k = retired_place g k + 4 * retired_count k
-
-abbrev pub digest_place : Geometry → ℕ → Option ℕ → ℕ
-digest_place g r k = runs_place g k + 60 * r
-
--- the bytes of these parts
-abbrev pub pointer_bytes : Geometry → Option ℕ → List ℕ → List ℕ
-pointer_bytes g k x = take (4 * (g.extents - 1)) (drop (record_head_size k) x)
-
-abbrev pub retired_bytes : Geometry → Option ℕ → List ℕ → List ℕ
-retired_bytes g k x = take (4 * retired_count k) (drop (retired_place g k) x)
-
-abbrev pub run_bytes : Geometry → ℕ → Option ℕ → List ℕ → List ℕ
-run_bytes g r k x = take (60 * r) (drop (runs_place g k) x)
-
-module _ {g : Geometry} {r : ℕ} {k : Option ℕ} {cuts : Cuts} (at : AreCuts g r k cuts) (x : List ℕ) where
-  pub pointers_cut : between cuts.pointers cuts.retired x ≡ pointer_bytes g k x
-  pointers_cut =
-      let size : cuts.retired - cuts.pointers ≡ 4 * (g.extents - 1) = omega arith in
-      rw (size, at.pointers_at)
-
-  pub retired_cut : between cuts.retired cuts.runs x ≡ retired_bytes g k x
-  retired_cut = let size : cuts.runs - cuts.retired ≡ 4 * retired_count k = omega arith in rw (size, at.retired_at)
-
-  pub runs_cut : between cuts.runs cuts.digest x ≡ run_bytes g r k x
-  runs_cut = let size : cuts.digest - cuts.runs ≡ 60 * r = omega arith in rw (size, at.runs_at)
-
--- what the digest of some contents is taken of, behind a head with these numbers
+-- what the digest of some contents is taken of, after a head with these numbers
 abbrev pub body_behind : Geometry → ℕ → ℕ → Option ℕ → Contents → List ℕ
 body_behind g n r k c =
     head_bytes g n r k ++

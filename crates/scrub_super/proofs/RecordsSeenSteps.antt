@@ -6,7 +6,7 @@ use Rattle.std.proofs.Math.Numerals.{add-one}
 use Rattle.std.proofs.lemmas.Bool.{cases_lt, false≢true, eq-eqb, eqb-true}
 use Rattle.scrub_super.specs.declared.choosing.Newest.{Newest}
 use Rattle.scrub_super.specs.declared.choosing.RecordsSeen.{RecordsSeen}
-use Rattle.scrub_super.specs.RecordsSeen.{IsNewestFrom, ArePagesFrom, AreSeenFrom, AddsRecord}
+use Rattle.scrub_super.specs.steps.RecordsSeen.{IsNewestFrom, ArePagesFrom, AreSeenFrom, AddsRecord}
 
 -- a page from q on is q or a later one
 from_cases : (q r : ℕ) → q ≤ r → (r ≡ q) ⊎ (q + 1 ≤ r)

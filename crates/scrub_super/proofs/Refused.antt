@@ -1,27 +1,26 @@
 -- Why there is no record if a test of the bytes fails.
 use Rattle.std.proofs.Common.{◌≡◌, ◌<◌, ◌≤◌, ◌+◌, ◌*◌, ℕ, List, length, take, drop, get_or, arith, refl, sym, ◌∙◌, ap, Bool, false, IsTrue, Option}
-use Rattle.std.specs.List.{flat_map, between}
-use Rattle.std.specs.Array.{IsFirstChunk}
+use Rattle.std.specs.List.{flat_map}
 use Rattle.std.proofs.lemmas.Bool.{false≢true}
 use Rattle.byteorder.specs.Endian.{big_bytes, big_number}
 use Rattle.sha2.specs.Sha256.{sha256}
 use Rattle.scrub_disk.specs.declared.geometry.Geometry.{Geometry}
 use Rattle.scrub_frame.proofs.Bytes.{number-bytes, number-take}
 use Rattle.scrub_frame.specs.Frame.{digest_size}
-use Rattle.scrub_super.specs.declared.head.Cuts.{Cuts}
+use Rattle.scrub_super.specs.declared.kind.RecordKind.{RecordKind}
 use Rattle.scrub_super.specs.Contents.{Contents}
 use Rattle.scrub_super.specs.Planned.{AreRetired}
 use Rattle.scrub_super.specs.Record.{BeginsWithRecord}
-use Rattle.scrub_super.specs.RecordRead.{IsFront, IsHead, AreCuts, record_head_size, number_in, SpellExtents}
+use Rattle.scrub_super.specs.steps.RecordRead.{IsFront, IsHead, record_head_size, digest_place, pointer_bytes, retired_bytes, number_in, SpellExtents}
 use Rattle.scrub_super.proofs.Fronts.{front_of_head}
 use Rattle.scrub_super.proofs.Listed.{AreSmall, length_numbers, small_pointers, listed_extents}
 use Rattle.scrub_super.proofs.Parts.{part-flat_map}
-use Rattle.scrub_super.proofs.RecordParts.{digest_place, is_head, known_parts, known_digest, pointers_cut, retired_cut}
+use Rattle.scrub_super.proofs.RecordParts.{is_head, known_parts, known_digest}
 
 -- there is no record if there is no front
-pub no_front : {g : Geometry} {x y : List ℕ} {c : Contents} → IsFirstChunk x y 26 →
-    ((d n r : ℕ) → IsFront g y d n r → ⊥) → BeginsWithRecord g x c → ⊥
-no_front {x = x} first none b = none _ _ _ (rw (← first.same) at (front_of_head x (is_head b)))
+pub no_front : {g : Geometry} {x y : List ℕ} {c : Contents} → y ≡ take 26 x →
+    ((k : RecordKind) (n r : ℕ) → IsFront g y k n r → ⊥) → BeginsWithRecord g x c → ⊥
+no_front {x = x} first none b = none _ _ _ (rw (← first) at (front_of_head x (is_head b)))
 
 -- the k-th number that is spelled
 spelled_number : (ws : List ℕ) (k : ℕ) → AreSmall ws → k < length ws →
@@ -54,17 +53,15 @@ module _ {g : Geometry} {x : List ℕ} {n r : ℕ} {k : Option ℕ} {c : Content
   too_short he short = omega (arith, (known_parts h b).enough)
 
   -- another digest is there
-  pub other_digest : {e : ℕ} {answer : Bool} → e ≡ digest_place g r k →
-      (take digest_size (drop e x) ≡ sha256 (take e x) → IsTrue answer) → answer ≡ false → ⊥
-  other_digest he body wrong = false≢true (sym wrong ∙ body (rw he (known_digest h b)))
+  pub other_digest : {e : ℕ} {body rest : List ℕ} {answer : Bool} → e ≡ digest_place g r k → body ≡ take e x →
+      rest ≡ drop e x → (take digest_size rest ≡ sha256 body → IsTrue answer) → answer ≡ false → ⊥
+  other_digest he hb hr right wrong = false≢true (sym wrong ∙ right (rw (hr, hb, he) (known_digest h b)))
 
   -- a pointer is over the limit
-  pub over_limit : {cuts : Cuts} {most : ℕ} {answer : Bool} → AreCuts g r k cuts → most ≡ g.page * g.pages →
-      (((j : ℕ) → 4 * j + 4 ≤ length (between cuts.pointers cuts.retired x) →
-      number_in (between cuts.pointers cuts.retired x) j ≤ most) → IsTrue answer) →
-      answer ≡ false → ⊥
-  over_limit at limit all over =
-      false≢true (sym over ∙ all (rw (pointers_cut at x, (known_parts h b).pointers_are, limit) within))
+  pub over_limit : {part : List ℕ} {most : ℕ} {answer : Bool} → part ≡ pointer_bytes g k x → most ≡ g.page * g.pages →
+      (((j : ℕ) → 4 * j + 4 ≤ length part → number_in part j ≤ most) → IsTrue answer) → answer ≡ false → ⊥
+  over_limit is limit all over =
+      false≢true (sym over ∙ all (rw (is, (known_parts h b).pointers_are, limit) within))
     where
       within : (j : ℕ) → 4 * j + 4 ≤ length (flat_map (big_bytes 4) c.pointers) →
           number_in (flat_map (big_bytes 4) c.pointers) j ≤ g.page * g.pages
@@ -74,10 +71,10 @@ module _ {g : Geometry} {x : List ℕ} {n r : ℕ} {k : Option ℕ} {c : Content
           (b.contents.pointers.within j 0 here)
 
   -- the retired extents don't rise, or one isn't an extent of the disk
-  pub not_extents : {cuts : Cuts} {e : ℕ} {answer : Bool} → AreCuts g r k cuts → e ≡ g.extents →
-      (SpellExtents e (between cuts.retired cuts.runs x) → IsTrue answer) → answer ≡ false → ⊥
-  not_extents at count all over =
+  pub not_extents : {part : List ℕ} {e : ℕ} {answer : Bool} → part ≡ retired_bytes g k x → e ≡ g.extents →
+      (SpellExtents e part → IsTrue answer) → answer ≡ false → ⊥
+  not_extents is count all over =
       false≢true
       (sym over
-      ∙ all (rw (retired_cut at x, (known_parts h b).retired_are, count)
+      ∙ all (rw (is, (known_parts h b).retired_are, count)
       (spells_extents g.extent_count.most (listed_extents g.extents c.retired b.contents.retired))))

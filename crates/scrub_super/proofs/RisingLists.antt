@@ -19,7 +19,7 @@ module _ {X : Type 0} (key : X → ℕ) where
       all_pairs_push (λ a b. key a < key b) xs y up (λ k d hk. below (get_or xs k d) (All-contains_itself xs k d hk))
 
   -- the first is below each later one, and those rise
-  first_below : (x y : X) (xs : List X) → Rises (x ∷ xs) → Contains xs y → key x < key y
+  pub first_below : (x y : X) (xs : List X) → Rises (x ∷ xs) → Contains xs y → key x < key y
   first_below x y xs up there =
       rw there.2 at (up 0 (suc there.0) y (omega arith) (omega (arith, there.1)))
 

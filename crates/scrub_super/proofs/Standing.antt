@@ -16,7 +16,7 @@ use Rattle.scrub_super.specs.Contents.{Contents}
 use Rattle.scrub_super.specs.Record.{record_body, record_bytes, BeginsWithRecord}
 use Rattle.scrub_disk.specs.Buffered.{IsBuffered}
 use Rattle.scrub_super.specs.Chosen.{RecordStandsAt}
-use Rattle.scrub_disk.specs.NextUnreadable.{IsNextUnreadable}
+use Rattle.scrub_disk.specs.steps.NextUnreadable.{IsNextUnreadable}
 
 -- the bytes from page g on up to where the readable pages end
 abbrev pub readable_bytes : Image → List ℕ → ℕ → ℕ → List ℕ

@@ -6,10 +6,10 @@ use Rattle.scrub_disk.specs.Image.{Image}
 use Rattle.scrub_super.specs.declared.choosing.RecordsSeen.{RecordsSeen}
 use Rattle.scrub_super.specs.Contents.{Contents}
 use Rattle.scrub_super.specs.Record.{BeginsWithRecord}
-use Rattle.scrub_super.specs.RecordRead.{BeginsWithSome}
+use Rattle.scrub_super.specs.steps.RecordRead.{BeginsWithSome}
 use Rattle.scrub_disk.specs.Buffered.{IsBuffered}
-use Rattle.scrub_disk.specs.NextUnreadable.{IsNextUnreadable}
-use Rattle.scrub_super.specs.RecordsSeen.{StandsFrom, AreSeenFrom, AddsRecord}
+use Rattle.scrub_disk.specs.steps.NextUnreadable.{IsNextUnreadable}
+use Rattle.scrub_super.specs.steps.RecordsSeen.{StandsFrom, AreSeenFrom, AddsRecord}
 use Rattle.scrub_super.proofs.OneRecord.{one_record_lem}
 use Rattle.scrub_super.proofs.Standing.{readable_bytes, stands_of_front, front_of_stands}
 use Rattle.scrub_super.proofs.RecordsSeenSteps.{found_none, found_more}

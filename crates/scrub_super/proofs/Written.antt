@@ -7,12 +7,11 @@ use Rattle.sha2.specs.Sha256.{sha256}
 use Rattle.scrub_disk.specs.declared.geometry.Geometry.{Geometry}
 use Rattle.scrub_frame.specs.declared.locator.Locator.{Locator}
 use Rattle.scrub_frame.specs.Locator.{locator_bytes}
-use Rattle.scrub_super.specs.declared.head.Cuts.{Cuts}
 use Rattle.scrub_super.specs.declared.head.Head.{Head}
 use Rattle.scrub_super.specs.Contents.{Contents, retired_in}
 use Rattle.scrub_super.specs.Planned.{AreRetired}
 use Rattle.scrub_super.specs.Record.{head_bytes, record_body, record_bytes, ArePointers, AreContents, BeginsWithRecord}
-use Rattle.scrub_super.specs.RecordRead.{body_size, record_head_size, retired_count, AreCuts}
+use Rattle.scrub_super.specs.steps.RecordRead.{body_size, digest_place, record_head_size, retired_count}
 use Rattle.scrub_super.proofs.Fronts.{length_head}
 use Rattle.scrub_super.proofs.Listed.{count_in, small_count, length_listed, length_numbers}
 
@@ -25,9 +24,9 @@ module _ (g : Geometry) (s : Contents) {head : Head} (is : head ≡ head_for s) 
   small_head h = rw is (small_count g s.retired h)
 
   -- how many bytes are reserved
-  pub cuts_size : {cuts : Cuts} → AreCuts g head.runs head.retired cuts → ArePointers g s.pointers →
-      cuts.digest ≡ body_size s
-  cuts_size at pointers = omega (arith, rw is at at.digest_at, pointers.count)
+  pub size_before_digest : {size : ℕ} → size ≡ digest_place g head.runs head.retired → ArePointers g s.pointers →
+      size ≡ body_size s
+  size_before_digest at pointers = omega (arith, rw is at at, pointers.count)
 
   -- the length of the list after a head was appended
   pub head_appended : (old : List ℕ) {new : List ℕ} → new ≡ old ++ head_bytes g head.generation head.runs head.retired →
@@ -42,7 +41,7 @@ module _ (g : Geometry) (s : Contents) {head : Head} (is : head ≡ head_for s) 
 pub few_runs : (s : Contents) {head : Head} → head ≡ head_for s → length s.runs ≤ 32 → head.runs ≤ 32
 few_runs s is few = rw is few
 
--- behind numbers
+-- after numbers
 pub numbers_appended : (old : List ℕ) {new ws xs : List ℕ} → xs ≡ ws → new ≡ old ++ flat_map (big_bytes 4) xs →
     length new ≡ length old + 4 * length ws
 numbers_appended old {ws = ws} is h = omega (arith, simp (length-append, length_numbers) at (ap length (rw is at h)))

@@ -26,7 +26,7 @@ pub record LosesBlocks (bytes lacking : List ℕ) (failures : ℕ) (lost : List 
   pub few : len failed ≤ failures
   pub only : (n : ℕ) → IsMarked lost n → LacksByte bytes lacking n ⊎ Contains failed n
 
--- the blocks from `first` on up to `stop` are lost, and the ones before and behind them aren't
+-- the blocks from `first` on up to `stop` are lost, and the ones before and after them aren't
 pub record IsLostRun (lost : List Bool) (first stop : ℕ) : Type 0 where
   pub some : first < stop
   pub all : (n : ℕ) → first ≤ n → n < stop → IsMarked lost n

@@ -1,7 +1,8 @@
 -- The superblock that counts: the newest valid record of an image, and in a tie the one on the lowest page.
-use Rattle.std.specs.Prelude.{◌≡◌, ◌≢◌, ◌<◌, ◌≤◌, ◌*◌, ◌↔◌, ℕ, List, Bool, Option, Some, None, IsTrue, Contains}
+use Rattle.std.specs.Prelude.{◌≡◌, ◌<◌, ◌*◌, ◌↔◌, ℕ, List, Bool, Option, AllPairs, Contains, nat_lt, not, slice_get}
 use Rattle.std.specs.Prelude.{length as len}
-use Rattle.std.specs.List.Sorted.{IsStrictlyIncreasing}
+use Rattle.std.specs.List.{filter, list_any}
+use Rattle.std.specs.Option.{option_map}
 use Rattle.scrub_disk.specs.declared.geometry.Geometry.{Geometry}
 use Rattle.scrub_disk.specs.Image.{Image, byte, AreBytesAt}
 use Rattle.scrub_super.specs.Contents.{Contents}
@@ -14,39 +15,14 @@ pub record RecordStandsAt (image : Image) (q : ℕ) (c : Contents) : Type 0 wher
   pub contents : AreContents image.geometry c
   pub stands : AreBytesAt (byte image 0) (q * image.geometry.page) (record_bytes image.geometry c)
 
--- no valid record has a greater generation
-abbrev pub IsGreatest : Image → ℕ → Type 0
-IsGreatest image n = (q : ℕ) (c : Contents) → RecordStandsAt image q c → c.generation ≤ n
+-- the valid records of an image, each with its page, by ascending page
+pub record AreRecords (image : Image) (records : List (ℕ × Contents)) : Type 0 where
+  pub rising : AllPairs (λ r s. r.0 < s.0) records
+  pub exact : (q : ℕ) (c : Contents) → Contains records (q, c) ↔ RecordStandsAt image q c
 
--- the record that counts: the valid one of the greatest generation, and of those the one on the lowest page
-pub record IsNewestRecord (image : Image) (q : ℕ) (c : Contents) : Type 0 where
-  pub stands : RecordStandsAt image q c
-  pub greatest : IsGreatest image c.generation
-  pub lowest : (r : ℕ) (d : Contents) → RecordStandsAt image r d → d.generation ≡ c.generation → q ≤ r
-
--- the record that counts and its page, or nothing if no record is valid
-abbrev pub IsChosen : Image → Option Contents → Option ℕ → Type 0
-IsChosen image (Some c) (Some q) = IsNewestRecord image q c
-IsChosen image None None = (q : ℕ) (c : Contents) → ¬ RecordStandsAt image q c
-IsChosen image (Some c) None = ⊥
-IsChosen image None (Some q) = ⊥
-
--- two pages have a valid record of the greatest generation
-pub record IsTie (image : Image) : Type 0 where
-  pub one : ℕ
-  pub other : ℕ
-  pub apart : one ≢ other
-  pub contents : Contents
-  pub contents_of_other : Contents
-  pub stands : RecordStandsAt image one contents
-  pub other_stands : RecordStandsAt image other contents_of_other
-  pub same : contents_of_other.generation ≡ contents.generation
-  pub greatest : IsGreatest image contents.generation
-
--- the pages with a valid record, rising
-pub record AreRecordPages (image : Image) (pages : List ℕ) : Type 0 where
-  pub rising : IsStrictlyIncreasing pages
-  pub exact : (q : ℕ) → Contains pages q ↔ ((c : Contents) × RecordStandsAt image q c)
+-- the newest of these records: those of the greatest generation
+abbrev pub newest : List (ℕ × Contents) → List (ℕ × Contents)
+newest records = filter (λ r. not (list_any (λ s. nat_lt r.1.generation s.1.generation) records)) records
 
 -- what is known of the records of an image: the sizes, the record that counts and its page, how many pages have a valid
 -- record, whether there is a tie, and the unreadable pages of extent 0
@@ -58,10 +34,14 @@ pub record Choice : Type 0 where
   pub tie : Bool
   pub bad_pages : List ℕ
 
--- each part of the choice is as it is in the image
+-- each part of the choice is as it is in the image: the first of the newest records counts, and several are a
+-- tie, be they equal or not
 pub record IsChoice (image : Image) (choice : Choice) : Type 0 where
+  pub valid : List (ℕ × Contents)
+  pub are : AreRecords image valid
   pub geometry : choice.geometry ≡ image.geometry
-  pub chosen : IsChosen image choice.superblock choice.page
-  pub records : (pages : List ℕ) × AreRecordPages image pages × (choice.records ≡ len pages)
-  pub tie : IsTrue choice.tie ↔ IsTie image
+  pub superblock : choice.superblock ≡ option_map (λ r. r.1) (slice_get (newest valid) 0)
+  pub page : choice.page ≡ option_map (λ r. r.0) (slice_get (newest valid) 0)
+  pub records : choice.records ≡ len valid
+  pub tie : choice.tie ≡ nat_lt 1 (len (newest valid))
   pub bad_pages : choice.bad_pages ≡ unreadable_pages image 0

@@ -1,17 +1,18 @@
 -- What each page of extent 0 holds of superblocks.
-use Rattle.std.specs.Prelude.{◌≡◌, ◌<◌, ◌+◌, ◌*◌, ℕ, List, All, Some, None, codes, take, slice_get}
+use Rattle.std.specs.Prelude.{◌≡◌, ◌<◌, ◌+◌, ◌*◌, ℕ, List, All, Some, None, codes, if◌then◌else◌, nat_lt, take, slice_get}
 use Rattle.std.specs.Prelude.{length as len}
+use Rattle.std.specs.List.{list_any}
 use Rattle.std.specs.Option.{option_map_or}
 use Rattle.scrub_disk.specs.Image.{Image}
-use Rattle.scrub_super.specs.declared.pages.RecordKind.{RecordKind}
-use Rattle.scrub_super.specs.declared.pages.RecordKind.TheVariants.{Ssb1, Ssb2}
+use Rattle.scrub_super.specs.declared.kind.RecordKind.{RecordKind}
+use Rattle.scrub_super.specs.declared.kind.RecordKind.TheVariants.{Ssb1, Ssb2}
 use Rattle.scrub_super.specs.declared.pages.Rank.{Rank}
 use Rattle.scrub_super.specs.declared.pages.Rank.TheVariants.{Tie, Counts, Older}
 use Rattle.scrub_super.specs.declared.pages.SuperblockPage.{SuperblockPage}
 use Rattle.scrub_super.specs.declared.pages.SuperblockPage.TheVariants.{Lost, Record, Covered, Zero, Damaged, Stray}
 use Rattle.scrub_super.specs.Contents.{Contents}
 use Rattle.scrub_super.specs.Record.{record_bytes}
-use Rattle.scrub_super.specs.Chosen.{RecordStandsAt, IsGreatest, IsTie}
+use Rattle.scrub_super.specs.Chosen.{AreRecords, RecordStandsAt, newest}
 
 -- the four bytes that a record of a kind begins with
 abbrev pub magic_of : RecordKind → List ℕ
@@ -22,12 +23,12 @@ magic_of Ssb2 = codes "SSB2"
 abbrev pub kind_of : Contents → RecordKind
 kind_of c = option_map_or (λ _. Ssb2) c.retired Ssb1
 
--- how new a record is: it has the greatest generation and there is a tie, or it has it and there is none, or it is
--- older
-abbrev pub IsRank : Image → Contents → Rank → Type 0
-IsRank image c Tie = IsGreatest image c.generation × IsTie image
-IsRank image c Counts = IsGreatest image c.generation × ¬ IsTie image
-IsRank image c Older = ¬ IsGreatest image c.generation
+-- how new a record of this generation is: older than another one, or else in a tie, or the one that counts
+abbrev pub IsRank : Image → ℕ → Rank → Type 0
+IsRank image generation rank =
+    (records : List (ℕ × Contents)) × AreRecords image records ×
+    (rank ≡ (if list_any (λ r. nat_lt generation r.1.generation) records then Older
+    else if nat_lt 1 (len (newest records)) then Tie else Counts))
 
 -- a valid record begins at the page
 abbrev pub HasRecord : Image → ℕ → Type 0
@@ -52,7 +53,7 @@ pub record IsUnclaimed (image : Image) (q : ℕ) (bytes : List ℕ) : Type 0 whe
 abbrev pub IsSuperblockPage : Image → ℕ → SuperblockPage → Type 0
 IsSuperblockPage image q Lost = image.page 0 q ≡ None
 IsSuperblockPage image q (Record kind generation rank) =
-    (c : Contents) × RecordStandsAt image q c × (kind ≡ kind_of c) × (generation ≡ c.generation) × IsRank image c rank
+    (c : Contents) × RecordStandsAt image q c × (kind ≡ kind_of c) × (generation ≡ c.generation) × IsRank image generation rank
 IsSuperblockPage image q Covered = (¬ HasRecord image q) × LiesInRecord image q
 IsSuperblockPage image q Zero = (bytes : List ℕ) × IsUnclaimed image q bytes × All (λ b. b ≡ 0) bytes
 IsSuperblockPage image q (Damaged kind) = (bytes : List ℕ) × IsUnclaimed image q bytes × (take 4 bytes ≡ magic_of kind)

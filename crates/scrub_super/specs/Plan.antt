@@ -18,7 +18,7 @@ pub record PlanValue : Type 0 where
   pub runs : List Locator
   pub has_superblock : Bool
 
--- what holds of each plan: planned and retired extents rise and none is both, and pointers and runs are within their
+-- what holds of each plan: planned and retired extents are ascending and none is both, and pointers and runs are within their
 -- limits
 pub record IsPlan (plan : PlanValue) : Type 0 where
   pub extents : ArePlanned plan.geometry.extents plan.planned
@@ -60,7 +60,7 @@ pub record IsRestricted (old : PlanValue) (extents : List ℕ) (new : PlanValue)
   pub runs : new.runs ≡ old.runs
   pub has : new.has_superblock ≡ old.has_superblock
 
--- the write pointer of extent i + 1, given with the index i that it has among the pointers, but 0 if it is one of these extents
+-- of a pointer with its index i, which is that of extent i + 1: the pointer, or 0 if that is one of these extents
 abbrev pub pointer_reset : List ℕ → ℕ × ℕ → ℕ
 pointer_reset extents p = if list_any (λ e. e == p.0 + 1) extents then 0 else p.1
 

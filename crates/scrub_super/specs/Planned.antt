@@ -3,7 +3,7 @@ use Rattle.std.specs.Prelude.{◌<◌, ◌≤◌, ◌-◌, ◌==◌, ℕ, Bool, 
 use Rattle.std.specs.List.{list_any, range_with_len}
 use Rattle.std.specs.List.Sorted.{IsStrictlyIncreasing}
 
--- extents where chunks are written: they rise, from 1 up to the number of extents less 1
+-- extents where chunks are written: they are ascending, from 1 up to the number of extents less 1
 pub record AreChunkExtents (extents : ℕ) (numbers : List ℕ) : Type 0 where
   pub rising : IsStrictlyIncreasing numbers
   pub from_one : All (λ e. 1 ≤ e) numbers
@@ -21,6 +21,6 @@ AreRetired extents retired = AreChunkExtents extents retired
 abbrev pub is_in_use : List ℕ → ℕ → Bool
 is_in_use retired e = not (list_any (λ r. r == e) retired)
 
--- all extents except extent 0 and the retired ones, rising
+-- all extents except extent 0 and the retired ones, ascending
 abbrev pub extents_in_use : ℕ → List ℕ → List ℕ
 extents_in_use extents retired = filter (is_in_use retired) (range_with_len 1 (extents - 1))

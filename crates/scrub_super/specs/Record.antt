@@ -11,7 +11,7 @@ use Rattle.scrub_disk.specs.declared.geometry.Geometry.{Geometry}
 use Rattle.scrub_frame.specs.declared.locator.Locator.{Locator}
 use Rattle.scrub_frame.specs.Locator.{locator_bytes, IsLocator}
 use Rattle.scrub_super.specs.Contents.{Contents, retired_in}
-use Rattle.scrub_super.specs.Planned.{AreRetired}
+use Rattle.scrub_super.specs.Planned.{AreChunkExtents}
 
 -- the digit that ends the magic: that of `SSB1`, or of `SSB2` if retired extents are listed
 abbrev pub digit_of : Option ℕ → ℕ
@@ -56,7 +56,7 @@ pub record AreRunLocators (runs : List Locator) : Type 0 where
 pub record AreContents (g : Geometry) (c : Contents) : Type 0 where
   pub generation : c.generation < 2 ^ 64
   pub pointers : ArePointers g c.pointers
-  pub retired : IfSome c.retired (AreRetired g.extents)
+  pub retired : IfSome c.retired (AreChunkExtents g.extents)
   pub runs : AreRunLocators c.runs
 
 -- the record of these contents, which keep the limits, is a prefix of the bytes

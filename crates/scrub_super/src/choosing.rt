@@ -1,11 +1,14 @@
 //! Reads extent 0 and chooses the superblock that counts.
 
-ghost use Rattle.std.specs.Prelude.{◌≡◌, ◌+◌, ◌*◌, ◌<◌, ◌≤◌, ◌^◌, ℕ, List, Option, IfOk, length, drop};
+ghost use Rattle.std.specs.Prelude.{◌≡◌, ◌↔◌, ◌+◌, ◌*◌, ◌<◌, ◌≤◌, ◌^◌, ℕ, List, Option, IfOk, length, drop};
 ghost use Rattle.scrub_disk.specs.Buffered.{IsBuffered};
-ghost use Rattle.scrub_disk.specs.NextUnreadable.{IsNextUnreadable};
+ghost use Rattle.scrub_disk.specs.steps.NextUnreadable.{IsNextUnreadable};
 ghost use Rattle.scrub_super.specs.Contents.{Contents};
 ghost use Rattle.scrub_super.specs.Record.{BeginsWithRecord};
 ghost use Rattle.scrub_super.specs.Chosen.{Choice, IsChoice, RecordStandsAt};
+ghost use Rattle.scrub_super.specs.Pages.{IsRank};
+ghost use Rattle.scrub_super.specs.declared.pages.Rank.{Rank};
+ghost use Rattle.scrub_super.specs.steps.ByConditions.{IsChoiceByConditions, IsRankByConditions};
 ghost use Rattle.scrub_disk.specs.Image.{Image};
 
 use crate::chosen::Chosen;
@@ -32,7 +35,8 @@ pub(crate) struct RecordsSeen {
     pub records: u32,
 }
 
-ghost use Rattle.scrub_super.specs.RecordsSeen.{AddsRecord, AreSeenFrom, StandsFrom};
+ghost use Rattle.scrub_super.specs.steps.PagesFound.{image_with};
+ghost use Rattle.scrub_super.specs.steps.RecordsSeen.{AddsRecord, AreSeenFrom, StandsFrom};
 
 /// Adds one more record, on a lower page than those before.
 pub(crate) fn with_record(seen: RecordsSeen, page: u32, generation: u64) -> RecordsSeen
@@ -74,8 +78,9 @@ pub(crate) fn readable_end(readable: &[bool], page: usize, next_end: usize) -> u
 fn find_records(bytes: &[u8], readable: &[bool], geometry: Geometry) -> RecordsSeen
     requires bytes { length bytes.now ≡ geometry.page * geometry.pages }
     requires pages { length readable.now ≡ geometry.pages }
-    ensures { (page : ℕ → ℕ → Option (List ℕ)) → IsBuffered (record { geometry = geometry; page = page }) 0 bytes.now readable.now →
-        AreSeenFrom (StandsFrom (record { geometry = geometry; page = page })) 0 result }
+    ensures { (page : ℕ → ℕ → Option (List ℕ)) →
+        IsBuffered (image_with geometry page) 0 bytes.now readable.now →
+        AreSeenFrom (StandsFrom (image_with geometry page)) 0 result }
 {
     let size = geometry.page() as usize;
     let mut seen = RecordsSeen {
@@ -151,9 +156,9 @@ pub(crate) fn chosen_by<D: PageSource>(
     ))
 }
 
-/// The superblock that counts on a disk: the valid record in extent 0 with the greatest generation, and in a tie the one on
-/// the lowest page. Each page of extent 0 is read once. Memory: a buffer for extent 0, a mark for each page, the list of
-/// unreadable pages, and one superblock.
+/// The superblock that counts on a disk: the valid record in extent 0 with the greatest generation, and in a
+/// tie the one on the lowest page. Each page of extent 0 is read once. Memory: a buffer for extent 0, a mark
+/// for each page, the list of unreadable pages, and one superblock.
 pub fn choose<D: PageSource>(alloc: Global, disk: &D) -> Result<Chosen, OutOfMemory>
     ensures { IfOk result (IsChoice (D.image disk.now)) }
 {
@@ -161,9 +166,20 @@ pub fn choose<D: PageSource>(alloc: Global, disk: &D) -> Result<Chosen, OutOfMem
     chosen_by(alloc, disk, &extent, seen)
 }
 
-/// A law: at most one record begins on a page of extent 0, so an image has one choice.
+/// A law: at most one record begins on a page of extent 0, and an image has at most one choice.
 pub fn one_choice()
     ensures on_a_page { (image : Image) (page : ℕ) (c d : Contents) →
         RecordStandsAt image page c → RecordStandsAt image page d → c ≡ d }
     ensures choice { (image : Image) (a b : Choice) → IsChoice image a → IsChoice image b → a ≡ b }
+{}
+
+/// A law: the superblock that counts is the valid record of the greatest generation, and of those the one on
+/// the lowest page; and there is a tie if two pages have a valid record of that generation. `IsChoice` and
+/// `IsRank` say it by the list of the valid records, and the conditions without it.
+pub fn choice_by_conditions()
+    ensures choice { (image : Image) (choice : Choice) →
+        IsChoice image choice ↔ IsChoiceByConditions image choice }
+    ensures rank { (image : Image) (choice : Choice) → IsChoice image choice →
+        (generation : ℕ) (rank : Rank) →
+        IsRank image generation rank ↔ IsRankByConditions image generation rank }
 {}

@@ -119,7 +119,7 @@ impl Chosen {
         self.tie
     }
 
-    /// The unreadable pages of extent 0, rising.
+    /// The unreadable pages of extent 0, ascending.
     pub fn bad_pages(&self) -> &[u32]
         ensures { result.now ≡ self.now.bad_pages }
     {

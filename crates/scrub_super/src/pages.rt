@@ -1,26 +1,17 @@
 //! What a page of extent 0 holds: a superblock record, the rest of one, a damaged one, or anything else.
 
-ghost use Rattle.std.specs.Prelude.{◌≡◌, ◌↔◌, ℕ, All, IfNone, IfSome, IsTrue, take};
+ghost use Rattle.std.specs.Prelude.{◌≡◌, ◌↔◌, ℕ, All, IsTrue};
 ghost use Rattle.scrub_disk.specs.Image.{Image};
-ghost use Rattle.scrub_super.specs.Pages.{HasRecord, IsSuperblockPage, magic_of};
-ghost use Rattle.scrub_super.specs.PagesFound.{IsKnownOfPage};
-ghost use Rattle.std.specs.Option.{option_map_or};
-ghost use Rattle.scrub_super.specs.declared.pages.RecordKind.{RecordKind};
-ghost use Rattle.scrub_super.specs.declared.pages.RecordKind.TheVariants.{Ssb1, Ssb2};
+ghost use Rattle.scrub_super.specs.Pages.{HasRecord, IsSuperblockPage};
+ghost use Rattle.scrub_super.specs.steps.PagesFound.{IsKnownOfPage};
 
-/// The kind of a record, by its first four bytes.
-#[derive(Debug, Clone, Copy, PartialEq, Eq)]
-pub enum RecordKind {
-    /// `SSB1`: it has no list of retired extents.
-    Ssb1,
-    /// `SSB2`: it has such a list, which may be empty.
-    Ssb2,
-}
+use crate::kind::RecordKind;
 
 /// How new a record is, compared with the other records of its disk.
 #[derive(Debug, Clone, Copy, PartialEq, Eq)]
 pub enum Rank {
-    /// Its generation is the greatest, and another page has a record of the same generation.
+    /// Its generation is the greatest, and another page has a record of the same generation. Of these records
+    /// the one on the lowest page is used.
     Tie,
     /// Its generation is the greatest, and no other page has a record of that generation: this record counts.
     Counts,
@@ -43,8 +34,8 @@ pub enum SuperblockPage {
     Covered,
     /// All bytes of the page are zero.
     Zero,
-    /// The page begins with the four bytes of a kind, but with no valid record: its digest is wrong, it has other sizes or
-    /// a field out of range, or an unreadable page or the end of the extent cuts it off.
+    /// The page begins with the four bytes of a kind, but with no valid record: its digest is wrong, it has
+    /// other sizes or a field out of range, or an unreadable page or the end of the extent cuts it off.
     Damaged {
         kind: RecordKind,
     },
@@ -64,38 +55,14 @@ fn are_zero(bytes: &[u8]) -> bool
     true
 }
 
-/// The kind whose four bytes come first, if there is one.
-fn kind_at(bytes: &[u8]) -> Option<RecordKind>
-    ensures found { IfSome result (λ kind. take 4 bytes.now ≡ magic_of kind) }
-    ensures none { IfNone result ((kind : RecordKind) → ¬ (take 4 bytes.now ≡ magic_of kind)) }
-{
-    if bytes.starts_with(b"SSB1") {
-        return Some(RecordKind::Ssb1);
-    }
-    if bytes.starts_with(b"SSB2") {
-        return Some(RecordKind::Ssb2);
-    }
-    None
-}
-
-/// The kind of a record, by whether it has a list of retired extents.
-pub(crate) fn kind_by(retired: Option<usize>) -> RecordKind
-    ensures { result ≡ option_map_or (λ _. Ssb2) retired Ssb1 }
-{
-    match retired {
-        None => RecordKind::Ssb1,
-        Some(_) => RecordKind::Ssb2,
-    }
-}
-
 /// What a page holds if no record begins on it.
 pub(crate) fn page_without_record(
     bytes: &[u8],
     is_readable: bool,
     is_covered: bool,
 ) -> SuperblockPage
-    ensures { (image : Image) (q : ℕ) → IsKnownOfPage image q bytes.now is_readable is_covered → ¬ HasRecord image q →
-        IsSuperblockPage image q result }
+    ensures { (image : Image) (q : ℕ) → IsKnownOfPage image q bytes.now is_readable is_covered →
+        ¬ HasRecord image q → IsSuperblockPage image q result }
 {
     if !is_readable {
         return SuperblockPage::Lost;
@@ -106,7 +73,7 @@ pub(crate) fn page_without_record(
     if are_zero(bytes) {
         return SuperblockPage::Zero;
     }
-    match kind_at(bytes) {
+    match RecordKind::at(bytes) {
         Some(kind) => SuperblockPage::Damaged { kind },
         None => SuperblockPage::Stray,
     }

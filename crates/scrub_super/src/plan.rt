@@ -1,6 +1,7 @@
 //! The plan of a scan: what to scan, and what the superblock says about it. `scrub_scan` follows it.
 
-ghost use Rattle.std.specs.Prelude.{◌≡◌, ◌==◌, ◌<◌, ◌≤◌, ◌-◌, ◌*◌, ◌^◌, All, Contains, IfOk, Some, length, true};
+ghost use Rattle.std.specs.Prelude.{◌≡◌, ◌==◌, ◌<◌, ◌≤◌, ◌-◌, ◌*◌, ◌^◌, All, Contains, IfOk, Some, length};
+ghost use Rattle.std.specs.Prelude.{true};
 ghost use Rattle.std.specs.List.{list_any};
 ghost use Rattle.std.specs.List.Sorted.{IsStrictlyIncreasing};
 ghost use Rattle.scrub_super.specs.Plan.{pointer_reset, pointers_reset};
@@ -12,7 +13,8 @@ use scrub_frame::Locator;
 use std::alloc::Global;
 use std::marker::Model;
 
-/// The extents to scan, the retired extents, the write pointer of each extent, and the locators of the index runs.
+/// The extents to scan, the retired extents, the write pointer of each extent, and the locators of the index
+/// runs.
 #[derive(Drop)]
 pub struct Plan {
     geometry: Geometry,
@@ -52,8 +54,8 @@ impl Plan {
     ghost use Rattle.scrub_super.specs.Record.{AreRunLocators};
     ghost use Rattle.scrub_super.specs.Plan.{pointer_of, IsPlanOf, IsReset, IsRestricted};
 
-    /// The plan of all extents except extent 0 and the retired ones, from the chosen superblock. If there is no superblock,
-    /// each extent counts as full, none is retired, and there are no index runs.
+    /// The plan of all extents except extent 0 and the retired ones, from the chosen superblock. If there is
+    /// no superblock, each extent counts as full, none is retired, and there are no index runs.
     pub fn make(alloc: Global, chosen: &Chosen, geometry: Geometry) -> Result<Plan, OutOfMemory>
         requires same_geometry { chosen.now.geometry ≡ geometry }
         ensures { IfOk result (IsPlanOf chosen.now) }
@@ -94,7 +96,8 @@ impl Plan {
         })
     }
 
-    /// The same plan, but as if each of these extents, which rise, had the write pointer 0. A retired extent stays retired.
+    /// The same plan, but as if each of these extents, which are ascending, had the write pointer 0. A
+    /// retired extent stays retired.
     pub fn with_resets(&self, alloc: Global, extents: &[u32]) -> Result<Plan, OutOfMemory>
         requires rising { IsStrictlyIncreasing extents.now }
         ensures { IfOk result (IsReset self.now extents.now) }
@@ -116,7 +119,7 @@ impl Plan {
         self.geometry
     }
 
-    /// The extents to scan, rising. There may be none.
+    /// The extents to scan, ascending. There may be none.
     pub fn planned(&self) -> &[u32]
         ensures planned { result.now ≡ self.now.planned }
         // The type's invariant, for callers that only borrow the plan.
@@ -126,7 +129,7 @@ impl Plan {
         self.planned.as_slice()
     }
 
-    /// The retired extents, rising. None of them is read.
+    /// The retired extents, ascending. None of them is read.
     pub fn retired(&self) -> &[u32]
         ensures retired { result.now ≡ self.now.retired }
         // The type's invariant, for callers that only borrow the plan.
@@ -169,7 +172,7 @@ impl Plan {
     }
 }
 
-/// Whether an extent is one of these, which rise.
+/// Whether an extent is one of these, which are ascending.
 fn has_extent(extents: &[u32], extent: u32) -> bool
     requires { IsStrictlyIncreasing extents.now }
     ensures { result ≡ list_any (λ e. e == extent) extents.now }
@@ -177,7 +180,7 @@ fn has_extent(extents: &[u32], extent: u32) -> bool
     extents.binary_search(&extent).is_ok()
 }
 
-/// The write pointer of extent `i` + 1, but 0 if it is one of these extents, which rise.
+/// The write pointer of extent `i` + 1, but 0 if it is one of these extents, which are ascending.
 fn pointer_reset(extents: &[u32], i: usize, pointer: u32) -> u32
     requires rising { IsStrictlyIncreasing extents.now }
     requires small { i < 2 ^ 32 - 1 }
@@ -190,7 +193,7 @@ fn pointer_reset(extents: &[u32], i: usize, pointer: u32) -> u32
     }
 }
 
-/// The write pointers of extents 1, 2 and so on, but 0 for each of these extents, which rise.
+/// The write pointers of extents 1, 2 and so on, but 0 for each of these extents, which are ascending.
 fn pointers_reset(alloc: Global, extents: &[u32], pointers: &[u32]) -> Result<Vec<u32>, OutOfMemory>
     requires rising { IsStrictlyIncreasing extents.now }
     requires small { length pointers.now < 2 ^ 32 - 1 }
@@ -203,7 +206,7 @@ fn pointers_reset(alloc: Global, extents: &[u32], pointers: &[u32]) -> Result<Ve
     Ok(reset)
 }
 
-/// All extents except extent 0 and the retired ones, rising.
+/// All extents except extent 0 and the retired ones, ascending.
 fn all_in_use(alloc: Global, extents: u32, retired: &[u32]) -> Result<Vec<u32>, OutOfMemory>
     requires some { 1 ≤ extents }
     requires rising { IsStrictlyIncreasing retired.now }

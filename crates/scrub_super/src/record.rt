@@ -1,20 +1,24 @@
 //! Reads and writes superblock records. `choosing` finds them on a disk.
 
-ghost use Rattle.std.specs.Prelude.{◌≡◌, ◌+◌, ◌*◌, ◌-◌, ◌≤◌, ◌<◌, ◌^◌, ◌++◌, ◌↔◌, ℕ, List, [], Option, IsTrue, IfSome, IfNone, IfOk, All, take, drop, length, vec_len, vec_capacity, option_map, OnOk, OnErr};
+ghost use Rattle.std.specs.Prelude.{◌≡◌, ◌+◌, ◌*◌, ◌-◌, ◌≤◌, ◌<◌, ◌^◌, ◌++◌, ◌↔◌, ℕ, List, [], Option};
+ghost use Rattle.std.specs.Prelude.{IsTrue, IfSome, IfNone, IfOk, All, take, drop, length, vec_len};
+ghost use Rattle.std.specs.Prelude.{vec_capacity, option_map, OnOk, OnErr};
 ghost use Rattle.std.specs.List.{flat_map};
 ghost use Rattle.std.specs.Option.{unwrap_or};
 ghost use Rattle.scrub_frame.specs.Frame.{digest_size};
-ghost use Rattle.byteorder.specs.Endian.{big_bytes, big_number};
+ghost use Rattle.byteorder.specs.Endian.{big_bytes};
 ghost use Rattle.sha2.specs.Sha256.{sha256};
 ghost use Rattle.scrub_frame.specs.Locator.{IsLocator};
 ghost use Rattle.scrub_disk.specs.declared.geometry.Geometry.{Geometry};
 ghost use Rattle.scrub_super.specs.Contents.{Contents};
 ghost use Rattle.scrub_super.specs.Planned.{AreRetired};
 ghost use Rattle.scrub_super.specs.Record.{ArePointers, BeginsWithRecord, record_body, record_bytes};
-ghost use Rattle.scrub_super.specs.RecordRead.{BeginsWithSome, SpellExtents, body_size, record_head_size, retired_count};
+ghost use Rattle.scrub_super.specs.steps.RecordRead.{BeginsWithSome, SpellExtents, body_size, digest_place};
+ghost use Rattle.scrub_super.specs.steps.RecordRead.{number_in, pointer_bytes, retired_bytes};
+ghost use Rattle.scrub_super.specs.steps.RecordRead.{retired_count, run_locator_bytes};
 
 pub use crate::head::MAX_RUNS;
-use crate::head::{Head, append_head, cuts_of, head_of, read_head};
+use crate::head::{Head, append_head, body_len, head_len, head_of, read_head};
 use crate::superblock::Superblock;
 use byteorder::{BigEndian, ByteOrder};
 use scrub_disk::{Geometry, OutOfMemory};
@@ -23,7 +27,7 @@ use std::alloc::Global;
 
 /// Whether each four-byte number is at most `most`.
 fn are_within(bytes: &[u8], most: u32) -> bool
-    ensures { IsTrue result ↔ ((k : ℕ) → 4 * k + 4 ≤ length bytes.now → big_number 4 (drop (4 * k) bytes.now) ≤ most) }
+    ensures { IsTrue result ↔ ((k : ℕ) → 4 * k + 4 ≤ length bytes.now → number_in bytes.now k ≤ most) }
 {
     for i in 0..bytes.len() / 4 {
         if BigEndian::read_u32(&bytes[4 * i..]) > most {
@@ -33,7 +37,7 @@ fn are_within(bytes: &[u8], most: u32) -> bool
     true
 }
 
-/// Whether the four-byte numbers rise, from 1 up to less than `extents`.
+/// Whether the four-byte numbers are ascending, from 1 up to less than `extents`.
 fn are_extents(bytes: &[u8], extents: u32) -> bool
     ensures { IsTrue result ↔ SpellExtents extents bytes.now }
 {
@@ -48,34 +52,61 @@ fn are_extents(bytes: &[u8], extents: u32) -> bool
     true
 }
 
-/// Whether the digest of the bytes before `end` follows them.
-fn has_digest_at(bytes: &[u8], end: usize) -> bool
-    requires { end + digest_size ≤ length bytes.now }
-    ensures { IsTrue result ↔ (take digest_size (drop end bytes.now) ≡ sha256 (take end bytes.now)) }
+/// Whether the rest of the bytes begins with the digest of the part before it.
+fn has_digest(body: &[u8], rest: &[u8]) -> bool
+    requires { digest_size ≤ length rest.now }
+    ensures { IsTrue result ↔ (take digest_size rest.now ≡ sha256 body.now) }
 {
-    digest_of(&bytes[..end]).as_slice() == &bytes[end..end + DIGEST_BYTES]
+    digest_of(body).as_slice() == &rest[..DIGEST_BYTES]
 }
 
-/// The head of the record that the bytes begin with, if they begin with one. The bytes are hashed only if all fields are
-/// in range. Takes no memory.
+/// The parts of a record between its head and its digest.
+#[derive(Clone, Copy)]
+struct RecordParts<'a> {
+    pointers: &'a [u8],
+    retired: &'a [u8],
+    runs: &'a [u8],
+}
+
+/// Cuts the parts off the bytes that begin with a record with this head.
+fn parts_of(bytes: &[u8], geometry: Geometry, head: Head) -> RecordParts<'_>
+    requires { digest_place geometry head.runs head.retired ≤ length bytes.now }
+    ensures pointers { result.pointers.now ≡ pointer_bytes geometry head.retired bytes.now }
+    ensures retired { result.retired.now ≡ retired_bytes geometry head.retired bytes.now }
+    ensures runs { result.runs.now ≡ run_locator_bytes geometry head.runs head.retired bytes.now }
+{
+    let (_, rest) = bytes.split_at(head_len(head.retired));
+    let (pointers, rest) = rest.split_at(4 * (geometry.extents() as usize - 1));
+    let (retired, rest) = rest.split_at(4 * head.retired.unwrap_or(0));
+    let (runs, _) = rest.split_at(LOCATOR_BYTES * head.runs);
+    RecordParts {
+        pointers,
+        retired,
+        runs,
+    }
+}
+
+/// The head of the record that the bytes begin with, if they begin with one. The bytes are hashed only if all
+/// fields are in range. Takes no memory.
 pub(crate) fn record_at(bytes: &[u8], geometry: Geometry) -> Option<Head>
     ensures found { IfSome result (λ h. BeginsWithSome geometry bytes.now h.generation h.runs h.retired) }
-    ensures within { IfSome result (λ h.
-        record_head_size h.retired + 4 * (geometry.extents - 1) + 4 * retired_count h.retired + 60 * h.runs ≤ length bytes.now) }
+    ensures within { IfSome result (λ h. digest_place geometry h.runs h.retired ≤ length bytes.now) }
     ensures none { IfNone result ((c : Contents) → ¬ BeginsWithRecord geometry bytes.now c) }
 {
     let head = read_head(bytes, geometry)?;
-    let cuts = cuts_of(geometry, head);
-    if bytes.len() < cuts.digest + DIGEST_BYTES {
+    let size = body_len(geometry, head);
+    if bytes.len() < size + DIGEST_BYTES {
         return None;
     }
-    if !are_within(&bytes[cuts.pointers..cuts.retired], geometry.extent_bytes()) {
+    let parts = parts_of(bytes, geometry, head);
+    if !are_within(parts.pointers, geometry.extent_bytes()) {
         return None;
     }
-    if !are_extents(&bytes[cuts.retired..cuts.runs], geometry.extents()) {
+    if !are_extents(parts.retired, geometry.extents()) {
         return None;
     }
-    if !has_digest_at(bytes, cuts.digest) {
+    let (body, rest) = bytes.split_at(size);
+    if !has_digest(body, rest) {
         return None;
     }
     Some(head)
@@ -102,7 +133,8 @@ fn read_retired(
     requires { length bytes.now ≡ 4 * retired_count count }
     ensures count { IfOk result (λ o. option_map length (option_map (λ v. v.items) o) ≡ count) }
     ensures fit { IfOk result (λ o. IfSome (option_map (λ v. v.items) o) (λ ws. All (λ w. w < 2 ^ 32) ws)) }
-    ensures spelled { IfOk result (λ o. flat_map (big_bytes 4) (unwrap_or (option_map (λ v. v.items) o) []) ≡ bytes.now) }
+    ensures spelled { IfOk result (λ o.
+        flat_map (big_bytes 4) (unwrap_or (option_map (λ v. v.items) o) []) ≡ bytes.now) }
 {
     match count {
         None => Ok(None),
@@ -110,23 +142,24 @@ fn read_retired(
     }
 }
 
-/// Parses the record that the bytes begin with, if they begin with one of this geometry. Bytes behind it don't matter.
+/// Parses the record that the bytes begin with, if they begin with one of this geometry. Bytes after it don't
+/// matter.
 pub fn read_record(
     alloc: Global,
     bytes: &[u8],
     geometry: Geometry,
 ) -> Result<Option<Superblock>, OutOfMemory>
     ensures found { IfOk result (λ found. IfSome found (BeginsWithRecord geometry bytes.now)) }
-    ensures none { IfOk result (λ found. IfNone found ((c : Contents) → ¬ BeginsWithRecord geometry bytes.now c)) }
+    ensures none { IfOk result (λ found. IfNone found
+        ((c : Contents) → ¬ BeginsWithRecord geometry bytes.now c)) }
 {
     let Some(head) = record_at(bytes, geometry) else {
         return Ok(None);
     };
-    let cuts = cuts_of(geometry, head);
-    let extents = geometry.extents() as usize;
-    let pointers = read_numbers(alloc, &bytes[cuts.pointers..cuts.retired], extents - 1)?;
-    let retired = read_retired(alloc, &bytes[cuts.retired..cuts.runs], head.retired)?;
-    let runs = read_locators(alloc, &bytes[cuts.runs..cuts.digest], head.runs)?;
+    let parts = parts_of(bytes, geometry, head);
+    let pointers = read_numbers(alloc, parts.pointers, geometry.extents() as usize - 1)?;
+    let retired = read_retired(alloc, parts.retired, head.retired)?;
+    let runs = read_locators(alloc, parts.runs, head.runs)?;
     Ok(Some(Superblock::of(head.generation, pointers, retired, runs)))
 }
 
@@ -158,8 +191,9 @@ fn append_body(out: &mut Vec<u8>, geometry: Geometry, superblock: &Superblock)
     append_locators(out, superblock.runs());
 }
 
-/// Appends the record of a superblock for a disk of this geometry: 58 bytes, 4 for each pointer and 60 for each run; with a
-/// list of retired extents, 2 more and 4 for each of these. After `OutOfMemory`, `out` is unchanged.
+/// Appends the record of a superblock for a disk of this geometry: 58 bytes, 4 for each pointer and 60 for
+/// each run; with a list of retired extents, 2 more and 4 for each of these. After `OutOfMemory`, `out` is
+/// unchanged.
 pub fn write_record(
     out: &mut Vec<u8>,
     geometry: Geometry,
@@ -176,7 +210,7 @@ pub fn write_record(
         BeginsWithRecord geometry (drop (vec_len out.old) out.new.items ++ rest) superblock.now) }
 {
     let start = out.len();
-    out.reserve(cuts_of(geometry, head_of(superblock)).digest + DIGEST_BYTES)?;
+    out.reserve(body_len(geometry, head_of(superblock)) + DIGEST_BYTES)?;
     append_body(out, geometry, superblock);
     let digest = digest_of(&out[start..]);
     append(out, &digest);

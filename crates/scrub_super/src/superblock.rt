@@ -33,7 +33,12 @@ impl Superblock {
 
     /// A superblock with no list of retired extents. Takes no memory.
     pub fn new(generation: u64, pointers: Vec<u32>, runs: Vec<Locator>) -> Superblock
-        ensures { result ≡ record { generation = generation; pointers = pointers.items; retired = None; runs = runs.items } }
+        ensures { result ≡ record {
+          generation = generation;
+          pointers = pointers.items;
+          retired = None;
+          runs = runs.items;
+        } }
     {
         Superblock {
             generation,
@@ -50,7 +55,12 @@ impl Superblock {
         retired: Vec<u32>,
         runs: Vec<Locator>,
     ) -> Superblock
-        ensures { result ≡ record { generation = generation; pointers = pointers.items; retired = Some retired.items; runs = runs.items } }
+        ensures { result ≡ record {
+          generation = generation;
+          pointers = pointers.items;
+          retired = Some retired.items;
+          runs = runs.items;
+        } }
     {
         Superblock {
             generation,

@@ -55,7 +55,7 @@ IsMessage_cut bytes begun span message within is =
       long = is.long;
     }
 
--- nor do bytes that are cut off behind the messages
+-- nor do bytes that are cut off after the messages
 pub cut : (bytes : List ℕ) (begun : ℕ) (spans : List Span) (messages : List (List ℕ))
     → All (λ s. s.start + 64 * s.blocks ≤ begun) spans
     → AreMessages bytes spans messages → AreMessages (take begun bytes) spans messages

@@ -38,7 +38,7 @@ digest_of bytes span = digest_bytes (hash_of bytes span) 8
 abbrev pub IsWithin : List ℕ → Span → Type 0
 IsWithin bytes span = span.start + 64 * span.blocks ≤ length bytes
 
--- lane l has hashed some blocks of a span, from its first on; it goes on behind them, and has this many left
+-- lane l has hashed some blocks of a span, from its first on; it goes on after them, and has this many left
 pub record Carries (bytes : List ℕ) (lanes : Lanes) (l : ℕ) (span : Span) : Type 0 where
   pub done : ℕ
   pub here : slice_index lanes.place l ≡ span.start + 64 * done

@@ -8,8 +8,8 @@ use crate::lanes::Span;
 use sha2::{Digest, Sha256};
 use std::alloc::{AllocError, Global};
 
-/// Whether one of the messages has half of all blocks, or more. The lanes gain nothing then: a block of each lane takes as long
-/// as about two blocks that are hashed alone.
+/// Whether one of the messages has half of all blocks, or more. The lanes gain nothing then: a block of each
+/// lane takes as long as about two blocks that are hashed alone.
 pub(crate) fn has_most(spans: &[Span]) -> bool {
     let mut all = 0usize;
     let mut longest = 0;

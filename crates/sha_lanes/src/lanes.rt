@@ -1,6 +1,7 @@
 //! Hashes the blocks of several messages side by side. A lane that has ended takes the next message.
 
-ghost use Rattle.std.specs.Prelude.{◌≡◌, ◌≢◌, ◌+◌, ◌-◌, ◌*◌, ◌<◌, ◌≤◌, ℕ, List, All, Contains, IfOk, length, map, slice_index, slice_index_or, []};
+ghost use Rattle.std.specs.Prelude.{◌≡◌, ◌≢◌, ◌+◌, ◌-◌, ◌*◌, ◌<◌, ◌≤◌, ℕ, List, All, Contains, IfOk, length};
+ghost use Rattle.std.specs.Prelude.{map, slice_index, slice_index_or, []};
 ghost use Rattle.sha2.specs.Sha256.{digest_bytes, hash_after, initial_hash_256};
 ghost use Rattle.sha_lanes.specs.Lanes.{AreLanes, Carries, IsWithin, digest_of, lane};
 ghost use Rattle.sha_lanes.specs.declared.lanes.Span.{Span};
@@ -12,7 +13,7 @@ use std::alloc::{AllocError, Global};
 /// The most spans that are put in order by their lengths.
 const MOST_SORTED: usize = 64;
 
-/// Some blocks of 64 bytes, one behind another: a message with its padding.
+/// Some blocks of 64 bytes, one after another: a message with its padding.
 #[derive(Clone, Copy)]
 pub(crate) struct Span {
     /// The byte at which the first begins.
@@ -186,8 +187,8 @@ impl Lanes {
     }
 }
 
-/// The numbers of the spans, in the order in which they are hashed. Of a few spans the longest comes first, so that the lanes
-/// end at about the same time.
+/// The numbers of the spans, in the order in which they are hashed. Of a few spans the longest comes first,
+/// so that the lanes end at about the same time.
 fn in_order(alloc: Global, spans: &[Span]) -> Result<Vec<usize>, AllocError>
     ensures below { IfOk result (λ order. All (λ i. i < length spans.now) order.items) }
     ensures each { IfOk result (λ order. (i : ℕ) → i < length spans.now → Contains order.items i) }

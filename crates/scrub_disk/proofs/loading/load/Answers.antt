@@ -1,7 +1,7 @@
 -- The disk that was read and marked is the one that follows from the raw bytes, the failures and the names.
 use Rattle.std.proofs.Common.{◌*◌, ◌∙◌, ap}
 use Rattle.scrub_disk.specs.Memory.{image_of}
-use Rattle.scrub_disk.specs.WholePages.{held_whole}
+use Rattle.scrub_disk.specs.steps.WholePages.{held_whole}
 use Rattle.scrub_disk.proofs.LostPages.{loaded_with}
 use Rattle.scrub_disk.proofs.loading.load.Goals as goal
 
@@ -17,5 +17,5 @@ returns-clause-loaded g c =
     (ap (λ n. n * c.extents.result) c.extent_bytes.ensures ∙ ap (λ n. c.args.geometry.page * c.args.geometry.pages * n) c.extents.ensures)
     c.if-has_byte_at.false
     c.in_ok-disk.ensures.geometry c.read_disk.ensures.image.counted c.has_byte_at.ensures.image.counted
-    (held_whole disk.geometry disk.bytes.items disk.bad.items disk.whole)
+    (held_whole disk.geometry disk.bytes.items disk.unreadable.items disk.whole)
     c.in_ok-disk.ensures.pages c.in_ok-disk.ensures.lost c.has_byte_at.ensures.not_there c.mark_all.ensures

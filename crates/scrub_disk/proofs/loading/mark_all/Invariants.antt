@@ -1,6 +1,6 @@
 -- The names so far are marked.
 use Rattle.std.proofs.Common.{take}
-use Rattle.scrub_disk.specs.Marked.{MarksAll}
+use Rattle.scrub_disk.specs.steps.Marked.{MarksAll}
 use Rattle.scrub_disk.specs.Memory.{image_of}
 use Rattle.scrub_disk.proofs.loading.mark_all.Given as goal
 

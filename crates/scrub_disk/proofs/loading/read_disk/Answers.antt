@@ -1,7 +1,7 @@
 -- The vectors that were read into are the disk's.
 use Rattle.std.proofs.Common.{rules, ◌≡◌, length, ◌*◌, ◌-◌, ◌∙◌}
 use Rattle.scrub_disk.specs.Memory.{image_of}
-use Rattle.scrub_disk.specs.Held.{held}
+use Rattle.scrub_disk.specs.BytesAndMarks.{held}
 use Rattle.scrub_disk.proofs.RawImages.{loaded_image, holds_loaded}
 use Rattle.scrub_disk.proofs.LostPages.{loses_loaded}
 use Rattle.scrub_disk.proofs.loading.read_disk.Goals as goal

@@ -1,7 +1,7 @@
 -- The pages so far: each byte of an unmarked page is the raw one, and the marked pages are cut or cost a failure each.
 use Rattle.std.proofs.Common.{◌≡◌, ◌≤◌, ◌+◌, ◌-◌, ◌*◌, ◌<◌, IfSome, slice_get, Some, get_or, ℕ, ◌/◌, true, false}
 use Rattle.scrub_disk.specs.Raw.{IsReadOn}
-use Rattle.scrub_disk.specs.Marked.{MarksOnly}
+use Rattle.scrub_disk.specs.steps.Marked.{MarksOnly}
 use Rattle.scrub_disk.proofs.loading.read_pages.Given as goal
 
 abbrev pub invariant-loop-number : goal.invariant-loop-number

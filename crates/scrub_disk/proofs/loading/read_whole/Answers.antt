@@ -1,4 +1,4 @@
--- One more read brought the bytes behind those so far.
+-- One more read brought the bytes after those so far.
 use Rattle.std.proofs.Common.{rules, arith, length, ◌≡◌, ◌-◌, ◌≤◌}
 use borrow.Rule.Slice.PartMut.{put_mid}
 use Rattle.scrub_disk.proofs.RawBytes.{read_more}

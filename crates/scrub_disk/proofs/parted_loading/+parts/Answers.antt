@@ -1,6 +1,6 @@
 -- The first shares, which the other readers read, and the last one.
 use Rattle.std.proofs.Common.{rules, arith, ◌≡◌, ◌+◌, ◌*◌, ◌++◌, ◌∷◌, [], ◌∙◌, ap, refl, vec_len, sum_by}
-use Rattle.scrub_disk.specs.Ahead.{IsReadFrom}
+use Rattle.scrub_disk.specs.steps.Ahead.{IsReadFrom}
 use Rattle.scrub_disk.specs.Joined.{AreBlocks, first_page, joined}
 use Rattle.scrub_disk.proofs.JoinedBlocks.{blocks_read, more_blocks}
 use Rattle.scrub_disk.proofs.PartsRead.{all_ends, sum_ends}
@@ -15,12 +15,12 @@ read_all-returns-clause-shape g t c =
     let count = vec_len c.pop.new.self in
     let number : vec_len c.args.readers ≡ count + 1 = search rules in
     let times : vec_len c.args.readers * d.share ≡ (count + 1) * d.share = ap (λ m. m * d.share) number in
-    let shape : AreBlocks d.geometry d.stride 0 (count * d.share) parts.blocks.items parts.marks.items = search rules in
-    let behind : AreBlocks d.geometry d.stride (count * d.share) d.share part.blocks.items part.marks.items = search rules in
-    let blocks : all.blocks.items ≡ parts.blocks.items ++ part.blocks.items = search rules in
+    let shape : AreBlocks d.geometry d.stride 0 (count * d.share) parts.filled.items parts.marks.items = search rules in
+    let behind : AreBlocks d.geometry d.stride (count * d.share) d.share part.filled.items part.marks.items = search rules in
+    let blocks : all.filled.items ≡ parts.filled.items ++ part.filled.items = search rules in
     let marks : all.marks.items ≡ parts.marks.items ++ part.marks.items = search rules in
     more_blocks d.geometry d.stride 0 (count * d.share) (count * d.share) d.share (vec_len c.args.readers * d.share)
-    parts.blocks.items part.blocks.items all.blocks.items parts.marks.items part.marks.items all.marks.items
+    parts.filled.items part.filled.items all.filled.items parts.marks.items part.marks.items all.marks.items
     (omega arith) (omega (arith, times)) shape behind blocks marks
 
 pub read_all-returns-clause-read : goal.read_all-returns-clause-read
@@ -33,18 +33,18 @@ read_all-returns-clause-read g t c known every =
     let front = c.pop.new.self.items in
     let is : c.args.readers.items ≡ front ++ c.in-Some.last ∷ [] = search rules in
     let ends = all_ends (λ r. g.R.RawImage.bytes r ≡ known) front c.args.readers.items c.in-Some.last is every in
-    let shape : AreBlocks d.geometry d.stride 0 (count * d.share) parts.blocks.items parts.marks.items = search rules in
-    let behind : AreBlocks d.geometry d.stride (count * d.share) d.share part.blocks.items part.marks.items = search rules in
-    let blocks : all.blocks.items ≡ parts.blocks.items ++ part.blocks.items = search rules in
+    let shape : AreBlocks d.geometry d.stride 0 (count * d.share) parts.filled.items parts.marks.items = search rules in
+    let behind : AreBlocks d.geometry d.stride (count * d.share) d.share part.filled.items part.marks.items = search rules in
+    let blocks : all.filled.items ≡ parts.filled.items ++ part.filled.items = search rules in
     let marks : all.marks.items ≡ parts.marks.items ++ part.marks.items = search rules in
-    let before : IsReadFrom known 0 d.geometry.page (sum_by (λ r. g.R.RawImage.most_failures r) front) (joined d.geometry.page parts.blocks.items) parts.marks.items =
+    let before : IsReadFrom known 0 d.geometry.page (sum_by (λ r. g.R.RawImage.most_failures r) front) (joined d.geometry.page parts.filled.items) parts.marks.items =
     (rw c.in_ok-parts.was at c.read_beside-parts.ensures.read) known ends.0 in
-    let rest : IsReadFrom (g.R.RawImage.bytes c.in-Some.last) (first_page d.geometry d.stride (count * d.share)) d.geometry.page (g.R.RawImage.most_failures c.in-Some.last) (joined d.geometry.page part.blocks.items) part.marks.items =
+    let rest : IsReadFrom (g.R.RawImage.bytes c.in-Some.last) (first_page d.geometry d.stride (count * d.share)) d.geometry.page (g.R.RawImage.most_failures c.in-Some.last) (joined d.geometry.page part.filled.items) part.marks.items =
     rw c.in_ok-part.was at c.read_beside-parts.ensures.part_read in
     blocks_read d.geometry d.stride 0 (count * d.share) (count * d.share) d.share 0 (first_page d.geometry d.stride (count * d.share))
     (sum_by (λ r. g.R.RawImage.most_failures r) front) (g.R.RawImage.most_failures c.in-Some.last)
     (sum_by (λ r. g.R.RawImage.most_failures r) c.args.readers.items)
-    known parts.blocks.items part.blocks.items all.blocks.items parts.marks.items part.marks.items
+    known parts.filled.items part.filled.items all.filled.items parts.marks.items part.marks.items
     all.marks.items (omega arith) (omega arith) refl
     (sum_ends (λ r. g.R.RawImage.most_failures r) front c.args.readers.items c.in-Some.last is)
     shape behind blocks marks before (rw ends.1 at rest)

@@ -4,7 +4,7 @@ use Rattle.std.proofs.Common.{arith, ◌≡◌, ◌≤◌, ◌*◌, ◌∙◌, a
 use Rattle.scrub_disk.specs.Image.{disk_bytes}
 use Rattle.scrub_disk.specs.Joined.{joined}
 use Rattle.scrub_disk.specs.Parted.{image_of}
-use Rattle.scrub_disk.specs.WholePages.{held_whole}
+use Rattle.scrub_disk.specs.steps.WholePages.{held_whole}
 use Rattle.scrub_disk.proofs.LostPages.{holds_read, loaded_by_readers, longer, loses_read}
 use Rattle.scrub_disk.proofs.JoinedBlocks.{whole_disk}
 use Rattle.scrub_disk.proofs.parted_loading.load_in_parts.Goals as goal
@@ -25,8 +25,8 @@ returns-clause-loaded g c known every =
     let same = c.divide-division.ensures.geometry in
     let read = rw same at (c.in-Ok.ensures.read known every) in
     let all = whole_disk c.args.geometry c.divide-division.result.stride (vec_len c.args.readers * c.divide-division.result.share)
-    parts.blocks.items parts.marks.items (rw same at c.in-Ok.ensures.shape) (rw c.len.ensures at c.divide-division.ensures.enough) in
-    let bytes = joined c.args.geometry.page parts.blocks.items in
+    parts.filled.items parts.marks.items (rw same at c.in-Ok.ensures.shape) (rw c.len.ensures at c.divide-division.ensures.enough) in
+    let bytes = joined c.args.geometry.page parts.filled.items in
     let holds = holds_read c.args.geometry known most bytes parts.marks.items
     (image_of c.from_blocks-disk.result) c.from_blocks-disk.ensures all.0 all.1 read in
     let bounded : g.R.RawImage.failures c.has_byte_at.new.raw ≤ most =
@@ -37,7 +37,7 @@ returns-clause-loaded g c known every =
     (c.in-Ok.ensures.same_bytes known every)
     (ap (λ n. n * c.extents.result) c.extent_bytes.ensures ∙ ap (λ n. c.args.geometry.page * c.args.geometry.pages * n) c.extents.ensures)
     c.if-has_byte_at.false (ap (λ i. i.geometry) c.from_blocks-disk.ensures) bounded
-    (held_whole disk.geometry (joined disk.geometry.page disk.blocks.items) disk.bad.items disk.whole)
+    (held_whole disk.geometry (joined disk.geometry.page disk.blocks.items) disk.unreadable.items disk.whole)
     holds
     (loses_read c.args.geometry known most bytes parts.marks.items (image_of c.from_blocks-disk.result)
     c.from_blocks-disk.ensures all.1 holds read)

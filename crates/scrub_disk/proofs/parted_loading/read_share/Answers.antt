@@ -42,23 +42,23 @@ loop-number-preserved g c =
     let next : n ≡ c.args.first + (n - c.args.first) = omega (arith, below) in
     let sum = pages_more d.geometry d.stride c.args.first n (n + 1) (d.geometry.page + 1) below (omega arith) in
     let kept : length c.read_block.new.buffer ≡ length c.loop-number.buffer.items = search rules in
-    let blocks : all.blocks.items ≡ part.blocks.items ++ more.blocks.items = search rules in
+    let blocks : all.filled.items ≡ part.filled.items ++ more.filled.items = search rules in
     let marks : all.marks.items ≡ part.marks.items ++ more.marks.items = search rules in
     record {
       image = read_on_more c.loop-number.invariant.image c.read_block.ensures.image;
       reads = omega (arith, sum, c.loop-number.invariant.reads, c.read_block.ensures.reads);
       room = ap length (with_items_is c.loop-number.buffer c.read_block.new.buffer (kept ∙ sym c.loop-number.buffer.ok.0)) ∙ kept ∙ c.loop-number.invariant.room;
       shape =
-          more_blocks d.geometry d.stride c.args.first (n - c.args.first) n 1 (n + 1 - c.args.first) part.blocks.items more.blocks.items
-          all.blocks.items part.marks.items more.marks.items all.marks.items next (omega (arith, below))
+          more_blocks d.geometry d.stride c.args.first (n - c.args.first) n 1 (n + 1 - c.args.first) part.filled.items more.filled.items
+          all.filled.items part.marks.items more.marks.items all.marks.items next (omega (arith, below))
           c.loop-number.invariant.shape c.in_ok-read_block.ensures.shape blocks marks;
       read =
           blocks_read d.geometry d.stride c.args.first (n - c.args.first) n 1 _ _
           (g.R.RawImage.failures c.loop-number.raw - g.R.RawImage.failures c.args.raw.now)
           (g.R.RawImage.failures c.read_block.new.raw - g.R.RawImage.failures c.loop-number.raw)
           (g.R.RawImage.failures c.read_block.new.raw - g.R.RawImage.failures c.args.raw.now)
-          (g.R.RawImage.bytes c.args.raw.now) part.blocks.items more.blocks.items
-          all.blocks.items part.marks.items more.marks.items all.marks.items next refl refl
+          (g.R.RawImage.bytes c.args.raw.now) part.filled.items more.filled.items
+          all.filled.items part.marks.items more.marks.items all.marks.items next refl refl
           (omega (arith, c.loop-number.invariant.image.counted, c.read_block.ensures.image.counted))
           c.loop-number.invariant.shape c.in_ok-read_block.ensures.shape blocks marks
           c.loop-number.invariant.read (rw c.loop-number.invariant.image.same_bytes at c.in_ok-read_block.ensures.read);

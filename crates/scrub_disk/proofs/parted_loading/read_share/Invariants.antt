@@ -1,6 +1,6 @@
 -- The blocks so far were read.
 use Rattle.std.proofs.Common.{◌≡◌, ◌≤◌, ◌+◌, ◌-◌, ◌*◌, length}
-use Rattle.scrub_disk.specs.Ahead.{IsReadFrom}
+use Rattle.scrub_disk.specs.steps.Ahead.{IsReadFrom}
 use Rattle.scrub_disk.specs.Joined.{AreBlocks, first_page, joined}
 use Rattle.scrub_disk.specs.Raw.{IsReadOn}
 use Rattle.scrub_disk.proofs.parted_loading.read_share.Given as goal
@@ -9,7 +9,7 @@ abbrev pub invariant-loop-number : goal.invariant-loop-number
 invariant-loop-number g l = record {
   image : IsReadOn (λ r. g.R.RawImage.bytes r) (λ r. g.R.RawImage.most_failures r) (λ r. g.R.RawImage.failures r) l.initial.raw l.raw;
   reads : g.R.RawImage.reads l.raw ≤ g.R.RawImage.reads l.initial.raw + (l.division.geometry.page + 1) * (first_page l.division.geometry l.division.stride l.number - first_page l.division.geometry l.division.stride l.first);
-  room : length l.buffer.items ≡ l.division.geometry.page * l.division.stride;
-  shape : AreBlocks l.division.geometry l.division.stride l.first (l.number - l.first) l.part.blocks.items l.part.marks.items;
-  read : IsReadFrom (g.R.RawImage.bytes l.initial.raw) (first_page l.division.geometry l.division.stride l.first) l.division.geometry.page (g.R.RawImage.failures l.raw - g.R.RawImage.failures l.initial.raw) (joined l.division.geometry.page l.part.blocks.items) l.part.marks.items;
+  room : length l.buffer.items ≡ l.division.geometry.page * l.division.at_once;
+  shape : AreBlocks l.division.geometry l.division.stride l.first (l.number - l.first) l.part.filled.items l.part.marks.items;
+  read : IsReadFrom (g.R.RawImage.bytes l.initial.raw) (first_page l.division.geometry l.division.stride l.first) l.division.geometry.page (g.R.RawImage.failures l.raw - g.R.RawImage.failures l.initial.raw) (joined l.division.geometry.page l.part.filled.items) l.part.marks.items;
 }

@@ -2,7 +2,7 @@
 -- are cut or cost a failure each.
 use Rattle.std.proofs.Common.{◌≡◌, ◌≤◌, ◌+◌, ◌-◌, ◌*◌, ◌<◌, IfSome, slice_get, Some, get_or, ℕ, ◌/◌, true, false, length}
 use Rattle.scrub_disk.specs.Raw.{IsReadOn}
-use Rattle.scrub_disk.specs.Ahead.{MarksFrom, StandsBetween}
+use Rattle.scrub_disk.specs.steps.Ahead.{MarksFrom, StandsBetween}
 use Rattle.scrub_disk.proofs.reading.read_pages.Given as goal
 
 abbrev pub invariant-loop-number : goal.invariant-loop-number

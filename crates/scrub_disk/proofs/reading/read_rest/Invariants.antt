@@ -1,6 +1,6 @@
 -- The bytes so far are the raw ones, and took at most a read each.
 use Rattle.std.proofs.Common.{◌≡◌, ◌≤◌, ◌+◌, ◌-◌, length, IfSome}
-use Rattle.scrub_disk.specs.Ahead.{StandsBetween}
+use Rattle.scrub_disk.specs.steps.Ahead.{StandsBetween}
 use Rattle.scrub_disk.proofs.reading.read_rest.Given as goal
 
 abbrev pub invariant-loop-done : goal.invariant-loop-done

@@ -2,7 +2,7 @@
 use Rattle.std.proofs.Common.{arith, ◌≡◌, ◌+◌, ◌-◌, ℕ, List, ◌++◌, take, drop, ap, sym, ◌∙◌, Bool, true, false}
 use Rattle.scrub_frame.specs.declared.form.Form.{Form}
 use Rattle.scrub_frame.specs.Frame.{head_size, seal, seal_size, payload_start, close_size}
-use Rattle.scrub_frame.proofs.Frames.{begins_with_head, too_short, other_close, other_seal, frame_of_parts, ne_false, ne_true}
+use Rattle.scrub_frame.proofs.Frames.{begins_with_head, overhead, too_short, other_close, other_seal, frame_of_parts, ne_false, ne_true}
 use Rattle.scrub_frame.proofs.frame.read_frame.Goals as goal
 
 not_both : (b : Bool) → b ≡ false → b ≡ true → ⊥
@@ -76,4 +76,4 @@ returns-clause-found c =
     ∙ c.is_sealed.ensures.0 c.if-not-is_sealed.false
     ∙ ap (seal form) (cut_payload x form c.payload_start-start.result n c.payload_start-start.ensures.value) in
     rw (let e : payload_start form + n - payload_start form ≡ n = omega arith in e)
-    (frame_of_parts x form c.in_ok-head.head.uuid n h.sixteen h.short (omega arith) h.head_is sealed closed)
+    (frame_of_parts x form c.in_ok-head.head.uuid n h.sixteen h.short (omega (arith, overhead form)) h.head_is sealed closed)

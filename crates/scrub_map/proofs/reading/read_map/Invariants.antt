@@ -1,5 +1,5 @@
 use Rattle.std.proofs.Common.{length}
-use Rattle.scrub_map.specs.Reading.{AwaitsBlock}
+use Rattle.scrub_map.specs.steps.Reading.{AwaitsBlock}
 use Rattle.scrub_map.proofs.MapLines.{HasReadUpTo}
 use Rattle.scrub_map.proofs.reading.read_map.Given as goal
 

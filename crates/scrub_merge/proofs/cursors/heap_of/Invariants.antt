@@ -4,7 +4,7 @@ use Rattle.std.specs.Prelude.{slice_get}
 use Rattle.std.specs.BinaryHeap.{heap_items}
 use Rattle.scrub_run.specs.Entry.{EntryValue}
 use Rattle.scrub_run.specs.Run.{AreEntries}
-use Rattle.scrub_merge.specs.Cursors.{IsHeapOver}
+use Rattle.scrub_merge.specs.steps.Cursors.{IsHeapOver}
 use Rattle.scrub_merge.proofs.cursors.heap_of.Given as goal
 
 abbrev pub invariant-loop-number : goal.invariant-loop-number

@@ -4,21 +4,21 @@ use Rattle.std.specs.Prelude.{◌==◌}
 use Rattle.std.proofs.lemmas.Bool.{eqb-true, eqb-false}
 use Rattle.std.proofs.lemmas.Option.{none-some}
 use Rattle.scrub_merge.specs.Binding.{LostBefore}
-use Rattle.scrub_merge.specs.Cursors.{ahead}
+use Rattle.scrub_merge.specs.steps.Cursors.{ahead}
 use Rattle.scrub_merge.proofs.Left.{first_left, lost_left, rising_left}
 use Rattle.scrub_merge.proofs.Moves.{rising_runs}
 use Rattle.scrub_merge.proofs.NextBound.{bound_made, deleted, bound}
 use Rattle.scrub_merge.proofs.merging.bind_newest.Goals as goal
 
 pub returns-in_default-clause-bound : goal.returns-in_default-clause-bound
-returns-in_default-clause-bound c = λ places count at least first.
-    let left = first_left c.args.runs.now places c.args.newest.now.number count in
+returns-in_default-clause-bound c = λ places id count at least first.
+    let left = first_left c.args.runs.now places c.args.number count in
     absurd (none-some first.entry (rw (left, at, c.in_default.ensures.none) at first.stands))
 
 pub returns-then-is_empty-clause-bound : goal.returns-then-is_empty-clause-bound
-returns-then-is_empty-clause-bound c = λ places count at least first.
+returns-then-is_empty-clause-bound c = λ places id count at least first.
     let runs = c.args.runs.now in
-    let number = c.args.newest.now.number in
+    let number = c.args.number in
     let lost = lost_left runs places number in
     let doubt : IsTrue c.is_doubtful-doubtful.result ↔ LostBefore (ahead runs places) number =
     (λ d. lost.1 (c.is_doubtful-doubtful.ensures.0 d), λ l. c.is_doubtful-doubtful.ensures.1 (lost.0 l)) in
@@ -30,9 +30,9 @@ returns-then-is_empty-clause-bound c = λ places count at least first.
     (deleted _ c.args.bindings.now.items none)
 
 pub returns-clause-bound : goal.returns-clause-bound
-returns-clause-bound c = λ places count at least first.
+returns-clause-bound c = λ places id count at least first.
     let runs = c.args.runs.now in
-    let number = c.args.newest.now.number in
+    let number = c.args.number in
     let lost = lost_left runs places number in
     let doubt : IsTrue c.is_doubtful-doubtful.result ↔ LostBefore (ahead runs places) number =
     (λ d. lost.1 (c.is_doubtful-doubtful.ensures.0 d), λ l. c.is_doubtful-doubtful.ensures.1 (lost.0 l)) in

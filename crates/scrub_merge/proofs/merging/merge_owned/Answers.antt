@@ -7,7 +7,7 @@ use Rattle.std.specs.Vec.{with_items}
 use Rattle.std.proofs.lemmas.List.{get_or_default, with_items_is, length-replicate}
 use Rattle.scrub_run.specs.declared.shard_id.ShardId.{ShardId}
 use Rattle.scrub_merge.specs.Binding.{Runs}
-use Rattle.scrub_merge.specs.Cursors.{ahead, places_past, IsBound, IsFirstWith, IsLeast}
+use Rattle.scrub_merge.specs.steps.Cursors.{ahead, places_past, IsBound, IsFirstWith, IsLeast}
 use Rattle.scrub_merge.specs.ShardMap.{IsShardMap}
 use Rattle.scrub_merge.proofs.Left.{left_all, left_behind, length-behind, length-left, first_within, fewer}
 use Rattle.scrub_merge.proofs.Moves.{rising_runs, still_ahead}
@@ -32,23 +32,23 @@ module _ (c : In-Some) where
   abbrev left : Runs
   left = ahead c.loop-least.runs.items c.loop-least.places.items
 
-  least : IsLeast left c.in-Some.field-0.now.id
+  least : IsLeast left c.in-Some.field-0.now.0.0
   least =
       first_least c.in-Some.field-0.now c.loop-least.invariant.heap
       (zero, c.in-Some.ensures.item.3.0, sym c.in-Some.ensures.lookup)
       (c.in-Some.ensures.greatest c.loop-least.invariant.heap.order)
 
-  first : IsFirstWith left c.in-Some.field-0.now.id c.in-Some.field-0.now.number
+  first : IsFirstWith left c.in-Some.field-0.now.0.0 c.in-Some.field-0.now.0.1
   first =
       first_newest c.in-Some.field-0.now c.loop-least.invariant.heap
       (zero, c.in-Some.ensures.item.3.0, sym c.in-Some.ensures.lookup)
       (c.in-Some.ensures.greatest c.loop-least.invariant.heap.order)
 
-  within : c.in-Some.field-0.now.number < length c.loop-least.runs.items
+  within : c.in-Some.field-0.now.0.1 < length c.loop-least.runs.items
   within =
       omega (
         arith,
-        first_within left c.in-Some.field-0.now.number first.entry first.stands,
+        first_within left c.in-Some.field-0.now.0.1 first.entry first.stands,
         length-left c.loop-least.runs.items c.loop-least.places.items,
       )
 
@@ -86,10 +86,10 @@ module _ (c : In_ok-bind_newest) where
   places = c.loop-least.places.items
 
   abbrev id : ShardId
-  id = c.in-Some.field-0.now.id
+  id = c.in-Some.field-0.now.0.0
 
   abbrev number : ℕ
-  number = c.in-Some.field-0.now.number
+  number = c.in-Some.field-0.now.0.1
 
   -- the place of the entry that was taken
   place : c.index-place.result.now ≡ get_or places number 0
@@ -125,7 +125,7 @@ module _ (c : In_ok-bind_newest) where
 
   bound : IsBound (ahead runs places) id c.loop-least.bindings.items c.bind_newest.new.bindings.items
   bound =
-      (rw c.deref_mut-in-Some.ensures.value at c.in_ok-bind_newest.ensures.bound) places c.loop-least.invariant.places
+      (rw c.deref_mut-in-Some.ensures.value at c.in_ok-bind_newest.ensures.bound) places id c.loop-least.invariant.places
       (sym place) (least some) (first some)
 
 pub loop-least-smaller : goal.loop-least-smaller

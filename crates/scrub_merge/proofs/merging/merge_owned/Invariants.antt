@@ -2,7 +2,7 @@
 -- handed in; the first entries ahead are in the heap; and less and less is ahead.
 use Rattle.std.proofs.Common.{◌≡◌, length}
 use Rattle.std.specs.BinaryHeap.{heap_items}
-use Rattle.scrub_merge.specs.Cursors.{ahead, Continues, IsHeapOf}
+use Rattle.scrub_merge.specs.steps.Cursors.{ahead, Continues, IsHeapOf}
 use Rattle.scrub_merge.specs.ShardMap.{AreRuns}
 use Rattle.scrub_merge.proofs.Left.{entries_left}
 use Rattle.scrub_merge.proofs.merging.merge_owned.Given as goal

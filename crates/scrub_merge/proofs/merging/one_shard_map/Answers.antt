@@ -1,4 +1,4 @@
--- The law: two rising lists with the same bindings are equal.
+-- The law: two ascending lists with the same bindings are equal.
 use Rattle.scrub_merge.proofs.Maps.{one_shard_map_lem}
 use Rattle.scrub_merge.proofs.merging.one_shard_map.Goals as goal
 

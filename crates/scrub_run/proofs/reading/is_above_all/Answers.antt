@@ -1,4 +1,4 @@
--- An identifier above the last of rising entries is above them all.
+-- An identifier above the last of ascending entries is above them all.
 use Rattle.std.proofs.Common.{◌-◌, length, arith}
 use Rattle.scrub_run.proofs.Order.{above_all}
 use Rattle.scrub_run.proofs.reading.is_above_all.Goals as goal

@@ -1,5 +1,5 @@
 -- One more entry, or why there is none.
-use Rattle.std.proofs.Common.{◌≡◌, ◌==◌, length, arith, sym, ◌∙◌, ap, take-append-drop}
+use Rattle.std.proofs.Common.{◌≡◌, ◌==◌, length, arith, sym, ◌∙◌, ap}
 use Rattle.std.proofs.lemmas.Bool.{false≢true}
 use Rattle.scrub_run.proofs.Entries.{read_entry_more, no_entry_more, no_rise, nothing_left}
 use Rattle.scrub_run.proofs.reading.read_entries.Goals as goal
@@ -10,15 +10,15 @@ returns-in_default-clause-none c = λ ys count each rising e.
 
 pub returns-then-not-is_above_all-clause-none : goal.returns-then-not-is_above_all-clause-none
 returns-then-not-is_above_all-clause-none c = λ ys count each rising e.
-    let above = no_rise c.args.bytes.now c.loop.entries.items ys c.loop.rest.now c.split_at.result.0.now c.split_at.result.1.now c.loop.counter c.in_ok-entry.entry c.loop.invariant each (omega (arith, count, c.loop-test.true)) e rising
-    c.in_ok-entry.ensures.entry c.in_ok-entry.ensures.spelled (rw (c.split_at.ensures.front, c.split_at.ensures.back) (take-append-drop c.in-Some.length c.loop.rest.now)) in
+    let above = no_rise c.args.bytes.now c.loop.entries.items ys c.loop.rest.now c.in-Some.first.now c.in-Some.others.now c.loop.counter c.in_ok-entry.entry c.loop.invariant each (omega (arith, count, c.loop-test.true)) e rising
+    c.in_ok-entry.ensures.entry c.in_ok-entry.ensures.spelled (sym c.in-Some.ensures.found) in
     false≢true (sym c.if-not-is_above_all.true ∙ c.is_above_all.ensures.1 (rw (c.deref.ensures.value, c.id.ensures) above))
 
 pub loop-preserved : goal.loop-preserved
 loop-preserved c =
     rw c.in_ok-push.ensures.items
-    (read_entry_more c.args.bytes.now c.loop.entries.items c.loop.rest.now c.split_at.result.0.now c.split_at.result.1.now c.loop.counter c.in_ok-entry.entry c.loop.invariant
-    c.in_ok-entry.ensures.entry c.in_ok-entry.ensures.spelled (rw (c.split_at.ensures.front, c.split_at.ensures.back) (take-append-drop c.in-Some.length c.loop.rest.now))
+    (read_entry_more c.args.bytes.now c.loop.entries.items c.loop.rest.now c.in-Some.first.now c.in-Some.others.now c.loop.counter c.in_ok-entry.entry c.loop.invariant
+    c.in_ok-entry.ensures.entry c.in_ok-entry.ensures.spelled (sym c.in-Some.ensures.found)
     (rw (c.deref.ensures.value, c.id.ensures) at (c.is_above_all.ensures.0 c.if-not-is_above_all.false)))
 
 pub returns-then-not-is_empty-clause-none : goal.returns-then-not-is_empty-clause-none

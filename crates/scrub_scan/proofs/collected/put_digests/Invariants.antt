@@ -2,7 +2,7 @@
 use Rattle.std.proofs.Common.{◌≡◌, ℕ, List, Option, length, drop, map}
 use Rattle.sha2.specs.Sha256.{sha256}
 use Rattle.scrub_scan.specs.Extent.{Extent}
-use Rattle.scrub_scan.specs.Gathering.{TilesIfSealed}
+use Rattle.scrub_scan.specs.steps.Gathering.{TilesIfSealed}
 use Rattle.scrub_scan.proofs.collected.put_digests.Given as goal
 
 abbrev pub invariant-loop-k : goal.invariant-loop-k

@@ -1,4 +1,4 @@
-use Rattle.scrub_scan.specs.OneFrame.{one_frame_under}
+use Rattle.scrub_scan.specs.steps.OneFrame.{one_frame_under}
 use Rattle.scrub_scan.proofs.standing.one_frame_stands.Goals as goal
 
 pub returns : goal.returns

@@ -1,6 +1,7 @@
 use Rattle.std.proofs.Common.{arith, ◌≡◌, ◌+◌, length, ◌∙◌}
 use Rattle.scrub_disk.specs.Image.{byte, extent_bytes, AreBytesAt}
 use Rattle.scrub_frame.specs.Frame.{payload_start, frame_overhead}
+use Rattle.scrub_frame.proofs.Frames.{overhead}
 use Rattle.scrub_scan.specs.Extent.{extent_of}
 use Rattle.scrub_scan.proofs.FrameBytes.{no_gap, payload_read}
 use Rattle.scrub_scan.proofs.standing.read_payload.Goals as goal
@@ -16,7 +17,7 @@ unreachable-requires g c =
     (record {
       place = gap.place;
       low = omega (arith, gap.low);
-      high = omega (arith, gap.high, c.requires.has.frame.length, c.payload_start.ensures.value);
+      high = omega (arith, overhead s.form, gap.high, c.requires.has.frame.length, c.payload_start.ensures.value);
       unreadable = gap.unreadable;
     })
 

@@ -4,8 +4,8 @@ use Rattle.std.proofs.lemmas.Bool.{cases_lt}
 use Rattle.std.proofs.lemmas.Nat.{div_below}
 use Rattle.std.proofs.lemmas.Option.{IfSome_then}
 use Rattle.std.proofs.lemmas.Result.{IfOk-weaker}
-use Rattle.scrub_scan.specs.Gathering.{AgreesWith, HasReadTo, IsRightTo}
-use Rattle.scrub_scan.specs.Pages.{target_of}
+use Rattle.scrub_scan.specs.steps.Gathering.{AgreesWith, HasReadTo, IsRightTo}
+use Rattle.scrub_scan.specs.steps.Pages.{target_of}
 use Rattle.scrub_scan.proofs.PlacePages.{page_rises}
 use Rattle.scrub_scan.proofs.Asked.{calls_so_far, calls_in_all}
 use Rattle.scrub_scan.proofs.Gathering.{settled_next}
@@ -73,16 +73,16 @@ read_on g c =
     (omega (arith, size, c.requires.target.in_extent, c.loop-place-test.true)) in
     let rises : q ≤ c.stop-place.result / t.page =
     page_rises c.loop-place.place c.stop-place.result t.page t.positive
-    (omega (arith, c.stop-place.ensures, c.in_ok-reached.ensures.rises)) in
+    (omega (arith, c.stop-place.ensures, c.in_ok-reached.ensures.spans.1)) in
     record {
       asked =
           calls_in_all c.item_at.new.self.pages.asked q image.geometry.pages
-          (c.in_ok-reached.ensures.asked (q * k) asked) below;
-      read = rw c.stop-place.ensures (c.in_ok-reached.ensures.read inv.read.read);
+          (c.in_ok-reached.ensures.reads.asked (q * k) asked) below;
+      read = rw c.stop-place.ensures (c.in_ok-reached.ensures.reads.read inv.read.read);
       next = λ more.
           rw (← (calls_so_far q (c.stop-place.result / t.page) k rises))
           (rw c.stop-place.ensures
-          (c.in_ok-reached.ensures.asked_next (q * k) asked (rw c.stop-place.ensures at more)));
+          (c.in_ok-reached.ensures.reads.next (q * k) asked (rw c.stop-place.ensures at more)));
     }
 
 pub loop-place-preserved : goal.loop-place-preserved
@@ -103,15 +103,15 @@ loop-place-preserved g c =
     let more = settled_next old.items.items old.pending.items later held.payloads c.item_at.new.batch r.item r.is_gathered is.digest held.tiles.count
     (numbers_below 0 (length old.items.items) old.pending.items held.tiles.numbers)
     c.in_ok-add.ensures.gathered c.in_ok-add.ensures.known is.added in
-    let rises : place ≤ c.stop-place.result = omega (arith, c.stop-place.ensures, c.in_ok-reached.ensures.rises) in
+    let rises : place ≤ c.stop-place.result = omega (arith, c.stop-place.ensures, c.in_ok-reached.ensures.spans.1) in
     let tiles = tiles_more x old.trusted_from place c.stop-place.result old.items.items old.pending.items later held.payloads r.item is.digest
-    held.tiles c.in_ok-reached.ensures.start rises c.stop-place.ensures (omega (arith, c.stop-place.ensures, c.in_ok-reached.ensures.stop))
+    held.tiles c.in_ok-reached.ensures.spans.0 rises c.stop-place.ensures (omega (arith, c.stop-place.ensures, c.in_ok-reached.ensures.spans.2))
     is.item
     (trusted_at old.trusted_from place c.is_some-trusts.result (AgreesWith r.item is.digest) c.is_some-trusts.ensures held.trusted is.compared)
     (numbers_more old.items.items old.pending.items later r.is_gathered held.tiles.numbers c.in_ok-add.ensures.gathered c.in_ok-add.ensures.known)
     more.payloads more.count more.settled_is in
     let now = c.loop-place.scanner.pages.asked in
-    let asked = c.in_ok-reached.ensures.asked now (record { most = omega arith; unread = λ _. omega arith }) in
+    let asked = c.in_ok-reached.ensures.reads.asked now (record { most = omega arith; unread = λ _. omega arith }) in
     record {
       scans = c.in_ok-reached.ensures.scans;
       collected = record {

@@ -1,7 +1,7 @@
 -- What was collected tiles the extent up to the place if the seals hold, and the tiling could go back to the first of them.
 use Rattle.std.proofs.Common.{◌≡◌, ◌≤◌, ◌+◌, ◌-◌, ◌*◌, ◌/◌, false, None, IfSome}
-use Rattle.scrub_scan.specs.Pages.{target_of, Scans}
-use Rattle.scrub_scan.specs.Gathering.{IsCollected, HasReadTo}
+use Rattle.scrub_scan.specs.steps.Pages.{target_of, Scans}
+use Rattle.scrub_scan.specs.steps.Gathering.{IsCollected, HasReadTo}
 use Rattle.scrub_scan.proofs.tiling.tile_from.Given as goal
 
 abbrev pub invariant-loop-place : goal.invariant-loop-place

@@ -1,8 +1,8 @@
 -- What is seen from a page on, and where the readable pages from it on end.
 use Rattle.std.proofs.Common.{◌+◌, ◌≤◌, ℕ, List, Option, length}
 use Rattle.scrub_disk.specs.Buffered.{IsBuffered}
-use Rattle.scrub_disk.specs.NextUnreadable.{IsNextUnreadable}
-use Rattle.scrub_super.specs.RecordsSeen.{AreSeenFrom, StandsFrom}
+use Rattle.scrub_disk.specs.steps.NextUnreadable.{IsNextUnreadable}
+use Rattle.scrub_super.specs.steps.RecordsSeen.{AreSeenFrom, StandsFrom}
 use Rattle.scrub_super.proofs.choosing.find_records.Given as goal
 
 abbrev pub invariant-loop-page : goal.invariant-loop-page

@@ -1,4 +1,4 @@
--- The laws, by what a record spells and by rising lists of the same pages.
+-- The laws, by what a record spells and by ascending lists of the same pages.
 use Rattle.scrub_super.proofs.Laws.{one_record_on_page, one_choice_lem}
 use Rattle.scrub_super.proofs.choosing.one_choice.Goals as goal
 

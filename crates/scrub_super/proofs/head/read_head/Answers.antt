@@ -4,13 +4,11 @@ use Rattle.scrub_super.proofs.Refused.{no_front}
 use Rattle.scrub_super.proofs.Heads.{listing_head}
 use Rattle.scrub_super.proofs.head.read_head.Goals as goal
 
-pub returns-in_err-digit-clause-none : goal.returns-in_err-digit-clause-none
-returns-in_err-digit-clause-none c =
-    rw c.from_residual-in_err-digit.ensures
-    (λ d b. no_front c.in_ok-first_chunk.ensures.cases c.in_err-digit.ensures.none b)
+pub returns-in_err-kind-clause-none : goal.returns-in_err-kind-clause-none
+returns-in_err-kind-clause-none c =
+    rw c.from_residual-in_err-kind.ensures (λ d b. no_front c.in_ok-first.ensures.cases.0 c.in_err-kind.ensures.none b)
 
-pub returns-clause-found : goal.returns-clause-found
-returns-clause-found c =
-    listing_head c.in_ok-first_chunk.ensures.cases c.in_ok-digit.ensures.found
-    (omega (arith, c.if-digit-ne-LISTING.false)) c.in_ok-whole.ensures.cases (λ i. omega (arith, c.type_inv.bytes i))
-    c.read_u16.ensures
+pub returns-in_ok-count-in-Ssb2-clause-found : goal.returns-in_ok-count-in-Ssb2-clause-found
+returns-in_ok-count-in-Ssb2-clause-found c =
+    listing_head c.args.bytes.now c.in_ok-kind.ensures.found c.in-Ssb2.is c.in_ok-first.ensures.cases.0 c.in_ok-first.ensures.cases.1
+    c.in_ok-count-in-Ssb2.ensures.cases (λ i. omega (arith, c.type_inv.bytes i)) c.read_u16.ensures

@@ -1,17 +1,17 @@
 -- The room that was reserved is enough, and what is appended is the record.
 use Rattle.std.proofs.Common.{arith}
 use Rattle.scrub_super.proofs.Fronts.{head_sizes}
-use Rattle.scrub_super.proofs.Written.{small_head, few_runs, cuts_size, record_written, record_again}
+use Rattle.scrub_super.proofs.Written.{small_head, few_runs, size_before_digest, record_written, record_again}
 use Rattle.scrub_super.proofs.record.write_record.Goals as goal
 
-pub cuts_of-requires-clause-small : goal.cuts_of-requires-clause-small
-cuts_of-requires-clause-small c = small_head c.args.geometry c.args.superblock.now c.head_of.ensures c.requires.retired
+pub body_len-requires-clause-small : goal.body_len-requires-clause-small
+body_len-requires-clause-small c = small_head c.args.geometry c.args.superblock.now c.head_of.ensures c.requires.retired
 
-pub overflow_add-cuts_of : goal.overflow_add-cuts_of
-overflow_add-cuts_of c =
+pub overflow_add-body_len : goal.overflow_add-body_len
+overflow_add-body_len c =
     omega (
       arith,
-      c.cuts_of.ensures.digest_at,
+      c.body_len.ensures,
       small_head c.args.geometry c.args.superblock.now c.head_of.ensures c.requires.retired,
       few_runs c.args.superblock.now c.head_of.ensures c.requires.runs,
       c.args.geometry.extent_count.most,
@@ -22,7 +22,7 @@ pub append_body-requires-clause-room : goal.append_body-requires-clause-room
 append_body-requires-clause-room c =
     omega (
       arith,
-      cuts_size c.args.geometry c.args.superblock.now c.head_of.ensures c.cuts_of.ensures c.requires.pointers,
+      size_before_digest c.args.geometry c.args.superblock.now c.head_of.ensures c.body_len.ensures c.requires.pointers,
       c.in_ok-reserve.ensures,
     )
 
@@ -30,7 +30,7 @@ pub append-requires : goal.append-requires
 append-requires c =
     omega (
       arith,
-      cuts_size c.args.geometry c.args.superblock.now c.head_of.ensures c.cuts_of.ensures c.requires.pointers,
+      size_before_digest c.args.geometry c.args.superblock.now c.head_of.ensures c.body_len.ensures c.requires.pointers,
       c.append_body.ensures.size,
       c.append_body.ensures.capacity,
       c.in_ok-reserve.ensures,

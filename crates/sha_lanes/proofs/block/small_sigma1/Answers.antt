@@ -8,10 +8,10 @@ pub returns : goal.returns
 returns c l lt =
     let x = read c.fits-x.0 in
     let fits = below_word c.args.x c.fits-x.0 c.fits-x.1 lt in
-    let inner = both _ lt x (known (c.turned.ensures l lt) (omega arith)) in
+    let inner = both _ lt x (known (c.rotate_right.ensures l lt) (omega arith)) in
     let turned =
     known
-    (c.turned-2.ensures l lt ∙ ap (λ y. rotate_right w32 y 17) inner.word
+    (c.rotate_right-2.ensures l lt ∙ ap (λ y. rotate_right w32 y 17) inner.word
     ∙ rotated_two 32 (slice_index c.args.x l) 17 2 (omega arith) fits)
     (omega arith) in
     (both _ lt turned (both _ lt x (splat _ lt))).word

@@ -1,4 +1,4 @@
--- The page is stored behind the others.
+-- The page is stored after the others.
 use Rattle.std.proofs.Common.{rules, ◌≡◌, ◌++◌, ◌∷◌, [], Some, true, length, refl}
 use Rattle.scrub_disk.proofs.StoredPages.{stored_page}
 use Rattle.scrub_disk.proofs.blocks.Block.add.Goals as goal

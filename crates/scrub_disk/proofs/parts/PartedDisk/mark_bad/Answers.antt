@@ -7,5 +7,5 @@ pub returns : goal.returns
 returns c =
     let d = c.args.self.now in
     rw c.pages.ensures
-    (marks d.geometry (joined d.geometry.page d.blocks.items) d.bad.items c.args.extent c.args.page d.each_page
+    (marks d.geometry (joined d.geometry.page d.blocks.items) d.unreadable.items c.args.extent c.args.page d.each_page
     c.requires.in_extents c.requires.in_pages)

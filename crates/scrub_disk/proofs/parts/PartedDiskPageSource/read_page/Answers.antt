@@ -18,7 +18,7 @@ read_page-requires-clause-in_block c =
 pub returns-clause-readable : goal.returns-clause-readable
 returns-clause-readable c =
     let d = c.args.self.now in
-    read_in_block d.geometry d.blocks.items d.bad.items d.stride c.args.extent c.args.page c.pages.result _
+    read_in_block d.geometry d.blocks.items d.unreadable.items d.stride c.args.extent c.args.page c.pages.result _
     c.index.result.now c.index-block.result.now c.read_page.new.out
     d.some d.sizes d.stored d.enough d.each_page c.requires.in_extents c.requires.in_pages c.pages.ensures c.requires.one_page
     c.index.ensures c.if-index.false c.index-block.ensures c.read_page.ensures

@@ -1,4 +1,4 @@
--- What a search among rising identifiers finds, and that it misses none.
+-- What a search among ascending identifiers finds, and that it misses none.
 use Rattle.std.proofs.Common.{rules, ◌∙◌, ap}
 use Rattle.std.proofs.lemmas.List.Sorted.{answers_always}
 use Rattle.scrub_run.specs.declared.shard_id.ShardId.{ShardId}

@@ -1,7 +1,7 @@
 -- What is settled is collected.
 use Rattle.std.proofs.Common.{◌≡◌, ◌<◌, subst}
 use Rattle.std.proofs.lemmas.Result.{IfOk-weaker}
-use Rattle.scrub_scan.specs.Gathering.{IsCollected, IsSettled}
+use Rattle.scrub_scan.specs.steps.Gathering.{IsCollected, IsSettled}
 use Rattle.scrub_scan.proofs.Seals.{settled_collected}
 use Rattle.scrub_scan.proofs.collected.Collected.make_room.Goals as goal
 

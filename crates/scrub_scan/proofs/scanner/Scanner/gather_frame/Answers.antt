@@ -1,8 +1,10 @@
 -- One more page has passed, the frame has ended, or a page of it can't be read.
-use Rattle.std.proofs.Common.{arith, ap, subst, ℕ, ◌∙◌, ◌≡◌, ◌<◌, ◌≤◌, ◌+◌, ◌/◌, ◌-◌, ◌++◌, length, take, min, Some}
+use Rattle.std.proofs.Common.{arith, ap, subst, ℕ, ◌∙◌, ◌≡◌, ◌<◌, ◌≤◌, ◌+◌, ◌*◌, ◌/◌, ◌-◌, ◌++◌, length, take, min, Some}
+use Rattle.std.proofs.lemmas.Nat.{div_below}
 use Rattle.scrub_disk.specs.Image.{AreBytesAt}
 use Rattle.scrub_frame.specs.Frame.{head_size, seal_size, frame_overhead}
-use Rattle.scrub_scan.specs.Pages.{target_of, last_page}
+use Rattle.scrub_frame.proofs.Frames.{overhead}
+use Rattle.scrub_scan.specs.steps.Pages.{target_of, last_page}
 use Rattle.scrub_scan.proofs.PlacePages.{page_rises}
 use Rattle.scrub_scan.proofs.Asked.{next_bound, one_more}
 use Rattle.scrub_scan.proofs.ReadPages.{read_fewer, read_next, next_at_most}
@@ -12,8 +14,8 @@ use Rattle.scrub_scan.proofs.Claims.{only_frame, frame_of}
 use Rattle.scrub_scan.proofs.Gathering.{payload_more, seal_read}
 use Rattle.scrub_scan.proofs.scanner.Scanner.gather_frame.Goals as goal
 
-pub returns-in_default-clause-none : goal.returns-in_default-clause-none
-returns-in_default-clause-none g c = λ messages held.
+pub returns-in_default-clause-found : goal.returns-in_default-clause-found
+returns-in_default-clause-found g c = λ messages held.
     let image = g.D.PageSource.image c.args.disk.now in
     let t = c.args.target.now in
     let x = target_of image t in
@@ -28,19 +30,11 @@ returns-in_default-clause-none g c = λ messages held.
             place = c.loop-place.place;
             low = inv.low;
             high = omega (arith, inv.below, c.frame_bytes.ensures.value, round, same.2);
-            unreadable = gap_byte image t.extent c.loop-place.place c.reach.new.self.page c.reach.ensures.held.size
-                (c.in_default.ensures.gap image t.extent c.reach.ensures.held);
+            unreadable = gap_byte image t.extent c.loop-place.place c.load_far.new.self.page c.load_far.ensures.held.size
+                (c.in_default.ensures.gap image t.extent c.load_far.ensures.held);
           }),
       c.cancel.ensures messages so_far.0 so_far.1,
     )
-
-pub returns-in_default-clause-read_none : goal.returns-in_default-clause-read_none
-returns-in_default-clause-read_none g c = λ h.
-    let t = c.args.target.now in
-    let inv = c.loop-place.invariant in
-    read_fewer c.reach.new.self (c.loop-place.place / t.page) (c.args.start / t.page)
-    (page_rises c.args.start c.loop-place.place t.page t.positive inv.low)
-    (c.reach.ensures.read (c.loop-place.place / t.page) (inv.read h))
 
 pub returns-then-end-stop-clause-found : goal.returns-then-end-stop-clause-found
 returns-then-end-stop-clause-found g c = λ messages held.
@@ -52,14 +46,14 @@ returns-then-end-stop-clause-found g c = λ messages held.
     let so_far = inv.gathered messages held in
     let sealed = c.args.start + head_size in
     let first = c.args.start + c.payload_start.result in
-    let stand = c.in-Some.ensures.bytes image t.extent c.reach.ensures.held in
+    let stand = c.in-Some.ensures.bytes image t.extent c.load_far.ensures.held in
     let more = payload_more x.byte c.loop-place.place c.bound-stop.result first (first + h.length) so_far.0 c.in-Some.part.now c.bytes_between.result.now
     c.in-Some.ensures.size (omega arith) stand so_far.2 so_far.3 c.bytes_between.ensures in
     let payload = so_far.0 ++ c.bytes_between.result.now in
     let size : h.length ≡ length payload =
-    omega (arith, more.0, c.if-end-stop.true, c.frame_bytes.ensures.value, c.payload_start.ensures.value) in
+    omega (arith, overhead h.form, more.0, c.if-end-stop.true, c.frame_bytes.ensures.value, c.payload_start.ensures.value) in
     let whole : min (c.loop-place.place + length c.in-Some.part.now) first - sealed ≡ seal_size h.form =
-    omega (arith, c.in-Some.ensures.size, c.if-end-stop.true, c.frame_bytes.ensures.value, c.payload_start.ensures.value) in
+    omega (arith, overhead h.form, c.in-Some.ensures.size, c.if-end-stop.true, c.frame_bytes.ensures.value, c.payload_start.ensures.value) in
     record {
       payload = payload;
       size = size;
@@ -72,32 +66,6 @@ returns-then-end-stop-clause-found g c = λ messages held.
           c.in_ok-end.ensures messages payload (c.in_ok-append.ensures messages so_far.0 so_far.1);
     }
 
-pub returns-then-end-stop-clause-asked_found : goal.returns-then-end-stop-clause-asked_found
-returns-then-end-stop-clause-asked_found g c = λ near.
-    let t = c.args.target.now in
-    let h = c.args.head.now in
-    let inv = c.loop-place.invariant in
-    let from : c.args.start / t.page ≤ c.loop-place.place / t.page =
-    page_rises c.args.start c.loop-place.place t.page t.positive inv.low in
-    let last : c.loop-place.place / t.page ≤ last_page t c.args.start h.form h.length =
-    page_rises c.loop-place.place (c.args.start + h.length + frame_overhead h.form - 1) t.page
-    t.positive (omega (arith, inv.below, c.frame_bytes.ensures.value)) in
-    let calls = one_more c.args.self.now.pages.asked c.reach.new.self.asked c.loop-place.self.pages.asked (c.args.start / t.page) (c.loop-place.place / t.page) from (inv.asked near) c.reach.ensures.asked
-    (λ same. c.reach.ensures.known (ap (λ p. p.number) inv.near ∙ near ∙ ap Some same)) in
-    omega (arith, calls, last)
-
-pub returns-then-end-stop-clause-read_found : goal.returns-then-end-stop-clause-read_found
-returns-then-end-stop-clause-read_found g c = λ h.
-    let t = c.args.target.now in
-    let head = c.args.head.now in
-    let r = c.loop-place.place / t.page in
-    let inv = c.loop-place.invariant in
-    let behind = c.args.start + head.length + frame_overhead head.form in
-    read_fewer c.reach.new.self (r + 1) (behind / t.page)
-    (next_at_most c.loop-place.place behind t.page t.positive
-    (omega (arith, c.if-end-stop.true, c.frame_bytes.ensures.value, c.bound-stop.ensures.one_page)))
-    (read_next c.reach.new.self r c.reach.ensures.reached (c.reach.ensures.read r (inv.read h)))
-
 pub loop-place-preserved : goal.loop-place-preserved
 loop-place-preserved g c =
     let image = g.D.PageSource.image c.args.disk.now in
@@ -107,14 +75,14 @@ loop-place-preserved g c =
     let inv = c.loop-place.invariant in
     let first = c.args.start + c.payload_start.result in
     let sealed = c.args.start + head_size in
-    let stand = c.in-Some.ensures.bytes image t.extent c.reach.ensures.held in
+    let stand = c.in-Some.ensures.bytes image t.extent c.load_far.ensures.held in
     let below : c.bound-stop.result < t.pointer =
     omega (arith, c.if-end-stop.false, c.frame_bytes.ensures.value, c.requires.claimed.fits) in
     let next : c.bound-stop.result / t.page ≡ c.loop-place.place / t.page + 1 =
     next_bound c.loop-place.place t.pointer t.page c.bound-stop.result t.positive c.bound-stop.ensures.value below in
     record {
-      scans = record { pages = c.reach.ensures.held; gap = inv.scans.gap };
-      near = c.reach.ensures.near ∙ inv.near;
+      scans = record { pages = c.load_far.ensures.held; gap = inv.scans.gap };
+      near = c.load_far.ensures.reads.near ∙ inv.near;
       low = omega (arith, inv.low, c.bound-stop.ensures.above);
       below = c.if-end-stop.false;
       gathered = λ messages held.
@@ -132,10 +100,62 @@ loop-place-preserved g c =
       asked = λ near.
           let from : c.args.start / t.page ≤ c.loop-place.place / t.page =
           page_rises c.args.start c.loop-place.place t.page t.positive inv.low in
-          let calls = one_more c.args.self.now.pages.asked c.reach.new.self.asked c.loop-place.self.pages.asked (c.args.start / t.page) (c.loop-place.place / t.page) from (inv.asked near) c.reach.ensures.asked
-          (λ same. c.reach.ensures.known (ap (λ p. p.number) inv.near ∙ near ∙ ap Some same)) in
+          let calls = one_more c.args.self.now.pages.asked c.load_far.new.self.asked c.loop-place.self.pages.asked (c.args.start / t.page) (c.loop-place.place / t.page) from (inv.asked near) c.load_far.ensures.reads.asked
+          (λ same. c.load_far.ensures.reads.known (ap (λ p. p.number) inv.near ∙ near ∙ ap Some same)) in
           omega (arith, calls, next, from);
       read = λ held.
           rw next
-          (read_next c.reach.new.self (c.loop-place.place / t.page) c.reach.ensures.reached (c.reach.ensures.read (c.loop-place.place / t.page) (inv.read held)));
+          (read_next c.load_far.new.self (c.loop-place.place / t.page) c.load_far.ensures.loaded (c.load_far.ensures.reads.read (c.loop-place.place / t.page) (inv.read held)));
     }
+
+pub returns-in_default-clause-reads : goal.returns-in_default-clause-reads
+returns-in_default-clause-reads g c = record {
+  near = c.load_far.ensures.reads.near ∙ c.loop-place.invariant.near;
+  asked = λ near.
+      let image = g.D.PageSource.image c.args.disk.now in
+      let t = c.args.target.now in
+      let inv = c.loop-place.invariant in
+      let from : c.args.start / t.page ≤ c.loop-place.place / t.page =
+      page_rises c.args.start c.loop-place.place t.page t.positive inv.low in
+      let calls = one_more c.args.self.now.pages.asked c.load_far.new.self.asked c.loop-place.self.pages.asked (c.args.start / t.page) (c.loop-place.place / t.page) from (inv.asked near) c.load_far.ensures.reads.asked
+      (λ same. c.load_far.ensures.reads.known (ap (λ p. p.number) inv.near ∙ near ∙ ap Some same)) in
+      let size : image.geometry.pages * t.page ≡ image.geometry.pages * image.geometry.page =
+      ap (λ p. image.geometry.pages * p) c.requires.target.page in
+      let q : c.loop-place.place / t.page < image.geometry.pages =
+      div_below c.loop-place.place t.page image.geometry.pages t.positive
+      (omega (arith, size, c.requires.target.in_extent, inv.below, c.frame_bytes.ensures.value, c.requires.claimed.fits)) in
+      omega (arith, calls, q);
+  read = λ h.
+      let t = c.args.target.now in
+      let inv = c.loop-place.invariant in
+      read_fewer c.load_far.new.self (c.loop-place.place / t.page) (c.args.start / t.page)
+      (page_rises c.args.start c.loop-place.place t.page t.positive inv.low)
+      (c.load_far.ensures.reads.read (c.loop-place.place / t.page) (inv.read h));
+}
+
+pub returns-then-end-stop-clause-reads : goal.returns-then-end-stop-clause-reads
+returns-then-end-stop-clause-reads g c = record {
+  near = c.load_far.ensures.reads.near ∙ c.loop-place.invariant.near;
+  asked = λ near.
+      let t = c.args.target.now in
+      let h = c.args.head.now in
+      let inv = c.loop-place.invariant in
+      let from : c.args.start / t.page ≤ c.loop-place.place / t.page =
+      page_rises c.args.start c.loop-place.place t.page t.positive inv.low in
+      let last : c.loop-place.place / t.page ≤ last_page t c.args.start h.form h.length =
+      page_rises c.loop-place.place (c.args.start + h.length + frame_overhead h.form - 1) t.page
+      t.positive (omega (arith, inv.below, c.frame_bytes.ensures.value)) in
+      let calls = one_more c.args.self.now.pages.asked c.load_far.new.self.asked c.loop-place.self.pages.asked (c.args.start / t.page) (c.loop-place.place / t.page) from (inv.asked near) c.load_far.ensures.reads.asked
+      (λ same. c.load_far.ensures.reads.known (ap (λ p. p.number) inv.near ∙ near ∙ ap Some same)) in
+      omega (arith, calls, last);
+  read = λ h.
+      let t = c.args.target.now in
+      let head = c.args.head.now in
+      let r = c.loop-place.place / t.page in
+      let inv = c.loop-place.invariant in
+      let behind = c.args.start + head.length + frame_overhead head.form in
+      read_fewer c.load_far.new.self (r + 1) (behind / t.page)
+      (next_at_most c.loop-place.place behind t.page t.positive
+      (omega (arith, c.if-end-stop.true, c.frame_bytes.ensures.value, c.bound-stop.ensures.one_page)))
+      (read_next c.load_far.new.self r c.load_far.ensures.loaded (c.load_far.ensures.reads.read r (inv.read h)));
+}

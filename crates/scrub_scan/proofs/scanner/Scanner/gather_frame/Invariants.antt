@@ -2,7 +2,7 @@
 use Rattle.std.proofs.Common.{◌≡◌, ◌<◌, ◌≤◌, ◌-◌, ◌+◌, ◌/◌, [], ℕ, List, Some, min, length, take}
 use Rattle.scrub_disk.specs.Image.{AreBytesAt}
 use Rattle.sha_lanes.specs.Gathered.{Gathers}
-use Rattle.scrub_scan.specs.Pages.{target_of, Scans, HasRead}
+use Rattle.scrub_scan.specs.steps.Pages.{target_of, Scans, HasRead}
 use Rattle.scrub_scan.proofs.scanner.Scanner.gather_frame.Given as goal
 
 abbrev pub invariant-loop-place : goal.invariant-loop-place

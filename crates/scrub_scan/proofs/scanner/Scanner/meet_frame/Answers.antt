@@ -1,60 +1,63 @@
 -- What a frame costs, or that there is none.
-use Rattle.std.proofs.Common.{arith, ap, refl, subst, sym, ◌∙◌, ◌≡◌, ◌≤◌, ◌/◌, inl, inr}
-use Rattle.std.proofs.lemmas.Bool.{cases_lt}
+use Rattle.std.proofs.Common.{arith, ap, refl, subst, sym, ◌∙◌, ◌≡◌, ◌≤◌, ◌/◌}
 use Rattle.sha2.specs.Sha256.{sha256}
 use Rattle.scrub_frame.specs.declared.form.Form.{Form}
-use Rattle.scrub_scan.specs.Gathering.{seal_in}
-use Rattle.scrub_scan.specs.Pages.{target_of, last_page}
-use Rattle.scrub_scan.proofs.Asked.{cost_none, cost_some}
+use Rattle.scrub_scan.specs.steps.Gathering.{seal_in}
+use Rattle.scrub_scan.specs.steps.Pages.{target_of, last_page}
+use Rattle.scrub_scan.proofs.Asked.{costs}
 use Rattle.scrub_scan.proofs.Claims.{only_frame}
 use Rattle.scrub_scan.proofs.scanner.Scanner.meet_frame.Goals as goal
 
-pub returns-in_default-clause-asked_none : goal.returns-in_default-clause-asked_none
-returns-in_default-clause-asked_none g c = λ n h.
-    omega (
-      arith,
-      c.approach.ensures.asked n h,
-      c.may_stand.ensures.asked,
-      (g.D.PageSource.image c.args.disk.now).geometry.page_count.least,
-    )
+pub returns-in_default-clause-reads : goal.returns-in_default-clause-reads
+returns-in_default-clause-reads g c =
+    let q = c.args.start / c.args.target.now.page in
+    record {
+      near = ap (λ p. p.number) c.claimed_head.ensures.reads.near ∙ c.load_near.ensures.number;
+      asked = λ n h.
+          omega (
+            arith,
+            c.load_near.ensures.asked n h,
+            c.claimed_head.ensures.reads.asked,
+            (g.D.PageSource.image c.args.disk.now).geometry.page_count.least,
+          );
+      read = λ h. c.claimed_head.ensures.reads.read q (c.load_near.ensures.read q h);
+    }
 
-pub returns-in-Some-pass_frame-clause-asked_found : goal.returns-in-Some-pass_frame-clause-asked_found
-returns-in-Some-pass_frame-clause-asked_found g c = λ n h.
+pub returns-in-Some-match_frame-clause-reads : goal.returns-in-Some-match_frame-clause-reads
+returns-in-Some-match_frame-clause-reads g c =
     let t = c.args.target.now in
     let x = target_of (g.D.PageSource.image c.args.disk.now) t in
     let q = c.args.start / t.page in
-    let near = ap (λ p. p.number) c.may_stand.ensures.kept.near ∙ c.approach.ensures.number in
-    let f = c.in-Some-pass_frame.found in
-    let found = c.in-Some-pass_frame.ensures.found in
-    let calls = c.in-Some-pass_frame.ensures.asked_found near in
-    elim (cases_lt q (last_page t c.args.start f.form f.length)) [
-      | inl later ↦
-          omega (
-            arith,
-            c.approach.ensures.asked n h,
-            c.may_stand.ensures.asked,
-            calls,
-            cost_some q (last_page t c.args.start f.form f.length) later,
-          )
-      | inr same ↦
-          let last : last_page t c.args.start f.form f.length ≤ q = same in
-          let one = only_frame x c.args.start c.in-Some.head c.in-Some.ensures.claims f.form f.uuid found.payload found.frame in
+    let near = ap (λ p. p.number) c.claimed_head.ensures.reads.near ∙ c.load_near.ensures.number in
+    let f = c.in-Some-match_frame.found in
+    let found = c.in-Some-match_frame.ensures.found in
+    let reads = c.in-Some-match_frame.ensures.reads in
+    record {
+      near = ap (λ p. p.number) reads.near ∙ near;
+      asked = λ n h.
+          costs q (last_page t c.args.start f.form f.length) n c.load_near.new.self.asked c.claimed_head.new.self.pages.asked
+          c.match_frame.new.self.pages.asked (c.load_near.ensures.asked n h) c.claimed_head.ensures.reads.asked
+          (λ last.
+          let one = only_frame x c.args.start c.in-Some.head c.in-Some.ensures.claimed f.form f.uuid found.payload found.frame in
           let length_is : c.in-Some.head.length ≡ f.length = one.2 ∙ sym found.size in
-          let known = c.in-Some.ensures.known (rw (one.0, length_is) last) c.approach.ensures.number in
-          omega (
-            arith,
-            c.approach.ensures.asked n h,
-            known,
-            calls,
-            cost_none q (last_page t c.args.start f.form f.length) same,
-            same,
-          )
-    ]
+          let small : last_page t c.args.start c.in-Some.head.form c.in-Some.head.length ≤ q =
+          rw (one.0, length_is) last in
+          c.in-Some.ensures.reads.known (small, c.load_near.ensures.number))
+          (reads.asked near);
+      read = λ h. reads.read (c.claimed_head.ensures.reads.read q (c.load_near.ensures.read q h));
+    }
 
-pub returns-in-None-clause-asked_none : goal.returns-in-None-clause-asked_none
-returns-in-None-clause-asked_none g c = λ n h.
-    let near = ap (λ p. p.number) c.may_stand.ensures.kept.near ∙ c.approach.ensures.number in
-    omega (arith, c.approach.ensures.asked n h, c.may_stand.ensures.asked, c.in-None.ensures.asked_none near)
+pub returns-in-None-clause-reads : goal.returns-in-None-clause-reads
+returns-in-None-clause-reads g c =
+    let q = c.args.start / c.args.target.now.page in
+    let near = ap (λ p. p.number) c.claimed_head.ensures.reads.near ∙ c.load_near.ensures.number in
+    let reads = c.in-None.ensures.reads in
+    record {
+      near = ap (λ p. p.number) reads.near ∙ near;
+      asked = λ n h.
+          omega (arith, c.load_near.ensures.asked n h, c.claimed_head.ensures.reads.asked, reads.asked near);
+      read = λ h. reads.read (c.claimed_head.ensures.reads.read q (c.load_near.ensures.read q h));
+    }
 
 pub returns-clause-found : goal.returns-clause-found
 returns-clause-found g c = λ messages held.
@@ -68,45 +71,35 @@ returns-clause-found g c = λ messages held.
       added = (passed.payload, refl, passed.gathers);
     }
 
-pub returns-clause-asked_found : goal.returns-clause-asked_found
-returns-clause-asked_found g c = λ n h.
+pub returns-clause-reads : goal.returns-clause-reads
+returns-clause-reads g c =
     let t = c.args.target.now in
     let q = c.args.start / t.page in
-    let near = ap (λ p. p.number) c.may_stand.ensures.kept.near ∙ c.approach.ensures.number in
+    let near = ap (λ p. p.number) c.claimed_head.ensures.reads.near ∙ c.load_near.ensures.number in
     let head = c.in-Some.head in
-    let calls = rw c.in-Some-2.is at (c.in_ok-digest.ensures.asked_found near) in
-    elim (cases_lt q (last_page t c.args.start head.form head.length)) [
-      | inl later ↦
-          omega (
-            arith,
-            c.approach.ensures.asked n h,
-            c.may_stand.ensures.asked,
-            calls,
-            cost_some q (last_page t c.args.start head.form head.length) later,
-          )
-      | inr same ↦
-          let last : last_page t c.args.start head.form head.length ≤ q = same in
-          let known = c.in-Some.ensures.known last c.approach.ensures.number in
-          omega (
-            arith,
-            c.approach.ensures.asked n h,
-            known,
-            calls,
-            cost_none q (last_page t c.args.start head.form head.length) same,
-            same,
-          )
-    ]
+    let reads = rw c.in-Some-2.is at c.in_ok-digest.ensures.reads in
+    record {
+      near = ap (λ p. p.number) reads.near ∙ near;
+      asked = λ n h.
+          costs q (last_page t c.args.start head.form head.length) n c.load_near.new.self.asked
+          c.claimed_head.new.self.pages.asked c.gather_frame.new.self.pages.asked (c.load_near.ensures.asked n h)
+          c.claimed_head.ensures.reads.asked
+          (λ last. c.in-Some.ensures.reads.known (last, c.load_near.ensures.number)) (reads.asked near);
+      read = λ h. reads.read (c.claimed_head.ensures.reads.read q (c.load_near.ensures.read q h));
+    }
 
-pub returns-in_default-2-clause-none : goal.returns-in_default-2-clause-none
-returns-in_default-2-clause-none g c = λ messages held.
-    rw c.in_default-2.is at (c.in_ok-digest.ensures.none messages held)
+pub returns-in_default-2-clause-found : goal.returns-in_default-2-clause-found
+returns-in_default-2-clause-found g c = λ messages held.
+    rw c.in_default-2.is at (c.in_ok-digest.ensures.found messages held)
 
-pub returns-in_default-2-clause-asked_none : goal.returns-in_default-2-clause-asked_none
-returns-in_default-2-clause-asked_none g c = λ n h.
-    let near = ap (λ p. p.number) c.may_stand.ensures.kept.near ∙ c.approach.ensures.number in
-    omega (
-      arith,
-      c.approach.ensures.asked n h,
-      c.may_stand.ensures.asked,
-      rw c.in_default-2.is at (c.in_ok-digest.ensures.asked_none near),
-    )
+pub returns-in_default-2-clause-reads : goal.returns-in_default-2-clause-reads
+returns-in_default-2-clause-reads g c =
+    let q = c.args.start / c.args.target.now.page in
+    let near = ap (λ p. p.number) c.claimed_head.ensures.reads.near ∙ c.load_near.ensures.number in
+    let reads = rw c.in_default-2.is at c.in_ok-digest.ensures.reads in
+    record {
+      near = ap (λ p. p.number) reads.near ∙ near;
+      asked = λ n h.
+          omega (arith, c.load_near.ensures.asked n h, c.claimed_head.ensures.reads.asked, reads.asked near);
+      read = λ h. reads.read (c.claimed_head.ensures.reads.read q (c.load_near.ensures.read q h));
+    }

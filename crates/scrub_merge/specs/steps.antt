@@ -1,0 +1,2 @@
+-- Steps of the code: moving the cursors on.
+pub mod Cursors

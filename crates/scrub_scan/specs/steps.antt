@@ -1,0 +1,7 @@
+-- Steps of the code.
+pub mod FrameRead
+pub mod Pages
+pub mod Gathering
+-- Lemmas that types need.
+pub mod OneFrame
+pub mod Props

@@ -1,6 +1,0 @@
--- The law, by rising lists of the same records and of the same ranges.
-use Rattle.scrub_super.proofs.FoundAnywhere.{one_answer_lem}
-use Rattle.scrub_super.proofs.anywhere.one_answer_for_lost_blocks.Goals as goal
-
-pub returns : goal.returns
-returns c = one_answer_lem
