@@ -12,13 +12,13 @@ use Rattle.scrub_scan.specs.Scanned.{Scanned, scanned}
 use Rattle.scrub_scan.specs.AllFindings.{extent_numbers}
 use Rattle.scrub_book.specs.declared.book.AddRefused.{AddRefused}
 use Rattle.scrub_book.specs.declared.book.AddRefused.TheVariants.{Stranger, Double}
-use Rattle.scrub_book.specs.Extents.{extents_of}
+use Rattle.scrub_book.specs.Extents.{extents_in}
 use Rattle.scrub_book.specs.Book.{BookValue, IsAddRefused}
 use Rattle.scrub_book.proofs.Counts.{one_for, is_one, contained_counts, counted_contained, rising_once}
 
 -- the numbers of results are the extents that they are of
 pub numbers_shown : {D : Type 0} {s : _} (rs : List (ExtentResult D s)) →
-    extent_numbers (map (λ (r : ExtentResult D s). scanned r) rs) ≡ extents_of rs
+    extent_numbers (map (λ (r : ExtentResult D s). scanned r) rs) ≡ extents_in rs
 numbers_shown {D} {s} rs = map-map (λ x. x.extent) (λ (r : ExtentResult D s). scanned r) rs
 
 -- a sum over numbers is a sum over what has them

@@ -63,7 +63,7 @@ once (x ∷ xs) e rise =
         omega (arith, sum_by-cons (one_for e) x xs, is_one e x is, none)
     by false is rest = omega (arith, sum_by-cons (one_for e) x xs, is_zero e x is, rest)
 
--- at most once if the numbers rise
+-- at most once if the numbers ascend
 pub rising_once : (xs : List ℕ) (e : ℕ) → IsStrictlyIncreasing xs → count_by (λ x. x == e) xs ≤ 1
 rising_once xs e rising = once xs e (λ i j less below. AllPairs-from_increasing xs rising i j 0 less below)
 

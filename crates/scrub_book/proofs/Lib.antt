@@ -2,6 +2,6 @@ pub mod Pools
 pub mod Counts
 pub mod Complete
 pub mod Places
-pub mod Kept
+pub mod PoolSteps
 pub mod Arrivals
 pub mod Options

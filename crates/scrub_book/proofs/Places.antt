@@ -20,10 +20,10 @@ use Rattle.scrub_scan.specs.Scanned.{result_image, scanned}
 use Rattle.scrub_scan.specs.AllFindings.{extent_numbers}
 use Rattle.scrub_scan.specs.Slots.{held_in, AreFull, IsPlannedResult, AreSlots, scanned_in}
 use Rattle.scrub_scan.proofs.Slots.{all_found}
-use Rattle.scrub_book.specs.Book.{BookValue, IsAdded, IsLeastMissing, HasAll}
+use Rattle.scrub_book.specs.Book.{BookValue, IsResultAdded, IsLeastMissing, HasAll}
 use Rattle.scrub_book.proofs.Options.{is_nothing}
 
--- a number is in only one place among rising ones
+-- a number is in only one place among ascending ones
 pub one_place : (es : List ℕ) → IsStrictlyIncreasing es → (i j : ℕ) → i < length es → j < length es →
     get_or es i 0 ≡ get_or es j 0 → i ≡ j
 one_place es rising i j below within same = elim (cases_eq i j) [
@@ -35,7 +35,7 @@ one_place es rising i j below within same = elim (cases_eq i j) [
   ]
 ]
 
--- rising numbers never fall
+-- ascending numbers never fall
 numbers_rise : (es : List ℕ) → IsStrictlyIncreasing es → (i j : ℕ) → i ≤ j → j < length es →
     get_or es i 0 ≤ get_or es j 0
 numbers_rise es rising i j le below = elim (cases_eq i j) [
@@ -43,7 +43,7 @@ numbers_rise es rising i j le below = elim (cases_eq i j) [
   | inr differ ↦ omega (arith, AllPairs-from_increasing es rising i j 0 (omega (arith, le, differ)) below)
 ]
 
--- if a search among rising numbers finds no place, the number isn't there
+-- if a search among ascending numbers finds no place, the number isn't there
 pub not_found : (es : List ℕ) (e : ℕ) (r : Result ℕ ℕ) → IsStrictlyIncreasing es →
     IsBinarySearchResult (λ y. nat_cmp y e) es r → IfNone (result_ok r) (¬ Contains es e)
 not_found es e (Ok i) rising is = tt
@@ -263,7 +263,7 @@ module _ {D : Type 0} {s : _} (image : Image) (plan : PlanValue) (slots : List (
       module _ (d : Option (ExtentResult D s)) where
         -- in an empty slot it is one more result
         pub added_at : is_some (get_or slots i d) ≡ false →
-            IsAdded (book_of source plan slots) (scanned r) (book_of source plan (set slots i (Some r)))
+            IsResultAdded (book_of source plan slots) (scanned r) (book_of source plan (set slots i (Some r)))
         added_at empty = record {
           planned = is_planned;
           first = rw number at (absent_at rising i d below empty);

@@ -9,7 +9,7 @@ use Rattle.scrub_scan.specs.AllFindings.{extent_numbers, AreAllFindings}
 use Rattle.scrub_book.specs.declared.book.AddRefused.{AddRefused}
 use Rattle.scrub_book.specs.declared.book.AddRefused.TheVariants.{Stranger, Double}
 
--- a book: the disk whose results it collects, the plan, and the results so far, by rising numbers of extents
+-- a book: the disk whose results it collects, the plan, and the results so far, by ascending numbers of extents
 pub record BookValue (D : Type 0) : Type 0 where
   pub source : D
   pub plan : PlanValue
@@ -22,7 +22,7 @@ pub record IsNewBook {D : Type 0} (source : D) (plan : PlanValue) (book : BookVa
   pub nothing : book.came ≡ []
 
 -- the same book with one more result, of a planned extent that had none
-pub record IsAdded {D : Type 0} (old : BookValue D) (one : Scanned) (new : BookValue D) : Type 0 where
+pub record IsResultAdded {D : Type 0} (old : BookValue D) (one : Scanned) (new : BookValue D) : Type 0 where
   pub planned : Contains old.plan.planned one.extent
   pub first : ¬ Contains (extent_numbers old.came) one.extent
   pub source : new.source ≡ old.source

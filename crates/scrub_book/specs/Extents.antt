@@ -5,5 +5,5 @@ use Rattle.scrub_scan.specs.declared.extent_result.ExtentResult.{ExtentResult}
 
 module _ {D : Type 0} {s : _} where
   -- the numbers of the extents that these are results of
-  abbrev pub extents_of : List (ExtentResult D s) → List ℕ
-  extents_of results = map (λ r. (scanned r).extent) results
+  abbrev pub extents_in : List (ExtentResult D s) → List ℕ
+  extents_in results = map (λ r. (scanned r).extent) results

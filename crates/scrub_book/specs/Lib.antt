@@ -8,5 +8,5 @@ pub use Rattle.scrub_disk.specs.Image
 pub use Rattle.scrub_super.specs.Plan
 pub use Rattle.scrub_scan.specs.Scanned
 pub use Rattle.scrub_scan.specs.AllFindings
--- Steps of the code.
-pub mod Member
+-- Steps of the code, and lemmas that types need.
+pub mod steps

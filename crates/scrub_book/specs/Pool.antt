@@ -127,7 +127,7 @@ Leads image plan old (event ∷ events) new = (next : PoolState) × Follows imag
 abbrev pub is_complete : PoolState → Bool
 is_complete p = length p.queue == 0 && list_all (λ m. is_none m.held && m.has_retired) p.members
 
--- for each planned extent, rising, the arrival of that number
+-- for each planned extent, ascending, the arrival of that number
 pub record IsAssembly (plan : PlanValue) (p : PoolState) (all : List Scanned) : Type 0 where
   pub extents : extent_numbers all ≡ plan.planned
   pub arrived : All (Contains p.arrivals) all

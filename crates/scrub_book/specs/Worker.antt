@@ -2,7 +2,7 @@
 use Rattle.std.specs.Prelude.{◌≡◌, ◌++◌, ℕ, List, Option}
 use Rattle.std.specs.Option.{option_to_list}
 use Rattle.scrub_scan.specs.declared.extent_result.ExtentResult.{ExtentResult}
-use Rattle.scrub_book.specs.Extents.{extents_of}
+use Rattle.scrub_book.specs.Extents.{extents_in}
 use Rattle.scrub_book.specs.declared.worker_core.WorkerCore.{WorkerCore}
 use Rattle.scrub_book.specs.declared.retired.Retired.{Retired}
 
@@ -25,7 +25,7 @@ module _ {D : Type 0} {s : _} where
 
   -- each extent that a worker took has its result, in that order, but for the one that it holds
   abbrev pub HasResults : WorkerCore D s → Type 0
-  HasResults core = taken_by core ≡ extents_of (results_of core) ++ option_to_list (held_by core)
+  HasResults core = taken_by core ≡ extents_in (results_of core) ++ option_to_list (held_by core)
 
   -- the extents that a retired worker took, in that order
   abbrev pub retired_taken : Retired D s → List ℕ

@@ -1,6 +1,7 @@
 //! Collecting the results of planned extents, in any order. For who scans them, see `scrub_pool`.
 
-ghost use Rattle.std.specs.Prelude.{◌≡◌, ◌<◌, length, slice_index, replicate, position, not, Contains, IfOk, IfErr, IfSome, IfNone, OnOk, OnErr, Some, None};
+ghost use Rattle.std.specs.Prelude.{◌≡◌, ◌<◌, length, slice_index, replicate, position, not, Contains, IfOk};
+ghost use Rattle.std.specs.Prelude.{IfErr, IfSome, IfNone, OnOk, OnErr, Some, None};
 ghost use Rattle.std.specs.Option.{is_some};
 ghost use Rattle.std.specs.List.Sorted.{IsStrictlyIncreasing};
 
@@ -37,10 +38,11 @@ impl<'d, D: PageSource> Model for Book<'d, D> {
 
     ghost view = { λ b. record { source = b.source.now; plan = b.plan; came = scanned_in b.slots.items } };
 
-    ghost invariant = { λ b. AreSlots (D.image b.source.now) b.plan b.slots.items × IsStrictlyIncreasing b.plan.planned };
+    ghost invariant = { λ b.
+        AreSlots (D.image b.source.now) b.plan b.slots.items × IsStrictlyIncreasing b.plan.planned };
 }
 
-/// The place of an extent among rising numbers.
+/// The place of an extent among ascending numbers.
 fn place_of(planned: &[u32], extent: u32) -> Option<usize>
     requires { IsStrictlyIncreasing planned.now }
     ensures found { IfSome result (λ i. (i < length planned.now) × (slice_index planned.now i ≡ extent)) }
@@ -74,7 +76,8 @@ impl<'d, D: PageSource> Book<'d, D> {
     ghost use Rattle.scrub_super.specs.Plan.{pointer_of};
     ghost use Rattle.scrub_scan.specs.Scanned.{result_image, scanned};
     ghost use Rattle.scrub_scan.specs.AllFindings.{AreAllFindings, IsOfImage};
-    ghost use Rattle.scrub_book.specs.Book.{IsNewBook, IsAdded, IsAddRefused, IsLeastMissing, HasAll, IsFinished};
+    ghost use Rattle.scrub_book.specs.Book.{IsNewBook, IsResultAdded, IsAddRefused, IsLeastMissing, HasAll};
+    ghost use Rattle.scrub_book.specs.Book.{IsFinished};
 
     /// A book for the planned extents of a disk, without results yet.
     pub fn new(alloc: Global, disk: &'d D, plan: &Plan) -> Result<Book<'d, D>, OutOfMemory>
@@ -103,12 +106,13 @@ impl<'d, D: PageSource> Book<'d, D> {
         &self.plan
     }
 
-    /// Adds the result of a planned extent that has none yet. Refusals, in this order: `Stranger`, `Double`; each gives the
-    /// result back. Takes no memory.
+    /// Adds the result of a planned extent that has none yet. Refusals, in this order: `Stranger`, `Double`;
+    /// each gives the result back. Takes no memory.
     pub fn add(&mut self, found: ExtentResult<'d, D>) -> Result<(), AddRefused<'d, D>>
         requires image { result_image found ≡ D.image self.old.source }
-        requires pointer { Contains self.old.plan.planned found.extent → pointer_of self.old.plan found.extent ≡ Some found.pointer }
-        ensures added { OnOk result (IsAdded self.old (scanned found.entry) self.new) }
+        requires pointer { Contains self.old.plan.planned found.extent →
+            pointer_of self.old.plan found.extent ≡ Some found.pointer }
+        ensures added { OnOk result (IsResultAdded self.old (scanned found.entry) self.new) }
         ensures refused { IfErr result (IsAddRefused self.old found.entry) }
         ensures same { OnErr result (self.new ≡ self.old) }
         // True of every value of the type.
@@ -133,7 +137,8 @@ impl<'d, D: PageSource> Book<'d, D> {
         Some(self.plan.planned()[i])
     }
 
-    /// What one reader finds, if each planned extent has its result; else gives the book back. Takes no memory.
+    /// What one reader finds, if each planned extent has its result; else gives the book back. Takes no
+    /// memory.
     pub fn finish(self) -> Result<AllFindings<'d, D>, Book<'d, D>>
         ensures all { IfOk result (λ all. IsFinished (D.image self.entry.source) self.entry all.extents) }
         ensures image { IfOk result (λ all. IsOfImage (λ s. D.image s) all (D.image self.entry.source)) }

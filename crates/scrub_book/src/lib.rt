@@ -1,5 +1,5 @@
-//! Collecting the results of planned extents, and the pool of workers as a machine without threads. For how an extent is
-//! scanned see `scrub_scan`, for the threads see `scrub_pool`.
+//! Collecting the results of planned extents, and the pool of workers as a machine without threads. For how
+//! an extent is scanned see `scrub_scan`, for the threads see `scrub_pool`.
 #![tactic(auto)]
 
 pub mod assembling;

@@ -1,8 +1,10 @@
-//! A member of the pool: a worker, or what is kept of one that retired. For which extent it takes, see `pool_core`.
+//! A member of the pool: a worker, or what is kept of one that retired. For which extent it takes, see
+//! `pool_core`.
 
-ghost use Rattle.std.specs.Prelude.{◌≡◌, ◌&&◌, ◌++◌, is_none, [], ◌∷◌, Some, None, true, false, OnOk, OnErr, IfOk, map};
+ghost use Rattle.std.specs.Prelude.{◌≡◌, ◌&&◌, ◌++◌, is_none, [], ◌∷◌, Some, None, true, false, OnOk, OnErr};
+ghost use Rattle.std.specs.Prelude.{IfOk, map};
 ghost use Rattle.scrub_scan.specs.Scanned.{scanned};
-ghost use Rattle.scrub_book.specs.Member.{member_value, results_in, HasRoom};
+ghost use Rattle.scrub_book.specs.steps.Member.{member_value, results_in, HasRoom};
 ghost use Rattle.scrub_book.specs.Pool.{idle, taking, having_found, through};
 
 use crate::OutOfMemory;
@@ -73,9 +75,11 @@ impl<'d, D: PageSource> Member<'d, D> {
     /// Finishes the extent that it holds, and makes room for another. If that fails, nothing changes.
     pub(crate) fn done(&mut self, found: ExtentResult<'d, D>) -> Result<(), OutOfMemory>
         requires held { (member_value self.old).held ≡ Some found.extent }
-        ensures value { OnOk result (member_value self.new ≡ having_found (member_value self.old) (scanned found.entry)) }
+        ensures value { OnOk result (member_value self.new ≡
+            having_found (member_value self.old) (scanned found.entry)) }
         ensures results { OnOk result (results_in self.new ≡ results_in self.old ++ found.entry ∷ []) }
-        ensures same { OnErr result ((member_value self.new ≡ member_value self.old) × (results_in self.new ≡ results_in self.old)) }
+        ensures same { OnErr result ((member_value self.new ≡ member_value self.old) ×
+            (results_in self.new ≡ results_in self.old)) }
         ensures room { HasRoom self.old → HasRoom self.new }
     {
         match self {

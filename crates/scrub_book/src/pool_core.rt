@@ -1,7 +1,8 @@
-//! The pool of workers as a machine without threads, driven by events: who takes an extent, finishes one or retires, and
-//! when. For the threads, see `scrub_pool`.
+//! The pool of workers as a machine without threads, driven by events: who takes an extent, finishes one or
+//! retires, and when. For the threads, see `scrub_pool`.
 
-ghost use Rattle.std.specs.Prelude.{◌≡◌, ◌+◌, ◌≤◌, ◌++◌, ◌&&◌, is_none, All, map, replicate, slice_get, vec_len, IfOk, IfErr, OnOk, OnErr, None, true, false, Some};
+ghost use Rattle.std.specs.Prelude.{◌≡◌, ◌+◌, ◌≤◌, ◌++◌, ◌&&◌, is_none, All, map, replicate, slice_get};
+ghost use Rattle.std.specs.Prelude.{vec_len, IfOk, IfErr, OnOk, OnErr, None, true, false, Some};
 ghost use Rattle.std.specs.List.{list_all};
 ghost use Rattle.std.specs.Vec.{vec_capacity};
 ghost use Rattle.scrub_disk.specs.Image.{Image};
@@ -9,8 +10,8 @@ ghost use Rattle.scrub_super.specs.Plan.{PlanValue, pointer_of};
 ghost use Rattle.scrub_super.specs.Planned.{ArePlanned};
 ghost use Rattle.scrub_scan.specs.Scanned.{result_image};
 ghost use Rattle.scrub_scan.specs.AllFindings.{extent_numbers, AreAllFindings, IsOfImage};
-ghost use Rattle.scrub_book.specs.Extents.{extents_of};
-ghost use Rattle.scrub_book.specs.Member.{member_value, IsReady};
+ghost use Rattle.scrub_book.specs.Extents.{extents_in};
+ghost use Rattle.scrub_book.specs.steps.Member.{member_value, IsReady};
 ghost use Rattle.scrub_book.specs.Pool.{idle, MemberValue, member_refusal, worker_of, EveryScheduleFinds};
 
 use crate::OutOfMemory;
@@ -25,8 +26,8 @@ use std::alloc::Global;
 use std::collections::VecDeque;
 use std::marker::Model;
 
-/// A pool of workers over the planned extents of a disk. Each planned extent is in exactly one place: in the queue, held by
-/// a member, among a member's results, or among the arrivals.
+/// A pool of workers over the planned extents of a disk. Each planned extent is in exactly one place: in the
+/// queue, held by a member, among a member's results, or among the arrivals.
 #[derive(Drop)]
 pub struct PoolCore<'d, D: PageSource> {
     alloc: Global,
@@ -39,7 +40,7 @@ pub struct PoolCore<'d, D: PageSource> {
 
 impl<'d, D: PageSource> Model for PoolCore<'d, D> {
     ghost use Rattle.std.specs.Vec.{vec_capacity};
-    ghost use Rattle.scrub_book.specs.Member.{pool_value, HasPool};
+    ghost use Rattle.scrub_book.specs.steps.Member.{pool_value, HasPool};
     ghost use Rattle.scrub_book.specs.Pool.{PoolValue};
 
     ghost Value = { PoolValue D };
@@ -48,7 +49,8 @@ impl<'d, D: PageSource> Model for PoolCore<'d, D> {
 
     // The facts of the machine, and room for each planned extent to arrive.
     ghost invariant = { λ p. HasPool (D.image p.book.source) p.book
-        p.queue.items p.members.items p.arrived.items p.numbers.items (vec_capacity p.arrived) (vec_capacity p.numbers) };
+        p.queue.items p.members.items p.arrived.items p.numbers.items (vec_capacity p.arrived)
+        (vec_capacity p.numbers) };
 }
 
 /// This many members, which did nothing yet.
@@ -99,7 +101,8 @@ fn member_refusal<D: PageSource>(
 
 /// Whether all members have retired and hold nothing.
 fn are_through<D: PageSource>(members: &[Member<'_, D>]) -> bool
-    ensures { result ≡ list_all (λ m. is_none (member_value m).held && (member_value m).has_retired) members.now }
+    ensures { result ≡
+        list_all (λ m. is_none (member_value m).held && (member_value m).has_retired) members.now }
 {
     members.iter().all(|member| member.is_through())
 }
@@ -113,8 +116,9 @@ fn arrive<'d, D: PageSource>(
     requires arrived { vec_len arrived.old + vec_len results ≤ vec_capacity arrived.old }
     requires numbers { vec_len numbers.old + vec_len results ≤ vec_capacity numbers.old }
     ensures arrived { arrived.new.items ≡ arrived.old.items ++ results.entry.items }
-    ensures numbers { numbers.new.items ≡ numbers.old.items ++ extents_of results.entry.items }
-    ensures room { (vec_capacity arrived.new ≡ vec_capacity arrived.old) × (vec_capacity numbers.new ≡ vec_capacity numbers.old) }
+    ensures numbers { numbers.new.items ≡ numbers.old.items ++ extents_in results.entry.items }
+    ensures room { (vec_capacity arrived.new ≡ vec_capacity arrived.old) ×
+        (vec_capacity numbers.new ≡ vec_capacity numbers.old) }
 {
     for found in results {
         numbers.push_reserved(found.extent());
@@ -123,10 +127,11 @@ fn arrive<'d, D: PageSource>(
 }
 
 impl<'d, D: PageSource> PoolCore<'d, D> {
-    ghost use Rattle.scrub_book.specs.Pool.{refusal, is_complete, IsNewPool, IsStepOf, IsStepRefused, IsTake, IsDone, IsRetire, IsAssembly, IsPool};
+    ghost use Rattle.scrub_book.specs.Pool.{refusal, is_complete, IsNewPool, IsStepOf, IsStepRefused, IsTake};
+    ghost use Rattle.scrub_book.specs.Pool.{IsDone, IsRetire, IsAssembly, IsPool};
 
-    /// A pool of this many workers, at most 65, over the planned extents of a disk. It reserves all memory that taking,
-    /// retiring and finishing need.
+    /// A pool of this many workers, at most 65, over the planned extents of a disk. It reserves all memory
+    /// that taking, retiring and finishing need.
     pub fn new(
         alloc: Global,
         disk: &'d D,
@@ -179,7 +184,8 @@ impl<'d, D: PageSource> PoolCore<'d, D> {
     fn scan_held(&self, worker: u32) -> Result<ExtentResult<'d, D>, OutOfMemory>
         requires { refusal self.now.state (Event.Done worker) ≡ None }
         ensures image { IfOk result (λ r. result_image r ≡ D.image self.now.source) }
-        ensures held { (m : MemberValue) → slice_get self.now.state.members worker ≡ Some m → IfOk result (λ r. m.held ≡ Some r.extent) }
+        ensures held { (m : MemberValue) → slice_get self.now.state.members worker ≡ Some m →
+            IfOk result (λ r. m.held ≡ Some r.extent) }
         ensures pointer { IfOk result (λ r. pointer_of self.now.plan r.extent ≡ Some r.pointer) }
     {
         let Some(extent) = self.members[worker as usize].held() else {
@@ -192,7 +198,8 @@ impl<'d, D: PageSource> PoolCore<'d, D> {
     fn done(&mut self, worker: u32) -> Result<(), OutOfMemory>
         requires { refusal self.old.state (Event.Done worker) ≡ None }
         ensures same { (self.new.source ≡ self.old.source) × (self.new.plan ≡ self.old.plan) }
-        ensures done { OnOk result (IsDone (D.image self.old.source) self.old.plan self.old.state worker self.new.state) }
+        ensures done { OnOk result
+            (IsDone (D.image self.old.source) self.old.plan self.old.state worker self.new.state) }
         ensures back { OnErr result (self.new.state ≡ self.old.state) }
     {
         let found = self.scan_held(worker)?;
@@ -217,9 +224,9 @@ impl<'d, D: PageSource> PoolCore<'d, D> {
         arrive(arrived, numbers, results);
     }
 
-    /// Does what an event says. Refusals, in this order: `NoWorker`, `Retired`, `Busy` (a member that holds an extent can't
-    /// take another or retire), `Idle` (one that holds none can't be done), `QueueEmpty`, and `OutOfMemory`, only when a
-    /// member is done. After a refusal the pool is as it was.
+    /// Does what an event says. Refusals, in this order: `NoWorker`, `Retired`, `Busy` (a member that holds
+    /// an extent can't take another or retire), `Idle` (one that holds none can't be done), `QueueEmpty`, and
+    /// `OutOfMemory`, only when a member is done. After a refusal the pool is as it was.
     pub fn step(&mut self, event: Event) -> Result<(), StepRefused>
         ensures taken { OnOk result (IsStepOf (D.image self.old.source) self.old event self.new) }
         ensures refused { IfErr result (IsStepRefused self.old.state event) }
@@ -245,19 +252,21 @@ impl<'d, D: PageSource> PoolCore<'d, D> {
         self.numbers.as_slice()
     }
 
-    /// Whether the queue is empty, no member holds an extent, and all members have retired. A pool without workers is
-    /// complete from the start if no extent is planned, and otherwise never.
+    /// Whether the queue is empty, no member holds an extent, and all members have retired. A pool without
+    /// workers is complete from the start if no extent is planned, and otherwise never.
     pub fn is_complete(&self) -> bool
         ensures { result ≡ is_complete self.now.state }
     {
         self.queue.is_empty() && are_through(&self.members)
     }
 
-    /// What one reader finds, assembled from the arrivals of a complete pool; else gives the pool back. Takes no memory.
+    /// What one reader finds, assembled from the arrivals of a complete pool; else gives the pool back. Takes
+    /// no memory.
     pub fn finish(self) -> Result<AllFindings<'d, D>, PoolCore<'d, D>>
         ensures complete { IfOk result (λ all. is_complete self.entry.state ≡ true) }
         ensures assembly { IfOk result (λ all. IsAssembly self.entry.plan self.entry.state all.extents) }
-        ensures found { IfOk result (λ all. AreAllFindings (D.image self.entry.source) self.entry.plan all.extents) }
+        ensures found { IfOk result (λ all.
+            AreAllFindings (D.image self.entry.source) self.entry.plan all.extents) }
         ensures image { IfOk result (λ all. IsOfImage (λ s. D.image s) all (D.image self.entry.source)) }
         ensures back { IfErr result (λ pool. (is_complete self.entry.state ≡ false) × (pool ≡ self.entry)) }
     {
@@ -269,8 +278,9 @@ impl<'d, D: PageSource> PoolCore<'d, D> {
     }
 }
 
-/// A law: whatever the schedule, in a complete pool each planned extent has arrived once, and its assembly is what one
-/// reader finds.
+/// A law: whatever the schedule, in a complete pool each planned extent has arrived once, and its assembly is
+/// what one reader finds.
 pub fn one_answer_in_every_schedule()
-    ensures { (image : Image) (plan : PlanValue) → ArePlanned plan.geometry.extents plan.planned → EveryScheduleFinds image plan }
+    ensures { (image : Image) (plan : PlanValue) → ArePlanned plan.geometry.extents plan.planned →
+        EveryScheduleFinds image plan }
 {}

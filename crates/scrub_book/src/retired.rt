@@ -1,7 +1,7 @@
 //! What a retired worker took and found. For a worker at work, see `worker_core`.
 
 ghost use Rattle.std.specs.Prelude.{◌≡◌};
-ghost use Rattle.scrub_book.specs.Extents.{extents_of};
+ghost use Rattle.scrub_book.specs.Extents.{extents_in};
 
 use scrub_disk::PageSource;
 use scrub_scan::ExtentResult;
@@ -11,7 +11,7 @@ use scrub_scan::ExtentResult;
 pub struct Retired<'d, D: PageSource> {
     taken: Vec<u32>,
     results: Vec<ExtentResult<'d, D>>,
-    ghost matched: { taken.items ≡ extents_of results.items },
+    ghost matched: { taken.items ≡ extents_in results.items },
 }
 
 impl<'d, D: PageSource> Retired<'d, D> {
@@ -19,7 +19,7 @@ impl<'d, D: PageSource> Retired<'d, D> {
 
     /// Made of the extents taken and their results.
     pub(crate) fn new(taken: Vec<u32>, results: Vec<ExtentResult<'d, D>>) -> Retired<'d, D>
-        requires { taken.items ≡ extents_of results.items }
+        requires { taken.items ≡ extents_in results.items }
         ensures taken { retired_taken result ≡ taken.items }
         ensures results { retired_results result ≡ results.entry.items }
     {
@@ -30,7 +30,7 @@ impl<'d, D: PageSource> Retired<'d, D> {
     pub fn taken(&self) -> &[u32]
         ensures taken { result.now ≡ retired_taken self.now }
         // True of every value of the type.
-        ensures matched { result.now ≡ extents_of (retired_results self.now) }
+        ensures matched { result.now ≡ extents_in (retired_results self.now) }
     {
         self.taken.as_slice()
     }
@@ -39,7 +39,7 @@ impl<'d, D: PageSource> Retired<'d, D> {
     pub fn results(&self) -> &[ExtentResult<'d, D>]
         ensures results { result.now ≡ retired_results self.now }
         // True of every value of the type.
-        ensures matched { extents_of result.now ≡ retired_taken self.now }
+        ensures matched { extents_in result.now ≡ retired_taken self.now }
     {
         self.results.as_slice()
     }
@@ -48,7 +48,7 @@ impl<'d, D: PageSource> Retired<'d, D> {
     pub fn into_results(self) -> Vec<ExtentResult<'d, D>>
         ensures results { result.items ≡ retired_results self.entry }
         // True of every value of the type.
-        ensures matched { extents_of result.items ≡ retired_taken self.entry }
+        ensures matched { extents_in result.items ≡ retired_taken self.entry }
     {
         self.into_parts().1
     }
@@ -58,7 +58,7 @@ impl<'d, D: PageSource> Retired<'d, D> {
         ensures taken { result.0.items ≡ retired_taken self.entry }
         ensures results { result.1.items ≡ retired_results self.entry }
         // True of every value of the type.
-        ensures matched { result.0.items ≡ extents_of result.1.items }
+        ensures matched { result.0.items ≡ extents_in result.1.items }
     {
         let Retired { taken, results } = self;
         (taken, results)

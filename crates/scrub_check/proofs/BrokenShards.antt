@@ -12,13 +12,13 @@ use Rattle.std.proofs.lemmas.Map.Text.{is_eq-slice_cmp}
 use Rattle.std.proofs.lemmas.Slice.Eq.{bytes_eq-Decides}
 use Rattle.scrub_run.specs.declared.shard_id.ShardId.{ShardId}
 use Rattle.scrub_run.specs.Entry.{IsBelow}
-use Rattle.scrub_merge.specs.Cursors.{id_cmp}
+use Rattle.scrub_merge.specs.steps.Cursors.{id_cmp}
 use Rattle.scrub_check.specs.declared.named.Owner.{Owner}
 use Rattle.scrub_check.specs.declared.named.Owner.TheVariants.{Run, Shard}
 use Rattle.scrub_check.specs.declared.statuses.checked.Checked.{Checked}
 use Rattle.scrub_check.specs.Checked.{is_dangling, is_owned_by, is_broken, AreBrokenShards}
-use Rattle.scrub_check.specs.Distinct.{AreDistinct}
-use Rattle.scrub_check.specs.BrokenShards.{shard_of, broken_owner}
+use Rattle.scrub_check.specs.steps.Distinct.{AreDistinct}
+use Rattle.scrub_check.specs.steps.BrokenShards.{shard_of, broken_owner}
 
 -- identifiers each below all later ones are sorted
 pub sorted_by_id : (ids : List ShardId) → AllPairs IsBelow ids → IsStrictlySortedBy id_cmp ids
@@ -75,7 +75,7 @@ owner_broken checked id (i, inside, is) =
     sym (broken_is checked id)
     ∙ list_any_at (is_id id) (filter_map broken_owner checked) i id inside ((bytes_eq-Decides _ id.0).1 (ap (λ other. other.0) is))
 
--- so the owners, each once and rising, are the broken shards
+-- so the owners, each once and ascending, are the broken shards
 pub broken_found : (checked : List Checked) (ids : List ShardId) → AreDistinct id_cmp (filter_map broken_owner checked) ids →
     AreBrokenShards checked ids
 broken_found checked ids distinct = record {

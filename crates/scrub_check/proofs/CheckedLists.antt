@@ -9,7 +9,8 @@ use Rattle.scrub_check.specs.declared.named.Named.{Named}
 use Rattle.scrub_check.specs.declared.statuses.checked.Checked.{Checked}
 use Rattle.scrub_check.specs.Status.{HasStatusIn}
 use Rattle.scrub_check.specs.declared.statuses.status.Status.{Status}
-use Rattle.scrub_check.specs.Checked.{IsChecked, AreChecked, IsKnownBefore}
+use Rattle.scrub_check.specs.Checked.{IsChecked, AreChecked}
+use Rattle.scrub_check.specs.steps.Open.{IsKnownBefore}
 
 -- each by itself is all of them
 pub each_checked : (image : Image) (plan : PlanValue) (names : List Named) (checked : List Checked) →

@@ -1,5 +1,5 @@
 -- The search for the item at a place, and for the extent that it is in.
-use Rattle.std.proofs.Common.{◌≡◌, ◌≢◌, ◌<◌, ◌==◌, ℕ, List, Bool, true, false, length, get_or, map, arith, refl, sym, ◌∙◌, ap, subst, Some, None, Option, option_map, slice_get, MatchOption, []}
+use Rattle.std.proofs.Common.{◌≡◌, ◌<◌, ◌==◌, ℕ, List, length, get_or, map, arith, refl, sym, ◌∙◌, ap, Some, None, Option, option_map, MatchOption, []}
 use Rattle.std.specs.List.{find, Contains}
 use Rattle.std.specs.List.Sorted.{IsStrictlyIncreasing}
 use Rattle.std.specs.Option.{option_and_then}
@@ -73,7 +73,7 @@ module _ (all : List Scanned) (l : Locator) where
       ap (λ (o : Option Scanned). option_and_then form_of (option_and_then (λ f. find (λ item. start_of item == l.offset) f.findings.items) o))
       (sym (none_found (λ f. f.extent) all l.extent none))
 
--- the items that were found in an extent rise
+-- the items that were found in an extent ascend
 pub items_rise : {D : Type 0} (image_of : D → Image) (all : ScannedDisk D) (e : ℕ) (found : Findings) (items : List Item) →
     AreScannedBy image_of all → findings_in all.extents e ≡ Some found → items ≡ found.items →
     IsStrictlyIncreasing (map start_of items)

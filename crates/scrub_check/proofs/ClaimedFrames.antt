@@ -14,11 +14,11 @@ use Rattle.scrub_scan.proofs.FrameBytes.{no_gap}
 use Rattle.scrub_check.specs.declared.places.chunk_at.ChunkAt.{ChunkAt}
 use Rattle.scrub_check.specs.declared.statuses.status.Status.{Status}
 use Rattle.scrub_check.specs.declared.statuses.status.Status.TheVariants.{NoFrame}
-use Rattle.scrub_check.specs.Judged.{IsStatusByClaim}
-use Rattle.scrub_check.specs.Places.{place_named_by}
-use Rattle.scrub_check.specs.Open.{IsOpen, IsReadableClaim, IsClaimSeen}
+use Rattle.scrub_check.specs.steps.StatusByFrame.{IsStatusByClaim}
+use Rattle.scrub_check.specs.steps.Places.{place_named_by}
+use Rattle.scrub_check.specs.steps.Open.{IsOpen, IsReadableClaim, IsClaimSeen}
 use Rattle.scrub_check.specs.Status.{CanStand, HasStatus, HasStatusIn}
-use Rattle.scrub_check.proofs.Judged.{status_under, other_frame}
+use Rattle.scrub_check.proofs.StatusByFrame.{status_under, other_frame}
 
 by_claim : (image : Image) (w : ℕ) (l : Locator) (found : Option Head) (known : Option Status) (s : Status) →
     CanStand image w l →

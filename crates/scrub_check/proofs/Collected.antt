@@ -1,7 +1,6 @@
 -- What many threads collect, if each piece is there.
-use Rattle.std.proofs.Common.{◌≡◌, List, [], ◌∷◌, map, Result, Ok, Err, IfOk, MatchResult, All}
+use Rattle.std.proofs.Common.{◌≡◌, List, [], ◌∷◌, map, Result, Ok, Err, IfOk, MatchResult}
 use Rattle.std.specs.List.{AllZip, Contains}
-use Rattle.std.proofs.lemmas.List.Elements.{All-nil, All-cons}
 
 zipped : (X T E : Type 0) (R : X → T → Type 0) (xs : List X) (ys : List T) →
     AllZip (λ (x : X) (r : Result T E). IfOk r (R x)) xs (map Ok ys) → AllZip R xs ys
@@ -18,10 +17,3 @@ pub collected : {X T E V : Type 0} (items : V → List T) (R : X → T → Type 
 collected {X} {T} {E} items R xs tried (Ok v) each is =
     rw is.2 (zipped X T E R xs is.0 (rw is.1 at each))
 collected items R xs tried (Err e) each is = tt
-
--- what holds of each result, whatever it was made of
-pub all_zipped : {X T : Type 0} (P : T → Type 0) (xs : List X) (ys : List T) → AllZip (λ x y. P y) xs ys → All P ys
-all_zipped P [] [] h = All-nil P
-all_zipped P [] (y ∷ ys) h = absurd h
-all_zipped P (x ∷ xs) [] h = absurd h
-all_zipped P (x ∷ xs) (y ∷ ys) h = All-cons P y ys h.0 (all_zipped P xs ys h.1)

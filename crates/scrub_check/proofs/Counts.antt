@@ -66,7 +66,7 @@ any_at p [] i lt h = absurd (omega (arith, lt))
 any_at p (x ∷ xs) zero lt h = ap (λ b. b || list_any p xs) (h x)
 any_at p (x ∷ xs) (suc i) lt h = or_right (p x) (list_any p xs) (any_at p xs i (omega (arith, lt)) h)
 
--- what is sorted rises against any element
+-- what is sorted ascends against any element
 pub rises_against : {X : Type 0} {R : X → X → Ordering} (o : IsTotalOrder R) (xs : List X) (x : X) → IsSorted R xs →
     IsNonDecreasingBy (λ y. ordering_index (R y x)) xs
 rises_against o xs x sorted = searchable_from_sorted o (λ y. y) xs x sorted

@@ -11,7 +11,7 @@ use Rattle.std.proofs.lemmas.List.Kept.{IsStrictlySortedBy-dedup, Contains-dedup
 use Rattle.std.proofs.lemmas.List.Sorted.{Contains-permutation, IsPermutation-sym}
 use Rattle.std.proofs.lemmas.Map.Lookups.{CmpEqualImpliesEq}
 use Rattle.std.proofs.lemmas.Map.Views.{tells_apart}
-use Rattle.scrub_check.specs.Distinct.{AreDistinct}
+use Rattle.scrub_check.specs.steps.Distinct.{AreDistinct}
 
 -- a list that is sorted, and then freed of what equals the one before it, if elements that the order makes equal are one
 pub distinct_made : {X : Type 0} {R : X → X → Ordering} (o : IsTotalOrder R) (exact : CmpEqualImpliesEq R) {E : X → X → Bool} (ties : (x y : X) → E x y ≡ eq_by_cmp R x y) (xs sorted once : List X) →

@@ -14,12 +14,12 @@ use Rattle.scrub_run.specs.declared.shard_id.ShardId.{ShardId}
 use Rattle.scrub_check.specs.declared.statuses.status.Status.TheVariants.{OutOfRange, PastPointer, WrongUuid, WrongLength, WrongDigest, Sound}
 use Rattle.scrub_check.specs.declared.named.Owner.TheVariants.{Run, Shard}
 use Rattle.scrub_check.specs.Status.{InRange, FindsFrame, HasStatus}
-use Rattle.scrub_check.specs.Named.{named}
+use Rattle.scrub_check.specs.Named.{named_locators}
 
 -- ---- the locators of two runs, and of a shard that has two
 
 named_of_two_runs_and_a_shard : (k l m n : Locator) (id : ShardId) (doubtful : Bool) →
-    named (k ∷ l ∷ []) (record { id = id; locators = m ∷ n ∷ []; run = 1; doubtful = doubtful } ∷ [])
+    named_locators (k ∷ l ∷ []) (record { id = id; locators = m ∷ n ∷ []; run = 1; doubtful = doubtful } ∷ [])
     ≡ record { owner = Run 0; locator = k }
     ∷ record { owner = Run 1; locator = l }
     ∷ record { owner = Shard id; locator = m }

@@ -27,7 +27,7 @@ use Rattle.scrub_check.specs.Status.{HasStatus, HasStatusIn}
 use Rattle.scrub_check.specs.Live.{is_sound_at, has_sound_at, is_chunk, is_live, live_chunks}
 use Rattle.scrub_check.specs.WholeScan.{IsWholeScan}
 use Rattle.scrub_check.specs.Candidates.{CandidateValue, has_sound_alone, is_readable, is_half_garbage, is_reclaimable, candidate_of, kept_of, reclaimable, AreCandidates}
-use Rattle.scrub_check.specs.Kept.{IsKept, AreSafe}
+use Rattle.scrub_check.specs.SafeCandidates.{IsKept, AreSafe}
 use Rattle.scrub_check.proofs.Starts.{begins_among}
 use Rattle.scrub_check.proofs.RunStates.{named_in_use}
 

@@ -11,7 +11,6 @@ pub mod Sizes
 pub mod StartSearch
 pub mod Collected
 pub mod CheckedLists
-pub mod ExtentsSoFar
 pub mod Reclaimable
 pub mod PartedPlaces
 pub mod PartedItems
@@ -24,12 +23,14 @@ pub mod Filtered
 pub mod Starts
 pub mod Gaps
 pub mod PlannedFindings
-pub mod Judged
+pub mod StatusByFrame
 pub mod ClaimedFrames
 pub mod OpenPlaces
+pub mod JudgedPlaces
 pub mod Payloads
 pub mod RunStates
 pub mod OneStatus
 pub mod Listed
+pub mod RunsApart
 pub mod NamedLists
 pub mod Examples

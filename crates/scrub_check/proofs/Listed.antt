@@ -1,15 +1,16 @@
 -- Index runs that were read, in lists.
 use Rattle.std.proofs.Common.{◌≡◌, ◌≤◌, List, [], ◌∷◌, length, map, arith, sym, ◌∙◌}
-use Rattle.std.specs.List.{AllZip}
-use Rattle.std.proofs.lemmas.Slice.Zip.{AllZip-long}
+use Rattle.std.specs.List.{AllZip, zip}
+use Rattle.std.proofs.lemmas.List.{length-map}
+use Rattle.std.proofs.lemmas.Slice.Zip.{AllZip-long, length-zip}
 use Rattle.scrub_disk.specs.Image.{Image}
 use Rattle.scrub_super.specs.Plan.{PlanValue}
 use Rattle.scrub_merge.specs.Binding.{Runs}
-use Rattle.scrub_check.specs.declared.runs.JudgedRun.{JudgedRun}
+use Rattle.scrub_check.specs.declared.runs.RunWithStatus.{RunWithStatus}
 use Rattle.scrub_check.specs.declared.runs.RunState.{RunState}
 use Rattle.scrub_check.specs.declared.statuses.status.Status.{Status}
-use Rattle.scrub_check.specs.JudgedRun.{IsJudgedRun}
-use Rattle.scrub_check.specs.Runs.{IsRunIn, HasRunStateIn, AreCounted, AreReadRuns, AreRunStatuses}
+use Rattle.scrub_check.specs.steps.RunWithStatus.{IsRunWithStatus}
+use Rattle.scrub_check.specs.Runs.{HasRunIn, AreCounted, AreReadRuns, AreRunStatuses, ReadRunsValue}
 use Rattle.scrub_check.specs.Status.{HasStatusIn}
 
 -- what is said of each is said of a part of each
@@ -20,28 +21,41 @@ zip_part R S part says [] (y ∷ ys) each = absurd each
 zip_part R S part says (x ∷ xs) [] each = absurd each
 zip_part R S part says (x ∷ xs) (y ∷ ys) each = (says x y each.0, zip_part R S part says xs ys each.1)
 
--- the lists have what was read of each
-pub are_read : (image : Image) (plan : PlanValue) (judged : List JudgedRun) (runs : Runs) (states : List RunState) →
-    runs ≡ map (λ one. one.run) judged → states ≡ map (λ one. one.state) judged →
-    AllZip (IsJudgedRun image plan) plan.runs judged → AreReadRuns image plan (record { runs = runs; states = states })
-are_read image plan judged runs states runs_are states_are all =
-    let read : AllZip (IsRunIn image plan) plan.runs runs =
-    rw runs_are (zip_part (IsJudgedRun image plan) (IsRunIn image plan) (λ one. one.run) (λ l one is. is.run) plan.runs judged all) in
-    record {
-      count = AllZip-long (IsRunIn image plan) plan.runs runs read;
-      runs = read;
-      states = rw states_are
-          (zip_part (IsJudgedRun image plan) (HasRunStateIn image plan) (λ one. one.state) (λ l one is. is.state) plan.runs judged all);
-    }
+-- and of two parts of each
+zip_parts : {A B C D : Type 0} (R : A → B → Type 0) (S : A → C → D → Type 0) (left : B → C) (right : B → D) →
+    ((a : A) (b : B) → R a b → S a (left b) (right b)) → (xs : List A) (ys : List B) → AllZip R xs ys →
+    AllZip (λ x p. S x p.0 p.1) xs (zip (map left ys) (map right ys))
+zip_parts R S left right says [] [] each = tt
+zip_parts R S left right says [] (y ∷ ys) each = absurd each
+zip_parts R S left right says (x ∷ xs) [] each = absurd each
+zip_parts R S left right says (x ∷ xs) (y ∷ ys) each =
+    (says x y each.0, zip_parts R S left right says xs ys each.1)
 
-pub have_statuses : (image : Image) (plan : PlanValue) (judged : List JudgedRun) (statuses : List Status) →
-    statuses ≡ map (λ one. one.status) judged → AllZip (IsJudgedRun image plan) plan.runs judged →
+-- the lists have what was read of each
+pub are_read : (image : Image) (plan : PlanValue) (judged : List RunWithStatus) (runs : Runs) (states : List RunState) →
+    runs ≡ map (λ one. one.run) judged → states ≡ map (λ one. one.state) judged →
+    AllZip (IsRunWithStatus image plan) plan.runs judged → AreReadRuns image plan (record { runs = runs; states = states })
+are_read image plan judged runs states runs_are states_are all =
+    rw runs_are
+    (rw states_are
+    (record {
+      same = length-map judged (λ one. one.state) ∙ sym (length-map judged (λ one. one.run));
+      each = zip_parts (IsRunWithStatus image plan) (HasRunIn image plan) (λ one. one.run) (λ one. one.state) (λ l one is. is.run) plan.runs judged all;
+    }))
+
+pub have_statuses : (image : Image) (plan : PlanValue) (judged : List RunWithStatus) (statuses : List Status) →
+    statuses ≡ map (λ one. one.status) judged → AllZip (IsRunWithStatus image plan) plan.runs judged →
     AreRunStatuses image plan statuses
 have_statuses image plan judged statuses are all =
-    rw are (zip_part (IsJudgedRun image plan) (HasStatusIn image plan) (λ one. one.status) (λ l one is. is.status) plan.runs judged all)
+    rw are (zip_part (IsRunWithStatus image plan) (HasStatusIn image plan) (λ one. one.status) (λ l one is. is.status) plan.runs judged all)
 
--- as many as the plan names, and so few
+-- there are as many as the plan names
+pub as_many : (image : Image) (plan : PlanValue) (r : ReadRunsValue) → AreReadRuns image plan r → length r.runs ≡ length plan.runs
+as_many image plan r read =
+    let pairs = zip r.runs r.states in
+    let long : length pairs ≡ length plan.runs = AllZip-long (λ l x. HasRunIn image plan l x.0 x.1) plan.runs pairs read.each in
+    omega (arith, long, length-zip r.runs r.states, read.same)
+
+-- and so few
 pub counted : (image : Image) (plan : PlanValue) (r : _) → length plan.runs ≤ 32 → AreReadRuns image plan r → AreCounted r
-counted image plan r few read =
-    let states : length r.states ≡ length plan.runs = AllZip-long (HasRunStateIn image plan) plan.runs r.states read.states in
-    record { same = states ∙ sym read.count; few = omega (arith, read.count, few) }
+counted image plan r few read = record { same = read.same; few = omega (arith, as_many image plan r read, few) }

@@ -6,7 +6,7 @@ use Rattle.scrub_frame.specs.declared.form.Form.{Form}
 use Rattle.scrub_frame.specs.declared.locator.Locator.{Locator}
 use Rattle.scrub_super.specs.Plan.{PlanValue, pointer_of}
 use Rattle.scrub_scan.specs.Extent.{extent_of, FrameAt, NoFrameAt}
-use Rattle.scrub_scan.specs.OneFrame.{one_frame_at}
+use Rattle.scrub_scan.specs.steps.OneFrame.{one_frame_at}
 use Rattle.scrub_check.specs.declared.statuses.status.Status.{Status}
 use Rattle.scrub_check.specs.declared.statuses.status.Status.TheVariants.{OutOfRange, Retired, PastPointer, Unreadable, NoFrame, WrongUuid, WrongLength, WrongDigest, Hidden, Sound}
 use Rattle.scrub_check.specs.Status.{InRange, BelowPointer, HasUnreadableByte, CanStand, FindsFrame, NamesChunk, BeginsAt, HasStatus, HasStatusInRetired, HasStatusInUse, HasStatusIn, is_retired, ExactlyOne}
@@ -75,7 +75,7 @@ by_tests image w l WrongDigest (b, f, same, other) =
 by_tests image w l Hidden h = from_chunk image w l Hidden h.0 (inl (refl, h.1))
 by_tests image w l Sound h = from_chunk image w l Sound h.0 (inr (h.1, refl))
 
--- two statuses by one test: that of the test both, or by the tests behind it
+-- two statuses by one test: that of the test both, or by the tests after it
 tested : (failed s t : Status) (test P Q : Type 0) → (P → Q → s ≡ t) → Tested failed s test P → Tested failed t test Q → s ≡ t
 tested failed s t test P Q same (inl a) (inl b) = sym a.0 ∙ b.0
 tested failed s t test P Q same (inl a) (inr b) = absurd (a.1 b.0)

@@ -16,14 +16,14 @@ use Rattle.scrub_check.specs.declared.places.chunk_at.ChunkAt.{ChunkAt}
 use Rattle.scrub_check.specs.declared.named.Named.{Named}
 use Rattle.scrub_check.specs.declared.statuses.by_place.OpenLocator.{OpenLocator}
 use Rattle.scrub_check.specs.declared.statuses.status.Status.{Status}
-use Rattle.scrub_check.specs.Checked.{IsKnownBefore}
+use Rattle.scrub_check.specs.steps.Open.{IsKnownBefore}
 use Rattle.scrub_check.specs.Status.{HasStatusIn}
-use Rattle.scrub_check.specs.Places.{place_named_by}
-use Rattle.scrub_check.specs.Open.{CanBeRead, IsFoundAt, IsSeenAt, IsOpen, IsOpenAt, IsJudgedAt}
-use Rattle.scrub_check.specs.Named.{named_by_shard, named}
+use Rattle.scrub_check.specs.steps.Places.{place_named_by}
+use Rattle.scrub_check.specs.steps.Open.{CanBeRead, IsFoundAt, IsSeenAt, IsOpen, IsOpenAt}
+use Rattle.scrub_check.specs.Named.{named_by_shard, named_locators}
 use Rattle.scrub_check.specs.Runs.{AreRunStatuses}
 use Rattle.scrub_check.proofs.CheckedLists.{known_at, zipped_at}
-use Rattle.scrub_check.proofs.NamedLists.{run_at, runs_first}
+use Rattle.scrub_check.proofs.NamedLists.{run_at}
 
 -- the place of an open locator can be read
 pub can_be_read : (image : Image) (plan : PlanValue) (l : Locator) → plan.geometry ≡ image.geometry → IsOpen image plan l →
@@ -73,18 +73,13 @@ open_more names tells i n t p os more below name_is tell_is none there grown bef
     }))
 
 -- a status that is put to the others
-put_at : {A B : Type 0} (R : A → B → Type 0) (xs : List A) (ys : List B) (i : ℕ) (y : B) → i < length xs →
-    ((d : A) → R (get_or xs i d) y) → AllZip R xs ys → AllZip R xs (set ys i y)
-put_at R [] ys i y below one all = absurd (omega (arith, below))
-put_at R (x ∷ xs) [] i y below one all = absurd all
-put_at R (x ∷ xs) (z ∷ ys) zero y below one all = (one x, all.1)
-put_at R (x ∷ xs) (z ∷ ys) (suc i) y below one all = (all.0, put_at R xs ys i y (omega (arith, below)) one all.1)
-
-pub known_more : (image : Image) (plan : PlanValue) (names : List Named) (tells : List (Option Status)) (i : ℕ) (s : Status) →
-    IsJudgedAt image plan names (i, s) → AllZip (IsKnownBefore image plan) names tells →
-    AllZip (IsKnownBefore image plan) names (set tells i (Some s))
-known_more image plan names tells i s judged known =
-    put_at (IsKnownBefore image plan) names tells i (Some s) judged.below judged.status known
+pub put_at : {A B : Type 0} (R : A → B → Type 0) (xs : List A) (ys : List B) (i : ℕ) (y : B) → ((d : A) → R (get_or xs i d) y) →
+    AllZip R xs ys → AllZip R xs (set ys i y)
+put_at R [] [] i y one all = tt
+put_at R [] (z ∷ ys) i y one all = absurd all
+put_at R (x ∷ xs) [] i y one all = absurd all
+put_at R (x ∷ xs) (z ∷ ys) zero y one all = (one x, all.1)
+put_at R (x ∷ xs) (z ∷ ys) (suc i) y one all = (all.0, put_at R xs ys i y one all.1)
 
 -- the place of one of them can be read
 pub left_can_be_read : (image : Image) (plan : PlanValue) (names : List Named) (o : OpenLocator) → plan.geometry ≡ image.geometry →
@@ -93,25 +88,13 @@ left_can_be_read image plan [] o geometry at = absurd (omega (arith, at.below))
 left_can_be_read image plan (n ∷ ns) o geometry at =
     rw (at.place n) (can_be_read image plan (get_or (n ∷ ns) o.index n).locator geometry (at.left n))
 
--- one more that is judged
-pub judged_more : (image : Image) (plan : PlanValue) (names : List Named) (o : OpenLocator) (d : Named) (s : Status) (js more : List (ℕ × Status)) →
-    IsOpenAt image plan names o → HasStatusIn image plan (get_or names o.index d).locator s →
-    more ≡ js ++ (o.index, s) ∷ [] → All (IsJudgedAt image plan names) js → All (IsJudgedAt image plan names) more
-judged_more image plan names o d s js more at status grown before =
-    rw grown
-    (All-push (IsJudgedAt image plan names) js (o.index, s) before (record {
-      below = at.below;
-      status = λ e. rw (get_or_default names o.index d e at.below) at status;
-    }))
-
 -- the status of a run is put to the others
 pub run_known : (image : Image) (plan : PlanValue) (map : List BindingValue) (statuses : List Status) (tells : List (Option Status)) (i : ℕ) (d : Status) →
-    i < length statuses → AreRunStatuses image plan statuses → AllZip (IsKnownBefore image plan) (named plan.runs map) tells →
-    AllZip (IsKnownBefore image plan) (named plan.runs map) (set tells i (Some (get_or statuses i d)))
+    i < length statuses → AreRunStatuses image plan statuses → AllZip (IsKnownBefore image plan) (named_locators plan.runs map) tells →
+    AllZip (IsKnownBefore image plan) (named_locators plan.runs map) (set tells i (Some (get_or statuses i d)))
 run_known image plan map statuses tells i d below are known =
     let runs : i < length plan.runs = omega (arith, below, AllZip-long (HasStatusIn image plan) plan.runs statuses are) in
-    let at : (n : Named) → HasStatusIn image plan (get_or (named plan.runs map) i n).locator (get_or statuses i d) =
+    let at : (n : Named) → HasStatusIn image plan (get_or (named_locators plan.runs map) i n).locator (get_or statuses i d) =
     λ n. rw (run_at plan.runs (flat_map named_by_shard map) 0 i n n.locator runs)
     (zipped_at (HasStatusIn image plan) plan.runs statuses i n.locator d runs are) in
-    put_at (IsKnownBefore image plan) (named plan.runs map) tells i (Some (get_or statuses i d))
-    (omega (arith, runs, runs_first plan.runs (flat_map named_by_shard map) 0)) at known
+    put_at (IsKnownBefore image plan) (named_locators plan.runs map) tells i (Some (get_or statuses i d)) at known

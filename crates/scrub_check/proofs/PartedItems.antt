@@ -16,9 +16,9 @@ use Rattle.scrub_check.specs.declared.lists.live_and_orphans.LiveChunks.{LiveChu
 use Rattle.scrub_check.specs.Live.{size_of}
 use Rattle.scrub_check.specs.Candidates.{kept_of}
 use Rattle.scrub_check.specs.Chunks.{place_of}
-use Rattle.scrub_check.specs.Places.{is_place}
-use Rattle.scrub_check.specs.SoundPlaces.{is_live_by, is_named_by}
-use Rattle.scrub_check.specs.LiveAndOrphans.{HasPassed, live_by, orphans_by, AreLiveBy}
+use Rattle.scrub_check.specs.steps.Places.{is_place}
+use Rattle.scrub_check.specs.steps.SoundPlaces.{is_live_by, is_named_by}
+use Rattle.scrub_check.specs.steps.LiveAndOrphans.{HasPassed, live_by, orphans_by, AreLiveBy}
 use Rattle.scrub_check.proofs.Sizes.{sum_of_kept}
 use Rattle.scrub_check.proofs.PartedPlaces.{passed_further}
 
@@ -89,7 +89,7 @@ fits_next starts e items i d item live inside is known few =
     let size : size_of item ≡ size_of (get_or items i d) = ap size_of is in
     omega (arith, next, both, one, all, kept, size, known.sizes, few)
 
--- a cursor has passed none from the i-th of these items on, or behind them all
+-- a cursor has passed none from the i-th of these items on, or after them all
 pub record HasPassedTo (c : Cursor) (e : ℕ) (items : List Item) (i : ℕ) : Type 0 where
   pub next : i < length items → HasPassed c e (get_or (map start_of items) i 0)
   pub end : HasPassed c (e + 1) 0

@@ -8,8 +8,8 @@ use Rattle.std.proofs.lemmas.Bool.{true≢false, cases_eq, false_from_ne_true, l
 use Rattle.std.proofs.lemmas.List.{get_or_default}
 use Rattle.scrub_check.specs.declared.lists.cursor.Cursor.{Cursor}
 use Rattle.scrub_check.specs.declared.places.chunk_at.ChunkAt.{ChunkAt}
-use Rattle.scrub_check.specs.Places.{place_cmp, is_place}
-use Rattle.scrub_check.specs.LiveAndOrphans.{LiesBefore, AreBefore, IsFirstFrom, HasPassed}
+use Rattle.scrub_check.specs.steps.Places.{chunk_at_cmp, is_place}
+use Rattle.scrub_check.specs.steps.LiveAndOrphans.{LiesBefore, AreBefore, IsFirstFrom, HasPassed}
 use Rattle.scrub_check.proofs.Counts.{rises_against}
 use Rattle.scrub_check.proofs.SortedPlaces.{place_total, found_counts}
 
@@ -43,10 +43,10 @@ before_less a b p q low inner = by (nat_cmp a b) (nat_cmp p q) refl refl
         absurd (omega (arith, gt, lt))
     by Greater o x y = let gt : b < a = ranked a b Greater x in absurd (omega (arith, gt, low))
 
-pub less_lies_before : (t s : ChunkAt) → is_lt (place_cmp t s) ≡ true → LiesBefore s.extent s.offset t
+pub less_lies_before : (t s : ChunkAt) → is_lt (chunk_at_cmp t s) ≡ true → LiesBefore s.extent s.offset t
 less_lies_before t s less = less_before t.extent s.extent t.offset s.offset less
 
-lies_before_less : (t s : ChunkAt) → LiesBefore s.extent s.offset t → place_cmp t s ≡ Less
+lies_before_less : (t s : ChunkAt) → LiesBefore s.extent s.offset t → chunk_at_cmp t s ≡ Less
 lies_before_less t s before = before_less t.extent s.extent t.offset s.offset before.0 before.1
 
 -- one more place lies before a byte
@@ -91,7 +91,7 @@ top Less h = absurd (omega (arith, h))
 top Equal h = absurd (omega (arith, h))
 
 -- past the last of the places, none is found
-pub found_nowhere : (starts : List ChunkAt) (s : ChunkAt) (n : ℕ) → IsSorted place_cmp starts → IsFirstFrom starts s n →
+pub found_nowhere : (starts : List ChunkAt) (s : ChunkAt) (n : ℕ) → IsSorted chunk_at_cmp starts → IsFirstFrom starts s n →
     length starts ≤ n → nat_lt n (length starts) ≡ nat_lt 0 (count_by (is_place s) starts)
 found_nowhere starts s n sorted first end =
     let none : nat_lt n (length starts) ≡ false =
@@ -102,21 +102,21 @@ found_nowhere starts s n sorted first end =
     (λ rises. (λ k d from lt. lies_before_less (get_or starts k d) s (first.before k d lt), λ k d from lt. absurd (omega (arith, from, lt, end))))
 
 -- a place is found exactly if it is the first one that isn't below itself
-pub found_first : (starts : List ChunkAt) (s d : ChunkAt) (n : ℕ) (r : Ordering) → IsSorted place_cmp starts →
-    IsFirstFrom starts s n → n < length starts → place_cmp (get_or starts n d) s ≡ r →
+pub found_first : (starts : List ChunkAt) (s d : ChunkAt) (n : ℕ) (r : Ordering) → IsSorted chunk_at_cmp starts →
+    IsFirstFrom starts s n → n < length starts → chunk_at_cmp (get_or starts n d) s ≡ r →
     is_eq r ≡ nat_lt 0 (count_by (is_place s) starts)
 found_first starts s d n Less sorted first inside is = absurd (true≢false (sym (ap is_lt is) ∙ first.next d inside))
 found_first starts s d n Equal sorted first inside is =
     found_counts starts s (Ok n) sorted inside
-    (λ f. ap (λ (t : ChunkAt). place_cmp t s) (get_or_default starts n f d inside) ∙ is)
+    (λ f. ap (λ (t : ChunkAt). chunk_at_cmp t s) (get_or_default starts n f d inside) ∙ is)
 found_first starts s d n Greater sorted first inside is =
     found_counts starts s (Err n) sorted first.within
     (λ rises. (
       λ k f from lt. lies_before_less (get_or starts k f) s (first.before k f lt),
       λ k f from lt.
-          let up : ordering_index (place_cmp (get_or starts n f) s) ≤ ordering_index (place_cmp (get_or starts k f) s) =
+          let up : ordering_index (chunk_at_cmp (get_or starts n f) s) ≤ ordering_index (chunk_at_cmp (get_or starts k f) s) =
           rises_against place_total starts s sorted n k f from lt in
-          let there : place_cmp (get_or starts n f) s ≡ Greater =
-          ap (λ (t : ChunkAt). place_cmp t s) (get_or_default starts n f d inside) ∙ is in
-          top (place_cmp (get_or starts k f) s) (let same = ap ordering_index there in omega (arith, up, same)),
+          let there : chunk_at_cmp (get_or starts n f) s ≡ Greater =
+          ap (λ (t : ChunkAt). chunk_at_cmp t s) (get_or_default starts n f d inside) ∙ is in
+          top (chunk_at_cmp (get_or starts k f) s) (let same = ap ordering_index there in omega (arith, up, same)),
     ))

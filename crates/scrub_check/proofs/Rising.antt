@@ -1,4 +1,4 @@
--- Lists that rise strictly: how that is tested, and that nothing occurs twice.
+-- Lists that ascend strictly: how that is tested, and that nothing occurs twice.
 use Rattle.std.proofs.Common.{◌≡◌, ◌≤◌, ◌+◌, ◌∙◌, ap, sym, refl, arith, ℕ, Bool, true, false, List, [], ◌∷◌, get_or, nat_lt, Ordering, Less, Equal, Greater, is_eq, is_lt}
 use Rattle.std.specs.Prelude.{◌↔◌, IsTrue}
 use Rattle.std.specs.Ordering.{ordering_reverse}
@@ -15,7 +15,7 @@ less_from_true Less e = refl
 less_from_true Equal e = absurd (true≢false (sym e))
 less_from_true Greater e = absurd (true≢false (sym e))
 
--- elements rise exactly if each is below the next
+-- elements ascend exactly if each is below the next
 pub rises_as_answered : {X : Type 0} {R : X → X → Ordering} (o : IsTotalOrder R) (xs : List X) (known : Bool) →
     IsAllAdjacentAnswer (λ x y b. b ≡ is_lt (R x y)) xs known → IsTrue known ↔ IsStrictlySortedBy R xs
 unfolding IsStrictlySortedBy
@@ -48,7 +48,7 @@ once_more {R = R} o x one xs Equal e above few =
     (λ k d a lt. above_differs o x (get_or xs k d) one e (above k d lt)) in
     omega (arith, first, others)
 
--- if elements rise, none occurs twice
+-- if elements ascend, none occurs twice
 pub once_at_most : {X : Type 0} {R : X → X → Ordering} (o : IsTotalOrder R) (xs : List X) (one : X) → IsStrictlySortedBy R xs →
     count_by (λ y. is_eq (R y one)) xs ≤ 1
 unfolding IsStrictlySortedBy

@@ -9,7 +9,7 @@ use Rattle.std.proofs.lemmas.Map.Text.{is_eq-slice_cmp}
 use Rattle.scrub_scan.specs.Scanned.{Scanned}
 use Rattle.scrub_check.specs.declared.lists.place.Place.{Place}
 use Rattle.scrub_check.specs.Chunks.{chunks, chunks_with, twins}
-use Rattle.scrub_check.specs.ChunkUuids.{uuid_cmp, AreUuidsOf, is_twin_by}
+use Rattle.scrub_check.specs.steps.ChunkUuids.{uuid_cmp, AreUuidsOf, is_twin_by}
 use Rattle.scrub_check.proofs.Counts.{count_map}
 use Rattle.scrub_check.proofs.Rising.{once_at_most, not_several}
 
@@ -24,7 +24,7 @@ pub twins_found : (all : List Scanned) (uuids : List (List ℕ)) → AreUuidsOf 
     filter (is_twin_by uuids) (chunks all) ≡ twins all
 twins_found all uuids are = ap (λ test. filter test (chunks all)) (λ i p. nat_lt 1 (count_uuids all uuids p.uuid are i))
 
--- if the UUIDs rise, no chunk has a twin
+-- if the UUIDs ascend, no chunk has a twin
 not_twin : (uuids : List (List ℕ)) (one : Place) → IsStrictlySortedBy uuid_cmp uuids → is_twin_by uuids one ≡ false
 not_twin uuids one rising =
     let same : count_by (λ other. is_eq (uuid_cmp other one.uuid)) uuids ≡ count_by (λ other. bytes_eq other one.uuid) uuids =

@@ -1,4 +1,4 @@
--- Searches among what rises.
+-- Searches among what ascends.
 use Rattle.std.proofs.Common.{◌≡◌, ◌<◌, ◌≤◌, ℕ, List, true, false, length, get_or, arith, ◌∙◌, ap, inl, inr, nat_lt}
 use Rattle.std.specs.List.{Contains}
 use Rattle.std.specs.List.Sorted.{IsStrictlyIncreasing, IsPartitionPoint, IsPartitionedBy}
@@ -6,7 +6,7 @@ use Rattle.std.proofs.lemmas.List.{get_or_default}
 use Rattle.std.proofs.lemmas.Bool.{cases_lt, cases_eq, lt-ltb, ltb-true, ltb-false}
 use Rattle.std.proofs.lemmas.List.Kept.{AllPairs-from_increasing}
 
--- pages that rise are parted by any page
+-- ascending pages are parted by any page
 pub parted : (pages : List ℕ) (first : ℕ) → IsStrictlyIncreasing pages → IsPartitionedBy (λ p. nat_lt p first) pages
 parted pages first rising i j d le below later = elim (cases_eq i j) [
   | inl same ↦ ap (λ n. nat_lt (get_or pages n d) first) same ∙ later
@@ -15,7 +15,7 @@ parted pages first rising i j d le below later = elim (cases_eq i j) [
       lt-ltb (get_or pages i d) first (omega (arith, less, ltb-true (get_or pages j d) first later))
 ]
 
--- the point at which a page parts pages that rise
+-- the point at which a page parts ascending pages
 abbrev pub PartedAt : List ℕ → ℕ → ℕ → Type 0
 PartedAt pages first i = IsPartitionPoint (λ p. nat_lt p first ≡ true) (λ p. nat_lt p first ≡ false) pages i
 

@@ -14,11 +14,11 @@ use Rattle.scrub_merge.proofs.Elements.{Contains-filter}
 use Rattle.scrub_check.specs.declared.lists.place.SharedPlace.{SharedPlace}
 use Rattle.scrub_check.specs.declared.statuses.checked.Checked.{Checked}
 use Rattle.scrub_check.specs.declared.places.chunk_at.ChunkAt.{ChunkAt}
-use Rattle.scrub_check.specs.Distinct.{AreDistinct}
+use Rattle.scrub_check.specs.steps.Distinct.{AreDistinct}
 use Rattle.scrub_check.specs.Live.{sound_at}
 use Rattle.scrub_check.specs.Shared.{by_place, IsShared, AreShared}
-use Rattle.scrub_check.specs.Places.{place_cmp, is_place}
-use Rattle.scrub_check.specs.SoundPlaces.{AreSoundPlaces, place_counted, shared_by}
+use Rattle.scrub_check.specs.steps.Places.{chunk_at_cmp, is_place}
+use Rattle.scrub_check.specs.steps.SoundPlaces.{AreSoundPlaces, place_counted, shared_by}
 use Rattle.scrub_check.proofs.Counts.{any_counts}
 use Rattle.scrub_check.proofs.Rising.{once_at_most}
 use Rattle.scrub_check.proofs.SortedPlaces.{place_total, place_exact}
@@ -26,7 +26,7 @@ use Rattle.scrub_check.proofs.SortedPlaces.{place_total, place_exact}
 pub by_place_total : IsTotalOrder by_place
 by_place_total = then_total (on_total (λ p. p.extent) nat_cmp_total) (on_total (λ p. p.offset) nat_cmp_total)
 
--- what rises still does once each element is mapped to one that is ordered alike
+-- what ascends still does once each element is mapped to one that is ordered alike
 rising_map : {X Y : Type 0} (R : X → X → Ordering) (S : Y → Y → Ordering) (f : X → Y) (xs : List X) →
     ((x y : X) → S (f x) (f y) ≡ R x y) → IsStrictlySortedBy R xs → IsStrictlySortedBy S (map f xs)
 unfolding IsStrictlySortedBy
@@ -51,12 +51,12 @@ counted_there starts s some =
 
 -- the places that are there twice or more are the shared ones
 pub shared_found : (checked : List Checked) (starts once : List ChunkAt) (places : List SharedPlace) →
-    AreSoundPlaces checked starts → AreDistinct place_cmp starts once →
+    AreSoundPlaces checked starts → AreDistinct chunk_at_cmp starts once →
     places ≡ shared_by starts once → AreShared checked places
 shared_found checked starts once places are distinct is = rw is (record {
   rising =
       IsStrictlySortedBy-filter by_place several (map (place_counted starts) once)
-      (rising_map place_cmp by_place (place_counted starts) once (λ s t. refl) distinct.rising);
+      (rising_map chunk_at_cmp by_place (place_counted starts) once (λ s t. refl) distinct.rising);
   each = λ k d lt. record {
     counted =
         All-filter several (λ (p : SharedPlace). p.count ≡ sound_at checked p.extent p.offset) (map (place_counted starts) once)
@@ -95,7 +95,7 @@ no_places = tt
 
 -- if each place is there once, none is shared
 pub none_shared : (checked : List Checked) (starts : List ChunkAt) → AreSoundPlaces checked starts →
-    IsStrictlySortedBy place_cmp starts → AreShared checked []
+    IsStrictlySortedBy chunk_at_cmp starts → AreShared checked []
 none_shared checked starts are rising = record {
   rising = no_places;
   each = λ k d lt. absurd (omega (arith, lt));

@@ -19,12 +19,12 @@ use Rattle.scrub_check.specs.Checked.{is_sound}
 use Rattle.scrub_scan.specs.declared.item.Item.{Item}
 use Rattle.scrub_scan.specs.Item.{start_of}
 use Rattle.scrub_check.specs.Live.{is_sound_at, sound_at, has_sound_at, is_chunk, is_live}
-use Rattle.scrub_check.specs.Places.{place_cmp, is_place}
-use Rattle.scrub_check.specs.SoundPlaces.{place_named, sound_places, AreSoundPlaces, is_live_by, is_named_by}
+use Rattle.scrub_check.specs.steps.Places.{chunk_at_cmp, is_place}
+use Rattle.scrub_check.specs.steps.SoundPlaces.{place_of_checked, sound_places, AreSoundPlaces, is_live_by, is_named_by}
 use Rattle.scrub_check.proofs.Counts.{count_out, count_between, any_counts, any_at, rises_against}
 
 -- places are in a total order
-pub place_total : IsTotalOrder place_cmp
+pub place_total : IsTotalOrder chunk_at_cmp
 place_total = then_total (on_total (λ s. s.extent) nat_cmp_total) (on_total (λ s. s.offset) nat_cmp_total)
 
 pub same_number : (a b : ℕ) → is_eq (nat_cmp a b) ≡ (a == b)
@@ -36,7 +36,7 @@ both Equal q = refl
 both Greater q = refl
 
 -- two places that the order makes equal are one
-pub place_exact : CmpEqualImpliesEq place_cmp
+pub place_exact : CmpEqualImpliesEq chunk_at_cmp
 place_exact a b e = λ i. record { extent = extent i; offset = offset i }
   where
     parts : (is_eq (nat_cmp a.extent b.extent) ≡ true) × (is_eq (nat_cmp a.offset b.offset) ≡ true)
@@ -49,13 +49,13 @@ place_exact a b e = λ i. record { extent = extent i; offset = offset i }
     offset = tells_apart exact_unsigned a.offset b.offset parts.1
 
 -- places are equal exactly if the order makes them equal
-pub place_ties : (a b : ChunkAt) → ((a.extent == b.extent) && (a.offset == b.offset)) ≡ eq_by_cmp place_cmp a b
+pub place_ties : (a b : ChunkAt) → ((a.extent == b.extent) && (a.offset == b.offset)) ≡ eq_by_cmp chunk_at_cmp a b
 place_ties a b =
     sym
     (both (nat_cmp a.extent b.extent) (nat_cmp a.offset b.offset) ∙ ap₂ (λ x y. x && y) (same_number a.extent b.extent) (same_number a.offset b.offset))
 
 named_there : (e p : ℕ) (c : Checked) →
-    is_place (record { extent = e; offset = p }) (place_named c) ≡ ((c.locator.extent == e) && (c.locator.offset == p))
+    is_place (record { extent = e; offset = p }) (place_of_checked c) ≡ ((c.locator.extent == e) && (c.locator.offset == p))
 named_there e p c =
     both (nat_cmp c.locator.extent e) (nat_cmp c.locator.offset p)
     ∙ ap₂ (λ a b. a && b) (same_number c.locator.extent e) (same_number c.locator.offset p)
@@ -65,24 +65,24 @@ abbrev pub sound_ones : List Checked → List Checked
 sound_ones checked = filter (λ c. is_sound c.status) checked
 
 one_named : (c : Checked) (cs : List Checked) (e p : ℕ) (b : Bool) → is_sound c.status ≡ b →
-    count_by (is_place (record { extent = e; offset = p })) (map place_named (sound_ones cs)) ≡ sound_at cs e p →
-    count_by (is_place (record { extent = e; offset = p })) (map place_named (sound_ones (c ∷ cs))) ≡ sound_at (c ∷ cs) e p
+    count_by (is_place (record { extent = e; offset = p })) (map place_of_checked (sound_ones cs)) ≡ sound_at cs e p →
+    count_by (is_place (record { extent = e; offset = p })) (map place_of_checked (sound_ones (c ∷ cs))) ≡ sound_at (c ∷ cs) e p
 one_named c cs e p true sound rest =
     let there : ChunkAt → Bool = is_place (record { extent = e; offset = p }) in
-    ap (λ b. count_by there (map place_named (cond b (c ∷ sound_ones cs) (sound_ones cs)))) sound
-    ∙ sum_by-cons (λ t. cond (there t) 1 0) (place_named c) (map place_named (sound_ones cs))
+    ap (λ b. count_by there (map place_of_checked (cond b (c ∷ sound_ones cs) (sound_ones cs)))) sound
+    ∙ sum_by-cons (λ t. cond (there t) 1 0) (place_of_checked c) (map place_of_checked (sound_ones cs))
     ∙ ap₂ (λ b n. cond b 1 0 + n) (named_there e p c) rest
     ∙ sym
     (sum_by-cons (λ c. cond (is_sound_at e p c) 1 0) c cs ∙ ap (λ b. cond (b && (c.locator.extent == e) && (c.locator.offset == p)) 1 0 + sound_at cs e p) sound)
 one_named c cs e p false other rest =
     let there : ChunkAt → Bool = is_place (record { extent = e; offset = p }) in
-    ap (λ b. count_by there (map place_named (cond b (c ∷ sound_ones cs) (sound_ones cs)))) other
+    ap (λ b. count_by there (map place_of_checked (cond b (c ∷ sound_ones cs) (sound_ones cs)))) other
     ∙ rest
     ∙ sym (count_out (is_sound_at e p) c cs (ap (λ b. b && (c.locator.extent == e) && (c.locator.offset == p)) other))
 
 -- how many sound locators point to a place is how often it is among their places
 pub count_named : (checked : List Checked) (e p : ℕ) →
-    count_by (is_place (record { extent = e; offset = p })) (map place_named (sound_ones checked)) ≡ sound_at checked e p
+    count_by (is_place (record { extent = e; offset = p })) (map place_of_checked (sound_ones checked)) ≡ sound_at checked e p
 count_named [] e p = refl
 count_named (c ∷ cs) e p = one_named c cs e p (is_sound c.status) refl (count_named cs e p)
 
@@ -94,8 +94,8 @@ sound_in_order checked starts same s =
     ∙ count_named checked s.extent s.offset
 
 -- a search finds a place exactly if it is there
-pub found_counts : (starts : List ChunkAt) (s : ChunkAt) (r : Result ℕ ℕ) → IsSorted place_cmp starts →
-    IsSearchInRange r (length starts) → IsBinarySearchResult (λ t. place_cmp t s) starts r →
+pub found_counts : (starts : List ChunkAt) (s : ChunkAt) (r : Result ℕ ℕ) → IsSorted chunk_at_cmp starts →
+    IsSearchInRange r (length starts) → IsBinarySearchResult (λ t. chunk_at_cmp t s) starts r →
     is_ok r ≡ nat_lt 0 (count_by (is_place s) starts)
 found_counts starts s (Ok i) sorted inside found =
     sym (sym (any_counts (is_place s) starts) ∙ any_at (is_place s) starts i inside (λ d. ap is_eq (found d)))

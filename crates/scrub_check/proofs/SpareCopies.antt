@@ -95,7 +95,7 @@ copies_between found l below through lows highs le inside =
 
 -- ---- what is wanted
 
--- a filter behind a weaker one
+-- a filter after a weaker one
 kept : {X : Type 0} (p q : X → Bool) (xs : List X) → ((x : X) → p x ≡ true → q x ≡ true) → filter p (filter q xs) ≡ filter p xs
 kept p q [] weaker = refl
 kept {X} p q (x ∷ xs) weaker = one (q x) (p x) refl refl (kept p q xs weaker)

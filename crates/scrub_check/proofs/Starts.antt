@@ -11,7 +11,7 @@ use Rattle.scrub_scan.specs.Tiling.{Joins, IsTiling}
 use Rattle.scrub_scan.proofs.Tilings.{advances, one_tiling}
 use Rattle.scrub_check.specs.Status.{BeginsAt}
 
--- they rise
+-- they ascend
 pub starts_rise : (x : Extent) (items : List Item) → 0 < x.page → IsTiling x items → IsStrictlyIncreasing (map start_of items)
 starts_rise x items pos h = go 0 items h.joined h.each
   where

@@ -14,7 +14,7 @@ use Rattle.scrub_check.specs.declared.statuses.checked.Checked.{Checked}
 use Rattle.scrub_check.specs.Checked.{is_sound}
 use Rattle.scrub_check.specs.Live.{live_chunks, live_bytes, size_of}
 
--- an extent to reclaim, how many bytes that frees, and its live chunks, which are kept, rising
+-- an extent to reclaim, how many bytes that frees, and its live chunks, which are kept, ascending
 pub record CandidateValue : Type 0 where
   pub extent : ℕ
   pub free : ℕ

@@ -1,5 +1,5 @@
 -- The named locators with their statuses, and the lists that are drawn from them alone.
-use Rattle.std.specs.Prelude.{◌≡◌, ◌&&◌, Bool, true, false, not, List, Option, MatchOption, All, AllPairs, Contains, map}
+use Rattle.std.specs.Prelude.{◌≡◌, ◌&&◌, Bool, true, false, not, List, All, AllPairs, Contains, map}
 use Rattle.std.specs.Str.{bytes_eq}
 use Rattle.std.specs.List.{filter, list_any}
 use Rattle.scrub_disk.specs.Image.{Image}
@@ -12,7 +12,6 @@ use Rattle.scrub_check.specs.declared.named.Named.{Named}
 use Rattle.scrub_check.specs.declared.statuses.checked.Checked.{Checked}
 use Rattle.scrub_check.specs.declared.statuses.status.Status.{Status}
 use Rattle.scrub_check.specs.declared.statuses.status.Status.TheVariants.{Hidden, Sound}
-use Rattle.scrub_check.specs.Open.{IsOpen}
 use Rattle.scrub_check.specs.Status.{HasStatusIn}
 
 -- a checked locator without its status: the locator and its owner
@@ -28,14 +27,10 @@ pub record IsChecked (image : Image) (plan : PlanValue) (name : Named) (c : Chec
 abbrev pub HaveStatuses : Image → PlanValue → List Checked → Type 0
 HaveStatuses image plan checked = All (λ c. HasStatusIn image plan c.locator c.status) checked
 
--- what is known of a named locator before its place is read: its status, or that its place has to be read
-abbrev pub IsKnownBefore : Image → PlanValue → Named → Option Status → Type 0
-IsKnownBefore image plan name known = MatchOption known (IsOpen image plan name.locator) (HasStatusIn image plan name.locator)
-
 -- these named locators in their order, each with its status
 pub record AreChecked (image : Image) (plan : PlanValue) (names : List Named) (checked : List Checked) : Type 0 where
   pub same : map named_of checked ≡ names
-  pub statuses : HaveStatuses image plan checked
+  pub statuses : All (λ c. HasStatusIn image plan c.locator c.status) checked
 
 -- the status is sound
 abbrev pub is_sound : Status → Bool
@@ -68,7 +63,7 @@ is_owned_by id (Run k) = false
 abbrev pub is_broken : List Checked → ShardId → Bool
 is_broken checked id = list_any (λ c. is_owned_by id c.owner && is_dangling c.status) checked
 
--- the broken shards, all of them, in strictly rising order of identifier
+-- the broken shards, all of them, in strictly ascending order of identifier
 pub record AreBrokenShards (checked : List Checked) (ids : List ShardId) : Type 0 where
   pub rising : AllPairs IsBelow ids
   pub each : All (λ id. is_broken checked id ≡ true) ids

@@ -11,22 +11,12 @@ pub mod Shared
 pub mod Candidates
 pub mod Spares
 pub mod ChunkForms
-pub mod Kept
+pub mod SafeCandidates
 -- Files of other crates that public clauses cite.
 pub use Rattle.scrub_disk.specs.Image
 pub use Rattle.scrub_super.specs.Plan
 pub use Rattle.scrub_scan.specs.Scanned
 pub use Rattle.scrub_scan.specs.AllFindings
 pub use Rattle.scrub_merge.specs.Binding
--- Steps of the code.
-pub mod OneScan
-pub mod Places
-pub mod Judged
-pub mod Open
-pub mod JudgedRun
-pub mod Distinct
-pub mod ChunkUuids
-pub mod BrokenShards
-pub mod SoundPlaces
-pub mod LocatorIndex
-pub mod LiveAndOrphans
+-- Steps of the code, and lemmas that types need.
+pub mod steps

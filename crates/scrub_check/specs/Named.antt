@@ -17,5 +17,5 @@ named_by_shard b = map (λ l. record { owner = Shard b.id; locator = l }) b.loca
 
 -- the named locators: those of the runs, in order, and then those of the shards, by identifier and in the binding's
 -- order
-abbrev pub named : List Locator → List BindingValue → List Named
-named runs bindings = named_by_runs 0 runs ++ flat_map named_by_shard bindings
+abbrev pub named_locators : List Locator → List BindingValue → List Named
+named_locators runs bindings = named_by_runs 0 runs ++ flat_map named_by_shard bindings

@@ -1,7 +1,7 @@
 -- Which index runs are read, and what becomes of the others.
-use Rattle.std.specs.Prelude.{◌≡◌, ◌≤◌, ℕ, List, Option, Some, None, MatchBool, MatchOption}
+use Rattle.std.specs.Prelude.{◌≡◌, ◌≤◌, ℕ, false, List, Option, Some, None}
 use Rattle.std.specs.Prelude.{length as len}
-use Rattle.std.specs.List.{AllZip}
+use Rattle.std.specs.List.{AllZip, zip}
 use Rattle.scrub_disk.specs.Image.{Image}
 use Rattle.scrub_frame.specs.declared.locator.Locator.{Locator}
 use Rattle.scrub_super.specs.Plan.{PlanValue, pointer_of}
@@ -9,48 +9,25 @@ use Rattle.scrub_run.specs.Entry.{EntryValue}
 use Rattle.scrub_run.specs.Run.{IsRun}
 use Rattle.scrub_merge.specs.Binding.{Runs}
 use Rattle.scrub_check.specs.declared.statuses.status.Status.{Status}
-use Rattle.scrub_check.specs.declared.statuses.status.Status.TheVariants.{OutOfRange}
 use Rattle.scrub_check.specs.declared.runs.RunState.{RunState}
 use Rattle.scrub_check.specs.declared.runs.RunState.TheVariants.{Read, BadChunk, NotARun}
-use Rattle.scrub_check.specs.Status.{NamesChunk, HasStatus, HasStatusInRetired, HasStatusIn, is_retired}
+use Rattle.scrub_check.specs.Status.{NamesChunk, HasStatusIn, is_retired}
 
--- the locator names a chunk, be it hidden or sound, whose payload is the run of these entries
-pub record NamesRun (image : Image) (w : ℕ) (l : Locator) (entries : List EntryValue) : Type 0 where
-  pub names : NamesChunk image w l
-  pub run : IsRun names.payload entries
+-- by a plan the locator names a chunk: its extent isn't retired, and has a pointer, under which the chunk is there
+pub record NamesChunkIn (image : Image) (plan : PlanValue) (l : Locator) : Type 0 where
+  pub in_use : is_retired plan l.extent ≡ false
+  pub pointer : ℕ
+  pub has_pointer : pointer_of plan l.extent ≡ Some pointer
+  pub chunk : NamesChunk image pointer l
 
--- the entries of the run that a locator names, or None if it names none
-abbrev pub IsRunOf : Image → ℕ → Locator → Option (List EntryValue) → Type 0
-IsRunOf image w l (Some entries) = NamesRun image w l entries
-IsRunOf image w l None = (entries : List EntryValue) → ¬ NamesRun image w l entries
-
--- what became of a run: read, lost with the status of its chunk, or lost since the payload is no run
-abbrev pub HasRunState : Image → ℕ → Locator → RunState → Type 0
-HasRunState image w l Read = (entries : List EntryValue) × NamesRun image w l entries
-HasRunState image w l (BadChunk status) = HasStatus image w l status × ¬ NamesChunk image w l
-HasRunState image w l NotARun = NamesChunk image w l × ((entries : List EntryValue) → ¬ NamesRun image w l entries)
-
--- the run of a locator into an extent in use, under the plan's write pointer of it, or None if it has none
-abbrev pub IsRunInUse : Image → PlanValue → Locator → Option (List EntryValue) → Type 0
-IsRunInUse image plan l run = MatchOption (pointer_of plan l.extent) (run ≡ None) (λ w. IsRunOf image w l run)
-
--- what became of a run in an extent in use, under the plan's write pointer of it, or lost as out of range if it has
--- none
-abbrev pub HasRunStateInUse : Image → PlanValue → Locator → RunState → Type 0
-HasRunStateInUse image plan l state = MatchOption (pointer_of plan l.extent) (state ≡ BadChunk OutOfRange) (λ w. HasRunState image w l state)
-
--- a run in a retired extent is lost with the status of its locator
-abbrev pub IsLostInRetired : Image → Locator → RunState → Type 0
-IsLostInRetired image l (BadChunk status) = HasStatusInRetired image l status
-IsLostInRetired image l _ = ⊥
-
--- the run of a locator by a plan, which says whether its extent is retired
-abbrev pub IsRunIn : Image → PlanValue → Locator → Option (List EntryValue) → Type 0
-IsRunIn image plan l run = MatchBool (is_retired plan l.extent) (run ≡ None) (IsRunInUse image plan l run)
-
--- what became of a run by a plan, which says whether its extent is retired
-abbrev pub HasRunStateIn : Image → PlanValue → Locator → RunState → Type 0
-HasRunStateIn image plan l state = MatchBool (is_retired plan l.extent) (IsLostInRetired image l state) (HasRunStateInUse image plan l state)
+-- what was read of the run of a locator, and what became of it: its chunk's payload is the run of these entries, or is
+-- no run; or the locator names no chunk, and the run is lost with the locator's status
+abbrev pub HasRunIn : Image → PlanValue → Locator → Option (List EntryValue) → RunState → Type 0
+HasRunIn image plan l (Some entries) Read = (names : NamesChunkIn image plan l) × IsRun names.chunk.payload entries
+HasRunIn image plan l None NotARun =
+    (names : NamesChunkIn image plan l) × ((entries : List EntryValue) → ¬ IsRun names.chunk.payload entries)
+HasRunIn image plan l None (BadChunk status) = HasStatusIn image plan l status × ¬ NamesChunkIn image plan l
+HasRunIn image plan l _ _ = ⊥
 
 -- index runs, newest first: the entries of each, None if it is lost, and what became of each
 pub record ReadRunsValue : Type 0 where
@@ -64,9 +41,8 @@ pub record AreCounted (r : ReadRunsValue) : Type 0 where
 
 -- the runs that a plan names, in its order: what was read of each, and what became of it
 pub record AreReadRuns (image : Image) (plan : PlanValue) (r : ReadRunsValue) : Type 0 where
-  pub count : len r.runs ≡ len plan.runs
-  pub runs : AllZip (IsRunIn image plan) plan.runs r.runs
-  pub states : AllZip (HasRunStateIn image plan) plan.runs r.states
+  pub same : len r.states ≡ len r.runs
+  pub each : AllZip (λ l x. HasRunIn image plan l x.0 x.1) plan.runs (zip r.runs r.states)
 
 -- the statuses of the locators of the runs that a plan names
 abbrev pub AreRunStatuses : Image → PlanValue → List Status → Type 0

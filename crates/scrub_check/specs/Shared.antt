@@ -16,7 +16,7 @@ pub record IsShared (checked : List Checked) (s : SharedPlace) : Type 0 where
   pub counted : s.count ≡ sound_at checked s.extent s.offset
   pub several : 2 ≤ s.count
 
--- the shared places, all of them, strictly rising by extent and then by place
+-- the shared places, all of them, strictly ascending by extent and then by place
 pub record AreShared (checked : List Checked) (places : List SharedPlace) : Type 0 where
   pub rising : IsStrictlySortedBy by_place places
   pub each : All (IsShared checked) places

@@ -17,25 +17,25 @@ use Rattle.scrub_scan.specs.Tiling.{IsTiling}
 use Rattle.scrub_check.specs.declared.statuses.status.Status.{Status}
 use Rattle.scrub_check.specs.declared.statuses.status.Status.TheVariants.{OutOfRange, Retired, PastPointer, Unreadable, NoFrame, WrongUuid, WrongLength, WrongDigest, Hidden, Sound}
 
--- the least place at which the frame that a locator names would end
+-- where the least frame that a locator may name would end: a plain one with a payload of its length
 abbrev pub end_of : Locator → ℕ
 end_of l = l.offset + l.length + least_overhead
 
--- the locator's frame would be in an extent that chunks are written to
+-- the locator's least frame would be in an extent that chunks are written to
 pub record InRange (g : Geometry) (l : Locator) : Type 0 where
   pub from_one : 1 ≤ l.extent
   pub in_disk : l.extent < g.extents
   pub in_extent : end_of l ≤ extent_bytes g
 
--- the locator's frame would end at or before the pointer
+-- the locator's least frame would end at or before the pointer
 abbrev pub BelowPointer : ℕ → Locator → Type 0
 BelowPointer w l = end_of l ≤ w
 
--- one byte of the locator's frame can't be read
+-- one byte of the locator's least frame can't be read
 abbrev pub HasUnreadableByte : Image → Locator → Type 0
 HasUnreadableByte image l = HasGap (byte image l.extent) l.offset (l.length + least_overhead)
 
--- the locator's frame would be in range, at or before the pointer, and on readable pages
+-- the locator's least frame would be in range, at or before the pointer, and on readable pages
 pub record CanStand (image : Image) (w : ℕ) (l : Locator) : Type 0 where
   pub in_range : InRange image.geometry l
   pub below : BelowPointer w l
@@ -78,7 +78,8 @@ HasStatus image w l Sound = NamesChunk image w l × BeginsAt (extent_of image l.
 abbrev pub is_retired : PlanValue → ℕ → Bool
 is_retired plan e = list_any (λ r. r == e) plan.retired
 
--- the status of a locator into a retired extent, whatever is there: out of range, or retired
+-- the status of a locator into a retired extent, whatever is there: out of range if it is, or else retired; no other
+-- status applies
 abbrev pub HasStatusInRetired : Image → Locator → Status → Type 0
 HasStatusInRetired image l OutOfRange = ¬ InRange image.geometry l
 HasStatusInRetired image l Retired = InRange image.geometry l
@@ -88,7 +89,7 @@ HasStatusInRetired image l _ = ⊥
 abbrev pub HasStatusInUse : Image → PlanValue → Locator → Status → Type 0
 HasStatusInUse image plan l status = MatchOption (pointer_of plan l.extent) (status ≡ OutOfRange) (λ w. HasStatus image w l status)
 
--- the status of a locator by a plan, which says whether its extent is retired
+-- the status of a locator by a plan: if the plan retires its extent, that in a retired extent, or else that in use
 abbrev pub HasStatusIn : Image → PlanValue → Locator → Status → Type 0
 HasStatusIn image plan l status = MatchBool (is_retired plan l.extent) (HasStatusInRetired image l status) (HasStatusInUse image plan l status)
 

@@ -1,5 +1,5 @@
-//! The status of each locator of a disk, and what follows from the statuses: readable index runs, named locators, live
-//! chunks, broken shards, and extents that may be reclaimed.
+//! The status of each locator of a disk, and what follows from the statuses: readable index runs, named
+//! locators, live chunks, broken shards, and extents that may be reclaimed.
 #![tactic(auto)]
 
 pub mod lists;

@@ -1,7 +1,7 @@
 //! The locators that a disk names, and who names them. See `status` for their statuses.
 
 ghost use Rattle.std.specs.Prelude.{◌≡◌, ◌<◌, ◌^◌, ◌++◌, IfOk, OnOk, length};
-ghost use Rattle.scrub_check.specs.Named.{named_by_runs, named_by_shard, named};
+ghost use Rattle.scrub_check.specs.Named.{named_by_runs, named_by_shard, named_locators};
 
 use scrub_disk::OutOfMemory;
 use scrub_frame::Locator;
@@ -56,10 +56,10 @@ pub fn name_shard(named: &mut Vec<Named>, binding: &Binding) -> Result<(), OutOf
     Ok(())
 }
 
-/// The locators of the index runs in their order, lost runs included, and then those of the shard map, by identifier and
-/// in the binding's order.
+/// The locators of the index runs in their order, lost runs included, and then those of the shard map, by
+/// identifier and in the binding's order.
 pub fn named_locators(alloc: Global, plan: &Plan, map: &ShardMap) -> Result<Vec<Named>, OutOfMemory>
-    ensures { IfOk result (λ v. v.items ≡ named plan.now.runs map.now) }
+    ensures { IfOk result (λ v. v.items ≡ named_locators plan.now.runs map.now) }
 {
     let mut named = name_runs(alloc, plan.runs())?;
     for binding in map.bindings() {

@@ -1,10 +1,15 @@
-//! Which index runs can be read, and why the others are lost. See `scrub_merge` for the entries of several runs.
+//! Which index runs can be read, and why the others are lost. See `scrub_merge` for the entries of several
+//! runs.
 
-ghost use Rattle.std.specs.Prelude.{◌≡◌, IfOk, map as list_map};
+ghost use Rattle.std.specs.Prelude.{◌≡◌, ◌↔◌, IfOk, List, Option, map as list_map};
+ghost use Rattle.scrub_disk.specs.Image.{Image};
+ghost use Rattle.scrub_super.specs.Plan.{PlanValue};
+ghost use Rattle.scrub_run.specs.Entry.{EntryValue};
 ghost use Rattle.scrub_check.specs.WholeScan.{IsWholeScan};
 ghost use Rattle.scrub_check.specs.ChunkRun.{StandsThere, HasPayloadThere, IsStateOf};
-ghost use Rattle.scrub_check.specs.JudgedRun.{IsJudgedRun};
-ghost use Rattle.scrub_check.specs.Runs.{AreReadRuns, AreRunStatuses};
+ghost use Rattle.scrub_check.specs.steps.RunWithStatus.{IsRunWithStatus};
+ghost use Rattle.scrub_check.specs.steps.RunsApart.{AreReadApart, HasRunStateIn, IsRunIn};
+ghost use Rattle.scrub_check.specs.Runs.{AreReadRuns, AreRunStatuses, HasRunIn, ReadRunsValue};
 
 use crate::statuses::status::{Status, status_of};
 use rayon::current_num_threads;
@@ -78,8 +83,8 @@ impl ReadRuns {
     }
 }
 
-/// The payload of the chunk that a locator names, which has to be there: the locator is sound or hidden. The locator gives all of
-/// the frame but its form, which the head says. The payload isn't hashed again.
+/// The payload of the chunk that a locator names, which has to be there: the locator is sound or hidden. The
+/// locator gives all of the frame but its form, which the head says. The payload isn't hashed again.
 pub fn payload_at<D: PageSource>(
     alloc: Global,
     disk: &D,
@@ -122,30 +127,30 @@ fn run_in_chunk<D: PageSource>(
 
 /// An index run that was looked for: the run, what became of it, and the status of its locator.
 #[derive(Drop)]
-pub(crate) struct JudgedRun {
+pub(crate) struct RunWithStatus {
     run: Option<Run>,
     state: RunState,
     status: Status,
 }
 
 /// The run that a locator names, what became of it, and the status of the locator.
-fn judged_run<D: PageSource>(
+fn run_with_status<D: PageSource>(
     alloc: Global,
     disk: &D,
     plan: &Plan,
     all: &AllFindings<'_, D>,
     locator: &Locator,
-) -> Result<JudgedRun, OutOfMemory>
+) -> Result<RunWithStatus, OutOfMemory>
     requires { IsWholeScan (D.image disk.now) plan.now all.now.extents }
-    ensures { IfOk result (IsJudgedRun (D.image disk.now) plan.now locator.now) }
+    ensures { IfOk result (IsRunWithStatus (D.image disk.now) plan.now locator.now) }
 {
     let status = status_of(alloc, disk, plan, all, locator)?;
     match status {
         Status::Sound | Status::Hidden => {
             let (run, state) = run_in_chunk(alloc, disk, locator)?;
-            Ok(JudgedRun { run, state, status })
+            Ok(RunWithStatus { run, state, status })
         }
-        _ => Ok(JudgedRun {
+        _ => Ok(RunWithStatus {
             run: None,
             state: RunState::BadChunk(status),
             status,
@@ -154,9 +159,9 @@ fn judged_run<D: PageSource>(
 }
 
 /// These runs, what became of each, and the statuses of their locators, in three lists.
-fn unzipped(
+fn unzip_runs(
     alloc: Global,
-    judged: Vec<JudgedRun>,
+    judged: Vec<RunWithStatus>,
 ) -> Result<(Vec<Option<Run>>, Vec<RunState>, Vec<Status>), OutOfMemory>
     ensures runs { IfOk result (λ r. r.0.items ≡ list_map (λ one. one.run) judged.items) }
     ensures states { IfOk result (λ r. r.1.items ≡ list_map (λ one. one.state) judged.items) }
@@ -186,15 +191,15 @@ pub fn read_runs<D: PageSource>(
     let locators = plan.runs();
     let mut judged = Vec::with_capacity(alloc, locators.len())?;
     for locator in locators {
-        let one = judged_run(alloc, disk, plan, all, locator)?;
+        let one = run_with_status(alloc, disk, plan, all, locator)?;
         judged.push(one)?;
     }
-    let (runs, states, _) = unzipped(alloc, judged)?;
+    let (runs, states, _) = unzip_runs(alloc, judged)?;
     Ok(ReadRuns { runs, states })
 }
 
-/// What `read_runs` gives, and the status of each run's locator, by as many threads as there are processors at most. Each
-/// holds one payload at a time.
+/// What `read_runs` gives, and the status of each run's locator, by as many threads as there are processors
+/// at most. Each holds one payload at a time.
 pub fn read_all_runs<R: Threads + Sync, D: PageSource>(
     rt: &R,
     alloc: Global,
@@ -211,12 +216,22 @@ pub fn read_all_runs<R: Threads + Sync, D: PageSource>(
         .par_iter()
         .with_min_len(locators.len().div_ceil(current_num_threads(rt)))
         .map(
-            |locator: &Locator| -> Result<JudgedRun, OutOfMemory>
+            |locator: &Locator| -> Result<RunWithStatus, OutOfMemory>
                 requires { IsWholeScan (D.image disk.now) plan.now all.now.extents }
-                ensures { IfOk result (IsJudgedRun (D.image disk.entry.now) plan.entry.now locator.now) }
-            { judged_run(alloc, disk, plan, all, locator) },
+                ensures { IfOk result (IsRunWithStatus (D.image disk.entry.now) plan.entry.now locator.now) }
+            { run_with_status(alloc, disk, plan, all, locator) },
         )
-        .collect::<Result<Vec<JudgedRun>, OutOfMemory>>(rt, alloc)??;
-    let (runs, states, statuses) = unzipped(alloc, judged)?;
+        .collect::<Result<Vec<RunWithStatus>, OutOfMemory>>(rt, alloc)??;
+    let (runs, states, statuses) = unzip_runs(alloc, judged)?;
     Ok((ReadRuns { runs, states }, statuses))
 }
+
+/// A law: what is said of a run together with what became of it is what is said of both apart.
+pub fn runs_and_states_apart()
+    ensures one { (image : Image) (plan : PlanValue) (locator : Locator) (run : Option (List EntryValue))
+        (state : RunState) →
+        HasRunIn image plan locator run state
+        ↔ IsRunIn image plan locator run × HasRunStateIn image plan locator state }
+    ensures all { (image : Image) (plan : PlanValue) (read : ReadRunsValue) →
+        AreReadRuns image plan read ↔ AreReadApart image plan read }
+{}

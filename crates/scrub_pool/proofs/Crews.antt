@@ -8,7 +8,7 @@ use Rattle.scrub_scan.specs.declared.extent_result.ExtentResult.{ExtentResult}
 use Rattle.scrub_scan.specs.Scanned.{result_image}
 use Rattle.scrub_book.specs.Worker.{held_by, results_of}
 use Rattle.scrub_pool.specs.declared.crew.Member.{Member}
-use Rattle.scrub_pool.specs.Working.{AreResults, AreDone}
+use Rattle.scrub_pool.specs.steps.Working.{AreResults, AreDone}
 
 -- one more element
 pub one_longer : {X : Type 0} (xs ys : List X) (x : X) → ys ≡ xs ++ x ∷ [] → length ys ≡ length xs + 1

@@ -10,10 +10,10 @@ use Rattle.scrub_disk.specs.Image.{Image}
 use Rattle.scrub_super.specs.Plan.{PlanValue, pointer_of}
 use Rattle.scrub_scan.specs.declared.extent_result.ExtentResult.{ExtentResult}
 use Rattle.scrub_scan.specs.Scanned.{result_image}
-use Rattle.scrub_book.specs.Extents.{extents_of}
+use Rattle.scrub_book.specs.Extents.{extents_in}
 use Rattle.scrub_pool.specs.Passes.{PassValue, one_list, taken_in, HasTakenAll}
 use Rattle.scrub_pool.specs.Takings.{IsPartition}
-use Rattle.scrub_pool.specs.Working.{AreResults}
+use Rattle.scrub_pool.specs.steps.Working.{AreResults}
 
 -- one more list
 pub one_list_push : (lists : List (List ℕ)) (xs : List ℕ) → one_list (lists ++ xs ∷ []) ≡ one_list lists ++ xs
@@ -50,14 +50,14 @@ all_first P xs rest x is all = All-head P x rest (rw is at all)
 module _ {D : Type 0} {s : _} where
   -- the extents of more results
   pub extents_append : (all found more : List (ExtentResult D s)) (xs ys : List ℕ) → all ≡ found ++ more →
-      extents_of found ≡ xs → extents_of more ≡ ys → extents_of all ≡ xs ++ ys
+      extents_in found ≡ xs → extents_in more ≡ ys → extents_in all ≡ xs ++ ys
   extents_append all found more xs ys is first then =
-      ap (λ (rs : List (ExtentResult D s)). extents_of rs) is ∙ map-append _ found more ∙ (λ i. first i ++ then i)
+      ap (λ (rs : List (ExtentResult D s)). extents_in rs) is ∙ map-append _ found more ∙ (λ i. first i ++ then i)
 
   -- the results of the passes joined into the first, and its own, are of all planned extents
   pub all_scanned : (pass : PassValue) (all theirs mine : List (ExtentResult D s)) (planned : List ℕ) →
-      all ≡ theirs ++ mine → extents_of theirs ≡ one_list pass.joined → extents_of mine ≡ pass.own →
-      pass.planned ≡ planned → HasTakenAll pass → IsPermutation (extents_of all) planned
+      all ≡ theirs ++ mine → extents_in theirs ≡ one_list pass.joined → extents_in mine ≡ pass.own →
+      pass.planned ≡ planned → HasTakenAll pass → IsPermutation (extents_in all) planned
   all_scanned pass all theirs mine planned is joined own same whole =
       rw (extents_append all theirs mine (one_list pass.joined) pass.own is joined own)
       (IsPermutation-trans (one_list pass.joined ++ pass.own) (taken_in pass) planned (IsPermutation-append_comm (one_list pass.joined) pass.own) (rw same at whole))

@@ -1,4 +1,4 @@
--- Rising numbers, cut and extended.
+-- Ascending numbers, cut and extended.
 use Rattle.std.proofs.Common.{◌≡◌, ◌<◌, ◌+◌, ◌++◌, ◌∷◌, ◌∙◌, ℕ, List, [], All, length, get_or, take, arith, refl, ap, length-append, inl, inr}
 use Rattle.std.specs.List.Sorted.{IsStrictlyIncreasing}
 use Rattle.std.proofs.lemmas.Bool.{cases_lt}
@@ -10,7 +10,7 @@ at_end : (xs ys : List ℕ) (x d : ℕ) → get_or (xs ++ x ∷ ys) (length xs) 
 at_end [] ys x d = refl
 at_end (y ∷ xs) ys x d = at_end xs ys x d
 
--- among rising numbers, those before x are below it
+-- among ascending numbers, those before x are below it
 pub below_next : (xs ys : List ℕ) (x : ℕ) → IsStrictlyIncreasing (xs ++ x ∷ ys) → All (λ y. y < x) xs
 below_next xs ys x rising k d within =
     let long = length-append xs (x ∷ ys) in

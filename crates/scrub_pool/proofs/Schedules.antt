@@ -27,16 +27,16 @@ use Rattle.scrub_pool.specs.Takings.{IsPartition, AreTakenFrom, AreTakenInSomeSc
 abbrev Rise : List ℕ → Type 0
 Rise xs = AllPairs (λ x y. x < y) xs
 
--- the numbers after the first rise too
+-- the numbers after the first ascend too
 rest_rises : (x : ℕ) (xs : List ℕ) → Rise (x ∷ xs) → Rise xs
 rest_rises x xs rise i j d less within = rise (suc i) (suc j) d (omega (arith, less)) (omega (arith, within))
 
--- none of rising numbers is below the first
+-- none of ascending numbers is below the first
 first_is_least : (x : ℕ) (xs : List ℕ) (y : ℕ) → Rise (x ∷ xs) → Contains (x ∷ xs) y → x ≤ y
 first_is_least x xs y rise (zero, within, is) = omega (arith, is)
 first_is_least x xs y rise (suc k, within, is) = omega (arith, is, rise 0 (suc k) y (omega arith) within)
 
--- rising numbers begin with their least
+-- ascending numbers begin with their least
 least_is_first : (e : ℕ) (xs : List ℕ) → Rise xs → Contains xs e → ((x : ℕ) → Contains xs x → e ≤ x) →
     (rest : List ℕ) × (xs ≡ e ∷ rest)
 least_is_first e [] rise there least = absurd (omega (arith, there.1))
@@ -107,7 +107,7 @@ total f turns = sum_by (λ t. sum_by f t.coming) turns
 abbrev pool : List ℕ → List MemberValue → List Scanned → PoolState
 pool queue members arrivals = record { queue = queue; members = members; arrivals = arrivals }
 
--- the queue rises, what each member will take rises, and all of that is the queue
+-- the queue ascends, what each member will take ascends, and all of that is the queue
 record AreTurns (queue : List ℕ) (turns : List Turn) : Type 0 where
   queue_rises : Rise queue
   each_rises : All (λ t. Rise t.coming) turns

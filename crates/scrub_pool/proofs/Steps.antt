@@ -13,7 +13,7 @@ use Rattle.crossbeam_queue.proofs.Lists.{at_set, at_snoc}
 use Rattle.scrub_book.proofs.Counts.{one_for, contained_counts, counted_contained, permutation_of_sums}
 use Rattle.scrub_pool.specs.declared.rule.View.{View}
 use Rattle.scrub_pool.specs.Passes.{one_list}
-use Rattle.scrub_pool.specs.Account.{all_of, view_of, IsView, Accounts, IsTaken, AreAllTaken}
+use Rattle.scrub_pool.specs.steps.Account.{all_of, view_of, IsView, Accounts, IsTaken, AreAllTaken}
 use Rattle.scrub_pool.proofs.Rising.{below_next, rising_push}
 use Rattle.scrub_pool.proofs.Totals.{total_set, total_at, total_two, total_only}
 

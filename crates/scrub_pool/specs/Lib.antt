@@ -7,7 +7,5 @@ pub use Rattle.scrub_super.specs.Plan
 pub use Rattle.scrub_scan.specs.Scanned
 pub use Rattle.scrub_scan.specs.AllFindings
 pub use Rattle.scrub_book.specs.Pool
--- Steps of the code.
-pub mod Account
-pub mod Known
-pub mod Working
+-- Steps of the code, and lemmas that types need.
+pub mod steps

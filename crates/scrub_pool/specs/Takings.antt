@@ -12,7 +12,7 @@ pub record TakingsValue : Type 0 where
   pub lists : List (List ℕ)
   pub counted : ℕ
 
--- each list rises, and together they are the planned extents, each once, so each extent is in one list alone
+-- each list ascends, and together they are the planned extents, each once, so each extent is in one list alone
 pub record IsPartition (planned : List ℕ) (lists : List (List ℕ)) : Type 0 where
   pub rising : All IsStrictlyIncreasing lists
   pub whole : IsPermutation (one_list lists) planned

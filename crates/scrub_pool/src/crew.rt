@@ -3,7 +3,8 @@
 ghost use Rattle.std.specs.Thread.{IsSync};
 ghost use Rattle.std.specs.Prelude.{◌≡◌, ◌+◌, ◌<◌, None, [], All, length, IfSome, vec_len};
 ghost use Rattle.scrub_book.specs.Worker.{held_by, results_of};
-ghost use Rattle.scrub_pool.specs.Working.{IsPassFor, IsSamePart, IsAtWork, AreNewMembers, HasEnded, AreDone};
+ghost use Rattle.scrub_pool.specs.steps.Working.{IsPassFor, IsSamePart, IsAtWork, AreNewMembers, HasEnded};
+ghost use Rattle.scrub_pool.specs.steps.Working.{AreDone};
 
 use crate::extent_queue::TakePass;
 use crate::gate::Gate;
@@ -31,8 +32,8 @@ pub(crate) struct Member<'d, D: PageSource> {
     pub(crate) core: WorkerCore<'d, D>,
 }
 
-/// Runs a crew, which begins on a new thread, and one more worker, on this thread, at the same time. An empty crew starts no
-/// thread. A missing share means that memory ran out.
+/// Runs a crew, which begins on a new thread, and one more worker, on this thread, at the same time. An empty
+/// crew starts no thread. A missing share means that memory ran out.
 #[cycle(crew)]
 pub(crate) fn run_crew_and_worker<
     'd,
@@ -56,11 +57,14 @@ pub(crate) fn run_crew_and_worker<
     requires first { IsPassFor job.now.queue.now job.now.plan.now.planned first.old }
     requires nothing { first.old.own ≡ [] }
     requires crew { AreNewMembers job.now.queue.now job.now.plan.now.planned crew.items }
-    ensures members { All (λ m. HasEnded job.now.queue.now job.now.plan.now (D.image disk.now) m) result.0.0.items }
-    ensures theirs { IfSome result.0.1 (λ s. AreDone s.parts s.amount result.0.0.items × (vec_len result.0.0 ≡ vec_len crew)) }
+    ensures members { All (λ m. HasEnded job.now.queue.now job.now.plan.now (D.image disk.now) m)
+        result.0.0.items }
+    ensures theirs { IfSome result.0.1 (λ s.
+        AreDone s.parts s.amount result.0.0.items × (vec_len result.0.0 ≡ vec_len crew)) }
     ensures pass { IsSamePart first.old first.new }
     ensures core { IsAtWork job.now.queue.now job.now.plan.now (D.image disk.now) first.new result.1.0 }
-    ensures mine { IfSome result.1.1 (λ s. (held_by result.1.0 ≡ None) × (s.parts ≡ 1) × (s.amount ≡ length (results_of result.1.0))) }
+    ensures mine { IfSome result.1.1 (λ s.
+        (held_by result.1.0 ≡ None) × (s.parts ≡ 1) × (s.amount ≡ length (results_of result.1.0))) }
 {
     if crew.is_empty() {
         let none = run_crew(rt, disk, job, tally, crew);
@@ -73,8 +77,11 @@ pub(crate) fn run_crew_and_worker<
             requires sync { IsSync R.row }
             requires geometry { job.now.plan.now.geometry ≡ (D.image disk.now).geometry }
             requires crew { AreNewMembers job.now.queue.now job.now.plan.now.planned crew.items }
-            ensures members { All (λ m. HasEnded job.entry.now.queue.now job.entry.now.plan.now (D.image disk.entry.now) m) result.0.items }
-            ensures theirs { IfSome result.1 (λ s. AreDone s.parts s.amount result.0.items × (vec_len result.0 ≡ vec_len crew.entry)) }
+            ensures members { All (λ m.
+                HasEnded job.entry.now.queue.now job.entry.now.plan.now (D.image disk.entry.now) m)
+                result.0.items }
+            ensures theirs { IfSome result.1 (λ s.
+                AreDone s.parts s.amount result.0.items × (vec_len result.0 ≡ vec_len crew.entry)) }
         {
             let all = mem::replace(&mut crew, Vec::new(job.alloc));
             run_crew(rt, disk, job, tally, all)
@@ -84,14 +91,16 @@ pub(crate) fn run_crew_and_worker<
             requires first { IsPassFor job.now.queue.now job.now.plan.now.planned first.now }
             requires nothing { first.now.own ≡ [] }
             ensures pass { IsSamePart first.entry.now first.exit.now }
-            ensures core { IsAtWork job.entry.now.queue.now job.entry.now.plan.now (D.image disk.entry.now) first.exit.now result.0 }
-            ensures mine { IfSome result.1 (λ s. (held_by result.0 ≡ None) × (s.parts ≡ 1) × (s.amount ≡ length (results_of result.0))) }
+            ensures core { IsAtWork job.entry.now.queue.now job.entry.now.plan.now (D.image disk.entry.now)
+                first.exit.now result.0 }
+            ensures mine { IfSome result.1 (λ s. (held_by result.0 ≡ None) × (s.parts ≡ 1) ×
+                (s.amount ≡ length (results_of result.0))) }
         { run_worker(rt, disk, job, tally, number, first) },
     )
 }
 
-/// Runs all members of a crew at once: the last one on this thread, and those before it as a crew beside it, so that each
-/// has a thread of its own. A missing share means that memory ran out.
+/// Runs all members of a crew at once: the last one on this thread, and those before it as a crew beside it,
+/// so that each has a thread of its own. A missing share means that memory ran out.
 #[cycle(crew)]
 fn run_crew<'d, D: PageSource, L: Ledger + Send + Sync, G: Gate, R: Threads + Wait + Sync>(
     rt: &R,
@@ -102,8 +111,10 @@ fn run_crew<'d, D: PageSource, L: Ledger + Send + Sync, G: Gate, R: Threads + Wa
 ) -> (Vec<Member<'d, D>>, Option<Share<L>>)
     requires geometry { job.now.plan.now.geometry ≡ (D.image disk.now).geometry }
     requires crew { AreNewMembers job.now.queue.now job.now.plan.now.planned new_members.items }
-    ensures members { All (λ m. HasEnded job.now.queue.now job.now.plan.now (D.image disk.now) m) result.0.items }
-    ensures whole { IfSome result.1 (λ s. AreDone s.parts s.amount result.0.items × (vec_len result.0 ≡ vec_len new_members)) }
+    ensures members { All (λ m. HasEnded job.now.queue.now job.now.plan.now (D.image disk.now) m)
+        result.0.items }
+    ensures whole { IfSome result.1 (λ s.
+        AreDone s.parts s.amount result.0.items × (vec_len result.0 ≡ vec_len new_members)) }
 {
     let Some(NewMember { number, mut pass }) = new_members.pop() else {
         return (Vec::new(job.alloc), Some(nothing(rt, tally)));

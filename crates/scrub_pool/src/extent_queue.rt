@@ -1,10 +1,12 @@
-//! The queue of the planned extents, and the passes to take from it. For what is done with an extent, see `worker`.
+//! The queue of the planned extents, and the passes to take from it. For what is done with an extent, see
+//! `worker`.
 
-ghost use Rattle.std.specs.Prelude.{◌≡◌, ◌+◌, ◌-◌, ◌<◌, ◌≤◌, length, take, [], ◌∷◌, ◌++◌, true, false, All, IfOk, IfSome, IfNone, OnErr, Contains};
+ghost use Rattle.std.specs.Prelude.{◌≡◌, ◌+◌, ◌-◌, ◌<◌, ◌≤◌, length, take, [], ◌∷◌, ◌++◌, true, false, All};
+ghost use Rattle.std.specs.Prelude.{IfOk, IfSome, IfNone, OnErr, Contains};
 ghost use Rattle.std.specs.List.Sorted.{IsStrictlyIncreasing};
 ghost use Rattle.crossbeam_queue.specs.Passes.{IsSamePass, IsPassOf, ruled_capacity};
-ghost use Rattle.scrub_pool.specs.Account.{view_of};
-ghost use Rattle.scrub_pool.specs.Known.{known};
+ghost use Rattle.scrub_pool.specs.steps.Account.{view_of};
+ghost use Rattle.scrub_pool.specs.steps.PassModel.{known};
 
 use crate::OutOfMemory;
 use crate::rule::{Pushes, RuledQueue, Splits, Takes, View};
@@ -35,7 +37,7 @@ pub struct TakePass {
 }
 
 impl Model for TakePass {
-    ghost use Rattle.scrub_pool.specs.Known.{known, pass_value, IsPass};
+    ghost use Rattle.scrub_pool.specs.steps.PassModel.{known, pass_value, IsPass};
     ghost use Rattle.scrub_pool.specs.Passes.{PassValue};
 
     ghost Value = { PassValue };
@@ -48,7 +50,7 @@ impl Model for TakePass {
 impl ExtentQueue {
     ghost use Rattle.scrub_pool.specs.Passes.{new_pass, split_pass, IsTakenBy, HasTakenAll};
 
-    /// A queue of the planned extents, rising, and its first pass.
+    /// A queue of the planned extents, ascending, and its first pass.
     pub fn new<R: Wait>(
         rt: &R,
         alloc: Global,
@@ -62,8 +64,8 @@ impl ExtentQueue {
         Ok((ExtentQueue { queue }, TakePass { pass }))
     }
 
-    /// Splits a pass that took nothing off the first one, which has at most 64 out before. The two unused parameters are
-    /// part of the public signature.
+    /// Splits a pass that took nothing off the first one, which has at most 64 out before. The two unused
+    /// parameters are part of the public signature.
     pub fn split<R: Wait>(
         &self,
         _rt: &R,
@@ -81,21 +83,22 @@ impl ExtentQueue {
         Ok(TakePass { pass: other })
     }
 
-    /// Joins a pass back into the first one, from which it was split, with what was taken with it. The unused parameter is
-    /// part of the public signature. Takes no memory.
+    /// Joins a pass back into the first one, from which it was split, with what was taken with it. The unused
+    /// parameter is part of the public signature. Takes no memory.
     pub fn join<R: Wait>(&self, _rt: &R, pass: &mut TakePass, other: TakePass)
         requires queue { pass.old.queue ≡ self.now }
         requires other_queue { other.queue ≡ self.now }
         requires first { pass.old.first ≡ true }
         requires other_split { other.first ≡ false }
-        ensures { pass.new ≡ record pass.old { joined = pass.old.joined ++ other.own ∷ []; out = pass.old.out - 1 } }
+        ensures { pass.new ≡
+            record pass.old { joined = pass.old.joined ++ other.own ∷ []; out = pass.old.out - 1 } }
     {
         let TakePass { pass: theirs } = other;
         self.queue.absorb::<Splits>(&mut pass.pass, theirs);
     }
 
-    /// Takes the next extent out of the queue, above all that this pass took. None means that the queue was empty at one
-    /// moment of the call. Takes no memory.
+    /// Takes the next extent out of the queue, above all that this pass took. None means that the queue was
+    /// empty at one moment of the call. Takes no memory.
     pub fn take<R: Wait>(&self, rt: &R, pass: &mut TakePass) -> Option<u32>
         requires { pass.old.queue ≡ self.now }
         ensures taken { IfSome result (λ e. IsTakenBy pass.old e pass.new) }
@@ -123,8 +126,8 @@ fn fill<R: Wait>(rt: &R, queue: &RuledQueue, pass: &mut Pass<u32, View>, extents
     }
 }
 
-/// Pushes the planned extent with this number, after those before it. At every moment, what was pushed so far is a prefix of
-/// the planned extents.
+/// Pushes the planned extent with this number, after those before it. At every moment, what was pushed so far
+/// is a prefix of the planned extents.
 fn push_next<R: Wait>(
     rt: &R,
     queue: &RuledQueue,

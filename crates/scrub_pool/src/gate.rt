@@ -1,7 +1,7 @@
 //! What workers report while they scan.
 
-/// Called for each extent when it was taken and when it was counted, so that the caller can watch the workers, or hold them
-/// up.
+/// Called for each extent when it was taken and when it was counted, so that the caller can watch the
+/// workers, or hold them up.
 pub trait Gate: Sync {
     /// A worker took an extent, which it hasn't scanned yet.
     fn passed(&self, worker: u32, extent: u32);

@@ -1,5 +1,5 @@
-//! Workers that scan the planned extents of a disk at the same time, each taking from one shared queue. For what is decided
-//! without threads, see `scrub_book`.
+//! Workers that scan the planned extents of a disk at the same time, each taking from one shared queue. For
+//! what is decided without threads, see `scrub_book`.
 #![tactic(auto)]
 
 mod crew;

@@ -1,4 +1,5 @@
-//! The rule that the shared queue keeps at every moment, whatever the threads do. For who takes and when, see `worker`.
+//! The rule that the shared queue keeps at every moment, whatever the threads do. For who takes and when, see
+//! `worker`.
 
 use crossbeam_queue::RuledArrayQueue;
 use crossbeam_queue::protocol::{Join, Lesson, Outcome, Protocol, Split};
@@ -20,13 +21,13 @@ pub struct View {
     pub joined: LinkedList<LinkedList<u32>>,
 }
 
-/// What was pushed is what was taken, followed by what the queue holds; each extent that was taken was taken once, by one
-/// pass.
+/// What was pushed is what was taken, followed by what the queue holds; each extent that was taken was taken
+/// once, by one pass.
 pub struct Account;
 
 impl Protocol<u32, View> for Account {
     ghost use Rattle.std.specs.Prelude.{[]};
-    ghost use Rattle.scrub_pool.specs.Account.{Accounts, view_of};
+    ghost use Rattle.scrub_pool.specs.steps.Account.{Accounts, view_of};
 
     ghost holds = { Accounts };
 
@@ -38,7 +39,7 @@ pub struct Pushes;
 
 impl Outcome<u32, View> for Pushes {
     ghost use Rattle.std.specs.Prelude.{◌≡◌, ◌++◌, ◌∷◌, []};
-    ghost use Rattle.scrub_pool.specs.Account.{view_of};
+    ghost use Rattle.scrub_pool.specs.steps.Account.{view_of};
 
     ghost then = { λ v x w. w ≡ view_of v.firsts v.lives v.out (v.pushed ++ x ∷ []) v.own v.joined };
 }
@@ -53,13 +54,13 @@ impl Lesson<u32, View> for Pushes {
 pub struct Takes;
 
 impl Outcome<u32, View> for Takes {
-    ghost use Rattle.scrub_pool.specs.Account.{IsTaken};
+    ghost use Rattle.scrub_pool.specs.steps.Account.{IsTaken};
 
     ghost then = { IsTaken };
 }
 
 impl Lesson<u32, View> for Takes {
-    ghost use Rattle.scrub_pool.specs.Account.{AreAllTaken};
+    ghost use Rattle.scrub_pool.specs.steps.Account.{AreAllTaken};
 
     ghost fact = { AreAllTaken };
 }
@@ -69,7 +70,7 @@ pub struct Splits;
 
 impl Split<View> for Splits {
     ghost use Rattle.std.specs.Prelude.{◌+◌, []};
-    ghost use Rattle.scrub_pool.specs.Account.{view_of};
+    ghost use Rattle.scrub_pool.specs.steps.Account.{view_of};
 
     ghost left = { λ v. view_of v.firsts v.lives (v.out + 1) v.pushed v.own v.joined };
 
@@ -78,9 +79,10 @@ impl Split<View> for Splits {
 
 impl Join<View> for Splits {
     ghost use Rattle.std.specs.Prelude.{◌-◌, ◌++◌, ◌∷◌, []};
-    ghost use Rattle.scrub_pool.specs.Account.{view_of};
+    ghost use Rattle.scrub_pool.specs.steps.Account.{view_of};
 
-    ghost both = { λ v w. view_of v.firsts v.lives (v.out - 1) v.pushed v.own (v.joined ++ w.own ∷ w.joined) };
+    ghost both = { λ v w.
+        view_of v.firsts v.lives (v.out - 1) v.pushed v.own (v.joined ++ w.own ∷ w.joined) };
 
     ghost spent = { view_of 0 0 0 [] [] [] };
 }

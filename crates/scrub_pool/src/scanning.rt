@@ -1,13 +1,15 @@
 //! Scanning all planned extents with workers and the caller. For what one worker does, see `worker`.
 
-ghost use Rattle.std.specs.Prelude.{◌≡◌, ◌+◌, ◌-◌, ◌<◌, ◌≤◌, ◌++◌, [], ◌∷◌, true, None, All, length, OnOk, IfOk, sum_by, vec_len};
+ghost use Rattle.std.specs.Prelude.{◌≡◌, ◌+◌, ◌-◌, ◌<◌, ◌≤◌, ◌++◌, [], ◌∷◌, true, None, All, length, OnOk};
+ghost use Rattle.std.specs.Prelude.{IfOk, sum_by, vec_len};
 ghost use Rattle.std.specs.List.Sorted.{IsPermutation};
 ghost use Rattle.scrub_scan.specs.AllFindings.{AreAllFindings, IsOfImage};
-ghost use Rattle.scrub_book.specs.Extents.{extents_of};
+ghost use Rattle.scrub_book.specs.Extents.{extents_in};
 ghost use Rattle.scrub_book.specs.Worker.{held_by, taken_by, results_of};
 ghost use Rattle.scrub_pool.specs.Passes.{one_list, new_pass, IsFirst, IsFirstAlone};
 ghost use Rattle.scrub_pool.specs.Takings.{IsPartition};
-ghost use Rattle.scrub_pool.specs.Working.{AreResults, AreNewMembers, IsThrough, AreFoundBy, after_joins, lists_in};
+ghost use Rattle.scrub_pool.specs.steps.Working.{AreResults, AreNewMembers, IsThrough, AreFoundBy};
+ghost use Rattle.scrub_pool.specs.steps.Working.{after_joins, lists_in};
 
 use crate::OutOfMemory;
 use crate::crew::{Member, NewMember, run_crew_and_worker};
@@ -53,7 +55,8 @@ fn new_crew<R: Wait>(
     Ok(crew)
 }
 
-/// Retires a worker that holds no extent: appends its results to those found, and gives the list of what it took.
+/// Retires a worker that holds no extent: appends its results to those found, and gives the list of what it
+/// took.
 fn retire_worker<'d, D: PageSource>(
     core: WorkerCore<'d, D>,
     found: &mut Vec<ExtentResult<'d, D>>,
@@ -61,7 +64,7 @@ fn retire_worker<'d, D: PageSource>(
     requires free { held_by core ≡ None }
     ensures list { IfOk result (λ v. v.items ≡ taken_by core.entry) }
     ensures found { OnOk result (found.new.items ≡ found.old.items ++ results_of core.entry) }
-    ensures matched { OnOk result (extents_of (results_of core.entry) ≡ taken_by core.entry) }
+    ensures matched { OnOk result (extents_in (results_of core.entry) ≡ taken_by core.entry) }
 {
     let Ok(retired) = core.retire() else {
         unreachable!()
@@ -71,7 +74,8 @@ fn retire_worker<'d, D: PageSource>(
     Ok(taken)
 }
 
-/// Joins a member that has ended: joins its pass, appends its results to those found, and gives the list of what it took.
+/// Joins a member that has ended: joins its pass, appends its results to those found, and gives the list of
+/// what it took.
 fn join_member<'d, D: PageSource, R: Wait>(
     rt: &R,
     queue: &ExtentQueue,
@@ -82,10 +86,13 @@ fn join_member<'d, D: PageSource, R: Wait>(
     requires queue { first.old.queue ≡ queue.now }
     requires first { first.old.first ≡ true }
     requires member { IsThrough queue.now member }
-    ensures first { first.new ≡ record first.old { joined = first.old.joined ++ member.entry.pass.own ∷ []; out = first.old.out - 1 } }
+    ensures first { first.new ≡ record first.old {
+      joined = first.old.joined ++ member.entry.pass.own ∷ [];
+      out = first.old.out - 1;
+    } }
     ensures list { IfOk result (λ v. v.items ≡ taken_by member.entry.core) }
     ensures found { OnOk result (found.new.items ≡ found.old.items ++ results_of member.entry.core) }
-    ensures matched { OnOk result (extents_of (results_of member.entry.core) ≡ taken_by member.entry.core) }
+    ensures matched { OnOk result (extents_in (results_of member.entry.core) ≡ taken_by member.entry.core) }
 {
     let Member { pass, core } = member;
     queue.join(rt, first, pass);
@@ -106,10 +113,12 @@ fn join_members<'d, D: PageSource, R: Wait>(
     requires nothing { found.old.items ≡ [] }
     requires members { All (λ m. IsThrough queue.now m) members.items }
     ensures kept { IsFirst queue.now first.old.planned first.new }
-    ensures first { IfOk result (λ v. first.new ≡ after_joins first.old (lists_in v.items) (vec_len members.entry)) }
+    ensures first { IfOk result (λ v.
+        first.new ≡ after_joins first.old (lists_in v.items) (vec_len members.entry)) }
     ensures count { IfOk result (λ v. vec_len v ≡ vec_len members.entry) }
-    ensures found { IfOk result (λ v. extents_of found.new.items ≡ one_list (lists_in v.items)) }
-    ensures sum { OnOk result (length found.new.items ≡ sum_by (λ m. length (results_of m.core)) members.entry.items) }
+    ensures found { IfOk result (λ v. extents_in found.new.items ≡ one_list (lists_in v.items)) }
+    ensures sum { OnOk result (length found.new.items ≡
+        sum_by (λ m. length (results_of m.core)) members.entry.items) }
     ensures results { OnOk result (AreFoundBy members.entry.items found.new.items) }
 {
     let mut lists = Vec::new(alloc);
@@ -119,8 +128,8 @@ fn join_members<'d, D: PageSource, R: Wait>(
     Ok(lists)
 }
 
-/// Scans with all workers until no extent is left. Gives the list of what each worker took, by the workers' numbers, the
-/// caller's last; the results; and the ledger's total.
+/// Scans with all workers until no extent is left. Gives the list of what each worker took, by the workers'
+/// numbers, the caller's last; the results; and the ledger's total.
 fn scan_with_crew<'d, D: PageSource, L: Ledger + Send + Sync, G: Gate, R: Threads + Wait + Sync>(
     rt: &R,
     disk: &'d D,
@@ -140,7 +149,7 @@ fn scan_with_crew<'d, D: PageSource, L: Ledger + Send + Sync, G: Gate, R: Thread
     ensures lists { IfOk result (λ r. lists_in r.0.items ≡ first.new.joined ++ first.new.own ∷ []) }
     ensures partition { IfOk result (λ r. IsPartition job.now.plan.now.planned (lists_in r.0.items)) }
     ensures found { IfOk result (λ r. AreResults (D.image disk.now) job.now.plan.now r.1.items) }
-    ensures extents { IfOk result (λ r. IsPermutation (extents_of r.1.items) job.now.plan.now.planned) }
+    ensures extents { IfOk result (λ r. IsPermutation (extents_in r.1.items) job.now.plan.now.planned) }
     ensures counted { IfOk result (λ r. r.2 ≡ length r.1.items) }
 {
     let parts = u64::from(workers) + 1;
@@ -163,10 +172,11 @@ fn scan_with_crew<'d, D: PageSource, L: Ledger + Send + Sync, G: Gate, R: Thread
     Ok((lists, found, counted))
 }
 
-/// What one reader finds in the planned extents, and who took what. The extents are scanned by this many workers (0 to 64)
-/// and the caller, each taking from this queue until none is left. The caller takes with the first pass, as worker number
-/// `workers`; without workers no thread is started. The only fault is `OutOfMemory`, returned once every worker that was
-/// started has ended. The pass is then still the first one of this queue, whose rule still says what was taken; drop both.
+/// What one reader finds in the planned extents, and who took what. The extents are scanned by this many
+/// workers (0 to 64) and the caller, each taking from this queue until none is left. The caller takes with
+/// the first pass, as worker number `workers`; without workers no thread is started. The only fault is
+/// `OutOfMemory`, returned once every worker that was started has ended. The pass is then still the first one
+/// of this queue, whose rule still says what was taken; drop both.
 pub fn scan_all<'d, D: PageSource, G: Gate, R: Threads + Wait + Sync>(
     rt: &R,
     alloc: Global,

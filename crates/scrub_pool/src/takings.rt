@@ -50,7 +50,7 @@ impl Takings {
         self.lists.len() as u32 - 1
     }
 
-    /// The extents that a worker took, rising; there may be none. The caller's number is `workers()`.
+    /// The extents that a worker took, ascending; there may be none. The caller's number is `workers()`.
     pub fn taken_by(&self, worker: u32) -> &[u32]
         requires { worker < length self.now.lists }
         ensures { slice_get self.now.lists worker ≡ Some result.now }
@@ -66,8 +66,8 @@ impl Takings {
     }
 }
 
-/// A law: lists that are a partition of the planned extents are what the members of a complete pool took, after some
-/// schedule. `all` shows that each planned extent has findings, so that a member can finish it.
+/// A law: lists that are a partition of the planned extents are what the members of a complete pool took,
+/// after some schedule. `all` shows that each planned extent has findings, so that a member can finish it.
 pub fn some_schedule_takes_so()
     ensures { (image : Image) (plan : PlanValue) (all : List Scanned) (lists : List (List ℕ)) →
         IsStrictlyIncreasing plan.planned → AreAllFindings image plan all → IsPartition plan.planned lists →

@@ -4,7 +4,7 @@ ghost use Rattle.std.specs.Prelude.{◌≡◌, ◌+◌, ◌<◌, true, None, [],
 ghost use Rattle.std.specs.List.Sorted.{IsStrictlyIncreasing};
 ghost use Rattle.scrub_book.specs.Worker.{held_by, results_of};
 ghost use Rattle.scrub_pool.specs.Passes.{HasTakenAll};
-ghost use Rattle.scrub_pool.specs.Working.{IsPassFor, IsSamePart, IsAtWork};
+ghost use Rattle.scrub_pool.specs.steps.Working.{IsPassFor, IsSamePart, IsAtWork};
 
 use crate::OutOfMemory;
 use crate::extent_queue::TakePass;
@@ -39,7 +39,8 @@ pub(crate) fn take_until_empty<'d, D: PageSource, L: Ledger + Send + Sync, G: Ga
     ensures free { OnOk result (held_by core.new ≡ None) }
     ensures counted { OnOk result (share.new.amount ≡ length (results_of core.new)) }
     ensures all { OnOk result (pass.new.first ≡ true → pass.new.out ≡ 0 → HasTakenAll pass.new) }
-    ensures rising { OnOk result (IsStrictlyIncreasing pass.new.own × All IsStrictlyIncreasing pass.new.joined) }
+    ensures rising { OnOk result
+        (IsStrictlyIncreasing pass.new.own × All IsStrictlyIncreasing pass.new.joined) }
 {
     let mut workspace = Workspace::new(job.alloc);
     for _ in rt.forever() {
@@ -59,7 +60,8 @@ pub(crate) fn take_until_empty<'d, D: PageSource, L: Ledger + Send + Sync, G: Ga
     unreachable!()
 }
 
-/// Runs one worker, with a core and a part of the ledger of its own. A missing share means that memory ran out.
+/// Runs one worker, with a core and a part of the ledger of its own. A missing share means that memory ran
+/// out.
 pub(crate) fn run_worker<'d, D: PageSource, L: Ledger + Send + Sync, G: Gate, R: Wait>(
     rt: &R,
     disk: &'d D,
@@ -73,7 +75,8 @@ pub(crate) fn run_worker<'d, D: PageSource, L: Ledger + Send + Sync, G: Gate, R:
     requires nothing { pass.old.own ≡ [] }
     ensures pass { IsSamePart pass.old pass.new }
     ensures working { IsAtWork job.now.queue.now job.now.plan.now (D.image disk.now) pass.new result.0 }
-    ensures whole { IfSome result.1 (λ s. (held_by result.0 ≡ None) × (s.parts ≡ 1) × (s.amount ≡ length (results_of result.0))) }
+    ensures whole { IfSome result.1 (λ s. (held_by result.0 ≡ None) × (s.parts ≡ 1) ×
+        (s.amount ≡ length (results_of result.0))) }
 {
     let mut core = WorkerCore::new(job.alloc);
     let Some(mut share) = claim(rt, tally) else {

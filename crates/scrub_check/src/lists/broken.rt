@@ -5,7 +5,7 @@ ghost use Rattle.std.specs.List.{filter_map};
 ghost use Rattle.scrub_run.specs.declared.shard_id.ShardId.{ShardId};
 ghost use Rattle.scrub_check.specs.declared.statuses.checked.Checked.{Checked};
 ghost use Rattle.scrub_check.specs.Checked.{AreBrokenShards};
-ghost use Rattle.scrub_check.specs.BrokenShards.{broken_owner};
+ghost use Rattle.scrub_check.specs.steps.BrokenShards.{broken_owner};
 
 use crate::named::Owner;
 use crate::statuses::checked::Checked;

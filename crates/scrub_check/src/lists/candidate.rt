@@ -43,7 +43,7 @@ impl Candidate {
         self.free
     }
 
-    /// The live chunks, rising.
+    /// The live chunks, ascending.
     pub fn keep(&self) -> &[KeptChunk]
         ensures { result.now ≡ self.now.keep }
     {

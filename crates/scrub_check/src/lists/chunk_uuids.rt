@@ -4,10 +4,10 @@ ghost use Rattle.std.specs.Prelude.{◌≡◌, ◌↔◌, IsTrue, IfOk, map};
 ghost use Rattle.std.specs.Str.{bytes_eq};
 ghost use Rattle.std.specs.List.{count_by};
 ghost use Rattle.std.specs.List.Sorted.{IsStrictlySortedBy};
-ghost use Rattle.scrub_check.specs.ChunkUuids.{uuid_cmp, AreUuidsOf, is_twin_by};
+ghost use Rattle.scrub_check.specs.steps.ChunkUuids.{uuid_cmp, AreUuidsOf, is_twin_by};
 
 use crate::lists::place::Place;
-use crate::places::sorted_list::{count_of, rises_strictly, sorted};
+use crate::places::sorted_list::{count_of, into_sorted, rises_strictly};
 use scrub_disk::OutOfMemory;
 use std::alloc::Global;
 use std::marker::Model;
@@ -22,7 +22,7 @@ pub struct ChunkUuids {
 impl Model for ChunkUuids {
     ghost use Rattle.std.specs.Prelude.{List, ℕ};
     ghost use Rattle.std.specs.List.Sorted.{IsSorted};
-    ghost use Rattle.scrub_check.specs.ChunkUuids.{uuid_cmp};
+    ghost use Rattle.scrub_check.specs.steps.ChunkUuids.{uuid_cmp};
 
     ghost Value = { List (List ℕ) };
 
@@ -43,7 +43,7 @@ impl ChunkUuids {
     pub(crate) fn of(alloc: Global, chunks: &[Place]) -> Result<ChunkUuids, OutOfMemory>
         ensures { IfOk result (AreUuidsOf chunks.now) }
     {
-        let uuids = sorted(uuids_of(alloc, chunks)?)?;
+        let uuids = into_sorted(uuids_of(alloc, chunks)?)?;
         Ok(ChunkUuids { uuids })
     }
 

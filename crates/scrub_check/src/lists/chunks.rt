@@ -2,7 +2,7 @@
 
 ghost use Rattle.std.specs.Prelude.{◌≡◌, IfOk};
 ghost use Rattle.std.specs.List.{filter, filter_map};
-ghost use Rattle.scrub_check.specs.ChunkUuids.{is_twin_by};
+ghost use Rattle.scrub_check.specs.steps.ChunkUuids.{is_twin_by};
 ghost use Rattle.scrub_check.specs.Chunks.{place_of, chunks, orphans, twins};
 
 use crate::lists::chunk_uuids::ChunkUuids;
@@ -45,8 +45,7 @@ fn all_chunks<D: PageSource>(
     ensures { IfOk result (λ v. v.items ≡ chunks all.now.extents) }
 {
     let mut chunks = Vec::new(alloc);
-    for i in 0..all.len() {
-        let one = all.result_at(i);
+    for one in all.results() {
         let found = chunks_in(alloc, one.extent(), one.findings().items())?;
         chunks.extend_from_slice(&found)?;
     }

@@ -1,11 +1,11 @@
-//! A cursor over the sorted places that sound locators point to. It only moves forward, so rising places are all found in
-//! one pass.
+//! A cursor over the sorted places that sound locators point to. It only moves forward, so ascending places
+//! are all found in one pass.
 
 ghost use Rattle.std.specs.Prelude.{◌≡◌, ◌≤◌, ◌+◌, nat_lt, length};
 ghost use Rattle.std.specs.List.{count_by};
 ghost use Rattle.std.specs.List.Sorted.{IsSorted};
-ghost use Rattle.scrub_check.specs.Places.{place_cmp, is_place};
-ghost use Rattle.scrub_check.specs.LiveAndOrphans.{AreBefore, IsFirstFrom, HasPassed};
+ghost use Rattle.scrub_check.specs.steps.Places.{chunk_at_cmp, is_place};
+ghost use Rattle.scrub_check.specs.steps.LiveAndOrphans.{AreBefore, IsFirstFrom, HasPassed};
 
 use crate::lists::sound_places::SoundPlaces;
 use crate::places::chunk_at::ChunkAt;

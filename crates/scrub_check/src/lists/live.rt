@@ -3,7 +3,8 @@
 ghost use Rattle.std.specs.Prelude.{◌≡◌, ◌<◌, ◌^◌};
 ghost use Rattle.std.specs.List.{filter, sum_by};
 ghost use Rattle.scrub_scan.specs.Scanned.{scanned};
-ghost use Rattle.scrub_check.specs.Live.{is_sound_at, has_sound_at, is_chunk, is_live, size_of, live_bytes, HasLiveBytes};
+ghost use Rattle.scrub_check.specs.Live.{is_sound_at, has_sound_at, is_chunk, is_live, size_of, live_bytes};
+ghost use Rattle.scrub_check.specs.Live.{HasLiveBytes};
 
 use crate::statuses::checked::Checked;
 use scrub_disk::PageSource;
@@ -67,8 +68,8 @@ fn live_bytes_of<D: PageSource>(one: &ExtentResult<'_, D>, checked: &[Checked]) 
     sum_of_live(items, checked, one.extent())
 }
 
-/// How many bytes the live chunks of an extent take: 0 if the extent wasn't scanned. It takes no memory, and walks over
-/// all locators for each chunk of the extent; for all extents at once call `liveness_of`.
+/// How many bytes the live chunks of an extent take: 0 if the extent wasn't scanned. It takes no memory, and
+/// walks over all locators for each chunk of the extent; for all extents at once call `liveness_of`.
 pub fn live_bytes<D: PageSource>(all: &AllFindings<'_, D>, checked: &[Checked], extent: u32) -> u32
     ensures { HasLiveBytes all.now.extents checked.now extent result }
 {

@@ -1,4 +1,5 @@
-//! The chunks of all extents, parted into live ones and orphans by one walk of the sorted places beside the items.
+//! The chunks of all extents, parted into live ones and orphans by one walk of the sorted places beside the
+//! items.
 
 ghost use Rattle.std.specs.Prelude.{◌≡◌, ◌<◌, ◌+◌, ◌++◌, ◌∷◌, ◌^◌, [], IfOk, OnOk, List, map};
 ghost use Rattle.std.specs.List.{sum_by};
@@ -9,8 +10,8 @@ ghost use Rattle.scrub_scan.specs.Scanned.{Scanned, scanned};
 ghost use Rattle.scrub_scan.specs.AllFindings.{extent_numbers};
 ghost use Rattle.scrub_check.specs.declared.statuses.checked.Checked.{Checked};
 ghost use Rattle.scrub_check.specs.Live.{size_of};
-ghost use Rattle.scrub_check.specs.LocatorIndex.{IsLocatorIndex};
-ghost use Rattle.scrub_check.specs.LiveAndOrphans.{HasPassed, AreLiveBy, AreLiveAndOrphans, orphans_by};
+ghost use Rattle.scrub_check.specs.steps.LocatorIndex.{IsLocatorIndex};
+ghost use Rattle.scrub_check.specs.steps.LiveAndOrphans.{HasPassed, AreLiveBy, AreLiveAndOrphans, orphans_by};
 
 use crate::lists::candidate::Candidate;
 use crate::lists::chunks::place_of;
@@ -30,7 +31,7 @@ use std::alloc::Global;
 pub(crate) struct LiveChunks {
     /// How many bytes they take.
     pub bytes: u32,
-    /// Where each lies, rising.
+    /// Where each lies, ascending.
     pub kept: Vec<KeptChunk>,
 }
 
@@ -79,7 +80,7 @@ fn put_item(
     Ok(())
 }
 
-/// The live chunks among items of an extent; the orphans among them are put behind others.
+/// The live chunks among items of an extent; the orphans among them are put after others.
 fn live_among(
     alloc: Global,
     extent: u32,
@@ -91,7 +92,8 @@ fn live_among(
     requires sizes { sum_by size_of items.now < 2 ^ 32 }
     requires passed { HasPassed cursor.old extent 0 }
     ensures live { IfOk result (AreLiveBy cursor.old.starts.now extent items.now) }
-    ensures orphans { OnOk result (orphans.new.items ≡ orphans.old.items ++ orphans_by cursor.old.starts.now extent items.now) }
+    ensures orphans { OnOk result (orphans.new.items ≡
+        orphans.old.items ++ orphans_by cursor.old.starts.now extent items.now) }
     ensures same { cursor.new.starts.now ≡ cursor.old.starts.now }
     ensures passed { OnOk result (HasPassed cursor.new (extent + 1) 0) }
 {
@@ -130,8 +132,8 @@ fn add_extent<D: PageSource>(
     add_reclaimable(geometry, locators, found, live, &mut so_far.reclaimable)
 }
 
-/// What is known of all extents; which may be reclaimed, only if the sizes of the disk are given. The places are walked
-/// once, since the extents rise, and so do the items in each.
+/// What is known of all extents; which may be reclaimed, only if the sizes of the disk are given. The places
+/// are walked once, since the extents ascend, and so do the items in each.
 pub(crate) fn part_chunks<D: PageSource>(
     alloc: Global,
     geometry: Option<Geometry>,
@@ -140,7 +142,7 @@ pub(crate) fn part_chunks<D: PageSource>(
 ) -> Result<LiveAndOrphans, OutOfMemory>
     ensures so_far { (checked : List Checked) → IsLocatorIndex checked locators.now →
         IfOk result (AreLiveAndOrphans geometry checked all.now.extents) }
-    // The extents of every value of the type rise.
+    // The extents of every value of the type ascend.
     ensures rising { IsStrictlyIncreasing (extent_numbers all.now.extents) }
 {
     let mut so_far = LiveAndOrphans {
@@ -149,15 +151,8 @@ pub(crate) fn part_chunks<D: PageSource>(
         reclaimable: Vec::new(alloc),
     };
     let mut cursor = Cursor::new(&locators.sound);
-    for i in 0..all.len() {
-        add_extent(
-            alloc,
-            geometry,
-            locators,
-            all.result_at(i),
-            &mut cursor,
-            &mut so_far,
-        )?;
+    for found in all.results() {
+        add_extent(alloc, geometry, locators, found, &mut cursor, &mut so_far)?;
     }
     Ok(so_far)
 }

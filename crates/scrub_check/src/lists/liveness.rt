@@ -2,7 +2,7 @@
 
 ghost use Rattle.std.specs.Prelude.{◌≡◌, IfOk, List, map};
 ghost use Rattle.scrub_check.specs.declared.statuses.checked.Checked.{Checked};
-ghost use Rattle.scrub_check.specs.LocatorIndex.{IsLocatorIndex};
+ghost use Rattle.scrub_check.specs.steps.LocatorIndex.{IsLocatorIndex};
 ghost use Rattle.scrub_check.specs.Live.{live_bytes};
 ghost use Rattle.scrub_check.specs.Chunks.{orphans};
 ghost use Rattle.scrub_check.specs.Shared.{AreShared};
@@ -33,8 +33,9 @@ pub struct Liveness {
     pub candidates: Vec<Candidate>,
 }
 
-/// The live bytes of each extent, and what `orphans`, `shared` and `candidates` give, together, by what the named locators say.
-/// The places that sound ones point to are walked once beside the items of the extents, so that each chunk is visited once.
+/// The live bytes of each extent, and what `orphans`, `shared` and `candidates` give, together, by what the
+/// named locators say. The places that sound ones point to are walked once beside the items of the extents,
+/// so that each chunk is visited once.
 pub fn liveness_by<D: PageSource>(
     alloc: Global,
     plan: &Plan,
@@ -71,7 +72,8 @@ pub fn liveness_of<D: PageSource>(
     ensures live { IfOk result (λ l. l.live.items ≡ map (live_bytes checked.now) all.now.extents) }
     ensures orphans { IfOk result (λ l. l.orphans.items ≡ orphans all.now.extents checked.now) }
     ensures shared { IfOk result (λ l. AreShared checked.now l.shared.items) }
-    ensures candidates { IfOk result (λ l. AreCandidates plan.now all.now.extents checked.now in_doubt l.candidates.items) }
+    ensures candidates { IfOk result (λ l.
+        AreCandidates plan.now all.now.extents checked.now in_doubt l.candidates.items) }
 {
     let locators = LocatorIndex::of(alloc, checked)?;
     liveness_by(alloc, plan, all, &locators, in_doubt)

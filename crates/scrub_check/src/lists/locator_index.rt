@@ -1,15 +1,15 @@
-//! What the named locators say, sorted so that it is found by search: the places that sound ones point to, and the
-//! extents that others name.
+//! What the named locators say, sorted so that it is found by search: the places that sound ones point to,
+//! and the extents that others name.
 
 ghost use Rattle.std.specs.Prelude.{◌≡◌, ◌==◌, not, map, IfOk};
 ghost use Rattle.std.specs.Ordering.{nat_cmp};
 ghost use Rattle.std.specs.List.{filter, list_any};
 ghost use Rattle.std.specs.List.Sorted.{IsSorted};
 ghost use Rattle.scrub_check.specs.Checked.{is_sound};
-ghost use Rattle.scrub_check.specs.LocatorIndex.{AreBarredExtents, IsLocatorIndex};
+ghost use Rattle.scrub_check.specs.steps.LocatorIndex.{AreBarredExtents, IsLocatorIndex};
 
 use crate::lists::sound_places::SoundPlaces;
-use crate::places::sorted_list::sorted;
+use crate::places::sorted_list::into_sorted;
 use crate::statuses::checked::Checked;
 use scrub_disk::OutOfMemory;
 use std::alloc::Global;
@@ -52,7 +52,8 @@ fn has_number(numbers: &[u32], number: u32) -> bool
 
 /// The extents that those of these locators name that aren't sound, in the order of the locators.
 fn barred_extents(alloc: Global, checked: &[Checked]) -> Result<Vec<u32>, OutOfMemory>
-    ensures { IfOk result (λ v. v.items ≡ map (λ c. c.locator.extent) (filter (λ c. not (is_sound c.status)) checked.now)) }
+    ensures { IfOk result (λ v.
+        v.items ≡ map (λ c. c.locator.extent) (filter (λ c. not (is_sound c.status)) checked.now)) }
 {
     checked
         .iter()
@@ -66,7 +67,7 @@ impl BarredExtents {
     fn of(alloc: Global, checked: &[Checked]) -> Result<BarredExtents, OutOfMemory>
         ensures { IfOk result (AreBarredExtents checked.now) }
     {
-        let extents = sorted(barred_extents(alloc, checked)?)?;
+        let extents = into_sorted(barred_extents(alloc, checked)?)?;
         Ok(BarredExtents { extents })
     }
 

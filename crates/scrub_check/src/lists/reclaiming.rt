@@ -1,5 +1,5 @@
-//! Which extents may be reclaimed: those that hold garbage by half or more, and nothing that a locator might still need.
-//! See `status` for the statuses of locators, and `live_and_orphans` for the live chunks.
+//! Which extents may be reclaimed: those that hold garbage by half or more, and nothing that a locator might
+//! still need. See `status` for the statuses of locators, and `live_and_orphans` for the live chunks.
 
 ghost use Rattle.std.specs.Prelude.{◌≡◌, ◌&&◌, ◌*◌, ◌-◌, Bool, not, nat_lt, IfOk, OnOk, List};
 ghost use Rattle.std.specs.List.{list_all};
@@ -10,11 +10,11 @@ ghost use Rattle.scrub_scan.specs.Scanned.{Scanned, scanned};
 ghost use Rattle.scrub_scan.specs.AllFindings.{extent_numbers};
 ghost use Rattle.scrub_check.specs.declared.statuses.checked.Checked.{Checked};
 ghost use Rattle.scrub_check.specs.Live.{live_bytes};
-ghost use Rattle.scrub_check.specs.LocatorIndex.{IsLocatorIndex, with_reclaimable};
-ghost use Rattle.scrub_check.specs.LiveAndOrphans.{AreLiveChunks};
+ghost use Rattle.scrub_check.specs.steps.LocatorIndex.{IsLocatorIndex, with_reclaimable};
+ghost use Rattle.scrub_check.specs.steps.LiveAndOrphans.{AreLiveChunks};
 ghost use Rattle.scrub_check.specs.Candidates.{CandidateValue, has_sound_alone, is_reclaimable, candidate_of};
 ghost use Rattle.scrub_check.specs.Candidates.{by_free, reclaimable, AreCandidates};
-ghost use Rattle.scrub_check.specs.Kept.{CandidatesAreSafe};
+ghost use Rattle.scrub_check.specs.SafeCandidates.{CandidatesAreSafe};
 
 use crate::lists::candidate::Candidate;
 use crate::lists::live_and_orphans::{LiveChunks, part_chunks};
@@ -64,7 +64,8 @@ fn is_reclaimable<D: PageSource>(
     found: &ExtentResult<'_, D>,
     live: u32,
 ) -> bool
-    ensures { (checked : List Checked) → IsLocatorIndex checked locators.now → live ≡ live_bytes checked (scanned found.now) →
+    ensures { (checked : List Checked) → IsLocatorIndex checked locators.now →
+        live ≡ live_bytes checked (scanned found.now) →
         result ≡ is_reclaimable geometry checked (scanned found.now) }
 {
     found.pointer() > 0
@@ -85,7 +86,8 @@ fn candidate_of<D: PageSource>(found: &ExtentResult<'_, D>, live: LiveChunks) ->
     Candidate::new(found.extent(), free_bytes(found, live.bytes), live.kept)
 }
 
-/// Adds an extent of these live chunks to the candidates, if the sizes of the disk are given and it may be reclaimed.
+/// Adds an extent of these live chunks to the candidates, if the sizes of the disk are given and it may be
+/// reclaimed.
 pub(crate) fn add_reclaimable<D: PageSource>(
     geometry: Option<Geometry>,
     locators: &LocatorIndex,
@@ -93,8 +95,10 @@ pub(crate) fn add_reclaimable<D: PageSource>(
     live: LiveChunks,
     candidates: &mut Vec<Candidate>,
 ) -> Result<(), OutOfMemory>
-    ensures { (checked : List Checked) → IsLocatorIndex checked locators.now → AreLiveChunks checked (scanned found.now) live →
-        OnOk result (candidates.new.items ≡ with_reclaimable geometry checked candidates.old.items (scanned found.now)) }
+    ensures { (checked : List Checked) → IsLocatorIndex checked locators.now →
+        AreLiveChunks checked (scanned found.now) live →
+        OnOk result (candidates.new.items ≡
+        with_reclaimable geometry checked candidates.old.items (scanned found.now)) }
 {
     let Some(geometry) = geometry else {
         return Ok(());
@@ -129,7 +133,8 @@ fn knows_locators(plan: &Plan, in_doubt: bool) -> bool
     plan.has_superblock() && !in_doubt
 }
 
-/// Those of the extents that may be reclaimed, in their order; none if it isn't known which locators the disk has.
+/// Those of the extents that may be reclaimed, in their order; none if it isn't known which locators the disk
+/// has.
 pub(crate) fn candidates_among(
     alloc: Global,
     plan: &Plan,
@@ -147,9 +152,10 @@ pub(crate) fn candidates_among(
     Ok(found)
 }
 
-/// The extents that may be reclaimed, by what is freed, falling, and then by number: those that something was written
-/// to, all of it readable, that sound locators alone name, and whose live chunks take at most half of it. None without a
-/// superblock, and none in doubt: a tie, an unreadable page of extent 0 or a lost run may hide locators.
+/// The extents that may be reclaimed, by what is freed, falling, and then by number: those that something was
+/// written to, all of it readable, that sound locators alone name, and whose live chunks take at most half of
+/// it. None without a superblock, and none in doubt: a tie, an unreadable page of extent 0 or a lost run may
+/// hide locators.
 pub fn candidates<D: PageSource>(
     alloc: Global,
     plan: &Plan,
@@ -166,12 +172,13 @@ pub fn candidates<D: PageSource>(
 
 /// A law: there is one list of candidates at most.
 pub fn one_list_of_candidates()
-    ensures { (plan : PlanValue) (all : List Scanned) (checked : List Checked) (in_doubt : Bool) (cs ds : List CandidateValue) →
+    ensures { (plan : PlanValue) (all : List Scanned) (checked : List Checked) (in_doubt : Bool)
+        (cs ds : List CandidateValue) →
         AreCandidates plan all checked in_doubt cs → AreCandidates plan all checked in_doubt ds → cs ≡ ds }
 {}
 
-/// A law: reclaiming candidates loses nothing that is named. If the statuses are those of a whole scan, each locator
-/// into the extent of a candidate is sound, and the candidate keeps the chunk that it points to.
+/// A law: if the statuses are those of a whole scan, each named locator into the extent of a candidate is
+/// sound, and the candidate keeps the chunk that it points to.
 pub fn candidates_are_safe()
     ensures { (image : Image) (plan : PlanValue) (all : List Scanned) (checked : List Checked) →
         CandidatesAreSafe image plan all checked }

@@ -4,7 +4,7 @@ ghost use Rattle.std.specs.Prelude.{◌≡◌, IfOk, List};
 ghost use Rattle.scrub_check.specs.declared.lists.place.SharedPlace.{SharedPlace};
 ghost use Rattle.scrub_check.specs.declared.statuses.checked.Checked.{Checked};
 ghost use Rattle.scrub_check.specs.Shared.{AreShared};
-ghost use Rattle.scrub_check.specs.SoundPlaces.{AreSoundPlaces, place_counted, shared_by};
+ghost use Rattle.scrub_check.specs.steps.SoundPlaces.{AreSoundPlaces, place_counted, shared_by};
 
 use crate::lists::place::SharedPlace;
 use crate::lists::sound_places::SoundPlaces;
@@ -49,7 +49,8 @@ pub fn shared(alloc: Global, checked: &[Checked]) -> Result<Vec<SharedPlace>, Ou
 
 /// The same, if the places that sound locators point to are known.
 pub(crate) fn shared_by(alloc: Global, sound: &SoundPlaces) -> Result<Vec<SharedPlace>, OutOfMemory>
-    ensures { (checked : List Checked) → AreSoundPlaces checked sound.now → IfOk result (λ v. AreShared checked v.items) }
+    ensures { (checked : List Checked) → AreSoundPlaces checked sound.now →
+        IfOk result (λ v. AreShared checked v.items) }
 {
     if sound.are_distinct() {
         return Ok(Vec::new(alloc));
@@ -60,5 +61,6 @@ pub(crate) fn shared_by(alloc: Global, sound: &SoundPlaces) -> Result<Vec<Shared
 
 /// A law: there is one list of shared places at most.
 pub fn one_list_of_shared_places()
-    ensures { (checked : List Checked) (ps qs : List SharedPlace) → AreShared checked ps → AreShared checked qs → ps ≡ qs }
+    ensures { (checked : List Checked) (ps qs : List SharedPlace) →
+        AreShared checked ps → AreShared checked qs → ps ≡ qs }
 {}

@@ -1,20 +1,22 @@
-//! The places that sound named locators point to, sorted, so that whether one points to a place is found by search.
+//! The places that sound named locators point to, sorted, so that whether one points to a place is found by
+//! search.
 
 ghost use Rattle.std.specs.Prelude.{◌≡◌, ◌↔◌, IsTrue, IfOk};
 ghost use Rattle.std.specs.List.{count_by};
 ghost use Rattle.std.specs.List.Sorted.{IsSorted, IsStrictlySortedBy};
-ghost use Rattle.scrub_check.specs.Distinct.{AreDistinct};
-ghost use Rattle.scrub_check.specs.Places.{place_cmp, is_place};
-ghost use Rattle.scrub_check.specs.SoundPlaces.{sound_places, AreSoundPlaces};
+ghost use Rattle.scrub_check.specs.steps.Distinct.{AreDistinct};
+ghost use Rattle.scrub_check.specs.steps.Places.{chunk_at_cmp, is_place};
+ghost use Rattle.scrub_check.specs.steps.SoundPlaces.{sound_places, AreSoundPlaces};
 
 use crate::places::chunk_at::ChunkAt;
-use crate::places::sorted_list::{count_of, rises_strictly, sorted};
+use crate::places::sorted_list::{count_of, into_sorted, rises_strictly};
 use crate::statuses::checked::Checked;
 use scrub_disk::OutOfMemory;
 use std::alloc::Global;
 use std::marker::Model;
 
-/// The places that sound locators point to, by extent and then byte; one that several point to is there as often.
+/// The places that sound locators point to, by extent and then byte; one that several point to is there as
+/// often.
 #[derive(Drop)]
 pub struct SoundPlaces {
     starts: Vec<ChunkAt>,
@@ -24,13 +26,13 @@ impl Model for SoundPlaces {
     ghost use Rattle.std.specs.Prelude.{List};
     ghost use Rattle.std.specs.List.Sorted.{IsSorted};
     ghost use Rattle.scrub_check.specs.declared.places.chunk_at.ChunkAt.{ChunkAt};
-    ghost use Rattle.scrub_check.specs.Places.{place_cmp};
+    ghost use Rattle.scrub_check.specs.steps.Places.{chunk_at_cmp};
 
     ghost Value = { List ChunkAt };
 
     ghost view = { λ s. s.starts.items };
 
-    ghost invariant = { λ s. IsSorted place_cmp s.starts.items };
+    ghost invariant = { λ s. IsSorted chunk_at_cmp s.starts.items };
 }
 
 /// The places that the sound ones of these locators point to, in their order.
@@ -45,11 +47,12 @@ fn starts_of(alloc: Global, checked: &[Checked]) -> Result<Vec<ChunkAt>, OutOfMe
 }
 
 impl SoundPlaces {
-    /// The places that the sound ones of these locators point to. They are sorted once, here, for all that asks for them.
+    /// The places that the sound ones of these locators point to. They are sorted once, here, for all that
+    /// asks for them.
     pub fn of(alloc: Global, checked: &[Checked]) -> Result<SoundPlaces, OutOfMemory>
         ensures { IfOk result (AreSoundPlaces checked.now) }
     {
-        let starts = sorted(starts_of(alloc, checked)?)?;
+        let starts = into_sorted(starts_of(alloc, checked)?)?;
         Ok(SoundPlaces { starts })
     }
 
@@ -57,21 +60,21 @@ impl SoundPlaces {
     pub(crate) fn starts(&self) -> &[ChunkAt]
         ensures places { result.now ≡ self.now }
         // Those of every value of the type are sorted.
-        ensures sorted { IsSorted place_cmp self.now }
+        ensures sorted { IsSorted chunk_at_cmp self.now }
     {
         &self.starts
     }
 
     /// Whether each place is there once.
     pub(crate) fn are_distinct(&self) -> bool
-        ensures { IsTrue result ↔ IsStrictlySortedBy place_cmp self.now }
+        ensures { IsTrue result ↔ IsStrictlySortedBy chunk_at_cmp self.now }
     {
         rises_strictly(&self.starts)
     }
 
     /// The places, each once, by extent and then byte.
     pub(crate) fn distinct(&self, alloc: Global) -> Result<Vec<ChunkAt>, OutOfMemory>
-        ensures { IfOk result (λ v. AreDistinct place_cmp self.now v.items) }
+        ensures { IfOk result (λ v. AreDistinct chunk_at_cmp self.now v.items) }
     {
         let mut starts = self.starts.to_vec(alloc)?;
         starts.dedup();

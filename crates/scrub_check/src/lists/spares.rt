@@ -1,14 +1,16 @@
-//! Spare copies: the chunks whose payload has the length and the digest that a dangling locator asks for. An empty payload
-//! needs none.
+//! Spare copies: the chunks whose payload has the length and the digest that a dangling locator asks for. An
+//! empty payload needs none.
 
 ghost use Rattle.std.specs.Prelude.{◌≡◌, ◌++◌, ◌∷◌, [], IfOk, OnOk, map};
 ghost use Rattle.std.specs.List.{filter, filter_map};
 ghost use Rattle.std.specs.List.Sorted.{IsSorted};
 ghost use Rattle.scrub_check.specs.Chunks.{frame_of_item};
-ghost use Rattle.scrub_check.specs.Spares.{AreByContent, AreSpares, HaveTheSameCopies, asks_for_spares, content_cmp, content_named, content_of, frames, is_copy_of, is_wanted, spares_by};
+ghost use Rattle.scrub_check.specs.Spares.{AreByContent, AreSpares, HaveTheSameCopies, asks_for_spares};
+ghost use Rattle.scrub_check.specs.Spares.{content_cmp, content_named, content_of, frames, is_copy_of};
+ghost use Rattle.scrub_check.specs.Spares.{is_wanted, spares_by};
 
 use crate::places::item_frames::frame_of_item;
-use crate::places::sorted_list::{count_of, sorted};
+use crate::places::sorted_list::{count_of, into_sorted};
 use crate::statuses::checked::Checked;
 use scrub_disk::{OutOfMemory, PageSource};
 use scrub_frame::{DIGEST_BYTES, Locator};
@@ -25,8 +27,8 @@ pub struct Content {
     pub length: u32,
 }
 
-/// Chunks sorted by the digest and the length of their payloads. Those of one content are in the order in which they were
-/// found.
+/// Chunks sorted by the digest and the length of their payloads. Those of one content are in the order in
+/// which they were found.
 #[derive(Drop)]
 pub struct Spares {
     found: Vec<Standing>,
@@ -92,7 +94,8 @@ fn add_wanted(
 ) -> Result<(), OutOfMemory>
     requires { IsSorted content_cmp wanted.now }
     ensures { OnOk result (found.new.items ≡
-        found.old.items ++ filter (is_wanted wanted.now) (filter_map (frame_of_item extent) (item.now ∷ []))) }
+        found.old.items ++
+        filter (is_wanted wanted.now) (filter_map (frame_of_item extent) (item.now ∷ []))) }
 {
     let Some(frame) = frame_of_item(extent, item) else {
         return Ok(());
@@ -120,7 +123,8 @@ fn add_all_wanted(
     Ok(())
 }
 
-/// The chunks of all extents whose payload is among these contents, which are sorted; by extent and then offset.
+/// The chunks of all extents whose payload is among these contents, which are sorted; by extent and then
+/// offset.
 fn frames_wanted<D: PageSource>(
     alloc: Global,
     wanted: &[Content],
@@ -130,8 +134,7 @@ fn frames_wanted<D: PageSource>(
     ensures { IfOk result (λ v. v.items ≡ filter (is_wanted wanted.now) (frames all.now.extents)) }
 {
     let mut found = Vec::new(alloc);
-    for i in 0..all.len() {
-        let one = all.result_at(i);
+    for one in all.results() {
         add_all_wanted(&mut found, wanted, one.extent(), one.findings().items())?;
     }
     Ok(found)
@@ -147,8 +150,8 @@ fn by_content(mut found: Vec<Standing>) -> Result<Vec<Standing>, OutOfMemory>
 }
 
 impl Spares {
-    /// The spares of these named locators. If none asks for any, no chunk is looked at; else each is, once, and it is searched
-    /// for among what the locators ask for.
+    /// The spares of these named locators. If none asks for any, no chunk is looked at; else each is, once,
+    /// and it is searched for among what the locators ask for.
     pub fn of<D: PageSource>(
         alloc: Global,
         all: &AllFindings<'_, D>,
@@ -156,7 +159,7 @@ impl Spares {
     ) -> Result<Spares, OutOfMemory>
         ensures { IfOk result (AreSpares all.now.extents checked.now) }
     {
-        let wanted = sorted(wanted_by(alloc, checked)?)?;
+        let wanted = into_sorted(wanted_by(alloc, checked)?)?;
         if wanted.is_empty() {
             return Ok(Spares {
                 found: Vec::new(alloc),

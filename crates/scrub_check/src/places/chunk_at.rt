@@ -1,7 +1,7 @@
 //! A place that a locator points to.
 
 ghost use Rattle.std.specs.Prelude.{◌≡◌};
-ghost use Rattle.scrub_check.specs.Places.{place_named_by};
+ghost use Rattle.scrub_check.specs.steps.Places.{place_named_by};
 
 use scrub_frame::Locator;
 

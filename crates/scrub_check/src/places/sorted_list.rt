@@ -7,8 +7,8 @@ ghost use Rattle.std.specs.List.Sorted.{IsPermutation, IsSorted, IsStrictlySorte
 
 use scrub_disk::OutOfMemory;
 
-/// How often an element occurs in a sorted list: as often as it lies between those that are less and those that are
-/// greater.
+/// How often an element occurs in a sorted list: as often as it lies between those that are less and those
+/// that are greater.
 pub(crate) fn count_of<T: Ord>(sorted: &[T], one: &T) -> usize
     requires { IsSorted T.cmp sorted.now }
     ensures { result ≡ count_by (λ other. is_eq (T.cmp other one.now)) sorted.now }
@@ -26,7 +26,7 @@ pub(crate) fn rises_strictly<T: Ord>(list: &[T]) -> bool
 }
 
 /// A list in the order of its elements.
-pub(crate) fn sorted<T: Ord + Drop>(mut list: Vec<T>) -> Result<Vec<T>, OutOfMemory>
+pub(crate) fn into_sorted<T: Ord + Drop>(mut list: Vec<T>) -> Result<Vec<T>, OutOfMemory>
     ensures sorted { IfOk result (λ v. IsSorted T.cmp v.items) }
     ensures same { IfOk result (λ v. IsPermutation list.items v.items) }
 {

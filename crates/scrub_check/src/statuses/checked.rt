@@ -1,20 +1,19 @@
-//! The named locators with their statuses, and the lists that are drawn from them alone. See `lists` for the chunks that
-//! they point to.
+//! The named locators with their statuses, and the lists that are drawn from them alone. See `lists` for the
+//! chunks that they point to.
 
-ghost use Rattle.std.specs.Prelude.{◌≡◌, ◌≤◌, IfOk, List, length};
-ghost use Rattle.std.specs.List.{AllZip};
+ghost use Rattle.std.specs.Prelude.{◌≡◌, ◌≤◌, IfOk, IsTrue, List, [], is_some, length};
 ghost use Rattle.scrub_disk.specs.Image.{Image};
 ghost use Rattle.scrub_super.specs.Plan.{PlanValue};
 ghost use Rattle.scrub_merge.specs.Binding.{BindingValue};
-ghost use Rattle.scrub_check.specs.Checked.{IsChecked, AreChecked, IsKnownBefore, dangling, hidden};
-ghost use Rattle.scrub_check.specs.Named.{named};
+ghost use Rattle.scrub_check.specs.Checked.{IsChecked, AreChecked, dangling, hidden};
+ghost use Rattle.scrub_check.specs.Named.{named_locators};
 ghost use Rattle.scrub_check.specs.Runs.{AreRunStatuses};
 ghost use Rattle.scrub_check.specs.WholeScan.{IsWholeScan};
+ghost use Rattle.scrub_check.specs.steps.Open.{IsKnownBefore, AreKnownBefore, HasEachUnknown};
 
 use crate::named::{Named, Owner, named_locators};
 use crate::statuses::by_place::{judge_places, open_locators, put_statuses};
 use crate::statuses::nearby::Nearby;
-use crate::statuses::open_place::status_by_place;
 use crate::statuses::status::{Status, status_by_findings};
 use crate::statuses::whole_scan::WholeScan;
 use rayon::prelude::*;
@@ -44,14 +43,16 @@ fn known_by_findings<R: Threads + Sync, D: PageSource>(
     scan: &WholeScan<'_, D>,
     named: &[Named],
 ) -> Result<Vec<Option<Status>>, OutOfMemory>
-    ensures { IfOk result (λ v. AllZip (IsKnownBefore (D.image scan.now.disk.now) scan.now.plan.now) named.now v.items) }
+    ensures { IfOk result (λ v.
+        AreKnownBefore (D.image scan.now.disk.now) scan.now.plan.now named.now v.items) }
 {
     let nearby = Nearby::of(rt, alloc, scan.all, named.len())?;
     let known = named
         .par_iter()
         .map(
             |one: &Named| -> Option<Status>
-                ensures { IsKnownBefore (D.image scan.entry.now.disk.now) scan.entry.now.plan.now one.now result }
+                ensures { IsKnownBefore (D.image scan.entry.now.disk.now) scan.entry.now.plan.now one.now
+                    result }
             { status_by_findings(scan, &one.locator, nearby.first(&one.locator)) },
         )
         .collect::<Vec<Option<Status>>>(rt, alloc)?;
@@ -61,51 +62,44 @@ fn known_by_findings<R: Threads + Sync, D: PageSource>(
 /// Puts the statuses of the index runs, which are named first, to those that are known.
 fn put_run_statuses(known: &mut [Option<Status>], statuses: &[Status])
     requires { length statuses.now ≤ length known.old }
-    ensures { (image : Image) (plan : PlanValue) (map : List BindingValue) → AreRunStatuses image plan statuses.now →
-        AllZip (IsKnownBefore image plan) (named plan.runs map) known.old →
-        AllZip (IsKnownBefore image plan) (named plan.runs map) known.new }
+    ensures { (image : Image) (plan : PlanValue) (map : List BindingValue) →
+        AreRunStatuses image plan statuses.now →
+        AreKnownBefore image plan (named_locators plan.runs map) known.old →
+        AreKnownBefore image plan (named_locators plan.runs map) known.new }
 {
     for i in 0..statuses.len() {
         known[i] = Some(statuses[i]);
     }
 }
 
-/// A named locator with its status: the one that is known, or else the one by what is at its place. `judge_places` leaves
-/// none unknown, but nothing rests on that.
-fn check_one<D: PageSource>(
-    alloc: Global,
-    scan: &WholeScan<'_, D>,
-    one: &Named,
-    known: Option<Status>,
-) -> Result<Checked, OutOfMemory>
-    requires { IsKnownBefore (D.image scan.now.disk.now) scan.now.plan.now one.now known }
-    ensures { IfOk result (IsChecked (D.image scan.now.disk.now) scan.now.plan.now one.now) }
+/// A named locator with its status, which is known.
+fn check_one(one: &Named, known: Option<Status>) -> Checked
+    requires { IsTrue (is_some known) }
+    ensures { (image : Image) (plan : PlanValue) → IsKnownBefore image plan one.now known →
+        IsChecked image plan one.now result }
 {
-    let status = match known {
-        Some(status) => status,
-        None => status_by_place(alloc, scan, &one.locator)?,
-    };
-    Ok(Checked {
+    let Some(status) = known else { unreachable!() };
+    Checked {
         owner: one.owner,
         locator: one.locator,
         status,
-    })
+    }
 }
 
-/// These locators with their statuses, in their order.
-fn check_each<D: PageSource>(
+/// These locators with their statuses, which are known, in their order.
+fn check_each(
     alloc: Global,
-    scan: &WholeScan<'_, D>,
     named: &[Named],
     known: &[Option<Status>],
 ) -> Result<Vec<Checked>, OutOfMemory>
     requires count { length known.now ≡ length named.now }
-    requires known { AllZip (IsKnownBefore (D.image scan.now.disk.now) scan.now.plan.now) named.now known.now }
-    ensures { IfOk result (λ v. AreChecked (D.image scan.now.disk.now) scan.now.plan.now named.now v.items) }
+    requires all { HasEachUnknown known.now [] }
+    ensures { (image : Image) (plan : PlanValue) → AreKnownBefore image plan named.now known.now →
+        IfOk result (λ v. AreChecked image plan named.now v.items) }
 {
     let mut checked = Vec::with_capacity(alloc, named.len())?;
     for i in 0..named.len() {
-        let one = check_one(alloc, scan, &named[i], known[i])?;
+        let one = check_one(&named[i], known[i]);
         checked.push(one)?;
     }
     Ok(checked)
@@ -119,19 +113,19 @@ fn check_others<R: Threads + Sync, D: PageSource>(
     named: &[Named],
     mut known: Vec<Option<Status>>,
 ) -> Result<Vec<Checked>, OutOfMemory>
-    requires { AllZip (IsKnownBefore (D.image scan.now.disk.now) scan.now.plan.now) named.now known.items }
+    requires { AreKnownBefore (D.image scan.now.disk.now) scan.now.plan.now named.now known.items }
     ensures { IfOk result (λ v. AreChecked (D.image scan.now.disk.now) scan.now.plan.now named.now v.items) }
 {
     let left = open_locators(alloc, named, &known)?;
-    for judged in &judge_places(rt, alloc, scan, named, &left)? {
-        put_statuses(&mut known, judged);
-    }
-    check_each(alloc, scan, named, &known)
+    let judged = judge_places(rt, alloc, scan, named, &left)?;
+    put_statuses(&mut known, &left, &judged);
+    check_each(alloc, named, &known)
 }
 
-/// The status of each of these locators, in their order. Several threads search the findings and read the disk if there is
-/// much to do. Each place is read once, however many locators point to it. Its payload is hashed only if the frame there is
-/// sealed, or if its head has the UUID and the length of one of the locators.
+/// The status of each of these locators, in their order. Several threads search the findings and read the
+/// disk if there is much to do. Each place is read once, however many locators point to it. Its payload is
+/// hashed only if the frame there is sealed, or if its head has the UUID and the length of one of the
+/// locators.
 pub fn check_all<R: Threads + Sync, D: PageSource>(
     rt: &R,
     alloc: Global,
@@ -148,8 +142,8 @@ pub fn check_all<R: Threads + Sync, D: PageSource>(
     check_others(rt, alloc, &scan, named, known)
 }
 
-/// The same as `check_all` for all locators that a disk names, if the statuses of the index runs are known: their places
-/// aren't read again.
+/// The same as `check_all` for all locators that a disk names, if the statuses of the index runs are known:
+/// their places aren't read again.
 pub fn check_named<R: Threads + Sync, D: PageSource>(
     rt: &R,
     alloc: Global,
@@ -161,7 +155,8 @@ pub fn check_named<R: Threads + Sync, D: PageSource>(
 ) -> Result<Vec<Checked>, OutOfMemory>
     requires scan { IsWholeScan (D.image disk.now) plan.now all.now.extents }
     requires statuses { AreRunStatuses (D.image disk.now) plan.now statuses.now }
-    ensures { IfOk result (λ v. AreChecked (D.image disk.now) plan.now (named plan.now.runs map.now) v.items) }
+    ensures { IfOk result (λ v.
+        AreChecked (D.image disk.now) plan.now (named_locators plan.now.runs map.now) v.items) }
 {
     let scan = WholeScan { disk, plan, all };
     let named = named_locators(alloc, plan, map)?;

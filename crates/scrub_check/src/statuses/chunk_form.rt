@@ -22,7 +22,8 @@ fn form_of(item: &Item) -> Option<Form>
     }
 }
 
-/// The form of the item that begins at a byte, among items whose starts rise; `None` if none begins there, or it isn't a chunk.
+/// The form of the item that begins at a byte, among items whose starts ascend; `None` if none begins there,
+/// or it isn't a chunk.
 fn form_from(items: &[Item], start: u32) -> Option<Form>
     requires { IsStrictlyIncreasing (map start_of items.now) }
     ensures { result ≡ option_and_then form_of (find (λ item. start_of item == start) items.now) }

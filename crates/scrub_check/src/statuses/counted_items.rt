@@ -1,12 +1,13 @@
-//! Items that show their starts one by one and count each. Only this module sees the fields, so nothing else changes the
-//! count. See `searching` for the search.
+//! Items that show their starts one by one and count each. Only this module sees the fields, so nothing else
+//! changes the count. See `searching` for the search.
 
 ghost use Rattle.std.specs.Prelude.{◌≡◌, ◌<◌, ◌+◌, ◌^◌, ℕ, List, map, length, slice_index};
 ghost use Rattle.scrub_scan.specs.Item.{start_of};
 
 use scrub_scan::Item;
 
-/// Places that are shown one by one, and counted. A search that sees them only through this trait can't see an uncounted one.
+/// Places that are shown one by one, and counted. A search that sees them only through this trait can't see
+/// an uncounted one.
 pub(crate) trait ShowsStarts {
     /// The places, in their order.
     ghost starts: { Self → List ℕ };

@@ -23,7 +23,7 @@ pub(crate) fn findings_of<'a, D: PageSource>(
     }
 }
 
-/// Whether one of the pages from the first through the last is among some that rise.
+/// Whether one of the pages from the first through the last is among some ascending ones.
 fn has_page_between(pages: &[u32], first: u32, last: u32) -> bool
     requires { IsStrictlyIncreasing pages.now }
     ensures { IsTrue result ↔ ((q : ℕ) × Contains pages.now q × (first ≤ q) × (q ≤ last)) }
@@ -32,12 +32,14 @@ fn has_page_between(pages: &[u32], first: u32, last: u32) -> bool
     i < pages.len() && pages[i] <= last
 }
 
-/// Whether one of the `size` bytes of an extent from `start` on can't be read, by the unreadable pages of the extent.
+/// Whether one of the `size` bytes of an extent from `start` on can't be read, by the unreadable pages of the
+/// extent.
 pub(crate) fn has_gap<D: PageSource>(disk: &D, bad_pages: &[u32], start: u32, size: u64) -> bool
     requires some { 0 < size }
     requires in_extent { start + size ≤ extent_bytes (D.image disk.now).geometry }
     requires rising { IsStrictlyIncreasing bad_pages.now }
-    ensures { (e : ℕ) → e < (D.image disk.now).geometry.extents → bad_pages.now ≡ unreadable_pages (D.image disk.now) e →
+    ensures { (e : ℕ) → e < (D.image disk.now).geometry.extents →
+        bad_pages.now ≡ unreadable_pages (D.image disk.now) e →
         (IsTrue result ↔ HasGap (byte (D.image disk.now) e) start size) }
 {
     let page = disk.geometry().page();

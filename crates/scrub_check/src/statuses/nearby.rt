@@ -1,5 +1,6 @@
-//! Where to look first for the item that begins at a place, so that most items are found in a look or two, wherever they lie.
-//! These are hints: nothing rests on them, since what is looked at is compared. See `searching` for the search.
+//! Where to look first for the item that begins at a place, so that most items are found in a look or two,
+//! wherever they lie. These are hints: nothing rests on them, since what is looked at is compared. See
+//! `searching` for the search.
 
 ghost use Rattle.std.specs.Prelude.{◌<◌, length};
 
@@ -29,7 +30,7 @@ struct Shares {
 /// Where the items of all extents are.
 #[derive(Drop)]
 pub(crate) struct Nearby {
-    /// By rising extent.
+    /// By ascending extent.
     extents: Vec<Shares>,
 }
 

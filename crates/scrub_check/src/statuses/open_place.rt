@@ -1,21 +1,22 @@
-//! A place of a disk that has to be read, since no item begins there: the frame that is claimed there, and the frame that is
-//! there.
+//! A place of a disk that has to be read, since no item begins there: the frame that is claimed there, and
+//! the frame that is there.
 
 ghost use Rattle.std.specs.Prelude.{◌≡◌, IfOk};
-ghost use Rattle.scrub_check.specs.Places.{place_named_by};
-ghost use Rattle.scrub_check.specs.Open.{CanBeRead, IsOpen, IsSeenAt, IsClaimSeen, IsRead};
+ghost use Rattle.scrub_check.specs.steps.Places.{place_named_by};
+ghost use Rattle.scrub_check.specs.steps.Open.{CanBeRead, IsOpen, IsSeenAt, IsClaimSeen, IsReadPlace};
 ghost use Rattle.scrub_check.specs.Status.{HasStatusIn};
 
 use crate::places::chunk_at::ChunkAt;
 use crate::statuses::extents::{findings_of, has_gap};
-use crate::statuses::status::{Status, judged, status_by_claim};
+use crate::statuses::status::{Status, status_by_claim, status_by_frame};
 use crate::statuses::whole_scan::WholeScan;
 use scrub_disk::{OutOfMemory, PageSource};
 use scrub_frame::{Head, Locator};
 use scrub_scan::{Standing, claimed_frame, frame_stands};
 use std::alloc::Global;
 
-/// The head of the frame that is claimed at a place, if all bytes of the frame can be read. No payload is hashed.
+/// The head of the frame that is claimed at a place, if all bytes of the frame can be read. No payload is
+/// hashed.
 fn claim_at<D: PageSource>(
     alloc: Global,
     scan: &WholeScan<'_, D>,
@@ -70,7 +71,7 @@ impl OpenPlace {
         place: ChunkAt,
     ) -> Result<OpenPlace, OutOfMemory>
         requires { CanBeRead (D.image scan.now.disk.now) scan.now.plan.now place }
-        ensures read { IfOk result (IsRead (D.image scan.now.disk.now) scan.now.plan.now) }
+        ensures read { IfOk result (IsReadPlace (D.image scan.now.disk.now) scan.now.plan.now) }
         ensures place { IfOk result (λ one. one.place ≡ place) }
     {
         let claimed = claim_at(alloc, scan, place)?;
@@ -82,8 +83,8 @@ impl OpenPlace {
         })
     }
 
-    /// The status of a locator of this place that the findings don't decide: by what is claimed there, or else by the frame
-    /// there.
+    /// The status of a locator of this place that the findings don't decide: by what is claimed there, or
+    /// else by the frame there.
     pub fn status<D: PageSource>(
         &mut self,
         alloc: Global,
@@ -92,9 +93,9 @@ impl OpenPlace {
     ) -> Result<Status, OutOfMemory>
         requires left { IsOpen (D.image scan.now.disk.now) scan.now.plan.now locator.now }
         requires there { self.old.place ≡ place_named_by locator.now }
-        requires read { IsRead (D.image scan.now.disk.now) scan.now.plan.now self.old }
+        requires read { IsReadPlace (D.image scan.now.disk.now) scan.now.plan.now self.old }
         ensures status { IfOk result (HasStatusIn (D.image scan.now.disk.now) scan.now.plan.now locator.now) }
-        ensures read { IsRead (D.image scan.now.disk.now) scan.now.plan.now self.new }
+        ensures read { IsReadPlace (D.image scan.now.disk.now) scan.now.plan.now self.new }
         ensures place { self.new.place ≡ self.old.place }
     {
         if let Some(status) = status_by_claim(locator, self.claimed) {
@@ -104,19 +105,6 @@ impl OpenPlace {
             self.frame = frame_at(alloc, scan, self.place)?;
             self.is_hashed = true;
         }
-        Ok(judged(locator, self.frame, Status::Hidden))
+        Ok(status_by_frame(locator, self.frame, Status::Hidden))
     }
-}
-
-/// The status of a locator that the findings don't decide. Its place is read.
-pub(crate) fn status_by_place<D: PageSource>(
-    alloc: Global,
-    scan: &WholeScan<'_, D>,
-    locator: &Locator,
-) -> Result<Status, OutOfMemory>
-    requires { IsOpen (D.image scan.now.disk.now) scan.now.plan.now locator.now }
-    ensures { IfOk result (HasStatusIn (D.image scan.now.disk.now) scan.now.plan.now locator.now) }
-{
-    let mut read = OpenPlace::read(alloc, scan, ChunkAt::named_by(locator))?;
-    read.status(alloc, scan, locator)
 }

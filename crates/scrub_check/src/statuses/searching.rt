@@ -1,8 +1,11 @@
-//! The search for the item that begins at a place. It sees the starts only through `counted_items`, which counts them.
+//! The search for the item that begins at a place. It sees the starts only through `counted_items`, which
+//! counts them.
 
-ghost use Rattle.std.specs.Prelude.{◌≡◌, ◌≤◌, ◌<◌, ◌^◌, ℕ, IfSome, IfNone, Contains, map, length, slice_index};
+ghost use Rattle.std.specs.Prelude.{◌≡◌, ◌≤◌, ◌<◌, ◌^◌, ℕ, IfSome, IfNone, Contains, map, length};
+ghost use Rattle.std.specs.Prelude.{slice_index};
 ghost use Rattle.std.specs.List.Sorted.{IsStrictlyIncreasing};
 ghost use Rattle.scrub_scan.specs.Item.{start_of};
+ghost use Rattle.scrub_check.specs.steps.Places.{IsIndexOf};
 
 use crate::statuses::counted_items::{CountedItems, ShowsStarts};
 use scrub_scan::Item;
@@ -19,12 +22,11 @@ pub struct Found {
     pub probes: u32,
 }
 
-/// The index of a place among places that rise. Each probe halves them.
+/// The index of a place among ascending places. Each probe halves them.
 fn search<S: ShowsStarts>(among: &mut S, start: u32) -> Option<usize>
     requires rising { IsStrictlyIncreasing (S.starts among.old) }
     requires unseen { S.shown among.old ≡ 0 }
-    ensures found { IfSome result (λ i. (i < length (S.starts among.old)) × (slice_index (S.starts among.old) i ≡ start)) }
-    ensures none { IfNone result (¬ Contains (S.starts among.old) start) }
+    ensures found { IsIndexOf (S.starts among.old) start result }
     ensures few { (digits : ℕ) → length (S.starts among.old) < 2 ^ digits → S.shown among.new ≤ digits }
     ensures some { 0 < length (S.starts among.old) → 1 ≤ S.shown among.new }
 {
@@ -49,8 +51,7 @@ fn search<S: ShowsStarts>(among: &mut S, start: u32) -> Option<usize>
 fn find<S: ShowsStarts>(among: &mut S, start: u32) -> Found
     requires rising { IsStrictlyIncreasing (S.starts among.old) }
     requires unseen { S.shown among.old ≡ 0 }
-    ensures found { IfSome result.at (λ i. (i < length (S.starts among.old)) × (slice_index (S.starts among.old) i ≡ start)) }
-    ensures none { IfNone result.at (¬ Contains (S.starts among.old) start) }
+    ensures found { IsIndexOf (S.starts among.old) start result.at }
     ensures counted { result.probes ≡ S.shown among.new }
     ensures few { (digits : ℕ) → length (S.starts among.old) < 2 ^ digits → S.shown among.new ≤ digits }
     ensures some { 0 < length (S.starts among.old) → 1 ≤ S.shown among.new }
@@ -62,11 +63,13 @@ fn find<S: ShowsStarts>(among: &mut S, start: u32) -> Found
     }
 }
 
-/// The item that begins at a byte of the extent, among items whose starts rise. Each probe halves the items, so there are at
-/// most as many probes as the number of items has binary digits, and at least one if there are items.
+/// The item that begins at a byte of the extent, among items whose starts ascend. Each probe halves the
+/// items, so there are at most as many probes as the number of items has binary digits, and at least one if
+/// there are items.
 pub fn find_start(items: &[Item], start: u32) -> Found
     requires { IsStrictlyIncreasing (map start_of items.now) }
-    ensures found { IfSome result.at (λ i. (i < length items.now) × (slice_index (map start_of items.now) i ≡ start)) }
+    ensures found { IfSome result.at (λ i.
+        (i < length items.now) × (slice_index (map start_of items.now) i ≡ start)) }
     ensures none { IfNone result.at (¬ Contains (map start_of items.now) start) }
     ensures probes { (digits : ℕ) → length items.now < 2 ^ digits → result.probes ≤ digits }
     ensures looked { 0 < length items.now → 1 ≤ result.probes }
@@ -86,11 +89,11 @@ fn found_near(items: &[Item], start: u32, near: usize) -> Option<usize>
     None
 }
 
-/// The item that begins at a byte of the extent, as `find_start` finds it, looked for from this index on first.
+/// The item that begins at a byte of the extent, as `find_start` finds it, looked for from this index on
+/// first.
 pub(crate) fn find_near(items: &[Item], start: u32, near: usize) -> Option<usize>
     requires { IsStrictlyIncreasing (map start_of items.now) }
-    ensures found { IfSome result (λ i. (i < length items.now) × (slice_index (map start_of items.now) i ≡ start)) }
-    ensures none { IfNone result (¬ Contains (map start_of items.now) start) }
+    ensures { IsIndexOf (map start_of items.now) start result }
 {
     match found_near(items, start, near) {
         Some(i) => Some(i),

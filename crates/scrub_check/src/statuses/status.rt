@@ -1,20 +1,23 @@
 //! The status of a locator: whether the chunk that it names is at its place.
 
-ghost use Rattle.std.specs.Prelude.{◌≡◌, ◌≤◌, ◌<◌, ◌+◌, ◌↔◌, ℕ, Some, IfOk, IfSome, IfNone, IsTrue, map};
+ghost use Rattle.std.specs.Prelude.{◌≡◌, ◌≤◌, ◌<◌, ◌+◌, ◌↔◌, ℕ, Some, IfOk, IsTrue, MatchOption, map};
 ghost use Rattle.std.specs.List.Sorted.{IsStrictlyIncreasing};
 ghost use Rattle.scrub_disk.specs.Image.{Image, unreadable_pages};
 ghost use Rattle.scrub_super.specs.Plan.{PlanValue};
 ghost use Rattle.scrub_check.specs.WholeScan.{IsWholeScan};
-ghost use Rattle.scrub_check.specs.Status.{end_of, InRange, HasUnreadableByte, CanStand, HasStatus, HasStatusIn, ExactlyOne};
-ghost use Rattle.scrub_check.specs.Judged.{IsOther, IsMismatch, Agrees, IsJudged, IsStatusByClaim};
+ghost use Rattle.scrub_check.specs.Status.{end_of, InRange, HasUnreadableByte, CanStand, HasStatus};
+ghost use Rattle.scrub_check.specs.Status.{HasStatusIn, ExactlyOne};
+ghost use Rattle.scrub_check.specs.steps.StatusByFrame.{IsOther, IsMismatch, Agrees, IsStatusByFrame};
+ghost use Rattle.scrub_check.specs.steps.StatusByFrame.{IsStatusByClaim};
 ghost use Rattle.scrub_scan.specs.Extent.{extent_of};
 ghost use Rattle.scrub_scan.specs.Item.{start_of};
 ghost use Rattle.scrub_scan.specs.Tiling.{IsTiling};
-ghost use Rattle.scrub_check.specs.Open.{IsOpen, IsStatusByItems};
+ghost use Rattle.scrub_check.specs.steps.Open.{IsStatusByItems, IsStatusByFindings};
 
+use crate::places::chunk_at::ChunkAt;
 use crate::places::item_frames::frame_of_item;
 use crate::statuses::extents::{findings_of, has_gap};
-use crate::statuses::open_place::status_by_place;
+use crate::statuses::open_place::OpenPlace;
 use crate::statuses::searching::find_near;
 use crate::statuses::whole_scan::WholeScan;
 use scrub_disk::{Geometry, OutOfMemory, PageSource};
@@ -74,7 +77,8 @@ impl Status {
     }
 }
 
-/// The least byte of the extent at which the frame that a locator names would end: a locator doesn't say the form.
+/// The least byte of the extent at which the frame that a locator names would end: a locator doesn't say the
+/// form.
 fn end_of(locator: &Locator) -> u64
     ensures { result ≡ end_of locator.now }
 {
@@ -90,10 +94,11 @@ fn lies_in_range(geometry: Geometry, locator: &Locator) -> bool
         && end_of(locator) <= geometry.extent_bytes() as u64
 }
 
-/// Why a frame of this UUID and this length isn't the one that a locator names, or `None` if both are the locator's.
+/// Why a frame of this UUID and this length isn't the one that a locator names, or `None` if both are the
+/// locator's.
 fn difference(locator: &Locator, uuid: Uuid, length: u32) -> Option<Status>
-    ensures other { IfSome result (IsOther locator.now uuid length) }
-    ensures same { IfNone result ((uuid ≡ locator.now.uuid) × (length ≡ locator.now.length)) }
+    ensures { MatchOption result ((uuid ≡ locator.now.uuid) × (length ≡ locator.now.length))
+        (IsOther locator.now uuid length) }
 {
     if uuid != locator.uuid {
         return Some(Status::WrongUuid);
@@ -106,8 +111,7 @@ fn difference(locator: &Locator, uuid: Uuid, length: u32) -> Option<Status>
 
 /// Why a frame isn't the one that a locator names, or `None` if it is.
 fn mismatch(locator: &Locator, standing: &Standing) -> Option<Status>
-    ensures other { IfSome result (IsMismatch locator.now standing.now) }
-    ensures same { IfNone result (Agrees locator.now standing.now) }
+    ensures { MatchOption result (Agrees locator.now standing.now) (IsMismatch locator.now standing.now) }
 {
     if let Some(status) = difference(locator, standing.uuid, standing.length) {
         return Some(status);
@@ -118,9 +122,14 @@ fn mismatch(locator: &Locator, standing: &Standing) -> Option<Status>
     None
 }
 
-/// The status of a locator by the frame at its place, or by none: `agreeing` if it is the one that the locator names.
-pub(crate) fn judged(locator: &Locator, standing: Option<Standing>, agreeing: Status) -> Status
-    ensures { IsJudged locator.now standing agreeing result }
+/// The status of a locator by the frame at its place, or by none: `agreeing` if it is the one that the
+/// locator names.
+pub(crate) fn status_by_frame(
+    locator: &Locator,
+    standing: Option<Standing>,
+    agreeing: Status,
+) -> Status
+    ensures { IsStatusByFrame locator.now standing agreeing result }
 {
     let Some(standing) = standing else {
         return Status::NoFrame;
@@ -141,29 +150,29 @@ fn is_unreadable<D: PageSource>(disk: &D, bad_pages: &[u32], locator: &Locator) 
     has_gap(disk, bad_pages, locator.offset, size)
 }
 
-/// The status of a locator whose frame would be on readable pages, by the item that begins at its place; `None` if none does.
-/// The item is looked for from the index `near` on first.
+/// The status of a locator whose frame would be on readable pages, by the item that begins at its place;
+/// `None` if none does. The item is looked for from the index `near` on first.
 fn status_by_item(items: &[Item], locator: &Locator, near: usize) -> Option<Status>
     requires { IsStrictlyIncreasing (map start_of items.now) }
     ensures { (image : Image) (w : ℕ) → CanStand image w locator.now →
-        IsTiling (extent_of image locator.now.extent w) items.now → IsStatusByItems image w locator.now result }
+        IsTiling (extent_of image locator.now.extent w) items.now →
+        IsStatusByItems image w locator.now result }
 {
     if let Some(i) = find_near(items, locator.offset, near) {
         let standing = frame_of_item(locator.extent, &items[i]);
-        return Some(judged(locator, standing, Status::Sound));
+        return Some(status_by_frame(locator, standing, Status::Sound));
     }
     None
 }
 
-/// The status of a locator by the findings; `None` if its place has to be read. The item at its place is looked for from the
-/// index `near` on first.
+/// The status of a locator by the findings; `None` if its place has to be read. The item at its place is
+/// looked for from the index `near` on first.
 pub(crate) fn status_by_findings<D: PageSource>(
     scan: &WholeScan<'_, D>,
     locator: &Locator,
     near: usize,
 ) -> Option<Status>
-    ensures known { IfSome result (HasStatusIn (D.image scan.now.disk.now) scan.now.plan.now locator.now) }
-    ensures open { IfNone result (IsOpen (D.image scan.now.disk.now) scan.now.plan.now locator.now) }
+    ensures { IsStatusByFindings (D.image scan.now.disk.now) scan.now.plan.now locator.now result }
 {
     let geometry = scan.plan.geometry();
     if !lies_in_range(geometry, locator) {
@@ -183,8 +192,8 @@ pub(crate) fn status_by_findings<D: PageSource>(
     status_by_item(findings.items(), locator, near)
 }
 
-/// The status of a locator by what is claimed at its place; `None` if the payload has to be hashed. A sealed frame has to be
-/// hashed to see whether it is one at all.
+/// The status of a locator by what is claimed at its place; `None` if the payload has to be hashed. A sealed
+/// frame has to be hashed to see whether it is one at all.
 pub(crate) fn status_by_claim(locator: &Locator, claimed: Option<Head>) -> Option<Status>
     ensures { IsStatusByClaim locator.now claimed result }
 {
@@ -197,8 +206,8 @@ pub(crate) fn status_by_claim(locator: &Locator, claimed: Option<Head>) -> Optio
     }
 }
 
-/// The status of a locator in the image of a disk: the first of the table that applies. The disk is read only if no item
-/// that was found begins at the locator's place.
+/// The status of a locator in the image of a disk: the first of the table that applies. Its place is judged
+/// as those of all locators are: the disk is read only if no item that was found begins there.
 pub fn status_of<D: PageSource>(
     alloc: Global,
     disk: &D,
@@ -212,13 +221,17 @@ pub fn status_of<D: PageSource>(
     let scan = WholeScan { disk, plan, all };
     match status_by_findings(&scan, locator, 0) {
         Some(status) => Ok(status),
-        None => status_by_place(alloc, &scan, locator),
+        None => OpenPlace::read(alloc, &scan, ChunkAt::named_by(locator))?.status(
+            alloc, &scan, locator,
+        ),
     }
 }
 
-/// A law: exactly one status applies to a locator, under a write pointer and by a plan. So only the image and the pointer of
-/// its extent decide the status.
+/// A law: exactly one status applies to a locator, under a write pointer and by a plan. So only the image and
+/// the pointer of its extent decide the status.
 pub fn one_status()
-    ensures under_pointer { (image : Image) (w : ℕ) (locator : Locator) → ExactlyOne (HasStatus image w locator) }
-    ensures in_plan { (image : Image) (plan : PlanValue) (locator : Locator) → ExactlyOne (HasStatusIn image plan locator) }
+    ensures under_pointer { (image : Image) (w : ℕ) (locator : Locator) →
+        ExactlyOne (HasStatus image w locator) }
+    ensures in_plan { (image : Image) (plan : PlanValue) (locator : Locator) →
+        ExactlyOne (HasStatusIn image plan locator) }
 {}

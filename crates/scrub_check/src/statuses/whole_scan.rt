@@ -1,7 +1,7 @@
 //! A disk with its plan and all that was found on it, which statuses are found by.
 
 ghost use Rattle.scrub_check.specs.WholeScan.{IsWholeScan};
-ghost use Rattle.scrub_check.specs.OneScan.{IsWholeScan-prop};
+ghost use Rattle.scrub_check.specs.steps.OneScan.{IsWholeScan-prop};
 
 use scrub_disk::PageSource;
 use scrub_scan::AllFindings;

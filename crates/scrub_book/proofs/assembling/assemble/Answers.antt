@@ -8,16 +8,16 @@ use Rattle.scrub_super.specs.Plan.{pointer_of}
 use Rattle.scrub_scan.specs.declared.extent_result.ExtentResult.{ExtentResult}
 use Rattle.scrub_scan.specs.Scanned.{Scanned, result_image, scanned}
 use Rattle.scrub_scan.specs.AllFindings.{extent_numbers}
-use Rattle.scrub_book.specs.Extents.{extents_of}
+use Rattle.scrub_book.specs.Extents.{extents_in}
 use Rattle.scrub_book.proofs.Arrivals.{numbers_shown, one_more_came, next_planned, next_first, all_came, not_refused}
 use Rattle.scrub_book.proofs.assembling.assemble.Goals as goal
 
 -- the results that arrived are of the planned extents
 each_of : {D : Type 0} {s : _} (planned : List ℕ) (rs : List (ExtentResult D s)) →
-    IsPermutation (extents_of rs) planned → (f : ℕ → ℕ) →
+    IsPermutation (extents_in rs) planned → (f : ℕ → ℕ) →
     sum_by f (extent_numbers (map (λ (r : ExtentResult D s). scanned r) rs)) ≡ sum_by f planned
 each_of {D} {s} planned rs each f =
-    ap (sum_by f) (numbers_shown rs) ∙ sym (sum_by-IsPermutation f (extents_of rs) planned each)
+    ap (sum_by f) (numbers_shown rs) ∙ sym (sum_by-IsPermutation f (extents_in rs) planned each)
 
 -- the next result
 next_of : {D : Type 0} {s : _} (all : List Scanned) (came : List Scanned) (rs rest : List (ExtentResult D s)) (r : ExtentResult D s) →

@@ -2,7 +2,7 @@ use Rattle.std.proofs.Common.{◌≡◌, ◌+◌, ◌++◌, ℕ, zero, suc, refl
 use Rattle.std.proofs.lemmas.List.{map_push}
 use Rattle.std.proofs.lemmas.List.Elements.{All-push}
 use Rattle.scrub_book.specs.declared.member.Member.{Member}
-use Rattle.scrub_book.specs.Member.{member_value, IsReady}
+use Rattle.scrub_book.specs.steps.Member.{member_value, IsReady}
 use Rattle.scrub_book.specs.Pool.{idle}
 use Rattle.scrub_book.proofs.pool_core.new_members.Goals as goal
 

@@ -1,7 +1,7 @@
 use Rattle.std.proofs.Common.{◌≡◌, map, replicate, All}
 use Rattle.scrub_disk.specs.Image.{Image}
 use Rattle.scrub_book.specs.declared.member.Member.{Member}
-use Rattle.scrub_book.specs.Member.{member_value, IsReady}
+use Rattle.scrub_book.specs.steps.Member.{member_value, IsReady}
 use Rattle.scrub_book.specs.Pool.{idle}
 use Rattle.scrub_book.proofs.pool_core.new_members.Given as goal
 

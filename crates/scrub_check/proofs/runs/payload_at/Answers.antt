@@ -6,7 +6,7 @@ use Rattle.scrub_scan.specs.Extent.{extent_of, FrameAt, NoFrameAt}
 use Rattle.scrub_scan.specs.Standing.{IsClaimedAt, HasPayload}
 use Rattle.scrub_scan.proofs.Claims.{only_frame}
 use Rattle.scrub_check.specs.ChunkRun.{standing_of, HasPayloadThere}
-use Rattle.scrub_check.proofs.Judged.{at_some, at_none}
+use Rattle.scrub_check.proofs.StatusByFrame.{at_some, at_none}
 use Rattle.scrub_check.proofs.runs.payload_at.Goals as goal
 
 pub unreachable-requires : goal.unreachable-requires

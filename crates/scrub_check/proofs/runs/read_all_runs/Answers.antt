@@ -2,7 +2,7 @@
 use Rattle.std.proofs.Common.{◌∙◌, IfOk, ap, subst}
 use Rattle.std.specs.List.{AllZip}
 use Rattle.rayon.proofs.ToStd.{slice-AllZip}
-use Rattle.scrub_check.specs.JudgedRun.{IsJudgedRun}
+use Rattle.scrub_check.specs.steps.RunWithStatus.{IsRunWithStatus}
 use Rattle.scrub_check.specs.Runs.{AreReadRuns}
 use Rattle.scrub_check.proofs.Collected.{collected}
 use Rattle.scrub_check.proofs.Listed.{are_read, have_statuses, counted}
@@ -10,9 +10,9 @@ use Rattle.scrub_check.proofs.runs.read_all_runs.Given.{Over}
 use Rattle.scrub_check.proofs.runs.read_all_runs.Goals as goal
 
 all_judged : (g : Over) (c : goal.In_ok-runs g) →
-    AllZip (IsJudgedRun (g.D.PageSource.image c.args.disk.now) c.args.plan.now) c.args.plan.now.runs c.in_ok-judged.judged.items
+    AllZip (IsRunWithStatus (g.D.PageSource.image c.args.disk.now) c.args.plan.now) c.args.plan.now.runs c.in_ok-judged.judged.items
 all_judged g c =
-    let IsJudged = IsJudgedRun (g.D.PageSource.image c.args.disk.now) c.args.plan.now in
+    let IsJudged = IsRunWithStatus (g.D.PageSource.image c.args.disk.now) c.args.plan.now in
     let runs = c.args.plan.now.runs in
     let slice =
     ap (λ it. it.base.slice.now) c.map.ensures.base ∙ ap (λ it. it.slice.now) c.with_min_len.ensures.base ∙ c.par_iter.ensures
@@ -20,7 +20,7 @@ all_judged g c =
     let h = c.in_ok-collect.ensures in
     let chain = h.1 in
     let given =
-    subst (λ f. AllZip (λ z r. IfOk r (IsJudgedRun (g.D.PageSource.image f.1.now) f.2.now z.now)) chain.0 h.0)
+    subst (λ f. AllZip (λ z r. IfOk r (IsRunWithStatus (g.D.PageSource.image f.1.now) f.2.now z.now)) chain.0 h.0)
     c.map.ensures.f chain.2 in
     let tried = slice-AllZip chain.0 runs (chain.1 ∙ slice) (λ l r. IfOk r (IsJudged l)) h.0 given in
     let each : IfOk c.in_ok-collect.field-0 (λ v. AllZip IsJudged runs v.items) =

@@ -1,7 +1,7 @@
 use Rattle.std.proofs.Common.{◌∙◌}
 use Rattle.std.proofs.lemmas.List.{take_all}
 use Rattle.scrub_disk.proofs.Zips.{AllZip-take_more}
-use Rattle.scrub_check.specs.JudgedRun.{IsJudgedRun}
+use Rattle.scrub_check.specs.steps.RunWithStatus.{IsRunWithStatus}
 use Rattle.scrub_check.specs.Runs.{AreReadRuns}
 use Rattle.scrub_check.proofs.Listed.{are_read, counted}
 use Rattle.scrub_check.proofs.runs.read_runs.Given.{Over}
@@ -12,7 +12,7 @@ loop-locator-init g c = rw c.in_ok-judged.ensures.items tt
 
 pub loop-locator-preserved : goal.loop-locator-preserved
 loop-locator-preserved g c =
-    AllZip-take_more (IsJudgedRun (g.D.PageSource.image c.args.disk.now) c.args.plan.now) c.runs-locators.result.now
+    AllZip-take_more (IsRunWithStatus (g.D.PageSource.image c.args.disk.now) c.args.plan.now) c.runs-locators.result.now
     c.loop-locator.judged.items c.push.new.self.items c.loop-locator.locator-index _ c.in_ok-one.one c.loop-locator-test.true
     c.loop-locator.invariant
     (rw c.locator-item.is at c.in_ok-one.ensures) c.in_ok-push.ensures.items

@@ -2,7 +2,7 @@ use Rattle.std.proofs.Common.{rules, ◌≡◌, ◌∙◌, false, ◌++◌, ◌�
 use Rattle.scrub_book.specs.Worker.{held_by, results_of}
 use Rattle.scrub_pool.specs.declared.crew.Member.{Member}
 use Rattle.scrub_pool.specs.declared.crew.NewMember.{NewMember}
-use Rattle.scrub_pool.specs.Working.{IsNewMember, HasEnded, AreDone}
+use Rattle.scrub_pool.specs.steps.Working.{IsNewMember, HasEnded, AreDone}
 use Rattle.scrub_pool.proofs.Crews.{all_last, all_more, counted_more}
 use Rattle.scrub_pool.proofs.crew.+crew.Goals as goal
 

@@ -1,7 +1,7 @@
 use Rattle.std.proofs.Common.{◌≡◌, [], take}
 use Rattle.crossbeam_queue.specs.Passes.{IsSamePass, IsPassOf}
-use Rattle.scrub_pool.specs.Account.{view_of}
-use Rattle.scrub_pool.specs.Known.{known}
+use Rattle.scrub_pool.specs.steps.Account.{view_of}
+use Rattle.scrub_pool.specs.steps.PassModel.{known}
 use Rattle.scrub_pool.proofs.extent_queue.fill.Given as goal
 
 abbrev pub invariant-loop-number : goal.invariant-loop-number

@@ -3,7 +3,7 @@ use Rattle.std.specs.Vec.Iter.{into_iter_items}
 use Rattle.std.proofs.lemmas.List.Elements.{All-rest}
 use Rattle.scrub_book.specs.Worker.{results_of}
 use Rattle.scrub_pool.specs.Passes.{one_list}
-use Rattle.scrub_pool.specs.Working.{AreResults, IsThrough}
+use Rattle.scrub_pool.specs.steps.Working.{AreResults, IsThrough}
 use Rattle.scrub_pool.proofs.Joined.{one_list_push, items_push, one_more_joined, sum_rest, all_first, no_results, extents_append, long_append, results_append}
 use Rattle.scrub_pool.proofs.scanning.join_members.Goals as goal
 

@@ -1,5 +1,5 @@
 use Rattle.std.proofs.Common.{◌≡◌, All, vec_len}
-use Rattle.scrub_pool.specs.Working.{IsNewMember}
+use Rattle.scrub_pool.specs.steps.Working.{IsNewMember}
 use Rattle.scrub_pool.proofs.scanning.new_crew.Given as goal
 
 abbrev pub invariant-loop-number : goal.invariant-loop-number

@@ -2,7 +2,7 @@ use Rattle.std.proofs.Common.{arith}
 use Rattle.std.proofs.lemmas.List.{length-map}
 use Rattle.std.proofs.lemmas.List.Sorted.{length_permutation}
 use Rattle.scrub_scan.specs.Scanned.{scanned}
-use Rattle.scrub_book.specs.Extents.{extents_of}
+use Rattle.scrub_book.specs.Extents.{extents_in}
 use Rattle.scrub_pool.proofs.scanning.scan_all.Goals as goal
 
 pub assemble-requires-clause-images : goal.assemble-requires-clause-images
@@ -19,6 +19,6 @@ returns-clause-counted g c =
     omega (
       arith,
       c.in_ok-lists.ensures.counted,
-      length_permutation (extents_of results) c.args.plan.now.planned c.in_ok-lists.ensures.extents,
+      length_permutation (extents_in results) c.args.plan.now.planned c.in_ok-lists.ensures.extents,
       length-map results (λ r. (scanned r).extent),
     )

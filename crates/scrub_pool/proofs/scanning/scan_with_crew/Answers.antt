@@ -2,7 +2,7 @@ use Rattle.std.proofs.Common.{rules, ◌≡◌, ◌++◌, ◌∷◌, ◌∙◌, 
 use Rattle.std.specs.List.Sorted.{IsPermutation}
 use Rattle.scrub_book.specs.Worker.{results_of}
 use Rattle.scrub_pool.specs.Passes.{one_list, taken_in}
-use Rattle.scrub_pool.specs.Working.{lists_in}
+use Rattle.scrub_pool.specs.steps.Working.{lists_in}
 use Rattle.scrub_pool.proofs.Joined.{items_push, results_append, all_scanned, long_append, partition_of}
 use Rattle.scrub_pool.proofs.scanning.scan_with_crew.Goals as goal
 

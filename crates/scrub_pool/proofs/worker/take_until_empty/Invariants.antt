@@ -1,6 +1,6 @@
 use Rattle.std.proofs.Common.{◌≡◌, None, length}
 use Rattle.scrub_book.specs.Worker.{held_by, results_of}
-use Rattle.scrub_pool.specs.Working.{IsSamePart, IsAtWork}
+use Rattle.scrub_pool.specs.steps.Working.{IsSamePart, IsAtWork}
 use Rattle.scrub_pool.proofs.worker.take_until_empty.Given as goal
 
 abbrev pub invariant-loop : goal.invariant-loop

@@ -3,8 +3,8 @@ use Rattle.std.proofs.lemmas.List.Elements.{All-push}
 use Rattle.scrub_scan.specs.declared.extent_result.ExtentResult.{ExtentResult}
 use Rattle.scrub_scan.specs.Scanned.{result_image}
 use Rattle.scrub_book.specs.declared.event.Event.TheVariants.{Done}
-use Rattle.scrub_book.specs.Member.{results_in, IsReady}
-use Rattle.scrub_book.proofs.Kept.{named_by, done_is, same_state, kept_step, kept_same}
+use Rattle.scrub_book.specs.steps.Member.{results_in, IsReady}
+use Rattle.scrub_book.proofs.PoolSteps.{named_by, done_is, same_state, kept_step, kept_same}
 use Rattle.scrub_book.proofs.pool_core.PoolCore.done.Goals as goal
 
 -- if memory ran out, the member is as it was

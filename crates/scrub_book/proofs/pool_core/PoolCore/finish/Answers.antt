@@ -3,8 +3,8 @@ use Rattle.std.proofs.lemmas.List.{get_or-map, get_or_default, length-map}
 use Rattle.std.proofs.lemmas.List.Sorted.{Contains-permutation, IsPermutation-sym}
 use Rattle.scrub_scan.specs.declared.extent_result.ExtentResult.{ExtentResult}
 use Rattle.scrub_scan.specs.Scanned.{scanned}
-use Rattle.scrub_book.specs.Extents.{extents_of}
-use Rattle.scrub_book.specs.Member.{state_of}
+use Rattle.scrub_book.specs.Extents.{extents_in}
+use Rattle.scrub_book.specs.steps.Member.{state_of}
 use Rattle.scrub_book.specs.Pool.{is_complete}
 use Rattle.scrub_book.proofs.Arrivals.{numbers_shown}
 use Rattle.scrub_book.proofs.Complete.{complete_sums}
@@ -24,7 +24,7 @@ assemble-requires-clause-each g c = λ κs h.
     let x = c.self.inside in
     let complete : is_complete (state_of x.queue.items x.members.items x.arrived.items) ≡ true =
     ap (λ v. is_complete v.state) c.self.view_is ∙ sym c.is_complete.ensures ∙ c.if-not-is_complete.false in
-    permutation_of_sums (extents_of x.arrived.items) x.book.plan.planned
+    permutation_of_sums (extents_in x.arrived.items) x.book.plan.planned
     (λ f. sym (ap (sum_by f) (numbers_shown x.arrived.items)) ∙ complete_sums (g.D.PageSource.image x.book.source) x.book.plan (state_of x.queue.items x.members.items x.arrived.items) c.self.invariant.0.pool complete f)
 
 pub returns-clause-assembly : goal.returns-clause-assembly

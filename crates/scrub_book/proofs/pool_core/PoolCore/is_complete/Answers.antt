@@ -3,7 +3,7 @@ use Rattle.std.specs.List.{list_all}
 use Rattle.std.proofs.lemmas.Bool.Decides.{nat_tests}
 use Rattle.std.proofs.lemmas.List.Folds.{list_all-map}
 use Rattle.scrub_book.specs.declared.member.Member.{Member}
-use Rattle.scrub_book.specs.Member.{member_value}
+use Rattle.scrub_book.specs.steps.Member.{member_value}
 use Rattle.scrub_book.specs.Pool.{MemberValue}
 use Rattle.scrub_book.proofs.pool_core.PoolCore.is_complete.Goals as goal
 

@@ -1,8 +1,8 @@
 use Rattle.std.proofs.Common.{◌≡◌, ◌∙◌, ap, arith, sym, map, length, [], ℕ, List, replicate}
 use Rattle.scrub_scan.specs.declared.extent_result.ExtentResult.{ExtentResult}
 use Rattle.scrub_scan.specs.Scanned.{Scanned, scanned}
-use Rattle.scrub_book.specs.Extents.{extents_of}
-use Rattle.scrub_book.specs.Member.{state_of}
+use Rattle.scrub_book.specs.Extents.{extents_in}
+use Rattle.scrub_book.specs.steps.Member.{state_of}
 use Rattle.scrub_book.specs.Pool.{PoolState, MemberValue, idle, start}
 use Rattle.scrub_book.proofs.Pools.{start_is}
 use Rattle.scrub_book.proofs.pool_core.PoolCore.new.Goals as goal
@@ -31,7 +31,7 @@ invariant_of-result g c =
         pool = rw began (start_is image book.plan c.args.workers);
         ready = c.in_ok-members.ensures.ready image;
         images = rw c.in_ok-arrived.ensures.items (λ k d below. absurd (omega (arith, below)));
-        numbers_are = c.in_ok-numbers.ensures.items ∙ sym (ap extents_of c.in_ok-arrived.ensures.items);
+        numbers_are = c.in_ok-numbers.ensures.items ∙ sym (ap extents_in c.in_ok-arrived.ensures.items);
         enough = omega (
           arith,
           c.in_ok-arrived.ensures.capacity,

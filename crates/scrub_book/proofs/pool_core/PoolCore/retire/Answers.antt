@@ -2,8 +2,8 @@ use Rattle.std.proofs.Common.{◌≡◌, ◌∙◌, ap, arith, length}
 use Rattle.std.proofs.lemmas.List.{length-map}
 use Rattle.scrub_scan.specs.declared.extent_result.ExtentResult.{ExtentResult}
 use Rattle.scrub_book.specs.declared.event.Event.TheVariants.{Retire}
-use Rattle.scrub_book.specs.Member.{results_in, IsReady}
-use Rattle.scrub_book.proofs.Kept.{named_by, retire_is, room_for, kept_arrived}
+use Rattle.scrub_book.specs.steps.Member.{results_in, IsReady}
+use Rattle.scrub_book.proofs.PoolSteps.{named_by, retire_is, room_for, kept_arrived}
 use Rattle.scrub_book.proofs.pool_core.PoolCore.retire.Goals as goal
 
 pub arrive-requires-clause-arrived : goal.arrive-requires-clause-arrived

@@ -2,10 +2,10 @@ use Rattle.std.proofs.Common.{◌≡◌, ◌∙◌, ap, sym, slice_get, Some}
 use Rattle.std.proofs.lemmas.Option.{same_Some}
 use Rattle.std.proofs.lemmas.Result.{IfOk-weaker}
 use Rattle.scrub_book.specs.declared.event.Event.TheVariants.{Done}
-use Rattle.scrub_book.specs.Member.{member_value, state_of}
+use Rattle.scrub_book.specs.steps.Member.{member_value, state_of}
 use Rattle.scrub_book.specs.Pool.{MemberValue}
 use Rattle.scrub_book.proofs.Complete.{held_planned}
-use Rattle.scrub_book.proofs.Kept.{named_by, place}
+use Rattle.scrub_book.proofs.PoolSteps.{named_by, place}
 use Rattle.scrub_book.proofs.pool_core.PoolCore.scan_held.Goals as goal
 
 -- what a member holds is planned

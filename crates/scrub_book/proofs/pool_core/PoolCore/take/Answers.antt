@@ -1,7 +1,7 @@
 use Rattle.std.proofs.Common.{ap, rules}
 use Rattle.scrub_book.specs.declared.event.Event.TheVariants.{Take}
-use Rattle.scrub_book.specs.Member.{IsReady}
-use Rattle.scrub_book.proofs.Kept.{named_by, take_is, kept_step}
+use Rattle.scrub_book.specs.steps.Member.{IsReady}
+use Rattle.scrub_book.proofs.PoolSteps.{named_by, take_is, kept_step}
 use Rattle.scrub_book.proofs.pool_core.PoolCore.take.Goals as goal
 
 pub returns-clause-taken : goal.returns-clause-taken

@@ -1,6 +1,6 @@
 use Rattle.std.specs.List.{filter_map}
 use Rattle.scrub_merge.proofs.Identifiers.{id_cmp_total, id_cmp_exact}
-use Rattle.scrub_check.specs.BrokenShards.{broken_owner}
+use Rattle.scrub_check.specs.steps.BrokenShards.{broken_owner}
 use Rattle.scrub_check.proofs.Distinct.{distinct_made}
 use Rattle.scrub_check.proofs.BrokenShards.{id_ties, broken_found}
 use Rattle.scrub_check.proofs.lists.broken.broken_shards.Goals as goal

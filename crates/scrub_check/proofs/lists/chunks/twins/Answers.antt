@@ -2,7 +2,7 @@ use Rattle.std.proofs.Common.{◌≡◌, ◌∙◌, ap, rules}
 use Rattle.std.specs.List.{filter}
 use Rattle.std.proofs.lemmas.Result.{IfOk-weaker}
 use Rattle.scrub_check.specs.Chunks.{chunks}
-use Rattle.scrub_check.specs.ChunkUuids.{AreUuidsOf, is_twin_by}
+use Rattle.scrub_check.specs.steps.ChunkUuids.{AreUuidsOf, is_twin_by}
 use Rattle.scrub_check.proofs.SameUuids.{no_twins, twins_found}
 use Rattle.scrub_check.proofs.lists.chunks.twins.Goals as goal
 

@@ -1,7 +1,7 @@
 use Rattle.std.proofs.Common.{◌≡◌, ◌∙◌, arith, ap, sym, get_or, true, false, is_lt}
 use Rattle.std.proofs.lemmas.List.{get_or_default}
 use Rattle.scrub_check.specs.declared.places.chunk_at.ChunkAt.{ChunkAt}
-use Rattle.scrub_check.specs.Places.{place_cmp}
+use Rattle.scrub_check.specs.steps.Places.{chunk_at_cmp}
 use Rattle.scrub_check.proofs.PartedPlaces.{less_lies_before, before_more}
 use Rattle.scrub_check.proofs.lists.cursor.first_from.Goals as goal
 
@@ -10,12 +10,12 @@ returns-then-not-is_lt c =
     let starts = c.args.starts.now in
     let s = c.args.start in
     let none : ChunkAt = record { extent = 0; offset = 0 } in
-    let known : is_lt (place_cmp (get_or starts c.loop-at.at none) s) ≡ false =
+    let known : is_lt (chunk_at_cmp (get_or starts c.loop-at.at none) s) ≡ false =
     ap is_lt (sym c.cmp.ensures) ∙ sym c.is_lt.ensures ∙ c.if-not-is_lt.true in
     record {
       within = omega (arith, c.loop-at-test.true);
       before = c.loop-at.invariant;
-      next = λ d inside. ap (λ (t : ChunkAt). is_lt (place_cmp t s)) (get_or_default starts c.loop-at.at d none inside) ∙ known;
+      next = λ d inside. ap (λ (t : ChunkAt). is_lt (chunk_at_cmp t s)) (get_or_default starts c.loop-at.at d none inside) ∙ known;
     }
 
 pub loop-at-preserved : goal.loop-at-preserved
@@ -23,7 +23,7 @@ loop-at-preserved c =
     let starts = c.args.starts.now in
     let s = c.args.start in
     let none : ChunkAt = record { extent = 0; offset = 0 } in
-    let known : is_lt (place_cmp (get_or starts c.loop-at.at none) s) ≡ true =
+    let known : is_lt (chunk_at_cmp (get_or starts c.loop-at.at none) s) ≡ true =
     ap is_lt (sym c.cmp.ensures) ∙ sym c.is_lt.ensures ∙ c.if-not-is_lt.false in
     before_more starts c.loop-at.at s.extent s.offset none c.loop-at-test.true c.loop-at.invariant
     (less_lies_before (get_or starts c.loop-at.at none) s known)

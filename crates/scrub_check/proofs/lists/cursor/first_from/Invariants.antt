@@ -1,4 +1,4 @@
-use Rattle.scrub_check.specs.LiveAndOrphans.{AreBefore}
+use Rattle.scrub_check.specs.steps.LiveAndOrphans.{AreBefore}
 use Rattle.scrub_check.proofs.lists.cursor.first_from.Given as goal
 
 -- the places so far are below the start

@@ -4,13 +4,13 @@ use Rattle.scrub_scan.specs.declared.findings.Findings.{Findings}
 use Rattle.scrub_scan.specs.Scanned.{Scanned, scanned, result_image}
 use Rattle.scrub_check.specs.declared.places.chunk_at.ChunkAt.{ChunkAt}
 use Rattle.scrub_check.specs.declared.lists.live_and_orphans.LiveAndOrphans.{LiveAndOrphans}
-use Rattle.scrub_check.specs.LocatorIndex.{reclaimable_by}
-use Rattle.scrub_check.specs.LiveAndOrphans.{orphans_by, AreLiveChunks, AreLiveAndOrphans}
+use Rattle.scrub_check.specs.steps.LocatorIndex.{reclaimable_by}
+use Rattle.scrub_check.specs.steps.LiveAndOrphans.{orphans_by, AreLiveChunks, AreLiveAndOrphans}
 use Rattle.scrub_check.proofs.Sizes.{sizes_fit}
 use Rattle.scrub_check.proofs.PartedExtents.{starts_found, live_of_extent, parted_more}
 use Rattle.scrub_check.proofs.lists.live_and_orphans.add_extent.Goals as goal
 
--- the items of findings rise
+-- the items of findings ascend
 pub live_among-requires-clause-rising : goal.live_among-requires-clause-rising
 live_among-requires-clause-rising g c =
     let f = scanned {s = g.D.PageSource} c.args.found.now in

@@ -2,7 +2,7 @@ use Rattle.std.proofs.Common.{◌++◌, ◌∷◌, [], List, take, refl, sym, �
 use Rattle.std.proofs.lemmas.List.{take_all, append-nil}
 use Rattle.scrub_scan.specs.declared.item.Item.{Item}
 use Rattle.scrub_check.specs.declared.places.chunk_at.ChunkAt.{ChunkAt}
-use Rattle.scrub_check.specs.LiveAndOrphans.{orphans_by, AreLiveBy}
+use Rattle.scrub_check.specs.steps.LiveAndOrphans.{orphans_by, AreLiveBy}
 use Rattle.scrub_check.proofs.PartedItems.{fits_next, passed_first, passed_next, passed_at, orphans_more, live_next}
 use Rattle.scrub_check.proofs.lists.live_and_orphans.live_among.Goals as goal
 

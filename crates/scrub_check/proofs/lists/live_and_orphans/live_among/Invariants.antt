@@ -1,5 +1,5 @@
 use Rattle.std.proofs.Common.{◌≡◌, ◌++◌, take}
-use Rattle.scrub_check.specs.LiveAndOrphans.{orphans_by, AreLiveBy}
+use Rattle.scrub_check.specs.steps.LiveAndOrphans.{orphans_by, AreLiveBy}
 use Rattle.scrub_check.proofs.PartedItems.{HasPassedTo}
 use Rattle.scrub_check.proofs.lists.live_and_orphans.live_among.Given as goal
 

@@ -5,7 +5,7 @@ use Rattle.std.proofs.lemmas.List.{append-nil}
 use Rattle.scrub_scan.specs.Item.{start_of}
 use Rattle.scrub_check.specs.declared.lists.kept_chunk.KeptChunk.{KeptChunk}
 use Rattle.scrub_check.specs.declared.lists.live_and_orphans.LiveChunks.{LiveChunks}
-use Rattle.scrub_check.specs.Places.{is_place}
+use Rattle.scrub_check.specs.steps.Places.{is_place}
 use Rattle.scrub_check.proofs.PartedItems.{a_chunk, live_more, other_more}
 use Rattle.scrub_check.proofs.lists.live_and_orphans.put_item.Goals as goal
 

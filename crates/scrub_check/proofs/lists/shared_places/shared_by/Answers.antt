@@ -1,6 +1,6 @@
 use Rattle.std.proofs.Common.{◌≡◌, ◌∙◌, ap, rules}
 use Rattle.std.proofs.lemmas.Result.{IfOk-weaker}
-use Rattle.scrub_check.specs.SoundPlaces.{shared_by}
+use Rattle.scrub_check.specs.steps.SoundPlaces.{shared_by}
 use Rattle.scrub_check.proofs.SharedPlaces.{none_shared, shared_found}
 use Rattle.scrub_check.proofs.lists.shared_places.shared_by.Goals as goal
 

@@ -1,20 +1,17 @@
-use Rattle.std.proofs.Common.{◌∙◌, List, ap, arith}
+use Rattle.std.proofs.Common.{◌∙◌, append_assoc, ap}
 use Rattle.std.specs.List.{filter}
-use Rattle.std.proofs.lemmas.List.{take_all}
+use Rattle.std.proofs.lemmas.List.Elements.{filter-append}
 use Rattle.scrub_scan.specs.declared.findings.Findings.{Findings}
-use Rattle.scrub_scan.specs.Scanned.{Scanned, scanned}
-use Rattle.scrub_check.specs.Spares.{frames, is_wanted}
-use Rattle.scrub_check.proofs.ExtentsSoFar.{wanted_more}
+use Rattle.scrub_scan.specs.Scanned.{scanned}
+use Rattle.scrub_check.specs.Spares.{frames, frames_in, is_wanted}
 use Rattle.scrub_check.proofs.lists.spares.frames_wanted.Goals as goal
 
-pub loop-i-preserved : goal.loop-i-preserved
-loop-i-preserved g c =
-    wanted_more c.args.all.now.extents c.loop-i.i (scanned c.result_at-one.result.now) c.result_at-one.ensures.result
-    c.args.wanted.now c.loop-i.found.items c.add_all_wanted.new.found.items c.extent.result c.items.result.now
-    c.loop-i.invariant c.extent.ensures
-    (c.items.ensures ∙ ap (λ (x : Findings). x.items) c.findings.ensures.value) c.in_ok-add_all_wanted.ensures
-
-pub returns : goal.returns
-returns g c =
-    c.loop-i.invariant
-    ∙ ap (λ (fs : List Scanned). filter (is_wanted c.args.wanted.now) (frames fs)) (take_all c.loop-i.i c.args.all.now.extents (omega (arith, c.loop-i-test.false, c.len-i-end.ensures.count)))
+pub loop-one-preserved : goal.loop-one-preserved
+loop-one-preserved g c =
+    let p = is_wanted c.args.wanted.now in
+    let here = frames_in (scanned c.in-Some.one.now) in
+    let left = frames c.next.new.self in
+    let items = c.items.ensures ∙ ap (λ (x : Findings). x.items) c.findings.ensures.value in
+    rw (c.in_ok-add_all_wanted.ensures, c.extent.ensures, items)
+    (append_assoc c.loop-one.found.items (filter p here) (filter p left)
+    ∙ (rw (c.in-Some.ensures.steps, filter-append p here left) at c.loop-one.invariant))

@@ -1,11 +1,23 @@
+use Rattle.std.proofs.Common.{◌+◌, Some, drop, get_or}
+use Rattle.std.proofs.lemmas.List.{drop_more}
 use Rattle.scrub_check.specs.declared.statuses.status.Status.TheVariants.{OutOfRange}
-use Rattle.std.proofs.Common.{get_or}
-use Rattle.scrub_check.proofs.OpenPlaces.{known_more}
+use Rattle.scrub_check.specs.steps.Open.{IsKnownBefore, IsJudged}
+use Rattle.scrub_check.proofs.CheckedLists.{zipped_at}
+use Rattle.scrub_check.proofs.JudgedPlaces.{no_locator, fewer_unknown}
+use Rattle.scrub_check.proofs.OpenPlaces.{put_at}
 use Rattle.scrub_check.proofs.statuses.by_place.put_statuses.Goals as goal
 
-pub loop-index-preserved : goal.loop-index-preserved
-loop-index-preserved c = λ image plan named judged known.
-    let i = c.loop-index.index-index in
-    let one = get_or c.args.judged.now i (0, OutOfRange) in
-    known_more image plan named c.loop-index.known one.0 one.1 (judged i (0, OutOfRange) c.loop-index-test.true)
-    (c.loop-index.invariant image plan named judged known)
+pub loop-i-preserved : goal.loop-i-preserved
+loop-i-preserved c =
+    let i = c.loop-i.i in
+    let left = c.args.left.now in
+    let status = get_or c.args.judged.now i OutOfRange in
+    record {
+      right = λ image plan named judged known.
+          put_at (IsKnownBefore image plan) named c.loop-i.known (get_or left i no_locator).index (Some status)
+          (zipped_at (IsJudged image plan named) left c.args.judged.now i no_locator OutOfRange c.loop-i-test.true judged)
+          (c.loop-i.invariant.right image plan named judged known);
+      all = λ each.
+          fewer_unknown c.loop-i.known (get_or left i no_locator) (drop (i + 1) left) status
+          (rw (drop_more left i no_locator c.loop-i-test.true) at (c.loop-i.invariant.all each));
+    }

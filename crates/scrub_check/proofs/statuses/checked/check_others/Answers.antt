@@ -1,8 +1,8 @@
-use Rattle.std.proofs.Common.{ℕ, All, arith, length, ◌≡◌}
+use Rattle.std.proofs.Common.{◌≡◌, ◌∙◌, All, arith, rules, length}
+use Rattle.std.specs.List.{AllZip}
+use Rattle.std.proofs.lemmas.List.{places, with_items_is}
 use Rattle.std.proofs.lemmas.Slice.Zip.{AllZip-long}
-use Rattle.scrub_check.specs.declared.statuses.status.Status.{Status}
-use Rattle.scrub_check.specs.Checked.{IsKnownBefore}
-use Rattle.scrub_check.specs.Open.{IsJudgedAt}
+use Rattle.scrub_check.specs.steps.Open.{IsKnownBefore, IsOpenAt, IsJudged}
 use Rattle.scrub_check.proofs.statuses.checked.check_others.Goals as goal
 
 -- something is said of each
@@ -10,20 +10,39 @@ pub open_locators-requires : goal.open_locators-requires
 open_locators-requires g c =
     rw c.deref.ensures.value (AllZip-long (IsKnownBefore (g.D.PageSource.image c.args.scan.now.disk.now) c.args.scan.now.plan.now) c.args.named.now c.args.known.items c.requires)
 
-pub check_each-requires-clause-count : goal.check_each-requires-clause-count
-check_each-requires-clause-count g c κs within =
-    rw c.deref-3.ensures.value (AllZip-long (IsKnownBefore (g.D.PageSource.image c.args.scan.now.disk.now) c.args.scan.now.plan.now) c.args.named.now c.loop-judged.known.items c.loop-judged.invariant)
-
 -- each index is one of a named locator
-pub put_statuses-requires : goal.put_statuses-requires
-put_statuses-requires g c =
+pub put_statuses-requires-clause-below : goal.put_statuses-requires-clause-below
+put_statuses-requires-clause-below g c =
     let image = g.D.PageSource.image c.args.scan.now.disk.now in
     let plan = c.args.scan.now.plan.now in
-    let IsJudged : ℕ × Status → Type 0 = IsJudgedAt image plan c.args.named.now in
-    let all : All (λ place. All IsJudged place.items) c.deref-judged-items.result.now =
-    rw c.deref-judged-items.ensures.value c.in_ok-judge_places.ensures in
-    let here : All IsJudged c.judged-item.result.items =
-    rw c.judged-item.is (all c.loop-judged.judged-index c.judged-item.result c.loop-judged-test.true) in
-    let long : length c.loop-judged.known.items ≡ length c.args.named.now =
-    AllZip-long (IsKnownBefore image plan) c.args.named.now c.loop-judged.known.items c.loop-judged.invariant in
-    rw (c.deref-in-loop-judged.ensures.value, c.deref_mut.ensures.value) (λ k d lt. omega (arith, (here k d lt).below, long))
+    let left : All (IsOpenAt image plan c.args.named.now) c.in_ok-left.left.items =
+    c.in_ok-left.ensures.open image plan (rw c.deref.ensures.value c.requires) in
+    let long : length c.args.known.items ≡ length c.args.named.now =
+    AllZip-long (IsKnownBefore image plan) c.args.named.now c.args.known.items c.requires in
+    rw (c.deref-3.ensures.value, c.deref_mut.ensures.value) (λ k d below. omega (arith, (left k d below).below, long))
+
+pub put_statuses-requires-clause-count : goal.put_statuses-requires-clause-count
+put_statuses-requires-clause-count g c =
+    let image = g.D.PageSource.image c.args.scan.now.disk.now in
+    rw (c.deref-4.ensures.value, c.deref-3.ensures.value)
+    (AllZip-long (IsJudged image c.args.scan.now.plan.now c.args.named.now) c.in_ok-left.left.items c.in_ok-judged.judged.items
+    (rw c.deref-2.ensures.value at c.in_ok-judged.ensures))
+
+pub check_each-requires-clause-count : goal.check_each-requires-clause-count
+check_each-requires-clause-count g c =
+    let long : length c.put_statuses.new.known ≡ length c.args.known.items = search (rules, places) in
+    rw (c.deref-5.ensures.value, with_items_is c.args.known c.put_statuses.new.known (search (rules, places)))
+    (long ∙ AllZip-long (IsKnownBefore (g.D.PageSource.image c.args.scan.now.disk.now) c.args.scan.now.plan.now) c.args.named.now c.args.known.items c.requires)
+
+-- what is known stays right
+pub returns : goal.returns
+returns g c =
+    let image = g.D.PageSource.image c.args.scan.now.disk.now in
+    let plan = c.args.scan.now.plan.now in
+    let judged : AllZip (IsJudged image plan c.args.named.now) c.deref-3.result.now c.deref-4.result.now =
+    rw (c.deref-3.ensures.value, c.deref-4.ensures.value) (rw c.deref-2.ensures.value at c.in_ok-judged.ensures) in
+    let known : AllZip (IsKnownBefore image plan) c.args.named.now c.deref_mut.result.now = rw c.deref_mut.ensures.value c.requires in
+    let after : AllZip (IsKnownBefore image plan) c.args.named.now c.deref-5.result.now =
+    rw (c.deref-5.ensures.value, with_items_is c.args.known c.put_statuses.new.known (search (rules, places)))
+    (c.put_statuses.ensures.right image plan c.args.named.now judged known) in
+    c.check_each.ensures image plan after

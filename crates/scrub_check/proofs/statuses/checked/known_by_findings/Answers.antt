@@ -2,7 +2,7 @@ use Rattle.std.proofs.Common.{◌∙◌, List, Option, ap, sym, subst}
 use Rattle.std.specs.List.{AllZip}
 use Rattle.rayon.proofs.ToStd.{slice-AllZip}
 use Rattle.scrub_check.specs.declared.statuses.status.Status.{Status}
-use Rattle.scrub_check.specs.Checked.{IsKnownBefore}
+use Rattle.scrub_check.specs.steps.Open.{IsKnownBefore}
 use Rattle.scrub_check.proofs.statuses.checked.known_by_findings.Goals as goal
 
 pub returns : goal.returns

@@ -1,9 +1,5 @@
 -- The items of the extent decide, if it was scanned.
 use Rattle.scrub_check.proofs.ChunkForms.{form_by_findings, items_rise, no_form}
-use Rattle.scrub_check.proofs.Judged.{at_none, at_some}
-use Rattle.std.proofs.Common.{◌≡◌, Some}
-use Rattle.std.specs.List.{Contains}
-use Rattle.scrub_scan.specs.AllFindings.{extent_numbers, findings_in}
 use Rattle.scrub_check.proofs.statuses.chunk_form.form_at.Goals as goal
 
 pub form_from-requires : goal.form_from-requires

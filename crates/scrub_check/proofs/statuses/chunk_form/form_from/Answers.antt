@@ -1,11 +1,11 @@
 -- The item that begins there, or none.
-use Rattle.std.proofs.Common.{◌≡◌, ◌∙◌, ap, sym, map}
+use Rattle.std.proofs.Common.{◌∙◌, ap, sym, map}
 use Rattle.std.specs.List.{Contains}
 use Rattle.std.specs.Option.{option_and_then}
 use Rattle.scrub_scan.specs.Item.{start_of}
 use Rattle.scrub_check.specs.ChunkForms.{form_of}
 use Rattle.scrub_check.proofs.ChunkForms.{item_found, no_item}
-use Rattle.scrub_check.proofs.Judged.{StartsAt, at_none, at_some}
+use Rattle.scrub_check.proofs.StatusByFrame.{StartsAt, at_none, at_some}
 use Rattle.scrub_check.proofs.statuses.chunk_form.form_from.Goals as goal
 
 pub returns-in-Some : goal.returns-in-Some

@@ -54,7 +54,7 @@ loop-low-preserved g c =
     }
 
 -- no place is left
-pub returns-clause-none : goal.returns-clause-none
-returns-clause-none g c =
+pub returns-clause-found : goal.returns-clause-found
+returns-clause-found g c =
     lies_nowhere (g.S.ShowsStarts.starts c.args.among.now) c.args.start c.loop-low.low c.loop-low.high
     c.loop-low.invariant.within (omega (arith, c.loop-low-test.false))

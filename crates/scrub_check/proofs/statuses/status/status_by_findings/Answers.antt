@@ -7,7 +7,7 @@ use Rattle.scrub_scan.proofs.Entries.{findings_facts}
 use Rattle.scrub_check.specs.Status.{InRange, CanStand}
 use Rattle.scrub_check.proofs.PlannedFindings.{each_listed}
 use Rattle.scrub_check.proofs.Starts.{starts_rise}
-use Rattle.scrub_check.proofs.Judged.{status_in_plan}
+use Rattle.scrub_check.proofs.StatusByFrame.{status_in_plan}
 use Rattle.scrub_check.proofs.statuses.status.status_by_findings.Goals as goal
 
 -- the extent of a locator that is in range was scanned
@@ -35,9 +35,9 @@ status_by_item-requires g c =
     rw c.items.ensures
     (starts_rise (extent_of image c.args.locator.now.extent c.pointer-pointer.result) c.findings_of-findings.result.now.items (omega (arith, image.geometry.page_size.least)) found.tiled)
 
--- so they decide its status
-pub returns-clause-known : goal.returns-clause-known
-returns-clause-known g c =
+-- so they decide its status, or its place has to be read
+pub returns : goal.returns
+returns g c =
     let image = g.D.PageSource.image c.args.scan.now.disk.now in
     let l = c.args.locator.now in
     let w = c.pointer-pointer.result in
@@ -52,23 +52,5 @@ returns-clause-known g c =
       readable = search rules;
     } in
     let tiled = subst (λ (is : List Item). IsTiling (extent_of image l.extent w) is) (sym c.items.ensures) found.tiled in
-    (status_in_plan image c.args.scan.now.plan.now w l c.status_by_item.result (sym c.is_retired.ensures ∙ c.if-is_retired.false) c.pointer-pointer.ensures.value can (c.status_by_item.ensures image w can tiled)).0
-
--- or its place has to be read
-pub returns-clause-open : goal.returns-clause-open
-returns-clause-open g c =
-    let image = g.D.PageSource.image c.args.scan.now.disk.now in
-    let l = c.args.locator.now in
-    let w = c.pointer-pointer.result in
-    let found = findings_facts image c.args.scan.now.plan.now c.args.scan.now.all.now.extents l.extent w c.findings_of-findings.result.now
-    c.args.scan.now.whole.findings c.findings_of-findings.ensures c.pointer-pointer.ensures.value in
-    let range : InRange image.geometry l =
-    subst (λ (geometry : Geometry). InRange geometry l) (c.geometry-geometry.ensures ∙ c.args.scan.now.whole.geometry)
-    (c.lies_in_range.ensures.0 (search rules)) in
-    let can : CanStand image w l = record {
-      in_range = range;
-      below = omega (arith, c.end_of.ensures, c.if-end_of-pointer.false);
-      readable = search rules;
-    } in
-    let tiled = subst (λ (is : List Item). IsTiling (extent_of image l.extent w) is) (sym c.items.ensures) found.tiled in
-    (status_in_plan image c.args.scan.now.plan.now w l c.status_by_item.result (sym c.is_retired.ensures ∙ c.if-is_retired.false) c.pointer-pointer.ensures.value can (c.status_by_item.ensures image w can tiled)).1
+    status_in_plan image c.args.scan.now.plan.now w l c.status_by_item.result (sym c.is_retired.ensures ∙ c.if-is_retired.false)
+    c.pointer-pointer.ensures.value can (c.status_by_item.ensures image w can tiled)

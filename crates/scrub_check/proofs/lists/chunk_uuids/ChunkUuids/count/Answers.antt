@@ -1,7 +1,7 @@
 use Rattle.std.proofs.Common.{◌≡◌, ◌∙◌, ap, is_eq, rules}
 use Rattle.std.specs.List.{count_by}
 use Rattle.std.proofs.lemmas.Map.Text.{is_eq-slice_cmp}
-use Rattle.scrub_check.specs.ChunkUuids.{uuid_cmp}
+use Rattle.scrub_check.specs.steps.ChunkUuids.{uuid_cmp}
 use Rattle.scrub_check.proofs.lists.chunk_uuids.ChunkUuids.count.Goals as goal
 
 pub returns : goal.returns

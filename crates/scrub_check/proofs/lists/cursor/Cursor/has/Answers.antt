@@ -1,6 +1,6 @@
 use Rattle.std.proofs.Common.{◌∙◌, refl, get_or}
 use Rattle.scrub_check.specs.declared.places.chunk_at.ChunkAt.{ChunkAt}
-use Rattle.scrub_check.specs.Places.{place_cmp}
+use Rattle.scrub_check.specs.steps.Places.{chunk_at_cmp}
 use Rattle.scrub_check.proofs.SortedPlaces.{place_ties}
 use Rattle.scrub_check.proofs.PartedPlaces.{found_first, found_nowhere}
 use Rattle.scrub_check.proofs.lists.cursor.Cursor.has.Goals as goal
@@ -12,7 +12,7 @@ returns-then-self-clause-stands c =
     let n = c.first_from-self.result in
     c.eq.ensures
     ∙ place_ties (get_or starts n none) c.args.start
-    ∙ found_first starts c.args.start none n (place_cmp (get_or starts n none) c.args.start) c.requires.sorted
+    ∙ found_first starts c.args.start none n (chunk_at_cmp (get_or starts n none) c.args.start) c.requires.sorted
     c.first_from-self.ensures c.if-self.true refl
 
 pub returns-else-self-clause-stands : goal.returns-else-self-clause-stands

@@ -15,9 +15,9 @@ use Rattle.scrub_check.specs.declared.lists.live_and_orphans.LiveAndOrphans.{Liv
 use Rattle.scrub_check.specs.Live.{size_of, live_chunks, live_bytes}
 use Rattle.scrub_check.specs.Candidates.{kept_of}
 use Rattle.scrub_check.specs.Chunks.{place_of, orphans}
-use Rattle.scrub_check.specs.Places.{place_cmp}
-use Rattle.scrub_check.specs.SoundPlaces.{is_live_by, is_named_by}
-use Rattle.scrub_check.specs.LocatorIndex.{reclaimable_by}
+use Rattle.scrub_check.specs.steps.Places.{chunk_at_cmp}
+use Rattle.scrub_check.specs.steps.SoundPlaces.{is_live_by, is_named_by}
+use Rattle.scrub_check.specs.steps.LocatorIndex.{reclaimable_by}
 
 -- the place is before byte p of extent e
 abbrev pub LiesBefore : ℕ → ℕ → ChunkAt → Type 0
@@ -31,11 +31,11 @@ AreBefore starts n e p = (k : ℕ) (d : ChunkAt) → k < n → LiesBefore e p (s
 pub record IsFirstFrom (starts : List ChunkAt) (s : ChunkAt) (n : ℕ) : Type 0 where
   pub within : n ≤ length starts
   pub before : AreBefore starts n s.extent s.offset
-  pub next : (d : ChunkAt) → n < length starts → is_lt (place_cmp (slice_index_or starts n d) s) ≡ false
+  pub next : (d : ChunkAt) → n < length starts → is_lt (chunk_at_cmp (slice_index_or starts n d) s) ≡ false
 
 -- a cursor over sorted places has passed none from byte p of extent e on
 pub record HasPassed (c : Cursor) (e p : ℕ) : Type 0 where
-  pub sorted : IsSorted place_cmp c.starts.now
+  pub sorted : IsSorted chunk_at_cmp c.starts.now
   pub within : c.at ≤ length c.starts.now
   pub before : AreBefore c.starts.now c.at e p
 

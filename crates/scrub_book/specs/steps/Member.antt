@@ -6,7 +6,7 @@ use Rattle.scrub_scan.specs.Scanned.{scanned, result_image}
 use Rattle.scrub_book.specs.declared.member.Member.{Member}
 use Rattle.scrub_book.specs.declared.member.Member.TheVariants.{Working, Through}
 use Rattle.scrub_book.specs.Worker.{held_by, taken_by, results_of, spare_of}
-use Rattle.scrub_book.specs.Extents.{extents_of}
+use Rattle.scrub_book.specs.Extents.{extents_in}
 use Rattle.scrub_book.specs.Book.{BookValue}
 use Rattle.scrub_book.specs.Pool.{MemberValue, PoolState, PoolValue, IsPool}
 
@@ -44,7 +44,7 @@ module _ {D : Type 0} {s : _} where
     pub pool : IsPool image book.plan (state_of queue members arrived)
     pub ready : All (IsReady image) members
     pub images : All (λ (r : ExtentResult D s). result_image r ≡ image) arrived
-    pub numbers_are : numbers ≡ extents_of arrived
+    pub numbers_are : numbers ≡ extents_in arrived
     pub enough : length book.plan.planned ≤ room
 
   -- what the code keeps, with room for the numbers too

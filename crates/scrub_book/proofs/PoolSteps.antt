@@ -15,9 +15,9 @@ use Rattle.scrub_book.specs.declared.event.Event.TheVariants.{Take, Done, Retire
 use Rattle.scrub_book.specs.declared.event.StepRefused.TheVariants.{NoWorker}
 use Rattle.scrub_book.specs.declared.member.Member.{Member}
 use Rattle.scrub_book.specs.declared.member.Member.TheVariants.{Working, Through}
-use Rattle.scrub_book.specs.Extents.{extents_of}
+use Rattle.scrub_book.specs.Extents.{extents_in}
 use Rattle.scrub_book.specs.Book.{BookValue}
-use Rattle.scrub_book.specs.Member.{member_value, results_in, state_of, IsReady, HoldsPool}
+use Rattle.scrub_book.specs.steps.Member.{member_value, results_in, state_of, IsReady, HoldsPool}
 use Rattle.scrub_book.specs.Pool.{MemberValue, PoolState, worker_of, member_refusal, refusal, taking, having_found, through, IsTake, IsDone, IsRetire, IsStep, IsPool, having}
 use Rattle.scrub_book.proofs.Counts.{ones}
 use Rattle.scrub_book.proofs.Pools.{one_among, step_keeps}
@@ -133,7 +133,7 @@ module _ {D : Type 0} {s : _} where
     kept_with : (v : ℕ) (n : Member D s) → IsReady image n →
         (left : List ℕ) (after : List (ExtentResult D s)) (listed : List ℕ) →
         IsPool image book.plan (state_of left (set ms v n) after) →
-        All (λ (r : ExtentResult D s). result_image r ≡ image) after → listed ≡ extents_of after →
+        All (λ (r : ExtentResult D s). result_image r ≡ image) after → listed ≡ extents_in after →
         HoldsPool image book left (set ms v n) after listed room
     kept_with v n ready left after listed pool images numbers_are = record {
       nothing = kept.nothing;
@@ -160,12 +160,12 @@ module _ {D : Type 0} {s : _} where
       pub kept_arrived : (after : List (ExtentResult D s)) (listed : List ℕ) (more : List (ExtentResult D s)) →
           IsStep image book.plan (state_of queue ms arrived) event (state_of queue (set ms (worker_of event) n) after) →
           All (λ (r : ExtentResult D s). result_image r ≡ image) more → after ≡ arrived ++ more →
-          listed ≡ numbers ++ extents_of more → HoldsPool image book queue (set ms (worker_of event) n) after listed room
+          listed ≡ numbers ++ extents_in more → HoldsPool image book queue (set ms (worker_of event) n) after listed room
       kept_arrived after listed more step images is are =
           kept_with (worker_of event) n ready queue after listed
           (step_keeps image book.plan (state_of queue ms arrived) event (state_of queue (set ms (worker_of event) n) after) named.may step kept.pool)
           (rw is (All-append (λ (r : ExtentResult D s). result_image r ≡ image) arrived more kept.images images))
-          (are ∙ ap (λ (ns : List ℕ). ns ++ extents_of more) kept.numbers_are ∙ sym (map-append (λ (r : ExtentResult D s). (scanned r).extent) arrived more) ∙ sym (ap extents_of is))
+          (are ∙ ap (λ (ns : List ℕ). ns ++ extents_in more) kept.numbers_are ∙ sym (map-append (λ (r : ExtentResult D s). (scanned r).extent) arrived more) ∙ sym (ap extents_in is))
 
       -- after a member was written as it was
       pub kept_same : member_value n ≡ member_value m →

@@ -31,9 +31,9 @@ pub record Agrees (l : Locator) (s : Standing) : Type 0 where
   pub digest : s.digest ≡ l.digest
 
 -- the status of a locator by the frame at its place, or by none: `agreeing` if it is the one that the locator names
-abbrev pub IsJudged : Locator → Option Standing → Status → Status → Type 0
-IsJudged l None agreeing status = status ≡ NoFrame
-IsJudged l (Some s) agreeing status = IsMismatch l s status ⊎ (Agrees l s × (status ≡ agreeing))
+abbrev pub IsStatusByFrame : Locator → Option Standing → Status → Status → Type 0
+IsStatusByFrame l None agreeing status = status ≡ NoFrame
+IsStatusByFrame l (Some s) agreeing status = IsMismatch l s status ⊎ (Agrees l s × (status ≡ agreeing))
 
 -- what a claim at the locator's place says without a hash: no frame if nothing is claimed, another frame if a plain one
 -- of another UUID or length is, and else the payload has to be read

@@ -7,7 +7,7 @@ use Rattle.scrub_scan.specs.Scanned.{Scanned}
 use Rattle.scrub_check.specs.declared.statuses.checked.Checked.{Checked}
 use Rattle.scrub_check.specs.declared.lists.locator_index.LocatorIndex.{LocatorIndex}
 use Rattle.scrub_check.specs.Checked.{is_sound}
-use Rattle.scrub_check.specs.SoundPlaces.{AreSoundPlaces}
+use Rattle.scrub_check.specs.steps.SoundPlaces.{AreSoundPlaces}
 use Rattle.scrub_check.specs.Candidates.{CandidateValue, reclaimable}
 
 -- the extents of the checked locators that aren't sound, each as often as it is named, in some order
@@ -24,6 +24,6 @@ abbrev pub reclaimable_by : Option Geometry → List Scanned → List Checked �
 reclaimable_by None all checked = []
 reclaimable_by (Some g) all checked = reclaimable g all checked
 
--- the candidates, and behind them the extent, if the sizes are given and it may be reclaimed
+-- the candidates, and after them the extent, if the sizes are given and it may be reclaimed
 abbrev pub with_reclaimable : Option Geometry → List Checked → List CandidateValue → Scanned → List CandidateValue
 with_reclaimable g checked candidates f = candidates ++ reclaimable_by g (f ∷ []) checked

@@ -7,17 +7,17 @@ use Rattle.scrub_check.specs.declared.lists.place.Place.{Place}
 use Rattle.scrub_check.specs.declared.lists.place.SharedPlace.{SharedPlace}
 use Rattle.scrub_check.specs.declared.statuses.checked.Checked.{Checked}
 use Rattle.scrub_check.specs.declared.places.chunk_at.ChunkAt.{ChunkAt}
-use Rattle.scrub_check.specs.Places.{is_place, place_named_by}
+use Rattle.scrub_check.specs.steps.Places.{is_place, place_named_by}
 use Rattle.scrub_check.specs.Checked.{is_sound}
 use Rattle.scrub_check.specs.Live.{is_chunk, sound_at}
 
 -- where the locator points
-abbrev pub place_named : Checked → ChunkAt
-place_named c = place_named_by c.locator
+abbrev pub place_of_checked : Checked → ChunkAt
+place_of_checked c = place_named_by c.locator
 
 -- the places that the sound ones of some locators point to, in the order of the locators
 abbrev pub sound_places : List Checked → List ChunkAt
-sound_places checked = map place_named (filter (λ c. is_sound c.status) checked)
+sound_places checked = map place_of_checked (filter (λ c. is_sound c.status) checked)
 
 -- the places that the sound ones of some locators point to, in some order, each as often as they do
 abbrev pub AreSoundPlaces : List Checked → List ChunkAt → Type 0

@@ -21,7 +21,7 @@ pub record IsView (pushed : List ℕ) (v : View) : Type 0 where
   pub nothing : v.firsts + v.lives ≡ 0 → (v.own ≡ []) × (v.joined ≡ [])
   pub knows : 0 < v.firsts + v.lives → v.pushed ≡ pushed
 
--- the rule of the queue: what was pushed rises, and is some list followed by the queue's content; all passes together took
+-- the rule of the queue: what was pushed ascends, and is some list followed by the queue's content; all passes together took
 -- exactly that list, each extent as often
 pub record Accounts (items : List ℕ) (views : List View) : Type 0 where
   pub pushed : List ℕ

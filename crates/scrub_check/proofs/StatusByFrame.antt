@@ -1,7 +1,7 @@
 -- The status of a locator, from what was found at its place.
 use Rattle.std.proofs.Common.{◌≡◌, ◌<◌, ℕ, List, map, length, get_or, slice_index, false, Option, Some, None, IfSome, IfNone, inl, inr, arith, refl, sym, ◌∙◌, ap, subst}
 use Rattle.std.specs.List.{Contains}
-use Rattle.std.proofs.lemmas.List.{get_or-map}
+use Rattle.std.proofs.lemmas.List.{get_or-map, length-map}
 use Rattle.std.proofs.lemmas.List.Elements.{All-get_or}
 use Rattle.scrub_disk.specs.Image.{Image}
 use Rattle.scrub_frame.specs.declared.locator.Locator.{Locator}
@@ -17,8 +17,9 @@ use Rattle.scrub_check.specs.declared.statuses.status.Status.{Status}
 use Rattle.scrub_check.specs.declared.statuses.status.Status.TheVariants.{OutOfRange, Retired, PastPointer, Unreadable, NoFrame, WrongUuid, WrongLength, WrongDigest, Hidden, Sound}
 use Rattle.scrub_check.specs.Status.{CanStand, FindsFrame, NamesChunk, HasStatus, HasStatusIn, is_retired}
 use Rattle.scrub_check.specs.Chunks.{frame_of_item}
-use Rattle.scrub_check.specs.Judged.{IsOther, IsMismatch, Agrees, IsJudged}
-use Rattle.scrub_check.specs.Open.{IsFoundAt, IsOpen, IsSeenAt, IsStatusByItems}
+use Rattle.scrub_check.specs.steps.StatusByFrame.{IsOther, IsMismatch, Agrees, IsStatusByFrame}
+use Rattle.scrub_check.specs.steps.Places.{IsIndexOf}
+use Rattle.scrub_check.specs.steps.Open.{IsFoundAt, IsOpen, IsSeenAt, IsStatusByItems, IsStatusByFindings}
 use Rattle.scrub_check.proofs.Starts.{begins, begins_among}
 
 -- what a clause says of the value that there is
@@ -80,7 +81,7 @@ IsFoundThere image w l found = IsFoundAt image w l.extent l.offset found
 -- it decides the status, if the chunk that the locator names has the status that is given for it
 judged_status : (image : Image) (w : ℕ) (l : Locator) (found : Option Standing) (agreeing status : Status) →
     CanStand image w l → IsFoundThere image w l found →
-    (NamesChunk image w l → HasStatus image w l agreeing) → IsJudged l found agreeing status → HasStatus image w l status
+    (NamesChunk image w l → HasStatus image w l agreeing) → IsStatusByFrame l found agreeing status → HasStatus image w l status
 judged_status image w l None agreeing status can none chunk judged = rw judged (can, none)
 judged_status image w l (Some s) agreeing status can there chunk (inl mismatch) =
     mismatched image w l s status can there mismatch
@@ -102,10 +103,17 @@ item_there image w l (Lost start stop) h at = rw at at h.fits.1
 abbrev pub StartsAt : List Item → ℕ → ℕ → Type 0
 StartsAt items p i = (i < length items) × (slice_index (map start_of items) i ≡ p)
 
+-- and that is the one that was found
+pub starts_at : (items : List Item) (p i : ℕ) (found : Option ℕ) → found ≡ Some i → IsIndexOf (map start_of items) p found →
+    StartsAt items p i
+starts_at items p i found is h =
+    let at : (i < length (map start_of items)) × (slice_index (map start_of items) i ≡ p) = rw is at h in
+    (rw (length-map items start_of) at at.0, at.1)
+
 -- so the i-th item decides the status if it begins there
 pub judged_by_item : (image : Image) (w : ℕ) (l : Locator) (items : List Item) (i : ℕ) (item : Item) (status : Status) →
     CanStand image w l → IsTiling (extent_of image l.extent w) items →
-    StartsAt items l.offset i → item ≡ get_or items i item → IsJudged l (frame_of_item l.extent item) Sound status →
+    StartsAt items l.offset i → item ≡ get_or items i item → IsStatusByFrame l (frame_of_item l.extent item) Sound status →
     HasStatus image w l status
 judged_by_item image w l items i item status can tiled at is judged =
     let x = extent_of image l.extent w in
@@ -131,23 +139,20 @@ status_under image plan w l s in_use at h =
 pub status_in_plan : (image : Image) (plan : PlanValue) (w : ℕ) (l : Locator) (known : Option Status) →
     is_retired plan l.extent ≡ false → pointer_of plan l.extent ≡ Some w → CanStand image w l →
     IsStatusByItems image w l known →
-    IfSome known (HasStatusIn image plan l) × IfNone known (IsOpen image plan l)
-status_in_plan image plan w l None in_use at can h = (
-  tt,
-  record {
-    in_use = in_use;
-    pointer = w;
-    is = at;
-    can = can;
-    apart = h;
-  },
-)
-status_in_plan image plan w l (Some s) in_use at can h = (status_under image plan w l s in_use at h, tt)
+    IsStatusByFindings image plan l known
+status_in_plan image plan w l None in_use at can h = record {
+  in_use = in_use;
+  pointer = w;
+  is = at;
+  can = can;
+  apart = h;
+}
+status_in_plan image plan w l (Some s) in_use at can h = status_under image plan w l s in_use at h
 
 -- the frame that was read decides the status of a locator that was left
 pub judged_by_frame : (image : Image) (plan : PlanValue) (l : Locator) (found : Option Standing) (status : Status) →
     IsOpen image plan l → IsSeenAt image plan (record { extent = l.extent; offset = l.offset }) found →
-    IsJudged l found Hidden status → HasStatusIn image plan l status
+    IsStatusByFrame l found Hidden status → HasStatusIn image plan l status
 judged_by_frame image plan l found status left seen judged =
     status_under image plan left.pointer l status left.in_use left.is
     (judged_status image left.pointer l found Hidden status left.can (seen left.pointer left.is) (λ chunk. (chunk, left.apart)) judged)

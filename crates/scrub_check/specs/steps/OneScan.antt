@@ -4,7 +4,7 @@ use Rattle.std.proofs.Props.{props}
 use Rattle.scrub_disk.specs.Image.{Image}
 use Rattle.scrub_super.specs.Plan.{PlanValue}
 use Rattle.scrub_scan.specs.Scanned.{Scanned}
-use Rattle.scrub_scan.specs.Props.{IsFindings-prop}
+use Rattle.scrub_scan.specs.steps.Props.{IsFindings-prop}
 use Rattle.scrub_scan.specs.AllFindings.{AreAllFindings}
 use Rattle.scrub_check.specs.WholeScan.{IsWholeScan}
 

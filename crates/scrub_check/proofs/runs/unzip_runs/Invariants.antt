@@ -1,6 +1,6 @@
 -- The three lists have the parts so far.
 use Rattle.std.proofs.Common.{◌≡◌, map as list_map}
-use Rattle.scrub_check.proofs.runs.unzipped.Given as goal
+use Rattle.scrub_check.proofs.runs.unzip_runs.Given as goal
 
 abbrev pub invariant-loop-one : goal.invariant-loop-one
 invariant-loop-one l = record {
