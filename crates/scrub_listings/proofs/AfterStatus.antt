@@ -12,7 +12,7 @@ use Rattle.scrub_check.specs.Checked.{is_owned_by}
 use Rattle.scrub_check.specs.ChunkForms.{form_at}
 use Rattle.scrub_check.specs.Spares.{AreSpares}
 use Rattle.scrub_listings.specs.Manifest.{after_status, after_status_in, is_of_shard, numbered_text, of_shards, retired_line, runs_line, shard_lines, text_by, total_line}
-use Rattle.scrub_listings.specs.ManifestSteps.{after_status_by}
+use Rattle.scrub_listings.specs.steps.Manifest.{after_status_by}
 use Rattle.scrub_listings.proofs.ShardLines.{line_of}
 
 -- the same follows the status of each of these locators

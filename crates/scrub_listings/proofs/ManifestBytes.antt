@@ -25,7 +25,7 @@ use Rattle.scrub_scan.specs.Extent.{extent_of, FrameAt}
 use Rattle.scrub_scan.specs.Scanned.{Scanned}
 use Rattle.scrub_run.specs.declared.shard_id.ShardId.{ShardId}
 use Rattle.scrub_run.specs.Entry.{EntryValue, entry_bytes}
-use Rattle.scrub_run.specs.Run.{run_body, run_bytes, run_magic}
+use Rattle.scrub_run.specs.Run.{IsRun, run_body, run_bytes, run_magic}
 use Rattle.scrub_merge.specs.Binding.{BindingValue, IsNewestBinding}
 use Rattle.scrub_check.specs.declared.named.Named.{Named}
 use Rattle.scrub_check.specs.declared.named.Owner.TheVariants.{Shard}
@@ -34,13 +34,13 @@ use Rattle.scrub_check.specs.declared.statuses.status.Status.{Status}
 use Rattle.scrub_check.specs.Checked.{is_dangling, is_hidden, is_sound, named_of}
 use Rattle.scrub_check.specs.ChunkForms.{form_at}
 use Rattle.scrub_check.specs.Named.{named_by_shard}
-use Rattle.scrub_check.specs.Runs.{NamesRun}
 use Rattle.scrub_check.specs.Spares.{spares_of}
+use Rattle.scrub_check.specs.Status.{FindsFrame, NamesChunk}
 use Rattle.scrub_report.specs.Scrubbed.{Scrubbed, IsScrubbedBut}
 use Rattle.scrub_report.specs.Texts.{owner_text, uuid_text}
 use Rattle.scrub_report.proofs.OneIndex.{read_of}
 use Rattle.scrub_report.proofs.OneReader.{heads, no_tail, tails}
-use Rattle.scrub_listings.specs.Manifest.{HeldValue, HoldsBytes, TraitsValue, all_held, all_traits, form_text, held, looked_for, of_shards, traits}
+use Rattle.scrub_listings.specs.Manifest.{HeldValue, HoldsBytes, TraitsValue, all_held, all_traits, form_text, held_locator, looked_for, of_shards, traits}
 use Rattle.scrub_listings.proofs.ManifestTexts.{HasSmallNumbers, IsSmall, cut, decimal_word, not_space, small, uuid_word}
 use Rattle.scrub_listings.proofs.ShardLines.{along_runs, shards_part, unmapped}
 
@@ -66,12 +66,12 @@ member_bytes P xs x all there = subst P there.2 (all there.0 x there.1)
 -- ---- a run of bytes
 
 payload_bytes : (image : Image) (w : ℕ) (l : Locator) (f : Form) (u b : List ℕ) → HoldsBytes image →
-    FrameAt (extent_of image l.extent w) l.offset f u b → AreBytes b
-payload_bytes image w l f u b bytes h =
+    l.extent < image.geometry.extents → FrameAt (extent_of image l.extent w) l.offset f u b → AreBytes b
+payload_bytes image w l f u b bytes in_disk h =
     front_bytes b (u ++ mark f)
     (back_bytes (seal f b) (b ++ (u ++ mark f))
     (back_bytes (head f u (length b)) (seal f b ++ (b ++ (u ++ mark f)))
-    (All-from_get_or (λ c. c < 256) (frame f u b) 0 (λ k within. bytes l.extent (l.offset + k) (slice_index (frame f u b) k) (h.stands k within)))))
+    (All-from_get_or (λ c. c < 256) (frame f u b) 0 (λ k within. bytes l.extent (l.offset + k) (slice_index (frame f u b) k) in_disk (h.stands k within)))))
 
 -- an entry of bytes: its identifier, and the digest of each of its locators
 record HasBytes (e : EntryValue) : Type 0 where
@@ -95,11 +95,12 @@ entry_has e all =
       digests = λ k d below. locator_digest (get_or e.locators k d) (each k d below);
     }
 
-run_has : (image : Image) (w : ℕ) (l : Locator) (es : List EntryValue) → HoldsBytes image → NamesRun image w l es →
-    All HasBytes es
-run_has image w l es bytes n =
-    let payload : AreBytes n.names.payload = payload_bytes image w l n.names.found.form l.uuid n.names.payload bytes n.names.found.frame in
-    let whole : AreBytes (run_bytes es) = subst AreBytes n.run.spelled payload in
+run_has : (image : Image) (w : ℕ) (l : Locator) (es : List EntryValue) → HoldsBytes image → (n : NamesChunk image w l) →
+    IsRun n.payload es → All HasBytes es
+run_has image w l es bytes n run =
+    let f : FindsFrame image w l l.uuid n.payload = n.found in
+    let payload : AreBytes n.payload = payload_bytes image w l f.form l.uuid n.payload bytes f.can.in_range.in_disk f.frame in
+    let whole : AreBytes (run_bytes es) = subst AreBytes run.spelled payload in
     let entries : AreBytes (flat_map entry_bytes es) =
     back_bytes (big_bytes 4 (length es)) (flat_map entry_bytes es)
     (back_bytes run_magic (big_bytes 4 (length es) ++ flat_map entry_bytes es) (front_bytes (run_body es) (sha256 (run_body es)) whole)) in
@@ -111,7 +112,7 @@ binding_has : {resets : List ℕ} (image : Image) (s : Scrubbed) → IsScrubbedB
 binding_has image s x bytes b is =
     let found = read_of image s.plan s.read x.read b.run is.entry.entries is.entry.is_read in
     member_bytes HasBytes is.entry.entries (record { id = b.id; locators = b.locators })
-    (run_has image found.1 found.0 is.entry.entries bytes found.2) is.entry.among
+    (run_has image found.names.pointer found.locator is.entry.entries bytes found.names.chunk found.run) is.entry.among
 
 -- ---- the named locators
 
@@ -169,7 +170,7 @@ form_back (Some Sealed) = refl
 same_form : (a b : Option Form) → form_text a ≡ form_text b → a ≡ b
 same_form a b e = sym (form_back a) ∙ ap form_of_text e ∙ form_back b
 
--- whether there are no spares, by the texts behind two UUIDs
+-- whether there are no spares, by the texts after two UUIDs
 abbrev spare_word : Bool → Bool → List ℕ
 spare_word dangling none = if dangling then (if none then codes " none" else codes " spare") else []
 
@@ -185,7 +186,7 @@ same_spare true false true u v hu hv e =
     let first : 115 ≡ 110 = ap (λ (w : List ℕ). get_or w 0 0) (cut 32 u v (codes "spare") (codes "none") hu hv e).1 in
     absurd (omega (arith, first))
 
--- the places and the texts behind their offsets
+-- the places and the texts after their offsets
 places_grouped : (e o u x : List ℕ) →
     ((32 ∷ e) ++ (32 ∷ o) ++ (32 ∷ u)) ++ x ≡ 32 ∷ (e ++ (32 ∷ (o ++ (32 ∷ (u ++ x)))))
 places_grouped e o u x =
@@ -248,7 +249,7 @@ same_traits : (u v : TraitsValue) → u.owner ≡ v.owner → u.length ≡ v.len
 same_traits u v ho hl hd hs hf hp hw =
     λ i. record { owner = ho i; length = hl i; digest = hd i; status = hs i; form = hf i; place = hp i; is_without_spare = hw i }
 
-module _ (all others : List Scanned) (c d : Checked) (hc : IsKnown c) (hd : IsKnown d) (e : held all c ≡ held others d) where
+module _ (all others : List Scanned) (c d : Checked) (hc : IsKnown c) (hd : IsKnown d) (e : held_locator all c ≡ held_locator others d) where
   same_owner : c.owner ≡ d.owner
   same_owner =
       let text : codes "shard " ++ encode_lower hc.name.id.0 ≡ codes "shard " ++ encode_lower hd.name.id.0 =
@@ -277,14 +278,14 @@ module _ (all others : List Scanned) (c d : Checked) (hc : IsKnown c) (hd : IsKn
       (same_said.spares ∙ ap (λ (s : Status). is_dangling s && length (spares_of others d) == 0) same_status)
 
 same_all : (all others : List Scanned) (cs ds : List Checked) → All IsKnown cs → All IsKnown ds →
-    map (held all) cs ≡ map (held others) ds → map (traits all) cs ≡ map (traits others) ds
+    map (held_locator all) cs ≡ map (held_locator others) ds → map (traits all) cs ≡ map (traits others) ds
 same_all all others [] [] hc hd e = refl
-same_all all others [] (d ∷ ds) hc hd e = absurd (no_tail (held others d) (map (held others) ds) e)
-same_all all others (c ∷ cs) [] hc hd e = absurd (no_tail (held all c) (map (held all) cs) (sym e))
+same_all all others [] (d ∷ ds) hc hd e = absurd (no_tail (held_locator others d) (map (held_locator others) ds) e)
+same_all all others (c ∷ cs) [] hc hd e = absurd (no_tail (held_locator all c) (map (held_locator all) cs) (sym e))
 same_all all others (c ∷ cs) (d ∷ ds) hc hd e =
     ap₂ (λ (h : TraitsValue) (t : List TraitsValue). h ∷ t)
-    (same_one all others c d (All-head IsKnown c cs hc) (All-head IsKnown d ds hd) (heads (held all c) (held others d) (map (held all) cs) (map (held others) ds) e))
-    (same_all all others cs ds (All-tail IsKnown c cs hc) (All-tail IsKnown d ds hd) (tails (held all c) (held others d) (map (held all) cs) (map (held others) ds) e))
+    (same_one all others c d (All-head IsKnown c cs hc) (All-head IsKnown d ds hd) (heads (held_locator all c) (held_locator others d) (map (held_locator all) cs) (map (held_locator others) ds) e))
+    (same_all all others cs ds (All-tail IsKnown c cs hc) (All-tail IsKnown d ds hd) (tails (held_locator all c) (held_locator others d) (map (held_locator all) cs) (map (held_locator others) ds) e))
 
 pub same_shards : {resets others : List ℕ} (image other : Image) (s t : Scrubbed) → IsScrubbedBut resets image s → IsScrubbedBut others other t → HoldsBytes image →
     HoldsBytes other → all_held s ≡ all_held t → all_traits s ≡ all_traits t

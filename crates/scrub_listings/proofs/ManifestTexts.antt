@@ -22,10 +22,12 @@ use Rattle.scrub_frame.specs.declared.form.Form.{Form}
 use Rattle.scrub_frame.specs.declared.form.Form.TheVariants.{Plain, Sealed}
 use Rattle.scrub_frame.specs.declared.locator.Locator.{Locator}
 use Rattle.scrub_frame.specs.Locator.{IsLocator}
-use Rattle.scrub_super.specs.Chosen.{Choice, IsChoice, IsChosen}
+use Rattle.scrub_super.specs.Chosen.{Choice, IsChoice}
 use Rattle.scrub_super.specs.Contents.{Contents}
 use Rattle.scrub_super.specs.Plan.{IsPlanBy, IsPlanOf, IsPlanWithout, PlanValue}
 use Rattle.scrub_super.specs.Planned.{AreRetired}
+use Rattle.scrub_super.specs.Record.{AreContents}
+use Rattle.scrub_super.proofs.NewestRecords.{superblock_fits}
 use Rattle.scrub_run.specs.Entry.{IsEntry}
 use Rattle.scrub_merge.specs.Binding.{BindingValue, IsNewestBinding, Runs}
 use Rattle.scrub_scan.specs.Line.{spaced}
@@ -40,15 +42,16 @@ use Rattle.scrub_check.specs.declared.statuses.checked.Checked.{Checked}
 use Rattle.scrub_check.specs.declared.named.Named.{Named}
 use Rattle.scrub_check.specs.Checked.{is_dangling, is_hidden, is_sound, named_of}
 use Rattle.scrub_check.specs.ChunkForms.{form_at}
-use Rattle.scrub_check.specs.Named.{named, named_by_shard}
+use Rattle.scrub_check.specs.Named.{named_locators, named_by_shard}
 use Rattle.scrub_check.specs.Spares.{spares_of}
+use Rattle.scrub_check.proofs.Listed.{as_many}
 use Rattle.scrub_report.specs.Index.{indexed}
 use Rattle.scrub_report.specs.Scrubbed.{Scrubbed, IsScrubbedBut}
 use Rattle.scrub_report.specs.Texts.{owner_text, status_text, uuid_text}
 use Rattle.scrub_report.proofs.Indexable.{countable, entries_are, entries_fit, runs_few}
 use Rattle.scrub_report.proofs.OneReader.{heads, no_tail, tails}
 use Rattle.scrub_report.proofs.ResetPlans.{plan_before}
-use Rattle.scrub_listings.specs.Manifest.{HeldValue, HoldTheSame, after_status_in, all_held, form_text, form_word, held, hidden_runs, is_of_read_run, is_whole, looked_for, lost_runs, manifest_text, numbered_lines, of_shards, shard_lines, spare_text, text_by, two_digits}
+use Rattle.scrub_listings.specs.Manifest.{HeldValue, HoldTheSame, after_status_in, all_held, form_text, form_word, held_locator, hidden_runs, is_of_read_run, is_whole, looked_for, lost_runs, manifest_text, numbered_lines, of_shards, shard_lines, spare_text, text_by, two_digits}
 use Rattle.scrub_listings.proofs.AllPass.{all_pass}
 use Rattle.scrub_listings.proofs.ShardLines.{AreAlong, along_behind, along_fits, along_runs, hidden_few, line_of, lines_along, lines_are, of_names, of_shard, own_first, shards_part, unmapped}
 
@@ -245,7 +248,7 @@ retired_free es small = joined (codes "retired") (flat_map spaced_number es) (li
         joined (32 ∷ decimal n) (flat_map spaced_number ns) (spaced_line (decimal n) (decimal_word n (All-head IsSmallNumber n ns h)))
         (each ns (All-tail IsSmallNumber n ns h))
 
--- numbers with a space before each, and with a space behind each
+-- numbers with a space before each, and with a space after each
 shifted : (es : List ℕ) → flat_map spaced_number es ++ 32 ∷ [] ≡ 32 ∷ flat_map (closed 32) (map decimal es)
 shifted [] = refl
 shifted (e ∷ es) =
@@ -436,7 +439,7 @@ same_value u v ho hl hd hs ha =
     λ i. record { owner = ho i; length = hl i; digest = hd i; status = hs i; after = ha i }
 
 same_held : (all others : List Scanned) (p q : ℕ × Checked) → IsHeld p → IsHeld q → held_body all p ≡ held_body others q →
-    held all p.1 ≡ held others q.1
+    held_locator all p.1 ≡ held_locator others q.1
 same_held all others p q hp hq e =
     let parts = words_cut (encode_lower hp.id.0) (two_digits p.0) (decimal p.1.locator.length) (encode_lower p.1.locator.digest) (status_text p.1.status)
     (after_status_in all p.1) (after_tail all p.1).0
@@ -446,7 +449,7 @@ same_held all others p q hp hq e =
     (hex_word hq.id.0) (two_digits_word q.0 hq.number) (decimal_word q.1.locator.length hq.size) (hex_word q.1.locator.digest) (status_word q.1.status)
     (after_tail all p.1).1 (after_tail others q.1).1
     (sym (by_id all p hp) ∙ e ∙ by_id others q hq) in
-    same_value (held all p.1) (held others q.1)
+    same_value (held_locator all p.1) (held_locator others q.1)
     (ap owner_text hp.owner ∙ ap (λ (h : List ℕ). codes "shard " ++ h) parts.0 ∙ sym (ap owner_text hq.owner))
     (decimal_injective p.1.locator.length q.1.locator.length hp.size hq.size parts.1)
     parts.2
@@ -473,7 +476,7 @@ not_last all p n m h is =
 -- what follows from the same lines of shards and the same last line
 same_bodies : (all others : List Scanned) (t t' : ℕ × ℕ) (ps ps' : List (ℕ × Checked)) → All IsHeld ps → All IsHeld ps' →
     map (held_body all) ps ++ total_body t.0 t.1 ∷ [] ≡ map (held_body others) ps' ++ total_body t'.0 t'.1 ∷ [] →
-    map (λ p. held all p.1) ps ≡ map (λ p. held others p.1) ps'
+    map (λ p. held_locator all p.1) ps ≡ map (λ p. held_locator others p.1) ps'
 same_bodies all others t t' [] [] hp hp' e = refl
 same_bodies all others t t' [] (q ∷ qs) hp hp' e =
     absurd (not_last others q t.0 t.1 (All-head IsHeld q qs hp') (sym (heads (total_body t.0 t.1) (held_body others q) [] (map (held_body others) qs ++ total_body t'.0 t'.1 ∷ []) e)))
@@ -586,7 +589,7 @@ text_of image s x true e =
 
 planned_small : (image : Image) (choice : Choice) (plan : PlanValue) → IsChoice image choice → IsPlanOf choice plan →
     All IsSmallNumber plan.retired
-planned_small image choice plan chosen is = by choice.superblock choice.page chosen.chosen is.by
+planned_small image choice plan chosen is = by choice.superblock (superblock_fits chosen) is.by
   where
     listed : (o : Option (List ℕ)) → IfSome o (AreRetired image.geometry.extents) → All IsSmallNumber (unwrap_or o [])
     listed None h = All-nil IsSmallNumber
@@ -594,12 +597,10 @@ planned_small image choice plan chosen is = by choice.superblock choice.page cho
         All-weaker (λ e. e < image.geometry.extents) IsSmallNumber
         (λ e below. omega (arith, below, image.geometry.extent_count.most)) es h.below
 
-    by : (c : Option Contents) (q : Option ℕ) → IsChosen image c q →
+    by : (c : Option Contents) → IfSome c (AreContents image.geometry) →
         MatchOption c (IsPlanWithout plan choice.geometry) (IsPlanBy plan) → All IsSmallNumber plan.retired
-    by None q found planned = subst (All IsSmallNumber) (sym planned.retired) (All-nil IsSmallNumber)
-    by (Some c) None found planned = absurd found
-    by (Some c) (Some q) found planned =
-        subst (All IsSmallNumber) (sym planned.retired) (listed c.retired found.stands.contents.retired)
+    by None fits planned = subst (All IsSmallNumber) (sym planned.retired) (All-nil IsSmallNumber)
+    by (Some c) fits planned = subst (All IsSmallNumber) (sym planned.retired) (listed c.retired fits.retired)
 
 retired_small : {resets : List ℕ} (image : Image) (s : Scrubbed) → IsScrubbedBut resets image s → All IsSmallNumber s.plan.retired
 retired_small {resets} image s x =
@@ -624,7 +625,7 @@ small image s x =
 
 lost_small : {resets : List ℕ} (image : Image) (s : Scrubbed) → IsScrubbedBut resets image s → IsSmallNumber (lost_runs s)
 lost_small image s x =
-    omega (arith, count_by-le-length is_none s.read.runs, x.read.count, runs_few image s x)
+    omega (arith, count_by-le-length is_none s.read.runs, as_many image s.plan s.read x.read, runs_few image s x)
 
 hidden_small : {resets : List ℕ} (image : Image) (s : Scrubbed) → IsScrubbedBut resets image s → IsSmallNumber (hidden_runs s)
 hidden_small image s x =
@@ -668,7 +669,7 @@ total_free image s x =
 -- ---- without a superblock nothing is named
 
 no_names : (runs : List Locator) (read : Runs) (bs : List BindingValue) (cs : List Checked) → runs ≡ [] →
-    length read ≡ length runs → All (IsNewestBinding read) bs → map named_of cs ≡ named runs bs → (read ≡ []) × (cs ≡ [])
+    length read ≡ length runs → All (IsNewestBinding read) bs → map named_of cs ≡ named_locators runs bs → (read ≡ []) × (cs ≡ [])
 no_names (l ∷ ls) read bs cs none count newest same = absurd (no_tail l ls (sym none))
 no_names [] (r ∷ rs) bs cs none count newest same = absurd (omega (arith, count))
 no_names [] [] (b ∷ bs) cs none count newest same =
@@ -695,18 +696,18 @@ bare : {resets : List ℕ} (image : Image) (s : Scrubbed) → IsScrubbedBut rese
 bare {resets} image s x none =
     let old = plan_before resets s.choice s.plan x.plan in
     let planned = planned_bare s.choice old.0 old.1 (sym old.4 ∙ none) in
-    let names = no_names s.plan.runs s.read.runs s.bindings s.checked (old.3 ∙ planned.1) x.read.count x.bindings.newest x.checked.same in
+    let names = no_names s.plan.runs s.read.runs s.bindings s.checked (old.3 ∙ planned.1) (as_many image s.plan s.read x.read) x.bindings.newest x.checked.same in
     record { retired = old.2 ∙ planned.0; read = names.0; checked = names.1 }
 
 -- ---- the law
 
 -- what is said of the shards' locators, by the numbered ones
 said : {resets : List ℕ} (image : Image) (s : Scrubbed) → IsScrubbedBut resets image s →
-    map (λ p. held s.all p.1) (pairs_along s.bindings (drop (length s.plan.runs) s.checked)) ≡ all_held s
+    map (λ p. held_locator s.all p.1) (pairs_along s.bindings (drop (length s.plan.runs) s.checked)) ≡ all_held s
 said image s x =
     let cs = drop (length s.plan.runs) s.checked in
-    sym (map-map (held s.all) (λ (p : ℕ × Checked). p.1) (pairs_along s.bindings cs))
-    ∙ ap (map (held s.all)) (all_paired s.bindings cs (along_runs s.plan.runs s.bindings s.checked x.checked.same)
+    sym (map-map (held_locator s.all) (λ (p : ℕ × Checked). p.1) (pairs_along s.bindings cs))
+    ∙ ap (map (held_locator s.all)) (all_paired s.bindings cs (along_runs s.plan.runs s.bindings s.checked x.checked.same)
     ∙ sym (shards_part s.plan.runs s.bindings s.checked x.checked.same))
 
 held_all : {resets : List ℕ} (image : Image) (s : Scrubbed) → IsScrubbedBut resets image s → All IsHeld (pairs_of s)
@@ -771,7 +772,7 @@ module _ (resets others : List ℕ) (image other : Image) (s t : Scrubbed) (x : 
       none u b = ap (λ (cs : List Checked). count_by (λ c. is_hidden c.status && is_of_read_run u.read.runs c.owner) cs) b.checked
 
       nothing : (u : Scrubbed) → IsBare u → all_held u ≡ []
-      nothing u b = ap (λ (cs : List Checked). map (held u.all) (of_shards cs)) b.checked
+      nothing u b = ap (λ (cs : List Checked). map (held_locator u.all) (of_shards cs)) b.checked
 
   by_superblock : (b c : Bool) → s.plan.has_superblock ≡ b → t.plan.has_superblock ≡ c →
       text_by (after_status_in s.all) b s.plan.retired (lost_runs s) (hidden_runs s) s.bindings (of_shards s.checked)
@@ -788,8 +789,8 @@ module _ (resets others : List ℕ) (image other : Image) (s t : Scrubbed) (x : 
 
 -- what is held says whether anything is missing
 held_sound : (all : List Scanned) (cs : List Checked) →
-    list_all (λ (c : Checked). is_sound c.status) cs ≡ list_all (λ (h : HeldValue). is_sound h.status) (map (held all) cs)
-held_sound all cs = sym (list_all-map (λ (h : HeldValue). is_sound h.status) (held all) cs)
+    list_all (λ (c : Checked). is_sound c.status) cs ≡ list_all (λ (h : HeldValue). is_sound h.status) (map (held_locator all) cs)
+held_sound all cs = sym (list_all-map (λ (h : HeldValue). is_sound h.status) (held_locator all) cs)
 
 pub same_verdict : (s t : Scrubbed) → HoldTheSame s t → is_whole s ≡ is_whole t
 same_verdict s t h =

@@ -14,7 +14,7 @@ use Rattle.scrub_report.specs.declared.runs.RunRow.{RunRow}
 use Rattle.scrub_report.specs.Parts.{AreRowsOf}
 use Rattle.scrub_report.specs.Report.{entry_counts}
 use Rattle.scrub_listings.specs.Manifest.{is_of_read_run}
-use Rattle.scrub_listings.specs.ManifestSteps.{is_of_read_row}
+use Rattle.scrub_listings.specs.steps.Manifest.{is_of_read_row}
 
 -- a run is lost if it has no number of entries
 none_counted : (runs : Runs) → count_by is_none (entry_counts runs) ≡ count_by is_none runs

@@ -20,7 +20,7 @@ use Rattle.scrub_check.specs.declared.named.Owner.TheVariants.{Run, Shard}
 use Rattle.scrub_check.specs.declared.statuses.checked.Checked.{Checked}
 use Rattle.scrub_check.specs.declared.statuses.status.Status.{Status}
 use Rattle.scrub_check.specs.Checked.{is_owned_by, named_of}
-use Rattle.scrub_check.specs.Named.{named, named_by_runs, named_by_shard}
+use Rattle.scrub_check.specs.Named.{named_locators, named_by_runs, named_by_shard}
 use Rattle.scrub_listings.specs.Manifest.{is_of_shard, numbered_line, numbered_lines, shard_lines}
 use Rattle.scrub_listings.proofs.FlatLists.{flat_all, flat_more}
 
@@ -109,7 +109,7 @@ Rising bs = AllPairs (λ b c. IsBelow b.id c.id) bs
 length_named : (b : BindingValue) → length (named_by_shard b) ≡ length b.locators
 length_named b = length-map b.locators (λ (l : Locator). record { owner = Shard b.id; locator = l })
 
--- the names of a front, and of what is behind it
+-- the names of a front, and of what is after it
 named_front : (xs ys : List Named) (cs : List Checked) (n : ℕ) → length xs ≡ n → map named_of cs ≡ xs ++ ys →
     map named_of (take n cs) ≡ xs
 named_front xs ys cs n size same =
@@ -178,7 +178,7 @@ own_of front b bs cs rising same none =
         (of_shards (λ o. is_owned_by b.id o ≡ false) bs
         (λ k d below. not_below b.id (get_or bs k d).id (rising zero (suc k) d (omega arith) (omega (arith, below)))))
 
--- the front and the first shard's locators are apart from the shards behind
+-- the front and the first shard's locators are apart from the shards after
 apart_behind : (front : List Checked) (b : BindingValue) (bs : List BindingValue) (cs : List Checked) → Rising (b ∷ bs) →
     AreAlong (b ∷ bs) cs → AreApart front (b ∷ bs) → AreApart (front ++ take (length b.locators) cs) bs
 apart_behind front b bs cs rising same apart k d below =
@@ -209,20 +209,20 @@ pub lines_are : (after : Checked → List ℕ) (bs : List BindingValue) (cs : Li
     lines_along after bs cs ≡ flat_map (λ b. shard_lines after cs b.id) bs
 lines_are after bs cs rising same = lines_of_all after [] bs cs rising same (λ k d below i e none. absurd (omega (arith, none)))
 
--- ---- behind the locators of the runs
+-- ---- after the locators of the runs
 
 length_runs : (k : ℕ) (ls : List Locator) → length (named_by_runs k ls) ≡ length ls
 length_runs k [] = refl
 length_runs k (l ∷ ls) = ap suc (length_runs (k + 1) ls)
 
-module _ (runs : List Locator) (bs : List BindingValue) (checked : List Checked) (same : map named_of checked ≡ named runs bs) where
-  -- the locators behind those of the runs are those of the shards
+module _ (runs : List Locator) (bs : List BindingValue) (checked : List Checked) (same : map named_of checked ≡ named_locators runs bs) where
+  -- the locators after those of the runs are those of the shards
   pub along_runs : AreAlong bs (drop (length runs) checked)
   along_runs = named_behind (named_by_runs 0 runs) (flat_map named_by_shard bs) checked (length runs) (length_runs 0 runs) same
 
   pub runs_fit : length runs ≤ length checked
   runs_fit =
-      let whole : length (map named_of checked) ≡ length (named runs bs) = ap (λ (ns : List Named). length ns) same in
+      let whole : length (map named_of checked) ≡ length (named_locators runs bs) = ap (λ (ns : List Named). length ns) same in
       omega (
         arith,
         whole,
@@ -236,7 +236,7 @@ of_shard_owner : (K : Owner → Type 0) (bs : List BindingValue) → ((id : Shar
     All (λ (n : Named). K n.owner) (flat_map named_by_shard bs)
 of_shard_owner K bs shard = of_shards K bs (λ k d below. shard (get_or bs k d).id)
 
-pub shards_part : (runs : List Locator) (bs : List BindingValue) (checked : List Checked) → map named_of checked ≡ named runs bs →
+pub shards_part : (runs : List Locator) (bs : List BindingValue) (checked : List Checked) → map named_of checked ≡ named_locators runs bs →
     filter (λ c. is_of_shard c.owner) checked ≡ drop (length runs) checked
 shards_part runs bs checked same =
     ap (filter p) (sym (take-append-drop n checked))
@@ -318,7 +318,7 @@ shards_all after bindings checked rest i old mid rising same end so_far =
 
 -- no more runs are hidden than there are
 pub hidden_few : (runs : List Locator) (bs : List BindingValue) (checked : List Checked) (p : Status → Bool) (q : Owner → Bool) →
-    map named_of checked ≡ named runs bs → ((id : ShardId) → q (Shard id) ≡ false) →
+    map named_of checked ≡ named_locators runs bs → ((id : ShardId) → q (Shard id) ≡ false) →
     count_by (λ (c : Checked). p c.status && q c.owner) checked ≤ length runs
 hidden_few runs bs checked p q same none =
     let n = length runs in

@@ -1,4 +1,4 @@
--- Records and lost ranges in one list by rising start, and the lines of raw bytes that it gives.
+-- Records and lost ranges in one list by ascending start, and the lines of raw bytes that it gives.
 use Rattle.std.proofs.Common.{◌≡◌, ◌≢◌, ◌<◌, ◌≤◌, ◌+◌, ◌-◌, ◌*◌, ◌/◌, ◌++◌, ℕ, zero, suc, Bool, true, false, List, [], ◌∷◌, length, slice_get, take, get_or, arith, refl, sym, ◌∙◌, ap, subst, inl, inr, Option, Some, None, MatchOption}
 use Rattle.std.specs.Prelude.{◌↔◌, IsTrue}
 use Rattle.std.specs.List.{All, AllPairs, Contains}
@@ -6,18 +6,18 @@ use Rattle.std.proofs.lemmas.Bool.{cases_lt, false≢true}
 use Rattle.std.proofs.lemmas.List.{take_all, take_more, get_or_default}
 use Rattle.std.proofs.lemmas.List.Elements.{All-contains_itself, Contains-push, Contains-push_cases, Contains-append_left}
 use Rattle.scrub_disk.specs.declared.geometry.Geometry.{Geometry}
-use Rattle.scrub_super.specs.declared.anywhere.FoundRecord.{FoundRecord}
-use Rattle.scrub_super.specs.declared.anywhere.LostBytes.{LostBytes}
+use Rattle.scrub_super.specs.declared.unknown_sizes.FoundRecord.{FoundRecord}
+use Rattle.scrub_super.specs.declared.unknown_sizes.LostBytes.{LostBytes}
 use Rattle.scrub_super.specs.Blocks.{byte_left, IsMarked, IsLostRun}
-use Rattle.scrub_super.specs.Anywhere.{IsFoundRecord, AreLostBytes, AreFoundAnywhere, AreFoundInSome}
-use Rattle.scrub_super.proofs.AnywhereSteps.{some_record}
+use Rattle.scrub_super.specs.UnknownSizes.{IsFoundRecord, AreLostBytes, AreFoundByOwnSizes, AreFoundInSome}
+use Rattle.scrub_super.proofs.UnknownSizesSteps.{some_record}
 use Rattle.scrub_super.proofs.BlocksFront.{left_at, left_there, mark_within}
-use Rattle.scrub_super.proofs.FoundAnywhere.{same_record}
+use Rattle.scrub_super.proofs.FoundByOwnSizes.{same_record}
 use Rattle.scrub_super.proofs.RisingLists.{rises_more, one_rising_by}
 use Rattle.scrub_listings.specs.declared.sizes_listing.lines.SizesLine.{SizesLine}
 use Rattle.scrub_listings.specs.declared.sizes_listing.lines.SizesLine.TheVariants.{Record, Lost}
 use Rattle.scrub_listings.specs.Sizes.{line_start, size_lines, AreSizesBy, AreSizesInOrder, AreSizesLines, AreSizesOf, IsCleanFront, IsSizesListingOf}
-use Rattle.scrub_listings.specs.SizesSteps.{CanMerge, AreInOrder, IsNextLine, record_count, AreCleanLists}
+use Rattle.scrub_listings.specs.steps.Sizes.{CanMerge, AreInOrder, IsNextLine, record_count, AreCleanLists}
 
 -- ---- the merge
 
@@ -53,7 +53,7 @@ taken_more xs n x h is = take_more xs n x h ∙ ap (λ y. take n xs ++ y ∷ [])
 at_any : {X : Type 0} (xs : List X) (n : ℕ) (x d : X) → n < length xs → x ≡ get_or xs n x → get_or xs n d ≡ x
 at_any xs n x d h is = get_or_default xs n d x h ∙ sym is
 
--- the elements from n on begin at or behind the n-th
+-- the elements from n on begin at or past the n-th
 from_here : {X : Type 0} (key : X → ℕ) (xs : List X) (n k start : ℕ) (d : X) → AllPairs (λ a b. key a < key b) xs →
     n ≤ k → k < length xs → start < key (get_or xs n d) → start < key (get_or xs k d)
 from_here key xs n k start d up le lt low = elim (cases_lt n k) [
@@ -224,7 +224,7 @@ apart_in bytes lost r l f run same =
     (let block : (r.offset + 0) / 512 ≡ run.0 = omega (arith, same, run.3) in ap (λ k. get_or lost k false) block ∙ run.2.all run.0 (omega arith) run.2.some)
 
 can_merge : (bytes : List ℕ) (lost : List Bool) (records : List FoundRecord) (ranges : List LostBytes) →
-    AreFoundAnywhere bytes lost records ranges → CanMerge records ranges
+    AreFoundByOwnSizes bytes lost records ranges → CanMerge records ranges
 can_merge bytes lost records ranges h = record {
   records_rise = h.records_are.rising;
   ranges_rise = h.ranges_are.rising;
@@ -232,7 +232,7 @@ can_merge bytes lost records ranges h = record {
 }
 
 in_order : (bytes : List ℕ) (lost : List Bool) (records : List FoundRecord) (ranges : List LostBytes) (lines : List SizesLine) →
-    AreFoundAnywhere bytes lost records ranges →
+    AreFoundByOwnSizes bytes lost records ranges →
     AreInOrder records ranges lines → AreSizesInOrder bytes lost lines
 in_order bytes lost records ranges lines h o = record {
   rising = o.rising;
@@ -335,7 +335,7 @@ empty_list [] none = refl
 empty_list (x ∷ xs) none = absurd (none x (0, omega arith, refl))
 
 clean_front : (bytes : List ℕ) (lost : List Bool) (records : List FoundRecord) (ranges : List LostBytes) →
-    AreFoundAnywhere bytes lost records ranges →
+    AreFoundByOwnSizes bytes lost records ranges →
     AreCleanLists records ranges ↔ IsCleanFront bytes lost
 clean_front bytes lost records ranges h = (
   (λ c. record {

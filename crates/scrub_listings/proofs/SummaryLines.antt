@@ -1,4 +1,4 @@
--- The lines of numbers, put behind one another, and how many named locators have spares.
+-- The lines of numbers, put one after another, and how many named locators have spares.
 use Rattle.std.proofs.Common.{◌≡◌, ◌+◌, ◌++◌, ◌==◌, ◌∷◌, [], ℕ, Bool, not, List, OnOk, Result, Ok, Err, get_or, length, append_assoc, refl, sym, ap, ◌∙◌}
 use Rattle.std.specs.List.{All, count_by, flat_map}
 use Rattle.std.proofs.lemmas.Grind.{flat_map-append}
@@ -10,7 +10,7 @@ use Rattle.scrub_check.specs.declared.statuses.checked.Checked.{Checked}
 use Rattle.scrub_check.specs.Spares.{AreSpares}
 use Rattle.scrub_listings.specs.Summary.{NamedNumber, has_spare, has_spare_by, number_line, number_lines, one_if}
 
--- more lines behind those that are there
+-- more lines after those that are there
 pub more_lines : (old mid new : List ℕ) (before more : List NamedNumber) → mid ≡ old ++ number_lines before →
     new ≡ mid ++ number_lines more → new ≡ old ++ number_lines (before ++ more)
 more_lines old mid new before more first later =

@@ -4,6 +4,5 @@ pub mod Manifest
 pub mod Superblocks
 pub mod Sizes
 pub mod Summary
--- Steps of the code.
-pub mod ManifestSteps
-pub mod SizesSteps
+-- Steps of the code, and lemmas that types need.
+pub mod steps

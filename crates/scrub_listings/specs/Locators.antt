@@ -33,7 +33,7 @@ abbrev pub spare_line : List Standing → List ℕ
 spare_line [] = []
 spare_line (s ∷ ss) = count_line s (length (s ∷ ss))
 
--- the line of a named locator, and behind it that of its spares
+-- the line of a named locator, and after it that of its spares
 abbrev pub lines_of_one : List Scanned → Checked → List ℕ
 lines_of_one all c = locator_line c ++ spare_line (spares_of all c)
 

@@ -62,7 +62,7 @@ spare_text status spares = if is_dangling status then (if len spares == 0 then c
 abbrev pub after_status : Option Form → List Standing → Checked → List ℕ
 after_status form spares c = if is_sound c.status then form_text form else looked_for c.locator ++ spare_text c.status spares
 
--- the same of what was scanned
+-- what comes after the status of a locator, by what was scanned
 abbrev pub after_status_in : List Scanned → Checked → List ℕ
 after_status_in all c = after_status (form_at all c.locator) (spares_of all c) c
 
@@ -155,7 +155,7 @@ pub record IsWholeBut (resets : List ℕ) (image : Image) (whole : Bool) : Type 
   pub scrubbed : IsScrubbedBut resets image found
   pub verdict : whole ≡ is_whole found
 
--- the same without resets
+-- whether nothing is missing of an image, without resets
 abbrev pub IsWholeImage : Image → Bool → Type 0
 IsWholeImage image whole = IsWholeBut [] image whole
 
@@ -170,8 +170,8 @@ pub record HeldValue : Type 0 where
   pub after : List ℕ
 
 -- what a manifest says of a locator
-abbrev pub held : List Scanned → Checked → HeldValue
-held all c = record {
+abbrev pub held_locator : List Scanned → Checked → HeldValue
+held_locator all c = record {
   owner = owner_text c.owner;
   length = c.locator.length;
   digest = encode_lower c.locator.digest;
@@ -181,7 +181,7 @@ held all c = record {
 
 -- what a manifest says of the shards' locators among the named ones, in their order
 abbrev pub all_held : Scrubbed → List HeldValue
-all_held s = map (held s.all) (of_shards s.checked)
+all_held s = map (held_locator s.all) (of_shards s.checked)
 
 -- the same is held on two disks: both have a superblock or none, they have the same retired extents, as many runs are lost
 -- and as many hidden, and the same is said of the shards' locators
@@ -192,9 +192,9 @@ pub record HoldTheSame (s t : Scrubbed) : Type 0 where
   pub hidden : hidden_runs s ≡ hidden_runs t
   pub shards : all_held s ≡ all_held t
 
--- each byte of the image that can be read is below 256
+-- each byte of the disk's extents that can be read is below 256
 abbrev pub HoldsBytes : Image → Type 0
-HoldsBytes image = (e p b : ℕ) → byte image e p ≡ Some b → b < 256
+HoldsBytes image = (e p b : ℕ) → e < image.geometry.extents → byte image e p ≡ Some b → b < 256
 
 -- what a manifest says of a shard's locator in an image of bytes: who names it, the length and the digest of its chunk, its
 -- status, the form of its chunk if it is sound, or else the extent and the offset that it points to, and whether it dangles
@@ -232,6 +232,6 @@ traits all c = record {
   is_without_spare = is_without_spare all c;
 }
 
--- the same of the shards' locators among the named ones, in their order
+-- what a manifest says of the shards' locators among the named ones, in their order
 abbrev pub all_traits : Scrubbed → List TraitsValue
 all_traits s = map (traits s.all) (of_shards s.checked)

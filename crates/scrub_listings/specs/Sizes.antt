@@ -4,11 +4,11 @@ use Rattle.std.specs.Fmt.{decimal}
 use Rattle.std.specs.List.{flat_map}
 use Rattle.scrub_disk.specs.declared.geometry.Geometry.{Geometry}
 use Rattle.scrub_scan.specs.Line.{spaced}
-use Rattle.scrub_super.specs.declared.anywhere.FoundRecord.{FoundRecord}
-use Rattle.scrub_super.specs.declared.anywhere.LostBytes.{LostBytes}
+use Rattle.scrub_super.specs.declared.unknown_sizes.FoundRecord.{FoundRecord}
+use Rattle.scrub_super.specs.declared.unknown_sizes.LostBytes.{LostBytes}
 use Rattle.scrub_super.specs.Pages.{magic_of}
 use Rattle.scrub_super.specs.Blocks.{byte_left, IsMarked, LosesBlocks}
-use Rattle.scrub_super.specs.Anywhere.{IsFoundRecord, AreLostBytes}
+use Rattle.scrub_super.specs.UnknownSizes.{IsFoundRecord, AreLostBytes}
 use Rattle.scrub_listings.specs.declared.sizes_listing.lines.SizesLine.{SizesLine}
 use Rattle.scrub_listings.specs.declared.sizes_listing.lines.SizesLine.TheVariants.{Record, Lost}
 
@@ -36,7 +36,7 @@ abbrev pub line_start : SizesLine → ℕ
 line_start (Record r) = r.offset
 line_start (Lost l) = l.from
 
--- the lines are of all records and all lost bytes, by rising start
+-- the lines are of all records and all lost bytes, by ascending start
 pub record AreSizesInOrder (bytes : List ℕ) (lost : List Bool) (lines : List SizesLine) : Type 0 where
   pub rising : AllPairs (λ a b. line_start a < line_start b) lines
   pub records : (r : FoundRecord) → Contains lines (Record r) ↔ IsFoundRecord (byte_left bytes lost) r
@@ -63,7 +63,7 @@ pub record IsSizesListing (bytes lacking : List ℕ) (failures : ℕ) (text : Li
   pub lines : AreSizesLines bytes lost text
   pub is_clean : IsTrue clean ↔ IsCleanFront bytes lost
 
--- the same for some bytes: those of the raw image if they are known, or else any that it may have had when it was read
+-- the listing of sizes of some bytes: those of the raw image if they are known, or else any
 pub record IsSizesListingOf (raw : Option (List ℕ)) (lacking : List ℕ) (failures : ℕ) (text : List ℕ) (clean : Bool) : Type 0 where
   pub bytes : List ℕ
   pub known : IfSome raw (λ all. bytes ≡ all)

@@ -94,7 +94,7 @@ items_of is_of_kind f = count_by is_of_kind f.findings.items
 abbrev pub chunk_bytes : Scanned → ℕ
 chunk_bytes f = sum_by size_of (filter is_chunk f.findings.items)
 
--- whether an extent has nonzero bytes at or behind its write pointer
+-- whether an extent has nonzero bytes at or past its write pointer
 abbrev pub has_tail : Scanned → Bool
 has_tail f = not (f.findings.tail_count == 0)
 

@@ -27,7 +27,7 @@ superblock_line q Zero = []
 superblock_line q (Damaged kind) = codes "damaged" ++ spaced (decimal q) ++ spaced (magic_of kind) ++ 10 ∷ []
 superblock_line q Stray = codes "stray" ++ spaced (decimal q) ++ 10 ∷ []
 
--- the lines of the pages, by rising page
+-- the lines of the pages, by ascending page
 abbrev pub superblock_lines : List SuperblockPage → List ℕ
 superblock_lines pages = flat_map (λ x. superblock_line x.0 x.1) (enumerate_from 0 pages)
 

@@ -1,7 +1,8 @@
-//! The manifest of a disk: its retired extents, its index runs that aren't read as usual, and what the locators of each shard
-//! name, wherever that lies.
+//! The manifest of a disk: its retired extents, its index runs that aren't read as usual, and what the
+//! locators of each shard name, wherever that lies.
 
-ghost use Rattle.std.specs.Prelude.{◌≡◌, ◌+◌, ◌++◌, ◌≤◌, ◌&&◌, Bool, List, ℕ, AllPairs, IfOk, OnOk, is_none, length, map};
+ghost use Rattle.std.specs.Prelude.{◌≡◌, ◌++◌, ◌≤◌, ◌&&◌, Bool, List, ℕ, AllPairs, IfOk, OnOk, is_none};
+ghost use Rattle.std.specs.Prelude.{map, string_bytes};
 ghost use Rattle.std.specs.Fmt.{decimal};
 ghost use Rattle.std.specs.List.{count_by, flat_map};
 ghost use Rattle.std.specs.List.Sorted.{IsStrictlyIncreasing};
@@ -10,11 +11,15 @@ ghost use Rattle.scrub_run.specs.Entry.{IsBelow};
 ghost use Rattle.scrub_scan.specs.Line.{spaced};
 ghost use Rattle.scrub_check.specs.Checked.{is_hidden, named_of};
 ghost use Rattle.scrub_check.specs.Named.{named_by_shard};
-ghost use Rattle.scrub_report.specs.Answer.{IsPartitionOfPlanned, IsCountOfPlanned};
+ghost use Rattle.scrub_report.specs.Answer.{AreTakingsBy};
 ghost use Rattle.scrub_report.specs.Parts.{IsScanBut};
-ghost use Rattle.scrub_listings.specs.Manifest.{HoldTheSame, HoldsBytes, IsManifestBut, IsWholeBut, all_traits, after_status, form_text, is_whole_by, looked_for, numbered_line, numbered_lines, numbered_text, retired_line, runs_line, shard_lines, spare_text, text_by, total_line};
-ghost use Rattle.scrub_listings.specs.ManifestSteps.{after_status_by, is_of_read_row};
+ghost use Rattle.scrub_listings.specs.Manifest.{HoldTheSame, HoldsBytes, IsManifestBut, IsWholeBut};
+ghost use Rattle.scrub_listings.specs.Manifest.{all_traits, after_status, form_text, is_whole_by, looked_for};
+ghost use Rattle.scrub_listings.specs.Manifest.{numbered_line, numbered_lines, numbered_text, retired_line};
+ghost use Rattle.scrub_listings.specs.Manifest.{runs_line, shard_lines, spare_text, text_by, total_line};
+ghost use Rattle.scrub_listings.specs.steps.Manifest.{after_status_by, is_of_read_row};
 
+use crate::listing::Listing;
 use scrub_check::{Checked, Owner, Spares, Status, form_at};
 use scrub_disk::{OutOfMemory, PageSource};
 use scrub_frame::{Form, Locator};
@@ -28,102 +33,75 @@ use scrub_report::texts::{owner_text, status_text};
 use scrub_scan::{AllFindings, Standing};
 use scrub_super::{Plan, choose};
 use std::alloc::Global;
+use std::fmt::Write;
 use std::sync::Wait;
 use std::thread::Threads;
 
-/// What a disk holds, wherever it lies, as lines that can be kept, compared and signed.
-#[derive(Drop)]
-pub struct ManifestListing {
-    /// First `retired` with the retired extents, rising, and `runs lost L hidden H` with the numbers of index runs that are
-    /// lost, and that are read though their locator is hidden. Then for each shard of the shard map, by identifier, and each of
-    /// its locators, in their order: `shard ID NUMBER LENGTH DIGEST STATUS`. After `sound` comes the form of the chunk, `plain`
-    /// or `sealed`; after another status ` EXTENT OFFSET UUID` of the locator, and if it dangles `spare` where it has a spare,
-    /// or else `none`. The number is that of the locator among the shard's, from 00, always in two digits. The length, that
-    /// of the payload, and the offset are in bytes. Identifier and digest (SHA-256) are in hexadecimal digits, in lower case.
-    /// The status has the report's words. At the end `total` with the numbers of shards and of their locators. Without a
-    /// superblock there is one line `no-superblock` alone.
-    pub text: Vec<u8>,
-    /// Whether a superblock counts, no index run is lost or hidden, and each locator of a shard is sound.
-    pub is_whole: bool,
-}
-
 /// Appends the number of a retired extent, with a space before it.
-fn append_extent(alloc: Global, text: &mut Vec<u8>, extent: u32) -> Result<(), OutOfMemory>
-    ensures { OnOk result (text.new.items ≡ text.old.items ++ spaced (decimal extent)) }
+fn append_extent(text: &mut String, extent: u32) -> Result<(), OutOfMemory>
+    ensures { OnOk result (string_bytes text.new ≡ string_bytes text.old ++ spaced (decimal extent)) }
 {
-    let word = format!(in alloc; " {extent}")?;
-    text.extend_from_slice(word.as_bytes())?;
-    Ok(())
+    write!(text, " {extent}")
 }
 
 /// Appends the numbers of these retired extents.
-fn append_extents(alloc: Global, text: &mut Vec<u8>, retired: &[u32]) -> Result<(), OutOfMemory>
-    ensures { OnOk result (text.new.items ≡ text.old.items ++ flat_map (λ e. spaced (decimal e)) retired.now) }
+fn append_extents(text: &mut String, retired: &[u32]) -> Result<(), OutOfMemory>
+    ensures { OnOk result (string_bytes text.new ≡ string_bytes text.old ++
+        flat_map (λ e. spaced (decimal e)) retired.now) }
 {
     for extent in retired {
-        append_extent(alloc, text, *extent)?;
+        append_extent(text, *extent)?;
     }
     Ok(())
 }
 
 /// Appends the line of the retired extents.
-fn append_retired(alloc: Global, text: &mut Vec<u8>, retired: &[u32]) -> Result<(), OutOfMemory>
-    ensures { OnOk result (text.new.items ≡ text.old.items ++ retired_line retired.now) }
+fn append_retired(text: &mut String, retired: &[u32]) -> Result<(), OutOfMemory>
+    ensures { OnOk result (string_bytes text.new ≡ string_bytes text.old ++ retired_line retired.now) }
 {
-    text.extend_from_slice(b"retired")?;
-    append_extents(alloc, text, retired)?;
-    text.push(b'\n')?;
-    Ok(())
+    write!(text, "retired")?;
+    append_extents(text, retired)?;
+    writeln!(text)
 }
 
 /// Appends the line of the index runs.
-fn append_runs(
-    alloc: Global,
-    text: &mut Vec<u8>,
-    lost: usize,
-    hidden: usize,
-) -> Result<(), OutOfMemory>
-    ensures { OnOk result (text.new.items ≡ text.old.items ++ runs_line lost hidden) }
+fn append_runs(text: &mut String, lost: usize, hidden: usize) -> Result<(), OutOfMemory>
+    ensures { OnOk result (string_bytes text.new ≡ string_bytes text.old ++ runs_line lost hidden) }
 {
-    let line = format!(in alloc; "runs lost {lost} hidden {hidden}\n")?;
-    text.extend_from_slice(line.as_bytes())?;
-    Ok(())
+    writeln!(text, "runs lost {lost} hidden {hidden}")
 }
 
 /// Appends what the line of a shard's locator of this number begins with.
 fn append_text(
     alloc: Global,
-    text: &mut Vec<u8>,
+    text: &mut String,
     number: usize,
     one: &Checked,
 ) -> Result<(), OutOfMemory>
-    ensures { OnOk result (text.new.items ≡ text.old.items ++ numbered_text number one.now) }
+    ensures { OnOk result (string_bytes text.new ≡ string_bytes text.old ++ numbered_text number one.now) }
 {
     let owner = owner_text(alloc, one.owner)?;
     let (tens, ones) = (number / 10, number % 10);
     let length = one.locator.length;
     let digest = hex::encode(alloc, one.locator.digest)?;
     let status = status_text(one.status);
-    let line = format!(in alloc; "{owner} {tens}{ones} {length} {digest} {status}")?;
-    text.extend_from_slice(line.as_bytes())?;
-    Ok(())
+    write!(text, "{owner} {tens}{ones} {length} {digest} {status}")
 }
 
 /// Appends a space and the word for the form of a chunk, if it is known.
-fn append_form(text: &mut Vec<u8>, form: Option<Form>) -> Result<(), OutOfMemory>
-    ensures { OnOk result (text.new.items ≡ text.old.items ++ form_text form) }
+fn append_form(text: &mut String, form: Option<Form>) -> Result<(), OutOfMemory>
+    ensures { OnOk result (string_bytes text.new ≡ string_bytes text.old ++ form_text form) }
 {
     match form {
-        Some(Form::Plain) => text.extend_from_slice(b" plain")?,
-        Some(Form::Sealed) => text.extend_from_slice(b" sealed")?,
-        None => (),
+        Some(Form::Plain) => write!(text, " plain"),
+        Some(Form::Sealed) => write!(text, " sealed"),
+        None => Ok(()),
     }
-    Ok(())
 }
 
 /// Appends where the chunk of a locator is looked for.
-fn append_place(alloc: Global, text: &mut Vec<u8>, locator: &Locator) -> Result<(), OutOfMemory>
-    ensures { OnOk result (text.new.items ≡ text.old.items ++ looked_for locator.now) }
+fn append_place(text: &mut String, locator: &Locator) -> Result<(), OutOfMemory>
+    ensures { OnOk result (string_bytes text.new ≡ string_bytes text.old ++ looked_for locator.now) }
 {
     let Locator {
         extent,
@@ -131,70 +109,67 @@ fn append_place(alloc: Global, text: &mut Vec<u8>, locator: &Locator) -> Result<
         uuid,
         ..
     } = locator;
-    let place = format!(in alloc; " {extent} {offset} {uuid}")?;
-    text.extend_from_slice(place.as_bytes())?;
-    Ok(())
+    write!(text, " {extent} {offset} {uuid}")
 }
 
 /// Appends whether a dangling locator has spares; nothing for another.
-fn append_spare(text: &mut Vec<u8>, status: Status, spares: &[Standing]) -> Result<(), OutOfMemory>
-    ensures { OnOk result (text.new.items ≡ text.old.items ++ spare_text status spares.now) }
+fn append_spare(text: &mut String, status: Status, spares: &[Standing]) -> Result<(), OutOfMemory>
+    ensures { OnOk result (string_bytes text.new ≡ string_bytes text.old ++ spare_text status spares.now) }
 {
     if !status.is_dangling() {
         return Ok(());
     }
     if spares.is_empty() {
-        text.extend_from_slice(b" none")?;
-    } else {
-        text.extend_from_slice(b" spare")?;
+        return write!(text, " none");
     }
-    Ok(())
+    write!(text, " spare")
 }
 
 /// Appends what follows a locator's status, by the form of the chunk at its place and by its spares.
 fn append_after_status(
-    alloc: Global,
-    text: &mut Vec<u8>,
+    text: &mut String,
     form: Option<Form>,
     spares: &[Standing],
     one: &Checked,
 ) -> Result<(), OutOfMemory>
-    ensures { OnOk result (text.new.items ≡ text.old.items ++ after_status form spares.now one.now) }
+    ensures { OnOk result (string_bytes text.new ≡ string_bytes text.old ++
+        after_status form spares.now one.now) }
 {
     if one.status.is_sound() {
         return append_form(text, form);
     }
-    append_place(alloc, text, &one.locator)?;
+    append_place(text, &one.locator)?;
     append_spare(text, one.status, spares)
 }
 
 /// Appends the line of a shard's locator of this number.
 fn append_numbered<D: PageSource>(
     alloc: Global,
-    text: &mut Vec<u8>,
+    text: &mut String,
     all: &AllFindings<'_, D>,
     spares: &Spares,
     number: usize,
     one: &Checked,
 ) -> Result<(), OutOfMemory>
-    ensures { OnOk result (text.new.items ≡ text.old.items ++ numbered_line (after_status_by all.now.extents spares.now) number one.now) }
+    ensures { OnOk result (string_bytes text.new ≡ string_bytes text.old ++
+        numbered_line (after_status_by all.now.extents spares.now) number one.now) }
 {
     append_text(alloc, text, number, one)?;
     let form = form_at(all, &one.locator);
-    append_after_status(alloc, text, form, spares.of_one(one), one)?;
-    text.push(b'\n')?;
-    Ok(())
+    append_after_status(text, form, spares.of_one(one), one)?;
+    writeln!(text)
 }
 
 /// Appends the lines of the locators of one shard, numbered from 0.
 fn append_shard<D: PageSource>(
     alloc: Global,
-    text: &mut Vec<u8>,
+    text: &mut String,
     all: &AllFindings<'_, D>,
     spares: &Spares,
     own: &[Checked],
 ) -> Result<(), OutOfMemory>
-    ensures { OnOk result (text.new.items ≡ text.old.items ++ numbered_lines (after_status_by all.now.extents spares.now) own.now) }
+    ensures { OnOk result (string_bytes text.new ≡ string_bytes text.old ++
+        numbered_lines (after_status_by all.now.extents spares.now) own.now) }
 {
     for (number, one) in own.iter().enumerate() {
         append_numbered(alloc, text, all, spares, number, one)?;
@@ -205,7 +180,7 @@ fn append_shard<D: PageSource>(
 /// Appends the lines of the shards of these bindings, whose locators are one after another in `checked`.
 fn append_shards<D: PageSource>(
     alloc: Global,
-    text: &mut Vec<u8>,
+    text: &mut String,
     all: &AllFindings<'_, D>,
     spares: &Spares,
     bindings: &[Binding],
@@ -213,8 +188,9 @@ fn append_shards<D: PageSource>(
 ) -> Result<(), OutOfMemory>
     requires rising { AllPairs (λ b c. IsBelow b.id c.id) bindings.now }
     requires along { map named_of checked.now ≡ flat_map named_by_shard bindings.now }
-    ensures { OnOk result (text.new.items ≡
-        text.old.items ++ flat_map (λ b. shard_lines (after_status_by all.now.extents spares.now) checked.now b.id) bindings.now) }
+    ensures { OnOk result (string_bytes text.new ≡
+        string_bytes text.old ++ flat_map (λ b.
+        shard_lines (after_status_by all.now.extents spares.now) checked.now b.id) bindings.now) }
 {
     let mut rest = checked;
     for binding in bindings {
@@ -226,17 +202,10 @@ fn append_shards<D: PageSource>(
 }
 
 /// Appends the last line.
-fn append_total(
-    alloc: Global,
-    text: &mut Vec<u8>,
-    shards: usize,
-    locators: usize,
-) -> Result<(), OutOfMemory>
-    ensures { OnOk result (text.new.items ≡ text.old.items ++ total_line shards locators) }
+fn append_total(text: &mut String, shards: usize, locators: usize) -> Result<(), OutOfMemory>
+    ensures { OnOk result (string_bytes text.new ≡ string_bytes text.old ++ total_line shards locators) }
 {
-    let line = format!(in alloc; "total {shards} {locators}\n")?;
-    text.extend_from_slice(line.as_bytes())?;
-    Ok(())
+    writeln!(text, "total {shards} {locators}")
 }
 
 /// How many index runs are lost, and how many are read though their locator is hidden.
@@ -246,7 +215,8 @@ struct RunCounts {
     hidden: usize,
 }
 
-/// The text by what was scanned, the spares, the plan, the numbers of runs, the bindings, and the named locators of their shards.
+/// The text by what was scanned, the spares, the plan, the numbers of runs, the bindings, and the named
+/// locators of their shards.
 fn text_by<D: PageSource>(
     alloc: Global,
     all: &AllFindings<'_, D>,
@@ -255,20 +225,20 @@ fn text_by<D: PageSource>(
     runs: RunCounts,
     bindings: &[Binding],
     shards: &[Checked],
-) -> Result<Vec<u8>, OutOfMemory>
+) -> Result<String, OutOfMemory>
     requires rising { AllPairs (λ b c. IsBelow b.id c.id) bindings.now }
     requires along { map named_of shards.now ≡ flat_map named_by_shard bindings.now }
-    ensures { IfOk result (λ text. text.items ≡ text_by (after_status_by all.now.extents spares.now)
+    ensures { IfOk result (λ text. string_bytes text ≡ text_by (after_status_by all.now.extents spares.now)
         plan.now.has_superblock plan.now.retired runs.lost runs.hidden bindings.now shards.now) }
 {
     if !plan.has_superblock() {
-        return Ok(Vec::from_slice(alloc, b"no-superblock\n")?);
+        return format!(in alloc; "no-superblock\n");
     }
-    let mut text = Vec::new(alloc);
-    append_retired(alloc, &mut text, plan.retired())?;
-    append_runs(alloc, &mut text, runs.lost, runs.hidden)?;
+    let mut text = String::new(alloc);
+    append_retired(&mut text, plan.retired())?;
+    append_runs(&mut text, runs.lost, runs.hidden)?;
     append_shards(alloc, &mut text, all, spares, bindings, shards)?;
-    append_total(alloc, &mut text, bindings.len(), shards.len())?;
+    append_total(&mut text, bindings.len(), shards.len())?;
     Ok(text)
 }
 
@@ -302,7 +272,8 @@ fn hidden_runs(runs: &[RunRow], checked: &[Checked]) -> usize
         .count()
 }
 
-/// Whether nothing is missing, by the plan, the numbers of lost and of hidden runs, and the locators of shards.
+/// Whether nothing is missing, by the plan, the numbers of lost and of hidden runs, and the locators of
+/// shards.
 fn is_whole_by(plan: &Plan, lost: usize, hidden: usize, shards: &[Checked]) -> bool
     ensures { result ≡ is_whole_by plan.now.has_superblock lost hidden shards.now }
 {
@@ -315,32 +286,51 @@ fn manifest_of<R: Threads + Sync, D: PageSource>(
     alloc: Global,
     scan: Scan<'_, D>,
     resets: &[u32],
-) -> Result<ManifestListing, OutOfMemory>
-    requires { IsScanBut resets.now (D.image scan.disk.now) scan.chosen scan.plan scan.all.extents }
+) -> Result<Listing, OutOfMemory>
+    requires { IsScanBut resets.now (D.image scan.disk.now) scan }
     ensures text { IfOk result (λ m. IsManifestBut resets.now (D.image scan.entry.disk.now) m.text.items) }
-    ensures whole { IfOk result (λ m. IsWholeBut resets.now (D.image scan.entry.disk.now) m.is_whole) }
+    ensures whole { IfOk result (λ m. IsWholeBut resets.now (D.image scan.entry.disk.now) m.is_clean) }
 {
     let parts = parts_of(rt, alloc, scan, resets)?;
-    let (_runs, shards) = parts.checked.split_at(parts.plan.runs().len());
-    let spares = Spares::of(alloc, &parts.all, &parts.checked)?;
-    let lost = lost_runs(&parts.runs);
-    let hidden = hidden_runs(&parts.runs, &parts.checked);
+    let judged = &parts.judged;
+    let Scan { plan, all, .. } = &judged.scan;
+    let (_runs, shards) = judged.checked.split_at(plan.runs().len());
+    let spares = Spares::of(alloc, all, &judged.checked)?;
+    let lost = lost_runs(&judged.runs);
+    let hidden = hidden_runs(&judged.runs, &judged.checked);
     let text = text_by(
         alloc,
-        &parts.all,
+        all,
         &spares,
-        &parts.plan,
+        plan,
         RunCounts { lost, hidden },
         parts.map.bindings(),
         shards,
     )?;
-    let is_whole = is_whole_by(&parts.plan, lost, hidden, shards);
-    Ok(ManifestListing { text, is_whole })
+    let is_clean = is_whole_by(plan, lost, hidden, shards);
+    Ok(Listing {
+        text: text.into_bytes(),
+        is_clean,
+    })
 }
 
-/// Lists what a disk holds, wherever it lies, as if these extents, which rise, had been reset: as if their write pointers were
-/// 0. Returns which extents the caller and each worker took. It scans as `scrub` does, with this many workers (0 to 64) beside
-/// the caller. The only fault is `OutOfMemory`, returned once every started worker has ended.
+/// Lists what a disk holds, wherever it lies, as lines that can be kept, compared and signed, and returns
+/// which extents the caller and each worker took. The disk is taken as if these extents, which rise, had been
+/// reset, which puts a write pointer to 0. It is clean if a superblock counts, no index run is lost or
+/// hidden, and each locator of a shard is sound.
+///
+/// First comes `retired` with the retired extents, ascending, and `runs lost L hidden H` with how
+/// many index runs are lost, and how many are read though their locator is hidden. Then for each shard of the
+/// shard map, by identifier, and each of its locators, in their order, comes `shard ID NUMBER LENGTH DIGEST
+/// STATUS`. After `sound` comes the form of the chunk, `plain` or `sealed`; after another status `EXTENT
+/// OFFSET UUID` of the locator, and if it dangles `spare` where it has a spare, or else `none`. The number is
+/// that of the locator among the shard's, from 00, always in two digits. The length, that of the payload, and
+/// the offset are in bytes. Identifier and digest (SHA-256) are in hexadecimal digits, in lower case. The
+/// status has the report's words. At the end comes `total` with the numbers of shards and of their locators.
+/// Without a superblock there is one line `no-superblock` alone.
+///
+/// It scans as `scrub` does, with this many workers (0 to 64) beside the caller. The only fault is
+/// `OutOfMemory`, returned once every started worker has ended.
 pub fn list_manifest<D: PageSource, G: Gate, R: Threads + Wait + Sync>(
     rt: &R,
     alloc: Global,
@@ -348,14 +338,12 @@ pub fn list_manifest<D: PageSource, G: Gate, R: Threads + Wait + Sync>(
     workers: u32,
     gate: &G,
     resets: &[u32],
-) -> Result<(ManifestListing, Takings), ScrubFault>
+) -> Result<(Listing, Takings), ScrubFault>
     requires workers { workers ≤ 64 }
     requires rising { IsStrictlyIncreasing resets.now }
     ensures text { IfOk result (λ r. IsManifestBut resets.now (D.image disk.now) r.0.text.items) }
-    ensures whole { IfOk result (λ r. IsWholeBut resets.now (D.image disk.now) r.0.is_whole) }
-    ensures workers { IfOk result (λ r. length r.1.lists ≡ workers + 1) }
-    ensures partition { IfOk result (λ r. IsPartitionOfPlanned (D.image disk.now) r.1.lists) }
-    ensures counted { IfOk result (λ r. IsCountOfPlanned (D.image disk.now) r.1.counted) }
+    ensures whole { IfOk result (λ r. IsWholeBut resets.now (D.image disk.now) r.0.is_clean) }
+    ensures takings { IfOk result (λ r. AreTakingsBy (D.image disk.now) workers r.1) }
 {
     let chosen = choose(alloc, disk)?;
     let (scan, takings) = scan_with_resets(rt, alloc, disk, chosen, workers, gate, resets)?;
@@ -363,21 +351,25 @@ pub fn list_manifest<D: PageSource, G: Gate, R: Threads + Wait + Sync>(
     Ok((manifest, takings))
 }
 
-/// A law: an image has one manifest, for each list of extents to be reset.
+/// A law: an image has at most one manifest, for each list of extents to be reset.
 pub fn one_manifest()
-    ensures { (resets : List ℕ) (image : Image) (a b : List ℕ) → IsManifestBut resets image a → IsManifestBut resets image b → a ≡ b }
+    ensures { (resets : List ℕ) (image : Image) (a b : List ℕ) → IsManifestBut resets image a →
+        IsManifestBut resets image b → a ≡ b }
 {}
 
-/// A law: two disks with one manifest, as if whichever extents had been reset, both have a superblock or none, they have the
-/// same retired extents, as many index runs are lost or hidden, and the same is said of the shards' locators, so that they have
-/// one exit status. If the images are of bytes, they have the same shards, with the same lengths, digests and statuses in
-/// order, the same forms of the chunks of sound locators, the same extents and offsets of others, and the same dangling ones
-/// without spares.
+/// A law: two disks with one manifest, as if whichever extents had been reset, both have a superblock or
+/// none, they have the same retired extents, as many index runs are lost or hidden, and the same is said of
+/// the shards' locators, so that they have one exit status. If the images are of bytes, they have the same
+/// shards, with the same lengths, digests and statuses in order, the same forms of the chunks of sound
+/// locators, the same extents and offsets of others, and the same dangling ones without spares.
 pub fn one_manifest_holds_the_same()
-    ensures said { (resets others : List ℕ) (image other : Image) (text : List ℕ) (x : IsManifestBut resets image text) (y : IsManifestBut others other text) →
+    ensures said { (resets others : List ℕ) (image other : Image) (text : List ℕ)
+        (x : IsManifestBut resets image text) (y : IsManifestBut others other text) →
         HoldTheSame x.found y.found }
-    ensures whole { (resets others : List ℕ) (image other : Image) (text : List ℕ) (a b : Bool) → IsManifestBut resets image text → IsManifestBut others other text →
+    ensures whole { (resets others : List ℕ) (image other : Image) (text : List ℕ) (a b : Bool) →
+        IsManifestBut resets image text → IsManifestBut others other text →
         IsWholeBut resets image a → IsWholeBut others other b → a ≡ b }
-    ensures shards { (resets others : List ℕ) (image other : Image) (text : List ℕ) (x : IsManifestBut resets image text) (y : IsManifestBut others other text) →
+    ensures shards { (resets others : List ℕ) (image other : Image) (text : List ℕ)
+        (x : IsManifestBut resets image text) (y : IsManifestBut others other text) →
         HoldsBytes image → HoldsBytes other → all_traits x.found ≡ all_traits y.found }
 {}

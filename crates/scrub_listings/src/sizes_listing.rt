@@ -1,28 +1,19 @@
 //! The superblock records of a raw image of any sizes, and what is lost of it, as lines.
 
-ghost use Rattle.std.specs.Prelude.{◌≡◌, ◌+◌, ◌-◌, ◌<◌, ◌≤◌, ◌↔◌, ◌^◌, ℕ, All, List, Bool, IfOk, IsTrue, MatchOption, Some};
+ghost use Rattle.std.specs.Prelude.{◌≡◌, ◌+◌, ◌-◌, ◌<◌, ◌≤◌, ◌↔◌, ◌^◌, ℕ, All, List, Bool, IfOk, IsTrue};
+ghost use Rattle.std.specs.Prelude.{MatchOption, Some};
 ghost use Rattle.scrub_disk.specs.Limits.{max_extent_bytes};
 ghost use Rattle.scrub_listings.specs.Sizes.{AreSizesLines, AreSizesOf, IsCleanFront, IsSizesListingOf};
 ghost use Rattle.scrub_disk.specs.declared.geometry.Geometry.{Geometry};
-ghost use Rattle.scrub_listings.specs.SizesSteps.{AreCleanLists};
+ghost use Rattle.scrub_listings.specs.steps.Sizes.{AreCleanLists};
 
 mod lines;
 
+use crate::listing::Listing;
 use crate::sizes_listing::lines::{lines_in_order, lines_text};
 use scrub_disk::{Geometry, OutOfMemory, RawImage};
 use scrub_super::{FoundRecord, FoundSuperblocks, find_superblocks};
 use std::alloc::Global;
-
-/// The superblock records in the front of a raw image, as lines.
-#[derive(Debug, Drop)]
-pub struct SizesListing {
-    /// By rising start, each with a line feed: `OFFSET KIND GENERATION PAGE PAGES EXTENTS` for each record, and
-    /// `lost FROM TO` for each run of lost blocks. The numbers are in decimal; OFFSET, PAGE, FROM and TO are in bytes. TO is
-    /// behind the last lost byte.
-    pub text: Vec<u8>,
-    /// Whether there is a record, all records have the same sizes, and nothing is lost.
-    pub is_clean: bool,
-}
 
 /// Whether each record has these sizes.
 fn have_sizes(records: &[FoundRecord], geometry: Geometry) -> bool
@@ -49,7 +40,8 @@ fn is_clean(found: &FoundSuperblocks) -> bool
 /// The sizes that all records have, if there is a record and nothing is lost.
 fn sizes_in(found: &FoundSuperblocks) -> Option<Geometry>
     ensures { MatchOption result (¬ AreCleanLists found.now.records.items found.now.lost.items) (λ g.
-        AreCleanLists found.now.records.items found.now.lost.items × All (λ r. r.geometry ≡ g) found.now.records.items) }
+        AreCleanLists found.now.records.items found.now.lost.items ×
+        All (λ r. r.geometry ≡ g) found.now.records.items) }
 {
     if !is_clean(found) {
         return None;
@@ -57,16 +49,18 @@ fn sizes_in(found: &FoundSuperblocks) -> Option<Geometry>
     Some(found.records[0].geometry)
 }
 
-/// Finds the sizes of the disk in a raw image: those that all superblock records in its first 67,108,864 bytes have. None if
-/// there is no record, if not all have the same sizes, or if something is lost there. `find_superblocks` reads the image, whose
-/// blocks lack what `lacking` says, as for `list_sizes`. The only fault is `OutOfMemory`.
+/// Finds the sizes of the disk in a raw image: those that all superblock records in its first 67,108,864
+/// bytes have. None if there is no record, if not all have the same sizes, or if something is lost there.
+/// `find_superblocks` reads the image, whose blocks lack what `lacking` says, as for `list_sizes`. The only
+/// fault is `OutOfMemory`.
 pub fn find_sizes<R: RawImage>(
     alloc: Global,
     raw: &mut R,
     lacking: &[u32],
 ) -> Result<Option<Geometry>, OutOfMemory>
     requires few_reads { R.reads raw.old < 2 ^ 62 }
-    ensures sizes { IfOk result (AreSizesOf (R.bytes raw.old) lacking.now (R.failures raw.new - R.failures raw.old)) }
+    ensures sizes { IfOk result
+        (AreSizesOf (R.bytes raw.old) lacking.now (R.failures raw.new - R.failures raw.old)) }
     ensures failures { R.failures raw.old ≤ R.failures raw.new }
     ensures same_bytes { R.bytes raw.new ≡ R.bytes raw.old }
     ensures same_bound { R.most_failures raw.new ≡ R.most_failures raw.old }
@@ -79,20 +73,29 @@ pub fn find_sizes<R: RawImage>(
 /// A law: the sizes that are found in given bytes are the same whatever blocks lack and whichever reads fail.
 pub fn one_size()
     ensures { (bytes lacking others : List ℕ) (failures more : ℕ) (g h : Geometry) →
-        AreSizesOf (Some bytes) lacking failures (Some g) → AreSizesOf (Some bytes) others more (Some h) → g ≡ h }
+        AreSizesOf (Some bytes) lacking failures (Some g) → AreSizesOf (Some bytes) others more (Some h) →
+        g ≡ h }
 {}
 
-/// Lists the superblock records of a raw image, each with its own sizes, and what is lost of the first 67,108,864 bytes.
-/// `find_superblocks` reads the image. `lacking` has for each of the first blocks of 512 bytes the place of its first byte that
-/// a rescue's map lacks, counted from the block's start: 512 if the map lacks none. The only fault is `OutOfMemory`.
+/// Lists the superblock records of a raw image, each with its own sizes, and what is lost of the first
+/// 67,108,864 bytes. It is clean if there is a record, all records have the same sizes, and nothing is lost.
+///
+/// The lines come by ascending start: `OFFSET KIND GENERATION PAGE PAGES EXTENTS` for each record, and
+/// `lost FROM TO` for each run of lost blocks. OFFSET, PAGE, FROM and TO are in bytes. TO is the byte after
+/// the last lost byte.
+///
+/// `find_superblocks` reads the image. `lacking` has for each of the first blocks of 512 bytes the place of
+/// its first byte that a rescue's map lacks, counted from the block's start: 512 if the map lacks none. The
+/// only fault is `OutOfMemory`.
 pub fn list_sizes<R: RawImage>(
     alloc: Global,
     raw: &mut R,
     lacking: &[u32],
-) -> Result<SizesListing, OutOfMemory>
+) -> Result<Listing, OutOfMemory>
     requires few_reads { R.reads raw.old < 2 ^ 62 }
     ensures listing { IfOk result (λ l.
-        IsSizesListingOf (R.bytes raw.old) lacking.now (R.failures raw.new - R.failures raw.old) l.text.items l.is_clean) }
+        IsSizesListingOf (R.bytes raw.old) lacking.now (R.failures raw.new - R.failures raw.old)
+        l.text.items l.is_clean) }
     ensures failures { R.failures raw.old ≤ R.failures raw.new }
     ensures same_bytes { R.bytes raw.new ≡ R.bytes raw.old }
     ensures same_bound { R.most_failures raw.new ≡ R.most_failures raw.old }
@@ -102,10 +105,10 @@ pub fn list_sizes<R: RawImage>(
     let lines = lines_in_order(alloc, &found.records, &found.lost)?;
     let text = lines_text(alloc, &lines)?;
     let is_clean = is_clean(&found);
-    Ok(SizesListing { text, is_clean })
+    Ok(Listing { text, is_clean })
 }
 
-/// A law: for given bytes and lost blocks there is one listing, and one answer whether it is clean.
+/// A law: for given bytes and lost blocks there is at most one listing, and one answer whether it is clean.
 pub fn one_sizes_listing()
     ensures text { (bytes : List ℕ) (lost : List Bool) (a b : List ℕ) →
         AreSizesLines bytes lost a → AreSizesLines bytes lost b → a ≡ b }

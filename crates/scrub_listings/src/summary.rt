@@ -1,6 +1,7 @@
 //! The summary of a disk: a verdict, and numbers by their names, for a person and for monitoring.
 
-ghost use Rattle.std.specs.Prelude.{◌≡◌, ◌+◌, ◌++◌, ◌^◌, ◌<◌, ◌≤◌, Bool, List, ℕ, IfOk, OnOk, is_none, length, map, sum};
+ghost use Rattle.std.specs.Prelude.{◌≡◌, ◌+◌, ◌++◌, ◌^◌, ◌<◌, ◌≤◌, Bool, List, ℕ, IfOk, OnOk, is_none};
+ghost use Rattle.std.specs.Prelude.{length, map, string_bytes, sum};
 ghost use Rattle.std.specs.List.{count_by, filter, list_any, sum_by};
 ghost use Rattle.std.specs.Option.{option_map_or};
 ghost use Rattle.scrub_disk.specs.Image.{Image};
@@ -12,10 +13,16 @@ ghost use Rattle.scrub_check.specs.Checked.{is_dangling, is_hidden};
 ghost use Rattle.scrub_check.specs.Chunks.{orphans, twins};
 ghost use Rattle.scrub_check.specs.Live.{is_chunk, live_bytes, size_of};
 ghost use Rattle.scrub_check.specs.Runs.{ReadRunsValue};
-ghost use Rattle.scrub_report.specs.Answer.{IsPartitionOfPlanned, IsCountOfPlanned};
+ghost use Rattle.scrub_report.specs.Answer.{AreTakingsBy};
 ghost use Rattle.scrub_report.specs.Parts.{AreRowsOf, IsScan, found_in};
-ghost use Rattle.scrub_listings.specs.Summary.{IsSoundImage, IsSummary, candidate_numbers, chunk_numbers, disk_numbers, has_spare_by, is_damaged, is_lost, is_noise, is_odd, is_sound_verdict, is_stray, is_torn, item_numbers, number_line, number_lines, numbers_by, one_if, reading_numbers, shard_numbers, superblock_numbers, tally_in, verdict, verdict_by, verdict_line, verdict_text};
+ghost use Rattle.scrub_listings.specs.Summary.{IsSoundImage, IsSummary, candidate_numbers, chunk_numbers};
+ghost use Rattle.scrub_listings.specs.Summary.{disk_numbers, has_spare_by, is_damaged, is_lost, is_noise};
+ghost use Rattle.scrub_listings.specs.Summary.{is_odd, is_sound_verdict, is_stray, is_torn, item_numbers};
+ghost use Rattle.scrub_listings.specs.Summary.{number_line, number_lines, numbers_by, one_if};
+ghost use Rattle.scrub_listings.specs.Summary.{reading_numbers, shard_numbers, superblock_numbers, tally_in};
+ghost use Rattle.scrub_listings.specs.Summary.{verdict, verdict_by, verdict_line, verdict_text};
 
+use crate::listing::Listing;
 use crate::manifest::lost_runs;
 use scrub_check::{Candidate, Checked, Place, Spares};
 use scrub_disk::{OutOfMemory, PageSource};
@@ -28,6 +35,7 @@ use scrub_report::scrubbing::{is_clean, parts_and_twins};
 use scrub_scan::{AllFindings, ExtentResult, Item};
 use scrub_super::{Chosen, Plan, SuperblockPage, choose_with_pages};
 use std::alloc::Global;
+use std::fmt::Write;
 use std::sync::Wait;
 use std::thread::Threads;
 
@@ -36,7 +44,8 @@ use std::thread::Threads;
 pub enum Verdict {
     /// It is clean, and no page of extent 0 is damaged or stray.
     Sound,
-    /// It is clean, but a page of extent 0 is damaged or stray.
+    /// It is clean, but a page of extent 0 is damaged or stray. This isn't what candidates call in doubt: a
+    /// disk with that isn't clean.
     InDoubt,
     /// It isn't clean.
     Wrong,
@@ -57,20 +66,10 @@ pub(crate) enum Tally {
     NoiseItems,
     /// Lost items.
     LostItems,
-    /// 1 if the extent has nonzero bytes at or behind its write pointer, or else 0.
+    /// 1 if the extent has nonzero bytes at or past its write pointer, or else 0.
     Tails,
     /// How many such bytes it has.
     TailBytes,
-}
-
-/// The summary of a disk, as lines.
-#[derive(Drop)]
-pub struct SummaryListing {
-    /// First `verdict sound`, `verdict doubt` or `verdict wrong`, and then `NAME NUMBER` for each number, always all of them in
-    /// the same order. The numbers are in decimal.
-    pub text: Vec<u8>,
-    /// Whether the verdict is `sound`.
-    pub is_sound: bool,
 }
 
 /// Whether a page of extent 0 is damaged.
@@ -133,39 +132,27 @@ fn verdict_text(verdict: Verdict) -> &'static str
 }
 
 /// Appends the line of the verdict.
-fn append_verdict(alloc: Global, text: &mut Vec<u8>, verdict: Verdict) -> Result<(), OutOfMemory>
-    ensures { OnOk result (text.new.items ≡ text.old.items ++ verdict_line verdict) }
+fn append_verdict(text: &mut String, verdict: Verdict) -> Result<(), OutOfMemory>
+    ensures { OnOk result (string_bytes text.new ≡ string_bytes text.old ++ verdict_line verdict) }
 {
     let word = verdict_text(verdict);
-    let line = format!(in alloc; "verdict {word}\n")?;
-    text.extend_from_slice(line.as_bytes())?;
-    Ok(())
+    writeln!(text, "verdict {word}")
 }
 
 /// Appends the line of a name and its number.
-fn append_number(
-    alloc: Global,
-    text: &mut Vec<u8>,
-    name: &str,
-    number: u128,
-) -> Result<(), OutOfMemory>
-    ensures { OnOk result (text.new.items ≡ text.old.items ++ number_line (name.now, number)) }
+fn append_number(text: &mut String, name: &str, number: u128) -> Result<(), OutOfMemory>
+    ensures { OnOk result (string_bytes text.new ≡ string_bytes text.old ++ number_line (name.now, number)) }
 {
-    let line = format!(in alloc; "{name} {number}\n")?;
-    text.extend_from_slice(line.as_bytes())?;
-    Ok(())
+    writeln!(text, "{name} {number}")
 }
 
 /// Appends the lines of names and their numbers.
-fn append_numbers(
-    alloc: Global,
-    text: &mut Vec<u8>,
-    numbers: &[(&str, u128)],
-) -> Result<(), OutOfMemory>
-    ensures { OnOk result (text.new.items ≡ text.old.items ++ number_lines (map (λ m. (m.0.now, m.1)) numbers.now)) }
+fn append_numbers(text: &mut String, numbers: &[(&str, u128)]) -> Result<(), OutOfMemory>
+    ensures { OnOk result (string_bytes text.new ≡ string_bytes text.old ++
+        number_lines (map (λ m. (m.0.now, m.1)) numbers.now)) }
 {
     for (name, number) in numbers {
-        append_number(alloc, text, name, *number)?;
+        append_number(text, name, *number)?;
     }
     Ok(())
 }
@@ -270,9 +257,11 @@ fn tally_all<D: PageSource>(tally: Tally, all: &AllFindings<'_, D>) -> u128
     ensures sum { result ≡ sum_by (tally_in tally) all.now.extents }
     ensures few { result + 2 ^ 64 ≤ 2 ^ 128 }
 {
+    // For the proof alone: as the number of extents fits 64 bits, the sum fits 128.
+    let _ = all.len();
     let mut total = 0u128;
-    for i in 0..all.len() {
-        total += u128::from(tally_in(tally, all.result_at(i)));
+    for found in all.results() {
+        total += u128::from(tally_in(tally, found));
     }
     total
 }
@@ -356,7 +345,7 @@ fn dangling_count(checked: &[Checked]) -> usize
 }
 
 /// How many named locators have spares among these.
-fn spared(spares: &Spares, checked: &[Checked]) -> usize
+fn count_spared(spares: &Spares, checked: &[Checked]) -> usize
     ensures { result ≡ count_by (has_spare_by spares.now) checked.now }
 {
     checked
@@ -376,12 +365,12 @@ fn generation_of(chosen: &Chosen) -> u64
 }
 
 /// Appends the sizes of a disk.
-fn append_disk(alloc: Global, text: &mut Vec<u8>, plan: &Plan) -> Result<(), OutOfMemory>
-    ensures { OnOk result (text.new.items ≡ text.old.items ++ number_lines (disk_numbers plan.now)) }
+fn append_disk(text: &mut String, plan: &Plan) -> Result<(), OutOfMemory>
+    ensures { OnOk result (string_bytes text.new ≡ string_bytes text.old ++
+        number_lines (disk_numbers plan.now)) }
 {
     let geometry = plan.geometry();
     append_numbers(
-        alloc,
         text,
         &[
             ("page_bytes", u128::from(geometry.page())),
@@ -394,15 +383,14 @@ fn append_disk(alloc: Global, text: &mut Vec<u8>, plan: &Plan) -> Result<(), Out
 
 /// Appends what there is of superblocks.
 fn append_superblocks(
-    alloc: Global,
-    text: &mut Vec<u8>,
+    text: &mut String,
     chosen: &Chosen,
     pages: &[SuperblockPage],
 ) -> Result<(), OutOfMemory>
-    ensures { OnOk result (text.new.items ≡ text.old.items ++ number_lines (superblock_numbers chosen.now pages.now)) }
+    ensures { OnOk result (string_bytes text.new ≡ string_bytes text.old ++
+        number_lines (superblock_numbers chosen.now pages.now)) }
 {
     append_numbers(
-        alloc,
         text,
         &[
             ("superblocks", u128::from(chosen.records())),
@@ -416,19 +404,17 @@ fn append_superblocks(
 
 /// Appends what can't be read.
 fn append_reading<D: PageSource>(
-    alloc: Global,
-    text: &mut Vec<u8>,
+    text: &mut String,
     chosen: &Chosen,
     plan: &Plan,
     all: &AllFindings<'_, D>,
     lost: usize,
 ) -> Result<(), OutOfMemory>
-    ensures { OnOk result (text.new.items ≡
-        text.old.items ++ number_lines (reading_numbers chosen.now plan.now all.now.extents lost)) }
+    ensures { OnOk result (string_bytes text.new ≡
+        string_bytes text.old ++ number_lines (reading_numbers chosen.now plan.now all.now.extents lost)) }
 {
     let pages = chosen.bad_pages().len() as u128 + tally_all(Tally::UnreadablePages, all);
     append_numbers(
-        alloc,
         text,
         &[
             ("unreadable_pages", pages),
@@ -440,18 +426,16 @@ fn append_reading<D: PageSource>(
 
 /// Appends what there is of shards and of named locators.
 fn append_shards(
-    alloc: Global,
-    text: &mut Vec<u8>,
+    text: &mut String,
     bindings: &[Binding],
     broken: usize,
     checked: &[Checked],
     spared: usize,
 ) -> Result<(), OutOfMemory>
-    ensures { OnOk result (text.new.items ≡
-        text.old.items ++ number_lines (shard_numbers bindings.now broken checked.now spared)) }
+    ensures { OnOk result (string_bytes text.new ≡
+        string_bytes text.old ++ number_lines (shard_numbers bindings.now broken checked.now spared)) }
 {
     append_numbers(
-        alloc,
         text,
         &[
             ("shards", bindings.len() as u128),
@@ -465,11 +449,10 @@ fn append_shards(
     )
 }
 
-/// Appends what there is of chunks, by the live bytes of each extent, and by how many orphans, twins and shared places there
-/// are.
+/// Appends what there is of chunks, by the live bytes of each extent, and by how many orphans, twins and
+/// shared places there are.
 fn append_chunks<D: PageSource>(
-    alloc: Global,
-    text: &mut Vec<u8>,
+    text: &mut String,
     all: &AllFindings<'_, D>,
     live: &[u32],
     orphan_count: usize,
@@ -479,14 +462,14 @@ fn append_chunks<D: PageSource>(
     requires { twin_count ≡ length (twins all.now.extents) }
     ensures { (checked : List Checked) → live.now ≡ map (live_bytes checked) all.now.extents →
         orphan_count ≡ length (orphans all.now.extents checked) →
-        OnOk result (text.new.items ≡ text.old.items ++ number_lines (chunk_numbers all.now.extents checked shared)) }
+        OnOk result (string_bytes text.new ≡ string_bytes text.old ++
+        number_lines (chunk_numbers all.now.extents checked shared)) }
 {
     let chunks = tally_all(Tally::Chunks, all);
     let bytes = tally_all(Tally::ChunkBytes, all);
     let live_bytes = sum_of(live);
     let orphan_count = orphan_count as u128;
     append_numbers(
-        alloc,
         text,
         &[
             ("chunks", chunks),
@@ -503,14 +486,13 @@ fn append_chunks<D: PageSource>(
 
 /// Appends what there is of other items, and of tails.
 fn append_items<D: PageSource>(
-    alloc: Global,
-    text: &mut Vec<u8>,
+    text: &mut String,
     all: &AllFindings<'_, D>,
 ) -> Result<(), OutOfMemory>
-    ensures { OnOk result (text.new.items ≡ text.old.items ++ number_lines (item_numbers all.now.extents)) }
+    ensures { OnOk result (string_bytes text.new ≡ string_bytes text.old ++
+        number_lines (item_numbers all.now.extents)) }
 {
     append_numbers(
-        alloc,
         text,
         &[
             ("torn_items", tally_all(Tally::TornItems, all)),
@@ -523,15 +505,11 @@ fn append_items<D: PageSource>(
 }
 
 /// Appends what may be reclaimed.
-fn append_candidates(
-    alloc: Global,
-    text: &mut Vec<u8>,
-    candidates: &[Candidate],
-) -> Result<(), OutOfMemory>
-    ensures { OnOk result (text.new.items ≡ text.old.items ++ number_lines (candidate_numbers candidates.now)) }
+fn append_candidates(text: &mut String, candidates: &[Candidate]) -> Result<(), OutOfMemory>
+    ensures { OnOk result (string_bytes text.new ≡ string_bytes text.old ++
+        number_lines (candidate_numbers candidates.now)) }
 {
     append_numbers(
-        alloc,
         text,
         &[
             ("candidates", candidates.len() as u128),
@@ -544,38 +522,39 @@ fn append_candidates(
 /// Appends all numbers of what was found, with these pages of extent 0 and so many twins.
 fn append_all<D: PageSource>(
     alloc: Global,
-    text: &mut Vec<u8>,
+    text: &mut String,
     pages: &[SuperblockPage],
     parts: &Parts<'_, D>,
     twin_count: usize,
 ) -> Result<(), OutOfMemory>
-    requires { twin_count ≡ length (twins parts.now.all.extents) }
-    ensures { (read : ReadRunsValue) → AreRowsOf parts.now.plan.runs read parts.now.runs.items →
-        OnOk result (text.new.items ≡ text.old.items ++ number_lines (numbers_by pages.now (found_in parts.now read) (count_by is_none read.runs))) }
+    requires { twin_count ≡ length (twins parts.now.judged.scan.all.extents) }
+    ensures { (read : ReadRunsValue) →
+        AreRowsOf parts.now.judged.scan.plan.runs read parts.now.judged.runs.items →
+        OnOk result (string_bytes text.new ≡ string_bytes text.old ++
+        number_lines (numbers_by pages.now (found_in parts.now read) (count_by is_none read.runs))) }
 {
-    let lost = lost_runs(&parts.runs);
-    let spares = Spares::of(alloc, &parts.all, &parts.checked)?;
+    let judged = &parts.judged;
+    let Scan {
+        chosen,
+        plan,
+        all,
+        ..
+    } = &judged.scan;
+    let lost = lost_runs(&judged.runs);
+    let spares = Spares::of(alloc, all, &judged.checked)?;
     let live = &parts.liveness.live;
     let orphan_count = parts.liveness.orphans.len();
     let shared = parts.liveness.shared.len();
     let bindings = parts.map.bindings();
     let broken = parts.broken.len();
-    let spared = spared(&spares, &parts.checked);
-    append_disk(alloc, text, &parts.plan)?;
-    append_superblocks(alloc, text, &parts.chosen, pages)?;
-    append_reading(alloc, text, &parts.chosen, &parts.plan, &parts.all, lost)?;
-    append_shards(alloc, text, bindings, broken, &parts.checked, spared)?;
-    append_chunks(
-        alloc,
-        text,
-        &parts.all,
-        live,
-        orphan_count,
-        twin_count,
-        shared,
-    )?;
-    append_items(alloc, text, &parts.all)?;
-    append_candidates(alloc, text, &parts.liveness.candidates)
+    let spared = count_spared(&spares, &judged.checked);
+    append_disk(text, plan)?;
+    append_superblocks(text, chosen, pages)?;
+    append_reading(text, chosen, plan, all, lost)?;
+    append_shards(text, bindings, broken, &judged.checked, spared)?;
+    append_chunks(text, all, live, orphan_count, twin_count, shared)?;
+    append_items(text, all)?;
+    append_candidates(text, &parts.liveness.candidates)
 }
 
 /// The summary of a scanned disk, whose extent 0 has these pages.
@@ -584,36 +563,43 @@ fn summary_of<R: Threads + Sync, D: PageSource>(
     alloc: Global,
     scan: Scan<'_, D>,
     pages: &[SuperblockPage],
-) -> Result<SummaryListing, OutOfMemory>
-    requires scan { IsScan (D.image scan.disk.now) scan.chosen scan.plan scan.all.extents }
+) -> Result<Listing, OutOfMemory>
+    requires scan { IsScan (D.image scan.disk.now) scan }
     requires pages { AreSuperblockPages (D.image scan.disk.now) pages.now }
     ensures text { IfOk result (λ s. IsSummary (D.image scan.entry.disk.now) s.text.items) }
-    ensures sound { IfOk result (λ s. IsSoundImage (D.image scan.entry.disk.now) s.is_sound) }
+    ensures sound { IfOk result (λ s. IsSoundImage (D.image scan.entry.disk.now) s.is_clean) }
 {
     let (parts, twin_chunks) = parts_and_twins(rt, alloc, scan)?;
     let verdict = verdict_by(is_clean(&parts), has_odd_page(pages));
-    let mut text = Vec::new(alloc);
-    append_verdict(alloc, &mut text, verdict)?;
+    let mut text = String::new(alloc);
+    append_verdict(&mut text, verdict)?;
     append_all(alloc, &mut text, pages, &parts, twin_chunks.len())?;
-    let is_sound = is_sound_verdict(verdict);
-    Ok(SummaryListing { text, is_sound })
+    let is_clean = is_sound_verdict(verdict);
+    Ok(Listing {
+        text: text.into_bytes(),
+        is_clean,
+    })
 }
 
-/// Sums a disk up, and returns which extents the caller and each worker took. It scans as `scrub` does, with this many workers
-/// (0 to 64) beside the caller. The only fault is `OutOfMemory`, returned once every started worker has ended.
+/// Sums a disk up, and returns which extents the caller and each worker took. It is clean if its verdict is
+/// `sound`.
+///
+/// First comes `verdict sound`, `verdict doubt` or `verdict wrong`, and then `NAME NUMBER` for each number,
+/// always all of them in the same order.
+///
+/// It scans as `scrub` does, with this many workers (0 to 64) beside the caller. The only fault is
+/// `OutOfMemory`, returned once every started worker has ended.
 pub fn list_summary<D: PageSource, G: Gate, R: Threads + Wait + Sync>(
     rt: &R,
     alloc: Global,
     disk: &D,
     workers: u32,
     gate: &G,
-) -> Result<(SummaryListing, Takings), ScrubFault>
+) -> Result<(Listing, Takings), ScrubFault>
     requires { workers ≤ 64 }
     ensures text { IfOk result (λ r. IsSummary (D.image disk.now) r.0.text.items) }
-    ensures sound { IfOk result (λ r. IsSoundImage (D.image disk.now) r.0.is_sound) }
-    ensures workers { IfOk result (λ r. length r.1.lists ≡ workers + 1) }
-    ensures partition { IfOk result (λ r. IsPartitionOfPlanned (D.image disk.now) r.1.lists) }
-    ensures counted { IfOk result (λ r. IsCountOfPlanned (D.image disk.now) r.1.counted) }
+    ensures sound { IfOk result (λ r. IsSoundImage (D.image disk.now) r.0.is_clean) }
+    ensures takings { IfOk result (λ r. AreTakingsBy (D.image disk.now) workers r.1) }
 {
     let (chosen, pages) = choose_with_pages(alloc, disk)?;
     let (scan, takings) = scan_chosen(rt, alloc, disk, chosen, workers, gate)?;
@@ -621,7 +607,7 @@ pub fn list_summary<D: PageSource, G: Gate, R: Threads + Wait + Sync>(
     Ok((summary, takings))
 }
 
-/// A law: an image has one summary, and one verdict whether it is sound.
+/// A law: an image has at most one summary, and one verdict whether it is sound.
 pub fn one_summary()
     ensures text { (image : Image) (a b : List ℕ) → IsSummary image a → IsSummary image b → a ≡ b }
     ensures sound { (image : Image) (a b : Bool) → IsSoundImage image a → IsSoundImage image b → a ≡ b }

@@ -4,24 +4,15 @@ ghost use Rattle.std.specs.Prelude.{◌≡◌, ◌++◌, Bool, List, ℕ, IfOk, 
 ghost use Rattle.std.specs.List.{list_all, list_any};
 ghost use Rattle.scrub_disk.specs.Image.{Image};
 ghost use Rattle.scrub_super.specs.declared.pages.SuperblockPage.{SuperblockPage};
-ghost use Rattle.scrub_listings.specs.Superblocks.{AreCleanSuperblocks, AreSuperblockLines, are_clean_pages, is_counting_page, is_orderly_page, rank_text, superblock_line, superblock_lines};
+ghost use Rattle.scrub_listings.specs.Superblocks.{AreCleanSuperblocks, AreSuperblockLines, are_clean_pages};
+ghost use Rattle.scrub_listings.specs.Superblocks.{is_counting_page, is_orderly_page, rank_text};
+ghost use Rattle.scrub_listings.specs.Superblocks.{superblock_line, superblock_lines};
 
-use crate::kinds::kind_text;
+use crate::listing::Listing;
 use scrub_disk::{OutOfMemory, PageSource};
 use scrub_super::{Rank, RecordKind, SuperblockPage, choose_with_pages};
 use std::alloc::Global;
 use std::fmt::Write;
-
-/// The superblocks of a disk, as lines.
-#[derive(Drop)]
-pub struct SuperblockListing {
-    /// A line for each page of extent 0 that has something to report, by rising page: `lost PAGE`,
-    /// `record PAGE KIND GENERATION STATE`, `damaged PAGE KIND` or `stray PAGE`. The kind is `SSB1` or `SSB2`, the state `tie`,
-    /// `counts` or `older`, and the numbers are in decimal.
-    pub text: Vec<u8>,
-    /// Whether one record counts, none ties, and no line is of anything but a record.
-    pub is_clean: bool,
-}
 
 /// The word for how new a record is.
 fn rank_text(rank: Rank) -> &'static str
@@ -45,16 +36,17 @@ fn append_record(
     ensures { OnOk result (string_bytes text.new ≡
         string_bytes text.old ++ superblock_line page (SuperblockPage.Record kind generation rank)) }
 {
-    let kind = kind_text(kind);
+    let kind = kind.letters();
     let state = rank_text(rank);
     writeln!(text, "record {page} {kind} {generation} {state}")
 }
 
 /// Appends the line of a damaged page.
 fn append_damaged(text: &mut String, page: usize, kind: RecordKind) -> Result<(), OutOfMemory>
-    ensures { OnOk result (string_bytes text.new ≡ string_bytes text.old ++ superblock_line page (SuperblockPage.Damaged kind)) }
+    ensures { OnOk result (string_bytes text.new ≡ string_bytes text.old ++
+        superblock_line page (SuperblockPage.Damaged kind)) }
 {
-    let kind = kind_text(kind);
+    let kind = kind.letters();
     writeln!(text, "damaged {page} {kind}")
 }
 
@@ -75,7 +67,7 @@ fn append_line(text: &mut String, page: usize, held: SuperblockPage) -> Result<(
     }
 }
 
-/// The lines of the pages, by rising page.
+/// The lines of the pages, by ascending page.
 fn superblock_lines(alloc: Global, pages: &[SuperblockPage]) -> Result<Vec<u8>, OutOfMemory>
     ensures { IfOk result (λ text. text.items ≡ superblock_lines pages.now) }
 {
@@ -131,22 +123,28 @@ fn are_clean_pages(pages: &[SuperblockPage]) -> bool
     has_counting_page(pages) && are_orderly_pages(pages)
 }
 
-/// Lists the superblocks in extent 0 of a disk. It reads extent 0 once, and no other extent. The only fault is `OutOfMemory`.
-pub fn list_superblocks<D: PageSource>(
-    alloc: Global,
-    disk: &D,
-) -> Result<SuperblockListing, OutOfMemory>
+/// Lists the superblocks in extent 0 of a disk. It is clean if one record counts, none ties, and no line is
+/// of anything but a record.
+///
+/// There is a line for each page of extent 0 that has something to report, by ascending page: `lost PAGE`,
+/// `record PAGE KIND GENERATION STATE`, `damaged PAGE KIND` or `stray PAGE`. The kind is `SSB1` or `SSB2`,
+/// and the state `tie`, `counts` or `older`.
+///
+/// It reads extent 0 once, and no other extent. The only fault is `OutOfMemory`.
+pub fn list_superblocks<D: PageSource>(alloc: Global, disk: &D) -> Result<Listing, OutOfMemory>
     ensures text { IfOk result (λ l. AreSuperblockLines (D.image disk.now) l.text.items) }
     ensures clean { IfOk result (λ l. AreCleanSuperblocks (D.image disk.now) l.is_clean) }
 {
     let (_chosen, pages) = choose_with_pages(alloc, disk)?;
     let text = superblock_lines(alloc, &pages)?;
     let is_clean = are_clean_pages(&pages);
-    Ok(SuperblockListing { text, is_clean })
+    Ok(Listing { text, is_clean })
 }
 
-/// A law: the superblocks of an image have one text of lines, and one verdict whether they are clean.
+/// A law: the superblocks of an image have at most one text of lines, and one verdict whether they are clean.
 pub fn one_superblock_listing()
-    ensures text { (image : Image) (a b : List ℕ) → AreSuperblockLines image a → AreSuperblockLines image b → a ≡ b }
-    ensures clean { (image : Image) (a b : Bool) → AreCleanSuperblocks image a → AreCleanSuperblocks image b → a ≡ b }
+    ensures text { (image : Image) (a b : List ℕ) → AreSuperblockLines image a → AreSuperblockLines image b →
+        a ≡ b }
+    ensures clean { (image : Image) (a b : Bool) → AreCleanSuperblocks image a → AreCleanSuperblocks image b →
+        a ≡ b }
 {}

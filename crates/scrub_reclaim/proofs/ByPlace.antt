@@ -13,22 +13,22 @@ use Rattle.scrub_check.specs.declared.statuses.checked.Checked.{Checked}
 use Rattle.scrub_check.specs.declared.named.Owner.TheVariants.{Run}
 use Rattle.scrub_check.specs.declared.statuses.status.Status.TheVariants.{Sound}
 use Rattle.scrub_check.proofs.SortedPlaces.{same_number}
-use Rattle.scrub_reclaim.specs.Moves.{PointAlike, place_cmp, place_named}
+use Rattle.scrub_reclaim.specs.steps.Moves.{PointAlike, target_cmp, place_pointed_to}
 use Rattle.scrub_reclaim.specs.Reclaimable.{points_to, pointing_to}
 use Rattle.scrub_check.proofs.Between.{filter_between, filter_mapped}
 
--- the locator behind a reference, and its place
+-- the locator of a reference, and its place
 abbrev pub shown : Bor Checked → Checked
 shown one = one.now
 
 abbrev pub place_shown : Bor Checked → ℕ × ℕ
-place_shown one = place_named one.now
+place_shown one = place_pointed_to one.now
 
 -- the order of references by the places of their locators
 abbrev pub shown_cmp : Bor Checked → Bor Checked → Ordering
-shown_cmp a b = place_cmp (place_shown a) (place_shown b)
+shown_cmp a b = target_cmp (place_shown a) (place_shown b)
 
-pub place_total : IsTotalOrder place_cmp
+pub place_total : IsTotalOrder target_cmp
 place_total = then_total (on_total (λ (a : ℕ × ℕ). a.0) nat_cmp_total) (on_total (λ (a : ℕ × ℕ). a.1) nat_cmp_total)
 
 pub shown_total : IsTotalOrder shown_cmp
@@ -74,7 +74,7 @@ abbrev pub shown_at : ℕ → ℕ → List (Bor Checked) → List (Bor Checked)
 shown_at e p xs = filter (λ one. points_to e p one.now) xs
 
 -- a stable sort keeps their order
-pub stable_there : (xs ys : List (Bor Checked)) → IsStableByKey place_shown place_cmp xs ys → (e p : ℕ) →
+pub stable_there : (xs ys : List (Bor Checked)) → IsStableByKey place_shown target_cmp xs ys → (e p : ℕ) →
     shown_at e p ys ≡ shown_at e p xs
 stable_there xs ys stable e p =
     sym
@@ -84,7 +84,7 @@ stable_there xs ys stable e p =
 
 -- so the sorted list has those of a place in their order
 pub alike : (checked : List Checked) (xs ys : List (Bor Checked)) → map shown xs ≡ checked →
-    IsStableByKey place_shown place_cmp xs ys → PointAlike checked ys
+    IsStableByKey place_shown target_cmp xs ys → PointAlike checked ys
 alike checked xs ys are stable e p =
     sym (filter_mapped (points_to e p) shown ys)
     ∙ ap (map shown) (stable_there xs ys stable e p)

@@ -13,7 +13,7 @@ use Rattle.scrub_check.specs.declared.lists.kept_chunk.KeptChunk.{KeptChunk}
 use Rattle.scrub_check.specs.declared.statuses.checked.Checked.{Checked}
 use Rattle.scrub_check.specs.declared.runs.RunState.{RunState}
 use Rattle.scrub_check.specs.Candidates.{CandidateValue}
-use Rattle.scrub_check.specs.Kept.{IsKept, AreSafe}
+use Rattle.scrub_check.specs.SafeCandidates.{IsKept, AreSafe}
 use Rattle.scrub_check.specs.Runs.{ReadRunsValue}
 use Rattle.scrub_check.specs.WholeScan.{IsWholeScan}
 use Rattle.scrub_check.proofs.KeptChunks.{candidates_safe}
@@ -29,33 +29,33 @@ use Rattle.scrub_reclaim.specs.Reclaimable.{AreMoved, AreOfCandidates, AreReclai
 
 -- ---- what the code writes
 
-module _ {D : Type 0} {s : _} (p : Parts D s) (read : ReadRunsValue) (rows : AreRowsOf p.plan.runs read p.runs.items)
+module _ {D : Type 0} {s : _} (p : Parts D s) (read : ReadRunsValue) (rows : AreRowsOf p.judged.scan.plan.runs read p.judged.runs.items)
     (pages : List SuperblockPage) (accepted : Accepted) where
   -- the doubts of the rows are those of the runs
-  pub doubts_found : doubts_in p.chosen pages (run_states p.runs.items) p.plan.geometry.page p.all.extents p.checked.items p.liveness.candidates.items ≡ doubts pages (found_in p read)
+  pub doubts_found : doubts_in p.judged.scan.chosen pages (run_states p.judged.runs.items) p.judged.scan.plan.geometry.page p.judged.scan.all.extents p.judged.checked.items p.liveness.candidates.items ≡ doubts pages (found_in p read)
   doubts_found =
-      ap (λ (states : List RunState). doubts_in p.chosen pages states p.plan.geometry.page p.all.extents p.checked.items p.liveness.candidates.items)
+      ap (λ (states : List RunState). doubts_in p.judged.scan.chosen pages states p.judged.scan.plan.geometry.page p.judged.scan.all.extents p.judged.checked.items p.liveness.candidates.items)
       rows.states_are
 
   -- the verdict is that of what was found
   pub clear_found : (list : List Doubt) (clear : Bool) →
-      list ≡ doubts_in p.chosen pages (run_states p.runs.items) p.plan.geometry.page p.all.extents p.checked.items p.liveness.candidates.items →
+      list ≡ doubts_in p.judged.scan.chosen pages (run_states p.judged.runs.items) p.judged.scan.plan.geometry.page p.judged.scan.all.extents p.judged.checked.items p.liveness.candidates.items →
       clear ≡ are_accepted accepted list → clear ≡ is_clear accepted pages (found_in p read)
   clear_found list clear are is = is ∙ ap (are_accepted accepted) (are ∙ doubts_found)
 
   -- the text is that of what was found
   pub lines_found : (list : List Doubt) (clear : Bool) (lines text : List ℕ) →
-      list ≡ doubts_in p.chosen pages (run_states p.runs.items) p.plan.geometry.page p.all.extents p.checked.items p.liveness.candidates.items →
+      list ≡ doubts_in p.judged.scan.chosen pages (run_states p.judged.runs.items) p.judged.scan.plan.geometry.page p.judged.scan.all.extents p.judged.checked.items p.liveness.candidates.items →
       clear ≡ are_accepted accepted list → lines ≡ flat_map (doubt_line accepted) list →
-      text ≡ lines ++ flat_map (candidate_lines p.checked.items) (if clear then p.liveness.candidates.items else []) ++ rooms_kept clear p →
+      text ≡ lines ++ flat_map (candidate_lines p.judged.checked.items) (if clear then p.liveness.candidates.items else []) ++ rooms_kept clear p →
       text ≡ reclaim_text accepted pages (found_in p read)
   lines_found list clear lines text are is first all =
       all
       ∙ ap
-      (λ (u : List ℕ). u ++ flat_map (candidate_lines p.checked.items) (if clear then p.liveness.candidates.items else []) ++ rooms_kept clear p)
+      (λ (u : List ℕ). u ++ flat_map (candidate_lines p.judged.checked.items) (if clear then p.liveness.candidates.items else []) ++ rooms_kept clear p)
       (first ∙ ap (flat_map (doubt_line accepted)) (are ∙ doubts_found))
       ∙ ap
-      (λ (b : Bool). flat_map (doubt_line accepted) (doubts pages (found_in p read)) ++ flat_map (candidate_lines p.checked.items) (if b then p.liveness.candidates.items else []) ++ rooms_kept b p)
+      (λ (b : Bool). flat_map (doubt_line accepted) (doubts pages (found_in p read)) ++ flat_map (candidate_lines p.judged.checked.items) (if b then p.liveness.candidates.items else []) ++ rooms_kept b p)
       (clear_found list clear are is)
 
 -- ---- one text, and one verdict

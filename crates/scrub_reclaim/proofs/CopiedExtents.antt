@@ -14,24 +14,19 @@ use Rattle.scrub_scan.specs.AllFindings.{entry_of}
 use Rattle.scrub_scan.specs.Extent.{extent_of}
 use Rattle.scrub_scan.specs.Findings.{is_nonzero}
 use Rattle.scrub_scan.specs.Item.{start_of}
-use Rattle.scrub_scan.specs.OneFrame.{one_frame_at}
 use Rattle.scrub_scan.specs.Scanned.{Scanned}
 use Rattle.scrub_scan.specs.Tiling.{IsTiling}
 use Rattle.scrub_scan.proofs.Tilings.{one_tiling}
-use Rattle.scrub_run.specs.Entry.{EntryValue}
-use Rattle.scrub_run.specs.Run.{IsRun}
-use Rattle.scrub_check.specs.declared.runs.RunState.{RunState}
-use Rattle.scrub_check.specs.declared.runs.RunState.TheVariants.{Read, BadChunk, NotARun}
 use Rattle.scrub_check.specs.declared.statuses.status.Status.{Status}
 use Rattle.scrub_check.specs.declared.statuses.status.Status.TheVariants.{OutOfRange, Sound}
 use Rattle.scrub_check.specs.ChunkForms.{form_at, form_of}
-use Rattle.scrub_check.specs.Runs.{HasRunState, IsLostInRetired, IsRunOf, NamesRun}
 use Rattle.scrub_check.specs.Status.{BeginsAt, HasStatus, HasStatusIn, HasStatusInRetired, HasStatusInUse, InRange, NamesChunk, is_retired}
 use Rattle.scrub_check.proofs.OneStatus.{one_in_plan}
+use Rattle.scrub_check.proofs.Payloads.{same_payload}
 use Rattle.scrub_reclaim.proofs.CarriedNames.{Carries}
 use Rattle.scrub_reclaim.proofs.NextPlaces.{Grown, chunk_is_item, chunk_of, found_there, frame_kept, item_there, starts_there}
 
--- ---- zeros behind the pointer
+-- ---- zeros past the pointer
 
 -- a byte that can be read is zero if it isn't another number
 pub zero_there : (o : Option ℕ) → is_nonzero o ≡ false → o ≢ None → o ≡ Some 0
@@ -101,16 +96,9 @@ module _ {before after : Image} {w v place : ℕ} {old new : List Item} (l : Loc
     digest = n.digest;
   }
 
-  -- and so does one that names a run, and no other does
-  run_still : (es : List EntryValue) → NamesRun before w l es → NamesRun after v l es
+  still_payload : (n : NamesChunk before w l) → (named_still n).payload ≡ n.payload
   unfolding named_still
-  run_still es n = record { names = named_still n.names; run = n.run }
-
-  run_back : (es : List EntryValue) → NamesChunk before w l → NamesRun after v l es → NamesRun before w l es
-  run_back es n r =
-      let same : n.payload ≡ r.names.payload =
-      (one_frame_at (extent_of after l.extent v) l.offset n.found.form l.uuid n.payload r.names.found.form l.uuid r.names.payload (frame_kept (extent_of before l.extent w) (extent_of after l.extent v) place f.kept f.above f.moved l.offset n.found.form l.uuid n.payload n.found.frame) r.names.found.frame).2 in
-      record { names = n; run = subst (λ (b : List ℕ). IsRun b es) (sym same) r.run }
+  still_payload n = refl
 
   sound_still : HasStatus before w l Sound → HasStatus after v l Sound
   sound_still h = (
@@ -123,16 +111,6 @@ module _ {before after : Image} {w v place : ℕ} {old new : List Item} (l : Loc
           starts_there new chunk (f.grown.chunks chunk (sound_chunk before w l old f.was h.0 h.1) refl);
     },
   )
-
-  -- the run of a locator that names a chunk, and what became of it
-  run_of : NamesChunk before w l → (r : Option (List EntryValue)) → IsRunOf before w l r → IsRunOf after v l r
-  run_of n (Some es) h = run_still es h
-  run_of n None h = λ es r. h es (run_back es n r)
-
-  state_of : NamesChunk before w l → (s : RunState) → HasRunState before w l s → HasRunState after v l s
-  state_of n Read h = (h.0, run_still h.0 h.1)
-  state_of n (BadChunk s) h = absurd (h.1 n)
-  state_of n NotARun h = (named_still h.0, λ es r. h.1 es (run_back es n r))
 
 -- ---- by a plan
 
@@ -181,15 +159,14 @@ module _ {before after : Image} {w v place : ℕ} {is js : List Item} (l : Locat
       by_use (HasStatusInRetired after l Sound) (Sound ≡ OutOfRange) (λ u. HasStatus after u l Sound) new l.extent v free_after
       now (sound_still l f under)
 
-  -- a sound locator into the extent stays sound, and its run is read as before
+  -- a sound locator into the extent stays sound, and names the same chunk
   pub filled_carries : Carries before after old new l
   filled_carries = record {
-    run = λ r h.
-        by_use (r ≡ None) (r ≡ None) (λ u. IsRunOf after u l r) new l.extent v free_after now
-        (run_of l f under.0 r (in_use (r ≡ None) (r ≡ None) (λ u. IsRunOf before u l r) old l.extent w free_before was h));
-    state = λ s h.
-        by_use (IsLostInRetired after l s) (s ≡ BadChunk OutOfRange) (λ u. HasRunState after u l s) new l.extent v free_after now
-        (state_of l f under.0 s (in_use (IsLostInRetired before l s) (s ≡ BadChunk OutOfRange) (λ u. HasRunState before u l s) old l.extent w free_before was h));
+    names = λ n. record {
+      names = record { in_use = free_after; pointer = v; has_pointer = now; chunk = named_still l f under.0 };
+      has = still_payload l f under.0 ∙ same_payload before l w n.pointer under.0 n.chunk;
+    };
+    no_other = λ m. record { in_use = free_before; pointer = w; has_pointer = was; chunk = under.0 };
     own = λ s h.
         subst (λ (t : Status). HasStatusIn after new l t) ((one_in_plan before old l).one Sound s sound h) sound_after;
   }

@@ -40,12 +40,12 @@ use Rattle.scrub_report.proofs.OneReport.{one_scrub}
 use Rattle.scrub_listings.specs.Manifest.{IsManifest, IsWholeImage, after_status_in, hidden_runs, is_of_read_run, is_of_shard, lost_runs, manifest_text, of_shards, text_by}
 use Rattle.scrub_listings.proofs.AllPass.{all_pass}
 use Rattle.scrub_reclaim.specs.Copy.{HasRoomAt, HoldsCopies, IsAfterCopies, IsPlanAfterCopies, IsSameButSpares, RoomValue, extents_of}
-use Rattle.scrub_reclaim.specs.Reset.{NameTheSame}
+use Rattle.scrub_reclaim.specs.Reset.{IsPlanIn, NameTheSame}
 use Rattle.scrub_reclaim.specs.Room.{IsRoom, has_room, is_zero_to, may_grow, place_in, room_fits, room_in}
 use Rattle.scrub_reclaim.proofs.CarriedNames.{Carries, named_alike}
 use Rattle.scrub_reclaim.proofs.CopiedExtents.{IsFilled, filled_carries, form_there, sound_chunk, sound_under, zero_there}
 use Rattle.scrub_reclaim.proofs.NextPlaces.{Grown, chunk_of, frames_are_chunks, grown, place_above}
-use Rattle.scrub_reclaim.proofs.Reset.{HaveTheSameForms, IsScannedBy, IsTheSame, alike_items, carries, one_plan_in, same_numbers, same_verdict, scanned_by}
+use Rattle.scrub_reclaim.proofs.Reset.{HaveTheSameForms, IsScannedBy, IsTheSame, alike_items, carries, in_disk, one_plan_in, same_numbers, same_verdict, scanned_by}
 use Rattle.scrub_reclaim.proofs.ResetForms.{along, frames_along, spare_among, spare_too}
 use Rattle.scrub_reclaim.proofs.RoomLines.{shows_room}
 use Rattle.scrub_reclaim.proofs.SparedTexts.{IsSaidAlike, said_alike, texts_alike}
@@ -235,10 +235,12 @@ sound_is Hidden is = absurd (false≢true is)
 
 module _ (rooms : List RoomValue) (before after : Image) (found rest : Scrubbed) (x : IsScrubbed before found) (y : IsScrubbed after rest)
     (c : IsAfterCopies rooms before after) where
+  old_plan : IsPlanIn before found.plan
+  old_plan = record { choice = found.choice; chosen = x.choice; follows = x.plan }
+
   plans : IsPlanAfterCopies rooms found.plan rest.plan
   plans =
-      subst (λ (p : PlanValue). IsPlanAfterCopies rooms p rest.plan)
-      (one_plan_in before c.old found.plan c.was (record { choice = found.choice; chosen = x.choice; follows = x.plan }))
+      subst (λ (p : PlanValue). IsPlanAfterCopies rooms p rest.plan) (one_plan_in before c.old found.plan c.was old_plan)
       (subst (λ (q : PlanValue). IsPlanAfterCopies rooms c.old q) (one_plan_in after c.new rest.plan c.is (record { choice = rest.choice; chosen = y.choice; follows = y.plan })) c.plans)
 
   -- the same extents were scanned
@@ -367,7 +369,8 @@ module _ (rooms : List RoomValue) (before after : Image) (found rest : Scrubbed)
     sizes = c.sizes;
     retired = plans.retired;
     pointer = plans.pointers e other;
-    bytes = λ nonzero. inr (fun_ext (λ p. c.others e p nonzero other));
+    bytes = λ w is.
+        let there = in_disk before found.plan old_plan e w is in inr (fun_ext (λ p. c.others e p there.0 there.1 other));
   }
 
   kept_in : (f g : Scanned) → g.extent ≡ f.extent → IsScannedBy before found.plan f → IsScannedBy after rest.plan g → IsKept f g

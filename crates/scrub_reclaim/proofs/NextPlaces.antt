@@ -1,4 +1,4 @@
--- What is written behind chunks and zeros, at the place for the next frame and after it, leaves each chunk an item, and whole
+-- What is written after chunks and zeros, at the place for the next frame and after it, leaves each chunk an item, and whole
 -- frames there, one directly after the other, are items too.
 use Rattle.std.proofs.Common.{◌≡◌, ◌⊎◌, ◌≢◌, ◌<◌, ◌≤◌, ◌+◌, ◌*◌, ◌/◌, ◌%◌, ◌==◌, ◌||◌, ℕ, min, Bool, true, false, Option, Some, List, [], ◌∷◌, length, map, arith, refl, sym, ◌∙◌, ap, subst, inl, inr, if◌then◌else◌}
 use Rattle.std.specs.List.{All, Contains, find}
@@ -78,7 +78,7 @@ place_above page w items pos = by ((w % page == 0) || ends_in_chunk items)
         let split : (w / page + 1) * page ≡ w / page * page + page = omega arith in
         omega (arith, split, div-add-mod' w page, mod-lt w pos)
 
--- behind a chunk, and at a page bound, it is the pointer
+-- after a chunk, and at a page bound, it is the pointer
 behind_chunk : (t : Bool) (w n : ℕ) → (if t || true then w else n) ≡ w
 behind_chunk true w n = refl
 behind_chunk false w n = refl
@@ -86,7 +86,7 @@ behind_chunk false w n = refl
 at_pointer : (page w n : ℕ) (e : Bool) → w % page ≡ 0 → (if (w % page == 0) || e then w else n) ≡ w
 at_pointer page w n e none = ap (λ t. if t || e then w else n) (eq-eqb (w % page) 0 none)
 
--- behind anything else it is the page bound above
+-- after anything else it is the page bound above
 past_other : (page p w : ℕ) → 0 < page → p < w → w ≤ (p / page + 1) * page →
     (if (w % page == 0) || false then w else (w / page + 1) * page) ≡ (p / page + 1) * page
 past_other page p w pos below within = by (w % page == 0) refl
@@ -207,7 +207,7 @@ module _ (x y : Extent) (o : ℕ) (pos : 0 < x.page) (page : y.page ≡ x.page) 
       by item is (inl here) = (0, omega arith, same (subst (λ (i : Item). is_chunk i ≡ true) (sym here) is) ∙ here)
       by item is (inr later) = Contains-behind new news item (g.chunks item later is)
 
-  -- behind all old items
+  -- after all old items
   last : (news : List Item) (a : ℕ) → a ≡ o → Joins a y.pointer news → All (IsItem y) news → Grown y o [] news
   last news a at joins each = record {
     chunks = λ item there is. absurd (omega (arith, there.1));

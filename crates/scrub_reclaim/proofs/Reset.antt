@@ -1,5 +1,5 @@
 -- What is named on a disk is the same after a reset of extents that no named locator points into.
-use Rattle.std.proofs.Common.{◌≡◌, ◌≢◌, ◌⊎◌, inl, inr, ◌==◌, ◌&&◌, ◌||◌, ◌≤◌, ◌*◌, ◌-◌, ℕ, zero, suc, map, if◌then◌else◌, Bool, is_none, true, false, Option, Some, None, MatchBool, MatchOption, List, [], ◌∷◌, ◌+◌, length, get_or, arith, refl, sym, ◌∙◌, ap, subst}
+use Rattle.std.proofs.Common.{◌≡◌, ◌≢◌, ◌⊎◌, inl, inr, ◌==◌, ◌&&◌, ◌||◌, ◌<◌, ◌≤◌, ◌*◌, ◌-◌, ℕ, zero, suc, map, if◌then◌else◌, Bool, is_none, true, false, Option, Some, None, IfSome, MatchBool, MatchOption, List, [], ◌∷◌, ◌+◌, length, get_or, arith, refl, sym, ◌∙◌, ap, subst}
 use Rattle.std.proofs.Math.Path.{ap₂, fun_ext}
 use Rattle.std.specs.Bool.{⊤}
 use Rattle.std.specs.List.{All, AllZip, Contains, count_by, enumerate_from, list_any, slice_get}
@@ -14,11 +14,13 @@ use Rattle.scrub_disk.specs.declared.geometry.Geometry.{Geometry}
 use Rattle.scrub_disk.specs.Image.{Image, byte}
 use Rattle.scrub_frame.specs.Frame.{least_overhead}
 use Rattle.scrub_frame.specs.declared.locator.Locator.{Locator}
-use Rattle.scrub_super.specs.Chosen.{Choice, IsChosen}
+use Rattle.scrub_super.specs.Chosen.{Choice}
 use Rattle.scrub_super.specs.Contents.{Contents}
 use Rattle.scrub_super.specs.Plan.{IsPlanBy, IsPlanOf, IsPlanWithout, IsReset, PlanValue, pointer_of, pointer_reset, pointers_reset}
 use Rattle.scrub_super.specs.Planned.{extents_in_use}
+use Rattle.scrub_super.specs.Record.{AreContents}
 use Rattle.scrub_super.proofs.Laws.{one_choice_lem}
+use Rattle.scrub_super.proofs.NewestRecords.{superblock_fits}
 use Rattle.scrub_scan.specs.declared.item.Item.{Item}
 use Rattle.scrub_scan.specs.declared.standing.Standing.{Standing}
 use Rattle.scrub_scan.specs.AllFindings.{AreAllFindings, extent_numbers}
@@ -28,18 +30,15 @@ use Rattle.scrub_scan.specs.Item.{IsItem}
 use Rattle.scrub_scan.specs.Scanned.{Scanned}
 use Rattle.scrub_scan.specs.Tiling.{IsTiling}
 use Rattle.scrub_scan.proofs.Tilings.{one_tiling}
-use Rattle.scrub_run.specs.Entry.{EntryValue}
 use Rattle.scrub_run.specs.Run.{run_bytes}
 use Rattle.scrub_merge.specs.Binding.{BindingValue}
-use Rattle.scrub_check.specs.declared.runs.RunState.{RunState}
-use Rattle.scrub_check.specs.declared.runs.RunState.TheVariants.{Read, BadChunk, NotARun}
 use Rattle.scrub_check.specs.declared.statuses.checked.Checked.{Checked}
 use Rattle.scrub_check.specs.declared.statuses.status.Status.{Status}
 use Rattle.scrub_check.specs.declared.statuses.status.Status.TheVariants.{OutOfRange, Retired, PastPointer, Unreadable, NoFrame, WrongUuid, WrongLength, WrongDigest, Hidden, Sound}
 use Rattle.scrub_check.specs.Candidates.{CandidateValue}
 use Rattle.scrub_check.specs.Checked.{is_hidden}
 use Rattle.scrub_check.specs.ChunkForms.{form_at}
-use Rattle.scrub_check.specs.Runs.{ReadRunsValue, HasRunState, HasRunStateIn, IsLostInRetired, IsRunIn, IsRunOf, NamesRun}
+use Rattle.scrub_check.specs.Runs.{NamesChunkIn, ReadRunsValue}
 use Rattle.scrub_check.specs.Status.{BeginsAt, CanStand, FindsFrame, HasStatus, HasStatusIn, HasStatusInRetired, HasUnreadableByte, InRange, NamesChunk, is_retired}
 use Rattle.scrub_check.specs.Spares.{spares_by}
 use Rattle.scrub_check.specs.WholeScan.{IsWholeScan}
@@ -52,7 +51,7 @@ use Rattle.scrub_listings.specs.Manifest.{IsManifest, IsManifestBut, IsWholeBut,
 use Rattle.scrub_reclaim.specs.Doubts.{Accepted}
 use Rattle.scrub_reclaim.specs.Reclaimable.{IsMoved, moves, reclaimed}
 use Rattle.scrub_reclaim.specs.Reset.{IsAfterReset, IsForeseen, IsListedWithoutMoves, IsPlanAfterReset, IsPlanIn, IsReclaimed, NameTheSame}
-use Rattle.scrub_reclaim.proofs.CarriedNames.{Carries, named_alike}
+use Rattle.scrub_reclaim.proofs.CarriedNames.{Carries, NamesPayload, named_alike}
 use Rattle.scrub_reclaim.proofs.Clear.{safe_to_reclaim}
 use Rattle.scrub_reclaim.proofs.ResetForms.{IsAlikeIn, along, same_after, same_form, same_frames, text_agrees}
 
@@ -101,6 +100,11 @@ names w l a n = record {
   digest = n.digest;
 }
 
+same_names : {image other : Image} (w : ℕ) (l : Locator) (a : AreAlike image other l.extent) (n : NamesChunk image w l) →
+    (names w l a n).payload ≡ n.payload
+unfolding names
+same_names w l a n = refl
+
 begins : {image other : Image} (w : ℕ) (l : Locator) → AreAlike image other l.extent →
     BeginsAt (extent_of image l.extent w) l.offset → BeginsAt (extent_of other l.extent w) l.offset
 begins w l a h = subst (λ (x : Extent). BeginsAt x l.offset) (same_extent w a) h
@@ -127,29 +131,6 @@ status_in_retired image other l sizes OutOfRange h = λ r. h (in_range other.geo
 status_in_retired image other l sizes Retired h = in_range image.geometry other.geometry l sizes h
 status_in_retired image other l sizes _ h = absurd h
 
--- the run of a locator, and what became of it, under a pointer
-names_run : {image other : Image} (w : ℕ) (l : Locator) (es : List EntryValue) → AreAlike image other l.extent →
-    NamesRun image w l es → NamesRun other w l es
-unfolding names
-names_run w l es a n = record { names = names w l a n.names; run = n.run }
-
-run_of : (image other : Image) (w : ℕ) (l : Locator) → AreAlike image other l.extent → (r : Option (List EntryValue)) →
-    IsRunOf image w l r → IsRunOf other w l r
-run_of image other w l a (Some es) h = names_run w l es a h
-run_of image other w l a None h = λ es n. h es (names_run w l es (alike_back a) n)
-
-state : (image other : Image) (w : ℕ) (l : Locator) → AreAlike image other l.extent → (s : RunState) →
-    HasRunState image w l s → HasRunState other w l s
-state image other w l a Read h = (h.0, names_run w l h.0 a h.1)
-state image other w l a (BadChunk s) h = (status image other w l a s h.0, λ n. h.1 (names w l (alike_back a) n))
-state image other w l a NotARun h = (names w l a h.0, λ es n. h.1 es (names_run w l es (alike_back a) n))
-
-loss_in_retired : (image other : Image) (l : Locator) → other.geometry ≡ image.geometry → (s : RunState) →
-    IsLostInRetired image l s → IsLostInRetired other l s
-loss_in_retired image other l sizes (BadChunk s) h = status_in_retired image other l sizes s h
-loss_in_retired image other l sizes Read h = h
-loss_in_retired image other l sizes NotARun h = h
-
 -- ---- under the pointer 0
 
 -- no frame ends at or before 0
@@ -169,19 +150,6 @@ status_at_zero image other l sizes WrongDigest (b, f, same, differs) = absurd (n
 status_at_zero image other l sizes Hidden h = absurd (no_frame l h.0.found.can.below)
 status_at_zero image other l sizes Sound h = absurd (no_frame l h.0.found.can.below)
 
-no_run : {image : Image} (l : Locator) (es : List EntryValue) → NamesRun image 0 l es → ⊥
-no_run l es n = no_frame l n.names.found.can.below
-
-run_at_zero : (image other : Image) (l : Locator) (r : Option (List EntryValue)) → IsRunOf image 0 l r → IsRunOf other 0 l r
-run_at_zero image other l (Some es) h = absurd (no_run l es h)
-run_at_zero image other l None h = λ es n. no_run l es n
-
-state_at_zero : (image other : Image) (l : Locator) → other.geometry ≡ image.geometry → (s : RunState) → HasRunState image 0 l s →
-    HasRunState other 0 l s
-state_at_zero image other l sizes Read h = absurd (no_run l h.0 h.1)
-state_at_zero image other l sizes (BadChunk s) h = (status_at_zero image other l sizes s h.0, λ n. no_frame l n.found.can.below)
-state_at_zero image other l sizes NotARun h = absurd (no_frame l h.0.found.can.below)
-
 -- ---- what rests on one extent of a plan
 
 no_pointer : (plan : PlanValue) (w : ℕ) → pointer_of plan 0 ≡ Some w → ⊥
@@ -190,22 +158,85 @@ no_pointer plan w e = none e
     none : None ≡ Some w → ⊥
     none h = cc
 
+-- the pointer of an extent but 0
+pointer_behind : (plan : PlanValue) (k : ℕ) → pointer_of plan (suc k) ≡ slice_get plan.pointers k
+pointer_behind plan k =
+    ap (λ (b : Bool). if b then None else slice_get plan.pointers (suc k - 1)) (not_zero k)
+    ∙ ap (slice_get plan.pointers) (let e : suc k - 1 ≡ k = omega arith in e)
+  where
+    not_zero : (n : ℕ) → (suc n == 0) ≡ false
+    not_zero n = grind (arith, common_steps)
+
+-- a plan has a write pointer for each extent but extent 0
+how_many : (image : Image) (plan : PlanValue) → IsPlanIn image plan → length plan.pointers ≡ image.geometry.extents - 1
+how_many image plan x = by x.choice.superblock (superblock_fits x.chosen) x.follows.by
+  where
+    by : (s : Option Contents) → IfSome s (AreContents image.geometry) →
+        MatchOption s (IsPlanWithout plan x.choice.geometry) (IsPlanBy plan) →
+        length plan.pointers ≡ image.geometry.extents - 1
+    by None fits without =
+        ap (λ (ws : List ℕ). length ws) without.pointers
+        ∙ length-replicate (x.choice.geometry.extents - 1) (x.choice.geometry.page * x.choice.geometry.pages)
+        ∙ ap (λ (g : Geometry). g.extents - 1) x.chosen.geometry
+    by (Some c) fits is =
+        let count : length plan.pointers ≡ length c.pointers = ap (λ (ws : List ℕ). length ws) is.pointers in
+        omega (arith, count, fits.pointers.count)
+
+-- what has a write pointer is an extent of the disk, and not extent 0
+pub in_disk : (image : Image) (plan : PlanValue) → IsPlanIn image plan → (e w : ℕ) → pointer_of plan e ≡ Some w →
+    (e ≢ 0) × (e < image.geometry.extents)
+in_disk image plan x zero w is = absurd (no_pointer plan w is)
+in_disk image plan x (suc k) w is = (
+  λ none. omega (arith, none),
+  omega (arith, how_many image plan x, slice_get_within plan.pointers k w (sym (pointer_behind plan k) ∙ is)),
+)
+
 -- extent e is the same by two plans of two images: it is retired in both or in neither, has the same write pointer, and
--- the same bytes unless it is extent 0 or that pointer is 0
+-- the same bytes if it has a pointer above 0
 pub record IsTheSame (image other : Image) (old new : PlanValue) (e : ℕ) : Type 0 where
   pub sizes : other.geometry ≡ image.geometry
   pub retired : new.retired ≡ old.retired
   pub pointer : pointer_of new e ≡ pointer_of old e
-  pub bytes : e ≢ 0 → (pointer_of old e ≡ Some 0) ⊎ (byte other e ≡ byte image e)
+  pub bytes : (w : ℕ) → pointer_of old e ≡ Some w → (w ≡ 0) ⊎ (byte other e ≡ byte image e)
 
--- an extent with a write pointer isn't extent 0
 alike : {image other : Image} {old new : PlanValue} {e : ℕ} → IsTheSame image other old new e → (w : ℕ) →
     pointer_of old e ≡ Some w → (w ≡ 0) ⊎ AreAlike image other e
-alike {image} {other} {old} {new} {e} t w is = by (t.bytes (λ zero. no_pointer old w (subst (λ n. pointer_of old n ≡ Some w) zero is)))
+alike t w is = elim (t.bytes w is) [
+  | inl none ↦ inl none
+  | inr bytes ↦ inr (record { sizes = t.sizes; bytes = bytes })
+]
+
+-- and so the other way round
+same_back : {image other : Image} {old new : PlanValue} {e : ℕ} → IsTheSame image other old new e →
+    IsTheSame other image new old e
+same_back {image} {other} {old} {new} {e} t = record {
+  sizes = sym t.sizes;
+  retired = sym t.retired;
+  pointer = sym t.pointer;
+  bytes = λ w is. by w (t.bytes w (sym t.pointer ∙ is));
+}
   where
-    by : (pointer_of old e ≡ Some 0) ⊎ (byte other e ≡ byte image e) → (w ≡ 0) ⊎ AreAlike image other e
-    by (inl none) = inl (same_Some w 0 (sym is ∙ none))
-    by (inr bytes) = inr (record { sizes = t.sizes; bytes = bytes })
+    by : (w : ℕ) → (w ≡ 0) ⊎ (byte other e ≡ byte image e) → (w ≡ 0) ⊎ (byte image e ≡ byte other e)
+    by w (inl none) = inl none
+    by w (inr bytes) = inr (sym bytes)
+
+-- a locator into it names the same chunk, if any: under the pointer 0 it names none
+names_in : {image other : Image} {old new : PlanValue} (l : Locator) → IsTheSame image other old new l.extent →
+    (n : NamesChunkIn image old l) → NamesPayload other new l n.chunk.payload
+names_in {image} {other} {old} {new} l t n = by (alike t n.pointer n.has_pointer)
+  where
+    by : (n.pointer ≡ 0) ⊎ AreAlike image other l.extent → NamesPayload other new l n.chunk.payload
+    by (inl none) =
+        absurd (no_frame l (subst (λ w. l.offset + l.length + least_overhead ≤ w) none n.chunk.found.can.below))
+    by (inr a) = record {
+      names = record {
+        in_use = ap (λ (rs : List ℕ). list_any (λ r. r == l.extent) rs) t.retired ∙ n.in_use;
+        pointer = n.pointer;
+        has_pointer = t.pointer ∙ n.has_pointer;
+        chunk = names n.pointer l a n.chunk;
+      };
+      has = same_names n.pointer l a n.chunk;
+    }
 
 -- what is said of an extent by a plan, if it is retired, if it has no pointer, and under its pointer, can be said by the
 -- other
@@ -244,20 +275,8 @@ module _ {image other : Image} {old new : PlanValue} (l : Locator) (t : IsTheSam
       (λ w. HasStatus other w l s) old new l.extent t.retired t.pointer (status_in_retired image other l t.sizes s)
       (under_pointer (λ w. HasStatus image w l s) (λ w. HasStatus other w l s) (status_at_zero image other l t.sizes s) (λ w a. status image other w l a s))
 
-  run_in : (r : Option (List EntryValue)) → IsRunIn image old l r → IsRunIn other new l r
-  run_in r =
-      carried (r ≡ None) (r ≡ None) (r ≡ None) (λ w. IsRunOf image w l r) (λ w. IsRunOf other w l r) old new l.extent t.retired
-      t.pointer (λ h. h) (under_pointer (λ w. IsRunOf image w l r) (λ w. IsRunOf other w l r) (run_at_zero image other l r) (λ w a. run_of image other w l a r))
-
-  state_in : (s : RunState) → HasRunStateIn image old l s → HasRunStateIn other new l s
-  state_in s =
-      carried (IsLostInRetired image l s) (IsLostInRetired other l s) (s ≡ BadChunk OutOfRange)
-      (λ w. HasRunState image w l s) (λ w. HasRunState other w l s) old new l.extent t.retired t.pointer
-      (loss_in_retired image other l t.sizes s)
-      (under_pointer (λ w. HasRunState image w l s) (λ w. HasRunState other w l s) (state_at_zero image other l t.sizes s) (λ w a. state image other w l a s))
-
   pub carries : Carries image other old new l
-  carries = record { run = run_in; state = state_in; own = status_in }
+  carries = record { names = names_in l t; no_other = λ m. (names_in l (same_back t) m).names; own = status_in }
 
 -- ---- scans
 
@@ -355,10 +374,12 @@ none_into_these image accepted extents found x listed i d below =
 
 module _ (extents : List ℕ) (before after : Image) (found rest : Scrubbed) (x : IsScrubbed before found) (y : IsScrubbed after rest)
     (r : IsAfterReset extents before after) where
+  old_plan : IsPlanIn before found.plan
+  old_plan = record { choice = found.choice; chosen = x.choice; follows = x.plan }
+
   plans_of : IsPlanAfterReset extents found.plan rest.plan
   plans_of =
-      subst (λ (p : PlanValue). IsPlanAfterReset extents p rest.plan)
-      (one_plan_in before r.old found.plan r.was (record { choice = found.choice; chosen = x.choice; follows = x.plan }))
+      subst (λ (p : PlanValue). IsPlanAfterReset extents p rest.plan) (one_plan_in before r.old found.plan r.was old_plan)
       (subst (λ (q : PlanValue). IsPlanAfterReset extents r.old q) (one_plan_in after r.new rest.plan r.is (record { choice = rest.choice; chosen = y.choice; follows = y.plan })) r.plans)
 
   the_same : (e : ℕ) → ¬ Contains extents e → IsTheSame before after found.plan rest.plan e
@@ -366,7 +387,8 @@ module _ (extents : List ℕ) (before after : Image) (found rest : Scrubbed) (x 
     sizes = r.sizes;
     retired = plans_of.retired;
     pointer = plans_of.pointers e other;
-    bytes = λ nonzero. inr (fun_ext (λ p. r.bytes e p nonzero other));
+    bytes = λ w is.
+        let there = in_disk before found.plan old_plan e w is in inr (fun_ext (λ p. r.bytes e p there.0 there.1 other));
   }
 
   scans : AllZip (IsAlikeIn (λ e. ¬ Contains extents e)) found.all rest.all
@@ -443,15 +465,6 @@ reset_pointer extents pointers k =
     joined None = refl
     joined (Some w) = refl
 
--- the pointer of an extent but 0
-pointer_behind : (plan : PlanValue) (k : ℕ) → pointer_of plan (suc k) ≡ slice_get plan.pointers k
-pointer_behind plan k =
-    ap (λ (b : Bool). if b then None else slice_get plan.pointers (suc k - 1)) (not_zero k)
-    ∙ ap (slice_get plan.pointers) (let e : suc k - 1 ≡ k = omega arith in e)
-  where
-    not_zero : (n : ℕ) → (suc n == 0) ≡ false
-    not_zero n = grind (arith, common_steps)
-
 module _ (extents : List ℕ) (old plan : PlanValue) (r : IsReset old extents plan) where
   -- others keep theirs
   pub kept_pointer : (e : ℕ) → list_any (λ n. n == e) extents ≡ false → pointer_of plan e ≡ pointer_of old e
@@ -494,21 +507,6 @@ reset_of [] choice plan is = (
 )
 reset_of (e ∷ es) choice plan is = is
 
--- a plan has a write pointer for each extent but extent 0
-how_many : (image : Image) (plan : PlanValue) → IsPlanIn image plan → length plan.pointers ≡ image.geometry.extents - 1
-how_many image plan x = by x.choice.superblock x.choice.page x.chosen.chosen x.follows.by
-  where
-    by : (s : Option Contents) (q : Option ℕ) → IsChosen image s q → MatchOption s (IsPlanWithout plan x.choice.geometry) (IsPlanBy plan) →
-        length plan.pointers ≡ image.geometry.extents - 1
-    by None q chosen without =
-        ap (λ (ws : List ℕ). length ws) without.pointers
-        ∙ length-replicate (x.choice.geometry.extents - 1) (x.choice.geometry.page * x.choice.geometry.pages)
-        ∙ ap (λ (g : Geometry). g.extents - 1) x.chosen.geometry
-    by (Some c) (Some q) chosen is =
-        let count : length plan.pointers ≡ length c.pointers = ap (λ (ws : List ℕ). length ws) is.pointers in
-        omega (arith, count, chosen.stands.contents.pointers.count)
-    by (Some c) None chosen is = absurd chosen
-
 -- where one of two such lists has a pointer the other has one too
 had_pointer : (old new : PlanValue) (e v : ℕ) → length new.pointers ≡ length old.pointers → pointer_of new e ≡ Some v →
     (w : ℕ) × (pointer_of old e ≡ Some w)
@@ -524,8 +522,11 @@ module _ (extents : List ℕ) (before after : Image) (found rest : Scrubbed) (x 
   without : (old : PlanValue) × IsPlanOf found.choice old × IsReset old extents found.plan
   without = reset_of extents found.choice found.plan x.plan
 
+  plan_was : IsPlanIn before without.0
+  plan_was = record { choice = found.choice; chosen = x.choice; follows = without.1 }
+
   was : f.reset.old ≡ without.0
-  was = one_plan_in before f.reset.old without.0 f.reset.was (record { choice = found.choice; chosen = x.choice; follows = without.1 })
+  was = one_plan_in before f.reset.old without.0 f.reset.was plan_was
 
   is_now : f.reset.new ≡ rest.plan
   is_now = one_plan_in after f.reset.new rest.plan f.reset.is (record { choice = rest.choice; chosen = y.choice; follows = y.plan })
@@ -551,13 +552,17 @@ module _ (extents : List ℕ) (before after : Image) (found rest : Scrubbed) (x 
           subst (λ (p : PlanValue). (w : ℕ) × (pointer_of p e ≡ Some w)) was (had_pointer f.reset.old f.reset.new e 0 long given) in
           let none : pointer_of found.plan e ≡ Some 0 = zero_pointer extents without.0 found.plan without.2 e had.0 among had.1 in
           let now : pointer_of rest.plan e ≡ Some 0 = subst (λ (p : PlanValue). pointer_of p e ≡ Some 0) is_now given in
-          record { sizes = f.reset.sizes; retired = plans.retired ∙ sym without.2.retired; pointer = now ∙ sym none; bytes = λ nonzero. inl none }
-      by (inr (other, apart)) = record {
-        sizes = f.reset.sizes;
-        retired = plans.retired ∙ sym without.2.retired;
-        pointer = plans.pointers e apart ∙ sym (kept_pointer extents without.0 found.plan without.2 e other);
-        bytes = λ nonzero. inr (fun_ext (λ p. f.reset.bytes e p nonzero apart));
-      }
+          record { sizes = f.reset.sizes; retired = plans.retired ∙ sym without.2.retired; pointer = now ∙ sym none; bytes = λ w is. inl (same_Some w 0 (sym is ∙ none)) }
+      by (inr (other, apart)) =
+          let kept : pointer_of found.plan e ≡ pointer_of without.0 e = kept_pointer extents without.0 found.plan without.2 e other in
+          record {
+            sizes = f.reset.sizes;
+            retired = plans.retired ∙ sym without.2.retired;
+            pointer = plans.pointers e apart ∙ sym kept;
+            bytes = λ w is.
+                let there = in_disk before without.0 plan_was e w (sym kept ∙ is) in
+                inr (fun_ext (λ p. f.reset.bytes e p there.0 there.1 apart));
+          }
 
   retired_now : rest.plan.retired ≡ found.plan.retired
   retired_now = plans.retired ∙ sym without.2.retired

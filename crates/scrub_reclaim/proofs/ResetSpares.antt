@@ -45,7 +45,7 @@ module _ (accepted : Accepted) (extents : List ℕ) (image : Image) (l : AreList
     sizes = refl;
     retired = reset.retired;
     pointer = by (among_cases extents e);
-    bytes = λ nonzero. inr refl;
+    bytes = λ w is. inr refl;
   }
     where
       by : (list_any (λ n. n == e) extents ≡ true) ⊎ ((list_any (λ n. n == e) extents ≡ false) × (¬ Contains extents e)) →

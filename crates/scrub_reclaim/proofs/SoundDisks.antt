@@ -1,21 +1,21 @@
 -- A disk that is sound is clean, nothing is missing of it, no page of extent 0 is lost, damaged or stray, and each doubt is a
 -- tail.
-use Rattle.std.proofs.Common.{bytes_eq, codes, ◌≡◌, ◌<◌, ◌+◌, ◌==◌, ◌&&◌, ◌||◌, ◌++◌, ◌∷◌, [], ℕ, zero, suc, Bool, true, false, not, cond, List, Option, Some, None, MatchBool, MatchOption, is_none, is_some, length, map, nat_lt, arith, refl, sym, ap, ◌∙◌, subst, if◌then◌else◌}
+use Rattle.std.proofs.Common.{bytes_eq, codes, ◌≡◌, ◌<◌, ◌+◌, ◌==◌, ◌&&◌, ◌||◌, ◌++◌, ◌∷◌, [], ℕ, zero, suc, Bool, true, false, not, cond, List, Option, Some, None, MatchOption, is_none, is_some, length, map, nat_lt, arith, refl, sym, ap, ◌∙◌, if◌then◌else◌}
 use Rattle.std.specs.Cmp.Derive.{both_true}
-use Rattle.std.specs.List.{AllZip, Contains, cons_option, count_by, enumerate_from, filter, filter_map, flat_map, list_all, list_any, range_with_len}
+use Rattle.std.specs.List.{AllZip, Contains, cons_option, count_by, enumerate_from, filter, filter_map, flat_map, list_all, list_any, range_with_len, zip}
 use Rattle.std.specs.Option.{option_map, option_to_list}
 use Rattle.std.proofs.lemmas.Bool.{and_parts, eq-eqb, eqb-true, false≢true, or_parts, or_right}
 use Rattle.std.proofs.lemmas.List.Folds.{list_all-append}
 use Rattle.std.proofs.lemmas.List.FromFn.{get_or-range_with_len, length-range_with_len}
 use Rattle.std.proofs.lemmas.List.Sums.{sum_by-cons}
-use Rattle.std.proofs.lemmas.Option.{none-some, slice_get_within}
+use Rattle.std.proofs.lemmas.Option.{slice_get_within}
 use Rattle.std.specs.List.{slice_get}
 use Rattle.scrub_disk.specs.Image.{Image, unreadable_pages}
 use Rattle.scrub_frame.specs.declared.locator.Locator.{Locator}
 use Rattle.scrub_super.specs.Chosen.{Choice}
 use Rattle.scrub_super.specs.Contents.{Contents}
 use Rattle.scrub_super.specs.Pages.{AreSuperblockPages}
-use Rattle.scrub_super.specs.Plan.{IsPlanBy, IsPlanOf, IsPlanWithout, PlanValue, pointer_of}
+use Rattle.scrub_super.specs.Plan.{IsPlanBy, IsPlanOf, IsPlanWithout, PlanValue}
 use Rattle.scrub_super.specs.declared.pages.SuperblockPage.{SuperblockPage}
 use Rattle.scrub_super.specs.declared.pages.SuperblockPage.TheVariants.{Lost, Record, Covered, Zero, Damaged, Stray}
 use Rattle.scrub_scan.specs.Scanned.{Scanned}
@@ -26,13 +26,12 @@ use Rattle.scrub_check.specs.declared.runs.RunState.{RunState}
 use Rattle.scrub_check.specs.declared.runs.RunState.TheVariants.{Read, BadChunk, NotARun}
 use Rattle.scrub_check.specs.declared.statuses.checked.Checked.{Checked}
 use Rattle.scrub_check.specs.declared.statuses.status.Status.{Status}
-use Rattle.scrub_check.specs.declared.statuses.status.Status.TheVariants.{OutOfRange, Sound as SoundStatus}
+use Rattle.scrub_check.specs.declared.statuses.status.Status.TheVariants.{Sound as SoundStatus}
 use Rattle.scrub_check.specs.Checked.{dangling, hidden, is_dangling, is_hidden, is_sound}
-use Rattle.scrub_check.specs.Runs.{AreReadRuns, HasRunState, HasRunStateIn, HasRunStateInUse, IsLostInRetired, IsRunIn, IsRunInUse, IsRunOf, NamesRun}
+use Rattle.scrub_check.specs.Runs.{HasRunIn}
 use Rattle.scrub_check.specs.Candidates.{CandidateValue}
 use Rattle.scrub_check.specs.Spares.{copies_of, spares_of}
 use Rattle.scrub_scan.specs.declared.standing.Standing.{Standing}
-use Rattle.scrub_check.specs.Status.{is_retired}
 use Rattle.scrub_report.specs.Scrubbed.{IsCleanImage, IsScrubbed, Scrubbed, is_clean, is_clean_choice, is_clean_extent, is_clean_item, is_clean_list}
 use Rattle.scrub_report.proofs.CleanLists.{sound_alone}
 use Rattle.scrub_report.proofs.OneReport.{one_scrub}
@@ -96,40 +95,26 @@ read_has (Some es) e = refl
 
 module _ (image : Image) (plan : PlanValue) where
   -- a run that has entries was read
-  is_read : (l : Locator) (run : Option (List EntryValue)) (state : RunState) → is_some run ≡ true → IsRunIn image plan l run →
-      HasRunStateIn image plan l state → state ≡ Read
-  is_read l None state some r s = absurd (false≢true some)
-  is_read l (Some es) state some r s = by_retired (is_retired plan l.extent) r s
-    where
-      of_chunk : (w : ℕ) (t : RunState) → NamesRun image w l es → HasRunState image w l t → t ≡ Read
-      of_chunk w Read n h = refl
-      of_chunk w (BadChunk status) n h = absurd (h.1 n.names)
-      of_chunk w NotARun n h = absurd (h.1 es n)
-
-      by_pointer : (p : Option ℕ) → MatchOption p (Some es ≡ None) (λ w. IsRunOf image w l (Some es)) →
-          MatchOption p (state ≡ BadChunk OutOfRange) (λ w. HasRunState image w l state) → state ≡ Read
-      by_pointer None x y = absurd (none-some es (sym x))
-      by_pointer (Some w) x y = of_chunk w state x y
-
-      by_retired : (b : Bool) → MatchBool b (Some es ≡ None) (IsRunInUse image plan l (Some es)) →
-          MatchBool b (IsLostInRetired image l state) (HasRunStateInUse image plan l state) → state ≡ Read
-      by_retired true x y = absurd (none-some es (sym x))
-      by_retired false x y = by_pointer (pointer_of plan l.extent) x y
+  is_read : (l : Locator) (run : Option (List EntryValue)) (state : RunState) → is_some run ≡ true → HasRunIn image plan l run state →
+      state ≡ Read
+  is_read l None state some h = absurd (false≢true some)
+  is_read l (Some es) Read some h = refl
+  is_read l (Some es) (BadChunk status) some h = absurd h
+  is_read l (Some es) NotARun some h = absurd h
 
   -- so there is no doubt of a run
-  no_run_doubts : (ls : List Locator) (runs : Runs) (states : List RunState) (k : ℕ) → AllZip (IsRunIn image plan) ls runs →
-      AllZip (HasRunStateIn image plan) ls states → list_all is_some runs ≡ true →
+  no_run_doubts : (ls : List Locator) (runs : Runs) (states : List RunState) (k : ℕ) → length states ≡ length runs →
+      AllZip (λ l p. HasRunIn image plan l p.0 p.1) ls (zip runs states) → list_all is_some runs ≡ true →
       filter_map (λ s. run_lost s.0 s.1) (enumerate_from k states) ≡ []
-  no_run_doubts [] [] [] k a b all = refl
-  no_run_doubts [] [] (s ∷ ss) k a b all = absurd b
-  no_run_doubts [] (r ∷ rs) ss k a b all = absurd a
-  no_run_doubts (l ∷ ls) [] ss k a b all = absurd a
-  no_run_doubts (l ∷ ls) (r ∷ rs) [] k a b all = absurd b
-  no_run_doubts (l ∷ ls) (r ∷ rs) (s ∷ ss) k a b all =
+  no_run_doubts ls [] [] k same each all = refl
+  no_run_doubts ls [] (s ∷ ss) k same each all = absurd (omega (arith, same))
+  no_run_doubts ls (r ∷ rs) [] k same each all = absurd (omega (arith, same))
+  no_run_doubts [] (r ∷ rs) (s ∷ ss) k same each all = absurd each
+  no_run_doubts (l ∷ ls) (r ∷ rs) (s ∷ ss) k same each all =
       let parts = and_parts (is_some r) (list_all is_some rs) all in
       ap (λ (t : RunState). cons_option (run_lost k t) (filter_map (λ (u : ℕ × RunState). run_lost u.0 u.1) (enumerate_from (k + 1) ss)))
-      (is_read l r s parts.0 a.0 b.0)
-      ∙ no_run_doubts ls rs ss (k + 1) a.1 b.1 parts.1
+      (is_read l r s parts.0 each.0)
+      ∙ no_run_doubts ls rs ss (k + 1) (omega (arith, same)) each.1 parts.1
 
 -- ---- named locators
 
@@ -294,7 +279,7 @@ module _ (image : Image) (pages : List SuperblockPage) (found : Scrubbed) (x : I
       ++ no_page_doubt superblock_lost pages 0 no_lost quiet i
       ++ no_page_doubt superblock_damaged pages 0 no_damaged quiet i
       ++ no_page_doubt superblock_stray pages 0 no_stray quiet i
-      ++ no_run_doubts image found.plan found.plan.runs found.read.runs found.read.states 0 x.read.runs x.read.states runs_are i
+      ++ no_run_doubts image found.plan found.plan.runs found.read.runs found.read.states 0 x.read.same x.read.each runs_are i
       ++ nothing (spare_doubts_of found.all found.checked (map (λ (a : CandidateValue). a.extent) found.candidates)) (λ (c : Checked). is_sound c.status) found.checked
       (no_spare_doubt found.all found.checked (map (λ (a : CandidateValue). a.extent) found.candidates)) sound_are i
       ++ flat_map tail_doubts found.all

@@ -34,7 +34,7 @@ zipped_both R [] (y ∷ ys) us vs h k = absurd h
 zipped_both R (x ∷ xs) [] us vs h k = absurd h
 zipped_both R (x ∷ xs) (y ∷ ys) us vs h k = (h.0, zipped_both R xs ys us vs h.1 k)
 
--- one text behind another
+-- one text after another
 both : (a b c d : List ℕ) → IsSameButSpares a b → IsSameButSpares c d → IsSameButSpares (a ++ c) (b ++ d)
 both a b c d s t = record {
   parts = s.parts ++ t.parts;

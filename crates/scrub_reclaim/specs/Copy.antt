@@ -46,13 +46,13 @@ pub record IsPlanAfterCopies (rooms : List RoomValue) (old new : PlanValue) : Ty
   pub pointers : (x : ℕ) → ¬ Contains (extents_of rooms) x → pointer_of new x ≡ pointer_of old x
   pub moved : All (λ r. (w : ℕ) × (pointer_of new r.extent ≡ Some w) × (r.place ≤ w)) rooms
 
--- something was written into these rooms: the sizes are the same, so are the bytes of all other extents but extent 0 and those
--- in front of the places, all bytes of these extents can be read, and the superblock that counts differs in nothing but its
--- generation and the write pointers of these extents, which aren't below the places
+-- something was written into these rooms: the sizes are the same, and so are the bytes of all other extents of the disk but
+-- extent 0; in the rooms' extents the bytes in front of the places are the same, and all bytes can be read; and the superblock
+-- that counts differs in nothing but its generation and the write pointers of the rooms' extents, which aren't below the places
 pub record IsAfterCopies (rooms : List RoomValue) (before after : Image) : Type 0 where
   pub had : All (λ r. HasRoomAt before r.extent r.place) rooms
   pub sizes : after.geometry ≡ before.geometry
-  pub others : (x p : ℕ) → x ≢ 0 → ¬ Contains (extents_of rooms) x → byte after x p ≡ byte before x p
+  pub others : (x p : ℕ) → x ≢ 0 → x < before.geometry.extents → ¬ Contains (extents_of rooms) x → byte after x p ≡ byte before x p
   pub kept : All (λ r. (p : ℕ) → p < r.place → byte after r.extent p ≡ byte before r.extent p) rooms
   pub readable : All (λ r. (p : ℕ) → p < extent_bytes after.geometry → byte after r.extent p ≢ None) rooms
   pub old : PlanValue
@@ -63,7 +63,7 @@ pub record IsAfterCopies (rooms : List RoomValue) (before after : Image) : Type 
 
 -- ---- what is the same
 
--- two parts of texts are one, or the word `none` at the end of the line became `spare`
+-- two parts of texts are equal, or the word `none` at the end of the line became `spare`
 abbrev pub IsSameOrSpared : List ℕ → List ℕ → Type 0
 IsSameOrSpared a b = (b ≡ a) ⊎ ((front : List ℕ) × (a ≡ front ++ codes " none" ++ 10 ∷ []) × (b ≡ front ++ codes " spare" ++ 10 ∷ []))
 

@@ -1,4 +1,4 @@
--- What may have hidden a newer superblock, a newer binding, or a chunk behind a write pointer: the doubts of a disk, in the
+-- What may have hidden a newer superblock, a newer binding, or a chunk past a write pointer: the doubts of a disk, in the
 -- order of their lines.
 use Rattle.std.specs.Prelude.{◌≡◌, ◌≢◌, ◌≤◌, ◌+◌, ◌-◌, ◌*◌, ◌==◌, ◌&&◌, ◌||◌, ℕ, ⊤, All, Bool, true, false, not, codes, List, [], ◌∷◌, ◌++◌, Option, Some, None, is_none, nat_lt, map, if◌then◌else◌}
 use Rattle.std.specs.Fmt.{decimal}
@@ -34,7 +34,7 @@ abbrev pub with_page : ℕ → List PageRange → List PageRange
 with_page q [] = record { first = q; last = q } ∷ []
 with_page q (r ∷ rs) = if q + 1 == r.first then record { first = q; last = r.last } ∷ rs else record { first = q; last = q } ∷ r ∷ rs
 
--- rising pages joined into as few ranges as possible
+-- ascending pages joined into as few ranges as possible
 abbrev pub page_ranges : List ℕ → List PageRange
 page_ranges [] = []
 page_ranges (q ∷ qs) = with_page q (page_ranges qs)
@@ -77,7 +77,7 @@ abbrev pub superblock_stray : ℕ → SuperblockPage → Option Doubt
 superblock_stray q Stray = Some (SuperblockStray q)
 superblock_stray q _ = None
 
--- the doubts of one kind for all pages of extent 0, by rising page
+-- the doubts of one kind for all pages of extent 0, by ascending page
 abbrev pub page_doubts : (ℕ → SuperblockPage → Option Doubt) → List SuperblockPage → List Doubt
 page_doubts doubt pages = filter_map (λ p. doubt p.0 p.1) (enumerate_from 0 pages)
 
@@ -90,16 +90,16 @@ run_lost k state = Some (RunLost k state)
 abbrev pub run_doubts : List RunState → List Doubt
 run_doubts states = filter_map (λ s. run_lost s.0 s.1) (enumerate_from 0 states)
 
--- the doubt that an extent has nonzero bytes at or behind its write pointer, with the first of them and how many there
+-- the doubt that an extent has nonzero bytes at or past its write pointer, with the first of them and how many there
 -- are
 abbrev pub tail_doubts : Scanned → List Doubt
 tail_doubts f = option_to_list (option_map (λ first. Tail f.extent first f.findings.tail_count) f.findings.tail_first)
 
--- page q has a byte at or behind the write pointer, by the bytes of a page
+-- page q has a byte at or past the write pointer, by the bytes of a page
 abbrev pub ends_past : ℕ → ℕ → ℕ → Bool
 ends_past page pointer q = nat_lt pointer ((q + 1) * page)
 
--- the unreadable pages of an extent that have a byte at or behind its write pointer, by the bytes of a page
+-- the unreadable pages of an extent that have a byte at or past its write pointer, by the bytes of a page
 abbrev pub lost_past : ℕ → Scanned → List ℕ
 lost_past page f = filter (ends_past page f.pointer) f.findings.bad_pages
 
@@ -107,7 +107,7 @@ lost_past page f = filter (ends_past page f.pointer) f.findings.bad_pages
 abbrev pub range_doubts : ℕ → List PageRange → List Doubt
 range_doubts extent ranges = map (λ r. TailLost extent r.first r.last) ranges
 
--- the doubts of an extent's unreadable pages with a byte at or behind its write pointer, joined into as few ranges as
+-- the doubts of an extent's unreadable pages with a byte at or past its write pointer, joined into as few ranges as
 -- possible
 abbrev pub tail_lost_doubts : ℕ → Scanned → List Doubt
 tail_lost_doubts page f = range_doubts f.extent (page_ranges (lost_past page f))

@@ -5,7 +5,5 @@ pub mod Reset
 pub mod Room
 pub mod Copy
 pub mod AllRight
--- Steps of the code.
-pub mod Moves
-pub mod PageRanges
-pub mod RoomSteps
+-- Steps of the code, and lemmas that types need.
+pub mod steps

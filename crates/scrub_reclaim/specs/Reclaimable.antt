@@ -46,7 +46,7 @@ points_to e p c = (c.locator.extent == e) && (c.locator.offset == p)
 abbrev pub pointing_to : List Checked → ℕ → ℕ → List Checked
 pointing_to checked e p = filter (points_to e p) checked
 
--- the named locators that point to the chunks that a candidate keeps, by rising chunk
+-- the named locators that point to the chunks that a candidate keeps, by ascending chunk
 abbrev pub moves : List Checked → CandidateValue → List Checked
 moves checked a = flat_map (λ k. pointing_to checked a.extent k.start) a.keep
 
@@ -66,7 +66,7 @@ freed_text extent free = codes "reclaim" ++ spaced (decimal extent) ++ spaced (d
 abbrev pub reclaim_line : CandidateValue → List ℕ
 reclaim_line a = freed_text a.extent a.free ++ 10 ∷ []
 
--- a candidate's line and those of its moves, by rising chunk
+-- a candidate's line and those of its moves, by ascending chunk
 abbrev pub candidate_lines : List Checked → CandidateValue → List ℕ
 candidate_lines checked a = reclaim_line a ++ flat_map (kept_lines checked a.extent) a.keep
 
@@ -93,7 +93,7 @@ module _ {D : Type 0} {s : _} where
   abbrev pub rooms_kept : Bool → Parts D s → List ℕ
   rooms_kept clear p =
       if length (if clear then p.liveness.candidates.items else []) == 0 then []
-      else room_lines p.plan.geometry p.all.extents p.checked.items (if clear then p.liveness.candidates.items else [])
+      else room_lines p.judged.scan.plan.geometry p.judged.scan.all.extents p.judged.checked.items (if clear then p.liveness.candidates.items else [])
 
 -- the lines of the doubts, then those of the extents to reclaim, and then those of extents with room
 abbrev pub reclaim_text : Accepted → List SuperblockPage → Scrubbed → List ℕ

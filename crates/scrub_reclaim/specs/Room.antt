@@ -24,7 +24,7 @@ ends_in_chunk (item ∷ []) = is_chunk item
 ends_in_chunk (item ∷ next ∷ items) = ends_in_chunk (next ∷ items)
 
 -- the place for the next frame, by the bytes of a page, the write pointer and the items below it: the pointer if it is at a
--- page bound or directly behind a chunk, or else the next page bound
+-- page bound or directly after a chunk, or else the next page bound
 abbrev pub next_place : ℕ → ℕ → List Item → ℕ
 next_place page w items = if (w % page == 0) || ends_in_chunk items then w else (w / page + 1) * page
 
@@ -83,7 +83,7 @@ is_listed_as false listed e = not (list_any (λ n. n == e) listed)
 abbrev pub room_where : Bool → Geometry → List Checked → List ℕ → Scanned → List ℕ
 room_where is_listed g checked listed f = if is_listed_as is_listed listed f.extent then room_if is_listed g checked f else []
 
--- the lines of the scanned extents with room that are listed, or aren't, as wanted, rising
+-- the lines of the scanned extents with room that are listed, or aren't, as wanted, ascending
 abbrev pub rooms_where : Bool → Geometry → List Scanned → List Checked → List ℕ → List ℕ
 rooms_where is_listed g all checked listed = flat_map (room_where is_listed g checked listed) all
 

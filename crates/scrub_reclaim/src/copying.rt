@@ -1,5 +1,5 @@
-//! What an image keeps when something is copied into rooms of it: a law alone, without code. Which extents have room is listed
-//! by `reclaiming`.
+//! What an image keeps when something is copied into rooms of it: a law alone, without code. Which extents
+//! have room is listed by `reclaiming`.
 
 ghost use Rattle.std.specs.Prelude.{◌≡◌, ℕ, All, Bool, List};
 ghost use Rattle.scrub_disk.specs.Image.{Image};
@@ -8,13 +8,15 @@ ghost use Rattle.scrub_listings.specs.Manifest.{IsManifest, IsWholeImage};
 ghost use Rattle.scrub_reclaim.specs.Copy.{HoldsCopies, IsAfterCopies, IsSameButSpares, RoomValue};
 ghost use Rattle.scrub_reclaim.specs.Reset.{NameTheSame};
 
-/// A law: a copy loses nothing. Let extents have room, each at a place, let anything be written from there on, and let the new
-/// write pointers be at these places or above. Then the same is named, with the same statuses and forms, and the manifest and
-/// its verdict are the same, but that a locator without spares may have got some. Each chunk of these extents is still one, and
-/// whole frames from the places on, one directly after the other, are chunks.
+/// A law: a copy loses nothing. Let extents have room, each at a place, let anything be written from there
+/// on, and let the new write pointers be at these places or above. Then the same is named, with the same
+/// statuses and forms, and the manifest and its verdict are the same, but that a locator without spares may
+/// have got some. Each chunk of these extents is still one, and whole frames from the places on, one directly
+/// after the other, are chunks.
 pub fn a_copy_loses_nothing()
     ensures named { (rooms : List RoomValue) (before after : Image) (found rest : Scrubbed) →
-        IsAfterCopies rooms before after → IsScrubbed before found → IsScrubbed after rest → NameTheSame found rest }
+        IsAfterCopies rooms before after → IsScrubbed before found → IsScrubbed after rest →
+        NameTheSame found rest }
     ensures manifest { (rooms : List RoomValue) (before after : Image) (a b : List ℕ) →
         IsAfterCopies rooms before after → IsManifest before a → IsManifest after b → IsSameButSpares a b }
     ensures whole { (rooms : List RoomValue) (before after : Image) (a b : Bool) →

@@ -1,10 +1,13 @@
 //! Finds the doubts of a disk, kind by kind. `doubts` has their texts.
 
-ghost use Rattle.std.specs.Prelude.{◌≡◌, ◌++◌, ℕ, Bool, IfOk, OnOk, List, nat_lt};
+ghost use Rattle.std.specs.Prelude.{◌≡◌, ◌++◌, IfOk, OnOk};
 ghost use Rattle.std.specs.List.{filter_map, flat_map};
 ghost use Rattle.scrub_scan.specs.Scanned.{scanned};
 ghost use Rattle.scrub_report.specs.Parts.{run_states};
-ghost use Rattle.scrub_reclaim.specs.Doubts.{choice_doubts, doubts_in, ends_past, lost_past, page_doubts, range_doubts, run_doubts, run_lost, superblock_damaged, superblock_lost, superblock_stray, tail_doubts, tail_lost_doubts};
+ghost use Rattle.scrub_reclaim.specs.Doubts.{choice_doubts, doubts_in, ends_past, lost_past, page_doubts};
+ghost use Rattle.scrub_reclaim.specs.Doubts.{range_doubts, run_doubts, run_lost, tail_doubts};
+ghost use Rattle.scrub_reclaim.specs.Doubts.{tail_lost_doubts};
+ghost use Rattle.scrub_reclaim.specs.steps.PageDoubts.{page_doubt};
 
 use crate::doubts::Doubt;
 use crate::page_ranges::{PageRange, join_pages};
@@ -31,66 +34,43 @@ fn choice_doubts(alloc: Global, chosen: &Chosen) -> Result<Vec<Doubt>, OutOfMemo
     Ok(doubts)
 }
 
-/// The doubt that a lost page of extent 0 makes.
-fn superblock_lost(page: usize, held: &SuperblockPage) -> Option<Doubt>
-    ensures { result ≡ superblock_lost page held.now }
+/// What makes a page of extent 0 doubtful.
+#[derive(Clone, Copy)]
+pub(crate) enum PageDoubt {
+    /// It is lost.
+    Lost,
+    /// It is damaged.
+    Damaged,
+    /// It has other bytes.
+    Stray,
+}
+
+/// The doubt of this kind that a page of extent 0 makes.
+fn page_doubt(kind: PageDoubt, page: usize, held: &SuperblockPage) -> Option<Doubt>
+    ensures { result ≡ page_doubt kind page held.now }
 {
-    match held {
-        SuperblockPage::Lost => Some(Doubt::SuperblockLost { page }),
+    match (kind, held) {
+        (PageDoubt::Lost, SuperblockPage::Lost) => Some(Doubt::SuperblockLost { page }),
+        (PageDoubt::Damaged, SuperblockPage::Damaged { .. }) => Some(Doubt::SuperblockDamaged {
+            page,
+        }),
+        (PageDoubt::Stray, SuperblockPage::Stray) => Some(Doubt::SuperblockStray { page }),
         _ => None,
     }
 }
 
-/// The doubt that a damaged page of extent 0 makes.
-fn superblock_damaged(page: usize, held: &SuperblockPage) -> Option<Doubt>
-    ensures { result ≡ superblock_damaged page held.now }
-{
-    match held {
-        SuperblockPage::Damaged { .. } => Some(Doubt::SuperblockDamaged { page }),
-        _ => None,
-    }
-}
-
-/// The doubt that a page of extent 0 with other bytes makes.
-fn superblock_stray(page: usize, held: &SuperblockPage) -> Option<Doubt>
-    ensures { result ≡ superblock_stray page held.now }
-{
-    match held {
-        SuperblockPage::Stray => Some(Doubt::SuperblockStray { page }),
-        _ => None,
-    }
-}
-
-/// The doubts of the lost pages, by number.
-fn lost_pages(alloc: Global, pages: &[SuperblockPage]) -> Result<Vec<Doubt>, OutOfMemory>
-    ensures { IfOk result (λ v. v.items ≡ page_doubts superblock_lost pages.now) }
+/// The doubts of this kind that the pages of extent 0 make, by number.
+fn page_doubts(
+    alloc: Global,
+    kind: PageDoubt,
+    pages: &[SuperblockPage],
+) -> Result<Vec<Doubt>, OutOfMemory>
+    ensures { IfOk result (λ v. v.items ≡ page_doubts (page_doubt kind) pages.now) }
 {
     pages
         .iter()
         .enumerate()
-        .filter_map(|(page, held)| superblock_lost(page, held))
-        .collect(alloc)
-}
-
-/// The doubts of the damaged pages, by number.
-fn damaged_pages(alloc: Global, pages: &[SuperblockPage]) -> Result<Vec<Doubt>, OutOfMemory>
-    ensures { IfOk result (λ v. v.items ≡ page_doubts superblock_damaged pages.now) }
-{
-    pages
-        .iter()
-        .enumerate()
-        .filter_map(|(page, held)| superblock_damaged(page, held))
-        .collect(alloc)
-}
-
-/// The doubts of the pages with other bytes, by number.
-fn stray_pages(alloc: Global, pages: &[SuperblockPage]) -> Result<Vec<Doubt>, OutOfMemory>
-    ensures { IfOk result (λ v. v.items ≡ page_doubts superblock_stray pages.now) }
-{
-    pages
-        .iter()
-        .enumerate()
-        .filter_map(|(page, held)| superblock_stray(page, held))
+        .filter_map(|(page, held)| page_doubt(kind, page, held))
         .collect(alloc)
 }
 
@@ -140,13 +120,13 @@ fn add_tails<D: PageSource>(
 ) -> Result<(), OutOfMemory>
     ensures { OnOk result (doubts.new.items ≡ doubts.old.items ++ flat_map tail_doubts all.now.extents) }
 {
-    for i in 0..all.len() {
-        add_tail(doubts, all.result_at(i))?;
+    for found in all.results() {
+        add_tail(doubts, found)?;
     }
     Ok(())
 }
 
-/// Whether page `number` has a byte at or behind the write pointer. `page` is the page size in bytes.
+/// Whether page `number` has a byte at or past the write pointer. `page` is the page size in bytes.
 fn ends_past(page: u32, pointer: u32, number: u32) -> bool
     ensures { result ≡ ends_past page pointer number }
 {
@@ -154,7 +134,7 @@ fn ends_past(page: u32, pointer: u32, number: u32) -> bool
     end > pointer as u64
 }
 
-/// The unreadable pages of an extent that have a byte at or behind its write pointer.
+/// The unreadable pages of an extent that have a byte at or past its write pointer.
 fn lost_past<D: PageSource>(
     alloc: Global,
     page: u32,
@@ -206,10 +186,11 @@ fn add_lost_tails<D: PageSource>(
     page: u32,
     all: &AllFindings<'_, D>,
 ) -> Result<(), OutOfMemory>
-    ensures { OnOk result (doubts.new.items ≡ doubts.old.items ++ flat_map (tail_lost_doubts page) all.now.extents) }
+    ensures { OnOk result (doubts.new.items ≡ doubts.old.items ++
+        flat_map (tail_lost_doubts page) all.now.extents) }
 {
-    for i in 0..all.len() {
-        add_lost_tail(alloc, doubts, page, all.result_at(i))?;
+    for found in all.results() {
+        add_lost_tail(alloc, doubts, page, found)?;
     }
     Ok(())
 }
@@ -221,18 +202,21 @@ pub(crate) fn doubts_of<D: PageSource>(
     parts: &Parts<'_, D>,
 ) -> Result<Vec<Doubt>, OutOfMemory>
     ensures { IfOk result (λ v.
-        v.items ≡ doubts_in parts.now.chosen pages.now (run_states parts.now.runs.items)
-        parts.now.plan.geometry.page parts.now.all.extents parts.now.checked.items parts.now.liveness.candidates.items) }
+        v.items ≡ doubts_in parts.now.judged.scan.chosen pages.now (run_states parts.now.judged.runs.items)
+        parts.now.judged.scan.plan.geometry.page parts.now.judged.scan.all.extents
+        parts.now.judged.checked.items parts.now.liveness.candidates.items) }
 {
-    let page = parts.plan.geometry().page();
-    let mut doubts = choice_doubts(alloc, &parts.chosen)?;
-    doubts.extend_from_slice(&lost_pages(alloc, pages)?)?;
-    doubts.extend_from_slice(&damaged_pages(alloc, pages)?)?;
-    doubts.extend_from_slice(&stray_pages(alloc, pages)?)?;
-    doubts.extend_from_slice(&lost_runs(alloc, &parts.runs)?)?;
+    let judged = &parts.judged;
+    let scan = &judged.scan;
+    let page = scan.plan.geometry().page();
+    let mut doubts = choice_doubts(alloc, &scan.chosen)?;
+    doubts.extend_from_slice(&page_doubts(alloc, PageDoubt::Lost, pages)?)?;
+    doubts.extend_from_slice(&page_doubts(alloc, PageDoubt::Damaged, pages)?)?;
+    doubts.extend_from_slice(&page_doubts(alloc, PageDoubt::Stray, pages)?)?;
+    doubts.extend_from_slice(&lost_runs(alloc, &judged.runs)?)?;
     let candidates = &parts.liveness.candidates;
-    add_spares(alloc, &mut doubts, &parts.all, &parts.checked, candidates)?;
-    add_tails(&mut doubts, &parts.all)?;
-    add_lost_tails(alloc, &mut doubts, page, &parts.all)?;
+    add_spares(alloc, &mut doubts, &scan.all, &judged.checked, candidates)?;
+    add_tails(&mut doubts, &scan.all)?;
+    add_lost_tails(alloc, &mut doubts, page, &scan.all)?;
     Ok(doubts)
 }

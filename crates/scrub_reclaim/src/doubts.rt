@@ -1,22 +1,23 @@
-//! Doubts: what may have hidden a newer superblock, a newer binding, or a chunk behind a write pointer; and which of them were
-//! accepted. `doubting` finds them.
+//! Doubts: what may have hidden a newer superblock, a newer binding, or a chunk past a write pointer; and
+//! which of them were accepted. `doubting` finds them.
 
 ghost use Rattle.std.specs.Prelude.{◌≡◌, ◌++◌, IfOk, OnOk, map, string_bytes};
 ghost use Rattle.std.specs.List.{list_any};
 ghost use Rattle.scrub_reclaim.specs.declared.doubts.Doubt.TheVariants.{Spare};
-ghost use Rattle.scrub_reclaim.specs.Doubts.{accepts, are_accepted, doubt_text, is_accepted, is_kind_of, may_be_accepted};
+ghost use Rattle.scrub_reclaim.specs.Doubts.{accepts, are_accepted, doubt_text, is_accepted, is_kind_of};
+ghost use Rattle.scrub_reclaim.specs.Doubts.{may_be_accepted};
 ghost use Rattle.scrub_reclaim.specs.Reclaimable.{doubt_line, doubt_lines, doubt_word};
 
 use scrub_check::{Owner, RunState};
 use scrub_disk::OutOfMemory;
-use scrub_listings::listing::ChunkText;
+use scrub_listings::listing::PlaceText;
 use scrub_report::texts::{owner_text, state_text};
 use std::alloc::Global;
-use std::fmt;
+use std::fmt::Write;
 use std::marker::Model;
 use uuid::Uuid;
 
-/// What may have hidden something that a disk holds.
+/// What may have hidden something that a disk holds, or what a reset would take the last spare of.
 #[derive(Clone, Copy)]
 pub(crate) enum Doubt {
     /// No superblock counts.
@@ -31,7 +32,8 @@ pub(crate) enum Doubt {
     SuperblockDamaged {
         page: usize,
     },
-    /// This page of extent 0 has a nonzero byte, doesn't begin like a superblock, and is no part of a superblock.
+    /// This page of extent 0 has a nonzero byte, doesn't begin like a superblock, and is no part of a
+    /// superblock.
     SuperblockStray {
         page: usize,
     },
@@ -40,8 +42,8 @@ pub(crate) enum Doubt {
         number: usize,
         state: RunState,
     },
-    /// The spares of this owner's locator, the first of which is this chunk with its frame of so many bytes, aren't live and
-    /// are in extents that may be reclaimed.
+    /// The spares of this owner's locator, the first of which is this chunk with its frame of so many bytes,
+    /// aren't live and are in extents that may be reclaimed.
     Spare {
         extent: u32,
         offset: u32,
@@ -50,14 +52,15 @@ pub(crate) enum Doubt {
         owner: Owner,
         bytes: u64,
     },
-    /// An extent has this many nonzero bytes at or behind its write pointer, the first of them at this offset.
+    /// An extent has this many nonzero bytes at or past its write pointer, the first of them at this
+    /// offset.
     Tail {
         extent: u32,
         offset: u32,
         bytes: u32,
     },
-    /// The pages `first` to `last` of an extent, both included, are unreadable. Each has a byte at or behind the write
-    /// pointer.
+    /// The pages `first` to `last` of an extent, both included, are unreadable. Each has a byte at or past
+    /// the write pointer.
     TailLost {
         extent: u32,
         first: u32,
@@ -65,85 +68,34 @@ pub(crate) enum Doubt {
     },
 }
 
-/// The text of the doubt that a tail makes.
-#[derive(Drop)]
-struct TailText {
-    extent: u32,
-    offset: u32,
-    bytes: u32,
-}
-
-impl fmt::Display for TailText {
-    ghost use Rattle.std.specs.Prelude.{Some};
-    ghost use Rattle.scrub_reclaim.specs.declared.doubts.Doubt.TheVariants.{Tail};
-    ghost use Rattle.scrub_reclaim.specs.Doubts.{doubt_text};
-
-    ghost output = { λ t. Some (doubt_text (Tail t.extent t.offset t.bytes)) };
-
-    fn fmt<W: fmt::Write>(&self, f: &mut fmt::Formatter<W>) -> fmt::Result {
-        let TailText {
-            extent,
-            offset,
-            bytes,
-        } = self;
-        write!(f, "tail {extent} {offset} {bytes}")
-    }
-}
-
-/// The text of the doubt that unreadable pages make.
-#[derive(Drop)]
-struct LostText {
-    extent: u32,
-    first: u32,
-    last: u32,
-}
-
-impl fmt::Display for LostText {
-    ghost use Rattle.std.specs.Prelude.{Some};
-    ghost use Rattle.scrub_reclaim.specs.declared.doubts.Doubt.TheVariants.{TailLost};
-    ghost use Rattle.scrub_reclaim.specs.Doubts.{doubt_text};
-
-    ghost output = { λ t. Some (doubt_text (TailLost t.extent t.first t.last)) };
-
-    fn fmt<W: fmt::Write>(&self, f: &mut fmt::Formatter<W>) -> fmt::Result {
-        let LostText {
-            extent,
-            first,
-            last,
-        } = self;
-        write!(f, "tail-lost {extent} {first} {last}")
-    }
-}
-
-/// The text of the doubt that this chunk, a spare with a frame of so many bytes, makes.
-fn spare_text(
+/// Appends the text of the doubt that a spare at this place makes, whose frame takes so many bytes.
+fn append_spare_text(
     alloc: Global,
-    chunk: &ChunkText,
+    text: &mut String,
+    place: &PlaceText,
     owner: Owner,
     bytes: u64,
-) -> Result<String, OutOfMemory>
-    ensures { IfOk result (λ text. string_bytes text ≡
-        doubt_text (Spare chunk.now.extent chunk.now.offset chunk.now.length chunk.now.uuid owner bytes)) }
+) -> Result<(), OutOfMemory>
+    ensures { OnOk result (string_bytes text.new ≡ string_bytes text.old ++
+        doubt_text (Spare place.now.extent place.now.offset place.now.length place.now.uuid owner bytes)) }
 {
-    let place = format!(in alloc; "{chunk}")?;
     let owner = owner_text(alloc, owner)?;
-    let text = format!(in alloc; "spare {place} {owner} {bytes}")?;
-    Ok(text)
+    write!(text, "spare {place} {owner} {bytes}")
 }
 
-/// A doubt's kind and its numbers.
-fn doubt_text(alloc: Global, doubt: &Doubt) -> Result<String, OutOfMemory>
-    ensures { IfOk result (λ text. string_bytes text ≡ doubt_text doubt.now) }
+/// Appends a doubt's kind and its numbers.
+fn append_doubt_text(alloc: Global, text: &mut String, doubt: &Doubt) -> Result<(), OutOfMemory>
+    ensures { OnOk result (string_bytes text.new ≡ string_bytes text.old ++ doubt_text doubt.now) }
 {
     match *doubt {
-        Doubt::NoSuperblock => format!(in alloc; "no-superblock"),
-        Doubt::Tie => format!(in alloc; "tie"),
-        Doubt::SuperblockLost { page } => format!(in alloc; "superblock-lost {page}"),
-        Doubt::SuperblockDamaged { page } => format!(in alloc; "superblock-damaged {page}"),
-        Doubt::SuperblockStray { page } => format!(in alloc; "superblock-stray {page}"),
+        Doubt::NoSuperblock => write!(text, "no-superblock"),
+        Doubt::Tie => write!(text, "tie"),
+        Doubt::SuperblockLost { page } => write!(text, "superblock-lost {page}"),
+        Doubt::SuperblockDamaged { page } => write!(text, "superblock-damaged {page}"),
+        Doubt::SuperblockStray { page } => write!(text, "superblock-stray {page}"),
         Doubt::RunLost { number, state } => {
             let state = state_text(state);
-            format!(in alloc; "run-lost {number} {state}")
+            write!(text, "run-lost {number} {state}")
         }
         Doubt::Spare {
             extent,
@@ -153,43 +105,38 @@ fn doubt_text(alloc: Global, doubt: &Doubt) -> Result<String, OutOfMemory>
             owner,
             bytes,
         } => {
-            let chunk = ChunkText {
+            let place = PlaceText {
                 extent,
                 offset,
                 length,
                 uuid,
             };
-            spare_text(alloc, &chunk, owner, bytes)
+            append_spare_text(alloc, text, &place, owner, bytes)
         }
         Doubt::Tail {
             extent,
             offset,
             bytes,
-        } => {
-            let text = TailText {
-                extent,
-                offset,
-                bytes,
-            };
-            format!(in alloc; "{text}")
-        }
+        } => write!(text, "tail {extent} {offset} {bytes}"),
         Doubt::TailLost {
             extent,
             first,
             last,
-        } => {
-            let text = LostText {
-                extent,
-                first,
-                last,
-            };
-            format!(in alloc; "{text}")
-        }
+        } => write!(text, "tail-lost {extent} {first} {last}"),
     }
 }
 
-/// What a person accepted, knowing what made the doubts: kinds of doubts, and single doubts by what their lines have behind
-/// `doubt`.
+/// A doubt's kind and its numbers.
+fn doubt_text(alloc: Global, doubt: &Doubt) -> Result<String, OutOfMemory>
+    ensures { IfOk result (λ text. string_bytes text ≡ doubt_text doubt.now) }
+{
+    let mut text = String::new(alloc);
+    append_doubt_text(alloc, &mut text, doubt)?;
+    Ok(text)
+}
+
+/// What a person accepted, knowing what made the doubts: kinds of doubts, and single doubts by what their
+/// lines have after `doubt`.
 #[derive(Drop)]
 pub struct Accepted<'v, 'a> {
     words: &'v [&'a str],
@@ -204,7 +151,8 @@ impl<'v, 'a> Model for Accepted<'v, 'a> {
 }
 
 impl<'v, 'a> Accepted<'v, 'a> {
-    /// These kinds and these single doubts. A spare is accepted alone, and what has to be mended first is not at all.
+    /// These kinds and these single doubts. A spare is accepted alone, and what has to be mended first is not
+    /// at all.
     pub fn new(words: &'v [&'a str]) -> Accepted<'v, 'a>
         ensures { result ≡ map (λ word. word.now) words.now }
     {
@@ -298,17 +246,16 @@ fn doubt_word(accepted: &Accepted<'_, '_>, doubt: &Doubt, text: &str) -> &'stati
 /// Appends a doubt's line, with its line feed.
 fn append_doubt(
     alloc: Global,
-    lines: &mut Vec<u8>,
+    lines: &mut String,
     accepted: &Accepted<'_, '_>,
     doubt: &Doubt,
 ) -> Result<(), OutOfMemory>
-    ensures { OnOk result (lines.new.items ≡ lines.old.items ++ doubt_line accepted.now doubt.now) }
+    ensures { OnOk result (string_bytes lines.new ≡ string_bytes lines.old ++
+        doubt_line accepted.now doubt.now) }
 {
     let text = doubt_text(alloc, doubt)?;
     let word = doubt_word(accepted, doubt, &text);
-    let line = format!(in alloc; "{word} {text}\n")?;
-    lines.extend_from_slice(line.as_bytes())?;
-    Ok(())
+    writeln!(lines, "{word} {text}")
 }
 
 /// The lines of doubts, in their order: `doubt` or `accepted`, the kind, and what else it says.
@@ -316,10 +263,10 @@ pub(crate) fn doubt_lines(
     alloc: Global,
     accepted: &Accepted<'_, '_>,
     doubts: &[Doubt],
-) -> Result<Vec<u8>, OutOfMemory>
-    ensures { IfOk result (λ text. text.items ≡ doubt_lines accepted.now doubts.now) }
+) -> Result<String, OutOfMemory>
+    ensures { IfOk result (λ text. string_bytes text ≡ doubt_lines accepted.now doubts.now) }
 {
-    let mut text = Vec::new(alloc);
+    let mut text = String::new(alloc);
     for doubt in doubts {
         append_doubt(alloc, &mut text, accepted, doubt)?;
     }

@@ -1,5 +1,5 @@
-//! What can be reclaimed of a disk: what may have hidden something, which extents may be reset, what must be moved first, and
-//! where there is room for it, as lines; and the laws of a copy and of a reset.
+//! What can be reclaimed of a disk: what may have hidden something, which extents may be reset, what must be
+//! moved first, and where there is room for it, as lines; and the laws of a copy and of a reset.
 #![tactic(auto)]
 
 mod copying;
@@ -17,7 +17,7 @@ pub use copying::a_copy_loses_nothing;
 pub use doubts::Accepted;
 pub use page_ranges::neighbouring_pages_are_joined;
 pub use reclaiming::{
-    ReclaimListing, a_line_shows_room, a_reset_loses_nothing, list_reclaimable, no_spare_is_taken,
+    a_line_shows_room, a_reset_loses_nothing, list_reclaimable, no_spare_is_taken,
     one_reclaim_listing, reclaimed_are_candidates, reclaiming_is_safe,
 };
 pub use resetting::a_reset_is_foreseen;

@@ -2,7 +2,7 @@
 
 ghost use Rattle.std.specs.Prelude.{◌≡◌, IfOk, List, map};
 ghost use Rattle.scrub_check.specs.declared.statuses.checked.Checked.{Checked};
-ghost use Rattle.scrub_reclaim.specs.Moves.{AreRisingPlaces, PointAlike, place_named};
+ghost use Rattle.scrub_reclaim.specs.steps.Moves.{AreRisingPlaces, PointAlike, place_pointed_to};
 ghost use Rattle.scrub_reclaim.specs.Reclaimable.{pointing_to};
 
 use scrub_check::Checked;
@@ -10,8 +10,8 @@ use scrub_disk::OutOfMemory;
 use std::alloc::Global;
 
 /// The place that a named locator points to: its extent and offset.
-fn place_named(one: &Checked) -> (u32, u32)
-    ensures { result ≡ place_named one.now }
+fn place_pointed_to(one: &Checked) -> (u32, u32)
+    ensures { result ≡ place_pointed_to one.now }
 {
     (one.locator.extent, one.locator.offset)
 }
@@ -23,7 +23,8 @@ fn references<'c>(alloc: Global, checked: &'c [Checked]) -> Result<Vec<&'c Check
     checked.iter().collect(alloc)
 }
 
-/// Named locators by the place that they point to: by extent, then by offset. Those of one place keep their order.
+/// Named locators by the place that they point to: by extent, then by offset. Those of one place keep their
+/// order.
 pub(crate) fn by_place<'c>(
     alloc: Global,
     checked: &'c [Checked],
@@ -32,7 +33,7 @@ pub(crate) fn by_place<'c>(
     ensures same { IfOk result (λ v. PointAlike checked.now v.items) }
 {
     let mut sorted = references(alloc, checked)?;
-    sorted.sort_by_key(|one| place_named(*one))?;
+    sorted.sort_by_key(|one| place_pointed_to(*one))?;
     Ok(sorted)
 }
 
@@ -47,7 +48,7 @@ pub(crate) fn pointing_to<'v, 'c>(
         map (λ one. one.now) result.now ≡ pointing_to checked extent offset }
 {
     let place = (extent, offset);
-    let below = sorted.partition_point(|one| place_named(*one).cmp(&place).is_lt());
-    let through = sorted.partition_point(|one| place_named(*one).cmp(&place).is_le());
+    let below = sorted.partition_point(|one| place_pointed_to(*one).cmp(&place).is_lt());
+    let through = sorted.partition_point(|one| place_pointed_to(*one).cmp(&place).is_le());
     &sorted[below..through]
 }

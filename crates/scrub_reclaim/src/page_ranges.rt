@@ -1,8 +1,8 @@
-//! Rising pages as ranges of neighbours.
+//! Ascending pages as ranges of neighbours.
 
 ghost use Rattle.std.specs.Prelude.{◌≡◌, ◌==◌, ◌+◌, ℕ, List, IfOk, OnOk};
 ghost use Rattle.scrub_reclaim.specs.Doubts.{AreJoined, page_ranges};
-ghost use Rattle.scrub_reclaim.specs.PageRanges.{joined_with};
+ghost use Rattle.scrub_reclaim.specs.steps.PageRanges.{joined_with};
 
 use scrub_disk::OutOfMemory;
 use std::alloc::Global;
@@ -23,7 +23,8 @@ fn is_next(range: PageRange, page: u32) -> bool
     range.last as u64 + 1 == page as u64
 }
 
-/// Adds one more page behind ranges: to the last of them if it follows directly, or else as a range of its own.
+/// Adds one more page after ranges: to the last of them if it follows directly, or else as a range of its
+/// own.
 fn join_page(ranges: &mut Vec<PageRange>, page: u32) -> Result<(), OutOfMemory>
     ensures { OnOk result (ranges.new.items ≡ joined_with ranges.old.items page) }
 {
@@ -47,7 +48,7 @@ fn join_page(ranges: &mut Vec<PageRange>, page: u32) -> Result<(), OutOfMemory>
     Ok(())
 }
 
-/// Joins rising pages into as few ranges as possible.
+/// Joins ascending pages into as few ranges as possible.
 pub(crate) fn join_pages(alloc: Global, pages: &[u32]) -> Result<Vec<PageRange>, OutOfMemory>
     ensures { IfOk result (λ v. v.items ≡ page_ranges pages.now) }
 {
@@ -58,7 +59,8 @@ pub(crate) fn join_pages(alloc: Global, pages: &[u32]) -> Result<Vec<PageRange>,
     Ok(ranges)
 }
 
-/// A law: the ranges of pages hold these pages and no others, in their order, and none is the neighbour of the next.
+/// A law: the ranges of pages hold these pages and no others, in their order, and none is the neighbour of
+/// the next.
 pub fn neighbouring_pages_are_joined()
     ensures { (pages : List ℕ) → AreJoined pages (page_ranges pages) }
 {}

@@ -1,21 +1,25 @@
-//! What can be reclaimed of a disk, as lines: the doubts, and if all are accepted the extents, each with the chunks to move
-//! first.
+//! What can be reclaimed of a disk, as lines: the doubts, and if all are accepted the extents, each with the
+//! chunks to move first.
 
-ghost use Rattle.std.specs.Prelude.{◌≡◌, ◌+◌, ◌++◌, ◌≤◌, ℕ, [], All, Bool, false, true, List, IfOk, OnOk, length, map, string_bytes, if◌then◌else◌};
+ghost use Rattle.std.specs.Prelude.{◌≡◌, ◌++◌, ◌≤◌, ℕ, [], All, Bool, true, List, IfOk, OnOk};
+ghost use Rattle.std.specs.Prelude.{map, string_bytes, if◌then◌else◌};
 ghost use Rattle.std.specs.List.{flat_map};
 ghost use Rattle.scrub_disk.specs.Image.{Image};
 ghost use Rattle.scrub_super.specs.declared.pages.SuperblockPage.{SuperblockPage};
 ghost use Rattle.scrub_super.specs.Pages.{AreSuperblockPages};
 ghost use Rattle.scrub_check.specs.declared.statuses.checked.Checked.{Checked};
-ghost use Rattle.scrub_report.specs.Answer.{IsPartitionOfPlanned, IsCountOfPlanned};
+ghost use Rattle.scrub_report.specs.Answer.{AreTakingsBy};
 ghost use Rattle.scrub_report.specs.Index.{IsIndex};
 ghost use Rattle.scrub_report.specs.Parts.{IsScan};
 ghost use Rattle.scrub_report.specs.Report.{IsReport};
 ghost use Rattle.scrub_report.specs.Scrubbed.{Scrubbed, IsScrubbed};
 ghost use Rattle.scrub_listings.specs.Manifest.{IsManifest, IsManifestBut, IsWholeBut, IsWholeImage};
 ghost use Rattle.scrub_reclaim.specs.Doubts.{Accepted};
-ghost use Rattle.scrub_reclaim.specs.Moves.{AreRisingPlaces, PointAlike};
-ghost use Rattle.scrub_reclaim.specs.Reclaimable.{AcceptsNoSpare, KeepsSpares, AreMoved, AreOfCandidates, AreReclaimLines, IsClear, all_candidate_lines, candidate_lines, kept_lines, move_line, reclaim_line, reclaimed, rooms_kept};
+ghost use Rattle.scrub_reclaim.specs.steps.Moves.{AreRisingPlaces, PointAlike};
+ghost use Rattle.scrub_reclaim.specs.Reclaimable.{AcceptsNoSpare, KeepsSpares, AreMoved, AreOfCandidates};
+ghost use Rattle.scrub_reclaim.specs.Reclaimable.{AreReclaimLines, IsClear, all_candidate_lines};
+ghost use Rattle.scrub_reclaim.specs.Reclaimable.{candidate_lines, kept_lines, move_line, reclaim_line};
+ghost use Rattle.scrub_reclaim.specs.Reclaimable.{reclaimed, rooms_kept};
 ghost use Rattle.scrub_reclaim.specs.Reset.{AreListedWithoutSpares, IsReclaimed, NameTheSame};
 ghost use Rattle.scrub_reclaim.specs.Room.{IsRoom, has_room, place_in};
 
@@ -25,7 +29,8 @@ use crate::moves::{by_place, pointing_to};
 use crate::room::append_rooms;
 use scrub_check::{Candidate, Checked, KeptChunk};
 use scrub_disk::{OutOfMemory, PageSource};
-use scrub_listings::listing::place_text;
+use scrub_listings::Listing;
+use scrub_listings::listing::PlaceText;
 use scrub_pool::{Gate, Takings};
 use scrub_report::ScrubFault;
 use scrub_report::parts::Parts;
@@ -34,49 +39,33 @@ use scrub_report::scrubbing::parts_of;
 use scrub_report::texts::owner_text;
 use scrub_super::{SuperblockPage, choose_with_pages};
 use std::alloc::Global;
-use std::fmt;
+use std::fmt::Write;
 use std::sync::Wait;
 use std::thread::Threads;
-
-/// What can be reclaimed of a disk, as lines.
-#[derive(Drop)]
-pub struct ReclaimListing {
-    /// A line for each doubt, by kind. It begins with `accepted` if it was accepted, or else with `doubt`. If no line
-    /// begins with `doubt`, then `reclaim EXTENT FREE` for each candidate of the report, in its order, and after each of them
-    /// `move EXTENT OFFSET LENGTH UUID OWNER BYTES` for each named locator into it, by the chunk that it points to, whose
-    /// payload takes LENGTH and whose frame takes BYTES. If there is a candidate, then `room EXTENT OFFSET BYTES` for each other
-    /// extent that a chunk can be put into, with the place for it and the bytes from there to the end of the extent, and
-    /// `last-room EXTENT OFFSET BYTES` for each such candidate. The numbers are in decimal; free, offset, length and bytes are
-    /// in bytes. The UUID is as RFC 9562 writes it, in lower case.
-    pub text: Vec<u8>,
-    /// Whether no line begins with `doubt`.
-    pub is_clear: bool,
-}
 
 /// Appends the line of a named locator to a chunk that must be moved, and whose frame takes so many bytes.
 fn append_move(
     alloc: Global,
-    text: &mut Vec<u8>,
+    text: &mut String,
     one: &Checked,
     bytes: u32,
 ) -> Result<(), OutOfMemory>
-    ensures { OnOk result (text.new.items ≡ text.old.items ++ move_line bytes one.now) }
+    ensures { OnOk result (string_bytes text.new ≡ string_bytes text.old ++ move_line bytes one.now) }
 {
-    let place = place_text(alloc, one.locator)?;
+    let place = PlaceText::of(&one.locator);
     let owner = owner_text(alloc, one.owner)?;
-    let line = format!(in alloc; "move {place} {owner} {bytes}\n")?;
-    text.extend_from_slice(line.as_bytes())?;
-    Ok(())
+    writeln!(text, "move {place} {owner} {bytes}")
 }
 
 /// Appends the lines of these named locators to a chunk, in their order.
 fn append_moves(
     alloc: Global,
-    text: &mut Vec<u8>,
+    text: &mut String,
     some: &[&Checked],
     bytes: u32,
 ) -> Result<(), OutOfMemory>
-    ensures { OnOk result (text.new.items ≡ text.old.items ++ flat_map (move_line bytes) (map (λ one. one.now) some.now)) }
+    ensures { OnOk result (string_bytes text.new ≡ string_bytes text.old ++
+        flat_map (move_line bytes) (map (λ one. one.now) some.now)) }
 {
     for one in some {
         append_move(alloc, text, *one, bytes)?;
@@ -87,14 +76,15 @@ fn append_moves(
 /// Appends the lines of the named locators to the chunks to keep of an extent, chunk by chunk.
 fn append_kept(
     alloc: Global,
-    text: &mut Vec<u8>,
+    text: &mut String,
     sorted: &[&Checked],
     extent: u32,
     keep: &[KeptChunk],
 ) -> Result<(), OutOfMemory>
     requires { AreRisingPlaces sorted.now }
     ensures { (checked : List Checked) → PointAlike checked sorted.now →
-        OnOk result (text.new.items ≡ text.old.items ++ flat_map (kept_lines checked extent) keep.now) }
+        OnOk result (string_bytes text.new ≡ string_bytes text.old ++
+        flat_map (kept_lines checked extent) keep.now) }
 {
     for chunk in keep {
         let some = pointing_to(sorted, extent, chunk.start);
@@ -103,60 +93,38 @@ fn append_kept(
     Ok(())
 }
 
-/// An extent to reclaim and how many bytes that frees, as `reclaim EXTENT FREE`.
-#[derive(Drop)]
-struct FreedText {
-    extent: u32,
-    free: u32,
-}
-
-impl fmt::Display for FreedText {
-    ghost use Rattle.std.specs.Prelude.{Some};
-    ghost use Rattle.scrub_reclaim.specs.Reclaimable.{freed_text};
-
-    ghost output = { λ r. Some (freed_text r.extent r.free) };
-
-    fn fmt<W: fmt::Write>(&self, f: &mut fmt::Formatter<W>) -> fmt::Result {
-        let FreedText { extent, free } = self;
-        write!(f, "reclaim {extent} {free}")
-    }
-}
-
-/// A candidate's line, with its line feed.
-fn reclaim_line(alloc: Global, candidate: &Candidate) -> Result<String, OutOfMemory>
-    ensures { IfOk result (λ line. string_bytes line ≡ reclaim_line candidate.now) }
+/// Appends a candidate's line, with its line feed.
+fn append_reclaim(text: &mut String, candidate: &Candidate) -> Result<(), OutOfMemory>
+    ensures { OnOk result (string_bytes text.new ≡ string_bytes text.old ++ reclaim_line candidate.now) }
 {
-    let text = FreedText {
-        extent: candidate.extent(),
-        free: candidate.free(),
-    };
-    format!(in alloc; "{text}\n")
+    let (extent, free) = (candidate.extent(), candidate.free());
+    writeln!(text, "reclaim {extent} {free}")
 }
 
 /// Appends a candidate's line and those of its moves.
 fn append_candidate(
     alloc: Global,
-    text: &mut Vec<u8>,
+    text: &mut String,
     sorted: &[&Checked],
     candidate: &Candidate,
 ) -> Result<(), OutOfMemory>
     requires { AreRisingPlaces sorted.now }
     ensures { (checked : List Checked) → PointAlike checked sorted.now →
-        OnOk result (text.new.items ≡ text.old.items ++ candidate_lines checked candidate.now) }
+        OnOk result (string_bytes text.new ≡ string_bytes text.old ++ candidate_lines checked candidate.now) }
 {
-    let line = reclaim_line(alloc, candidate)?;
-    text.extend_from_slice(line.as_bytes())?;
+    append_reclaim(text, candidate)?;
     append_kept(alloc, text, sorted, candidate.extent(), candidate.keep())
 }
 
 /// Appends the lines of candidates, in their order. The named locators are sorted once for all of them.
 fn append_candidates(
     alloc: Global,
-    text: &mut Vec<u8>,
+    text: &mut String,
     checked: &[Checked],
     candidates: &[Candidate],
 ) -> Result<(), OutOfMemory>
-    ensures { OnOk result (text.new.items ≡ text.old.items ++ all_candidate_lines checked.now candidates.now) }
+    ensures { OnOk result (string_bytes text.new ≡ string_bytes text.old ++
+        all_candidate_lines checked.now candidates.now) }
 {
     if candidates.is_empty() {
         return Ok(());
@@ -171,13 +139,13 @@ fn append_candidates(
 /// Appends the lines of the extents to reclaim: of all candidates if `is_clear`, or else of none.
 fn append_reclaimed(
     alloc: Global,
-    text: &mut Vec<u8>,
+    text: &mut String,
     is_clear: bool,
     checked: &[Checked],
     candidates: &[Candidate],
 ) -> Result<(), OutOfMemory>
-    ensures { OnOk result (text.new.items ≡
-        text.old.items ++ all_candidate_lines checked.now (if is_clear then candidates.now else [])) }
+    ensures { OnOk result (string_bytes text.new ≡
+        string_bytes text.old ++ all_candidate_lines checked.now (if is_clear then candidates.now else [])) }
 {
     if !is_clear {
         return Ok(());
@@ -188,23 +156,24 @@ fn append_reclaimed(
 /// Appends the lines of the extents with room, if `is_clear` and there is a candidate.
 fn append_rooms_for<D: PageSource>(
     alloc: Global,
-    text: &mut Vec<u8>,
+    text: &mut String,
     is_clear: bool,
     parts: &Parts<'_, D>,
 ) -> Result<(), OutOfMemory>
-    ensures { OnOk result (text.new.items ≡ text.old.items ++ rooms_kept is_clear parts.now) }
+    ensures { OnOk result (string_bytes text.new ≡ string_bytes text.old ++ rooms_kept is_clear parts.now) }
 {
     if !is_clear || parts.liveness.candidates.is_empty() {
         return Ok(());
     }
-    let geometry = parts.plan.geometry();
+    let judged = &parts.judged;
+    let geometry = judged.scan.plan.geometry();
     let candidates = &parts.liveness.candidates;
     append_rooms(
         alloc,
         text,
         geometry,
-        &parts.all,
-        &parts.checked,
+        &judged.scan.all,
+        &judged.checked,
         candidates,
     )
 }
@@ -216,25 +185,40 @@ fn listing_of<R: Threads + Sync, D: PageSource>(
     scan: Scan<'_, D>,
     pages: &[SuperblockPage],
     accepted: &Accepted<'_, '_>,
-) -> Result<ReclaimListing, OutOfMemory>
-    requires scan { IsScan (D.image scan.disk.now) scan.chosen scan.plan scan.all.extents }
+) -> Result<Listing, OutOfMemory>
+    requires scan { IsScan (D.image scan.disk.now) scan }
     requires pages { AreSuperblockPages (D.image scan.disk.now) pages.now }
-    ensures text { IfOk result (λ l. AreReclaimLines (D.image scan.entry.disk.now) accepted.now l.text.items) }
-    ensures clear { IfOk result (λ l. IsClear (D.image scan.entry.disk.now) accepted.now l.is_clear) }
+    ensures text { IfOk result (λ l.
+        AreReclaimLines (D.image scan.entry.disk.now) accepted.now l.text.items) }
+    ensures clear { IfOk result (λ l. IsClear (D.image scan.entry.disk.now) accepted.now l.is_clean) }
 {
     let parts = parts_of(rt, alloc, scan, &[])?;
     let doubts = doubts_of(alloc, pages, &parts)?;
     let is_clear = are_accepted(alloc, accepted, &doubts)?;
     let mut text = doubt_lines(alloc, accepted, &doubts)?;
     let candidates = &parts.liveness.candidates;
-    append_reclaimed(alloc, &mut text, is_clear, &parts.checked, candidates)?;
+    let checked = &parts.judged.checked;
+    append_reclaimed(alloc, &mut text, is_clear, checked, candidates)?;
     append_rooms_for(alloc, &mut text, is_clear, &parts)?;
-    Ok(ReclaimListing { text, is_clear })
+    Ok(Listing {
+        text: text.into_bytes(),
+        is_clean: is_clear,
+    })
 }
 
-/// Lists what can be reclaimed of a disk, and returns which extents the caller and each worker took. It scans as `scrub` does,
-/// with this many workers (0 to 64) beside the caller. The only fault is `OutOfMemory`, returned once every started worker has
-/// ended.
+/// Lists what can be reclaimed of a disk, and returns which extents the caller and each worker took. It is
+/// clean if no line begins with `doubt`.
+///
+/// There is a line for each doubt, by kind. It begins with `accepted` if it was accepted, or else with
+/// `doubt`. If no line begins with `doubt`, then comes `reclaim EXTENT FREE` for each candidate of the
+/// report, in its order, and after each of them `move EXTENT OFFSET LENGTH UUID OWNER BYTES` for each named
+/// locator into it, by the chunk that it points to, whose payload takes LENGTH and whose frame takes BYTES.
+/// If there is a candidate, then comes `room EXTENT OFFSET BYTES` for each other extent that a chunk can be
+/// put into, with the place for it and the bytes from there to the end of the extent, and `last-room EXTENT
+/// OFFSET BYTES` for each such candidate. Free, offset, length and bytes are in bytes.
+///
+/// It scans as `scrub` does, with this many workers (0 to 64) beside the caller. The only fault is
+/// `OutOfMemory`, returned once every started worker has ended.
 pub fn list_reclaimable<D: PageSource, G: Gate, R: Threads + Wait + Sync>(
     rt: &R,
     alloc: Global,
@@ -242,13 +226,11 @@ pub fn list_reclaimable<D: PageSource, G: Gate, R: Threads + Wait + Sync>(
     workers: u32,
     gate: &G,
     accepted: &Accepted<'_, '_>,
-) -> Result<(ReclaimListing, Takings), ScrubFault>
+) -> Result<(Listing, Takings), ScrubFault>
     requires { workers ≤ 64 }
     ensures text { IfOk result (λ r. AreReclaimLines (D.image disk.now) accepted.now r.0.text.items) }
-    ensures clear { IfOk result (λ r. IsClear (D.image disk.now) accepted.now r.0.is_clear) }
-    ensures workers { IfOk result (λ r. length r.1.lists ≡ workers + 1) }
-    ensures partition { IfOk result (λ r. IsPartitionOfPlanned (D.image disk.now) r.1.lists) }
-    ensures counted { IfOk result (λ r. IsCountOfPlanned (D.image disk.now) r.1.counted) }
+    ensures clear { IfOk result (λ r. IsClear (D.image disk.now) accepted.now r.0.is_clean) }
+    ensures takings { IfOk result (λ r. AreTakingsBy (D.image disk.now) workers r.1) }
 {
     let (chosen, pages) = choose_with_pages(alloc, disk)?;
     let (scan, takings) = scan_chosen(rt, alloc, disk, chosen, workers, gate)?;
@@ -256,45 +238,55 @@ pub fn list_reclaimable<D: PageSource, G: Gate, R: Threads + Wait + Sync>(
     Ok((listing, takings))
 }
 
-/// A law: what can be reclaimed of an image has one text of lines, and one verdict whether it is clear.
+/// A law: what can be reclaimed of an image has at most one text of lines, and at most one verdict whether it
+/// is clear.
 pub fn one_reclaim_listing()
     ensures text { (image : Image) (accepted : Accepted) (a b : List ℕ) →
         AreReclaimLines image accepted a → AreReclaimLines image accepted b → a ≡ b }
-    ensures clear { (image : Image) (accepted : Accepted) (a b : Bool) → IsClear image accepted a → IsClear image accepted b → a ≡ b }
+    ensures clear { (image : Image) (accepted : Accepted) (a b : Bool) → IsClear image accepted a →
+        IsClear image accepted b → a ≡ b }
 {}
 
-/// A law: the extents to reclaim are the candidates of the report, in its order, if no line begins with `doubt`, or else there
-/// is none.
+/// A law: the extents to reclaim are the candidates of the report, in its order, if no line begins with
+/// `doubt`, or else there is none.
 pub fn reclaimed_are_candidates()
-    ensures { (image : Image) (accepted : Accepted) (report text : List ℕ) (clear : Bool) → IsReport image report →
-        AreReclaimLines image accepted text → IsClear image accepted clear → AreOfCandidates image accepted report text clear }
+    ensures { (image : Image) (accepted : Accepted) (report text : List ℕ) (clear : Bool) →
+        IsReport image report →
+        AreReclaimLines image accepted text → IsClear image accepted clear →
+        AreOfCandidates image accepted report text clear }
 {}
 
-/// A law: reclaiming these extents after the moves loses no named chunk. Each named locator into one of them is sound, points
-/// to a chunk to keep, and has a line among the moves.
+/// A law: no move is forgotten. Each named locator into an extent to reclaim is sound, points to a chunk to
+/// keep, and has a line among the moves.
 pub fn reclaiming_is_safe()
-    ensures { (image : Image) (accepted : Accepted) (pages : List SuperblockPage) (found : Scrubbed) → IsScrubbed image found →
+    ensures { (image : Image) (accepted : Accepted) (pages : List SuperblockPage) (found : Scrubbed) →
+        IsScrubbed image found →
         AreMoved found.checked (reclaimed accepted pages found) }
 {}
 
-/// A law: where no line begins with `accepted spare`, each named locator that has a spare has one that is live or in an extent that isn't to
-/// be reclaimed. So the last copy of nothing is reset.
+/// A law: where no line begins with `accepted spare`, each named locator that has a spare has one that is
+/// live or in an extent that isn't to be reclaimed. So no reset takes the last spare of a named locator. A
+/// copy that is no item of a tiling is no spare.
 pub fn no_spare_is_taken()
     ensures { (accepted : Accepted) (pages : List SuperblockPage) (found : Scrubbed) →
         AcceptsNoSpare accepted pages found → KeepsSpares found (reclaimed accepted pages found) }
 {}
 
-/// A law: a reset loses nothing that is named. Let extents be listed without a `move` line, and be reset. Then the same index
-/// runs are read, with the same bindings, and each named locator has the same status as before and, if that is sound, a chunk
-/// of the same form, whatever these extents hold now. So the image has the same index as before. If no line begins with
-/// `accepted spare` either, the image has the same manifest with these resets as without them, and the same exit status.
+/// A law: a reset loses nothing that is named. Let extents be listed without a `move` line, and be reset.
+/// Then the same index runs are read, with the same bindings, and each named locator has the same status as
+/// before and, if that is sound, a chunk of the same form, whatever these extents hold now. So the image has
+/// the same index as before. If no line begins with `accepted spare` either, the image has the same manifest
+/// with these resets as without them, and the same exit status.
 pub fn a_reset_loses_nothing()
     ensures named { (accepted : Accepted) (extents : List ℕ) (before after : Image) (found rest : Scrubbed) →
-        IsReclaimed accepted extents before after → IsScrubbed before found → IsScrubbed after rest → NameTheSame found rest }
+        IsReclaimed accepted extents before after → IsScrubbed before found → IsScrubbed after rest →
+        NameTheSame found rest }
     ensures spares { (accepted : Accepted) (extents : List ℕ) (image : Image) (a b : List ℕ) →
-        AreListedWithoutSpares accepted extents image → IsManifestBut extents image a → IsManifest image b → a ≡ b }
+        AreListedWithoutSpares accepted extents image → IsManifestBut extents image a → IsManifest image b →
+        a ≡ b }
     ensures whole { (accepted : Accepted) (extents : List ℕ) (image : Image) (a b : Bool) →
-        AreListedWithoutSpares accepted extents image → IsWholeBut extents image a → IsWholeImage image b → a ≡ b }
+        AreListedWithoutSpares accepted extents image → IsWholeBut extents image a → IsWholeImage image b →
+        a ≡ b }
     ensures index { (accepted : Accepted) (extents : List ℕ) (before after : Image) (a b : List ℕ) →
         IsReclaimed accepted extents before after → IsIndex before a → IsIndex after b → a ≡ b }
 {}

@@ -1,6 +1,8 @@
-//! Where a chunk can be put: the room of each extent, as lines. `reclaiming` writes them after the candidates.
+//! Where a chunk can be put: the room of each extent, as lines. `reclaiming` writes them after the
+//! candidates.
 
 ghost use Rattle.std.specs.Prelude.{◌≡◌, ◌<◌, ◌++◌, ◌==◌, List, IfOk, OnOk, map, not};
+ghost use Rattle.std.specs.Prelude.{string_bytes};
 ghost use Rattle.std.specs.Ordering.{nat_cmp};
 ghost use Rattle.std.specs.List.{filter, list_any};
 ghost use Rattle.std.specs.List.Sorted.{IsPermutation, IsSorted};
@@ -8,9 +10,10 @@ ghost use Rattle.scrub_scan.specs.Scanned.{scanned};
 ghost use Rattle.scrub_check.specs.declared.statuses.checked.Checked.{Checked};
 ghost use Rattle.scrub_check.specs.Checked.{is_sound};
 ghost use Rattle.scrub_check.specs.Live.{is_chunk};
-ghost use Rattle.scrub_check.specs.LocatorIndex.{AreBarredExtents};
-ghost use Rattle.scrub_reclaim.specs.Room.{ends_in_chunk, is_listed_as, is_zero_to, next_place, room_if, room_line, room_lines, room_text, room_where, rooms_where};
-ghost use Rattle.scrub_reclaim.specs.RoomSteps.{may_grow_by};
+ghost use Rattle.scrub_check.specs.steps.LocatorIndex.{AreBarredExtents};
+ghost use Rattle.scrub_reclaim.specs.Room.{ends_in_chunk, is_listed_as, is_zero_to, next_place, room_if};
+ghost use Rattle.scrub_reclaim.specs.Room.{room_line, room_lines, room_text, room_where, rooms_where};
+ghost use Rattle.scrub_reclaim.specs.steps.Room.{may_grow_by};
 
 use scrub_check::{Candidate, Checked};
 use scrub_disk::{Geometry, OutOfMemory, PageSource};
@@ -18,10 +21,12 @@ use scrub_frame::Form;
 use scrub_report::clean::is_clean_extent;
 use scrub_scan::{AllFindings, ExtentResult, Item};
 use std::alloc::Global;
+use std::fmt::Write;
 
 /// The extents of the locators that aren't sound, in the order of the locators.
 fn unsound_extents(alloc: Global, checked: &[Checked]) -> Result<Vec<u32>, OutOfMemory>
-    ensures { IfOk result (λ v. v.items ≡ map (λ c. c.locator.extent) (filter (λ c. not (is_sound c.status)) checked.now)) }
+    ensures { IfOk result (λ v. v.items ≡
+        map (λ c. c.locator.extent) (filter (λ c. not (is_sound c.status)) checked.now)) }
 {
     checked
         .iter()
@@ -47,7 +52,8 @@ pub(crate) fn has_number(numbers: &[u32], number: u32) -> bool
     numbers.binary_search(&number).is_ok()
 }
 
-/// Whether a chunk can be put into an extent; `unsound` has the sorted numbers of those into which an unsound locator points.
+/// Whether a chunk can be put into an extent; `unsound` has the sorted numbers of those into which an unsound
+/// locator points.
 fn may_grow<D: PageSource>(unsound: &[u32], found: &ExtentResult<'_, D>) -> bool
     requires { IsSorted nat_cmp unsound.now }
     ensures { result ≡ may_grow_by unsound.now (scanned found.now) }
@@ -96,44 +102,41 @@ fn is_zero_to<D: PageSource>(place: u64, found: &ExtentResult<'_, D>) -> bool
 
 /// Appends the line of an extent with room, by whether it is listed to be reclaimed.
 fn append_line(
-    alloc: Global,
-    text: &mut Vec<u8>,
+    text: &mut String,
     is_listed: bool,
     extent: u32,
     place: u64,
     bytes: u64,
 ) -> Result<(), OutOfMemory>
-    ensures { OnOk result (text.new.items ≡ text.old.items ++ room_line is_listed extent place bytes) }
+    ensures { OnOk result (string_bytes text.new ≡ string_bytes text.old ++
+        room_line is_listed extent place bytes) }
 {
     let word = if is_listed { "last-room" } else { "room" };
-    let line = format!(in alloc; "{word} {extent} {place} {bytes}\n")?;
-    text.extend_from_slice(line.as_bytes())?;
-    Ok(())
+    writeln!(text, "{word} {extent} {place} {bytes}")
 }
 
-/// Appends the line of an extent into which a chunk can be put, if there are zeros up to the place for it, and a frame of no
-/// payload fits.
+/// Appends the line of an extent into which a chunk can be put, if there are zeros up to the place for it,
+/// and a frame of no payload fits.
 fn append_room<D: PageSource>(
-    alloc: Global,
-    text: &mut Vec<u8>,
+    text: &mut String,
     is_listed: bool,
     geometry: Geometry,
     found: &ExtentResult<'_, D>,
 ) -> Result<(), OutOfMemory>
-    ensures { OnOk result (text.new.items ≡ text.old.items ++ room_text is_listed geometry (scanned found.now)) }
+    ensures { OnOk result (string_bytes text.new ≡ string_bytes text.old ++
+        room_text is_listed geometry (scanned found.now)) }
 {
     let place = next_place(geometry.page, found.pointer(), found.findings().items());
     let bytes = (geometry.extent_bytes() as u64).saturating_sub(place);
     if !is_zero_to(place, found) || bytes < Form::Plain.overhead() as u64 {
         return Ok(());
     }
-    append_line(alloc, text, is_listed, found.extent(), place, bytes)
+    append_line(text, is_listed, found.extent(), place, bytes)
 }
 
 /// Appends the line of an extent, if it has room.
 fn append_room_if<D: PageSource>(
-    alloc: Global,
-    text: &mut Vec<u8>,
+    text: &mut String,
     is_listed: bool,
     geometry: Geometry,
     unsound: &[u32],
@@ -141,12 +144,13 @@ fn append_room_if<D: PageSource>(
 ) -> Result<(), OutOfMemory>
     requires { IsSorted nat_cmp unsound.now }
     ensures { (checked : List Checked) → AreBarredExtents checked unsound.now →
-        OnOk result (text.new.items ≡ text.old.items ++ room_if is_listed geometry checked (scanned found.now)) }
+        OnOk result (string_bytes text.new ≡ string_bytes text.old ++
+        room_if is_listed geometry checked (scanned found.now)) }
 {
     if !may_grow(unsound, found) {
         return Ok(());
     }
-    append_room(alloc, text, is_listed, geometry, found)
+    append_room(text, is_listed, geometry, found)
 }
 
 /// Whether an extent is among the listed ones, which are sorted, or isn't, as wanted.
@@ -159,8 +163,7 @@ fn is_listed_as(is_listed: bool, listed: &[u32], extent: u32) -> bool
 
 /// Appends the line of an extent that is listed, or isn't, as wanted, if it has room.
 fn append_room_where<D: PageSource>(
-    alloc: Global,
-    text: &mut Vec<u8>,
+    text: &mut String,
     is_listed: bool,
     geometry: Geometry,
     unsound: &[u32],
@@ -170,18 +173,18 @@ fn append_room_where<D: PageSource>(
     requires unsound { IsSorted nat_cmp unsound.now }
     requires listed { IsSorted nat_cmp listed.now }
     ensures { (checked : List Checked) → AreBarredExtents checked unsound.now →
-        OnOk result (text.new.items ≡ text.old.items ++ room_where is_listed geometry checked listed.now (scanned found.now)) }
+        OnOk result (string_bytes text.new ≡ string_bytes text.old ++
+        room_where is_listed geometry checked listed.now (scanned found.now)) }
 {
     if !is_listed_as(is_listed, listed, found.extent()) {
         return Ok(());
     }
-    append_room_if(alloc, text, is_listed, geometry, unsound, found)
+    append_room_if(text, is_listed, geometry, unsound, found)
 }
 
-/// Appends the lines of the extents with room that are listed, or aren't, as wanted, rising.
+/// Appends the lines of the extents with room that are listed, or aren't, as wanted, ascending.
 fn append_rooms_where<D: PageSource>(
-    alloc: Global,
-    text: &mut Vec<u8>,
+    text: &mut String,
     is_listed: bool,
     geometry: Geometry,
     unsound: &[u32],
@@ -191,11 +194,11 @@ fn append_rooms_where<D: PageSource>(
     requires unsound { IsSorted nat_cmp unsound.now }
     requires listed { IsSorted nat_cmp listed.now }
     ensures { (checked : List Checked) → AreBarredExtents checked unsound.now →
-        OnOk result (text.new.items ≡ text.old.items ++ rooms_where is_listed geometry all.now.extents checked listed.now) }
+        OnOk result (string_bytes text.new ≡ string_bytes text.old ++
+        rooms_where is_listed geometry all.now.extents checked listed.now) }
 {
-    for i in 0..all.len() {
-        let found = all.result_at(i);
-        append_room_where(alloc, text, is_listed, geometry, unsound, listed, found)?;
+    for found in all.results() {
+        append_room_where(text, is_listed, geometry, unsound, listed, found)?;
     }
     Ok(())
 }
@@ -213,17 +216,17 @@ pub(crate) fn candidate_extents(
 /// Appends the lines of the extents with room that aren't candidates, and then those of the candidates.
 pub(crate) fn append_rooms<D: PageSource>(
     alloc: Global,
-    text: &mut Vec<u8>,
+    text: &mut String,
     geometry: Geometry,
     all: &AllFindings<'_, D>,
     checked: &[Checked],
     candidates: &[Candidate],
 ) -> Result<(), OutOfMemory>
-    ensures { OnOk result (text.new.items ≡
-        text.old.items ++ room_lines geometry all.now.extents checked.now candidates.now) }
+    ensures { OnOk result (string_bytes text.new ≡
+        string_bytes text.old ++ room_lines geometry all.now.extents checked.now candidates.now) }
 {
     let unsound = sorted(unsound_extents(alloc, checked)?)?;
     let listed = sorted(candidate_extents(alloc, candidates)?)?;
-    append_rooms_where(alloc, text, false, geometry, &unsound, &listed, all)?;
-    append_rooms_where(alloc, text, true, geometry, &unsound, &listed, all)
+    append_rooms_where(text, false, geometry, &unsound, &listed, all)?;
+    append_rooms_where(text, true, geometry, &unsound, &listed, all)
 }

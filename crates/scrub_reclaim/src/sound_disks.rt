@@ -11,12 +11,14 @@ ghost use Rattle.scrub_reclaim.specs.Doubts.{Accepted, accepts_tails};
 ghost use Rattle.scrub_reclaim.specs.Reclaimable.{IsClear};
 ghost use Rattle.scrub_reclaim.specs.AllRight.{IsAllRight};
 
-/// A law: a disk that is sound is clean, nothing is missing of it, no page of its extent 0 is lost, damaged or stray, and each
-/// doubt of what may be reclaimed is a tail. So for its image `scan` and `manifest` end with status 0, and so does
-/// `reclaimable` if tails are accepted.
+/// A law: a disk that is sound is clean, nothing is missing of it, no page of its extent 0 is lost, damaged
+/// or stray, and each doubt of what may be reclaimed is a tail. So for its image `scan` and `manifest` end
+/// with status 0, and so does `reclaimable` if tails are accepted.
 pub fn a_sound_disk_is_all_right()
-    ensures found { (image : Image) (pages : List SuperblockPage) (found : Scrubbed) → IsScrubbed image found →
-        AreSuperblockPages image pages → is_sound_verdict (verdict found pages) ≡ true → IsAllRight pages found }
+    ensures found { (image : Image) (pages : List SuperblockPage) (found : Scrubbed) →
+        IsScrubbed image found →
+        AreSuperblockPages image pages → is_sound_verdict (verdict found pages) ≡ true →
+        IsAllRight pages found }
     ensures clean { (image : Image) → IsSoundImage image true → IsCleanImage image true }
     ensures whole { (image : Image) → IsSoundImage image true → IsWholeImage image true }
     ensures clear { (image : Image) (accepted : Accepted) (clear : Bool) → IsSoundImage image true →

@@ -1,14 +1,15 @@
 //! The doubts that spares make: of each locator whose spares a reset might all take, the first one.
 
-ghost use Rattle.std.specs.Prelude.{◌≡◌, ◌++◌, ◌∷◌, ◌==◌, ◌&&◌, [], List, IfOk, OnOk, map, not};
+ghost use Rattle.std.specs.Prelude.{◌≡◌, ◌++◌, ◌∷◌, ◌&&◌, [], List, IfOk, OnOk, not};
 ghost use Rattle.std.specs.Ordering.{nat_cmp};
 ghost use Rattle.std.specs.List.{flat_map, list_any};
-ghost use Rattle.std.specs.List.Sorted.{IsPermutation, IsSorted};
+ghost use Rattle.std.specs.List.Sorted.{IsSorted};
 ghost use Rattle.scrub_check.specs.declared.statuses.checked.Checked.{Checked};
 ghost use Rattle.scrub_check.specs.Checked.{is_sound};
 ghost use Rattle.scrub_check.specs.Live.{has_sound_at};
-ghost use Rattle.scrub_reclaim.specs.Doubts.{frame_bytes, is_at_risk, spare_doubt, spare_doubts, spare_doubts_by, staying};
-ghost use Rattle.scrub_reclaim.specs.Moves.{AreRisingPlaces, PointAlike};
+ghost use Rattle.scrub_reclaim.specs.Doubts.{frame_bytes, is_at_risk, spare_doubt, spare_doubts};
+ghost use Rattle.scrub_reclaim.specs.Doubts.{spare_doubts_by, staying};
+ghost use Rattle.scrub_reclaim.specs.steps.Moves.{AreRisingPlaces, PointAlike};
 
 use crate::doubts::Doubt;
 use crate::moves::{by_place, pointing_to};
@@ -45,7 +46,8 @@ fn is_risk(is_live: bool, is_candidate: bool) -> bool
 fn is_at_risk(sorted: &[&Checked], extents: &[u32], spare: &Standing) -> bool
     requires places { AreRisingPlaces sorted.now }
     requires extents { IsSorted nat_cmp extents.now }
-    ensures { (checked : List Checked) → PointAlike checked sorted.now → result ≡ is_at_risk checked extents.now spare.now }
+    ensures { (checked : List Checked) → PointAlike checked sorted.now → result ≡
+        is_at_risk checked extents.now spare.now }
 {
     is_risk(is_live(sorted, spare), has_number(extents, spare.extent))
 }
@@ -135,7 +137,8 @@ fn add_all(
     stay: &Spares,
     all: &[Checked],
 ) -> Result<(), OutOfMemory>
-    ensures { OnOk result (doubts.new.items ≡ doubts.old.items ++ flat_map (spare_doubts_by spares.now stay.now) all.now) }
+    ensures { OnOk result (doubts.new.items ≡ doubts.old.items ++
+        flat_map (spare_doubts_by spares.now stay.now) all.now) }
 {
     for one in all {
         add_one(doubts, one.owner, spares.of_one(one), stay.of_one(one))?;
@@ -151,7 +154,8 @@ pub(crate) fn add_spares<D: PageSource>(
     checked: &[Checked],
     candidates: &[Candidate],
 ) -> Result<(), OutOfMemory>
-    ensures { OnOk result (doubts.new.items ≡ doubts.old.items ++ spare_doubts all.now.extents checked.now candidates.now) }
+    ensures { OnOk result (doubts.new.items ≡ doubts.old.items ++
+        spare_doubts all.now.extents checked.now candidates.now) }
 {
     let spares = Spares::of(alloc, all, checked)?;
     let places = by_place(alloc, checked)?;

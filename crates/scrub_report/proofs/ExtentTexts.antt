@@ -1,10 +1,10 @@
--- The text of the report's extents, piece by piece, and the text before and behind it.
-use Rattle.std.proofs.Common.{◌≡◌, ◌<◌, ◌≤◌, ◌+◌, ◌-◌, ◌*◌, ℕ, zero, suc, List, [], ◌∷◌, ◌++◌, Bool, true, false, codes, fold, get_or, length, min, take, drop, map, nat_lt, arith, refl, sym, ap, ap₂, ◌∙◌, append_assoc, append-nil}
+-- The text of the report's extents, piece by piece, and the text before and after it.
+use Rattle.std.proofs.Common.{◌≡◌, ◌<◌, ◌≤◌, ◌+◌, ◌*◌, ℕ, zero, suc, List, [], ◌∷◌, ◌++◌, Bool, true, false, codes, fold, length, take, drop, map, nat_lt, arith, refl, sym, ap, ap₂, ◌∙◌, append_assoc, append-nil}
 use Rattle.std.specs.Int.{div_ceil}
 use Rattle.std.proofs.Math.Nat.{mul-le-mul_right}
 use Rattle.std.proofs.Math.Seq.{take-add}
 use Rattle.std.proofs.lemmas.Grind.{div_ceil_times}
-use Rattle.std.proofs.lemmas.List.{flat_map_more, get_or-drop, take_min, take_more, length-drop, length-take}
+use Rattle.std.proofs.lemmas.List.{length-drop, length-take}
 use Rattle.std.proofs.lemmas.List.Concat.{flat_map-append}
 use Rattle.std.proofs.lemmas.List.Sums.{fold-append}
 use Rattle.std.proofs.lemmas.Bool.Decides.{nat_tests}
@@ -18,7 +18,7 @@ use Rattle.scrub_report.specs.Json.{list, natural, natural_or_null, with_keys}
 use Rattle.scrub_report.specs.Report.{extent_data, items_data, numbers_data}
 use Rattle.scrub_run.specs.declared.shard_id.ShardId.{ShardId}
 use Rattle.scrub_report.specs.declared.listed.Listed.{Listed}
-use Rattle.scrub_report.specs.Tokens.{all_keys, begun_tokens, ended_tokens, extent_keys, extent_pairs, extents_tokens, first_keys, hidden_keys, last_keys, members_tokens, piece_text, run_keys, value_tokens}
+use Rattle.scrub_report.specs.steps.Tokens.{all_keys, begun_tokens, ended_tokens, extent_keys, extent_pairs, extents_tokens, first_keys, last_keys, members_tokens, piece_text, value_tokens}
 use Rattle.scrub_report.proofs.Tokens.{keys_joined, list_tokens, object_tokens}
 
 -- whether the last token ends a value
@@ -30,7 +30,7 @@ extent_tokens p = value_tokens (extent_data p.1 p.0)
 
 -- ---- one extent
 
--- behind another extent it has a comma
+-- after another extent it has a comma
 opened : (p : Scanned × ℕ) (ts : List Token) →
     print_from true (extent_tokens p ++ ts) ≡ 44 ∷ print_from false (extent_tokens p ++ ts)
 unfolding print_from
@@ -61,27 +61,6 @@ some_opened : (ps : List (Scanned × ℕ)) → 0 < length ps →
     print_from true (extents_tokens ps) ≡ 44 ∷ print (extents_tokens ps)
 some_opened [] h = absurd (omega (arith, h))
 some_opened (p ∷ ps) h = opened p (extents_tokens ps)
-
--- one more is written
-pub more_extents : (ps : List (Scanned × ℕ)) (from i : ℕ) (p : Scanned × ℕ) (old new : List Token) → from ≤ i →
-    i < length ps → get_or ps i p ≡ p →
-    old ≡ extents_tokens (take (i - from) (drop from ps)) → new ≡ old ++ extent_tokens p →
-    new ≡ extents_tokens (take (i + 1 - from) (drop from ps))
-more_extents ps from i p old new behind below is so_far grown =
-    let rest = drop from ps in
-    let n = i - from in
-    let there : get_or rest n p ≡ p = get_or-drop from ps n p ∙ ap (λ k. get_or ps k p) (omega (arith, behind)) ∙ is in
-    grown ∙ ap (λ ts. ts ++ extent_tokens p) so_far
-    ∙ ap (λ q. extents_tokens (take n rest) ++ extent_tokens q) (sym there)
-    ∙ flat_map_more extent_tokens [] (take n rest) (get_or rest n p)
-    ∙ ap extents_tokens
-    (sym (take_more rest n p (omega (arith, behind, below, length-drop from ps))) ∙ ap (λ k. take k rest) (omega (arith, behind)))
-
--- a piece ends at the last extent or before it
-pub whole_piece : (ps : List (Scanned × ℕ)) (from size i : ℕ) → i - from ≡ min size (length ps - from) →
-    take (i - from) (drop from ps) ≡ take size (drop from ps)
-whole_piece ps from size i e =
-    ap (λ k. take k (drop from ps)) (e ∙ ap (min size) (sym (length-drop from ps))) ∙ take_min size (drop from ps)
 
 -- ---- piece by piece
 
@@ -154,22 +133,19 @@ module _ {D : Type 0} (l : Listed D) (broken : List ShardId) (clean : Bool) wher
   abbrev pairs : List (Scanned × ℕ)
   pairs = extent_pairs l
 
-  abbrev behind_hidden : List Token
-  behind_hidden = members_tokens (run_keys l) ++ (members_tokens (last_keys l) ++ end_object ∷ [])
-
   abbrev opens : List Token
   opens = key (codes "extents") ∷ begin_array ∷ []
 
   extents_are : value_tokens (list (map (λ (q : Scanned × ℕ). extent_data q.1 q.0) pairs)) ≡ begin_array ∷ (extents_tokens pairs ++ end_array ∷ [])
   extents_are = list_tokens (λ (q : Scanned × ℕ). extent_data q.1 q.0) pairs
 
-  extents_written : members_tokens (extent_keys l) ++ behind_hidden ≡ opens ++ (extents_tokens pairs ++ ended_tokens l)
+  extents_written : members_tokens (extent_keys l) ++ end_object ∷ [] ≡ opens ++ (extents_tokens pairs ++ ended_tokens l)
   extents_written =
       append_assoc (key (codes "extents") ∷ value_tokens (list (map (λ (q : Scanned × ℕ). extent_data q.1 q.0) pairs)))
-      (members_tokens (hidden_keys l)) behind_hidden
-      ∙ ap (λ ts. key (codes "extents") ∷ (ts ++ (members_tokens (hidden_keys l) ++ behind_hidden))) extents_are
+      (members_tokens (last_keys l)) (end_object ∷ [])
+      ∙ ap (λ ts. key (codes "extents") ∷ (ts ++ (members_tokens (last_keys l) ++ end_object ∷ []))) extents_are
       ∙ ap (λ ts. opens ++ ts)
-      (append_assoc (extents_tokens pairs) (end_array ∷ []) (members_tokens (hidden_keys l) ++ behind_hidden))
+      (append_assoc (extents_tokens pairs) (end_array ∷ []) (members_tokens (last_keys l) ++ end_object ∷ []))
 
   tokens_are : begun_tokens l broken clean ++ (extents_tokens pairs ++ ended_tokens l) ≡ value_tokens (with_keys (all_keys l broken clean))
   tokens_are =

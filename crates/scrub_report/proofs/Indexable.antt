@@ -1,6 +1,6 @@
 -- The bindings of a disk's shard map fit into one index run: their identifiers differ, and each is in one of at most
 -- 32 runs, none of which has more entries than an extent has bytes. So the recovered index is a run.
-use Rattle.std.proofs.Common.{◌≡◌, ◌<◌, ◌≤◌, ◌^◌, ◌||◌, ℕ, Bool, true, false, not, Option, Some, None, MatchOption, List, [], ◌∷◌, ◌++◌, length, map, zero, suc, arith, refl, sym, ◌∙◌, ap, get_or, inl, inr}
+use Rattle.std.proofs.Common.{◌≡◌, ◌<◌, ◌≤◌, ◌^◌, ◌||◌, ℕ, Bool, true, false, not, Option, Some, None, IfSome, MatchOption, List, [], ◌∷◌, ◌++◌, length, map, zero, suc, arith, refl, sym, ◌∙◌, ap, get_or, inl, inr}
 use Rattle.std.specs.Ordering.{nat_cmp, eq_by_cmp, is_eq}
 use Rattle.std.specs.Cmp.{IsEquivalence}
 use Rattle.std.specs.Cmp.Lexicographic.{slice_cmp}
@@ -19,18 +19,22 @@ use Rattle.std.proofs.lemmas.Option.{none-some, same_Some, slice_get-get_or}
 use Rattle.byteorder.specs.Endian.{big_bytes}
 use Rattle.sha2.specs.Sha256.{sha256}
 use Rattle.scrub_disk.specs.Image.{Image, extent_bytes}
-use Rattle.scrub_super.specs.Chosen.{Choice, IsChoice, IsChosen}
+use Rattle.scrub_super.specs.Chosen.{Choice, IsChoice}
 use Rattle.scrub_super.specs.Contents.{Contents}
 use Rattle.scrub_super.specs.Plan.{IsPlanBy, IsPlanOf, IsPlanWithout, PlanValue}
+use Rattle.scrub_super.specs.Record.{AreContents}
+use Rattle.scrub_super.proofs.NewestRecords.{superblock_fits}
 use Rattle.scrub_frame.specs.declared.locator.Locator.{Locator}
 use Rattle.scrub_frame.specs.Locator.{locator_bytes}
 use Rattle.scrub_run.specs.Entry.{EntryValue, entry_bytes, IsBelow, IsEntry}
-use Rattle.scrub_run.specs.Run.{AreEntries, RisesById, run_body, run_bytes, run_magic}
+use Rattle.scrub_run.specs.Run.{AreEntries, IsRun, RisesById, run_body, run_bytes, run_magic}
 use Rattle.scrub_merge.specs.Binding.{BindingValue, Runs, IsNewestBinding}
 use Rattle.scrub_merge.specs.ShardMap.{IsShardMap}
 use Rattle.scrub_merge.proofs.Elements.{Contains-cases}
 use Rattle.scrub_check.specs.Checked.{is_broken}
-use Rattle.scrub_check.specs.Runs.{AreReadRuns, NamesRun, ReadRunsValue}
+use Rattle.scrub_check.specs.Runs.{AreReadRuns, ReadRunsValue}
+use Rattle.scrub_check.specs.Status.{NamesChunk}
+use Rattle.scrub_check.proofs.Listed.{as_many}
 use Rattle.scrub_report.specs.Index.{index_entries, indexed}
 use Rattle.scrub_report.specs.Scrubbed.{IsPlanBut, Scrubbed, IsScrubbed, IsScrubbedBut}
 use Rattle.scrub_report.proofs.OneIndex.{read_of, read_runs_are_runs}
@@ -55,10 +59,11 @@ run_within es =
     part_within run_magic (big_bytes 4 (length es)) (flat_map entry_bytes es) (sha256 (run_body es)) in
     omega (arith, part, entries_within es)
 
-read_within : (image : Image) (w : ℕ) (l : Locator) (es : List EntryValue) → NamesRun image w l es → length es ≤ 2 ^ 26
-read_within image w l es x =
-    let size : length (run_bytes es) ≡ l.length = ap length (sym x.run.spelled) ∙ x.names.length in
-    let fits : l.length ≤ extent_bytes image.geometry = omega (arith, x.names.found.can.in_range.in_extent) in
+read_within : (image : Image) (w : ℕ) (l : Locator) (es : List EntryValue) (n : NamesChunk image w l) → IsRun n.payload es →
+    length es ≤ 2 ^ 26
+read_within image w l es n run =
+    let size : length (run_bytes es) ≡ l.length = ap length (sym run.spelled) ∙ n.length in
+    let fits : l.length ≤ extent_bytes image.geometry = omega (arith, n.found.can.in_range.in_extent) in
     omega (arith, run_within es, size, fits, image.geometry.extent_fits)
 
 -- ---- the identifiers of all runs
@@ -145,13 +150,12 @@ runs_within runs bound k d hk = by (get_or runs k d) (slice_get-get_or runs k d 
 
 planned_few : (image : Image) (choice : Choice) (plan : PlanValue) → IsChoice image choice → IsPlanOf choice plan →
     length plan.runs ≤ 32
-planned_few image choice plan chosen is = by choice.superblock choice.page chosen.chosen is.by
+planned_few image choice plan chosen is = by choice.superblock (superblock_fits chosen) is.by
   where
-    by : (c : Option Contents) (q : Option ℕ) → IsChosen image c q →
+    by : (c : Option Contents) → IfSome c (AreContents image.geometry) →
         MatchOption c (IsPlanWithout plan choice.geometry) (IsPlanBy plan) → length plan.runs ≤ 32
-    by None q found planned = omega (arith, ap length planned.runs)
-    by (Some c) None found planned = absurd found
-    by (Some c) (Some q) found planned = omega (arith, ap length planned.runs, found.stands.contents.runs.count)
+    by None fits planned = omega (arith, ap length planned.runs)
+    by (Some c) fits planned = omega (arith, ap length planned.runs, fits.runs.count)
 
 -- a plan has few runs
 runs_few_by : (resets : List ℕ) (image : Image) (choice : Choice) (plan : PlanValue) → IsChoice image choice → IsPlanBut resets choice plan →
@@ -165,7 +169,7 @@ pub runs_few : {resets : List ℕ} (image : Image) (s : Scrubbed) → IsScrubbed
 runs_few {resets} image s x = runs_few_by resets image s.choice s.plan x.choice x.plan
 
 few_runs : {resets : List ℕ} (image : Image) (s : Scrubbed) → IsScrubbedBut resets image s → length s.read.runs ≤ 32
-few_runs image s x = omega (arith, x.read.count, runs_few image s x)
+few_runs image s x = omega (arith, as_many image s.plan s.read x.read, runs_few image s x)
 
 -- a run can have as many entries as a map of read runs has bindings, and each of these is an entry
 module _ (resets : List ℕ) (image : Image) (choice : Choice) (plan : PlanValue) (read : ReadRunsValue) (bindings : List BindingValue)
@@ -177,14 +181,14 @@ module _ (resets : List ℕ) (image : Image) (choice : Choice) (plan : PlanValue
       (λ q h. bound_among (same_bytes q) read.runs bindings map_is.newest h) in
       let all =
       sum_by-le (λ (r : Option (List EntryValue)). length (ids_of_run r)) (2 ^ 26) read.runs
-      (runs_within read.runs (λ k es here. let found = read_of image plan read read_are k es here in read_within image found.1 found.0 es found.2)) in
+      (runs_within read.runs (λ k es here. let found = read_of image plan read read_are k es here in read_within image found.names.pointer found.locator es found.names.chunk found.run)) in
       omega (
         arith,
         ids,
         length-map bindings (λ (b : BindingValue). b.id.0),
         length-flat_map ids_of_run read.runs,
         all,
-        read_are.count,
+        as_many image plan read read_are,
         runs_few_by resets image choice plan chosen planned,
       )
 

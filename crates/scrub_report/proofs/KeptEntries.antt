@@ -1,4 +1,4 @@
--- Binary search among rising identifiers finds one exactly if it is there.
+-- Binary search among ascending identifiers finds one exactly if it is there.
 use Rattle.std.proofs.Common.{◌≡◌, ◌+◌, ℕ, List, Bool, length, get_or, AllPairs, Contains, IsTrue, ◌↔◌, Result, Ok, Err, is_ok, arith, sym, ◌∙◌, ap, inl, inr}
 use Rattle.std.specs.List.Sorted.{IsBinarySearchResult, IsSearchInRange, IsNonDecreasingBy, IsPartitionPoint, IsSortedBy}
 use Rattle.std.specs.Ordering.{is_eq, is_lt, ordering_index, ordering_reverse}
@@ -8,7 +8,7 @@ use Rattle.std.proofs.lemmas.Bool.{cases_lt, false≢true}
 use Rattle.std.proofs.lemmas.List.Sorted.{searchable_from_sorted}
 use Rattle.scrub_run.specs.declared.shard_id.ShardId.{ShardId}
 use Rattle.scrub_run.specs.Entry.{IsBelow}
-use Rattle.scrub_merge.specs.Cursors.{id_cmp}
+use Rattle.scrub_merge.specs.steps.Cursors.{id_cmp}
 use Rattle.scrub_merge.proofs.Identifiers.{id_cmp_total, id_cmp_exact, itself}
 
 -- a search that ends between the lesser and the greater identifiers finds none
@@ -31,7 +31,7 @@ absent ids id i rising search_ends c = elim (cases_lt c.0 i) [
     at : (o : Ordering) → id_cmp (get_or ids c.0 id) id ≡ o → id_cmp id id ≡ o
     at o h = ap (λ q. id_cmp q id) (sym c.2) ∙ h
 
--- a search among rising identifiers finds one that is there
+-- a search among ascending identifiers finds one that is there
 pub found_among : (ids : List ShardId) (id : ShardId) (r : Result ℕ ℕ) (b : Bool) → AllPairs IsBelow ids →
     IsSearchInRange r (length ids) →
     IsBinarySearchResult (λ y. id_cmp y id) ids r → b ≡ is_ok r → IsTrue b ↔ Contains ids id

@@ -16,10 +16,11 @@ all_counted (None ∷ rs) = refl
 all_counted (Some es ∷ rs) = all_counted rs
 
 module _ {D : Type 0} {s : _} (p : Parts D s) (read : ReadRunsValue)
-    (rows : AreRowsOf p.plan.runs read p.runs.items) where
+    (rows : AreRowsOf p.judged.scan.plan.runs read p.judged.runs.items) where
   -- the verdict is that of what was found
   pub clean_found : is_clean_kept p ≡ is_clean (found_in p read)
   clean_found =
+      let j = p.judged in
       ap
-      (λ all. is_clean_choice p.chosen && list_all is_clean_extent p.all.extents && all && is_clean_list p.checked.items p.liveness.shared.items)
-      (sym (list_all-map is_some (λ r. r.entries) p.runs.items) ∙ ap (list_all is_some) rows.entries_are ∙ all_counted read.runs)
+      (λ all. is_clean_choice j.scan.chosen && list_all is_clean_extent j.scan.all.extents && all && is_clean_list j.checked.items p.liveness.shared.items)
+      (sym (list_all-map is_some (λ r. r.entries) j.runs.items) ∙ ap (list_all is_some) rows.entries_are ∙ all_counted read.runs)

@@ -1,6 +1,5 @@
 -- The lemmas of this crate.
 pub mod Appending
-pub mod SideBySide
 pub mod ScannedLive
 pub mod Tokens
 pub mod ExtentTexts

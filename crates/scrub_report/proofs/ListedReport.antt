@@ -7,7 +7,6 @@ use Rattle.std.proofs.lemmas.List.{length-map}
 use Rattle.serde_json.specs.Data.{boolean}
 use Rattle.serde_json.specs.Written.{compact_text}
 use Rattle.scrub_disk.specs.Image.{Image}
-use Rattle.scrub_super.specs.Plan.{PlanValue}
 use Rattle.scrub_run.specs.declared.shard_id.ShardId.{ShardId}
 use Rattle.scrub_merge.specs.Binding.{BindingValue}
 use Rattle.scrub_scan.specs.Scanned.{Scanned}
@@ -19,12 +18,12 @@ use Rattle.scrub_report.specs.declared.parts.Judged.{Judged}
 use Rattle.scrub_report.specs.declared.runs.RunRow.{RunRow}
 use Rattle.scrub_report.specs.declared.shards.Shards.{Shards}
 use Rattle.scrub_report.specs.Json.{list, natural, with_keys}
-use Rattle.scrub_report.specs.Lists.{AreListsOf, AreShardsOf, IsReported, is_clean_listed}
+use Rattle.scrub_report.specs.steps.Lists.{AreListsOf, AreShardsOf, IsReportBy, is_clean_listed}
 use Rattle.scrub_report.specs.Parts.{AreJudgedBut}
 use Rattle.scrub_report.specs.Report.{candidate_data, dangling_data, entry_counts, extent_data, extents_data, geometry_data, hidden_data, ids_data, numbers_data, place_data, report_text, runs_data, shared_data, super_data}
 use Rattle.scrub_report.specs.Scrubbed.{IsScrubbed, Scrubbed, is_clean, is_clean_choice, is_clean_extent}
-use Rattle.scrub_report.specs.Tokens.{extent_pairs, listed_text}
-use Rattle.scrub_report.specs.Values.{locator_data, row_data}
+use Rattle.scrub_report.specs.steps.Tokens.{extent_pairs, listed_text}
+use Rattle.scrub_report.specs.steps.Values.{locator_data, row_data}
 use Rattle.scrub_report.proofs.KeptRuns.{all_counted}
 use Rattle.scrub_report.proofs.LocatorValues.{dangling_shown, hidden_shown}
 use Rattle.scrub_report.proofs.RunRows.{rows_shown}
@@ -36,9 +35,9 @@ module _ {D : Type 0} (image : Image) (bindings : List BindingValue) (broken : L
   -- what was found
   abbrev found : Scrubbed
   found = record {
-    choice = j.chosen;
-    plan = j.plan;
-    all = j.all.extents;
+    choice = j.scan.chosen;
+    plan = j.scan.plan;
+    all = j.scan.all.extents;
     read = judged.read;
     bindings = bindings;
     checked = j.checked.items;
@@ -49,9 +48,9 @@ module _ {D : Type 0} (image : Image) (bindings : List BindingValue) (broken : L
 
   found_there : IsScrubbed image found
   found_there = record {
-    choice = judged.choice;
-    plan = judged.plan;
-    all = judged.all;
+    choice = judged.scanned.chosen;
+    plan = judged.scanned.planned;
+    all = judged.scanned.scanned;
     read = judged.read_are;
     bindings = judged.map_is;
     checked = judged.checked;
@@ -68,18 +67,18 @@ module _ {D : Type 0} (image : Image) (bindings : List BindingValue) (broken : L
 
   clean_lists : is_clean_listed l ≡ is_clean found
   clean_lists = λ i.
-      is_clean_choice (lists.chosen_is i) && list_all is_clean_extent (lists.all_are i) && counted i
+      is_clean_choice ((lists.scan_is i).chosen) && list_all is_clean_extent ((lists.scan_is i).all.extents) && counted i
       && (length (lists.dangling_are i) == 0 && length (lists.hidden_are i) == 0 && length l.liveness.shared.items == 0)
 
-  rows_are : list (map row_data l.runs.items) ≡ runs_data j.plan.runs (entry_counts judged.read.runs) judged.read.states
+  rows_are : list (map row_data l.runs.items) ≡ runs_data j.scan.plan.runs (entry_counts judged.read.runs) judged.read.states
   rows_are =
       ap (λ (rows : List RunRow). list (map row_data rows)) lists.runs_are
       ∙ rw (judged.rows.locators_are, judged.rows.entries_are, judged.rows.states_are) at (rows_shown j.runs.items)
 
-  extents_are : list (map (λ (q : Scanned × ℕ). extent_data q.1 q.0) (extent_pairs l)) ≡ extents_data j.checked.items j.all.extents
+  extents_are : list (map (λ (q : Scanned × ℕ). extent_data q.1 q.0) (extent_pairs l)) ≡ extents_data j.checked.items j.scan.all.extents
   extents_are =
-      ap (λ (all : List Scanned). list (map (λ (q : Scanned × ℕ). extent_data q.1 q.0) (zip all l.liveness.live.items))) lists.all_are
-      ∙ ap list (beside_scanned j.checked.items j.all.extents l.liveness.live.items lists.liveness_is.live)
+      (λ i. list (map (λ (q : Scanned × ℕ). extent_data q.1 q.0) (zip ((lists.scan_is i).all.extents) l.liveness.live.items)))
+      ∙ ap list (beside_scanned j.checked.items j.scan.all.extents l.liveness.live.items lists.liveness_is.live)
 
   dangling_are : list (map locator_data l.dangling.items) ≡ list (map dangling_data (dangling j.checked.items))
   dangling_are =
@@ -97,19 +96,19 @@ module _ {D : Type 0} (image : Image) (bindings : List BindingValue) (broken : L
       (codes "dangling", dangling_are i) ∷
       (codes "doubtful", ids_data ((ap (λ (x : Shards). x.doubtful.items) lists.shards_are ∙ shards.doubtful_are) i)) ∷
       (codes "extents", extents_are i) ∷
-      (codes "geometry", geometry_data (ap (λ (p : PlanValue). p.geometry) lists.plan_is i)) ∷
+      (codes "geometry", geometry_data ((lists.scan_is i).plan.geometry)) ∷
       (codes "hidden", hidden_are i) ∷
       (codes "orphans", list (map place_data (lists.liveness_is.orphans_are i))) ∷
-      (codes "retired", numbers_data (ap (λ (p : PlanValue). p.retired) lists.plan_is i)) ∷
+      (codes "retired", numbers_data ((lists.scan_is i).plan.retired)) ∷
       (codes "runs", rows_are i) ∷
       (codes "shards", natural ((ap (λ (x : Shards). x.count) lists.shards_are ∙ shards.count_is) i)) ∷
       (codes "shared", list (map shared_data l.liveness.shared.items)) ∷
-      (codes "super", super_data (lists.chosen_is i)) ∷
+      (codes "super", super_data ((lists.scan_is i).chosen)) ∷
       (codes "twins", list (map place_data (lists.twins_are i))) ∷ [])) ++ 10 ∷ []
 
   -- the text and the verdict are those of what was found
   pub reported : (text : List ℕ) (clean : Bool) → clean ≡ is_clean_listed l → text ≡ listed_text l broken clean →
-      IsReported image bindings j.checked.items text clean
+      IsReportBy image bindings j.checked.items text clean
   reported text clean known is = record {
     found = found;
     scrubbed = found_there;
@@ -120,6 +119,6 @@ module _ {D : Type 0} (image : Image) (bindings : List BindingValue) (broken : L
   }
 
   -- each extent has its live bytes
-  pub as_many : length l.liveness.live.items ≡ length l.all.extents
+  pub as_many : length l.liveness.live.items ≡ length l.scan.all.extents
   as_many =
-      ap length lists.liveness_is.live ∙ length-map j.all.extents (live_bytes j.checked.items) ∙ ap length (sym lists.all_are)
+      ap length lists.liveness_is.live ∙ length-map j.scan.all.extents (live_bytes j.checked.items) ∙ sym (λ i. length ((lists.scan_is i).all.extents))

@@ -6,7 +6,7 @@ use Rattle.std.proofs.lemmas.Bool.{false≢true}
 use Rattle.serde_json.specs.Data.{Data}
 use Rattle.scrub_check.specs.declared.statuses.checked.Checked.{Checked}
 use Rattle.scrub_check.specs.Checked.{dangling, hidden, is_dangling, is_hidden, is_sound}
-use Rattle.scrub_report.specs.Values.{locator_data}
+use Rattle.scrub_report.specs.steps.Values.{locator_data}
 use Rattle.scrub_report.specs.Report.{dangling_data, hidden_data}
 
 -- two functions that agree on what passes a test agree on the filtered list

@@ -1,27 +1,27 @@
 -- By its plan an image has one list of index runs, and one list of named locators with their statuses.
-use Rattle.std.proofs.Common.{◌≡◌, ℕ, Bool, true, false, Option, Some, None, MatchBool, MatchOption, List, [], ◌∷◌, map, refl, sym, ◌∙◌, ap, subst}
+use Rattle.std.proofs.Common.{◌≡◌, ℕ, zero, suc, Option, Some, None, List, [], ◌∷◌, length, map, arith, refl, sym, ◌∙◌, ap, subst}
 use Rattle.std.proofs.Math.Path.{ap₂}
-use Rattle.std.specs.List.{AllZip, slice_get}
-use Rattle.std.specs.Option.{IsSomeAnd}
+use Rattle.std.specs.List.{AllZip, slice_get, zip}
 use Rattle.std.proofs.lemmas.List.Elements.{All-head, All-tail}
-use Rattle.std.proofs.lemmas.Slice.Zip.{AllZip-right}
+use Rattle.std.proofs.lemmas.Map.Made.{keys_of-zip}
+use Rattle.std.proofs.lemmas.Option.{none-some, same_Some}
 use Rattle.scrub_disk.specs.Image.{Image}
 use Rattle.scrub_frame.specs.declared.locator.Locator.{Locator}
-use Rattle.scrub_super.specs.Plan.{PlanValue, pointer_of}
-use Rattle.scrub_scan.specs.Extent.{extent_of}
-use Rattle.scrub_scan.specs.OneFrame.{one_frame_at}
+use Rattle.scrub_super.specs.Plan.{PlanValue}
 use Rattle.scrub_run.specs.Entry.{EntryValue}
+use Rattle.scrub_run.specs.Run.{IsRun}
 use Rattle.scrub_run.proofs.Runs.{one_run_lem}
+use Rattle.scrub_merge.specs.Binding.{Runs}
 use Rattle.scrub_merge.specs.ShardMap.{AreRuns}
 use Rattle.scrub_check.specs.declared.statuses.checked.Checked.{Checked}
 use Rattle.scrub_check.specs.declared.named.Named.{Named}
 use Rattle.scrub_check.specs.declared.runs.RunState.{RunState}
 use Rattle.scrub_check.specs.declared.runs.RunState.TheVariants.{Read, BadChunk, NotARun}
-use Rattle.scrub_check.specs.declared.statuses.status.Status.TheVariants.{OutOfRange}
 use Rattle.scrub_check.specs.Checked.{AreChecked, HaveStatuses, named_of}
-use Rattle.scrub_check.specs.Runs.{AreReadRuns, HasRunState, HasRunStateInUse, HasRunStateIn, IsLostInRetired, IsRunInUse, IsRunIn, IsRunOf, NamesRun, ReadRunsValue}
-use Rattle.scrub_check.specs.Status.{HasStatusIn, is_retired}
-use Rattle.scrub_check.proofs.OneStatus.{one_under_pointer, one_in_retired, one_in_plan}
+use Rattle.scrub_check.specs.Runs.{AreReadRuns, HasRunIn, NamesChunkIn, ReadRunsValue}
+use Rattle.scrub_check.specs.Status.{HasStatusIn}
+use Rattle.scrub_check.proofs.OneStatus.{one_in_plan}
+use Rattle.scrub_check.proofs.Payloads.{same_payload}
 use Rattle.scrub_report.proofs.OneReader.{heads, tails, no_tail}
 
 -- ---- one list of runs
@@ -37,66 +37,40 @@ same_zipped R one (x ∷ xs) (y ∷ ys) [] h k = absurd k
 same_zipped R one (x ∷ xs) (y ∷ ys) (z ∷ zs) h k =
     ap₂ (λ b bs. b ∷ bs) (one x y z h.0 k.0) (same_zipped R one xs ys zs h.1 k.1)
 
-same_payload : (image : Image) (w : ℕ) (l : Locator) (es fs : List EntryValue) → (x : NamesRun image w l es) →
-    (y : NamesRun image w l fs) → x.names.payload ≡ y.names.payload
-same_payload image w l es fs x y =
-    (one_frame_at (extent_of image l.extent w) l.offset x.names.found.form l.uuid x.names.payload y.names.found.form l.uuid y.names.payload x.names.found.frame y.names.found.frame).2
+module _ (image : Image) (plan : PlanValue) (l : Locator) where
+  -- a run of a locator is the payload of each chunk that it names
+  run_of_named : (n m : NamesChunkIn image plan l) (es : List EntryValue) → IsRun n.chunk.payload es → IsRun m.chunk.payload es
+  run_of_named n m es run = subst (λ b. IsRun b es) (same_payload image l n.pointer m.pointer n.chunk m.chunk) run
 
-one_run_of : (image : Image) (w : ℕ) (l : Locator) (r s : Option (List EntryValue)) → IsRunOf image w l r →
-    IsRunOf image w l s → r ≡ s
-one_run_of image w l None None x y = refl
-one_run_of image w l None (Some fs) x y = absurd (x fs y)
-one_run_of image w l (Some es) None x y = absurd (y es x)
-one_run_of image w l (Some es) (Some fs) x y =
-    ap Some (one_run_lem y.names.payload es fs (rw (same_payload image w l es fs x y) at x.run) y.run)
+  -- at most one run, with what became of it
+  one_run_in : (r q : Option (List EntryValue)) (s t : RunState) → HasRunIn image plan l r s → HasRunIn image plan l q t →
+      (r ≡ q) × (s ≡ t)
+  one_run_in (Some es) (Some fs) Read Read x y =
+      (ap Some (one_run_lem y.0.chunk.payload es fs (run_of_named x.0 y.0 es x.1) y.1), refl)
+  one_run_in (Some es) None Read NotARun x y = absurd (y.1 es (run_of_named x.0 y.0 es x.1))
+  one_run_in (Some es) None Read (BadChunk t) x y = absurd (y.1 x.0)
+  one_run_in None (Some fs) NotARun Read x y = absurd (x.1 fs (run_of_named y.0 x.0 fs y.1))
+  one_run_in None None NotARun NotARun x y = (refl, refl)
+  one_run_in None None NotARun (BadChunk t) x y = absurd (y.1 x.0)
+  one_run_in None (Some fs) (BadChunk s) Read x y = absurd (x.1 y.0)
+  one_run_in None None (BadChunk s) NotARun x y = absurd (x.1 y.0)
+  one_run_in None None (BadChunk s) (BadChunk t) x y = (refl, ap BadChunk ((one_in_plan image plan l).one s t x.0 y.0))
+  one_run_in (Some es) q NotARun t x y = absurd x
+  one_run_in (Some es) q (BadChunk s) t x y = absurd x
+  one_run_in None q Read t x y = absurd x
+  one_run_in r (Some fs) s NotARun x y = absurd y
+  one_run_in r (Some fs) s (BadChunk t) x y = absurd y
+  one_run_in r None s Read x y = absurd y
 
-one_run_in : (image : Image) (plan : PlanValue) (l : Locator) (r s : Option (List EntryValue)) →
-    IsRunIn image plan l r → IsRunIn image plan l s → r ≡ s
-one_run_in image plan l r s = by (is_retired plan l.extent)
-  where
-    under : (w : Option ℕ) → MatchOption w (r ≡ None) (λ w. IsRunOf image w l r) →
-        MatchOption w (s ≡ None) (λ w. IsRunOf image w l s) → r ≡ s
-    under None x y = x ∙ sym y
-    under (Some w) x y = one_run_of image w l r s x y
+  one_pair : (x y : Option (List EntryValue) × RunState) → HasRunIn image plan l x.0 x.1 → HasRunIn image plan l y.0 y.1 → x ≡ y
+  one_pair x y hx hy = let same = one_run_in x.0 y.0 x.1 y.1 hx hy in λ i. (same.0 i, same.1 i)
 
-    by : (b : Bool) → MatchBool b (r ≡ None) (IsRunInUse image plan l r) →
-        MatchBool b (s ≡ None) (IsRunInUse image plan l s) → r ≡ s
-    by true x y = x ∙ sym y
-    by false x y = under (pointer_of plan l.extent) x y
-
-one_state : (image : Image) (w : ℕ) (l : Locator) (s t : RunState) → HasRunState image w l s → HasRunState image w l t →
-    s ≡ t
-one_state image w l Read Read x y = refl
-one_state image w l Read (BadChunk t) x y = absurd (y.1 x.1.names)
-one_state image w l Read NotARun x y = absurd (y.1 x.0 x.1)
-one_state image w l (BadChunk s) Read x y = absurd (x.1 y.1.names)
-one_state image w l (BadChunk s) (BadChunk t) x y = ap BadChunk ((one_under_pointer image w l).one s t x.0 y.0)
-one_state image w l (BadChunk s) NotARun x y = absurd (x.1 y.0)
-one_state image w l NotARun Read x y = absurd (x.1 y.0 y.1)
-one_state image w l NotARun (BadChunk t) x y = absurd (y.1 x.0)
-one_state image w l NotARun NotARun x y = refl
-
-one_loss : (image : Image) (l : Locator) (s t : RunState) → IsLostInRetired image l s → IsLostInRetired image l t →
-    s ≡ t
-one_loss image l Read t x y = absurd x
-one_loss image l NotARun t x y = absurd x
-one_loss image l (BadChunk s) Read x y = absurd y
-one_loss image l (BadChunk s) NotARun x y = absurd y
-one_loss image l (BadChunk s) (BadChunk t) x y = ap BadChunk ((one_in_retired image l).one s t x y)
-
-one_state_in : (image : Image) (plan : PlanValue) (l : Locator) (s t : RunState) → HasRunStateIn image plan l s →
-    HasRunStateIn image plan l t → s ≡ t
-one_state_in image plan l s t = by (is_retired plan l.extent)
-  where
-    under : (w : Option ℕ) → MatchOption w (s ≡ BadChunk OutOfRange) (λ w. HasRunState image w l s) →
-        MatchOption w (t ≡ BadChunk OutOfRange) (λ w. HasRunState image w l t) → s ≡ t
-    under None x y = x ∙ sym y
-    under (Some w) x y = one_state image w l s t x y
-
-    by : (b : Bool) → MatchBool b (IsLostInRetired image l s) (HasRunStateInUse image plan l s) →
-        MatchBool b (IsLostInRetired image l t) (HasRunStateInUse image plan l t) → s ≡ t
-    by true x y = one_loss image l s t x y
-    by false x y = under (pointer_of plan l.extent) x y
+-- the second parts of pairs
+seconds-zip : {A B : Type 0} (xs : List A) (ys : List B) → length ys ≡ length xs → map (λ p. p.1) (zip xs ys) ≡ ys
+seconds-zip [] [] same = refl
+seconds-zip [] (y ∷ ys) same = absurd (omega (arith, same))
+seconds-zip (x ∷ xs) [] same = absurd (omega (arith, same))
+seconds-zip (x ∷ xs) (y ∷ ys) same = ap (λ zs. y ∷ zs) (seconds-zip xs ys (omega (arith, same)))
 
 same_read : (r s : ReadRunsValue) → r.runs ≡ s.runs → r.states ≡ s.states → r ≡ s
 same_read r s hr hs = λ i. record { runs = hr i; states = hs i }
@@ -104,43 +78,41 @@ same_read r s hr hs = λ i. record { runs = hr i; states = hs i }
 pub one_list_of_runs : (image : Image) (plan : PlanValue) (r s : ReadRunsValue) → AreReadRuns image plan r →
     AreReadRuns image plan s → r ≡ s
 one_list_of_runs image plan r s x y =
+    let pairs : zip r.runs r.states ≡ zip s.runs s.states =
+    same_zipped (λ l p. HasRunIn image plan l p.0 p.1) (one_pair image plan) plan.runs (zip r.runs r.states) (zip s.runs s.states) x.each y.each in
     same_read r s
-    (same_zipped (IsRunIn image plan) (one_run_in image plan) plan.runs r.runs s.runs x.runs y.runs)
-    (same_zipped (HasRunStateIn image plan) (one_state_in image plan) plan.runs r.states s.states x.states y.states)
+    (sym (keys_of-zip r.runs r.states x.same) ∙ ap (λ ps. map (λ p. p.0) ps) pairs ∙ keys_of-zip s.runs s.states y.same)
+    (sym (seconds-zip r.runs r.states x.same) ∙ ap (λ ps. map (λ p. p.1) ps) pairs ∙ seconds-zip s.runs s.states y.same)
 
--- the locator of a run that was read names a chunk with the run as its payload
-named_run : (image : Image) (plan : PlanValue) (l : Locator) (es : List EntryValue) → IsRunIn image plan l (Some es) →
-    (w : ℕ) × NamesRun image w l es
-named_run image plan l es = by (is_retired plan l.extent)
+-- the run of these entries is the payload of a chunk that a locator names by a plan
+pub record IsNamedRun (image : Image) (plan : PlanValue) (es : List EntryValue) : Type 0 where
+  pub locator : Locator
+  pub names : NamesChunkIn image plan locator
+  pub run : IsRun names.chunk.payload es
+
+read_at : (image : Image) (plan : PlanValue) (es : List EntryValue) (ls : List Locator) (runs : Runs) (states : List RunState) (k : ℕ) →
+    length states ≡ length runs → AllZip (λ l p. HasRunIn image plan l p.0 p.1) ls (zip runs states) →
+    slice_get runs k ≡ Some (Some es) → IsNamedRun image plan es
+read_at image plan es ls [] states k same each here = absurd (none-some (Some es) here)
+read_at image plan es ls (r ∷ rs) [] k same each here = absurd (omega (arith, same))
+read_at image plan es [] (r ∷ rs) (s ∷ ss) k same each here = absurd each
+read_at image plan es (l ∷ ls) (r ∷ rs) (s ∷ ss) zero same each here =
+    by s (subst (λ q. HasRunIn image plan l q s) (same_Some r (Some es) here) each.0)
   where
-    some_or_none : Some es ≡ None → ⊥
-    some_or_none e = cc
-
-    under : (w : Option ℕ) → MatchOption w (Some es ≡ None) (λ w. IsRunOf image w l (Some es)) →
-        (w : ℕ) × NamesRun image w l es
-    under None x = absurd (some_or_none x)
-    under (Some w) x = (w, x)
-
-    by : (b : Bool) → MatchBool b (Some es ≡ None) (IsRunInUse image plan l (Some es)) → (w : ℕ) × NamesRun image w l es
-    by true x = absurd (some_or_none x)
-    by false x = under (pointer_of plan l.extent) x
+    by : (s : RunState) → HasRunIn image plan l (Some es) s → IsNamedRun image plan es
+    by Read h = record { locator = l; names = h.0; run = h.1 }
+    by (BadChunk status) h = absurd h
+    by NotARun h = absurd h
+read_at image plan es (l ∷ ls) (r ∷ rs) (s ∷ ss) (suc k) same each here =
+    read_at image plan es ls rs ss k (omega (arith, same)) each.1 here
 
 pub read_of : (image : Image) (plan : PlanValue) (r : ReadRunsValue) → AreReadRuns image plan r →
-    (k : ℕ) (es : List EntryValue) → slice_get r.runs k ≡ Some (Some es) →
-    (l : Locator) × (w : ℕ) × NamesRun image w l es
-read_of image plan r x k es here =
-    from (slice_get plan.runs k)
-    (rw here at
-    (AllZip-right (IsRunIn image plan) plan.runs r.runs x.runs k))
-  where
-    from : (l : Option Locator) → IsSomeAnd l (λ l. IsRunIn image plan l (Some es)) →
-        (l : Locator) × (w : ℕ) × NamesRun image w l es
-    from None h = absurd h
-    from (Some l) h = let found = named_run image plan l es h in (l, found.0, found.1)
+    (k : ℕ) (es : List EntryValue) → slice_get r.runs k ≡ Some (Some es) → IsNamedRun image plan es
+read_of image plan r x k es here = read_at image plan es plan.runs r.runs r.states k x.same x.each here
 
 pub read_runs_are_runs : (image : Image) (plan : PlanValue) (r : ReadRunsValue) → AreReadRuns image plan r →
     AreRuns r.runs
-read_runs_are_runs image plan r x k es here = (read_of image plan r x k es here).2.run.entries_of_run
+read_runs_are_runs image plan r x k es here = (read_of image plan r x k es here).run.entries_of_run
 
 -- ---- one list of checked locators
 

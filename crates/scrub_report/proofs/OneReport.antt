@@ -6,7 +6,7 @@ use Rattle.scrub_super.proofs.Laws.{one_choice_lem}
 use Rattle.scrub_run.specs.Run.{run_bytes}
 use Rattle.scrub_merge.proofs.Maps.{one_shard_map_lem}
 use Rattle.scrub_check.specs.Candidates.{AreCandidates}
-use Rattle.scrub_check.specs.Named.{named}
+use Rattle.scrub_check.specs.Named.{named_locators}
 use Rattle.scrub_check.proofs.OneList.{one_list, one_shared, one_broken}
 use Rattle.scrub_report.specs.Answer.{AnswerValue, IsScrubAnswer, ArePlannedExtents}
 use Rattle.scrub_report.specs.Index.{index_entries}
@@ -53,7 +53,7 @@ one_scrub_but resets image s t x y = same_parts s t choice plan all read binding
         (rw read at x.bindings) y.bindings
 
     checked : s.checked ≡ t.checked
-    checked = one_list_of_checked image t.plan (named t.plan.runs t.bindings) s.checked t.checked
+    checked = one_list_of_checked image t.plan (named_locators t.plan.runs t.bindings) s.checked t.checked
         (rw (← bindings) (rw plan at x.checked)) y.checked
 
     shared : s.shared ≡ t.shared
@@ -88,7 +88,8 @@ same_answer a b hr hi hc = λ i. record { report = hr i; index = hi i; is_clean 
 
 pub one_answer : (image : Image) (a b : AnswerValue) → IsScrubAnswer image a → IsScrubAnswer image b → a ≡ b
 one_answer image a b x y =
+    let found = one_scrub image x.found y.found x.scrubbed y.scrubbed in
     same_answer a b
-    (x.report.text_is ∙ ap report_text (one_scrub image x.report.found y.report.found x.report.scrubbed y.report.scrubbed) ∙ sym y.report.text_is)
-    (x.index.bytes_are ∙ ap (λ (s : Scrubbed). run_bytes (index_entries s.checked s.bindings)) (one_scrub image x.index.found y.index.found x.index.scrubbed y.index.scrubbed) ∙ sym y.index.bytes_are)
-    (x.clean.verdict ∙ ap is_clean (one_scrub image x.clean.found y.clean.found x.clean.scrubbed y.clean.scrubbed) ∙ sym y.clean.verdict)
+    (x.report ∙ ap report_text found ∙ sym y.report)
+    (x.index ∙ ap (λ (s : Scrubbed). run_bytes (index_entries s.checked s.bindings)) found ∙ sym y.index)
+    (x.clean ∙ ap is_clean found ∙ sym y.clean)

@@ -5,7 +5,7 @@ use Rattle.scrub_report.specs.declared.runs.RunRow.{RunRow}
 use Rattle.scrub_report.specs.Json.{list}
 use Rattle.scrub_report.specs.Parts.{run_states}
 use Rattle.scrub_report.specs.Report.{run_data, runs_data}
-use Rattle.scrub_report.specs.Values.{row_data}
+use Rattle.scrub_report.specs.steps.Values.{row_data}
 
 -- rows are shown as their three lists side by side
 shown : (rows : List RunRow) → map row_data rows

@@ -12,7 +12,7 @@ use Rattle.serde_json.specs.Written.{items_outline, members_outline}
 use Rattle.scrub_report.specs.Json.{list, members, with_keys}
 use Rattle.scrub_run.specs.declared.shard_id.ShardId.{ShardId}
 use Rattle.scrub_report.specs.declared.listed.Listed.{Listed}
-use Rattle.scrub_report.specs.Tokens.{all_keys, extent_keys, first_keys, last_keys, list_begun, member_tokens, members_tokens, run_keys, value_tokens}
+use Rattle.scrub_report.specs.steps.Tokens.{all_keys, extent_keys, first_keys, list_begun, member_tokens, members_tokens, value_tokens}
 
 -- two steps of writing are one
 pub chain : (a b c xs ys : List Token) → b ≡ a ++ xs → c ≡ b ++ ys → c ≡ a ++ (xs ++ ys)
@@ -94,19 +94,11 @@ pub object_closed : {E : Type 0} (ms : List (List ℕ × Data)) (a b c d : List 
 object_closed ms a b c d (Ok u) begun all closed = object_written ms a b c d begun all closed
 object_closed ms a b c d (Err e) begun all closed = tt
 
--- ---- the report, whose keys are written in four steps
+-- ---- the report, whose keys are written before and after its extents
 
 module _ {D : Type 0} (l : Listed D) (broken : List ShardId) (clean : Bool) where
-  pub keys_joined : begin_object ∷ (members_tokens (first_keys l broken clean) ++ (members_tokens (extent_keys l) ++ (members_tokens (run_keys l) ++ (members_tokens (last_keys l) ++ end_object ∷ []))))
+  pub keys_joined : begin_object ∷ (members_tokens (first_keys l broken clean) ++ (members_tokens (extent_keys l) ++ end_object ∷ []))
       ≡ value_tokens (with_keys (all_keys l broken clean))
   keys_joined =
-      let closed = end_object ∷ [] in
-      let last = members_joined (run_keys l) (last_keys l) closed in
-      let scanned =
-      members_joined (extent_keys l) (run_keys l ++ last_keys l) closed
-      ∙ ap (λ ts. members_tokens (extent_keys l) ++ ts) last in
-      let all =
-      members_joined (first_keys l broken clean) (extent_keys l ++ (run_keys l ++ last_keys l)) closed
-      ∙ ap (λ ts. members_tokens (first_keys l broken clean) ++ ts) scanned in
-      ap (λ ts. begin_object ∷ ts) (sym all)
-      ∙ sym (object_tokens (first_keys l broken clean ++ (extent_keys l ++ (run_keys l ++ last_keys l))))
+      ap (λ ts. begin_object ∷ ts) (sym (members_joined (first_keys l broken clean) (extent_keys l) (end_object ∷ [])))
+      ∙ sym (object_tokens (first_keys l broken clean ++ extent_keys l))

@@ -1,12 +1,13 @@
 -- The answer of a scrub.
-use Rattle.std.specs.Prelude.{◌≡◌, ℕ, List, Bool, length}
+use Rattle.std.specs.Prelude.{◌≡◌, ◌+◌, ℕ, List, Bool, length}
 use Rattle.scrub_disk.specs.Image.{Image}
 use Rattle.scrub_super.specs.Chosen.{Choice, IsChoice}
 use Rattle.scrub_super.specs.Plan.{PlanValue, IsPlanOf}
-use Rattle.scrub_pool.specs.Takings.{IsPartition}
-use Rattle.scrub_report.specs.Scrubbed.{IsCleanImage}
-use Rattle.scrub_report.specs.Report.{IsReport}
-use Rattle.scrub_report.specs.Index.{IsIndex}
+use Rattle.scrub_pool.specs.Takings.{IsPartition, TakingsValue}
+use Rattle.scrub_run.specs.Run.{run_bytes}
+use Rattle.scrub_report.specs.Scrubbed.{Scrubbed, IsScrubbed, is_clean}
+use Rattle.scrub_report.specs.Report.{report_text}
+use Rattle.scrub_report.specs.Index.{index_entries}
 
 -- an answer: the text of the report, the bytes of the index, and whether the disk is clean
 pub record AnswerValue : Type 0 where
@@ -14,13 +15,15 @@ pub record AnswerValue : Type 0 where
   pub index : List ℕ
   pub is_clean : Bool
 
--- each part of the answer is that of the image
+-- each part of the answer is that of what is found in the image
 pub record IsScrubAnswer (image : Image) (a : AnswerValue) : Type 0 where
-  pub report : IsReport image a.report
-  pub index : IsIndex image a.index
-  pub clean : IsCleanImage image a.is_clean
+  pub found : Scrubbed
+  pub scrubbed : IsScrubbed image found
+  pub report : a.report ≡ report_text found
+  pub index : a.index ≡ run_bytes (index_entries found.checked found.bindings)
+  pub clean : a.is_clean ≡ is_clean found
 
--- the extents that a scrub scans, rising: the planned extents of the plan by the superblock that counts on the disk
+-- the extents that a scrub scans, ascending: the planned extents of the plan that follows from the choice
 pub record ArePlannedExtents (image : Image) (planned : List ℕ) : Type 0 where
   pub choice : Choice
   pub plan : PlanValue
@@ -28,10 +31,11 @@ pub record ArePlannedExtents (image : Image) (planned : List ℕ) : Type 0 where
   pub follows : IsPlanOf choice plan
   pub are : planned ≡ plan.planned
 
--- each planned extent of the image is in one of these lists, once
-abbrev pub IsPartitionOfPlanned : Image → List (List ℕ) → Type 0
-IsPartitionOfPlanned image lists = (planned : List ℕ) × ArePlannedExtents image planned × IsPartition planned lists
-
--- the image has this many planned extents
-abbrev pub IsCountOfPlanned : Image → ℕ → Type 0
-IsCountOfPlanned image count = (planned : List ℕ) × ArePlannedExtents image planned × (count ≡ length planned)
+-- what a scan of the image by this many workers beside the caller took: a list for each of them and one for the caller,
+-- which may be empty; each planned extent is in one of them, once; and how many planned extents were counted, which is all
+pub record AreTakingsBy (image : Image) (workers : ℕ) (takings : TakingsValue) : Type 0 where
+  pub planned : List ℕ
+  pub are_planned : ArePlannedExtents image planned
+  pub members : length takings.lists ≡ workers + 1
+  pub partition : IsPartition planned takings.lists
+  pub counted : takings.counted ≡ length planned

@@ -7,8 +7,5 @@ pub mod Report
 pub mod Index
 pub mod Answer
 pub mod Parts
--- Steps of the code.
-pub mod Lists
-pub mod Tokens
-pub mod Values
-pub mod Kept
+-- Steps of the code, and lemmas that types need.
+pub mod steps

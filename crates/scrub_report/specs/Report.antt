@@ -120,7 +120,7 @@ candidate_data c = with_keys ((codes "extent", natural c.extent) ∷ (codes "fre
 abbrev pub extents_data : List Checked → List Scanned → Data
 extents_data checked all = list (map (λ f. extent_data (live_bytes checked f) f) all)
 
--- the report of what was found: one object of fifteen keys, in rising order of their bytes
+-- the report of what was found: one object of fifteen keys, in ascending order of their bytes
 abbrev pub report_data : Scrubbed → Data
 report_data s = with_keys (
     (codes "broken", ids_data s.broken) ∷

@@ -14,7 +14,7 @@ use Rattle.scrub_merge.specs.ShardMap.{IsShardMap}
 use Rattle.scrub_check.specs.declared.statuses.checked.Checked.{Checked}
 use Rattle.scrub_check.specs.declared.lists.place.SharedPlace.{SharedPlace}
 use Rattle.scrub_check.specs.Runs.{ReadRunsValue, AreReadRuns}
-use Rattle.scrub_check.specs.Named.{named}
+use Rattle.scrub_check.specs.Named.{named_locators}
 use Rattle.scrub_check.specs.Checked.{AreChecked, AreBrokenShards, dangling, hidden}
 use Rattle.scrub_check.specs.Shared.{AreShared}
 use Rattle.scrub_check.specs.Candidates.{CandidateValue, AreCandidates}
@@ -32,8 +32,8 @@ pub record Scrubbed : Type 0 where
   pub broken : List ShardId
   pub candidates : List CandidateValue
 
--- a newer superblock or a newer binding may have been lost: there is a tie, an unreadable page of extent 0, or a lost
--- run
+-- a newer superblock or a newer binding may have been lost, or it is open which is the newer one: there is a tie, an
+-- unreadable page of extent 0, or a lost run
 abbrev pub is_in_doubt : Choice → ReadRunsValue → Bool
 is_in_doubt choice read = choice.tie || not (length choice.bad_pages == 0) || list_any is_none read.runs
 
@@ -49,7 +49,7 @@ pub record IsScrubbedBut (resets : List ℕ) (image : Image) (s : Scrubbed) : Ty
   pub all : AreAllFindings image s.plan s.all
   pub read : AreReadRuns image s.plan s.read
   pub bindings : IsShardMap s.read.runs s.bindings
-  pub checked : AreChecked image s.plan (named s.plan.runs s.bindings) s.checked
+  pub checked : AreChecked image s.plan (named_locators s.plan.runs s.bindings) s.checked
   pub shared : AreShared s.checked s.shared
   pub broken : AreBrokenShards s.checked s.broken
   pub candidates : AreCandidates s.plan s.all s.checked (is_in_doubt s.choice s.read) s.candidates

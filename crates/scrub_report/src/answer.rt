@@ -1,15 +1,16 @@
 //! The whole scrub of a disk, by one reader or by many workers, and its answer.
 
-ghost use Rattle.std.specs.Prelude.{◌≡◌, ◌+◌, ◌<◌, ◌≤◌, ◌^◌, ℕ, All, AllPairs, List, [], length, IfOk};
+ghost use Rattle.std.specs.Prelude.{◌≡◌, ◌<◌, ◌≤◌, ◌^◌, ℕ, All, AllPairs, List, [], length, IfOk};
 ghost use Rattle.scrub_disk.specs.Image.{Image};
 ghost use Rattle.scrub_run.specs.Entry.{IsBelow};
 ghost use Rattle.scrub_run.specs.Run.{IsRun, run_bytes};
 ghost use Rattle.scrub_merge.specs.Binding.{BindingValue};
 ghost use Rattle.scrub_check.specs.declared.statuses.checked.Checked.{Checked};
 ghost use Rattle.scrub_check.specs.Checked.{AreBrokenShards};
-ghost use Rattle.scrub_report.specs.Answer.{AnswerValue, IsScrubAnswer, ArePlannedExtents, IsPartitionOfPlanned, IsCountOfPlanned};
+ghost use Rattle.scrub_report.specs.Answer.{AnswerValue, IsScrubAnswer, ArePlannedExtents};
+ghost use Rattle.scrub_report.specs.Answer.{AreTakingsBy};
 ghost use Rattle.scrub_report.specs.Index.{IsIndex, index_entries};
-ghost use Rattle.scrub_report.specs.Lists.{AreShardsOf, IsReported};
+ghost use Rattle.scrub_report.specs.steps.Lists.{AreShardsOf, IsReportBy};
 ghost use Rattle.scrub_report.specs.Parts.{AreJudgedBut, IsScan};
 ghost use Rattle.scrub_report.specs.Scrubbed.{IsScrubbed, Scrubbed};
 
@@ -112,7 +113,7 @@ fn report_of<R: Threads + Sync, D: PageSource>(
 ) -> Result<(Vec<u8>, bool), OutOfMemory>
     ensures { (image : Image) (bindings : List BindingValue) → AreJudgedBut [] image bindings judged.entry →
         AreShardsOf bindings shards → AreBrokenShards judged.entry.checked.items broken.now →
-        IfOk result (λ r. IsReported image bindings judged.entry.checked.items r.0.items r.1) }
+        IfOk result (λ r. IsReportBy image bindings judged.entry.checked.items r.0.items r.1) }
 {
     let listed = listed_of(rt, alloc, judged, shards)?;
     let is_clean = is_clean_listed(&listed);
@@ -120,8 +121,9 @@ fn report_of<R: Threads + Sync, D: PageSource>(
     Ok((text, is_clean))
 }
 
-/// The recovered index, and the text of the report with whether the disk is clean. The index needs the shard map and the
-/// broken shards alone, so it is made on a thread of its own while all else is listed and written.
+/// The recovered index, and the text of the report with whether the disk is clean. The index needs the shard
+/// map and the broken shards alone, so it is made on a thread of its own while all else is listed and
+/// written.
 fn index_and_report<R: Threads + Sync, D: PageSource>(
     rt: &R,
     alloc: Global,
@@ -135,7 +137,7 @@ fn index_and_report<R: Threads + Sync, D: PageSource>(
     requires count { length map < 2 ^ 32 }
     ensures index { IfOk result (λ r. r.0.items ≡ run_bytes (index_entries judged.entry.checked.items map)) }
     ensures report { (image : Image) → AreJudgedBut [] image map judged.entry → AreShardsOf map shards →
-        IfOk result (λ r. IsReported image map judged.entry.checked.items r.1.0.items r.1.1) }
+        IfOk result (λ r. IsReportBy image map judged.entry.checked.items r.1.0.items r.1.1) }
 {
     let (index, report) = join(
         rt,
@@ -147,9 +149,10 @@ fn index_and_report<R: Threads + Sync, D: PageSource>(
                 IfOk result (λ bytes. bytes.items ≡ run_bytes (index_entries checked map)) }
         { index_bytes(alloc, map, broken) },
         move || -> Result<(Vec<u8>, bool), OutOfMemory>
-            ensures report { (image : Image) (bindings : List BindingValue) → AreJudgedBut [] image bindings judged.entry →
+            ensures report { (image : Image) (bindings : List BindingValue) →
+                AreJudgedBut [] image bindings judged.entry →
                 AreShardsOf bindings shards → AreBrokenShards judged.entry.checked.items broken.entry.now →
-                IfOk result (λ r. IsReported image bindings judged.entry.checked.items r.0.items r.1) }
+                IfOk result (λ r. IsReportBy image bindings judged.entry.checked.items r.0.items r.1) }
         { report_of(rt, alloc, judged, shards, broken) },
     );
     Ok((index?, report?))
@@ -161,7 +164,7 @@ fn answer_of<R: Threads + Sync, D: PageSource>(
     alloc: Global,
     scan: Scan<'_, D>,
 ) -> Result<ScrubAnswer, OutOfMemory>
-    requires { IsScan (D.image scan.disk.now) scan.chosen scan.plan scan.all.extents }
+    requires { IsScan (D.image scan.disk.now) scan }
     ensures { IfOk result (IsScrubAnswer (D.image scan.entry.disk.now)) }
 {
     let (judged, map) = judged_of(rt, alloc, scan, &[])?;
@@ -175,8 +178,9 @@ fn answer_of<R: Threads + Sync, D: PageSource>(
     })
 }
 
-/// Scrubs a disk: finds the superblock that counts, scans each planned extent by rising number, and checks each named
-/// locator. One thread reads the extents; several check the locators if there are many. The only fault is `OutOfMemory`.
+/// Scrubs a disk: finds the superblock that counts, scans each planned extent by ascending number, and checks
+/// each named locator. One thread reads the extents; several check the locators if there are many. The only
+/// fault is `OutOfMemory`.
 pub fn scrub_in_order<R: Threads + Sync, D: PageSource>(
     rt: &R,
     alloc: Global,
@@ -188,9 +192,9 @@ pub fn scrub_in_order<R: Threads + Sync, D: PageSource>(
     Ok(answer_of(rt, alloc, scan)?)
 }
 
-/// Scrubs a disk as `scrub_in_order` does, with this many workers (0 to 64) beside the caller. All take planned extents from
-/// one queue until it is empty. Also returns which extents each of them took. The only fault is `OutOfMemory`, returned once
-/// every started worker has ended.
+/// Scrubs a disk as `scrub_in_order` does, with this many workers (0 to 64) beside the caller. All take
+/// planned extents from one queue until it is empty. Also returns which extents each of them took. The only
+/// fault is `OutOfMemory`, returned once every started worker has ended.
 pub fn scrub<D: PageSource, G: Gate, R: Threads + Wait + Sync>(
     rt: &R,
     alloc: Global,
@@ -200,30 +204,30 @@ pub fn scrub<D: PageSource, G: Gate, R: Threads + Wait + Sync>(
 ) -> Result<(ScrubAnswer, Takings), ScrubFault>
     requires { workers ≤ 64 }
     ensures answer { IfOk result (λ r. IsScrubAnswer (D.image disk.now) r.0) }
-    ensures workers { IfOk result (λ r. length r.1.lists ≡ workers + 1) }
-    ensures partition { IfOk result (λ r. IsPartitionOfPlanned (D.image disk.now) r.1.lists) }
-    ensures counted { IfOk result (λ r. IsCountOfPlanned (D.image disk.now) r.1.counted) }
+    ensures takings { IfOk result (λ r. AreTakingsBy (D.image disk.now) workers r.1) }
 {
     let (scan, takings) = scan_by(rt, alloc, disk, workers, gate)?;
     let answer = answer_of(rt, alloc, scan)?;
     Ok((answer, takings))
 }
 
-/// A law: an image has one list of planned extents.
+/// A law: an image has at most one list of planned extents.
 pub fn one_list_of_planned_extents()
-    ensures { (image : Image) (planned others : List ℕ) → ArePlannedExtents image planned → ArePlannedExtents image others →
+    ensures { (image : Image) (planned others : List ℕ) → ArePlannedExtents image planned →
+        ArePlannedExtents image others →
         planned ≡ others }
 {}
 
-/// A law: the recovered index is an index run, whose entries are the shards of the map that aren't broken. So `read_run`
-/// reads it back as these entries.
+/// A law: the recovered index is an index run, whose entries are the shards of the map that aren't broken. So
+/// `read_run` reads it back as these entries.
 pub fn the_index_is_a_run()
     ensures { (image : Image) (bytes : List ℕ) → IsIndex image bytes →
-        (found : Scrubbed) × IsScrubbed image found × IsRun bytes (index_entries found.checked found.bindings) }
+        (found : Scrubbed) × IsScrubbed image found ×
+        IsRun bytes (index_entries found.checked found.bindings) }
 {}
 
-/// A law: an image has one report, one index and one verdict whether it is clean. So the answer is the same for each number
-/// of workers.
+/// A law: an image has at most one report, one index and one verdict whether it is clean. So the answer is
+/// the same for each number of workers.
 pub fn one_report()
     ensures { (image : Image) (a b : AnswerValue) → IsScrubAnswer image a → IsScrubAnswer image b → a ≡ b }
 {}

@@ -35,11 +35,7 @@ pub fn is_clean_extent<D: PageSource>(found: &ExtentResult<'_, D>) -> bool
 pub(crate) fn are_clean_extents<D: PageSource>(all: &AllFindings<'_, D>) -> bool
     ensures { result ≡ list_all is_clean_extent all.now.extents }
 {
-    let mut clean = true;
-    for i in 0..all.len() {
-        clean &= is_clean_extent(all.result_at(i));
-    }
-    clean
+    all.results().all(|found| is_clean_extent(found))
 }
 
 /// Whether a superblock counts, none ties with it, and every page of extent 0 can be read.

@@ -7,7 +7,7 @@ ghost use Rattle.json.specs.Print.{print};
 ghost use Rattle.serde_json.specs.Written.{comma_if};
 ghost use Rattle.scrub_scan.specs.Scanned.{scanned};
 ghost use Rattle.scrub_report.specs.Report.{extent_data};
-ghost use Rattle.scrub_report.specs.Tokens.{extents_tokens, piece_text, value_tokens};
+ghost use Rattle.scrub_report.specs.steps.Tokens.{extents_tokens, piece_text, value_tokens};
 
 use crate::json_values::WriteJson;
 use crate::object::{Value, write_object};
@@ -40,7 +40,8 @@ fn write_extent<D: PageSource>(
     found: &ExtentResult<'_, D>,
     live: u32,
 ) -> Result<(), OutOfMemory>
-    ensures tokens { OnOk result (out.new.tokens ≡ out.old.tokens ++ value_tokens (extent_data live (scanned found.now))) }
+    ensures tokens { OnOk result (out.new.tokens ≡ out.old.tokens ++
+        value_tokens (extent_data live (scanned found.now))) }
     ensures before { out.new.before ≡ out.old.before }
 {
     let findings = found.findings();
@@ -82,10 +83,9 @@ fn extents_text<D: PageSource>(
     requires within { from ≤ length all.now.extents }
     ensures { IfOk result (λ text. text.items ≡ piece_text (zip all.now.extents live.now) from size) }
 {
-    let to = from.saturating_add(size).min(all.len());
     let mut out = Writer::new(comma_if(alloc, from > 0)?);
-    for i in from..to {
-        write_extent(alloc, &mut out, all.result_at(i), live[i])?;
+    for (found, live) in all.results().zip(live).skip(from).take(size) {
+        write_extent(alloc, &mut out, found, *live)?;
     }
     Ok(out.into_inner())
 }
@@ -128,21 +128,21 @@ fn extents_texts<R: Threads + Sync, D: PageSource>(
             requires count { length live.now ≡ length all.now.extents }
             requires size { 0 < size }
             requires number { n < div_ceil (length all.now.extents) size }
-            ensures { IfOk result (λ text. text.items ≡ piece_text (zip all.entry.now.extents live.entry.now) (n * size) size) }
+            ensures { IfOk result (λ text. text.items ≡
+                piece_text (zip all.entry.now.extents live.entry.now) (n * size) size) }
         { nth_text(alloc, all, live, size, n) },
     )
 }
 
 /// How many items are in all extents.
 fn item_count<D: PageSource>(all: &AllFindings<'_, D>) -> usize {
-    let mut count = 0usize;
-    for i in 0..all.len() {
-        count = count.saturating_add(all.result_at(i).findings().items().len());
-    }
-    count
+    all.results()
+        .map(|found| found.findings().items().len())
+        .fold(0, usize::saturating_add)
 }
 
-/// How many extents a piece has: enough for at most two pieces a processor, or all of them if there are few items.
+/// How many extents a piece has: enough for at most two pieces a processor, or all of them if there are few
+/// items.
 fn piece_size<R: Threads, D: PageSource>(rt: &R, all: &AllFindings<'_, D>) -> usize
     ensures { 0 < result }
 {
@@ -166,7 +166,8 @@ pub(crate) fn append_extents<R: Threads + Sync, D: PageSource>(
     live: &[u32],
 ) -> Result<(), OutOfMemory>
     requires { length live.now ≡ length all.now.extents }
-    ensures { OnOk result (text.new.items ≡ text.old.items ++ print (extents_tokens (zip all.now.extents live.now))) }
+    ensures { OnOk result (text.new.items ≡ text.old.items ++
+        print (extents_tokens (zip all.now.extents live.now))) }
 {
     let size = piece_size(rt, all);
     for piece in extents_texts(rt, alloc, all, live, size)? {

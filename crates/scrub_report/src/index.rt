@@ -1,13 +1,14 @@
 //! The recovered index: the run of the shards of the map that aren't broken, written from the bindings.
 
-ghost use Rattle.std.specs.Prelude.{◌≡◌, ◌+◌, ◌*◌, ◌++◌, ◌≤◌, ◌<◌, ◌^◌, ◌↔◌, All, AllPairs, Contains, IfOk, IsTrue, List, OnOk, length, not};
+ghost use Rattle.std.specs.Prelude.{◌≡◌, ◌+◌, ◌*◌, ◌++◌, ◌≤◌, ◌<◌, ◌^◌, ◌↔◌, All, AllPairs, Contains, IfOk};
+ghost use Rattle.std.specs.Prelude.{IsTrue, List, OnOk, length, not};
 ghost use Rattle.std.specs.List.{flat_map};
 ghost use Rattle.scrub_run.specs.Entry.{IsBelow, entry_bytes};
 ghost use Rattle.scrub_run.specs.Run.{run_body, run_bytes};
 ghost use Rattle.scrub_check.specs.declared.statuses.checked.Checked.{Checked};
 ghost use Rattle.scrub_check.specs.Checked.{AreBrokenShards, is_broken};
 ghost use Rattle.scrub_report.specs.Index.{index_entries};
-ghost use Rattle.scrub_report.specs.Kept.{all_locators};
+ghost use Rattle.scrub_report.specs.steps.IndexLocators.{all_locators};
 
 use scrub_disk::OutOfMemory;
 use scrub_merge::{Binding, ShardMap};

@@ -3,7 +3,7 @@
 ghost use Rattle.std.specs.Prelude.{◌≡◌, ◌++◌, OnOk, map};
 ghost use Rattle.serde_json.specs.Data.{Data};
 ghost use Rattle.scrub_report.specs.Json.{list};
-ghost use Rattle.scrub_report.specs.Tokens.{value_tokens};
+ghost use Rattle.scrub_report.specs.steps.Tokens.{value_tokens};
 
 use crate::texts::id_text;
 use json::Writer;
@@ -28,7 +28,8 @@ pub(crate) fn write_list<T: WriteJson>(
     out: &mut Writer,
     items: &[T],
 ) -> Result<(), OutOfMemory>
-    ensures tokens { OnOk result (out.new.tokens ≡ out.old.tokens ++ value_tokens (list (map T.shown items.now))) }
+    ensures tokens { OnOk result (out.new.tokens ≡ out.old.tokens ++
+        value_tokens (list (map T.shown items.now))) }
     ensures before { out.new.before ≡ out.old.before }
 {
     out.begin_array()?;

@@ -1,7 +1,7 @@
 //! The report's keys and their values, in the order of the keys.
 
 ghost use Rattle.std.specs.Prelude.{◌≡◌, ◌++◌, OnOk};
-ghost use Rattle.scrub_report.specs.Tokens.{first_keys, hidden_keys, last_keys, members_tokens, run_keys};
+ghost use Rattle.scrub_report.specs.steps.Tokens.{first_keys, last_keys, members_tokens};
 
 use crate::json_values::{WriteJson, write_list};
 use crate::listed::Listed;
@@ -43,7 +43,7 @@ pub(crate) enum KeyValue<'a> {
 }
 
 impl WriteJson for KeyValue<'_> {
-    ghost use Rattle.scrub_report.specs.Values.{key_data};
+    ghost use Rattle.scrub_report.specs.steps.Values.{key_data};
 
     ghost shown = { key_data };
 
@@ -64,7 +64,7 @@ impl WriteJson for KeyValue<'_> {
     }
 }
 
-/// Writes the keys from `broken` up to `doubtful`.
+/// Writes the keys before `extents`.
 pub(crate) fn write_first<'a, D: PageSource>(
     alloc: Global,
     out: &mut Writer,
@@ -72,7 +72,8 @@ pub(crate) fn write_first<'a, D: PageSource>(
     broken: &'a [ShardId],
     clean: bool,
 ) -> Result<(), OutOfMemory>
-    ensures tokens { OnOk result (out.new.tokens ≡ out.old.tokens ++ members_tokens (first_keys listed.now broken.now clean)) }
+    ensures tokens { OnOk result (out.new.tokens ≡ out.old.tokens ++
+        members_tokens (first_keys listed.now broken.now clean)) }
     ensures before { out.new.before ≡ out.old.before }
 {
     write_members(
@@ -91,46 +92,7 @@ pub(crate) fn write_first<'a, D: PageSource>(
     )
 }
 
-/// Writes the keys `geometry` and `hidden`.
-pub(crate) fn write_sizes<D: PageSource>(
-    alloc: Global,
-    out: &mut Writer,
-    listed: &Listed<'_, D>,
-) -> Result<(), OutOfMemory>
-    ensures tokens { OnOk result (out.new.tokens ≡ out.old.tokens ++ members_tokens (hidden_keys listed.now)) }
-    ensures before { out.new.before ≡ out.old.before }
-{
-    write_members(
-        alloc,
-        out,
-        &[
-            ("geometry", KeyValue::Geometry(listed.plan.geometry())),
-            ("hidden", KeyValue::Locators(&listed.hidden)),
-        ],
-    )
-}
-
-/// Writes the keys from `orphans` up to `runs`.
-pub(crate) fn write_index<D: PageSource>(
-    alloc: Global,
-    out: &mut Writer,
-    listed: &Listed<'_, D>,
-) -> Result<(), OutOfMemory>
-    ensures tokens { OnOk result (out.new.tokens ≡ out.old.tokens ++ members_tokens (run_keys listed.now)) }
-    ensures before { out.new.before ≡ out.old.before }
-{
-    write_members(
-        alloc,
-        out,
-        &[
-            ("orphans", KeyValue::Places(&listed.liveness.orphans)),
-            ("retired", KeyValue::Numbers(listed.plan.retired())),
-            ("runs", KeyValue::Runs(&listed.runs)),
-        ],
-    )
-}
-
-/// Writes the keys from `shards` up to `twins`, the last one.
+/// Writes the keys after `extents`.
 pub(crate) fn write_last<D: PageSource>(
     alloc: Global,
     out: &mut Writer,
@@ -139,13 +101,19 @@ pub(crate) fn write_last<D: PageSource>(
     ensures tokens { OnOk result (out.new.tokens ≡ out.old.tokens ++ members_tokens (last_keys listed.now)) }
     ensures before { out.new.before ≡ out.old.before }
 {
+    let plan = &listed.scan.plan;
     write_members(
         alloc,
         out,
         &[
+            ("geometry", KeyValue::Geometry(plan.geometry())),
+            ("hidden", KeyValue::Locators(&listed.hidden)),
+            ("orphans", KeyValue::Places(&listed.liveness.orphans)),
+            ("retired", KeyValue::Numbers(plan.retired())),
+            ("runs", KeyValue::Runs(&listed.runs)),
             ("shards", KeyValue::Count(listed.shards.count)),
             ("shared", KeyValue::Shared(&listed.liveness.shared)),
-            ("super", KeyValue::Super(&listed.chosen)),
+            ("super", KeyValue::Super(&listed.scan.chosen)),
             ("twins", KeyValue::Places(&listed.twins)),
         ],
     )

@@ -1,5 +1,5 @@
-//! The whole scrub of a disk: its report as JSON text, its recovered index as the bytes of a run, and whether it is clean. What
-//! was scanned and found is there for the crates above, which write it as lines.
+//! The whole scrub of a disk: its report as JSON text, its recovered index as the bytes of a run, and whether
+//! it is clean. What was scanned and found is there for the crates above, which write it as lines.
 #![tactic(auto)]
 
 pub mod answer;

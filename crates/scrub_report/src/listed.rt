@@ -1,30 +1,25 @@
 //! What the report lists of a disk, drawn from the judged locators. `report` writes it.
 
 ghost use Rattle.std.specs.Prelude.{◌≡◌, IfOk};
-ghost use Rattle.scrub_report.specs.Lists.{AreDrawnFrom, AreListsOf, has_none, is_clean_listed};
+ghost use Rattle.scrub_report.specs.steps.Lists.{AreDrawnFrom, AreListsOf, has_none, is_clean_listed};
 
 use crate::clean::{are_clean_extents, is_clean_choice};
 use crate::parts::Judged;
 use crate::runs::RunRow;
+use crate::scanning::Scan;
 use crate::scrubbing::{are_read, liveness_and_twins};
 use crate::shards::Shards;
 use scrub_check::{Checked, Liveness, LocatorIndex, Place, dangling, hidden};
 use scrub_disk::{OutOfMemory, PageSource};
-use scrub_scan::AllFindings;
-use scrub_super::{Chosen, Plan};
 use std::alloc::Global;
 use std::thread::Threads;
 
-/// What the report lists of a disk, but for the broken shards. Neither the shard map is here nor the checked locators: only
-/// what is drawn from them.
+/// What the report lists of a disk, but for the broken shards. Neither the shard map is here nor the checked
+/// locators: only what is drawn from them.
 #[derive(Drop)]
 pub(crate) struct Listed<'d, D: PageSource> {
-    /// The choice of the superblock that counts.
-    pub chosen: Chosen,
-    /// The plan that it gives.
-    pub plan: Plan,
-    /// The findings in each planned extent.
-    pub all: AllFindings<'d, D>,
+    /// What was scanned.
+    pub scan: Scan<'d, D>,
     /// The index runs of the plan, in its order.
     pub runs: Vec<RunRow>,
     /// What is said of the shard map.
@@ -71,19 +66,15 @@ pub(crate) fn listed_of<'d, R: Threads + Sync, D: PageSource>(
     ensures { IfOk result (AreListsOf judged.entry shards) }
 {
     let Judged {
-        chosen,
-        plan,
-        all,
+        scan,
         in_doubt,
         runs,
         checked,
     } = judged;
     let drawn = drawn_from(alloc, checked)?;
-    let (liveness, twins) = liveness_and_twins(rt, alloc, &plan, &all, &drawn.locators, in_doubt)?;
+    let (liveness, twins) = liveness_and_twins(rt, alloc, &scan, &drawn.locators, in_doubt)?;
     Ok(Listed {
-        chosen,
-        plan,
-        all,
+        scan,
         runs,
         shards,
         dangling: drawn.dangling,
@@ -104,8 +95,8 @@ fn has_none<D: PageSource>(listed: &Listed<'_, D>) -> bool
 pub(crate) fn is_clean_listed<D: PageSource>(listed: &Listed<'_, D>) -> bool
     ensures { result ≡ is_clean_listed listed.now }
 {
-    is_clean_choice(&listed.chosen)
-        && are_clean_extents(&listed.all)
+    is_clean_choice(&listed.scan.chosen)
+        && are_clean_extents(&listed.scan.all)
         && are_read(&listed.runs)
         && has_none(listed)
 }

@@ -2,7 +2,7 @@
 
 ghost use Rattle.std.specs.Prelude.{◌≡◌, ◌++◌, OnOk, map};
 ghost use Rattle.scrub_report.specs.Json.{with_keys};
-ghost use Rattle.scrub_report.specs.Tokens.{members_tokens, value_tokens};
+ghost use Rattle.scrub_report.specs.steps.Tokens.{members_tokens, value_tokens};
 
 use crate::json_values::{WriteJson, write_list};
 use crate::texts::{owner_text, state_text, status_text};
@@ -42,7 +42,7 @@ pub(crate) enum Value<'a> {
 }
 
 impl WriteJson for Value<'_> {
-    ghost use Rattle.scrub_report.specs.Values.{value_data};
+    ghost use Rattle.scrub_report.specs.steps.Values.{value_data};
 
     ghost shown = { value_data };
 

@@ -15,8 +15,8 @@ pub struct WriteFault {
 
 /// Writes all of `bytes`, with as few calls of `write` as the writer allows.
 ///
-/// It ends at an error of the writer, also at `Interrupted`, and at a call that takes 0 bytes. It doesn't flush and takes no
-/// memory.
+/// It ends at an error of the writer, also at `Interrupted`, and at a call that takes 0 bytes. It doesn't
+/// flush and takes no memory.
 pub fn write_out<W: Write>(writer: &mut W, bytes: &[u8]) -> Result<(), WriteFault>
     ensures whole { OnOk result (Appends (W.contents writer.old) (W.contents writer.new) bytes.now) }
     ensures part { IfErr result (λ fault. Appends (W.contents writer.old) (W.contents writer.new)

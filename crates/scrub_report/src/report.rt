@@ -1,12 +1,12 @@
-//! The text of the report: one JSON object, written token by token, except for its extents, whose texts threads make. The other
-//! keys are in `keys`.
+//! The text of the report: one JSON object, written token by token, except for its extents, whose texts
+//! threads make. The other keys are in `keys`.
 
 ghost use Rattle.std.specs.Prelude.{◌≡◌, ◌++◌, IfOk, length};
 ghost use Rattle.json.specs.Print.{print};
-ghost use Rattle.scrub_report.specs.Tokens.{begun_tokens, ended_tokens, listed_text};
+ghost use Rattle.scrub_report.specs.steps.Tokens.{begun_tokens, ended_tokens, listed_text};
 
 use crate::extents::append_extents;
-use crate::keys::{write_first, write_index, write_last, write_sizes};
+use crate::keys::{write_first, write_last};
 use crate::listed::Listed;
 use json::Writer;
 use scrub_disk::{OutOfMemory, PageSource};
@@ -31,7 +31,7 @@ fn begun_text<D: PageSource>(
     Ok(out.into_inner())
 }
 
-/// This text, and behind it what follows the last extent.
+/// This text, and after it what follows the last extent.
 fn ended_text<D: PageSource>(
     alloc: Global,
     text: Vec<u8>,
@@ -41,8 +41,6 @@ fn ended_text<D: PageSource>(
 {
     let mut out = Writer::new(text);
     out.end_array()?;
-    write_sizes(alloc, &mut out, listed)?;
-    write_index(alloc, &mut out, listed)?;
     write_last(alloc, &mut out, listed)?;
     out.end_object()?;
     Ok(out.into_inner())
@@ -56,11 +54,17 @@ pub(crate) fn report_text<R: Threads + Sync, D: PageSource>(
     broken: &[ShardId],
     clean: bool,
 ) -> Result<Vec<u8>, OutOfMemory>
-    requires live { length listed.now.liveness.live.items ≡ length listed.now.all.extents }
+    requires live { length listed.now.liveness.live.items ≡ length listed.now.scan.all.extents }
     ensures { IfOk result (λ text. text.items ≡ listed_text listed.now broken.now clean) }
 {
     let mut begun = begun_text(alloc, listed, broken, clean)?;
-    append_extents(rt, alloc, &mut begun, &listed.all, &listed.liveness.live)?;
+    append_extents(
+        rt,
+        alloc,
+        &mut begun,
+        &listed.scan.all,
+        &listed.liveness.live,
+    )?;
     let mut text = ended_text(alloc, begun, listed)?;
     text.push(b'\n')?;
     Ok(text)

@@ -25,7 +25,7 @@ pub struct RunRow {
 
 /// One of `runs`.
 impl WriteJson for RunRow {
-    ghost use Rattle.scrub_report.specs.Values.{row_data};
+    ghost use Rattle.scrub_report.specs.steps.Values.{row_data};
 
     ghost shown = { row_data };
 

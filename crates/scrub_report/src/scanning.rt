@@ -1,8 +1,8 @@
 //! The choice, the plan and the scan of a disk, by one reader or by workers.
 
-ghost use Rattle.std.specs.Prelude.{◌≡◌, ◌+◌, ◌≤◌, length, IfOk};
+ghost use Rattle.std.specs.Prelude.{◌≡◌, ◌≤◌, IfOk};
 ghost use Rattle.scrub_super.specs.Chosen.{IsChoice};
-ghost use Rattle.scrub_report.specs.Answer.{IsPartitionOfPlanned, IsCountOfPlanned};
+ghost use Rattle.scrub_report.specs.Answer.{AreTakingsBy};
 ghost use Rattle.scrub_report.specs.Parts.{IsScan, IsScanBut};
 ghost use Rattle.scrub_report.specs.Scrubbed.{IsPlanBut};
 ghost use Rattle.std.specs.List.Sorted.{IsStrictlyIncreasing};
@@ -35,7 +35,7 @@ pub(crate) fn scan_by_one<'d, D: PageSource>(
     disk: &'d D,
 ) -> Result<Scan<'d, D>, OutOfMemory>
     ensures image { IfOk result (λ s. D.image s.disk.now ≡ D.image disk.now) }
-    ensures scan { IfOk result (λ s. IsScan (D.image s.disk.now) s.chosen s.plan s.all.extents) }
+    ensures scan { IfOk result (λ s. IsScan (D.image s.disk.now) s) }
 {
     let chosen = choose(alloc, disk)?;
     let plan = Plan::make(alloc, &chosen, disk.geometry())?;
@@ -58,10 +58,8 @@ pub fn scan_by<'d, D: PageSource, G: Gate, R: Threads + Wait + Sync>(
 ) -> Result<(Scan<'d, D>, Takings), ScrubFault>
     requires { workers ≤ 64 }
     ensures image { IfOk result (λ r. D.image r.0.disk.now ≡ D.image disk.now) }
-    ensures scan { IfOk result (λ r. IsScan (D.image r.0.disk.now) r.0.chosen r.0.plan r.0.all.extents) }
-    ensures workers { IfOk result (λ r. length r.1.lists ≡ workers + 1) }
-    ensures partition { IfOk result (λ r. IsPartitionOfPlanned (D.image disk.now) r.1.lists) }
-    ensures counted { IfOk result (λ r. IsCountOfPlanned (D.image disk.now) r.1.counted) }
+    ensures scan { IfOk result (λ r. IsScan (D.image r.0.disk.now) r.0) }
+    ensures takings { IfOk result (λ r. AreTakingsBy (D.image disk.now) workers r.1) }
 {
     let chosen = choose(alloc, disk)?;
     scan_chosen(rt, alloc, disk, chosen, workers, gate)
@@ -97,10 +95,8 @@ pub fn scan_chosen<'d, D: PageSource, G: Gate, R: Threads + Wait + Sync>(
     requires workers { workers ≤ 64 }
     requires choice { IsChoice (D.image disk.now) chosen }
     ensures image { IfOk result (λ r. D.image r.0.disk.now ≡ D.image disk.now) }
-    ensures scan { IfOk result (λ r. IsScan (D.image r.0.disk.now) r.0.chosen r.0.plan r.0.all.extents) }
-    ensures workers { IfOk result (λ r. length r.1.lists ≡ workers + 1) }
-    ensures partition { IfOk result (λ r. IsPartitionOfPlanned (D.image disk.now) r.1.lists) }
-    ensures counted { IfOk result (λ r. IsCountOfPlanned (D.image disk.now) r.1.counted) }
+    ensures scan { IfOk result (λ r. IsScan (D.image r.0.disk.now) r.0) }
+    ensures takings { IfOk result (λ r. AreTakingsBy (D.image disk.now) workers r.1) }
 {
     scan_with_resets(rt, alloc, disk, chosen, workers, gate, &[])
 }
@@ -119,10 +115,8 @@ pub fn scan_with_resets<'d, D: PageSource, G: Gate, R: Threads + Wait + Sync>(
     requires choice { IsChoice (D.image disk.now) chosen }
     requires rising { IsStrictlyIncreasing resets.now }
     ensures image { IfOk result (λ r. D.image r.0.disk.now ≡ D.image disk.now) }
-    ensures scan { IfOk result (λ r. IsScanBut resets.now (D.image r.0.disk.now) r.0.chosen r.0.plan r.0.all.extents) }
-    ensures workers { IfOk result (λ r. length r.1.lists ≡ workers + 1) }
-    ensures partition { IfOk result (λ r. IsPartitionOfPlanned (D.image disk.now) r.1.lists) }
-    ensures counted { IfOk result (λ r. IsCountOfPlanned (D.image disk.now) r.1.counted) }
+    ensures scan { IfOk result (λ r. IsScanBut resets.now (D.image r.0.disk.now) r.0) }
+    ensures takings { IfOk result (λ r. AreTakingsBy (D.image disk.now) workers r.1) }
 {
     let plan = plan_but(alloc, &chosen, disk.geometry(), resets)?;
     let (queue, mut first) = ExtentQueue::new(rt, alloc, &plan)?;

@@ -6,8 +6,9 @@ ghost use Rattle.scrub_disk.specs.Image.{Image};
 ghost use Rattle.scrub_check.specs.Checked.{is_sound};
 ghost use Rattle.scrub_check.specs.declared.statuses.checked.Checked.{Checked};
 ghost use Rattle.scrub_check.specs.Chunks.{twins};
-ghost use Rattle.scrub_check.specs.LocatorIndex.{IsLocatorIndex};
-ghost use Rattle.scrub_report.specs.Parts.{AreJudgedBut, ArePartsBut, ArePartsOf, IsLivenessBy, IsLivenessOf, IsScan, IsScanBut, is_clean_kept};
+ghost use Rattle.scrub_check.specs.steps.LocatorIndex.{IsLocatorIndex};
+ghost use Rattle.scrub_report.specs.Parts.{AreJudgedBut, ArePartsBut, ArePartsOf, IsLivenessBy, IsLivenessOf};
+ghost use Rattle.scrub_report.specs.Parts.{IsScan, IsScanBut, is_clean_kept};
 ghost use Rattle.scrub_report.specs.Scrubbed.{is_clean_list, is_in_doubt};
 
 use crate::clean::{are_clean_extents, is_clean_choice};
@@ -20,8 +21,7 @@ use scrub_check::{
 };
 use scrub_disk::{OutOfMemory, PageSource};
 use scrub_merge::{ShardMap, merge_owned};
-use scrub_scan::AllFindings;
-use scrub_super::{Chosen, Plan};
+use scrub_super::Chosen;
 use std::alloc::Global;
 use std::thread::{Threads, join_mut};
 
@@ -39,33 +39,26 @@ fn is_in_doubt(chosen: &Chosen, read: &ReadRuns) -> bool
     chosen.tie() || !chosen.bad_pages().is_empty() || has_lost_run(read)
 }
 
-/// What is found on a scanned disk, as if these extents had been reset, up to the status of each named locator, and the shard
-/// map. Once the runs are merged their entries are in the map, so only what the report needs of the runs is kept.
+/// What is found on a scanned disk, as if these extents had been reset, up to the status of each named
+/// locator, and the shard map. Once the runs are merged their entries are in the map, so only what the report
+/// needs of the runs is kept.
 pub(crate) fn judged_of<'d, R: Threads + Sync, D: PageSource>(
     rt: &R,
     alloc: Global,
     scan: Scan<'d, D>,
     resets: &[u32],
 ) -> Result<(Judged<'d, D>, ShardMap), OutOfMemory>
-    requires { IsScanBut resets.now (D.image scan.disk.now) scan.chosen scan.plan scan.all.extents }
+    requires { IsScanBut resets.now (D.image scan.disk.now) scan }
     ensures { IfOk result (λ r. AreJudgedBut resets.now (D.image scan.entry.disk.now) r.1 r.0) }
 {
-    let Scan {
-        disk,
-        chosen,
-        plan,
-        all,
-    } = scan;
-    let (read, statuses) = read_all_runs(rt, alloc, disk, &plan, &all)?;
-    let in_doubt = is_in_doubt(&chosen, &read);
-    let runs = run_rows(alloc, plan.runs(), &read)?;
+    let (read, statuses) = read_all_runs(rt, alloc, scan.disk, &scan.plan, &scan.all)?;
+    let in_doubt = is_in_doubt(&scan.chosen, &read);
+    let runs = run_rows(alloc, scan.plan.runs(), &read)?;
     let (read_runs, _) = read.into_parts();
     let map = merge_owned(alloc, read_runs)?;
-    let checked = check_named(rt, alloc, disk, &plan, &all, &statuses, &map)?;
+    let checked = check_named(rt, alloc, scan.disk, &scan.plan, &scan.all, &statuses, &map)?;
     let judged = Judged {
-        chosen,
-        plan,
-        all,
+        scan,
         in_doubt,
         runs,
         checked,
@@ -82,8 +75,8 @@ fn liveness_in<D: PageSource>(
 {
     liveness_of(
         alloc,
-        &judged.plan,
-        &judged.all,
+        &judged.scan.plan,
+        &judged.scan.all,
         &judged.checked,
         judged.in_doubt,
     )
@@ -92,44 +85,44 @@ fn liveness_in<D: PageSource>(
 /// The same, by what the named locators say.
 fn liveness_with<D: PageSource>(
     alloc: Global,
-    plan: &Plan,
-    all: &AllFindings<'_, D>,
+    scan: &Scan<'_, D>,
     locators: &LocatorIndex,
     in_doubt: bool,
 ) -> Result<Liveness, OutOfMemory>
     ensures { (checked : List Checked) → IsLocatorIndex checked locators.now →
-        IfOk result (IsLivenessBy plan.now all.now.extents checked in_doubt) }
+        IfOk result (IsLivenessBy scan.now.plan scan.now.all.extents checked in_doubt) }
 {
-    liveness_by(alloc, plan, all, locators, in_doubt)
+    liveness_by(alloc, &scan.plan, &scan.all, locators, in_doubt)
 }
 
-/// What follows from which chunks are live, and the twins among the chunks, found at the same time on two threads.
+/// What follows from which chunks are live, and the twins among the chunks, found at the same time on two
+/// threads.
 pub(crate) fn liveness_and_twins<R: Threads + Sync, D: PageSource>(
     rt: &R,
     alloc: Global,
-    plan: &Plan,
-    all: &AllFindings<'_, D>,
+    scan: &Scan<'_, D>,
     locators: &LocatorIndex,
     in_doubt: bool,
 ) -> Result<(Liveness, Vec<Place>), OutOfMemory>
     ensures liveness { (checked : List Checked) → IsLocatorIndex checked locators.now →
-        IfOk result (λ r. IsLivenessBy plan.now all.now.extents checked in_doubt r.0) }
-    ensures twins { IfOk result (λ r. r.1.items ≡ twins all.now.extents) }
+        IfOk result (λ r. IsLivenessBy scan.now.plan scan.now.all.extents checked in_doubt r.0) }
+    ensures twins { IfOk result (λ r. r.1.items ≡ twins scan.now.all.extents) }
 {
     let (liveness, twin_chunks) = join_mut(
         rt,
         &mut || -> Result<Liveness, OutOfMemory>
             ensures liveness { (checked : List Checked) → IsLocatorIndex checked locators.entry.now →
-                IfOk result (IsLivenessBy plan.entry.now all.entry.now.extents checked in_doubt) }
-        { liveness_with(alloc, plan, all, locators, in_doubt) },
+                IfOk result (IsLivenessBy scan.entry.now.plan scan.entry.now.all.extents checked in_doubt) }
+        { liveness_with(alloc, scan, locators, in_doubt) },
         &mut || -> Result<Vec<Place>, OutOfMemory>
-            ensures twins { IfOk result (λ v. v.items ≡ twins all.entry.now.extents) }
-        { twins(alloc, all) },
+            ensures twins { IfOk result (λ v. v.items ≡ twins scan.entry.now.all.extents) }
+        { twins(alloc, &scan.all) },
     );
     Ok((liveness?, twin_chunks?))
 }
 
-/// What is found on a disk, from its checked locators, its shard map and what follows from which chunks are live.
+/// What is found on a disk, from its checked locators, its shard map and what follows from which chunks are
+/// live.
 fn parts_from<'d, D: PageSource>(
     alloc: Global,
     judged: Judged<'d, D>,
@@ -139,24 +132,12 @@ fn parts_from<'d, D: PageSource>(
     requires { IsLivenessOf judged liveness }
     ensures parts { (resets : List ℕ) (image : Image) → AreJudgedBut resets image map judged.entry →
         IfOk result (ArePartsBut resets image) }
-    ensures all { IfOk result (λ parts. parts.all.extents ≡ judged.entry.all.extents) }
+    ensures scan { IfOk result (λ parts. parts.judged.scan ≡ judged.entry.scan) }
 {
-    let Judged {
-        chosen,
-        plan,
-        all,
-        runs,
-        checked,
-        ..
-    } = judged;
     Ok(Parts {
-        broken: broken_shards(alloc, &checked)?,
-        chosen,
-        plan,
-        all,
-        runs,
+        broken: broken_shards(alloc, &judged.checked)?,
+        judged,
         map,
-        checked,
         liveness,
     })
 }
@@ -168,7 +149,7 @@ pub fn parts_of<'d, R: Threads + Sync, D: PageSource>(
     scan: Scan<'d, D>,
     resets: &[u32],
 ) -> Result<Parts<'d, D>, OutOfMemory>
-    requires { IsScanBut resets.now (D.image scan.disk.now) scan.chosen scan.plan scan.all.extents }
+    requires { IsScanBut resets.now (D.image scan.disk.now) scan }
     ensures { IfOk result (ArePartsBut resets.now (D.image scan.entry.disk.now)) }
 {
     let (judged, map) = judged_of(rt, alloc, scan, resets)?;
@@ -182,17 +163,16 @@ pub fn parts_and_twins<'d, R: Threads + Sync, D: PageSource>(
     alloc: Global,
     scan: Scan<'d, D>,
 ) -> Result<(Parts<'d, D>, Vec<Place>), OutOfMemory>
-    requires { IsScan (D.image scan.disk.now) scan.chosen scan.plan scan.all.extents }
+    requires { IsScan (D.image scan.disk.now) scan }
     ensures parts { IfOk result (λ r. ArePartsOf (D.image scan.entry.disk.now) r.0) }
-    ensures twins { IfOk result (λ r. r.1.items ≡ twins r.0.all.extents) }
+    ensures twins { IfOk result (λ r. r.1.items ≡ twins r.0.judged.scan.all.extents) }
 {
     let (judged, map) = judged_of(rt, alloc, scan, &[])?;
     let locators = LocatorIndex::of(alloc, &judged.checked)?;
     let (liveness, twin_chunks) = liveness_and_twins(
         rt,
         alloc,
-        &judged.plan,
-        &judged.all,
+        &judged.scan,
         &locators,
         judged.in_doubt,
     )?;
@@ -225,8 +205,9 @@ pub(crate) fn are_read(runs: &[RunRow]) -> bool
 pub fn is_clean<D: PageSource>(parts: &Parts<'_, D>) -> bool
     ensures { result ≡ is_clean_kept parts.now }
 {
-    is_clean_choice(&parts.chosen)
-        && are_clean_extents(&parts.all)
-        && are_read(&parts.runs)
-        && is_clean_list(&parts.checked, &parts.liveness.shared)
+    let judged = &parts.judged;
+    is_clean_choice(&judged.scan.chosen)
+        && are_clean_extents(&judged.scan.all)
+        && are_read(&judged.runs)
+        && is_clean_list(&judged.checked, &parts.liveness.shared)
 }

@@ -2,7 +2,7 @@
 
 ghost use Rattle.std.specs.Prelude.{◌≡◌, ◌++◌, OnOk, option_map};
 ghost use Rattle.scrub_report.specs.Report.{geometry_data, super_data};
-ghost use Rattle.scrub_report.specs.Tokens.{value_tokens};
+ghost use Rattle.scrub_report.specs.steps.Tokens.{value_tokens};
 
 use crate::object::{Value, write_object};
 use json::Writer;

@@ -14,7 +14,7 @@ use Rattle.scrub_check.specs.Named.{named_by_shard}
 use Rattle.scrub_check.specs.Spares.{AreSpares}
 use Rattle.scrub_check.specs.WholeScan.{IsWholeScan}
 use Rattle.scrub_shard.specs.Shard.{IsAnswerIn, IsAnswerOf, IsBoundBy, Mapped}
-use Rattle.scrub_shard.specs.Steps.{AreBytesBy, HasPayloadLeft, is_lost_by}
+use Rattle.scrub_shard.specs.steps.Payloads.{AreBytesBy, HasPayloadLeft, is_lost_by}
 use Rattle.scrub_shard.specs.declared.shard.ShardAnswer.{ShardAnswer}
 use Rattle.scrub_shard.specs.declared.shard.ShardAnswer.TheVariants.{NoSuchShard, PayloadLost, Found}
 use Rattle.scrub_shard.proofs.Joined.{bytes_are}

@@ -12,7 +12,7 @@ use Rattle.scrub_scan.specs.Scanned.{Scanned}
 use Rattle.scrub_check.specs.declared.statuses.checked.Checked.{Checked}
 use Rattle.scrub_check.specs.Spares.{spares_by, spares_of}
 use Rattle.scrub_shard.specs.Shard.{AreBytesFor, IsPayloadFor, IsPayloadOf}
-use Rattle.scrub_shard.specs.Steps.{AreBytesBy, IsPayloadBy}
+use Rattle.scrub_shard.specs.steps.Payloads.{AreBytesBy, IsPayloadBy}
 
 module _ (image : Image) (found : List Standing) (own : List Checked) where
   -- none so far

@@ -22,7 +22,7 @@ use Rattle.scrub_check.specs.WholeScan.{IsWholeScan}
 use Rattle.scrub_check.proofs.Payloads.{stands_there}
 use Rattle.scrub_listings.specs.Manifest.{is_without_spare}
 use Rattle.scrub_shard.specs.Shard.{first_lost}
-use Rattle.scrub_shard.specs.Steps.{AreReadable, HasPayloadLeft, is_lost_by}
+use Rattle.scrub_shard.specs.steps.Payloads.{AreReadable, HasPayloadLeft, is_lost_by}
 use Rattle.scrub_shard.proofs.Frames.{frames_stand}
 use Rattle.scrub_shard.proofs.Joined.{HasItsSpares}
 

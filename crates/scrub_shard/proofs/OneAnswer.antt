@@ -9,7 +9,7 @@ use Rattle.scrub_disk.specs.Image.{Image, extent_bytes}
 use Rattle.scrub_super.proofs.Laws.{one_choice_lem}
 use Rattle.scrub_scan.specs.declared.standing.Standing.{Standing}
 use Rattle.scrub_scan.specs.Extent.{extent_of}
-use Rattle.scrub_scan.specs.OneFrame.{one_frame_at}
+use Rattle.scrub_scan.specs.steps.OneFrame.{one_frame_at}
 use Rattle.scrub_scan.specs.Scanned.{Scanned}
 use Rattle.scrub_scan.specs.Standing.{HasPayload}
 use Rattle.scrub_run.specs.declared.shard_id.ShardId.{ShardId}

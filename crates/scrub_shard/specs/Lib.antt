@@ -1,5 +1,5 @@
 -- For public clauses.
 pub mod Bytes
 pub mod Shard
--- Steps of the code.
-pub mod Steps
+-- Steps of the code, and lemmas that types need.
+pub mod steps

@@ -129,11 +129,11 @@ pub record HaveContentsOfEntry (image : Image) (id : ShardId) (bytes : List ℕ)
   pub bound : IsBoundBy found.bindings id entry
   pub contents : HaveContentsOf entry.locators bytes
 
--- the locator asks for nothing, or no chunk of the scanned extents has what it asks for
+-- the locator asks for nothing, or no chunk in the tilings of the scanned extents has what it asks for
 abbrev pub IsNowhere : List Scanned → Locator → Type 0
 IsNowhere all l = (l.length ≡ 0) ⊎ ((s : Standing) → Contains (frames all) s → (s.length ≡ l.length) × (s.digest ≡ l.digest) → ⊥)
 
--- the locator of this number in the entry of the shard asks for nothing, or for what no chunk of a scanned extent has
+-- the locator of this number in the entry of the shard asks for nothing, or for what no chunk in a tiling has
 pub record IsLostInEntry (image : Image) (id : ShardId) (number : ℕ) : Type 0 where
   pub found : Mapped
   pub mapped : IsMapped image found

@@ -2,7 +2,7 @@
 
 ghost use Rattle.std.specs.Prelude.{◌≡◌, All, IfOk};
 ghost use Rattle.std.specs.List.{position};
-ghost use Rattle.scrub_shard.specs.Steps.{AreBytesBy, HasPayloadLeft, IsPayloadBy, is_lost_by};
+ghost use Rattle.scrub_shard.specs.steps.Payloads.{AreBytesBy, HasPayloadLeft, IsPayloadBy, is_lost_by};
 
 use scrub_check::{Checked, Spares, payload_at};
 use scrub_disk::{OutOfMemory, PageSource};
@@ -23,7 +23,8 @@ pub(crate) fn first_lost(spares: &Spares, own: &[Checked]) -> Option<usize>
     own.iter().position(|one| is_lost(spares, one))
 }
 
-/// The payload for a locator: that of its chunk if the locator is sound or hidden, or else that of its first spare.
+/// The payload for a locator: that of its chunk if the locator is sound or hidden, or else that of its first
+/// spare.
 fn payload_for<D: PageSource>(
     alloc: Global,
     disk: &D,

@@ -1,11 +1,11 @@
 //! Reads one shard of a disk: its entry in the shard map, and the payloads for the locators of that entry.
 
-ghost use Rattle.std.specs.Prelude.{◌≡◌, ◌+◌, ◌≤◌, IfOk, List, length, ℕ};
+ghost use Rattle.std.specs.Prelude.{◌≡◌, ◌≤◌, IfOk, List, ℕ};
 ghost use Rattle.scrub_disk.specs.Image.{Image};
 ghost use Rattle.scrub_run.specs.declared.shard_id.ShardId.{ShardId};
 ghost use Rattle.scrub_check.specs.Named.{named_by_shard};
 ghost use Rattle.scrub_check.specs.WholeScan.{IsWholeScan};
-ghost use Rattle.scrub_report.specs.Answer.{IsPartitionOfPlanned, IsCountOfPlanned};
+ghost use Rattle.scrub_report.specs.Answer.{AreTakingsBy};
 ghost use Rattle.scrub_report.specs.Parts.{IsScan};
 ghost use Rattle.scrub_shard.specs.Bytes.{BytesValue};
 ghost use Rattle.scrub_shard.specs.Shard.{HaveContentsOfEntry, IsAnswerOf, IsLostInEntry, IsShardAnswer};
@@ -63,7 +63,8 @@ impl ShardBytes {
 pub enum ShardAnswer {
     /// The shard map has no such shard: its newest readable entry says deleted, or no readable run has one.
     NoSuchShard,
-    /// The locator of this number, from 0 in the order of the entry, dangles and has no spare. It is the first such.
+    /// The locator of this number, from 0 in the order of the entry, dangles and has no spare. It is the
+    /// first such.
     PayloadLost(usize),
     /// The payloads of all its locators.
     Found(ShardBytes),
@@ -109,7 +110,7 @@ fn shard_of<R: Threads + Sync, D: PageSource>(
     scan: Scan<'_, D>,
     id: ShardId,
 ) -> Result<ShardAnswer, OutOfMemory>
-    requires { IsScan (D.image scan.disk.now) scan.chosen scan.plan scan.all.extents }
+    requires { IsScan (D.image scan.disk.now) scan }
     ensures { IfOk result (IsShardAnswer (D.image scan.entry.disk.now) id) }
 {
     let Scan {
@@ -127,9 +128,9 @@ fn shard_of<R: Threads + Sync, D: PageSource>(
     }
 }
 
-/// Reads a shard of a disk, by its newest entry in the index runs that can be read, and returns which extents the caller and
-/// each worker took. It scans as `scrub` does, with this many workers (0 to 64) beside the caller. The only fault is
-/// `OutOfMemory`, returned once every started worker has ended.
+/// Reads a shard of a disk, by its newest entry in the index runs that can be read, and returns which extents
+/// the caller and each worker took. It scans as `scrub` does, with this many workers (0 to 64) beside the
+/// caller. The only fault is `OutOfMemory`, returned once every started worker has ended.
 pub fn read_shard<D: PageSource, G: Gate, R: Threads + Wait + Sync>(
     rt: &R,
     alloc: Global,
@@ -140,29 +141,28 @@ pub fn read_shard<D: PageSource, G: Gate, R: Threads + Wait + Sync>(
 ) -> Result<(ShardAnswer, Takings), ScrubFault>
     requires { workers ≤ 64 }
     ensures shard { IfOk result (λ r. IsShardAnswer (D.image disk.now) id r.0) }
-    ensures workers { IfOk result (λ r. length r.1.lists ≡ workers + 1) }
-    ensures partition { IfOk result (λ r. IsPartitionOfPlanned (D.image disk.now) r.1.lists) }
-    ensures counted { IfOk result (λ r. IsCountOfPlanned (D.image disk.now) r.1.counted) }
+    ensures takings { IfOk result (λ r. AreTakingsBy (D.image disk.now) workers r.1) }
 {
     let (scan, takings) = scan_by(rt, alloc, disk, workers, gate)?;
     let answer = shard_of(rt, alloc, scan, id)?;
     Ok((answer, takings))
 }
 
-/// A law: there is one answer for each shard of an image.
+/// A law: there is at most one answer for each shard of an image.
 pub fn one_shard_answer()
-    ensures { (image : Image) (id : ShardId) (a b : ShardAnswer) → IsShardAnswer image id a → IsShardAnswer image id b → a ≡ b }
+    ensures { (image : Image) (id : ShardId) (a b : ShardAnswer) → IsShardAnswer image id a →
+        IsShardAnswer image id b → a ≡ b }
 {}
 
-/// A law: the bytes of a shard are a list of bytes for each locator of its entry, in their order, each with the locator's length
-/// and SHA-256.
+/// A law: the bytes of a shard are a list of bytes for each locator of its entry, in their order, each with
+/// the locator's length and SHA-256.
 pub fn bytes_are_as_the_entry_says()
     ensures { (image : Image) (id : ShardId) (found : BytesValue) → IsShardAnswer image id (Found found) →
         HaveContentsOfEntry image id found.bytes }
 {}
 
-/// A law: if the payload for a locator is lost, the locator's length is 0, or no chunk of an extent in use has its length and
-/// SHA-256.
+/// A law: if the payload for a locator is lost, the locator's length is 0, or no chunk in the tiling of an
+/// extent in use has its length and SHA-256.
 pub fn a_lost_payload_is_nowhere()
     ensures { (image : Image) (id : ShardId) (number : ℕ) → IsShardAnswer image id (PayloadLost number) →
         IsLostInEntry image id number }

@@ -1,14 +1,14 @@
 //! The lines of superblock records and of lost ranges: their order and their texts.
 
 ghost use Rattle.std.specs.Prelude.{◌≡◌, ◌+◌, ◌<◌, ◌≤◌, ◌++◌, IfOk, OnOk, length, string_bytes};
-ghost use Rattle.scrub_listings.specs.Sizes.{size_line, size_lines, size_text};
-ghost use Rattle.scrub_listings.specs.SizesSteps.{AreInOrder, CanMerge, IsNextLine, record_count};
+ghost use Rattle.scrub_listings.specs.Sizes.{size_line, size_lines};
+ghost use Rattle.scrub_listings.specs.declared.sizes_listing.lines.SizesLine.{SizesLine};
+ghost use Rattle.scrub_listings.specs.steps.Sizes.{AreInOrder, CanMerge, IsNextLine, record_count};
 
-use crate::kinds::kind_text;
 use scrub_disk::OutOfMemory;
 use scrub_super::{FoundRecord, LostBytes};
 use std::alloc::Global;
-use std::fmt;
+use std::fmt::Write;
 
 /// What a line is about.
 #[derive(Clone, Copy)]
@@ -17,68 +17,49 @@ pub(crate) enum SizesLine {
     Lost(LostBytes),
 }
 
-/// The text of a record.
-#[derive(Drop)]
-struct RecordText {
-    found: FoundRecord,
-}
-
-impl fmt::Display for RecordText {
-    ghost use Rattle.std.specs.Prelude.{Some};
-    ghost use Rattle.scrub_listings.specs.Sizes.{record_text};
-
-    ghost output = { λ p. Some (record_text p.found) };
-
-    fn fmt<W: fmt::Write>(&self, f: &mut fmt::Formatter<W>) -> fmt::Result {
-        let FoundRecord {
-            offset,
-            kind,
-            generation,
-            geometry,
-        } = self.found;
-        let word = kind_text(kind);
-        let page = geometry.page();
-        let pages = geometry.pages();
-        let extents = geometry.extents();
-        write!(f, "{offset} {word} {generation} {page} {pages} {extents}")
-    }
-}
-
-/// The text of a line, without its line feed.
-fn line_text(alloc: Global, line: SizesLine) -> Result<String, OutOfMemory>
-    ensures { IfOk result (λ text. string_bytes text ≡ size_text line) }
+/// Appends the line of a record.
+fn append_record(text: &mut String, found: FoundRecord) -> Result<(), OutOfMemory>
+    ensures { OnOk result (string_bytes text.new ≡ string_bytes text.old ++
+        size_line (SizesLine.Record found)) }
 {
-    match line {
-        SizesLine::Record(found) => {
-            let found = RecordText { found };
-            format!(in alloc; "{found}")
-        }
-        SizesLine::Lost(LostBytes { from, to }) => format!(in alloc; "lost {from} {to}"),
-    }
+    let FoundRecord {
+        offset,
+        kind,
+        generation,
+        geometry,
+    } = found;
+    let kind = kind.letters();
+    let page = geometry.page();
+    let pages = geometry.pages();
+    let extents = geometry.extents();
+    writeln!(
+        text,
+        "{offset} {kind} {generation} {page} {pages} {extents}"
+    )
 }
 
 /// Appends a line, with its line feed.
-fn append_line(alloc: Global, text: &mut Vec<u8>, line: SizesLine) -> Result<(), OutOfMemory>
-    ensures { OnOk result (text.new.items ≡ text.old.items ++ size_line line) }
+fn append_line(text: &mut String, line: SizesLine) -> Result<(), OutOfMemory>
+    ensures { OnOk result (string_bytes text.new ≡ string_bytes text.old ++ size_line line) }
 {
-    let line = line_text(alloc, line)?;
-    text.extend_from_slice(line.as_bytes())?;
-    text.push(b'\n')?;
-    Ok(())
+    match line {
+        SizesLine::Record(found) => append_record(text, found),
+        SizesLine::Lost(LostBytes { from, to }) => writeln!(text, "lost {from} {to}"),
+    }
 }
 
 /// The lines, in their order.
 pub(crate) fn lines_text(alloc: Global, lines: &[SizesLine]) -> Result<Vec<u8>, OutOfMemory>
     ensures { IfOk result (λ text. text.items ≡ size_lines lines.now) }
 {
-    let mut text = Vec::new(alloc);
+    let mut text = String::new(alloc);
     for line in lines {
-        append_line(alloc, &mut text, *line)?;
+        append_line(&mut text, *line)?;
     }
-    Ok(text)
+    Ok(text.into_bytes())
 }
 
-/// The line that begins first, behind the first `records_before` records and `lost_before` lost ranges.
+/// The line that begins first, after the first `records_before` records and `lost_before` lost ranges.
 fn next_line(
     records: &[FoundRecord],
     lost: &[LostBytes],
@@ -110,7 +91,8 @@ fn records_in(line: SizesLine) -> usize
     }
 }
 
-/// The lines of records and lost ranges, by rising start, if both lists rise and no two begin at the same byte.
+/// The lines of records and lost ranges, by ascending start, if both ascend and no two begin at the same
+/// byte.
 pub(crate) fn lines_in_order(
     alloc: Global,
     records: &[FoundRecord],

@@ -16,7 +16,7 @@ returns-clause-text g c =
       text_is =
           c.in_ok-text.ensures
           ∙ ap (flat_map (lines_by c.in_ok-spares.spares)) c.deref-2.ensures.value
-          ∙ all_with_spares c.in_ok-parts.parts.all.extents c.in_ok-parts.parts.checked.items c.in_ok-spares.spares (rw c.deref.ensures.value at c.in_ok-spares.ensures);
+          ∙ all_with_spares c.in_ok-parts.parts.judged.scan.all.extents c.in_ok-parts.parts.judged.checked.items c.in_ok-spares.spares (rw c.deref.ensures.value at c.in_ok-spares.ensures);
     }
 
 pub returns-clause-clean : goal.returns-clause-clean

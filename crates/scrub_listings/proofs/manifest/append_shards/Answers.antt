@@ -1,7 +1,8 @@
 -- The locators of the next shard are the first ones that are left. At the end none is left.
 use Rattle.std.proofs.Common.{◌+◌, List, drop, length, take, ap, ◌∙◌}
+use Rattle.std.specs.Prelude.{string_bytes}
 use Rattle.scrub_frame.specs.declared.locator.Locator.{Locator}
-use Rattle.scrub_listings.specs.ManifestSteps.{after_status_by}
+use Rattle.scrub_listings.specs.steps.Manifest.{after_status_by}
 use Rattle.scrub_listings.proofs.ShardLines.{along_at, along_fits, along_more, shard_more, shards_all}
 use Rattle.scrub_listings.proofs.manifest.append_shards.Goals as goal
 
@@ -26,10 +27,10 @@ loop-binding-preserved g c =
       lines =
           shard_more c.args.bindings.now i b c.loop-binding-test.true c.binding-item.is
           (after_status_by c.args.all.now.extents c.args.spares.now) rest c.split_at.result.0.now
-          c.split_at.result.1.now _ c.loop-binding.text.items c.append_shard.new.text.items front back
+          c.split_at.result.1.now _ (string_bytes c.loop-binding.text) (string_bytes c.append_shard.new.text) front back
           c.loop-binding.invariant.lines c.in_ok-append_shard.ensures;
     }
 
 pub returns : goal.returns
 returns g c =
-    shards_all (after_status_by c.args.all.now.extents c.args.spares.now) c.args.bindings.now c.args.checked.now c.loop-binding.rest.now c.loop-binding.binding-index c.args.text.now.items c.loop-binding.text.items c.requires.rising c.requires.along c.loop-binding-test.false c.loop-binding.invariant.lines
+    shards_all (after_status_by c.args.all.now.extents c.args.spares.now) c.args.bindings.now c.args.checked.now c.loop-binding.rest.now c.loop-binding.binding-index (string_bytes c.args.text.now) (string_bytes c.loop-binding.text) c.requires.rising c.requires.along c.loop-binding-test.false c.loop-binding.invariant.lines

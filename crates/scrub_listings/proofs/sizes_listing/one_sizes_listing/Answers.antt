@@ -1,4 +1,4 @@
--- The laws: rising lines of the same records and ranges are one list.
+-- The laws: ascending lines of the same records and ranges are one list.
 use Rattle.scrub_listings.proofs.SizesLists.{one_text, one_verdict}
 use Rattle.scrub_listings.proofs.sizes_listing.one_sizes_listing.Goals as goal
 

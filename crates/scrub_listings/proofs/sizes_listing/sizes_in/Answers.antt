@@ -1,7 +1,7 @@
 -- All records have the sizes of the first.
 use Rattle.std.proofs.Common.{rules, ap, sym, ◌∙◌}
 use Rattle.std.proofs.lemmas.List.{get_or_default}
-use Rattle.scrub_listings.specs.SizesSteps.{AreCleanLists}
+use Rattle.scrub_listings.specs.steps.Sizes.{AreCleanLists}
 use Rattle.scrub_listings.proofs.SizesLists.{first_sizes}
 use Rattle.scrub_listings.proofs.sizes_listing.sizes_in.Goals as goal
 

@@ -1,5 +1,6 @@
--- Each group of numbers comes behind those before it, and what the code keeps is what was found.
+-- Each group of numbers comes after those before it, and what the code keeps is what was found.
 use Rattle.std.proofs.Common.{◌≡◌, ◌++◌, ℕ, List, OnOk, arith, is_none, length, sym, ap, ◌∙◌, subst}
+use Rattle.std.specs.Prelude.{string_bytes}
 use Rattle.std.specs.List.{count_by, sum}
 use Rattle.std.proofs.lemmas.List.Sums.{sum-map}
 use Rattle.scrub_check.specs.Chunks.{orphans}
@@ -15,13 +16,13 @@ pub returns : goal.returns
 returns g c = λ read rows.
     let p = c.args.parts.now in
     let pages = c.args.pages.now in
-    let all = p.all.extents in
-    let checked = p.checked.items in
+    let all = p.judged.scan.all.extents in
+    let checked = p.judged.checked.items in
     let spares = c.in_ok-spares.spares in
     let lost_is : c.lost_runs-lost.result ≡ count_by is_none read.runs =
-    c.lost_runs-lost.ensures ∙ ap (count_by (λ (r : RunRow). is_none r.entries)) c.deref.ensures.value ∙ lost_found p.plan.runs read p.runs.items rows in
-    let spared_is : c.spared-spared.result ≡ count_by (has_spare all) checked =
-    c.spared-spared.ensures
+    c.lost_runs-lost.ensures ∙ ap (count_by (λ (r : RunRow). is_none r.entries)) c.deref.ensures.value ∙ lost_found p.judged.scan.plan.runs read p.judged.runs.items rows in
+    let spared_is : c.count_spared-spared.result ≡ count_by (has_spare all) checked =
+    c.count_spared-spared.ensures
     ∙ ap (count_by (has_spare_by spares)) c.deref-3.ensures.value
     ∙ spared_found all checked spares (rw c.deref-2.ensures.value at c.in_ok-spares.ensures) in
     let orphans_are : c.len-orphan_count.result ≡ length (orphans all checked) =
@@ -29,23 +30,23 @@ returns g c = λ read rows.
     ∙ ap length p.orphans_found in
     let shared_are : c.len-shared.result ≡ length p.liveness.shared.items = omega (arith, c.len-shared.ensures, p.liveness.shared.ok.0) in
     let broken_are : c.len-broken.result ≡ length p.broken.items = omega (arith, c.len-broken.ensures, p.broken.ok.0) in
-    let t0 = c.args.text.now.items in
-    let t1 = c.append_disk.new.text.items in
-    let t2 = c.append_superblocks.new.text.items in
-    let t3 = c.append_reading.new.text.items in
-    let t4 = c.append_shards.new.text.items in
-    let t5 = c.append_chunks.new.text.items in
-    let t6 = c.append_items.new.text.items in
-    let t7 = c.append_candidates.new.text.items in
-    let n1 : List NamedNumber = disk_numbers p.plan in
-    let n2 : List NamedNumber = superblock_numbers p.chosen pages in
-    let n3 : List NamedNumber = reading_numbers p.chosen p.plan all c.lost_runs-lost.result in
-    let n4 : List NamedNumber = shard_numbers c.bindings-bindings.result.now c.len-broken.result c.deref-4.result.now c.spared-spared.result in
+    let t0 = string_bytes c.args.text.now in
+    let t1 = string_bytes c.append_disk.new.text in
+    let t2 = string_bytes c.append_superblocks.new.text in
+    let t3 = string_bytes c.append_reading.new.text in
+    let t4 = string_bytes c.append_shards.new.text in
+    let t5 = string_bytes c.append_chunks.new.text in
+    let t6 = string_bytes c.append_items.new.text in
+    let t7 = string_bytes c.append_candidates.new.text in
+    let n1 : List NamedNumber = disk_numbers p.judged.scan.plan in
+    let n2 : List NamedNumber = superblock_numbers p.judged.scan.chosen pages in
+    let n3 : List NamedNumber = reading_numbers p.judged.scan.chosen p.judged.scan.plan all c.lost_runs-lost.result in
+    let n4 : List NamedNumber = shard_numbers c.bindings-bindings.result.now c.len-broken.result c.deref-4.result.now c.count_spared-spared.result in
     let n5 : List NamedNumber = chunk_numbers all checked c.len-shared.result in
     let n6 : List NamedNumber = item_numbers all in
     let n7 : List NamedNumber = candidate_numbers c.deref-6.result.now in
     let is : n1 ++ n2 ++ n3 ++ n4 ++ n5 ++ n6 ++ n7 ≡ numbers_by pages (found_in p read) (count_by is_none read.runs) =
-    (λ i. n1 ++ n2 ++ reading_numbers p.chosen p.plan all (lost_is i)
+    (λ i. n1 ++ n2 ++ reading_numbers p.judged.scan.chosen p.judged.scan.plan all (lost_is i)
     ++ shard_numbers (c.bindings-bindings.ensures.bindings i) (broken_are i) (c.deref-4.ensures.value i) (spared_is i)
     ++ chunk_numbers all checked (shared_are i)
     ++ n6 ++ candidate_numbers (c.deref-6.ensures.value i)) in

@@ -1,5 +1,6 @@
 -- The chunks are parted into live ones and orphans.
 use Rattle.std.proofs.Common.{◌≡◌, ◌-◌, ◌++◌, ◌∷◌, [], ℕ, List, OnOk, codes, length, sym, ap, ◌∙◌, subst}
+use Rattle.std.specs.Prelude.{string_bytes}
 use Rattle.std.specs.List.{sum, sum_by}
 use Rattle.std.proofs.lemmas.List.Sums.{sum-map}
 use Rattle.scrub_check.specs.Chunks.{chunks, orphans, twins}
@@ -26,5 +27,5 @@ returns g c = λ checked live_are orphans_are.
     c.saturating_sub-2.result c.args.twin_count
     ≡ chunk_numbers all checked c.args.shared =
     (λ i. numbers (chunks_are i) (c.tally_all-bytes.ensures.sum i) (live_chunks_are i) (live_is i) (orphans_are i) (left i) (c.requires i)) in
-    subst (λ (ns : List NamedNumber). OnOk c.append_numbers.result (c.append_numbers.new.text.items ≡ c.args.text.now.items ++ number_lines ns)) is
+    subst (λ (ns : List NamedNumber). OnOk c.append_numbers.result (string_bytes c.append_numbers.new.text ≡ string_bytes c.args.text.now ++ number_lines ns)) is
     c.append_numbers.ensures

@@ -1,5 +1,5 @@
 -- The text and the verdict are those of what was found.
-use Rattle.std.proofs.Common.{◌≡◌, ◌++◌, ℕ, List, is_none, ap, ◌∙◌}
+use Rattle.std.proofs.Common.{◌≡◌, ◌++◌, ℕ, List, is_none, ap, ◌∙◌, Vec, Global}
 use Rattle.std.specs.List.{count_by}
 use Rattle.scrub_report.specs.Parts.{found_in}
 use Rattle.scrub_report.specs.Scrubbed.{Scrubbed, is_clean}
@@ -23,9 +23,10 @@ returns-clause-text g c =
       pages = pages;
       held = c.requires.pages;
       text_is =
-          c.in_ok-append_all.ensures are.read are.rows
+          ap (λ (v : Vec ℕ Global). v.items) c.into_bytes.ensures.value
+          ∙ c.in_ok-append_all.ensures are.read are.rows
           ∙ ap (λ (u : List ℕ). u ++ number_lines (numbers_by pages found (count_by is_none are.read.runs)))
-          (c.in_ok-append_verdict.ensures ∙ (λ i. c.new-text.ensures.items i ++ verdict_line (verdict_is i)));
+          (c.in_ok-append_verdict.ensures ∙ (λ i. c.new-text.ensures.bytes i ++ verdict_line (verdict_is i)));
     }
 
 pub returns-clause-sound : goal.returns-clause-sound
@@ -42,5 +43,5 @@ returns-clause-sound g c =
       scrubbed = are.scrubbed;
       pages = pages;
       held = c.requires.pages;
-      verdict_is = c.is_sound_verdict-is_sound.ensures ∙ ap is_sound_verdict verdict_is;
+      verdict_is = c.is_sound_verdict-is_clean.ensures ∙ ap is_sound_verdict verdict_is;
     }

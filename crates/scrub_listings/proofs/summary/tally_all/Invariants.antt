@@ -1,8 +1,10 @@
--- What is counted in the first extents, each time below 2^64.
-use Rattle.std.proofs.Common.{◌≡◌, ◌≤◌, ◌*◌, ◌^◌, take}
+-- What is counted so far, and what the rest adds, each time below 2^64.
+use Rattle.std.proofs.Common.{◌≡◌, ◌≤◌, ◌+◌, ◌*◌, ◌^◌, length}
 use Rattle.std.specs.List.{sum_by}
 use Rattle.scrub_listings.specs.Summary.{tally_in}
 use Rattle.scrub_listings.proofs.summary.tally_all.Given as goal
 
-abbrev pub invariant-loop-i : goal.invariant-loop-i
-invariant-loop-i g l = (l.total ≡ sum_by (tally_in l.tally) (take l.i l.all.extents)) × (l.total ≤ l.i * 2 ^ 64)
+abbrev pub invariant-loop-found : goal.invariant-loop-found
+invariant-loop-found g l =
+    (l.total + sum_by (tally_in l.tally) l.found-iterator ≡ sum_by (tally_in l.tally) l.all.extents)
+    × (l.total + length l.found-iterator * 2 ^ 64 ≤ length l.all.extents * 2 ^ 64)

@@ -1,8 +1,8 @@
--- The doubts of the first extents.
-use Rattle.std.proofs.Common.{◌≡◌, ◌++◌, take}
+-- The doubts so far and those of what is left are those of all.
+use Rattle.std.proofs.Common.{◌≡◌, ◌++◌}
 use Rattle.std.specs.List.{flat_map}
 use Rattle.scrub_reclaim.specs.Doubts.{tail_doubts}
 use Rattle.scrub_reclaim.proofs.doubting.add_tails.Given as goal
 
-abbrev pub invariant-loop-i : goal.invariant-loop-i
-invariant-loop-i g l = l.doubts.items ≡ l.fn.doubts.items ++ flat_map tail_doubts (take l.i l.all.extents)
+abbrev pub invariant-loop-found : goal.invariant-loop-found
+invariant-loop-found g l = l.doubts.items ++ flat_map tail_doubts l.found-iterator ≡ l.fn.doubts.items ++ flat_map tail_doubts l.all.extents

@@ -1,7 +1,7 @@
 -- One more page is joined.
 use Rattle.std.proofs.Common.{List, get_or, sym, ap, ◌∙◌}
 use Rattle.scrub_reclaim.specs.declared.page_ranges.PageRange.{PageRange}
-use Rattle.scrub_reclaim.specs.PageRanges.{joined_with}
+use Rattle.scrub_reclaim.specs.steps.PageRanges.{joined_with}
 use Rattle.scrub_reclaim.proofs.PageRanges.{ranges_more}
 use Rattle.scrub_reclaim.proofs.page_ranges.join_pages.Goals as goal
 

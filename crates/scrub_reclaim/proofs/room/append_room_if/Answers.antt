@@ -1,16 +1,17 @@
 -- The sorted numbers say whether the extent has a line.
 use Rattle.std.proofs.Common.{◌≡◌, ◌++◌, ℕ, List, OnOk, subst}
+use Rattle.std.specs.Prelude.{string_bytes}
 use Rattle.scrub_scan.specs.Scanned.{scanned}
 use Rattle.scrub_reclaim.proofs.RoomLines.{closed, open_line}
 use Rattle.scrub_reclaim.proofs.room.append_room_if.Goals as goal
 
 pub returns-then-not-may_grow : goal.returns-then-not-may_grow
 returns-then-not-may_grow g c checked are =
-    closed c.args.is_listed c.args.geometry checked c.args.unsound.now (scanned c.args.found.now) c.args.text.now.items c.may_grow.result are
+    closed c.args.is_listed c.args.geometry checked c.args.unsound.now (scanned c.args.found.now) (string_bytes c.args.text.now) c.may_grow.result are
     c.may_grow.ensures c.if-not-may_grow.true
 
 pub returns : goal.returns
 returns g c checked are =
-    subst (λ (part : List ℕ). OnOk c.append_room.result (c.append_room.new.text.items ≡ c.args.text.now.items ++ part))
+    subst (λ (part : List ℕ). OnOk c.append_room.result (string_bytes c.append_room.new.text ≡ string_bytes c.args.text.now ++ part))
     (open_line c.args.is_listed c.args.geometry checked c.args.unsound.now (scanned c.args.found.now) c.may_grow.result are
     c.may_grow.ensures c.if-not-may_grow.false) c.append_room.ensures

@@ -1,11 +1,13 @@
--- The lines of the first extents.
-use Rattle.std.proofs.Common.{◌≡◌, ◌++◌, List, take}
+-- The lines so far and those of what is left are those of all.
+use Rattle.std.proofs.Common.{◌≡◌, ◌++◌, List}
+use Rattle.std.specs.Prelude.{string_bytes}
 use Rattle.std.specs.List.{flat_map}
 use Rattle.scrub_check.specs.declared.statuses.checked.Checked.{Checked}
-use Rattle.scrub_check.specs.LocatorIndex.{AreBarredExtents}
+use Rattle.scrub_check.specs.steps.LocatorIndex.{AreBarredExtents}
 use Rattle.scrub_reclaim.specs.Room.{room_where}
 use Rattle.scrub_reclaim.proofs.room.append_rooms_where.Given as goal
 
-abbrev pub invariant-loop-i : goal.invariant-loop-i
-invariant-loop-i g l = (checked : List Checked) → AreBarredExtents checked l.unsound →
-    l.text.items ≡ l.fn.text.items ++ flat_map (room_where l.is_listed l.geometry checked l.listed) (take l.i l.all.extents)
+abbrev pub invariant-loop-found : goal.invariant-loop-found
+invariant-loop-found g l = (checked : List Checked) → AreBarredExtents checked l.unsound →
+    string_bytes l.text ++ flat_map (room_where l.is_listed l.geometry checked l.listed) l.found-iterator
+    ≡ string_bytes l.fn.text ++ flat_map (room_where l.is_listed l.geometry checked l.listed) l.all.extents

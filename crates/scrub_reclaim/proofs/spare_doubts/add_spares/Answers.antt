@@ -2,7 +2,7 @@
 use Rattle.std.proofs.Common.{◌≡◌, ◌++◌, ◌∙◌, List, OnOk, ap, map, subst}
 use Rattle.std.specs.List.Sorted.{IsPermutation}
 use Rattle.scrub_reclaim.specs.Doubts.{staying}
-use Rattle.scrub_reclaim.specs.Moves.{PointAlike}
+use Rattle.scrub_reclaim.specs.steps.Moves.{PointAlike}
 use Rattle.scrub_reclaim.specs.declared.doubts.Doubt.{Doubt}
 use Rattle.scrub_reclaim.proofs.SpareDoubts.{all_alike}
 use Rattle.scrub_reclaim.proofs.spare_doubts.add_spares.Goals as goal

@@ -2,7 +2,7 @@
 use Rattle.std.proofs.Common.{◌≡◌, List, take}
 use Rattle.scrub_check.specs.declared.statuses.checked.Checked.{Checked}
 use Rattle.scrub_reclaim.specs.Doubts.{staying}
-use Rattle.scrub_reclaim.specs.Moves.{PointAlike}
+use Rattle.scrub_reclaim.specs.steps.Moves.{PointAlike}
 use Rattle.scrub_reclaim.proofs.spare_doubts.staying.Given as goal
 
 abbrev pub invariant-loop-spare : goal.invariant-loop-spare

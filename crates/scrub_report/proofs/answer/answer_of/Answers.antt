@@ -9,22 +9,20 @@ use Rattle.scrub_report.proofs.answer.answer_of.Goals as goal
 pub index_and_report-requires-clause-few : goal.index_and_report-requires-clause-few
 index_and_report-requires-clause-few g c κs within =
     let are = c.in_ok-judged.ensures in
-    locators_fit [] (g.D.PageSource.image c.args.scan.disk.now) _ _ are.read _ are.choice are.plan are.read_are are.map_is
+    locators_fit [] (g.D.PageSource.image c.args.scan.disk.now) _ _ are.read _ are.scanned.chosen are.scanned.planned are.read_are are.map_is
 
 pub index_and_report-requires-clause-count : goal.index_and_report-requires-clause-count
 index_and_report-requires-clause-count g c κs within =
     let are = c.in_ok-judged.ensures in
-    countable_map [] (g.D.PageSource.image c.args.scan.disk.now) _ _ are.read _ are.choice are.plan are.read_are are.map_is
+    countable_map [] (g.D.PageSource.image c.args.scan.disk.now) _ _ are.read _ are.scanned.chosen are.scanned.planned are.read_are are.map_is
 
 pub returns : goal.returns
 returns g c =
     let told = c.in_ok-index.ensures.report (g.D.PageSource.image c.args.scan.disk.now) c.in_ok-judged.ensures c.in_ok-shards.ensures in
     record {
-      report = record { found = told.found; scrubbed = told.scrubbed; text_is = told.text_is };
-      index = record {
-        found = told.found;
-        scrubbed = told.scrubbed;
-        bytes_are = c.in_ok-index.ensures.index ∙ ap run_bytes (sym (ap₂ index_entries told.checked_are told.bindings_are));
-      };
-      clean = record { found = told.found; scrubbed = told.scrubbed; verdict = told.verdict };
+      found = told.found;
+      scrubbed = told.scrubbed;
+      report = told.text_is;
+      index = c.in_ok-index.ensures.index ∙ ap run_bytes (sym (ap₂ index_entries told.checked_are told.bindings_are));
+      clean = told.verdict;
     }

@@ -7,7 +7,7 @@ use Rattle.std.proofs.lemmas.List.{length_push, take_all}
 use Rattle.std.proofs.lemmas.Option.{slice_get_read}
 use Rattle.std.proofs.lemmas.Slice.Zip.{length-zip}
 use Rattle.json.specs.Print.{print}
-use Rattle.scrub_report.specs.Tokens.{extents_tokens}
+use Rattle.scrub_report.specs.steps.Tokens.{extents_tokens}
 use Rattle.scrub_report.proofs.ExtentTexts.{no_piece, piece_begins, pieces_end, with_piece}
 use Rattle.scrub_report.proofs.extents.append_extents.Goals as goal
 

@@ -2,7 +2,7 @@
 use Rattle.std.proofs.Common.{◌≡◌, ◌*◌, ◌++◌, length, take}
 use Rattle.std.specs.List.{zip}
 use Rattle.json.specs.Print.{print}
-use Rattle.scrub_report.specs.Tokens.{extents_tokens}
+use Rattle.scrub_report.specs.steps.Tokens.{extents_tokens}
 use Rattle.scrub_report.proofs.extents.append_extents.Given as goal
 
 abbrev pub invariant-loop-piece : goal.invariant-loop-piece

@@ -1,39 +1,21 @@
--- One more extent, and at the end all.
-use Rattle.std.proofs.Common.{◌≡◌, ◌<◌, ◌-◌, ◌++◌, length, get_or, min, arith, ap, ap₂, ◌∙◌}
-use Rattle.std.specs.List.{zip}
-use Rattle.std.proofs.lemmas.Option.{slice_get_within, get_or_from_slice_get}
-use Rattle.std.proofs.lemmas.List.{get_or_default}
-use Rattle.std.proofs.lemmas.Slice.Zip.{length-zip}
+-- At the end, all of them.
+use Rattle.std.proofs.Common.{◌++◌, ap, ap₂, ◌∙◌}
+use Rattle.std.proofs.lemmas.Iterator.{YieldsList-from_slice, YieldsList-from_take, YieldsList-from_zip}
+use Rattle.std.proofs.lemmas.Iterator.Adapters.{YieldsList-from_skip}
+use Rattle.std.proofs.lemmas.Iterator.Consumers.{YieldsList-at, YieldsList-end, YieldsList-from_first}
 use Rattle.json.specs.Print.{print}
 use Rattle.scrub_scan.specs.Scanned.{scanned}
-use Rattle.scrub_report.specs.Tokens.{extents_tokens}
-use Rattle.scrub_report.proofs.ExtentTexts.{more_extents, whole_piece}
-use Rattle.scrub_report.proofs.SideBySide.{two_at}
+use Rattle.scrub_report.specs.steps.Tokens.{extents_tokens}
 use Rattle.scrub_report.proofs.extents.extents_text.Goals as goal
-
-pub loop-i-preserved : goal.loop-i-preserved
-loop-i-preserved g c =
-    let all = c.args.all.now.extents in
-    let live = c.args.live.now in
-    let i = c.loop-i.i in
-    let n = get_or live i 0 in
-    let found = scanned c.result_at.result.now in
-    let at = c.result_at.ensures.result in
-    let below : i < length all = slice_get_within all i found at in
-    let there = two_at all live i found n below c.requires.count (get_or_from_slice_get all i found found at) (get_or_default live i n 0 (omega (arith, c.requires.count, below))) in record {
-      behind = omega (arith, c.loop-i.invariant.behind);
-      tokens = more_extents (zip all live) c.args.from i (found, n) c.loop-i.out.tokens c.write_extent.new.out.tokens c.loop-i.invariant.behind (omega (arith, length-zip all live, c.requires.count, below)) there
-          c.loop-i.invariant.tokens c.in_ok-write_extent.ensures.tokens;
-      before = c.in_ok-write_extent.ensures.before ∙ c.loop-i.invariant.before;
-    }
 
 pub returns : goal.returns
 returns g c =
-    let all = c.args.all.now.extents in
-    let live = c.args.live.now in
-    let pairs = zip all live in
-    let whole : c.loop-i.i - c.args.from ≡ min c.args.size (length pairs - c.args.from) =
-    omega (arith, length-zip all live, c.requires.count, c.requires.within, c.loop-i-test.false, c.min-to.ensures, c.saturating_add.ensures, c.len.ensures.count, c.loop-i.invariant.behind, c.loop-i.auto.i, c.loop-i.auto.i-end, c.len.type_inv) in
+    let all = YieldsList-from_first (λ r. scanned r.now) (λ left. left) c.args.all.now.extents (c.zip.ensures.first ∙ c.results.ensures.results) in
+    let pairs = YieldsList-from_zip all (YieldsList-from_slice c.args.live.now (cc)) in
+    let rest = YieldsList-from_skip c.args.from (YieldsList-at c.skip.ensures.source pairs) c.skip.ensures.count in
+    let piece = YieldsList-from_take c.args.size (YieldsList-at c.take-found-items.ensures.source rest) c.take-found-items.ensures.count in
+    let whole =
+    YieldsList-end (YieldsList-at c.into_iter-found-iterator.ensures.into_iter_gives piece) c.loop-found.yielded c.loop-found.found-iterator c.loop-found.yielded_by c.next.result c.next.new.self c.in-None.is c.next.ensures.steps in
     c.into_inner.ensures.items
-    ∙ ap₂ (λ b ts. b ++ print ts) (c.loop-i.invariant.before ∙ c.new-out.ensures.before ∙ c.in_ok-comma_if.ensures)
-    (c.loop-i.invariant.tokens ∙ ap extents_tokens (whole_piece pairs c.args.from c.args.size c.loop-i.i whole))
+    ∙ ap₂ (λ b ts. b ++ print ts) (c.loop-found.invariant.before ∙ c.new-out.ensures.before ∙ c.in_ok-comma_if.ensures)
+    (c.loop-found.invariant.tokens ∙ ap extents_tokens whole.0)

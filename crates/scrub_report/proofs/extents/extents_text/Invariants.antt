@@ -1,12 +1,11 @@
--- The first extents of the piece are written, behind the comma.
-use Rattle.std.proofs.Common.{◌≡◌, ◌≤◌, ◌-◌, take, drop}
-use Rattle.std.specs.List.{zip}
-use Rattle.scrub_report.specs.Tokens.{extents_tokens}
+-- The extents so far are written, after the comma.
+use Rattle.std.proofs.Common.{◌≡◌, map}
+use Rattle.scrub_scan.specs.Scanned.{scanned}
+use Rattle.scrub_report.specs.steps.Tokens.{extents_tokens}
 use Rattle.scrub_report.proofs.extents.extents_text.Given as goal
 
-abbrev pub invariant-loop-i : goal.invariant-loop-i
-invariant-loop-i g l = record {
-  behind : l.from ≤ l.i;
-  tokens : l.out.tokens ≡ extents_tokens (take (l.i - l.from) (drop l.from (zip l.all.extents l.live)));
+abbrev pub invariant-loop-found : goal.invariant-loop-found
+invariant-loop-found g l = record {
+  tokens : l.out.tokens ≡ extents_tokens (map (λ p. (scanned p.0.now, p.1.now)) l.yielded);
   before : l.out.before ≡ l.initial.out.before;
 }

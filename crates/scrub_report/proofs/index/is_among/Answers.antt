@@ -1,4 +1,4 @@
--- Binary search among rising identifiers finds one exactly if it is there.
+-- Binary search among ascending identifiers finds one exactly if it is there.
 use Rattle.std.proofs.Common.{rules}
 use Rattle.std.proofs.lemmas.List.Sorted.{answers_always}
 use Rattle.scrub_run.specs.declared.shard_id.ShardId.{ShardId}

@@ -3,7 +3,7 @@ use Rattle.std.proofs.Common.{◌≡◌, ◌*◌, ◌≤◌, List, length, take}
 use Rattle.scrub_check.specs.declared.statuses.checked.Checked.{Checked}
 use Rattle.scrub_check.specs.Checked.{AreBrokenShards}
 use Rattle.scrub_report.specs.Index.{index_entries}
-use Rattle.scrub_report.specs.Kept.{all_locators}
+use Rattle.scrub_report.specs.steps.IndexLocators.{all_locators}
 use Rattle.scrub_report.proofs.index.kept_sizes.Given as goal
 
 abbrev pub invariant-loop-binding : goal.invariant-loop-binding

@@ -1,6 +1,6 @@
 -- The first elements are written.
 use Rattle.std.proofs.Common.{◌≡◌, ◌++◌, take}
-use Rattle.scrub_report.specs.Tokens.{list_begun}
+use Rattle.scrub_report.specs.steps.Tokens.{list_begun}
 use Rattle.scrub_report.proofs.json_values.write_list.Given as goal
 
 abbrev pub invariant-loop-item : goal.invariant-loop-item

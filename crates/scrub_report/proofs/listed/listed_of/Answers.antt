@@ -4,9 +4,7 @@ use Rattle.scrub_report.proofs.listed.listed_of.Goals as goal
 
 pub returns : goal.returns
 returns g c = record {
-  chosen_is = refl;
-  plan_is = refl;
-  all_are = refl;
+  scan_is = refl;
   runs_are = refl;
   shards_are = refl;
   dangling_are = c.in_ok-drawn.ensures.dangling_are;

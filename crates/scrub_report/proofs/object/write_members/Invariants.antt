@@ -1,7 +1,7 @@
 -- The first members are written.
 use Rattle.std.proofs.Common.{◌≡◌, ◌++◌, take}
 use Rattle.std.specs.List.{flat_map}
-use Rattle.scrub_report.specs.Tokens.{member_tokens}
+use Rattle.scrub_report.specs.steps.Tokens.{member_tokens}
 use Rattle.scrub_report.proofs.object.write_members.Given as goal
 
 abbrev pub invariant-loop-key : goal.invariant-loop-key

@@ -2,7 +2,7 @@
 use Rattle.std.proofs.Common.{◌≡◌, ◌++◌, ◌∷◌, [], codes, ap, ap₂, ◌∙◌}
 use Rattle.json.specs.Print.{print}
 use Rattle.json.specs.Token.{begin_array, begin_object, key}
-use Rattle.scrub_report.specs.Tokens.{begun_tokens, first_keys, members_tokens}
+use Rattle.scrub_report.specs.steps.Tokens.{begun_tokens, first_keys, members_tokens}
 use Rattle.scrub_report.proofs.Tokens.{chain}
 use Rattle.scrub_report.proofs.report.begun_text.Goals as goal
 

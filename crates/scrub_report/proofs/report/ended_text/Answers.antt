@@ -2,7 +2,7 @@
 use Rattle.std.proofs.Common.{◌≡◌, ◌++◌, ◌∷◌, [], ap, ap₂, ◌∙◌}
 use Rattle.json.specs.Print.{print}
 use Rattle.json.specs.Token.{end_array, end_object}
-use Rattle.scrub_report.specs.Tokens.{ended_tokens, hidden_keys, last_keys, members_tokens, run_keys}
+use Rattle.scrub_report.specs.steps.Tokens.{ended_tokens, last_keys, members_tokens}
 use Rattle.scrub_report.proofs.Tokens.{chain}
 use Rattle.scrub_report.proofs.report.ended_text.Goals as goal
 
@@ -12,23 +12,15 @@ returns g c =
   where
     before : c.end_object.new.self.before ≡ c.args.text.items
     before =
-        c.end_object.ensures.room.0 ∙ c.in_ok-write_last.ensures.before ∙ c.in_ok-write_index.ensures.before ∙ c.in_ok-write_sizes.ensures.before
-        ∙ c.end_array.ensures.room.0 ∙ c.new-out.ensures.before
+        c.end_object.ensures.room.0 ∙ c.in_ok-write_last.ensures.before ∙ c.end_array.ensures.room.0 ∙ c.new-out.ensures.before
 
     tokens : c.end_object.new.self.tokens ≡ ended_tokens c.args.listed.now
     tokens =
-        let p = c.args.listed.now in
+        let keys = members_tokens (last_keys c.args.listed.now) in
         let t0 = c.new-out.result.tokens in
         let t1 = c.end_array.new.self.tokens in
-        let t2 = c.write_sizes.new.out.tokens in
-        let t3 = c.write_index.new.out.tokens in
-        let t4 = c.write_last.new.out.tokens in
-        let t5 = c.end_object.new.self.tokens in
-        let y4 = members_tokens (last_keys p) ++ end_object ∷ [] in
-        let y3 = members_tokens (run_keys p) ++ y4 in
-        let y2 = members_tokens (hidden_keys p) ++ y3 in
-        chain t0 t1 t5 (end_array ∷ []) y2 c.in_ok-end_array.ensures.ok
-        (chain t1 t2 t5 (members_tokens (hidden_keys p)) y3 c.in_ok-write_sizes.ensures.tokens
-        (chain t2 t3 t5 (members_tokens (run_keys p)) y4 c.in_ok-write_index.ensures.tokens
-        (chain t3 t4 t5 (members_tokens (last_keys p)) (end_object ∷ []) c.in_ok-write_last.ensures.tokens c.in_ok-end_object.ensures.ok)))
-        ∙ ap (λ ts. ts ++ ended_tokens p) c.new-out.ensures.tokens
+        let t2 = c.write_last.new.out.tokens in
+        let t3 = c.end_object.new.self.tokens in
+        chain t0 t1 t3 (end_array ∷ []) (keys ++ end_object ∷ []) c.in_ok-end_array.ensures.ok
+        (chain t1 t2 t3 keys (end_object ∷ []) c.in_ok-write_last.ensures.tokens c.in_ok-end_object.ensures.ok)
+        ∙ ap (λ ts. ts ++ ended_tokens c.args.listed.now) c.new-out.ensures.tokens

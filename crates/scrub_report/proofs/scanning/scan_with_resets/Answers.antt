@@ -1,6 +1,5 @@
 -- The planned extents are those of the plan without resets.
 use Rattle.std.proofs.Common.{rules}
-use Rattle.scrub_report.specs.Answer.{ArePlannedExtents}
 use Rattle.scrub_report.proofs.ResetPlans.{planned_but, whole_but}
 use Rattle.scrub_report.proofs.scanning.scan_with_resets.Goals as goal
 
@@ -14,16 +13,14 @@ returns-clause-scan g c = record {
       c.requires.choice c.in_ok-plan.ensures (search rules);
 }
 
-pub returns-clause-partition : goal.returns-clause-partition
-returns-clause-partition g c =
+pub returns-clause-takings : goal.returns-clause-takings
+returns-clause-takings g c =
     let image = g.D.PageSource.image c.args.disk.now in
     let plan = c.in_ok-plan.plan in
-    let are : ArePlannedExtents image plan.planned = planned_but c.args.resets.now c.args.chosen plan image c.requires.choice c.in_ok-plan.ensures in
-    (plan.planned, are, c.in_ok-all.ensures.partition)
-
-pub returns-clause-counted : goal.returns-clause-counted
-returns-clause-counted g c =
-    let image = g.D.PageSource.image c.args.disk.now in
-    let plan = c.in_ok-plan.plan in
-    let are : ArePlannedExtents image plan.planned = planned_but c.args.resets.now c.args.chosen plan image c.requires.choice c.in_ok-plan.ensures in
-    (plan.planned, are, c.in_ok-all.ensures.counted)
+    record {
+      planned = plan.planned;
+      are_planned = planned_but c.args.resets.now c.args.chosen plan image c.requires.choice c.in_ok-plan.ensures;
+      members = c.in_ok-all.ensures.workers;
+      partition = c.in_ok-all.ensures.partition;
+      counted = c.in_ok-all.ensures.counted;
+    }

@@ -1,6 +1,6 @@
 -- The payloads for the first locators.
 use Rattle.std.proofs.Common.{take}
-use Rattle.scrub_shard.specs.Steps.{AreBytesBy}
+use Rattle.scrub_shard.specs.steps.Payloads.{AreBytesBy}
 use Rattle.scrub_shard.proofs.payloads.bytes_for.Given as goal
 
 abbrev pub invariant-loop-one : goal.invariant-loop-one

@@ -2,7 +2,7 @@
 use Rattle.std.proofs.Common.{◌≡◌, ◌∙◌, List, sym, subst}
 use Rattle.scrub_check.specs.declared.statuses.checked.Checked.{Checked}
 use Rattle.scrub_check.specs.Spares.{AreSpares}
-use Rattle.scrub_shard.specs.Steps.{AreBytesBy, HasPayloadLeft}
+use Rattle.scrub_shard.specs.steps.Payloads.{AreBytesBy, HasPayloadLeft}
 use Rattle.scrub_shard.proofs.Answered.{can_be_read, found_answer, lost_answer}
 use Rattle.scrub_shard.proofs.shard.entry_answer.Goals as goal
 

@@ -1,6 +1,6 @@
 -- The first records and the first ranges are in the list.
 use Rattle.std.proofs.Common.{◌-◌, ◌≤◌, length}
-use Rattle.scrub_listings.specs.SizesSteps.{CanMerge}
+use Rattle.scrub_listings.specs.steps.Sizes.{CanMerge}
 use Rattle.scrub_listings.proofs.SizesLists.{AreMerged}
 use Rattle.scrub_listings.proofs.sizes_listing.lines.lines_in_order.Given as goal
 

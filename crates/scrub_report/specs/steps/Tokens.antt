@@ -1,4 +1,4 @@
--- Steps of the code: the JSON tokens of values, and those of the report's keys, a few at a time.
+-- Steps of the code: the JSON tokens of values, and those of the report's keys, before and after its extents.
 use Rattle.std.specs.Prelude.{ℕ, Bool, List, [], ◌∷◌, ◌++◌, codes, drop, map, nat_lt, take}
 use Rattle.std.specs.List.{flat_map, zip}
 use Rattle.json.specs.Token.{Token, begin_array, begin_object, end_array, end_object, key}
@@ -9,7 +9,7 @@ use Rattle.json.specs.Print.{print}
 use Rattle.scrub_report.specs.Json.{natural, list, with_keys}
 use Rattle.scrub_report.specs.declared.listed.Listed.{Listed}
 use Rattle.scrub_scan.specs.Scanned.{Scanned}
-use Rattle.scrub_report.specs.Values.{locator_data, row_data}
+use Rattle.scrub_report.specs.steps.Values.{locator_data, row_data}
 use Rattle.scrub_run.specs.declared.shard_id.ShardId.{ShardId}
 use Rattle.scrub_report.specs.Report.{ids_data, candidate_data, extent_data, geometry_data, numbers_data, place_data, shared_data, super_data}
 
@@ -33,12 +33,12 @@ list_begun show xs = begin_array ∷ flat_map (λ x. value_tokens (show x)) xs
 abbrev pub extents_tokens : List (Scanned × ℕ) → List Token
 extents_tokens ps = flat_map (λ p. value_tokens (extent_data p.1 p.0)) ps
 
--- the text of up to this many extents from a number of them on, behind a comma if that isn't 0
+-- the text of up to this many extents from a number of them on, after a comma if that isn't 0
 abbrev pub piece_text : List (Scanned × ℕ) → ℕ → ℕ → List ℕ
 piece_text ps from size = comma_if (nat_lt 0 from) ++ print (extents_tokens (take size (drop from ps)))
 
 module _ {D : Type 0} where
-  -- the report's keys from `broken` up to `doubtful` with their values
+  -- the report's keys before `extents` with their values
   abbrev pub first_keys : Listed D → List ShardId → Bool → List (List ℕ × Data)
   first_keys l broken clean =
       (codes "broken", ids_data broken) ∷
@@ -47,47 +47,39 @@ module _ {D : Type 0} where
       (codes "dangling", list (map locator_data l.dangling.items)) ∷
       (codes "doubtful", ids_data l.shards.doubtful.items) ∷ []
 
-  -- the report's keys `geometry` and `hidden` with their values
-  abbrev pub hidden_keys : Listed D → List (List ℕ × Data)
-  hidden_keys l =
-      (codes "geometry", geometry_data l.plan.geometry) ∷
-      (codes "hidden", list (map locator_data l.hidden.items)) ∷ []
-
   -- the scanned extents with their live bytes
   abbrev pub extent_pairs : Listed D → List (Scanned × ℕ)
-  extent_pairs l = zip l.all.extents l.liveness.live.items
+  extent_pairs l = zip l.scan.all.extents l.liveness.live.items
 
-  -- the report's keys from `extents` up to `hidden` with their values
-  abbrev pub extent_keys : Listed D → List (List ℕ × Data)
-  extent_keys l = (codes "extents", list (map (λ q. extent_data q.1 q.0) (extent_pairs l))) ∷ hidden_keys l
-
-  -- the report's keys from `orphans` up to `runs` with their values
-  abbrev pub run_keys : Listed D → List (List ℕ × Data)
-  run_keys l =
-      (codes "orphans", list (map place_data l.liveness.orphans.items)) ∷
-      (codes "retired", numbers_data l.plan.retired) ∷
-      (codes "runs", list (map row_data l.runs.items)) ∷ []
-
-  -- the report's keys from `shards` up to `twins` with their values
+  -- the report's keys after `extents` with their values
   abbrev pub last_keys : Listed D → List (List ℕ × Data)
   last_keys l =
+      (codes "geometry", geometry_data l.scan.plan.geometry) ∷
+      (codes "hidden", list (map locator_data l.hidden.items)) ∷
+      (codes "orphans", list (map place_data l.liveness.orphans.items)) ∷
+      (codes "retired", numbers_data l.scan.plan.retired) ∷
+      (codes "runs", list (map row_data l.runs.items)) ∷
       (codes "shards", natural l.shards.count) ∷
       (codes "shared", list (map shared_data l.liveness.shared.items)) ∷
-      (codes "super", super_data l.chosen) ∷
+      (codes "super", super_data l.scan.chosen) ∷
       (codes "twins", list (map place_data l.twins.items)) ∷ []
+
+  -- the report's keys from `extents` on with their values
+  abbrev pub extent_keys : Listed D → List (List ℕ × Data)
+  extent_keys l = (codes "extents", list (map (λ q. extent_data q.1 q.0) (extent_pairs l))) ∷ last_keys l
 
   -- all keys of the report with their values, from the lists that the code keeps
   abbrev pub all_keys : Listed D → List ShardId → Bool → List (List ℕ × Data)
-  all_keys l broken clean = first_keys l broken clean ++ (extent_keys l ++ (run_keys l ++ last_keys l))
+  all_keys l broken clean = first_keys l broken clean ++ extent_keys l
 
   -- the report's tokens before the first extent
   abbrev pub begun_tokens : Listed D → List ShardId → Bool → List Token
-  begun_tokens l broken clean = begin_object ∷ (members_tokens (first_keys l broken clean) ++ (key (codes "extents") ∷ begin_array ∷ []))
+  begun_tokens l broken clean =
+      begin_object ∷ (members_tokens (first_keys l broken clean) ++ (key (codes "extents") ∷ begin_array ∷ []))
 
-  -- the report's tokens behind the last extent
+  -- the report's tokens after the last extent
   abbrev pub ended_tokens : Listed D → List Token
-  ended_tokens l =
-      end_array ∷ (members_tokens (hidden_keys l) ++ (members_tokens (run_keys l) ++ (members_tokens (last_keys l) ++ (end_object ∷ []))))
+  ended_tokens l = end_array ∷ (members_tokens (last_keys l) ++ end_object ∷ [])
 
   -- the object of all keys as compact JSON, and a line feed
   abbrev pub listed_text : Listed D → List ShardId → Bool → List ℕ

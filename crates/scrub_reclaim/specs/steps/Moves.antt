@@ -8,16 +8,16 @@ use Rattle.scrub_check.specs.declared.statuses.checked.Checked.{Checked}
 use Rattle.scrub_reclaim.specs.Reclaimable.{pointing_to}
 
 -- the place that a named locator points to: its extent and offset
-abbrev pub place_named : Checked → ℕ × ℕ
-place_named c = (c.locator.extent, c.locator.offset)
+abbrev pub place_pointed_to : Checked → ℕ × ℕ
+place_pointed_to c = (c.locator.extent, c.locator.offset)
 
 -- the order of places: by extent, then by offset
-abbrev pub place_cmp : ℕ × ℕ → ℕ × ℕ → Ordering
-place_cmp a b = ordering_then (nat_cmp a.0 b.0) (nat_cmp a.1 b.1)
+abbrev pub target_cmp : ℕ × ℕ → ℕ × ℕ → Ordering
+target_cmp a b = ordering_then (nat_cmp a.0 b.0) (nat_cmp a.1 b.1)
 
 -- references to named locators, sorted by the places that the locators point to
 abbrev pub AreRisingPlaces : List (Bor Checked) → Type 0
-AreRisingPlaces sorted = IsSortedByKey (λ one. place_named one.now) place_cmp sorted
+AreRisingPlaces sorted = IsSortedByKey (λ one. place_pointed_to one.now) target_cmp sorted
 
 -- for each place the same locators point to it as among the checked ones, in the same order
 abbrev pub PointAlike : List Checked → List (Bor Checked) → Type 0

@@ -1,7 +1,7 @@
 -- Steps of listing records and lost ranges: one list of both, and whether they are clean.
 use Rattle.std.specs.Prelude.{◌≡◌, ◌≢◌, ◌<◌, ◌≤◌, ◌↔◌, ℕ, List, [], AllPairs, Contains, length, slice_index_or}
-use Rattle.scrub_super.specs.declared.anywhere.FoundRecord.{FoundRecord}
-use Rattle.scrub_super.specs.declared.anywhere.LostBytes.{LostBytes}
+use Rattle.scrub_super.specs.declared.unknown_sizes.FoundRecord.{FoundRecord}
+use Rattle.scrub_super.specs.declared.unknown_sizes.LostBytes.{LostBytes}
 use Rattle.scrub_listings.specs.declared.sizes_listing.lines.SizesLine.{SizesLine}
 use Rattle.scrub_listings.specs.declared.sizes_listing.lines.SizesLine.TheVariants.{Record, Lost}
 use Rattle.scrub_listings.specs.Sizes.{line_start}
@@ -12,7 +12,7 @@ pub record CanMerge (records : List FoundRecord) (ranges : List LostBytes) : Typ
   pub ranges_rise : AllPairs (λ a b. a.from < b.from) ranges
   pub apart : (r : FoundRecord) (l : LostBytes) → Contains records r → Contains ranges l → r.offset ≢ l.from
 
--- the lines have the elements of both lists, by rising start
+-- the lines have the elements of both lists, by ascending start
 pub record AreInOrder (records : List FoundRecord) (ranges : List LostBytes) (lines : List SizesLine) : Type 0 where
   pub rising : AllPairs (λ a b. line_start a < line_start b) lines
   pub records_are : (r : FoundRecord) → Contains lines (Record r) ↔ Contains records r

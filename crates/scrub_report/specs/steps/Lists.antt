@@ -6,7 +6,7 @@ use Rattle.scrub_merge.specs.Binding.{BindingValue}
 use Rattle.scrub_check.specs.declared.statuses.checked.Checked.{Checked}
 use Rattle.scrub_check.specs.Checked.{dangling, hidden}
 use Rattle.scrub_check.specs.Chunks.{twins}
-use Rattle.scrub_check.specs.LocatorIndex.{IsLocatorIndex}
+use Rattle.scrub_check.specs.steps.LocatorIndex.{IsLocatorIndex}
 use Rattle.scrub_report.specs.declared.listed.Drawn.{Drawn}
 use Rattle.scrub_report.specs.declared.listed.Listed.{Listed}
 use Rattle.scrub_report.specs.declared.parts.Judged.{Judged}
@@ -28,7 +28,7 @@ pub record AreDrawnFrom (checked : List Checked) (d : Drawn) : Type 0 where
 
 -- the text and the verdict are those of what is found in an image, where the map has these bindings and these are the
 -- checked locators
-pub record IsReported (image : Image) (bindings : List BindingValue) (checked : List Checked) (text : List ℕ) (clean : Bool) : Type 0 where
+pub record IsReportBy (image : Image) (bindings : List BindingValue) (checked : List Checked) (text : List ℕ) (clean : Bool) : Type 0 where
   pub found : Scrubbed
   pub scrubbed : IsScrubbed image found
   pub bindings_are : found.bindings ≡ bindings
@@ -39,15 +39,13 @@ pub record IsReported (image : Image) (bindings : List BindingValue) (checked : 
 module _ {D : Type 0} where
   -- the lists are those of the judged locators, and what is said of the shard map is kept
   pub record AreListsOf (j : Judged D) (s : Shards) (l : Listed D) : Type 0 where
-    pub chosen_is : l.chosen ≡ j.chosen
-    pub plan_is : l.plan ≡ j.plan
-    pub all_are : l.all.extents ≡ j.all.extents
+    pub scan_is : l.scan ≡ j.scan
     pub runs_are : l.runs.items ≡ j.runs.items
     pub shards_are : l.shards ≡ s
     pub dangling_are : l.dangling.items ≡ dangling j.checked.items
     pub hidden_are : l.hidden.items ≡ hidden j.checked.items
     pub liveness_is : IsLivenessOf j l.liveness
-    pub twins_are : l.twins.items ≡ twins j.all.extents
+    pub twins_are : l.twins.items ≡ twins j.scan.all.extents
 
   -- no locator dangles or is hidden, and no place is shared
   abbrev pub has_none : Listed D → Bool
@@ -57,4 +55,4 @@ module _ {D : Type 0} where
   -- hidden or is shared
   abbrev pub is_clean_listed : Listed D → Bool
   is_clean_listed l =
-      is_clean_choice l.chosen && list_all is_clean_extent l.all.extents && list_all (λ r. is_some r.entries) l.runs.items && has_none l
+      is_clean_choice l.scan.chosen && list_all is_clean_extent l.scan.all.extents && list_all (λ r. is_some r.entries) l.runs.items && has_none l

@@ -1,0 +1,3 @@
+-- Steps of the code.
+pub mod Manifest
+pub mod Sizes

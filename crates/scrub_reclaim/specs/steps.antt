@@ -1,0 +1,5 @@
+-- Steps of the code.
+pub mod Moves
+pub mod PageDoubts
+pub mod PageRanges
+pub mod Room

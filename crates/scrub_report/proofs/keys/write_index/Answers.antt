@@ -1,5 +1,0 @@
--- The keys have what the lists have.
-use Rattle.scrub_report.proofs.keys.write_index.Goals as goal
-
-pub returns-clause-tokens : goal.returns-clause-tokens
-returns-clause-tokens g c = rw (c.deref.ensures.value, c.retired.ensures.retired, c.deref-2.ensures.value) at c.write_members.ensures.tokens

@@ -1,0 +1,5 @@
+-- Steps of the code.
+pub mod Lists
+pub mod Tokens
+pub mod Values
+pub mod IndexLocators
