@@ -6,56 +6,56 @@ use Rattle.scrub_scan.specs.Extent.{extent_of}
 use Rattle.scrub_cli.specs.declared.process.fault.Fault.{Fault}
 use Rattle.scrub_cli.specs.declared.process.fault.Fault.TheVariants.{Pointer}
 use Rattle.scrub_cli.specs.declared.process.outcome.Outcome.{Outcome}
-use Rattle.scrub_cli.specs.declared.words.ItemsWords.{ItemsWords}
+use Rattle.scrub_cli.specs.declared.args.ItemsArgs.{ItemsArgs}
 use Rattle.scrub_cli.specs.DiskImage.{IsDiskFault, IsLoadedDisk}
 use Rattle.scrub_cli.specs.Items.{given_pointer, AreInDisk, IsItemsAnswer, IsItemsFault}
-use Rattle.scrub_cli.specs.Found.{IsGeometryFault, IsGeometryOf}
-use Rattle.scrub_cli.specs.Known.{KnownMaps, KnownRaw}
+use Rattle.scrub_cli.specs.DiskGeometry.{IsGeometryFault, IsGeometryOf}
+use Rattle.scrub_cli.specs.KnownFiles.{KnownMaps, KnownRaw}
 use Rattle.scrub_cli.specs.Lines.{IsListing}
 use Rattle.scrub_cli.proofs.DiskAnswers.{of_disk_fault}
 use Rattle.scrub_cli.proofs.ScanAnswers.{of_geometry_fault}
 
 -- what is known if the sizes, the extent and the pointer aren't refused; an extent has `size` bytes
-pub placed : (known : KnownRaw) (maps : KnownMaps) (words : ItemsWords) (g : Sizes) (pointer size limit : ℕ) →
-    IsGeometryOf known maps words.image g →
-    words.extent < g.extents → pointer ≡ unwrap_or words.pointer size → size ≡ extent_bytes g → limit ≡ extent_bytes g →
+pub placed : (known : KnownRaw) (maps : KnownMaps) (args : ItemsArgs) (g : Sizes) (pointer size limit : ℕ) →
+    IsGeometryOf known maps args.image g →
+    args.extent < g.extents → pointer ≡ unwrap_or args.pointer size → size ≡ extent_bytes g → limit ≡ extent_bytes g →
     pointer ≤ limit →
-    AreInDisk known maps words g × (pointer ≡ given_pointer words g)
-placed known maps words g pointer size limit sizes in_disk is size_is limit_is within =
-    let pointer_is : pointer ≡ given_pointer words g = is ∙ ap (unwrap_or words.pointer) size_is in (
+    AreInDisk known maps args g × (pointer ≡ given_pointer args g)
+placed known maps args g pointer size limit sizes in_disk is size_is limit_is within =
+    let pointer_is : pointer ≡ given_pointer args g = is ∙ ap (unwrap_or args.pointer) size_is in (
       record { sizes = sizes; in_disk = in_disk; in_extent = rw (← pointer_is) (rw limit_is at within) },
       pointer_is,
     )
 
-pub pointer_fault : (known : KnownRaw) (maps : KnownMaps) (words : ItemsWords) (g : Sizes) (pointer size limit : ℕ) →
-    IsGeometryOf known maps words.image g → words.extent < g.extents →
-    pointer ≡ unwrap_or words.pointer size → size ≡ extent_bytes g → limit ≡ extent_bytes g → limit < pointer →
-    IsItemsFault known maps words Pointer
-pointer_fault known maps words g pointer size limit sizes in_disk is size_is limit_is past =
-    let pointer_is : pointer ≡ given_pointer words g = is ∙ ap (unwrap_or words.pointer) size_is in
+pub pointer_fault : (known : KnownRaw) (maps : KnownMaps) (args : ItemsArgs) (g : Sizes) (pointer size limit : ℕ) →
+    IsGeometryOf known maps args.image g → args.extent < g.extents →
+    pointer ≡ unwrap_or args.pointer size → size ≡ extent_bytes g → limit ≡ extent_bytes g → limit < pointer →
+    IsItemsFault known maps args Pointer
+pointer_fault known maps args g pointer size limit sizes in_disk is size_is limit_is past =
+    let pointer_is : pointer ≡ given_pointer args g = is ∙ ap (unwrap_or args.pointer) size_is in
     (g, sizes, in_disk, rw (← pointer_is) (rw limit_is at past))
 
 -- a fault of the image is one of `items`
-pub items_disk_fault : (known : KnownRaw) (maps : KnownMaps) (words : ItemsWords) (g : Sizes) (fault : Fault) →
-    AreInDisk known maps words g →
-    IsDiskFault known maps words.image g fault → IsItemsFault known maps words fault
-items_disk_fault known maps words g fault places =
-    of_disk_fault (IsItemsFault known maps words) known maps words.image g (λ word is. (g, places, is))
+pub items_disk_fault : (known : KnownRaw) (maps : KnownMaps) (args : ItemsArgs) (g : Sizes) (fault : Fault) →
+    AreInDisk known maps args g →
+    IsDiskFault known maps args.image g fault → IsItemsFault known maps args fault
+items_disk_fault known maps args g fault places =
+    of_disk_fault (IsItemsFault known maps args) known maps args.image g (λ arg is. (g, places, is))
     (λ name is. inr (g, places, is))
     (λ k is. inr (g, places, is)) (λ name is. inr (g, places, is)) (λ is. (g, places, is)) tt fault
 
 -- so is a fault of the sizes
-pub items_geometry_fault : (known : KnownRaw) (maps : KnownMaps) (words : ItemsWords) (fault : Fault) →
-    IsGeometryFault known maps words.image fault → IsItemsFault known maps words fault
-items_geometry_fault known maps words fault =
-    of_geometry_fault (IsItemsFault known maps words) known maps words.image (λ limit is. is) (λ is. is) (λ name is. inl is)
+pub items_geometry_fault : (known : KnownRaw) (maps : KnownMaps) (args : ItemsArgs) (fault : Fault) →
+    IsGeometryFault known maps args.image fault → IsItemsFault known maps args fault
+items_geometry_fault known maps args fault =
+    of_geometry_fault (IsItemsFault known maps args) known maps args.image (λ limit is. is) (λ is. is) (λ name is. inl is)
     (λ k is. inl is) (λ name is. inl is) tt fault
 
-pub items_answer : (known : KnownRaw) (maps : KnownMaps) (words : ItemsWords) (g : Sizes) (image : Image) (pointer : ℕ)
+pub items_answer : (known : KnownRaw) (maps : KnownMaps) (args : ItemsArgs) (g : Sizes) (image : Image) (pointer : ℕ)
     (text : List ℕ) (outcome : Outcome) →
-    AreInDisk known maps words g → IsLoadedDisk known maps words.image g image → pointer ≡ given_pointer words g →
-    IsListing (extent_of image words.extent pointer) text outcome → IsItemsAnswer known maps words text outcome
-items_answer known maps words g image pointer text outcome places loaded is listed = record {
+    AreInDisk known maps args g → IsLoadedDisk known maps args.image g image → pointer ≡ given_pointer args g →
+    IsListing (extent_of image args.extent pointer) text outcome → IsItemsAnswer known maps args text outcome
+items_answer known maps args g image pointer text outcome places loaded is listed = record {
   geometry = g;
   places = places;
   image = image;

@@ -1,4 +1,4 @@
--- The numbers that are found for an option that may be repeated, and the same numbers rising, each once.
+-- The numbers that are found for an option that may be repeated, and the same numbers ascending, each once.
 use Rattle.std.proofs.Common.{◌≡◌, ◌∙◌, ◌++◌, ◌∷◌, [], All, Contains, ℕ, List, Option, None, Some, Ok, Err, Bool, true, false, ap, arith, refl, sym, map}
 use Rattle.std.specs.Prelude.{◌↔◌, IfSome, find, if◌then◌else◌, option_map, pos, unwrap_or}
 use Rattle.std.specs.List.{AllZip, dedup}
@@ -30,9 +30,9 @@ use Rattle.clap_walk.specs.Rows.{AreSame, EachRow, IsSound}
 use Rattle.clap_walk.proofs.SameRows.{found_same}
 use Rattle.clap_walk.proofs.Values.{row_found}
 use Rattle.clap_walk.proofs.Walks.{parts}
-use Rattle.scrub_cli.specs.Parsed.{HasNumbers, IsReadNumber}
-use Rattle.scrub_cli.specs.Words.{AreNumbersOf, IsNumeralOf}
-use Rattle.scrub_cli.proofs.WordsFound.{Parses}
+use Rattle.scrub_cli.specs.steps.Parsed.{HasNumbers, IsReadNumber}
+use Rattle.scrub_cli.specs.Args.{AreNumbersOf, IsNumeralOf}
+use Rattle.scrub_cli.proofs.ArgsFound.{Parses}
 
 -- ---- what is found
 
@@ -139,7 +139,7 @@ all_read all [] after numbers so_far step =
     rw (so_far.joined ∙ append-nil so_far.read) so_far.numerals
 all_read all (text ∷ rest) after numbers so_far step = absurd step
 
--- ---- rising, each once
+-- ---- ascending, each once
 
 pub rising_once : (numbers sorted once : List ℕ) → IsPermutation numbers sorted → IsSorted nat_cmp sorted →
     IsFiltered (DiffersFromLast eqb) [] sorted once →

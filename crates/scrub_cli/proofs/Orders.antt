@@ -16,19 +16,20 @@ use Rattle.clap_walk.specs.Rules.{EachRule, IsByName}
 use Rattle.clap_walk.proofs.Walks.{parts}
 use Rattle.clap_walk.proofs.SameRows.{all_same, first_same, one_same}
 use Rattle.clap_walk.proofs.Exchanges.{end_alike, joined}
-use Rattle.scrub_cli.specs.declared.words.GivenSizes.{GivenSizes}
-use Rattle.scrub_cli.specs.declared.words.ImageWords.{ImageWords}
-use Rattle.scrub_cli.specs.declared.words.ItemsWords.{ItemsWords}
-use Rattle.scrub_cli.specs.declared.words.ScanWords.{ScanWords}
-use Rattle.scrub_cli.specs.declared.words.ManifestWords.{ManifestWords}
-use Rattle.scrub_cli.specs.declared.words.ReclaimWords.{ReclaimWords}
-use Rattle.scrub_cli.specs.declared.words.ShardWords.{ShardWords}
-use Rattle.scrub_cli.specs.declared.words.SizesWords.{SizesWords}
-use Rattle.scrub_cli.specs.declared.words.Request.{Request}
-use Rattle.scrub_cli.specs.declared.words.Request.TheVariants.{Demo, Items, Scan, Index, Locators, Manifest, Shard, Summary, Reclaimable, Superblocks, Sizes, Version}
+use Rattle.scrub_cli.specs.declared.args.GivenSizes.{GivenSizes}
+use Rattle.scrub_cli.specs.declared.args.ImageArgs.{ImageArgs}
+use Rattle.scrub_cli.specs.declared.args.ItemsArgs.{ItemsArgs}
+use Rattle.scrub_cli.specs.declared.args.ScanArgs.{ScanArgs}
+use Rattle.scrub_cli.specs.declared.args.ManifestArgs.{ManifestArgs}
+use Rattle.scrub_cli.specs.declared.args.ShardArgs.{ShardArgs}
+use Rattle.scrub_cli.specs.declared.args.SizesArgs.{SizesArgs}
+use Rattle.scrub_cli.specs.declared.args.Request.{Request}
+use Rattle.scrub_cli.specs.declared.args.Wanted.{Wanted}
+use Rattle.scrub_cli.specs.declared.args.Wanted.TheVariants.{Report, Index, Locators, Summary, Reclaimable}
+use Rattle.scrub_cli.specs.declared.args.Request.TheVariants.{Demo, Items, Disk, Manifest, Shard, Superblocks, Sizes}
 use Rattle.scrub_cli.specs.CommandLine.{shardscrub_app}
 use Rattle.scrub_cli.specs.Order.{AreExchanged, HasOptions}
-use Rattle.scrub_cli.specs.Words.{AreImageWords, AreItemsWords, AreManifestWords, AreReclaimWords, AreScanWords, AreShardWords, AreSizesGiven, AreSizesWords, IsAskedBy, IsNumberOf, IsWorkersOf, NameCommand}
+use Rattle.scrub_cli.specs.Args.{AcceptsFound, AreImageArgs, AreItemsArgs, AreManifestArgs, AreScanArgs, AreShardArgs, AreSizesGiven, AreSizesArgs, IsAskedBy, IsNumberOf, IsWorkersOf, NameCommand, command_of}
 use Rattle.scrub_cli.proofs.Numbers.{many_same}
 use Rattle.scrub_cli.proofs.Whole.{built_items, built_manifest, built_reclaimable, built_shard, built_sizes, built_superblocks, disk, looked}
 
@@ -59,27 +60,27 @@ module _ (xs ys : List Row) (same : AreSame xs ys) where
     number_same (codes "extents") s.extents read.2,
   )
 
-  image_same : (words : ImageWords) → AreImageWords xs words → AreImageWords ys words
-  image_same words read = record {
-    sizes = sizes_given_same words.sizes read.sizes;
+  image_same : (args : ImageArgs) → AreImageArgs xs args → AreImageArgs ys args
+  image_same args read = record {
+    sizes = sizes_given_same args.sizes read.sizes;
     name = sym (first_same xs ys same (codes "image")) ∙ read.name;
     bad_pages = read.bad_pages ∙ all_same xs ys same (codes "bad-pages");
     map_name = read.map_name ∙ first_same xs ys same (codes "map");
   }
 
-  scan_same : (words : ScanWords) → AreScanWords xs words → AreScanWords ys words
-  scan_same words read = record {
-    image = image_same words.image read.image;
+  scan_same : (args : ScanArgs) → AreScanArgs xs args → AreScanArgs ys args
+  scan_same args read = record {
+    image = image_same args.image read.image;
     workers = go read.workers;
   }
     where
-      go : IsWorkersOf xs words.workers → IsWorkersOf ys words.workers
+      go : IsWorkersOf xs args.workers → IsWorkersOf ys args.workers
       go (inl default) = inl (sym (one_same xs ys same (codes "workers")) ∙ default.0, default.1)
-      go (inr given) = inr (number_same (codes "workers") words.workers given.0, given.1)
+      go (inr given) = inr (number_same (codes "workers") args.workers given.0, given.1)
 
-  manifest_same : (words : ManifestWords) → AreManifestWords xs words → AreManifestWords ys words
-  manifest_same words read = record {
-    scan = scan_same words.scan read.scan;
+  manifest_same : (args : ManifestArgs) → AreManifestArgs xs args → AreManifestArgs ys args
+  manifest_same args read = record {
+    scan = scan_same args.scan read.scan;
     resets = record {
       numbers = read.resets.numbers;
       given = rw (many_same xs ys same (codes "reset")) at read.resets.given;
@@ -88,30 +89,33 @@ module _ (xs ys : List Row) (same : AreSame xs ys) where
     };
   }
 
-  shard_same : (words : ShardWords) → AreShardWords xs words → AreShardWords ys words
-  shard_same words read = record {
-    scan = scan_same words.scan read.scan;
+  shard_same : (args : ShardArgs) → AreShardArgs xs args → AreShardArgs ys args
+  shard_same args read = record {
+    scan = scan_same args.scan read.scan;
     id = sym (first_same xs ys same (codes "id")) ∙ read.id;
   }
 
-  reclaim_same : (words : ReclaimWords) → AreReclaimWords xs words → AreReclaimWords ys words
-  reclaim_same words read = record {
-    scan = scan_same words.scan read.scan;
-    accepted = rw (all_same xs ys same (codes "accept")) at read.accepted;
+  accepts_same : (wanted : Wanted) → AcceptsFound xs wanted → AcceptsFound ys wanted
+  accepts_same Report read = tt
+  accepts_same Index read = tt
+  accepts_same Locators read = tt
+  accepts_same Summary read = tt
+  accepts_same (Reclaimable accepted) read = record {
+    given = rw (all_same xs ys same (codes "accept")) at read.given;
     acceptable = rw (all_same xs ys same (codes "accept")) at read.acceptable;
   }
 
-  sizes_same : (words : SizesWords) → AreSizesWords xs words → AreSizesWords ys words
-  sizes_same words read = record {
+  sizes_same : (args : SizesArgs) → AreSizesArgs xs args → AreSizesArgs ys args
+  sizes_same args read = record {
     name = sym (first_same xs ys same (codes "image")) ∙ read.name;
     map_name = read.map_name ∙ first_same xs ys same (codes "map");
   }
 
-  items_same : (words : ItemsWords) → AreItemsWords xs words → AreItemsWords ys words
-  items_same words read = record {
-    image = image_same words.image read.image;
-    extent = number_same (codes "extent") words.extent read.extent;
-    pointer = go words.pointer read.pointer;
+  items_same : (args : ItemsArgs) → AreItemsArgs xs args → AreItemsArgs ys args
+  items_same args read = record {
+    image = image_same args.image read.image;
+    extent = number_same (codes "extent") args.extent read.extent;
+    pointer = go args.pointer read.pointer;
   }
     where
       go : (o : Option ℕ) → MatchOption o (one_of (codes "pointer") xs ≡ None) (IsNumberOf xs (codes "pointer")) →
@@ -126,57 +130,34 @@ module _ (xs ys : List Row) (same : AreSame xs ys) where
   pub asked_same : (name : Text) (request : Request) → IsAskedBy (Some (name, xs)) request → IsAskedBy (Some (name, ys)) request
   asked_same name Demo (inl none) = cc
   asked_same name Demo (inr named) = inr (ys, renamed name (codes "demo") named.0 named.1)
-  asked_same name (Items words) asked = (
+  asked_same name (Items args) asked = (
     ys,
     renamed name (codes "items") asked.0 asked.1,
-    items_same words (rw (pair_rows name (codes "items") xs asked.0 asked.1) at asked.2),
+    items_same args (rw (pair_rows name (codes "items") xs asked.0 asked.1) at asked.2),
   )
-  asked_same name (Scan words) asked = (
-    ys,
-    renamed name (codes "scan") asked.0 asked.1,
-    scan_same words (rw (pair_rows name (codes "scan") xs asked.0 asked.1) at asked.2),
-  )
-  asked_same name (Index words) asked = (
-    ys,
-    renamed name (codes "index") asked.0 asked.1,
-    scan_same words (rw (pair_rows name (codes "index") xs asked.0 asked.1) at asked.2),
-  )
-  asked_same name (Reclaimable words) asked = (
-    ys,
-    renamed name (codes "reclaimable") asked.0 asked.1,
-    reclaim_same words (rw (pair_rows name (codes "reclaimable") xs asked.0 asked.1) at asked.2),
-  )
-  asked_same name (Superblocks words) asked = (
+  asked_same name (Disk wanted args) asked =
+      let rows = pair_rows name (command_of wanted) xs asked.0 asked.1 in
+      (ys, renamed name (command_of wanted) asked.0 asked.1, accepts_same wanted (rw rows at asked.2), scan_same args (rw rows at asked.3))
+  asked_same name (Superblocks args) asked = (
     ys,
     renamed name (codes "superblocks") asked.0 asked.1,
-    image_same words (rw (pair_rows name (codes "superblocks") xs asked.0 asked.1) at asked.2),
+    image_same args (rw (pair_rows name (codes "superblocks") xs asked.0 asked.1) at asked.2),
   )
-  asked_same name (Sizes words) asked = (
+  asked_same name (Sizes args) asked = (
     ys,
     renamed name (codes "sizes") asked.0 asked.1,
-    sizes_same words (rw (pair_rows name (codes "sizes") xs asked.0 asked.1) at asked.2),
+    sizes_same args (rw (pair_rows name (codes "sizes") xs asked.0 asked.1) at asked.2),
   )
-  asked_same name (Locators words) asked = (
-    ys,
-    renamed name (codes "locators") asked.0 asked.1,
-    scan_same words (rw (pair_rows name (codes "locators") xs asked.0 asked.1) at asked.2),
-  )
-  asked_same name (Manifest words) asked = (
+  asked_same name (Manifest args) asked = (
     ys,
     renamed name (codes "manifest") asked.0 asked.1,
-    manifest_same words (rw (pair_rows name (codes "manifest") xs asked.0 asked.1) at asked.2),
+    manifest_same args (rw (pair_rows name (codes "manifest") xs asked.0 asked.1) at asked.2),
   )
-  asked_same name (Shard words) asked = (
+  asked_same name (Shard args) asked = (
     ys,
     renamed name (codes "shard") asked.0 asked.1,
-    shard_same words (rw (pair_rows name (codes "shard") xs asked.0 asked.1) at asked.2),
+    shard_same args (rw (pair_rows name (codes "shard") xs asked.0 asked.1) at asked.2),
   )
-  asked_same name (Summary words) asked = (
-    ys,
-    renamed name (codes "summary") asked.0 asked.1,
-    scan_same words (rw (pair_rows name (codes "summary") xs asked.0 asked.1) at asked.2),
-  )
-  asked_same name Version asked = absurd asked
 
 -- the commands as `clap` builds them are known by their names
 disk_by_name : (name : Text) → EachRule IsByName (disk name).rules
@@ -372,7 +353,7 @@ plain each empty = record { by_name = each; may_be_empty = empty }
 
 -- the walk over the arguments stops at the command, which gets the rest
 abbrev stopped : Text → List Text → Walk
-stopped command words = record (walk_from nothing_held) { stopped = Some (command, words) }
+stopped command args = record (walk_from nothing_held) { stopped = Some (command, args) }
 
 abbrev after_walk : Kinds → Walk → Kinds
 after_walk walks w =
@@ -383,79 +364,79 @@ after_walk walks w =
 record Enters (command : Text) (below : Shape) : Type 0 where
   first : walked (built shardscrub_app).top.rules (names_of (built shardscrub_app)) (walk_from nothing_held) command ≡ stopped command []
   clean : turn_fault (built shardscrub_app).top (names_of (built shardscrub_app)) (walk_from nothing_held) command ≡ []
-  faults : (words : List Text) →
-      after_walk [] (stopped command words) ≡ or_else (level_fault below [] nothing_held words false []) []
-  rows : (words : List Text) → entered (built shardscrub_app) (Some (command, words)) ≡ Some (rows_at below words)
+  faults : (args : List Text) →
+      after_walk [] (stopped command args) ≡ or_else (level_fault below [] nothing_held args false []) []
+  rows : (args : List Text) → entered (built shardscrub_app) (Some (command, args)) ≡ Some (rows_at below args)
 
 enters_scan : Enters (codes "scan") (looked (codes "scan"))
 unfolding clap_on_literals
-enters_scan = record { first = refl; clean = refl; faults = λ words. refl; rows = λ words. refl }
+enters_scan = record { first = refl; clean = refl; faults = λ args. refl; rows = λ args. refl }
 
 enters_index : Enters (codes "index") (disk (codes "index"))
 unfolding clap_on_literals
-enters_index = record { first = refl; clean = refl; faults = λ words. refl; rows = λ words. refl }
+enters_index = record { first = refl; clean = refl; faults = λ args. refl; rows = λ args. refl }
 
 enters_locators : Enters (codes "locators") (looked (codes "locators"))
 unfolding clap_on_literals
-enters_locators = record { first = refl; clean = refl; faults = λ words. refl; rows = λ words. refl }
+enters_locators = record { first = refl; clean = refl; faults = λ args. refl; rows = λ args. refl }
 
 enters_manifest : Enters (codes "manifest") built_manifest
 unfolding clap_on_literals
-enters_manifest = record { first = refl; clean = refl; faults = λ words. refl; rows = λ words. refl }
+enters_manifest = record { first = refl; clean = refl; faults = λ args. refl; rows = λ args. refl }
 
 enters_shard : Enters (codes "shard") built_shard
 unfolding clap_on_literals
-enters_shard = record { first = refl; clean = refl; faults = λ words. refl; rows = λ words. refl }
+enters_shard = record { first = refl; clean = refl; faults = λ args. refl; rows = λ args. refl }
 
 enters_summary : Enters (codes "summary") (looked (codes "summary"))
 unfolding clap_on_literals
-enters_summary = record { first = refl; clean = refl; faults = λ words. refl; rows = λ words. refl }
+enters_summary = record { first = refl; clean = refl; faults = λ args. refl; rows = λ args. refl }
 
 enters_reclaimable : Enters (codes "reclaimable") built_reclaimable
 unfolding clap_on_literals
-enters_reclaimable = record { first = refl; clean = refl; faults = λ words. refl; rows = λ words. refl }
+enters_reclaimable = record { first = refl; clean = refl; faults = λ args. refl; rows = λ args. refl }
 
 enters_superblocks : Enters (codes "superblocks") built_superblocks
 unfolding clap_on_literals
-enters_superblocks = record { first = refl; clean = refl; faults = λ words. refl; rows = λ words. refl }
+enters_superblocks = record { first = refl; clean = refl; faults = λ args. refl; rows = λ args. refl }
 
 enters_sizes : Enters (codes "sizes") built_sizes
 unfolding clap_on_literals
-enters_sizes = record { first = refl; clean = refl; faults = λ words. refl; rows = λ words. refl }
+enters_sizes = record { first = refl; clean = refl; faults = λ args. refl; rows = λ args. refl }
 
 enters_items : Enters (codes "items") built_items
 unfolding clap_on_literals
-enters_items = record { first = refl; clean = refl; faults = λ words. refl; rows = λ words. refl }
+enters_items = record { first = refl; clean = refl; faults = λ args. refl; rows = λ args. refl }
 
 module _ (command : Text) (below : Shape) (enters : Enters command below) where
   abbrev top : Shape
   top = (built shardscrub_app).top
 
-  ends : (words : List Text) →
-      fold (walked top.rules (names_of (built shardscrub_app))) (walk_from nothing_held) (command ∷ words) ≡ stopped command words
-  ends words = ap (λ (w : Walk). fold (walked top.rules (names_of (built shardscrub_app))) w words) enters.first
-      ∙ sym (walk_stopped top.rules (names_of (built shardscrub_app)) (walk_from nothing_held) command [] words)
+  ends : (args : List Text) →
+      fold (walked top.rules (names_of (built shardscrub_app))) (walk_from nothing_held) (command ∷ args) ≡ stopped command args
+  ends args = ap (λ (w : Walk). fold (walked top.rules (names_of (built shardscrub_app))) w args) enters.first
+      ∙ sym (walk_stopped top.rules (names_of (built shardscrub_app)) (walk_from nothing_held) command [] args)
 
-  walks : (words : List Text) → walk_fault top (names_of (built shardscrub_app)) (walk_from nothing_held) (command ∷ words) ≡ []
+  walks : (args : List Text) → walk_fault top (names_of (built shardscrub_app)) (walk_from nothing_held) (command ∷ args) ≡ []
   unfolding walk_fault
-  walks words =
+  walks args =
       joined (turn_fault top (names_of (built shardscrub_app)) (walk_from nothing_held) command) _ enters.clean
-      (ap (λ (w : Walk). walk_fault top (names_of (built shardscrub_app)) w words) enters.first
-      ∙ stopped_fault top (names_of (built shardscrub_app)) (walk_from nothing_held) (command, []) words)
+      (ap (λ (w : Walk). walk_fault top (names_of (built shardscrub_app)) w args) enters.first
+      ∙ stopped_fault top (names_of (built shardscrub_app)) (walk_from nothing_held) (command, []) args)
 
-  fault_is : (words : List Text) →
-      fault_of shardscrub_app (command ∷ words) ≡ or_else (level_fault below [] nothing_held words false []) []
-  fault_is words = ap₂ after_walk (walks words) (ends words) ∙ enters.faults words
+  fault_is : (args : List Text) →
+      fault_of shardscrub_app (command ∷ args) ≡ or_else (level_fault below [] nothing_held args false []) []
+  fault_is args = ap₂ after_walk (walks args) (ends args) ∙ enters.faults args
 
-  rows_are : (words : List Text) → subcommand_of shardscrub_app (command ∷ words) ≡ Some (rows_at below words)
-  rows_are words = ap (λ (w : Walk). entered (built shardscrub_app) w.stopped) (ends words) ∙ enters.rows words
+  rows_are : (args : List Text) → subcommand_of shardscrub_app (command ∷ args) ≡ Some (rows_at below args)
+  rows_are args = ap (λ (w : Walk). entered (built shardscrub_app) w.stopped) (ends args) ∙ enters.rows args
 
-  exchanged : IsPlainTable below → (words others : List Text) (x : AreExchanged words others) → x.command ≡ command
-      → (request : Request) → NameCommand words request → NameCommand others request
-  exchanged plain words others x named request asked =
-      let words_are : words ≡ command ∷ x.behind = x.one ∙ ap (λ (c : Text). c ∷ x.behind) named in
+  exchanged : IsPlainTable below → (args others : List Text) (x : AreExchanged args others) → x.command ≡ command
+      → (request : Request) → NameCommand args request → NameCommand others request
+  exchanged plain args others x named request asked =
+      let args_are : args ≡ command ∷ x.behind = x.one ∙ ap (λ (c : Text). c ∷ x.behind) named in
       let others_are : others ≡ command ∷ x.others_behind = x.other ∙ ap (λ (c : Text). c ∷ x.others_behind) named in
-      let was : NameCommand (command ∷ x.behind) request = rw words_are at asked in
+      let was : NameCommand (command ∷ x.behind) request = rw args_are at asked in
       let clean = (parts (level_fault below [] nothing_held x.behind false []) [] (sym (fault_is x.behind) ∙ was.0)).0 in
       let end = end_alike below x.behind x.others_behind plain x.exchanged clean in
       let faults : fault_of shardscrub_app (command ∷ x.others_behind) ≡ [] =
@@ -466,28 +447,28 @@ module _ (command : Text) (below : Shape) (enters : Enters command below) where
       (faults, rw (rows_are x.others_behind) still)
 
 -- the law
-pub order_is_free : (words others : List Text) (request : Request) → AreExchanged words others → NameCommand words request →
+pub order_is_free : (args others : List Text) (request : Request) → AreExchanged args others → NameCommand args request →
     NameCommand others request
-order_is_free words others request x asked = go x.options
+order_is_free args others request x asked = go x.options
   where
     go : HasOptions x.command → NameCommand others request
     go (inl scan) =
-        exchanged (codes "scan") (looked (codes "scan")) enters_scan (plain (looked_by_name (codes "scan")) refl) words others x scan request asked
+        exchanged (codes "scan") (looked (codes "scan")) enters_scan (plain (looked_by_name (codes "scan")) refl) args others x scan request asked
     go (inr (inl index)) =
-        exchanged (codes "index") (disk (codes "index")) enters_index (plain (disk_by_name (codes "index")) refl) words others x index request asked
+        exchanged (codes "index") (disk (codes "index")) enters_index (plain (disk_by_name (codes "index")) refl) args others x index request asked
     go (inr (inr (inl locators))) =
-        exchanged (codes "locators") (looked (codes "locators")) enters_locators (plain (looked_by_name (codes "locators")) refl) words others x locators request asked
+        exchanged (codes "locators") (looked (codes "locators")) enters_locators (plain (looked_by_name (codes "locators")) refl) args others x locators request asked
     go (inr (inr (inr (inl manifest)))) =
-        exchanged (codes "manifest") built_manifest enters_manifest (plain manifest_by_name refl) words others x manifest request asked
+        exchanged (codes "manifest") built_manifest enters_manifest (plain manifest_by_name refl) args others x manifest request asked
     go (inr (inr (inr (inr (inl shard))))) =
-        exchanged (codes "shard") built_shard enters_shard (plain shard_by_name refl) words others x shard request asked
+        exchanged (codes "shard") built_shard enters_shard (plain shard_by_name refl) args others x shard request asked
     go (inr (inr (inr (inr (inr (inl summary)))))) =
-        exchanged (codes "summary") (looked (codes "summary")) enters_summary (plain (looked_by_name (codes "summary")) refl) words others x summary request asked
+        exchanged (codes "summary") (looked (codes "summary")) enters_summary (plain (looked_by_name (codes "summary")) refl) args others x summary request asked
     go (inr (inr (inr (inr (inr (inr (inl reclaimable))))))) =
-        exchanged (codes "reclaimable") built_reclaimable enters_reclaimable (plain reclaimable_by_name refl) words others x reclaimable request asked
+        exchanged (codes "reclaimable") built_reclaimable enters_reclaimable (plain reclaimable_by_name refl) args others x reclaimable request asked
     go (inr (inr (inr (inr (inr (inr (inr (inl superblocks)))))))) =
-        exchanged (codes "superblocks") built_superblocks enters_superblocks (plain superblocks_by_name refl) words others x superblocks request asked
+        exchanged (codes "superblocks") built_superblocks enters_superblocks (plain superblocks_by_name refl) args others x superblocks request asked
     go (inr (inr (inr (inr (inr (inr (inr (inr (inl sizes))))))))) =
-        exchanged (codes "sizes") built_sizes enters_sizes (plain sizes_by_name refl) words others x sizes request asked
+        exchanged (codes "sizes") built_sizes enters_sizes (plain sizes_by_name refl) args others x sizes request asked
     go (inr (inr (inr (inr (inr (inr (inr (inr (inr items))))))))) =
-        exchanged (codes "items") built_items enters_items (plain items_by_name refl) words others x items request asked
+        exchanged (codes "items") built_items enters_items (plain items_by_name refl) args others x items request asked

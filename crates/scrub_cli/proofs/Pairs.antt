@@ -14,13 +14,13 @@ colon_apart : ¬ (IsInRange 48 57 58)
 colon_apart h = omega (arith, h)
 
 -- the parts of a pair around its first colon are its numbers
-pub pair_parts : (word : List ℕ) (r : Option (Bor (List ℕ) × Bor (List ℕ))) (m n : ℕ) →
-    IsSplitOnceResult 58 word r → IsPair word m n →
+pub pair_parts : (arg : List ℕ) (r : Option (Bor (List ℕ) × Bor (List ℕ))) (m n : ℕ) →
+    IsSplitOnceResult 58 arg r → IsPair arg m n →
     MatchOption r ⊥ (λ x. IsDecimal x.0.now m × IsDecimal x.1.now n)
-pair_parts word r m n split (left, right, joined, first, second) =
+pair_parts arg r m n split (left, right, joined, first, second) =
     let no_colon : (i : ℕ) → i < length left → get_or left i 0 ≢ 58 =
     not_in_digits decimal_digits left 58 first.0.1 colon_apart in
-    numbers r (split_after 58 word left right r split (omega arith) joined no_colon)
+    numbers r (split_after 58 arg left right r split (omega arith) joined no_colon)
   where
     numbers : (r : Option (Bor (List ℕ) × Bor (List ℕ))) →
         MatchOption r ⊥ (λ x. (x.0.now ≡ left) × (x.1.now ≡ right)) →

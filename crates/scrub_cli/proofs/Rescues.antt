@@ -2,10 +2,10 @@
 use Rattle.std.proofs.Common.{◌≡◌, ◌<◌, ◌*◌, ℕ, List, [], Bool, true, false, Option, None, Some, length, get_or, arith, refl}
 use Rattle.std.proofs.lemmas.Nat.{row_fits_turned}
 use Rattle.scrub_disk.specs.Image.{Image}
-use Rattle.scrub_disk.specs.Held.{page_number}
+use Rattle.scrub_disk.specs.BytesAndMarks.{page_number}
 use Rattle.scrub_map.specs.declared.block.MapBlock.{MapBlock}
 use Rattle.scrub_map.specs.declared.map.RescueMap.{RescueMap}
-use Rattle.scrub_map.specs.Kept.{KeepsBlocks}
+use Rattle.scrub_map.specs.MissingBytes.{KeepsBlocks}
 use Rattle.scrub_map.specs.Rescued.{AreFirstLacking, AreLostBlocks}
 use Rattle.scrub_cli.specs.Rescue.{KeepsMap, LosesByMap, LosesMarked, LosesPages}
 use Rattle.scrub_cli.specs.SizesListed.{AreLackingBy}

@@ -4,20 +4,20 @@ use Rattle.std.specs.Borrow.{Bor}
 use Rattle.scrub_disk.specs.declared.geometry.GeometryFault.{GeometryFault}
 use Rattle.scrub_disk.specs.declared.geometry.Geometry.{Geometry as Sizes}
 use Rattle.scrub_cli.specs.declared.process.fault.Fault.{Fault}
-use Rattle.scrub_cli.specs.declared.process.fault.Fault.TheVariants.{NotUtf8, Help, Words, Geometry, NoSizes, Extent, BadShard, Pointer, BadPage, NoMap, MapLine, NoImage, TooLong, NoShard, PayloadLost, Output, OutOfMemory}
-use Rattle.scrub_cli.specs.declared.words.GivenSizes.{GivenSizes}
-use Rattle.scrub_cli.specs.declared.words.ImageWords.{ImageWords}
+use Rattle.scrub_cli.specs.declared.process.fault.Fault.TheVariants.{NotUtf8, Help, Args, Geometry, NoSizes, Extent, BadShard, Pointer, BadPage, NoMap, MapLine, NoImage, TooLong, NoShard, PayloadLost, Output, OutOfMemory}
+use Rattle.scrub_cli.specs.declared.args.GivenSizes.{GivenSizes}
+use Rattle.scrub_cli.specs.declared.args.ImageArgs.{ImageArgs}
 use Rattle.scrub_cli.specs.DiskImage.{IsDiskFault}
-use Rattle.scrub_cli.specs.Found.{IsGeometryFault, IsGeometryOf}
-use Rattle.scrub_cli.specs.Known.{KnownMaps, KnownRaw}
+use Rattle.scrub_cli.specs.DiskGeometry.{IsGeometryFault, IsGeometryOf}
+use Rattle.scrub_cli.specs.KnownFiles.{KnownMaps, KnownRaw}
 use Rattle.scrub_cli.specs.Scan.{IsScanFault}
 use Rattle.scrub_cli.proofs.DiskAnswers.{of_disk_fault}
 
 -- a fault of the image is one of `scan`
-pub scan_disk_fault : (known : KnownRaw) (maps : KnownMaps) (words : ImageWords) (g : Sizes) (fault : Fault) →
-    IsGeometryOf known maps words g → IsDiskFault known maps words g fault → IsScanFault known maps words fault
-scan_disk_fault known maps words g fault sizes =
-    of_disk_fault (IsScanFault known maps words) known maps words g (λ word is. (g, sizes, is)) (λ name is. inr (g, sizes, is))
+pub scan_disk_fault : (known : KnownRaw) (maps : KnownMaps) (args : ImageArgs) (g : Sizes) (fault : Fault) →
+    IsGeometryOf known maps args g → IsDiskFault known maps args g fault → IsScanFault known maps args fault
+scan_disk_fault known maps args g fault sizes =
+    of_disk_fault (IsScanFault known maps args) known maps args g (λ arg is. (g, sizes, is)) (λ name is. inr (g, sizes, is))
     (λ k is. inr (g, sizes, is))
     (λ name is. inr (g, sizes, is)) (λ is. (g, sizes, is)) tt fault
 
@@ -27,34 +27,34 @@ never None is = is
 never (Some s) is = is
 
 -- what holds for each fault of the sizes holds for the one that they have
-pub of_geometry_fault : (Holds : Fault → Type 0) (known : KnownRaw) (maps : KnownMaps) (words : ImageWords) →
-    ((fault : GeometryFault) → IsGeometryFault known maps words (Geometry fault) → Holds (Geometry fault)) →
-    (IsGeometryFault known maps words NoSizes → Holds NoSizes) →
-    ((name : Bor (List ℕ)) → IsGeometryFault known maps words (NoMap name) → Holds (NoMap name)) →
-    ((k : ℕ) → IsGeometryFault known maps words (MapLine k) → Holds (MapLine k)) →
-    ((name : Bor (List ℕ)) → IsGeometryFault known maps words (NoImage name) → Holds (NoImage name)) → Holds OutOfMemory →
-    (fault : Fault) → IsGeometryFault known maps words fault → Holds fault
-of_geometry_fault Holds known maps words limit found unopened line none memory NotUtf8 is = absurd (never words.sizes is)
-of_geometry_fault Holds known maps words limit found unopened line none memory (Help text) is = absurd (never words.sizes is)
-of_geometry_fault Holds known maps words limit found unopened line none memory (Words text) is = absurd (never words.sizes is)
-of_geometry_fault Holds known maps words limit found unopened line none memory (Geometry fault) is = limit fault is
-of_geometry_fault Holds known maps words limit found unopened line none memory NoSizes is = found is
-of_geometry_fault Holds known maps words limit found unopened line none memory Extent is = absurd (never words.sizes is)
-of_geometry_fault Holds known maps words limit found unopened line none memory (BadShard text) is = absurd (never words.sizes is)
-of_geometry_fault Holds known maps words limit found unopened line none memory Pointer is = absurd (never words.sizes is)
-of_geometry_fault Holds known maps words limit found unopened line none memory (BadPage word) is = absurd (never words.sizes is)
-of_geometry_fault Holds known maps words limit found unopened line none memory (NoMap name) is = unopened name is
-of_geometry_fault Holds known maps words limit found unopened line none memory (MapLine k) is = line k is
-of_geometry_fault Holds known maps words limit found unopened line none memory (NoImage name) is = none name is
-of_geometry_fault Holds known maps words limit found unopened line none memory TooLong is = absurd (never words.sizes is)
-of_geometry_fault Holds known maps words limit found unopened line none memory NoShard is = absurd (never words.sizes is)
-of_geometry_fault Holds known maps words limit found unopened line none memory (PayloadLost number) is = absurd (never words.sizes is)
-of_geometry_fault Holds known maps words limit found unopened line none memory (Output written) is = absurd (never words.sizes is)
-of_geometry_fault Holds known maps words limit found unopened line none memory OutOfMemory is = memory
+pub of_geometry_fault : (Holds : Fault → Type 0) (known : KnownRaw) (maps : KnownMaps) (args : ImageArgs) →
+    ((fault : GeometryFault) → IsGeometryFault known maps args (Geometry fault) → Holds (Geometry fault)) →
+    (IsGeometryFault known maps args NoSizes → Holds NoSizes) →
+    ((name : Bor (List ℕ)) → IsGeometryFault known maps args (NoMap name) → Holds (NoMap name)) →
+    ((k : ℕ) → IsGeometryFault known maps args (MapLine k) → Holds (MapLine k)) →
+    ((name : Bor (List ℕ)) → IsGeometryFault known maps args (NoImage name) → Holds (NoImage name)) → Holds OutOfMemory →
+    (fault : Fault) → IsGeometryFault known maps args fault → Holds fault
+of_geometry_fault Holds known maps args limit found unopened line none memory NotUtf8 is = absurd (never args.sizes is)
+of_geometry_fault Holds known maps args limit found unopened line none memory (Help text) is = absurd (never args.sizes is)
+of_geometry_fault Holds known maps args limit found unopened line none memory (Args text) is = absurd (never args.sizes is)
+of_geometry_fault Holds known maps args limit found unopened line none memory (Geometry fault) is = limit fault is
+of_geometry_fault Holds known maps args limit found unopened line none memory NoSizes is = found is
+of_geometry_fault Holds known maps args limit found unopened line none memory Extent is = absurd (never args.sizes is)
+of_geometry_fault Holds known maps args limit found unopened line none memory (BadShard text) is = absurd (never args.sizes is)
+of_geometry_fault Holds known maps args limit found unopened line none memory Pointer is = absurd (never args.sizes is)
+of_geometry_fault Holds known maps args limit found unopened line none memory (BadPage arg) is = absurd (never args.sizes is)
+of_geometry_fault Holds known maps args limit found unopened line none memory (NoMap name) is = unopened name is
+of_geometry_fault Holds known maps args limit found unopened line none memory (MapLine k) is = line k is
+of_geometry_fault Holds known maps args limit found unopened line none memory (NoImage name) is = none name is
+of_geometry_fault Holds known maps args limit found unopened line none memory TooLong is = absurd (never args.sizes is)
+of_geometry_fault Holds known maps args limit found unopened line none memory NoShard is = absurd (never args.sizes is)
+of_geometry_fault Holds known maps args limit found unopened line none memory (PayloadLost number) is = absurd (never args.sizes is)
+of_geometry_fault Holds known maps args limit found unopened line none memory (Output written) is = absurd (never args.sizes is)
+of_geometry_fault Holds known maps args limit found unopened line none memory OutOfMemory is = memory
 
 -- a fault of the sizes is one of `scan`
-pub scan_geometry_fault : (known : KnownRaw) (maps : KnownMaps) (words : ImageWords) (fault : Fault) →
-    IsGeometryFault known maps words fault → IsScanFault known maps words fault
-scan_geometry_fault known maps words fault =
-    of_geometry_fault (IsScanFault known maps words) known maps words (λ limit is. is) (λ is. is) (λ name is. inl is) (λ k is. inl is)
+pub scan_geometry_fault : (known : KnownRaw) (maps : KnownMaps) (args : ImageArgs) (fault : Fault) →
+    IsGeometryFault known maps args fault → IsScanFault known maps args fault
+scan_geometry_fault known maps args fault =
+    of_geometry_fault (IsScanFault known maps args) known maps args (λ limit is. is) (λ is. is) (λ name is. inl is) (λ k is. inl is)
     (λ name is. inl is) tt fault

@@ -7,10 +7,10 @@ use Rattle.scrub_disk.specs.declared.loading.LoadFault.{LoadFault}
 use Rattle.scrub_disk.specs.declared.loading.LoadFault.TheVariants.{TooLong as too_long, OutOfMemory as no_memory_to_load}
 use Rattle.scrub_map.specs.declared.reading.MapFault.{MapFault}
 use Rattle.scrub_map.specs.declared.reading.MapFault.TheVariants.{Line, OutOfMemory as no_memory_for_map}
-use Rattle.scrub_cli.specs.declared.words.WordsFault.{WordsFault}
-use Rattle.scrub_cli.specs.declared.words.WordsFault.TheVariants.{Refused, Help as help, OutOfMemory as no_memory_to_read}
+use Rattle.scrub_cli.specs.declared.args.ArgsFault.{ArgsFault}
+use Rattle.scrub_cli.specs.declared.args.ArgsFault.TheVariants.{Refused, Help as help, OutOfMemory as no_memory_to_read}
 use Rattle.scrub_cli.specs.declared.process.fault.Fault.{Fault}
-use Rattle.scrub_cli.specs.declared.process.fault.Fault.TheVariants.{NotUtf8, Help, Words, Geometry, NoSizes, Extent, BadShard, Pointer, BadPage, NoMap, MapLine, NoImage, TooLong, NoShard, PayloadLost, Output, OutOfMemory}
+use Rattle.scrub_cli.specs.declared.process.fault.Fault.TheVariants.{NotUtf8, Help, Args, Geometry, NoSizes, Extent, BadShard, Pointer, BadPage, NoMap, MapLine, NoImage, TooLong, NoShard, PayloadLost, Output, OutOfMemory}
 use Rattle.scrub_report.specs.Output.{AppendsFront}
 use Rattle.scrub_cli.specs.Streams.{Held}
 
@@ -25,23 +25,23 @@ fault_of_map no_memory_for_map = OutOfMemory
 fault_of_map (Line k) = MapLine k
 
 -- the fault of the program for a fault of the arguments
-abbrev pub fault_of_words : WordsFault → Fault
-fault_of_words (help text) = Help text
-fault_of_words (Refused text) = Words text
-fault_of_words no_memory_to_read = OutOfMemory
+abbrev pub fault_of_args : ArgsFault → Fault
+fault_of_args (help text) = Help text
+fault_of_args (Refused text) = Args text
+fault_of_args no_memory_to_read = OutOfMemory
 
 -- the status of a fault: 0 for help, 1 for a shard that can't be had, 2 for arguments and the text of a map, 3 for files and
 -- the output, 4 if memory ran out
 abbrev pub status_of : Fault → ℕ
 status_of NotUtf8 = 2
 status_of (Help text) = 0
-status_of (Words text) = 2
+status_of (Args text) = 2
 status_of (Geometry fault) = 2
 status_of NoSizes = 2
 status_of Extent = 2
 status_of (BadShard text) = 2
 status_of Pointer = 2
-status_of (BadPage word) = 2
+status_of (BadPage arg) = 2
 status_of (NoMap name) = 3
 status_of (MapLine k) = 2
 status_of (NoImage name) = 3
@@ -59,7 +59,7 @@ line text = codes "shardscrub: " ++ text ++ 10 ∷ []
 abbrev pub text_of : Fault → List ℕ
 text_of NotUtf8 = line (codes "a word is not UTF-8")
 text_of (Help text) = text.bytes.items
-text_of (Words text) = text.bytes.items
+text_of (Args text) = text.bytes.items
 text_of (Geometry PageSize) = line (codes "geometry refused: PageSize")
 text_of (Geometry Pages) = line (codes "geometry refused: Pages")
 text_of (Geometry Extents) = line (codes "geometry refused: Extents")
@@ -69,7 +69,7 @@ text_of NoSizes = line (codes "sizes not found: run shardscrub sizes")
 text_of Extent = line (codes "extent out of range")
 text_of (BadShard text) = line (codes "shard refused: " ++ text.now)
 text_of Pointer = line (codes "pointer out of range")
-text_of (BadPage word) = line (codes "bad page refused: " ++ word.now)
+text_of (BadPage arg) = line (codes "bad page refused: " ++ arg.now)
 text_of (NoMap name) = line (codes "map cannot be opened: " ++ name.now)
 text_of (MapLine k) = line (codes "map refused: line " ++ decimal k)
 text_of (NoImage name) = line (codes "image cannot be opened: " ++ name.now)

@@ -6,43 +6,43 @@ use Rattle.scrub_scan.specs.Extent.{extent_of}
 use Rattle.scrub_cli.specs.declared.process.fault.Fault.{Fault}
 use Rattle.scrub_cli.specs.declared.process.fault.Fault.TheVariants.{Geometry, NoSizes, Extent, Pointer, NoMap, MapLine, NoImage, OutOfMemory}
 use Rattle.scrub_cli.specs.declared.process.outcome.Outcome.{Outcome}
-use Rattle.scrub_cli.specs.declared.words.ItemsWords.{ItemsWords}
+use Rattle.scrub_cli.specs.declared.args.ItemsArgs.{ItemsArgs}
 use Rattle.scrub_cli.specs.DiskImage.{IsLoadedDisk, IsDiskFault}
-use Rattle.scrub_cli.specs.Found.{IsGeometryFault, IsGeometryOf}
-use Rattle.scrub_cli.specs.Known.{KnownMaps, KnownRaw}
+use Rattle.scrub_cli.specs.DiskGeometry.{IsGeometryFault, IsGeometryOf}
+use Rattle.scrub_cli.specs.KnownFiles.{KnownMaps, KnownRaw}
 use Rattle.scrub_cli.specs.Lines.{IsListing}
 
 -- the write pointer that is given, or else the extent's size
-abbrev pub given_pointer : ItemsWords → Sizes → ℕ
-given_pointer words g = unwrap_or words.pointer (extent_bytes g)
+abbrev pub given_pointer : ItemsArgs → Sizes → ℕ
+given_pointer args g = unwrap_or args.pointer (extent_bytes g)
 
 -- the disk has these sizes, and the extent and the pointer lie in it
-pub record AreInDisk (known : KnownRaw) (maps : KnownMaps) (words : ItemsWords) (g : Sizes) : Type 0 where
-  pub sizes : IsGeometryOf known maps words.image g
-  pub in_disk : words.extent < g.extents
-  pub in_extent : given_pointer words g ≤ extent_bytes g
+pub record AreInDisk (known : KnownRaw) (maps : KnownMaps) (args : ItemsArgs) (g : Sizes) : Type 0 where
+  pub sizes : IsGeometryOf known maps args.image g
+  pub in_disk : args.extent < g.extents
+  pub in_extent : given_pointer args g ≤ extent_bytes g
 
 -- the answer of `items`: the listing of the extent under the pointer, in an image that was loaded from this raw image
-pub record IsItemsAnswer (known : KnownRaw) (maps : KnownMaps) (words : ItemsWords) (text : List ℕ) (outcome : Outcome) : Type 0 where
+pub record IsItemsAnswer (known : KnownRaw) (maps : KnownMaps) (args : ItemsArgs) (text : List ℕ) (outcome : Outcome) : Type 0 where
   pub geometry : Sizes
-  pub places : AreInDisk known maps words geometry
+  pub places : AreInDisk known maps args geometry
   pub image : Image
-  pub loaded : IsLoadedDisk known maps words.image geometry image
-  pub listed : IsListing (extent_of image words.extent (given_pointer words geometry)) text outcome
+  pub loaded : IsLoadedDisk known maps args.image geometry image
+  pub listed : IsListing (extent_of image args.extent (given_pointer args geometry)) text outcome
 
 -- why no disk is loaded in which the extent and the pointer lie
-abbrev pub IsPlacedFault : KnownRaw → KnownMaps → ItemsWords → Fault → Type 0
-IsPlacedFault known maps words fault = (g : Sizes) × AreInDisk known maps words g × IsDiskFault known maps words.image g fault
+abbrev pub IsPlacedFault : KnownRaw → KnownMaps → ItemsArgs → Fault → Type 0
+IsPlacedFault known maps args fault = (g : Sizes) × AreInDisk known maps args g × IsDiskFault known maps args.image g fault
 
 -- why `items` gives no listing: each fault only if none before it applies, or memory ran out, anywhere
-abbrev pub IsItemsFault : KnownRaw → KnownMaps → ItemsWords → Fault → Type 0
-IsItemsFault known maps words (Geometry fault) = IsGeometryFault known maps words.image (Geometry fault)
-IsItemsFault known maps words NoSizes = IsGeometryFault known maps words.image NoSizes
-IsItemsFault known maps words Extent = (g : Sizes) × IsGeometryOf known maps words.image g × (g.extents ≤ words.extent)
-IsItemsFault known maps words Pointer =
-    (g : Sizes) × IsGeometryOf known maps words.image g × (words.extent < g.extents) × (extent_bytes g < given_pointer words g)
-IsItemsFault known maps words OutOfMemory = Unit {0}
-IsItemsFault known maps words (NoMap name) = IsGeometryFault known maps words.image (NoMap name) ⊎ IsPlacedFault known maps words (NoMap name)
-IsItemsFault known maps words (MapLine k) = IsGeometryFault known maps words.image (MapLine k) ⊎ IsPlacedFault known maps words (MapLine k)
-IsItemsFault known maps words (NoImage name) = IsGeometryFault known maps words.image (NoImage name) ⊎ IsPlacedFault known maps words (NoImage name)
-IsItemsFault known maps words fault = IsPlacedFault known maps words fault
+abbrev pub IsItemsFault : KnownRaw → KnownMaps → ItemsArgs → Fault → Type 0
+IsItemsFault known maps args (Geometry fault) = IsGeometryFault known maps args.image (Geometry fault)
+IsItemsFault known maps args NoSizes = IsGeometryFault known maps args.image NoSizes
+IsItemsFault known maps args Extent = (g : Sizes) × IsGeometryOf known maps args.image g × (g.extents ≤ args.extent)
+IsItemsFault known maps args Pointer =
+    (g : Sizes) × IsGeometryOf known maps args.image g × (args.extent < g.extents) × (extent_bytes g < given_pointer args g)
+IsItemsFault known maps args OutOfMemory = Unit {0}
+IsItemsFault known maps args (NoMap name) = IsGeometryFault known maps args.image (NoMap name) ⊎ IsPlacedFault known maps args (NoMap name)
+IsItemsFault known maps args (MapLine k) = IsGeometryFault known maps args.image (MapLine k) ⊎ IsPlacedFault known maps args (MapLine k)
+IsItemsFault known maps args (NoImage name) = IsGeometryFault known maps args.image (NoImage name) ⊎ IsPlacedFault known maps args (NoImage name)
+IsItemsFault known maps args fault = IsPlacedFault known maps args fault

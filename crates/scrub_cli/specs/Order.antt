@@ -11,11 +11,11 @@ HasOptions command =
     ⊎ (command ≡ codes "superblocks") ⊎ (command ≡ codes "sizes") ⊎ (command ≡ codes "items")
 
 -- the same arguments of a command, but for two neighbouring options that are exchanged
-pub record AreExchanged (words others : List Text) : Type 0 where
+pub record AreExchanged (args others : List Text) : Type 0 where
   pub command : Text
   pub options : HasOptions command
   pub behind : List Text
   pub others_behind : List Text
-  pub one : words ≡ command ∷ behind
+  pub one : args ≡ command ∷ behind
   pub other : others ≡ command ∷ others_behind
   pub exchanged : AreNeighboursExchanged behind others_behind

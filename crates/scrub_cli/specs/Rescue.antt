@@ -1,16 +1,16 @@
 -- The map of the rescue that made an image: what is read of a map that is named, and the pages that are lost by it.
 use Rattle.std.specs.Prelude.{◌≡◌, ◌<◌, ℕ, List, Bool, true, false, slice_index_or, Option, None, Some, IfSome}
 use Rattle.std.specs.Borrow.{Bor}
-use Rattle.scrub_disk.specs.Held.{page_number}
+use Rattle.scrub_disk.specs.BytesAndMarks.{page_number}
 use Rattle.scrub_disk.specs.Image.{Image}
 use Rattle.scrub_map.specs.declared.block.MapBlock.{MapBlock}
 use Rattle.scrub_map.specs.Map.{IsFirstBadLine, IsMap}
 use Rattle.scrub_map.specs.declared.map.RescueMap.{RescueMap}
-use Rattle.scrub_map.specs.Kept.{KeepsBlocks}
+use Rattle.scrub_map.specs.MissingBytes.{KeepsBlocks}
 use Rattle.scrub_map.specs.Rescued.{IsLostBlock}
 use Rattle.scrub_cli.specs.declared.process.fault.Fault.{Fault}
 use Rattle.scrub_cli.specs.declared.process.fault.Fault.TheVariants.{NoMap, MapLine, OutOfMemory}
-use Rattle.scrub_cli.specs.Known.{KnownMaps}
+use Rattle.scrub_cli.specs.KnownFiles.{KnownMaps}
 
 -- the map may have this text: it is the known text, or nothing is known of it
 abbrev pub IsTextOf : Option (List ℕ) → List ℕ → Type 0
@@ -42,8 +42,8 @@ pub record IsMapNamed (maps : KnownMaps) (named : Option (Bor (List ℕ))) (map 
   pub are : AreBlocksOf maps named blocks
   pub keeps : KeepsMap map blocks
 
--- why the map that is named isn't read: it can't be opened, this line of its text is the first that breaks the rules,
--- or memory ran out
+-- why the map that is named isn't read: it can't be opened, of which nothing here decides; this line of its text is the
+-- first that breaks the rules; or memory ran out
 abbrev pub IsMapFault : KnownMaps → Option (Bor (List ℕ)) → Fault → Type 0
 IsMapFault maps named (NoMap name) = named ≡ Some name
 IsMapFault maps named (MapLine k) =

@@ -2,22 +2,24 @@
 use Rattle.std.specs.Prelude.{◌≡◌, ◌⊎◌, ℕ, List, Bool}
 use Rattle.scrub_disk.specs.declared.geometry.Geometry.{Geometry as Sizes}
 use Rattle.scrub_disk.specs.Image.{Image}
-use Rattle.scrub_report.specs.Answer.{IsPartitionOfPlanned}
+use Rattle.scrub_pool.specs.Takings.{TakingsValue}
+use Rattle.scrub_report.specs.Answer.{AreTakingsBy}
 use Rattle.scrub_report.specs.Index.{IsIndex}
 use Rattle.scrub_report.specs.Report.{IsReport}
 use Rattle.scrub_listings.specs.Locators.{AreLocatorLines}
 use Rattle.scrub_listings.specs.Summary.{IsSoundImage, IsSummary}
 use Rattle.scrub_reclaim.specs.Doubts.{Accepted}
 use Rattle.scrub_reclaim.specs.Reclaimable.{AreReclaimLines, IsClear}
-use Rattle.scrub_cli.specs.declared.commands.answer.Wanted.{Wanted}
-use Rattle.scrub_cli.specs.declared.commands.answer.Wanted.TheVariants.{Report, Index, Locators, Summary, Reclaimable}
+use Rattle.scrub_cli.specs.declared.args.Wanted.{Wanted}
+use Rattle.scrub_cli.specs.declared.args.Wanted.TheVariants.{Report, Index, Locators, Summary, Reclaimable}
 use Rattle.scrub_cli.specs.declared.process.fault.Fault.{Fault}
 use Rattle.scrub_cli.specs.declared.process.fault.Fault.TheVariants.{Geometry, NoSizes, NoMap, MapLine, NoImage, OutOfMemory}
 use Rattle.scrub_cli.specs.declared.process.outcome.Outcome.{Outcome}
-use Rattle.scrub_cli.specs.declared.words.ImageWords.{ImageWords}
+use Rattle.scrub_cli.specs.declared.args.ImageArgs.{ImageArgs}
+use Rattle.scrub_cli.specs.declared.args.ScanArgs.{ScanArgs}
 use Rattle.scrub_cli.specs.DiskImage.{IsLoadedDisk, IsDiskFault}
-use Rattle.scrub_cli.specs.Known.{KnownMaps, KnownRaw}
-use Rattle.scrub_cli.specs.Found.{IsGeometryFault, IsGeometryOf}
+use Rattle.scrub_cli.specs.KnownFiles.{KnownMaps, KnownRaw}
+use Rattle.scrub_cli.specs.DiskGeometry.{IsGeometryFault, IsGeometryOf}
 use Rattle.scrub_cli.specs.Outcome.{outcome_of}
 use Rattle.scrub_report.specs.Scrubbed.{IsCleanImage}
 
@@ -62,37 +64,36 @@ pub record IsDiskAnswer (wanted : Wanted) (image : Image) (text : List ℕ) (out
   pub ended : IsOutcomeOf wanted image outcome
 
 -- an image of the sizes that are given or found, loaded from this raw image
-pub record IsDiskOf (known : KnownRaw) (maps : KnownMaps) (words : ImageWords) (image : Image) : Type 0 where
+pub record IsDiskOf (known : KnownRaw) (maps : KnownMaps) (args : ImageArgs) (image : Image) : Type 0 where
   pub geometry : Sizes
-  pub sizes : IsGeometryOf known maps words geometry
-  pub loaded : IsLoadedDisk known maps words geometry image
+  pub sizes : IsGeometryOf known maps args geometry
+  pub loaded : IsLoadedDisk known maps args geometry image
 
 -- the text is what is wanted of an image that was loaded so, with its outcome
-pub record IsScanAnswer (wanted : Wanted) (known : KnownRaw) (maps : KnownMaps) (words : ImageWords) (text : List ℕ)
+pub record IsScanAnswer (wanted : Wanted) (known : KnownRaw) (maps : KnownMaps) (args : ImageArgs) (text : List ℕ)
     (outcome : Outcome) : Type 0 where
   pub image : Image
-  pub disk : IsDiskOf known maps words image
+  pub disk : IsDiskOf known maps args image
   pub answered : IsDiskAnswer wanted image text outcome
 
--- the text is what is wanted of an image that was loaded so, and each of its planned extents is in one of the lists,
--- once
-pub record AreTakingsOf (wanted : Wanted) (known : KnownRaw) (maps : KnownMaps) (words : ImageWords) (text : List ℕ)
-    (outcome : Outcome) (lists : List (List ℕ)) : Type 0 where
+-- the text is what is wanted of an image that was loaded so, and this is what the workers that were asked for took of it
+pub record AreTakingsOf (wanted : Wanted) (known : KnownRaw) (maps : KnownMaps) (args : ScanArgs) (text : List ℕ)
+    (outcome : Outcome) (takings : TakingsValue) : Type 0 where
   pub image : Image
-  pub disk : IsDiskOf known maps words image
+  pub disk : IsDiskOf known maps args.image image
   pub answered : IsDiskAnswer wanted image text outcome
-  pub partition : IsPartitionOfPlanned image lists
+  pub taken : AreTakingsBy image args.workers takings
 
 -- why no disk of the sizes that are given or found is loaded
-abbrev pub IsLoadFault : KnownRaw → KnownMaps → ImageWords → Fault → Type 0
-IsLoadFault known maps words fault = (g : Sizes) × IsGeometryOf known maps words g × IsDiskFault known maps words g fault
+abbrev pub IsLoadFault : KnownRaw → KnownMaps → ImageArgs → Fault → Type 0
+IsLoadFault known maps args fault = (g : Sizes) × IsGeometryOf known maps args g × IsDiskFault known maps args g fault
 
 -- why there is no answer: each fault only if none before it applies, or memory ran out, anywhere
-abbrev pub IsScanFault : KnownRaw → KnownMaps → ImageWords → Fault → Type 0
-IsScanFault known maps words (Geometry fault) = IsGeometryFault known maps words (Geometry fault)
-IsScanFault known maps words NoSizes = IsGeometryFault known maps words NoSizes
-IsScanFault known maps words OutOfMemory = Unit {0}
-IsScanFault known maps words (NoMap name) = IsGeometryFault known maps words (NoMap name) ⊎ IsLoadFault known maps words (NoMap name)
-IsScanFault known maps words (MapLine k) = IsGeometryFault known maps words (MapLine k) ⊎ IsLoadFault known maps words (MapLine k)
-IsScanFault known maps words (NoImage name) = IsGeometryFault known maps words (NoImage name) ⊎ IsLoadFault known maps words (NoImage name)
-IsScanFault known maps words fault = IsLoadFault known maps words fault
+abbrev pub IsScanFault : KnownRaw → KnownMaps → ImageArgs → Fault → Type 0
+IsScanFault known maps args (Geometry fault) = IsGeometryFault known maps args (Geometry fault)
+IsScanFault known maps args NoSizes = IsGeometryFault known maps args NoSizes
+IsScanFault known maps args OutOfMemory = Unit {0}
+IsScanFault known maps args (NoMap name) = IsGeometryFault known maps args (NoMap name) ⊎ IsLoadFault known maps args (NoMap name)
+IsScanFault known maps args (MapLine k) = IsGeometryFault known maps args (MapLine k) ⊎ IsLoadFault known maps args (MapLine k)
+IsScanFault known maps args (NoImage name) = IsGeometryFault known maps args (NoImage name) ⊎ IsLoadFault known maps args (NoImage name)
+IsScanFault known maps args fault = IsLoadFault known maps args fault

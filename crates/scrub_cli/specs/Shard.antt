@@ -2,7 +2,8 @@
 use Rattle.std.specs.Prelude.{◌≡◌, ◌⊎◌, ℕ, List}
 use Rattle.scrub_disk.specs.declared.geometry.Geometry.{Geometry as Sizes}
 use Rattle.scrub_disk.specs.Image.{Image}
-use Rattle.scrub_report.specs.Answer.{IsPartitionOfPlanned}
+use Rattle.scrub_pool.specs.Takings.{TakingsValue}
+use Rattle.scrub_report.specs.Answer.{AreTakingsBy}
 use Rattle.scrub_run.specs.declared.shard_id.ShardId.{ShardId}
 use Rattle.scrub_shard.specs.Shard.{IsShardAnswer}
 use Rattle.scrub_shard.specs.declared.shard.ShardAnswer.{ShardAnswer}
@@ -10,10 +11,10 @@ use Rattle.scrub_shard.specs.declared.shard.ShardAnswer.TheVariants.{NoSuchShard
 use Rattle.scrub_cli.specs.declared.process.fault.Fault.{Fault}
 use Rattle.scrub_cli.specs.declared.process.fault.Fault.TheVariants.{Geometry, NoSizes, BadShard, NoMap, MapLine, NoImage, NoShard, PayloadLost, OutOfMemory}
 use Rattle.scrub_cli.specs.declared.process.outcome.Outcome.{Outcome}
-use Rattle.scrub_cli.specs.declared.words.ShardWords.{ShardWords}
+use Rattle.scrub_cli.specs.declared.args.ShardArgs.{ShardArgs}
 use Rattle.scrub_cli.specs.DiskImage.{IsLoadedDisk, IsDiskFault}
-use Rattle.scrub_cli.specs.Found.{IsGeometryFault, IsGeometryOf}
-use Rattle.scrub_cli.specs.Known.{KnownMaps, KnownRaw}
+use Rattle.scrub_cli.specs.DiskGeometry.{IsGeometryFault, IsGeometryOf}
+use Rattle.scrub_cli.specs.KnownFiles.{KnownMaps, KnownRaw}
 use Rattle.scrub_cli.specs.Outcome.{outcome_of_shard}
 use Rattle.scrub_cli.specs.ShardId.{IsIdText, IsNoIdText}
 
@@ -29,56 +30,56 @@ IsFaultFor (payload_is_lost number) fault = fault ≡ PayloadLost number
 IsFaultFor (Found found) fault = ⊥
 
 -- the disk has these sizes, and the argument is this identifier
-pub record IsNamed (known : KnownRaw) (maps : KnownMaps) (words : ShardWords) (g : Sizes) (id : ShardId) : Type 0 where
-  pub sizes : IsGeometryOf known maps words.scan.image g
-  pub id_is : IsIdText words.id.now id
+pub record IsNamed (known : KnownRaw) (maps : KnownMaps) (args : ShardArgs) (g : Sizes) (id : ShardId) : Type 0 where
+  pub sizes : IsGeometryOf known maps args.scan.image g
+  pub id_is : IsIdText args.id.now id
 
 -- the answer for the shard that is named, in an image that was loaded from this raw image
-pub record IsShardRead (known : KnownRaw) (maps : KnownMaps) (words : ShardWords) (image : Image) (answer : ShardAnswer) : Type 0 where
+pub record IsShardRead (known : KnownRaw) (maps : KnownMaps) (args : ShardArgs) (image : Image) (answer : ShardAnswer) : Type 0 where
   pub geometry : Sizes
   pub id : ShardId
-  pub named : IsNamed known maps words geometry id
-  pub loaded : IsLoadedDisk known maps words.scan.image geometry image
+  pub named : IsNamed known maps args geometry id
+  pub loaded : IsLoadedDisk known maps args.scan.image geometry image
   pub answered : IsShardAnswer image id answer
 
 -- the answer of `shard`: the bytes of the shard that is named
-pub record IsShardWritten (known : KnownRaw) (maps : KnownMaps) (words : ShardWords) (text : List ℕ) (outcome : Outcome) : Type 0 where
+pub record IsShardWritten (known : KnownRaw) (maps : KnownMaps) (args : ShardArgs) (text : List ℕ) (outcome : Outcome) : Type 0 where
   pub image : Image
   pub answer : ShardAnswer
-  pub is_read : IsShardRead known maps words image answer
+  pub is_read : IsShardRead known maps args image answer
   pub written : IsWrittenFor answer text outcome
 
--- that answer, and each planned extent of the image is in one of the lists, once
-pub record AreShardTakings (known : KnownRaw) (maps : KnownMaps) (words : ShardWords) (text : List ℕ) (outcome : Outcome)
-    (lists : List (List ℕ)) : Type 0 where
+-- that answer, and what the workers that were asked for took of the image
+pub record AreShardTakings (known : KnownRaw) (maps : KnownMaps) (args : ShardArgs) (text : List ℕ) (outcome : Outcome)
+    (takings : TakingsValue) : Type 0 where
   pub image : Image
   pub answer : ShardAnswer
-  pub is_read : IsShardRead known maps words image answer
+  pub is_read : IsShardRead known maps args image answer
   pub written : IsWrittenFor answer text outcome
-  pub partition : IsPartitionOfPlanned image lists
+  pub taken : AreTakingsBy image args.scan.workers takings
 
 -- the shard that is named isn't there, or has a lost payload, and this is the fault for that
-pub record IsShardLost (known : KnownRaw) (maps : KnownMaps) (words : ShardWords) (fault : Fault) : Type 0 where
+pub record IsShardLost (known : KnownRaw) (maps : KnownMaps) (args : ShardArgs) (fault : Fault) : Type 0 where
   pub image : Image
   pub answer : ShardAnswer
-  pub is_read : IsShardRead known maps words image answer
+  pub is_read : IsShardRead known maps args image answer
   pub why : IsFaultFor answer fault
 
 -- why no disk is loaded, though a shard is named
-abbrev pub IsFaultAfterId : KnownRaw → KnownMaps → ShardWords → Fault → Type 0
-IsFaultAfterId known maps words fault =
-    (g : Sizes) × (id : ShardId) × IsNamed known maps words g id × IsDiskFault known maps words.scan.image g fault
+abbrev pub IsFaultAfterId : KnownRaw → KnownMaps → ShardArgs → Fault → Type 0
+IsFaultAfterId known maps args fault =
+    (g : Sizes) × (id : ShardId) × IsNamed known maps args g id × IsDiskFault known maps args.scan.image g fault
 
 -- why no bytes are written: each fault only if none before it applies, or memory ran out, anywhere
-abbrev pub IsShardFault : KnownRaw → KnownMaps → ShardWords → Fault → Type 0
-IsShardFault known maps words (Geometry fault) = IsGeometryFault known maps words.scan.image (Geometry fault)
-IsShardFault known maps words NoSizes = IsGeometryFault known maps words.scan.image NoSizes
-IsShardFault known maps words (BadShard text) =
-    (g : Sizes) × IsGeometryOf known maps words.scan.image g × (text ≡ words.id) × IsNoIdText words.id.now
-IsShardFault known maps words NoShard = IsShardLost known maps words NoShard
-IsShardFault known maps words (PayloadLost number) = IsShardLost known maps words (PayloadLost number)
-IsShardFault known maps words OutOfMemory = Unit {0}
-IsShardFault known maps words (NoMap name) = IsGeometryFault known maps words.scan.image (NoMap name) ⊎ IsFaultAfterId known maps words (NoMap name)
-IsShardFault known maps words (MapLine k) = IsGeometryFault known maps words.scan.image (MapLine k) ⊎ IsFaultAfterId known maps words (MapLine k)
-IsShardFault known maps words (NoImage name) = IsGeometryFault known maps words.scan.image (NoImage name) ⊎ IsFaultAfterId known maps words (NoImage name)
-IsShardFault known maps words fault = IsFaultAfterId known maps words fault
+abbrev pub IsShardFault : KnownRaw → KnownMaps → ShardArgs → Fault → Type 0
+IsShardFault known maps args (Geometry fault) = IsGeometryFault known maps args.scan.image (Geometry fault)
+IsShardFault known maps args NoSizes = IsGeometryFault known maps args.scan.image NoSizes
+IsShardFault known maps args (BadShard text) =
+    (g : Sizes) × IsGeometryOf known maps args.scan.image g × (text ≡ args.id) × IsNoIdText args.id.now
+IsShardFault known maps args NoShard = IsShardLost known maps args NoShard
+IsShardFault known maps args (PayloadLost number) = IsShardLost known maps args (PayloadLost number)
+IsShardFault known maps args OutOfMemory = Unit {0}
+IsShardFault known maps args (NoMap name) = IsGeometryFault known maps args.scan.image (NoMap name) ⊎ IsFaultAfterId known maps args (NoMap name)
+IsShardFault known maps args (MapLine k) = IsGeometryFault known maps args.scan.image (MapLine k) ⊎ IsFaultAfterId known maps args (MapLine k)
+IsShardFault known maps args (NoImage name) = IsGeometryFault known maps args.scan.image (NoImage name) ⊎ IsFaultAfterId known maps args (NoImage name)
+IsShardFault known maps args fault = IsFaultAfterId known maps args fault

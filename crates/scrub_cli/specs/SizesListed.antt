@@ -6,8 +6,8 @@ use Rattle.scrub_listings.specs.Sizes.{IsSizesListingOf}
 use Rattle.scrub_cli.specs.declared.process.fault.Fault.{Fault}
 use Rattle.scrub_cli.specs.declared.process.fault.Fault.TheVariants.{NoMap, MapLine, NoImage, OutOfMemory}
 use Rattle.scrub_cli.specs.declared.process.outcome.Outcome.{Outcome}
-use Rattle.scrub_cli.specs.declared.words.SizesWords.{SizesWords}
-use Rattle.scrub_cli.specs.Known.{KnownMaps, KnownRaw}
+use Rattle.scrub_cli.specs.declared.args.SizesArgs.{SizesArgs}
+use Rattle.scrub_cli.specs.KnownFiles.{KnownMaps, KnownRaw}
 use Rattle.scrub_cli.specs.Outcome.{outcome_of}
 use Rattle.scrub_cli.specs.Rescue.{AreBlocksOf, IsMapFault}
 
@@ -27,19 +27,19 @@ pub record AreSizesListed (known : KnownRaw) (lacking : List ℕ) (text : List �
   pub ended : outcome ≡ outcome_of is_clean
 
 -- the answer of `sizes`: the listing of the image that is named, with the blocks lost that its map lacks
-pub record IsSizesAnswer (known : KnownRaw) (maps : KnownMaps) (words : SizesWords) (text : List ℕ) (outcome : Outcome) : Type 0 where
+pub record IsSizesAnswer (known : KnownRaw) (maps : KnownMaps) (args : SizesArgs) (text : List ℕ) (outcome : Outcome) : Type 0 where
   pub blocks : Option (List MapBlock)
-  pub mapped : AreBlocksOf maps words.map blocks
+  pub mapped : AreBlocksOf maps args.map blocks
   pub lacking : List ℕ
   pub lacks : AreLackingBy blocks lacking
   pub listed : AreSizesListed known lacking text outcome
 
 -- why `sizes` gives no listing: a fault of the map, an image that can't be opened (only if the map was read), or memory
 -- ran out; no image is too long
-abbrev pub IsSizesFault : KnownMaps → SizesWords → Fault → Type 0
-IsSizesFault maps words (NoMap name) = IsMapFault maps words.map (NoMap name)
-IsSizesFault maps words (MapLine k) = IsMapFault maps words.map (MapLine k)
-IsSizesFault maps words (NoImage name) =
-    (blocks : Option (List MapBlock)) × AreBlocksOf maps words.map blocks × (name ≡ words.name)
-IsSizesFault maps words OutOfMemory = Unit {0}
-IsSizesFault maps words fault = ⊥
+abbrev pub IsSizesFault : KnownMaps → SizesArgs → Fault → Type 0
+IsSizesFault maps args (NoMap name) = IsMapFault maps args.map (NoMap name)
+IsSizesFault maps args (MapLine k) = IsMapFault maps args.map (MapLine k)
+IsSizesFault maps args (NoImage name) =
+    (blocks : Option (List MapBlock)) × AreBlocksOf maps args.map blocks × (name ≡ args.name)
+IsSizesFault maps args OutOfMemory = Unit {0}
+IsSizesFault maps args fault = ⊥

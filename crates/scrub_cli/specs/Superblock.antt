@@ -3,8 +3,8 @@ use Rattle.std.specs.Prelude.{◌≡◌, ℕ, List, Bool}
 use Rattle.scrub_disk.specs.Image.{Image}
 use Rattle.scrub_listings.specs.Superblocks.{AreSuperblockLines, AreCleanSuperblocks}
 use Rattle.scrub_cli.specs.declared.process.outcome.Outcome.{Outcome}
-use Rattle.scrub_cli.specs.declared.words.ImageWords.{ImageWords}
-use Rattle.scrub_cli.specs.Known.{KnownMaps, KnownRaw}
+use Rattle.scrub_cli.specs.declared.args.ImageArgs.{ImageArgs}
+use Rattle.scrub_cli.specs.KnownFiles.{KnownMaps, KnownRaw}
 use Rattle.scrub_cli.specs.Outcome.{outcome_of}
 use Rattle.scrub_cli.specs.Scan.{IsDiskOf}
 
@@ -15,9 +15,9 @@ pub record AreSuperblocksListed (image : Image) (text : List ℕ) (outcome : Out
   pub clean : AreCleanSuperblocks image is_clean
   pub ended : outcome ≡ outcome_of is_clean
 
--- the answer of `superblocks`, for an image of the sizes that are given, loaded from this raw image
-pub record IsSuperblocksAnswer (known : KnownRaw) (maps : KnownMaps) (words : ImageWords) (text : List ℕ)
+-- the answer of `superblocks`, for an image of the sizes that are given or found, loaded from this raw image
+pub record IsSuperblocksAnswer (known : KnownRaw) (maps : KnownMaps) (args : ImageArgs) (text : List ℕ)
     (outcome : Outcome) : Type 0 where
   pub image : Image
-  pub disk : IsDiskOf known maps words image
+  pub disk : IsDiskOf known maps args image
   pub answered : AreSuperblocksListed image text outcome

@@ -1,10 +1,10 @@
-//! The commands, with the answer of each, and what they share: `disk_image` loads the disk in an image file, `rescue` reads
-//! the map of a rescue, and `answer` makes the answers.
+//! The commands, with the answer of each, and what they share: `disk_image` loads the disk in an image file,
+//! `rescue` reads the map of a rescue, and `answer` makes the answers.
 
 pub(crate) mod answer;
 pub(crate) mod demo;
 pub(crate) mod disk_image;
-pub(crate) mod found;
+pub(crate) mod geometry;
 pub(crate) mod items;
 pub(crate) mod left_out;
 pub(crate) mod manifest;

@@ -1,16 +1,16 @@
-//! The program `shardscrub`: arguments in, bytes and a status out. `run` does the work; here it gets the arguments, the
-//! files and the streams of the system.
+//! The program `shardscrub`: arguments in, bytes and a status out. `run` does the work; here it gets the
+//! arguments, the files and the streams of the system.
 #![tactic(auto)]
 
 ghost use Rattle.std.specs.Prelude.{◌≡◌, ◌⊎◌, IfErr, MatchResult, drop, map};
 ghost use Rattle.std.specs.Process.{exit_status};
 ghost use Rattle.scrub_cli.specs.Answer.{RunWrites, WritesNone};
-ghost use Rattle.scrub_cli.specs.Known.{file, map_file};
+ghost use Rattle.scrub_cli.specs.KnownFiles.{file, map_file};
 
+mod args;
 mod commands;
 mod process;
 mod running;
-mod words;
 
 use crate::process::fault::Fault;
 use crate::process::files::NamedFiles;
@@ -25,25 +25,26 @@ use std::thread::Threads;
 
 fn main(rt: HostRuntime) -> ExitCode {
     let (mut out, mut err) = (rt.stdout(), rt.stderr());
-    run_process(&rt, process_words(&rt), &mut out, &mut err)
+    run_process(&rt, process_args(&rt), &mut out, &mut err)
 }
 
-/// All arguments of the process; the first is the program's name. The contract of `args` doesn't say which ones it gives.
-fn process_words<R: Env + AllocGlobal>(rt: &R) -> Result<Vec<String>, Fault<'static>>
+/// All arguments of the process; the first is the program's name. The contract of `args` doesn't say which
+/// ones it gives.
+fn process_args<R: Env + AllocGlobal>(rt: &R) -> Result<Vec<String>, Fault<'static>>
     ensures { IfErr result (λ fault. (fault ≡ Fault.NotUtf8) ⊎ (fault ≡ Fault.OutOfMemory)) }
 {
     match std::env::args(rt) {
-        Ok(words) => Ok(words.collect(rt.alloc())?),
+        Ok(args) => Ok(args.collect(rt.alloc())?),
         Err(error) if error.kind() == ErrorKind::OutOfMemory => Err(Fault::OutOfMemory),
         Err(_) => Err(Fault::NotUtf8),
     }
 }
 
 /// The arguments after the program's name.
-fn behind_name(words: &[String]) -> &[String]
-    ensures { result.now ≡ drop 1 words.now }
+fn without_program_name(args: &[String]) -> &[String]
+    ensures { result.now ≡ drop 1 args.now }
 {
-    match words.split_first() {
+    match args.split_first() {
         Some((_, behind)) => behind,
         None => &[],
     }
@@ -52,41 +53,42 @@ fn behind_name(words: &[String]) -> &[String]
 /// Runs the program on the arguments of a process, or reports why they couldn't be read.
 fn run_process<R: Files<File = File> + AllocGlobal + Threads + Wait + Sync, O: Write, E: Write>(
     rt: &R,
-    words: Result<Vec<String>, Fault<'static>>,
+    args: Result<Vec<String>, Fault<'static>>,
     out: &mut O,
     err: &mut E,
 ) -> ExitCode
-    ensures { MatchResult words.entry
-        (λ all. RunWrites (λ _. file) map_file (map (λ word. word.bytes.items) (drop 1 all.items)) (exit_status result)
+    ensures { MatchResult args.entry
+        (λ all. RunWrites (λ _. file) map_file (map (λ arg. arg.bytes.items) (drop 1 all.items))
+        (exit_status result)
         (O.contents out.old, O.contents out.new) (E.contents err.old, E.contents err.new))
         (λ fault. WritesNone fault (exit_status result)
         (O.contents out.old, O.contents out.new) (E.contents err.old, E.contents err.new)) }
 {
-    let status = match words {
-        Ok(words) => run_words(rt, behind_name(&words), out, err),
+    let status = match args {
+        Ok(args) => run_args(rt, without_program_name(&args), out, err),
         Err(fault) => fault.end(err),
     };
     ExitCode::from(status)
 }
 
 /// Runs the program on these arguments and the files of the system.
-fn run_words<R: Files<File = File> + AllocGlobal + Threads + Wait + Sync, O: Write, E: Write>(
+fn run_args<R: Files<File = File> + AllocGlobal + Threads + Wait + Sync, O: Write, E: Write>(
     rt: &R,
-    words: &[String],
+    args: &[String],
     out: &mut O,
     err: &mut E,
 ) -> u8
-    ensures { RunWrites (λ _. file) map_file (map (λ word. word.bytes.items) words.now) result
+    ensures { RunWrites (λ _. file) map_file (map (λ arg. arg.bytes.items) args.now) result
         (O.contents out.old, O.contents out.new) (E.contents err.old, E.contents err.new) }
 {
-    let words: Result<Vec<&str>, OutOfMemory> = words
+    let args: Result<Vec<&str>, OutOfMemory> = args
         .iter()
-        .map(|word| word.as_str())
+        .map(|arg| arg.as_str())
         .collect(rt.alloc());
-    match words {
-        Ok(words) => {
+    match args {
+        Ok(args) => {
             let mut files = NamedFiles { runtime: rt };
-            run(rt, rt.alloc(), words.as_slice(), &mut files, out, err)
+            run(rt, rt.alloc(), args.as_slice(), &mut files, out, err)
         }
         Err(OutOfMemory) => Fault::OutOfMemory.end(err),
     }

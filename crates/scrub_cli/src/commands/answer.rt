@@ -1,10 +1,10 @@
-//! The answer of a command: its text and its outcome, for one extent, a whole disk or a raw image. For loading the disk see
-//! `disk_image`, and for writing the answer `running`.
+//! The answer of a command: its text and its outcome, for one extent, a whole disk or a raw image. For
+//! loading the disk see `disk_image`, and for writing the answer `running`.
 
-ghost use Rattle.std.specs.Prelude.{◌≡◌, ◌+◌, ◌≤◌, ◌<◌, ◌^◌, IfOk, length};
+ghost use Rattle.std.specs.Prelude.{◌≡◌, ◌≤◌, ◌<◌, ◌^◌, IfOk};
 ghost use Rattle.std.specs.List.{list_all};
 ghost use Rattle.std.specs.List.Sorted.{IsStrictlyIncreasing};
-ghost use Rattle.scrub_report.specs.Answer.{IsPartitionOfPlanned};
+ghost use Rattle.scrub_report.specs.Answer.{AreTakingsBy};
 ghost use Rattle.scrub_report.specs.Scrubbed.{is_clean_item};
 ghost use Rattle.scrub_cli.specs.Answer.{IsVersionAnswer};
 ghost use Rattle.scrub_cli.specs.Lines.{lines_of};
@@ -14,12 +14,13 @@ ghost use Rattle.scrub_cli.specs.Scan.{IsDiskAnswer};
 ghost use Rattle.scrub_cli.specs.SizesListed.{AreSizesListed};
 ghost use Rattle.scrub_cli.specs.Superblock.{AreSuperblocksListed};
 
+use crate::args::Wanted;
+use crate::args::command::VERSION;
 use crate::process::outcome::Outcome;
-use crate::words::command::VERSION;
 use scrub_disk::{OutOfMemory, PageSource, RawImage};
 use scrub_listings::{list_locators, list_manifest, list_sizes, list_summary, list_superblocks};
 use scrub_pool::{NoGate, Takings};
-use scrub_reclaim::{Accepted, list_reclaimable};
+use scrub_reclaim::list_reclaimable;
 use scrub_report::{ScrubFault, are_clean_items, scrub};
 use scrub_scan::{Item, item_line};
 use std::alloc::Global;
@@ -44,21 +45,6 @@ impl Answer {
         let outcome = Outcome::of(is_clean);
         Answer { text, outcome }
     }
-}
-
-/// What a command on the whole disk prints, other than `manifest`.
-#[derive(Drop)]
-pub enum Wanted<'v, 'a> {
-    /// The report.
-    Report,
-    /// The index that can be recovered.
-    Index,
-    /// The named locators, each with its status.
-    Locators,
-    /// A verdict, and numbers by their names.
-    Summary,
-    /// What may be reclaimed, with these doubts accepted.
-    Reclaimable(Accepted<'v, 'a>),
 }
 
 /// The program's name and version.
@@ -108,27 +94,28 @@ pub fn sizes_listing<R: RawImage>(
     lacking: &[u32],
 ) -> Result<Answer, OutOfMemory>
     requires { R.reads raw.old < 2 ^ 62 }
-    ensures { IfOk result (λ a. AreSizesListed (record { bytes = R.bytes raw.old; most_failures = R.most_failures raw.old })
+    ensures { IfOk result (λ a. AreSizesListed
+        (record { bytes = R.bytes raw.old; most_failures = R.most_failures raw.old })
         lacking.now a.text.items a.outcome) }
 {
     let listing = list_sizes(alloc, raw, lacking)?;
     Ok(Answer::new(listing.text, listing.is_clean))
 }
 
-/// What is wanted of a disk, with its status, and the extents that each worker took. This many workers scan the disk beside
-/// the caller. The takings are for contracts alone: they show how many workers there were, and that each extent was scanned
-/// once.
+/// What is wanted of a disk, with its status, and the extents that each worker took. This many workers scan
+/// the disk beside the caller. The takings are for contracts alone: they show how many workers there were,
+/// and that each extent was scanned once.
 pub fn disk_answer<R: Threads + Wait + Sync, D: PageSource>(
     rt: &R,
     alloc: Global,
     disk: &D,
     workers: u32,
-    wanted: Wanted<'_, '_>,
+    wanted: &Wanted<'_>,
 ) -> Result<(Answer, Takings), ScrubFault>
     requires { workers ≤ 64 }
-    ensures answer { IfOk result (λ r. IsDiskAnswer wanted.entry (D.image disk.now) r.0.text.items r.0.outcome) }
-    ensures workers { IfOk result (λ r. length r.1.lists ≡ workers + 1) }
-    ensures partition { IfOk result (λ r. IsPartitionOfPlanned (D.image disk.now) r.1.lists) }
+    ensures answer { IfOk result
+        (λ r. IsDiskAnswer wanted.now (D.image disk.now) r.0.text.items r.0.outcome) }
+    ensures takings { IfOk result (λ r. AreTakingsBy (D.image disk.now) workers r.1) }
 {
     match wanted {
         Wanted::Report => {
@@ -147,19 +134,20 @@ pub fn disk_answer<R: Threads + Wait + Sync, D: PageSource>(
         }
         Wanted::Summary => {
             let (summary, takings) = list_summary(rt, alloc, disk, workers, &NoGate)?;
-            Ok((Answer::new(summary.text, summary.is_sound), takings))
+            Ok((Answer::new(summary.text, summary.is_clean), takings))
         }
         Wanted::Reclaimable(accepted) => {
+            let accepted = accepted.as_accepted();
             let (listing, takings) = list_reclaimable(
                 rt, alloc, disk, workers, &NoGate, &accepted,
             )?;
-            Ok((Answer::new(listing.text, listing.is_clear), takings))
+            Ok((Answer::new(listing.text, listing.is_clean), takings))
         }
     }
 }
 
-/// The manifest of a disk, as if these extents, which rise, had been reset, with its status, and the extents that each worker
-/// took. The workers and the takings are as for `disk_answer`.
+/// The manifest of a disk, as if these extents, which rise, had been reset, with its status, and the extents
+/// that each worker took. The workers and the takings are as for `disk_answer`.
 pub fn manifest_listing<R: Threads + Wait + Sync, D: PageSource>(
     rt: &R,
     alloc: Global,
@@ -169,10 +157,10 @@ pub fn manifest_listing<R: Threads + Wait + Sync, D: PageSource>(
 ) -> Result<(Answer, Takings), ScrubFault>
     requires workers { workers ≤ 64 }
     requires rising { IsStrictlyIncreasing resets.now }
-    ensures answer { IfOk result (λ r. IsManifestListed resets.now (D.image disk.now) r.0.text.items r.0.outcome) }
-    ensures workers { IfOk result (λ r. length r.1.lists ≡ workers + 1) }
-    ensures partition { IfOk result (λ r. IsPartitionOfPlanned (D.image disk.now) r.1.lists) }
+    ensures answer { IfOk result
+        (λ r. IsManifestListed resets.now (D.image disk.now) r.0.text.items r.0.outcome) }
+    ensures takings { IfOk result (λ r. AreTakingsBy (D.image disk.now) workers r.1) }
 {
     let (manifest, takings) = list_manifest(rt, alloc, disk, workers, &NoGate, resets)?;
-    Ok((Answer::new(manifest.text, manifest.is_whole), takings))
+    Ok((Answer::new(manifest.text, manifest.is_clean), takings))
 }

@@ -9,7 +9,8 @@ ghost use Rattle.scrub_run.specs.Run.{run_bytes};
 ghost use Rattle.scrub_super.specs.Record.{record_bytes};
 ghost use Rattle.scrub_cli.specs.Demo.{demo_shard, demo_pointers, IsDemoDisk, IsDemoAnswer};
 
-use crate::commands::answer::{Answer, Wanted, disk_answer};
+use crate::args::Wanted;
+use crate::commands::answer::{Answer, disk_answer};
 use scrub_disk::{Geometry, MemDisk, OutOfMemory};
 use scrub_frame::{FrameFault, Locator, locate, write_frame};
 use scrub_pool::Takings;
@@ -46,7 +47,8 @@ fn frame_of(alloc: Global, uuid: Uuid, payload: &[u8]) -> Result<Vec<u8>, OutOfM
 
 /// The run of the demo's shard, which has this chunk.
 fn run_of(alloc: Global, chunk: Locator) -> Result<Vec<u8>, OutOfMemory>
-    ensures bytes { IfOk result (λ bytes. bytes.items ≡ run_bytes (record { id = demo_shard; locators = chunk ∷ [] } ∷ [])) }
+    ensures bytes { IfOk result (λ bytes. bytes.items ≡
+        run_bytes (record { id = demo_shard; locators = chunk ∷ [] } ∷ [])) }
     ensures size { IfOk result (λ bytes. length bytes.items ≡ 117) }
 {
     let entry = Entry::new(SHARD, Vec::from_slice(alloc, &[chunk])?);
@@ -58,7 +60,12 @@ fn record_of(alloc: Global, geometry: Geometry, run: Locator) -> Result<Vec<u8>,
     requires { HasSizes geometry 64 4 3 }
     ensures size { IfOk result (λ bytes. length bytes.items ≡ 126) }
     ensures bytes { IfOk result (λ bytes. bytes.items ≡
-        record_bytes geometry (record { generation = 1; pointers = demo_pointers; retired = None; runs = run ∷ [] })) }
+        record_bytes geometry (record {
+          generation = 1;
+          pointers = demo_pointers;
+          retired = None;
+          runs = run ∷ [];
+        })) }
 {
     let pointers = Vec::from_slice(alloc, &POINTERS)?;
     let superblock = Superblock::new(1, pointers, Vec::from_slice(alloc, &[run])?);
@@ -67,8 +74,8 @@ fn record_of(alloc: Global, geometry: Geometry, run: Locator) -> Result<Vec<u8>,
     Ok(bytes)
 }
 
-/// The disk of the demo: three extents of four pages of 64 bytes, with a chunk in extent 1, the run that names it in
-/// extent 2, and the superblock that names the run.
+/// The disk of the demo: three extents of four pages of 64 bytes, with a chunk in extent 1, the run that
+/// names it in extent 2, and the superblock that names the run.
 fn demo_disk(alloc: Global) -> Result<MemDisk, OutOfMemory>
     ensures { IfOk result (λ disk. IsDemoDisk (image_of disk)) }
 {
@@ -89,7 +96,8 @@ fn demo_disk(alloc: Global) -> Result<MemDisk, OutOfMemory>
     Ok(disk)
 }
 
-/// The report of the demo's disk, and the extents that each worker took. Two workers scan the disk beside the caller.
+/// The report of the demo's disk, and the extents that each worker took. Two workers scan the disk beside the
+/// caller.
 pub fn demo<R: Threads + Wait + Sync>(
     rt: &R,
     alloc: Global,
@@ -98,5 +106,5 @@ pub fn demo<R: Threads + Wait + Sync>(
     ensures workers { IfOk result (λ r. length r.1.lists ≡ 3) }
 {
     let disk = demo_disk(alloc)?;
-    disk_answer(rt, alloc, &disk, WORKERS, Wanted::Report)
+    disk_answer(rt, alloc, &disk, WORKERS, &Wanted::Report)
 }

@@ -1,15 +1,15 @@
-//! Loading the disk in an image file, with the unreadable pages that the arguments name. The commands check the sizes; for
-//! the map of a rescue see `rescue`.
+//! Loading the disk in an image file, with the unreadable pages that the arguments name. The commands check
+//! the sizes; for the map of a rescue see `rescue`.
 
 ghost use Rattle.std.specs.Prelude.{ℕ, ◌<◌, ◌≤◌, MatchOption, MatchResult};
 ghost use Rattle.scrub_disk.specs.Parted.{image_of};
 ghost use Rattle.scrub_cli.specs.DiskImage.{NamesPage, NamePages, IsBadPageFault, IsLoadedDisk, IsDiskFault};
 
-use crate::commands::rescue::{rescue_map, rescued};
+use crate::args::ImageArgs;
+use crate::args::pair::bad_page;
+use crate::commands::rescue::{apply_map, rescue_map};
 use crate::process::fault::Fault;
 use crate::process::images::Images;
-use crate::words::ImageWords;
-use crate::words::pair::bad_page;
 use scrub_disk::{Geometry, PartedDisk, load_in_parts};
 use std::alloc::Global;
 use std::thread::{Threads, available_parallelism};
@@ -20,7 +20,8 @@ const WORTH_THREADS: u64 = 1 << 22;
 /// The most readers of an image.
 const MOST_READERS: usize = 64;
 
-/// How many readers load a disk of these sizes: one for each processor, at most 64, or a single one for few bytes.
+/// How many readers load a disk of these sizes: one for each processor, at most 64, or a single one for few
+/// bytes.
 fn reader_count<R: Threads>(rt: &R, geometry: Geometry) -> usize
     ensures some { 0 < result }
     ensures few { result ≤ 64 }
@@ -35,10 +36,11 @@ fn reader_count<R: Threads>(rt: &R, geometry: Geometry) -> usize
 }
 
 /// The page of the disk that the argument names, if it names one.
-fn named_page(geometry: Geometry, word: &str) -> Option<(u32, u32)>
-    ensures { MatchOption result ((at : ℕ × ℕ) → ¬ NamesPage geometry word.now at) (NamesPage geometry word.now) }
+fn named_page(geometry: Geometry, arg: &str) -> Option<(u32, u32)>
+    ensures { MatchOption result ((at : ℕ × ℕ) → ¬ NamesPage geometry arg.now at)
+        (NamesPage geometry arg.now) }
 {
-    let (extent, page) = bad_page(word)?;
+    let (extent, page) = bad_page(arg)?;
     if extent < geometry.extents && page < geometry.pages {
         Some((extent, page))
     } else {
@@ -50,40 +52,42 @@ fn named_page(geometry: Geometry, word: &str) -> Option<(u32, u32)>
 fn bad_pages<'a>(
     alloc: Global,
     geometry: Geometry,
-    words: &[&'a str],
+    args: &[&'a str],
 ) -> Result<Vec<(u32, u32)>, Fault<'a>>
-    ensures { MatchResult result (λ pages. NamePages geometry words.now pages.items) (IsBadPageFault geometry words.now) }
+    ensures { MatchResult result (λ pages. NamePages geometry args.now pages.items)
+        (IsBadPageFault geometry args.now) }
 {
     let mut pages = Vec::new(alloc);
-    for word in words {
-        let Some(page) = named_page(geometry, word) else {
-            return Err(Fault::BadPage(word));
+    for arg in args {
+        let Some(page) = named_page(geometry, arg) else {
+            return Err(Fault::BadPage(arg));
         };
         pages.push(page)?;
     }
     Ok(pages)
 }
 
-/// The disk of these sizes that the arguments name. Faults, in this order: the first argument for an unreadable page that
-/// names none, a map that can't be opened, the map's first line that breaks the rules, an image that can't be opened, and an
-/// image that is too long. Each reader of the image has a thread of its own.
+/// The disk of these sizes that the arguments name. Faults, in this order: the first argument for an
+/// unreadable page that names none, a map that can't be opened, the map's first line that breaks the rules,
+/// an image that can't be opened, and an image that is too long. Each reader of the image has a thread of its
+/// own.
 pub fn load_disk<'a, R: Threads + Sync, I: Images>(
     rt: &R,
     alloc: Global,
     geometry: Geometry,
-    words: &ImageWords<'a>,
+    args: &ImageArgs<'a>,
     images: &mut I,
 ) -> Result<PartedDisk, Fault<'a>>
     ensures { MatchResult result
-        (λ disk. IsLoadedDisk (I.known images.old words.now.name.now) (I.known_map images.old) words.now geometry
-        (image_of disk))
-        (IsDiskFault (I.known images.old words.now.name.now) (I.known_map images.old) words.now geometry) }
+        (λ disk. IsLoadedDisk (I.known images.old args.now.name.now) (I.known_map images.old) args.now
+        geometry (image_of disk))
+        (IsDiskFault (I.known images.old args.now.name.now) (I.known_map images.old) args.now geometry) }
 {
-    let bad = bad_pages(alloc, geometry, &words.bad_pages)?;
-    let map = rescue_map(alloc, words.map, images)?;
-    let Some(readers) = images.readers(alloc, words.name, reader_count(rt, geometry))? else {
-        return Err(Fault::NoImage(words.name));
+    let bad = bad_pages(alloc, geometry, &args.bad_pages)?;
+    let map = rescue_map(alloc, args.map, images)?;
+    let Some(readers) = images.readers(alloc, args.name, reader_count(rt, geometry))? else {
+        return Err(Fault::NoImage(args.name));
     };
     let disk = load_in_parts(rt, alloc, readers, geometry, &bad)?;
-    Ok(rescued(alloc, disk, &map)?)
+    Ok(apply_map(alloc, disk, &map)?)
 }

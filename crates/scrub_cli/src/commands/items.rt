@@ -3,12 +3,12 @@
 ghost use Rattle.std.specs.Prelude.{MatchResult};
 ghost use Rattle.scrub_cli.specs.Items.{IsItemsAnswer, IsItemsFault};
 
+use crate::args::ItemsArgs;
 use crate::commands::answer::{Answer, listing};
 use crate::commands::disk_image::load_disk;
-use crate::commands::found::geometry_of;
+use crate::commands::geometry::geometry_of;
 use crate::process::fault::Fault;
 use crate::process::images::Images;
-use crate::words::ItemsWords;
 use scrub_scan::tile;
 use std::alloc::Global;
 use std::thread::Threads;
@@ -17,24 +17,24 @@ use std::thread::Threads;
 pub fn items<'a, R: Threads + Sync, I: Images>(
     rt: &R,
     alloc: Global,
-    words: &ItemsWords<'a>,
+    args: &ItemsArgs<'a>,
     images: &mut I,
 ) -> Result<Answer, Fault<'a>>
     ensures { MatchResult result
-        (λ a. IsItemsAnswer (I.known images.old words.now.image.name.now) (I.known_map images.old) words.now
+        (λ a. IsItemsAnswer (I.known images.old args.now.image.name.now) (I.known_map images.old) args.now
         a.text.items a.outcome)
-        (IsItemsFault (I.known images.old words.now.image.name.now) (I.known_map images.old) words.now) }
+        (IsItemsFault (I.known images.old args.now.image.name.now) (I.known_map images.old) args.now) }
 {
-    let image = &words.image;
+    let image = &args.image;
     let geometry = geometry_of(alloc, image, images)?;
-    if words.extent >= geometry.extents {
+    if args.extent >= geometry.extents {
         return Err(Fault::Extent);
     }
-    let pointer = words.pointer.unwrap_or(geometry.extent_bytes());
+    let pointer = args.pointer.unwrap_or(geometry.extent_bytes());
     if pointer > geometry.extent_bytes() {
         return Err(Fault::Pointer);
     }
     let disk = load_disk(rt, alloc, geometry, image, images)?;
-    let tiling = tile(alloc, &disk, words.extent, pointer)?;
+    let tiling = tile(alloc, &disk, args.extent, pointer)?;
     Ok(listing(alloc, tiling.as_slice())?)
 }

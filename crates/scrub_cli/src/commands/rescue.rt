@@ -1,12 +1,13 @@
-//! The map of the rescue that made an image: reading it, and making the pages that it lacks unreadable. For its lines see
-//! `scrub_map`.
+//! The map of the rescue that made an image: reading it, and making the pages that it lacks unreadable. For
+//! its lines see `scrub_map`.
 
 ghost use Rattle.std.specs.Prelude.{◌≡◌, ◌*◌, IfOk, List, MatchResult, Option, length};
 ghost use Rattle.scrub_disk.specs.Parted.{image_of};
 ghost use Rattle.scrub_map.specs.declared.block.MapBlock.{MapBlock};
-ghost use Rattle.scrub_map.specs.Kept.{KeepsBlocks};
+ghost use Rattle.scrub_map.specs.MissingBytes.{KeepsBlocks};
 ghost use Rattle.scrub_cli.specs.SizesListed.{AreLackingBy};
-ghost use Rattle.scrub_cli.specs.Rescue.{IsMapFault, IsMapNamed, KeepsMap, LosesByMap, LosesMarked, LosesPages};
+ghost use Rattle.scrub_cli.specs.Rescue.{IsMapFault, IsMapNamed, KeepsMap, LosesByMap, LosesMarked};
+ghost use Rattle.scrub_cli.specs.Rescue.{LosesPages};
 
 use crate::process::fault::Fault;
 use crate::process::images::{Images, MapReadFault};
@@ -14,8 +15,8 @@ use scrub_disk::{OutOfMemory, PageSource, PartedDisk};
 use scrub_map::{RescueMap, read_map};
 use std::alloc::Global;
 
-/// The map of this name, if one is given. Faults, in this order: it can't be opened, and its first line that breaks the
-/// rules.
+/// The map of this name, if one is given. Faults, in this order: it can't be opened, and its first line that
+/// breaks the rules.
 pub fn rescue_map<'a, I: Images>(
     alloc: Global,
     name: Option<&'a str>,
@@ -44,8 +45,8 @@ const BLOCKS: usize = 1 << 17;
 /// Bytes of a block, which is lost as a whole if the sizes of the disk aren't known.
 const BLOCK: u32 = 512;
 
-/// The place of the first byte that the map lacks in each of the first blocks of 512 bytes, counted from the block's start;
-/// empty without a map.
+/// The place of the first byte that the map lacks in each of the first blocks of 512 bytes, counted from the
+/// block's start; empty without a map.
 pub fn first_lacking(alloc: Global, map: &Option<RescueMap>) -> Result<Vec<u32>, OutOfMemory>
     ensures { IfOk result (λ places. (blocks : Option (List MapBlock)) → KeepsMap map.now blocks →
         AreLackingBy blocks places.items) }
@@ -57,7 +58,7 @@ pub fn first_lacking(alloc: Global, map: &Option<RescueMap>) -> Result<Vec<u32>,
 }
 
 /// The disk without the pages that the map lacks, if there is a map.
-pub fn rescued(
+pub fn apply_map(
     alloc: Global,
     disk: PartedDisk,
     map: &Option<RescueMap>,

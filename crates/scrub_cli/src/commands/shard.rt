@@ -1,16 +1,17 @@
 //! The command `shard`: the bytes of one shard of a disk in an image file.
 
-ghost use Rattle.std.specs.Prelude.{◌≡◌, ◌+◌, ◌≤◌, IfOk, MatchResult, length};
-ghost use Rattle.scrub_cli.specs.Shard.{AreShardTakings, IsFaultFor, IsShardFault, IsShardWritten, IsWrittenFor};
+ghost use Rattle.std.specs.Prelude.{◌≤◌, IfOk, MatchResult};
+ghost use Rattle.scrub_cli.specs.Shard.{AreShardTakings, IsFaultFor, IsShardFault, IsShardWritten};
+ghost use Rattle.scrub_cli.specs.Shard.{IsWrittenFor};
 
+use crate::args::ShardArgs;
+use crate::args::id::shard_id;
 use crate::commands::answer::Answer;
 use crate::commands::disk_image::load_disk;
-use crate::commands::found::geometry_of;
+use crate::commands::geometry::geometry_of;
 use crate::process::fault::Fault;
 use crate::process::images::Images;
 use crate::process::outcome::Outcome;
-use crate::words::ShardWords;
-use crate::words::id::shard_id;
 use scrub_pool::{NoGate, Takings};
 use scrub_shard::{ShardAnswer, read_shard};
 use std::alloc::Global;
@@ -32,30 +33,29 @@ fn bytes_of<'a>(answer: ShardAnswer) -> Result<Answer, Fault<'a>>
     }
 }
 
-/// The bytes of the shard that the arguments name, and the extents that each worker took. Faults are checked in the order of
-/// `Fault`.
+/// The bytes of the shard that the arguments name, and the extents that each worker took. Faults are checked
+/// in the order of `Fault`.
 pub fn shard<'a, R: Threads + Wait + Sync, I: Images>(
     rt: &R,
     alloc: Global,
-    words: &ShardWords<'a>,
+    args: &ShardArgs<'a>,
     images: &mut I,
 ) -> Result<(Answer, Takings), Fault<'a>>
-    requires { words.now.scan.workers ≤ 64 }
+    requires { args.now.scan.workers ≤ 64 }
     ensures answer { MatchResult result
-        (λ r. IsShardWritten (I.known images.old words.now.scan.image.name.now) (I.known_map images.old) words.now
-        r.0.text.items r.0.outcome)
-        (IsShardFault (I.known images.old words.now.scan.image.name.now) (I.known_map images.old) words.now) }
-    ensures workers { IfOk result (λ r. length r.1.lists ≡ words.now.scan.workers + 1) }
+        (λ r. IsShardWritten (I.known images.old args.now.scan.image.name.now) (I.known_map images.old)
+        args.now r.0.text.items r.0.outcome)
+        (IsShardFault (I.known images.old args.now.scan.image.name.now) (I.known_map images.old) args.now) }
     ensures takings { IfOk result
-        (λ r. AreShardTakings (I.known images.old words.now.scan.image.name.now) (I.known_map images.old) words.now
-        r.0.text.items r.0.outcome r.1.lists) }
+        (λ r. AreShardTakings (I.known images.old args.now.scan.image.name.now) (I.known_map images.old)
+        args.now r.0.text.items r.0.outcome r.1) }
 {
-    let image = &words.scan.image;
+    let image = &args.scan.image;
     let geometry = geometry_of(alloc, image, images)?;
-    let Some(id) = shard_id(words.id) else {
-        return Err(Fault::BadShard(words.id));
+    let Some(id) = shard_id(args.id) else {
+        return Err(Fault::BadShard(args.id));
     };
     let disk = load_disk(rt, alloc, geometry, image, images)?;
-    let (found, takings) = read_shard(rt, alloc, &disk, words.scan.workers, &NoGate, id)?;
+    let (found, takings) = read_shard(rt, alloc, &disk, args.scan.workers, &NoGate, id)?;
     Ok((bytes_of(found)?, takings))
 }

@@ -3,27 +3,28 @@
 ghost use Rattle.std.specs.Prelude.{◌≡◌, IfOk, MatchResult};
 ghost use Rattle.scrub_cli.specs.SizesListed.{IsSizesAnswer, IsSizesFault};
 
+use crate::args::SizesArgs;
 use crate::commands::answer::{Answer, sizes_listing};
 use crate::commands::rescue::{first_lacking, rescue_map};
 use crate::process::fault::Fault;
 use crate::process::images::Images;
-use crate::words::SizesWords;
 use std::alloc::Global;
 
-/// The superblock records of the image that the arguments name, each with its own sizes, and the lost bytes. Faults are
-/// checked in the order of `Fault`.
+/// The superblock records of the image that the arguments name, each with its own sizes, and the lost bytes.
+/// Faults are checked in the order of `Fault`.
 pub fn sizes<'a, I: Images>(
     alloc: Global,
-    words: &SizesWords<'a>,
+    args: &SizesArgs<'a>,
     images: &mut I,
 ) -> Result<Answer, Fault<'a>>
     ensures { MatchResult result
-        (λ a. IsSizesAnswer (I.known images.old words.now.name.now) (I.known_map images.old) words.now a.text.items a.outcome)
-        (IsSizesFault (I.known_map images.old) words.now) }
+        (λ a. IsSizesAnswer (I.known images.old args.now.name.now) (I.known_map images.old) args.now
+        a.text.items a.outcome)
+        (IsSizesFault (I.known_map images.old) args.now) }
 {
-    let map = rescue_map(alloc, words.map, images)?;
-    let Some(mut raw) = images.image(words.name) else {
-        return Err(Fault::NoImage(words.name));
+    let map = rescue_map(alloc, args.map, images)?;
+    let Some(mut raw) = images.image(args.name) else {
+        return Err(Fault::NoImage(args.name));
     };
     let lacking = first_lacking(alloc, &map)?;
     Ok(sizes_listing(alloc, &mut raw, &lacking)?)

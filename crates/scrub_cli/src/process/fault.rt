@@ -1,4 +1,5 @@
-//! Why a run ends without a whole answer: the status and the line on the error stream for each reason, in one place.
+//! Why a run ends without a whole answer: the status and the line on the error stream for each reason, in one
+//! place.
 
 ghost use Rattle.std.specs.Prelude.{◌≡◌, ◌++◌, OnOk, codes};
 ghost use Rattle.std.specs.Fmt.{decimal};
@@ -8,8 +9,8 @@ ghost use Rattle.scrub_cli.specs.Fault.{line, text_of};
 ghost use Rattle.scrub_listings.specs.Manifest.{two_digits};
 ghost use Rattle.scrub_report.specs.Output.{AppendsFront};
 
+use crate::args::ArgsFault;
 use crate::process::decimal::write_decimal;
-use crate::words::WordsFault;
 use scrub_disk::{GeometryFault, LoadFault, OutOfMemory};
 use scrub_map::MapFault;
 use scrub_report::{ScrubFault, WriteFault, write_out};
@@ -24,10 +25,11 @@ pub enum Fault<'a> {
     /// The arguments ask for help; the text is the help.
     Help(String),
     /// The arguments are refused; the text says why.
-    Words(String),
+    Args(String),
     /// The sizes are refused; this is the first limit that they break.
     Geometry(GeometryFault),
-    /// No sizes are given, and the image has no superblock record, or not all have the same sizes, or something is lost there.
+    /// No sizes are given, and the image has no superblock record, or not all have the same sizes, or
+    /// something is lost there.
     NoSizes,
     /// The disk has no such extent, or it is extent 0 and can't be reset.
     Extent,
@@ -39,7 +41,8 @@ pub enum Fault<'a> {
     BadPage(&'a str),
     /// The map of this name can't be opened, or a read of it failed.
     NoMap(&'a str),
-    /// The first line of the map that breaks the rules, counted from 1.
+    /// The first line of the map that breaks the rules, counted from 1, or one more than it has lines if none
+    /// is the state.
     MapLine(u64),
     /// The image of this name can't be opened.
     NoImage(&'a str),
@@ -115,16 +118,16 @@ impl From<MapFault> for Fault<'_> {
     }
 }
 
-impl From<WordsFault> for Fault<'_> {
-    ghost use Rattle.scrub_cli.specs.Fault.{fault_of_words};
+impl From<ArgsFault> for Fault<'_> {
+    ghost use Rattle.scrub_cli.specs.Fault.{fault_of_args};
 
-    ghost from_gives = { λ words fault. fault ≡ fault_of_words words };
+    ghost from_gives = { λ args fault. fault ≡ fault_of_args args };
 
-    fn from(fault: WordsFault) -> Self {
+    fn from(fault: ArgsFault) -> Self {
         match fault {
-            WordsFault::Help(text) => Fault::Help(text),
-            WordsFault::Refused(text) => Fault::Words(text),
-            WordsFault::OutOfMemory => Fault::OutOfMemory,
+            ArgsFault::Help(text) => Fault::Help(text),
+            ArgsFault::Refused(text) => Fault::Args(text),
+            ArgsFault::OutOfMemory => Fault::OutOfMemory,
         }
     }
 }
@@ -141,7 +144,7 @@ impl Fault<'_> {
             Fault::Help(_) => 0,
             Fault::NoShard | Fault::PayloadLost(_) => 1,
             Fault::NotUtf8
-            | Fault::Words(_)
+            | Fault::Args(_)
             | Fault::Geometry(_)
             | Fault::NoSizes
             | Fault::Extent
@@ -154,21 +157,21 @@ impl Fault<'_> {
         }
     }
 
-    /// Writes the fault's text to the error stream, up to the first failure of the stream, which is the error. It doesn't
-    /// allocate.
-    fn tell<E: Write>(&self, err: &mut E) -> Result<(), WriteFault>
+    /// Writes the fault's text to the error stream, up to the first failure of the stream, which is the
+    /// error. It doesn't allocate.
+    fn write_to<E: Write>(&self, err: &mut E) -> Result<(), WriteFault>
         ensures front { AppendsFront (E.contents err.old) (E.contents err.new) (text_of self.now) }
         ensures whole { OnOk result (Appends (E.contents err.old) (E.contents err.new) (text_of self.now)) }
     {
         match self {
-            Fault::Help(text) | Fault::Words(text) => write_out(err, text.as_bytes()),
+            Fault::Help(text) | Fault::Args(text) => write_out(err, text.as_bytes()),
             Fault::NotUtf8 => write_line(err, "a word is not UTF-8", ""),
             Fault::Geometry(fault) => write_line(err, "geometry refused: ", limit(*fault)),
             Fault::NoSizes => write_line(err, "sizes not found: run shardscrub sizes", ""),
             Fault::Extent => write_line(err, "extent out of range", ""),
-            Fault::BadShard(word) => write_line(err, "shard refused: ", word),
+            Fault::BadShard(arg) => write_line(err, "shard refused: ", arg),
             Fault::Pointer => write_line(err, "pointer out of range", ""),
-            Fault::BadPage(word) => write_line(err, "bad page refused: ", word),
+            Fault::BadPage(arg) => write_line(err, "bad page refused: ", arg),
             Fault::NoMap(name) => write_line(err, "map cannot be opened: ", name),
             Fault::MapLine(line) => write_number(err, "map refused: line ", *line as usize, ""),
             Fault::NoImage(name) => write_line(err, "image cannot be opened: ", name),
@@ -185,12 +188,12 @@ impl Fault<'_> {
         }
     }
 
-    /// Reports the fault on the error stream, and returns the exit status. If the error stream fails, there is nowhere left to
-    /// report that.
+    /// Reports the fault on the error stream, and returns the exit status. If the error stream fails, there
+    /// is nowhere left to report that.
     pub fn end<E: Write>(&self, err: &mut E) -> u8
         ensures { IsReported self.now result (E.contents err.old, E.contents err.new) }
     {
-        let _ = self.tell(err);
+        let _ = self.write_to(err);
         self.status()
     }
 }
@@ -222,7 +225,8 @@ fn before_number(number: usize) -> &'static str
 /// Writes a line: the program's name, then two parts.
 pub fn write_line<E: Write>(err: &mut E, what: &str, which: &str) -> Result<(), WriteFault>
     ensures front { AppendsFront (E.contents err.old) (E.contents err.new) (line (what.now ++ which.now)) }
-    ensures whole { OnOk result (Appends (E.contents err.old) (E.contents err.new) (line (what.now ++ which.now))) }
+    ensures whole { OnOk result (Appends (E.contents err.old) (E.contents err.new)
+        (line (what.now ++ which.now))) }
 {
     write_out(err, b"shardscrub: ")?;
     write_out(err, what.as_bytes())?;

@@ -1,9 +1,9 @@
-//! Raw images and maps in files of the system. Contracts don't say what a file holds, only how often an image was read and
-//! how often that failed.
+//! Raw images and maps in files of the system. Contracts don't say what a file holds, only how often an image
+//! was read and how often that failed.
 
 ghost use Rattle.std.specs.Prelude.{◌≡◌, ◌↔◌, ◌⊎◌, ◌*◌, ◌≤◌, ◌^◌, IsTrue, None};
 ghost use Rattle.scrub_cli.specs.FileKind.{IsBlockDevice, IsRegularFile};
-ghost use Rattle.scrub_cli.specs.Known.{file, map_file};
+ghost use Rattle.scrub_cli.specs.KnownFiles.{file, map_file};
 
 use crate::process::images::{Images, MapReadFault};
 use scrub_disk::{OutOfMemory, RawFault, RawImage};
@@ -73,8 +73,8 @@ const REGULAR_FILE: u32 = 0o100000;
 
 const BLOCK_DEVICE: u32 = 0o060000;
 
-/// Whether a file of this mode is opened. Only regular files and block devices can be read whole: every read of a directory
-/// fails, and opening a pipe waits until someone writes to it.
+/// Whether a file of this mode is opened. Only regular files and block devices can be read whole: every read
+/// of a directory fails, and opening a pipe waits until someone writes to it.
 fn is_opened(mode: u32) -> bool
     ensures { IsTrue result ↔ (IsRegularFile mode ⊎ IsBlockDevice mode) }
 {
@@ -147,8 +147,8 @@ mod tests {
     use super::{NamedFiles, is_opened};
     use crate::process::images::{Images, MapReadFault};
 
-    /// The numbers are those of `inode(7)` of Linux: the kind, then the permissions, also with the set-user-ID, set-group-ID
-    /// and sticky bits.
+    /// The numbers are those of `inode(7)` of Linux: the kind, then the permissions, also with the
+    /// set-user-ID, set-group-ID and sticky bits.
     #[test]
     fn only_regular_files_and_block_devices_are_opened(rt: HostRuntime) {
         for (mode, wanted) in [

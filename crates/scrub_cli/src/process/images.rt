@@ -1,8 +1,8 @@
-//! Where raw images and the maps of rescues come from, by name. For the pages of an image see `scrub_disk`, and for the
-//! lines of a map `scrub_map`.
+//! Where raw images and the maps of rescues come from, by name. For the pages of an image see `scrub_disk`,
+//! and for the lines of a map `scrub_map`.
 
 ghost use Rattle.std.specs.Prelude.{◌≡◌, ◌≤◌, ◌<◌, ℕ, All, List, IfOk, IfSome, sum_by, vec_len};
-ghost use Rattle.scrub_cli.specs.Known.{KnownMaps, KnownRaw};
+ghost use Rattle.scrub_cli.specs.KnownFiles.{KnownMaps, KnownRaw};
 
 use scrub_disk::{OutOfMemory, RawImage};
 use std::alloc::Global;
@@ -16,9 +16,9 @@ pub enum MapReadFault {
     OutOfMemory,
 }
 
-/// Raw images and maps by name. Contracts see what is known of them before they are opened: of an image its bytes, if they
-/// are known, and how many of its reads fail at most; of a map its text, if that is known. Of files neither bytes nor text
-/// are known.
+/// Raw images and maps by name. Contracts see what is known of them before they are opened: of an image its
+/// bytes, if they are known, and how many of its reads fail at most; of a map its text, if that is known. Of
+/// files neither bytes nor text are known.
 pub trait Images {
     type Image: RawImage + Send + Drop;
 
@@ -29,13 +29,14 @@ pub trait Images {
     /// The raw image of this name, before any read of it, or `None` if it can't be opened.
     fn image(&mut self, name: &str) -> Option<Self::Image>
         ensures known { IfSome result (λ image. Self.Image.bytes image ≡ (known self.old name.now).bytes) }
-        ensures bounded { IfSome result (λ image. Self.Image.most_failures image ≡ (known self.old name.now).most_failures) }
+        ensures bounded { IfSome result (λ image. Self.Image.most_failures image ≡
+            (known self.old name.now).most_failures) }
         ensures unread { IfSome result (λ image. Self.Image.reads image ≡ 0) }
         ensures same_images { known self.new ≡ known self.old }
         ensures same_maps { known_map self.new ≡ known_map self.old };
 
-    /// Readers of the raw image of this name, each before any read of it, or `None` if it can't be opened: at least one, and
-    /// at most `most`. All read the same image.
+    /// Readers of the raw image of this name, each before any read of it, or `None` if it can't be opened: at
+    /// least one, and at most `most`. All read the same image.
     fn readers(
         &mut self,
         alloc: Global,
@@ -49,12 +50,15 @@ pub trait Images {
         ensures known { IfOk result (λ r. IfSome r (λ readers.
             All (λ image. Self.Image.bytes image ≡ (known self.old name.now).bytes) readers.items)) }
         ensures bounded { IfOk result (λ r. IfSome r (λ readers.
-            sum_by (λ image. Self.Image.most_failures image) readers.items ≤ (known self.old name.now).most_failures)) }
-        ensures unread { IfOk result (λ r. IfSome r (λ readers. All (λ image. Self.Image.reads image ≡ 0) readers.items)) };
+            sum_by (λ image. Self.Image.most_failures image) readers.items ≤
+            (known self.old name.now).most_failures)) }
+        ensures unread { IfOk result (λ r. IfSome r
+            (λ readers. All (λ image. Self.Image.reads image ≡ 0) readers.items)) };
 
     /// The whole text of the map of this name.
     fn map(&mut self, alloc: Global, name: &str) -> Result<Vec<u8>, MapReadFault>
-        ensures known { IfOk result (λ text. IfSome (known_map self.old name.now) (λ bytes. text.items ≡ bytes)) }
+        ensures known { IfOk result (λ text. IfSome (known_map self.old name.now)
+            (λ bytes. text.items ≡ bytes)) }
         ensures same_images { known self.new ≡ known self.old }
         ensures same_maps { known_map self.new ≡ known_map self.old };
 }

@@ -1,5 +1,5 @@
-//! How a run ends that wrote a whole answer: the status, and what it reports on the error stream. For a run without one see
-//! `fault`.
+//! How a run ends that wrote a whole answer: the status, and what it reports on the error stream. For a run
+//! without one see `fault`.
 
 ghost use Rattle.std.specs.Prelude.{◌≡◌};
 ghost use Rattle.scrub_cli.specs.Outcome.{Warns, outcome_of, outcome_of_shard, status_of_outcome};
@@ -14,7 +14,7 @@ pub enum Outcome {
     Clean,
     /// Something was found.
     Findings,
-    /// The bytes of a shard were written, but a newer entry of it may be lost.
+    /// The bytes of a shard were written, but an index run is lost that may have a newer entry of it.
     Doubtful,
 }
 
@@ -51,8 +51,8 @@ impl Outcome {
         }
     }
 
-    /// Reports on the error stream that a newer entry may be lost, if the outcome says so. If the error stream fails, there is
-    /// nowhere left to report that.
+    /// Reports on the error stream that a newer entry may be lost, if the outcome says so. If the error
+    /// stream fails, there is nowhere left to report that.
     pub fn warn<E: Write>(self, err: &mut E)
         ensures { Warns self (E.contents err.old, E.contents err.new) }
     {

@@ -1,5 +1,5 @@
-//! Whole runs: arguments and raw bytes in, lines or the text of a refusal and a status out. For what is expected see
-//! docs/FORMAT.md, docs/REPORT.md and docs/shardscrub.1.
+//! Whole runs: arguments and raw bytes in, lines or the text of a refusal and a status out. For what is
+//! expected see docs/FORMAT.md, docs/REPORT.md and docs/shardscrub.1.
 
 use crate::process::fakes::OneImage;
 use crate::process::fault::Fault;
@@ -32,8 +32,8 @@ const ABC_LINE: &str = "chunk 0 41 11111111-1111-1111-1111-111111111111 3\n";
 const ITEMS_BELOW_41: &str =
     "items --page 64 --pages 4 --extents 3 --extent 1 --pointer 41 disk.img";
 
-/// A disk of 768 bytes in three extents: zeros, and the frame of each payload at its byte of the disk. Extent 1 begins at
-/// 256, extent 2 at 512.
+/// A disk of 768 bytes in three extents: zeros, and the frame of each payload at its byte of the disk. Extent
+/// 1 begins at 256, extent 2 at 512.
 fn disk_with(
     rt: &impl Abort,
     alloc: Global,
@@ -75,26 +75,26 @@ fn with_map<'a>(bytes: &'a [u8], map: &'a [u8]) -> OneImage<'a> {
 fn check(
     rt: &(impl Abort + Threads + Wait + Sync),
     alloc: Global,
-    words: &str,
+    args: &str,
     images: OneImage<'_>,
     wanted: (u8, &str, &str),
 ) -> Result<(), Fail> {
-    let split: Vec<&str> = words.split_whitespace().collect(alloc)?;
-    check_words(rt, alloc, &split, images, wanted)
+    let split: Vec<&str> = args.split_whitespace().collect(alloc)?;
+    check_args(rt, alloc, &split, images, wanted)
 }
 
 /// Runs these arguments, and compares the status and both streams.
-fn check_words(
+fn check_args(
     rt: &(impl Abort + Threads + Wait + Sync),
     alloc: Global,
-    words: &[&str],
+    args: &[&str],
     mut images: OneImage<'_>,
     wanted: (u8, &str, &str),
 ) -> Result<(), Fail> {
     let (mut out, mut err) = (Vec::new(alloc), Vec::new(alloc));
-    let status = run(rt, alloc, words, &mut images, &mut out, &mut err);
+    let status = run(rt, alloc, args, &mut images, &mut out, &mut err);
     let (out, err) = (str::from_utf8(&out)?, str::from_utf8(&err)?);
-    assert_eq!(rt; (status, out, err), wanted, "{words:?}");
+    assert_eq!(rt; (status, out, err), wanted, "{args:?}");
     Ok(())
 }
 
@@ -103,12 +103,12 @@ fn check_lines(
     rt: &(impl Abort + Threads + Wait + Sync),
     alloc: Global,
     frames: &[(u16, [u8; 16], &[u8])],
-    words: &str,
+    args: &str,
     wanted: (u8, &str),
 ) -> Result<(), Fail> {
     let disk = disk_with(rt, alloc, frames)?;
     let (status, lines) = wanted;
-    check(rt, alloc, words, image(&disk), (status, lines, ""))
+    check(rt, alloc, args, image(&disk), (status, lines, ""))
 }
 
 /// The bytes of `examples/one-chunk.img`: zeros, and the frame of `abc` at the start of extent 1.
@@ -129,7 +129,7 @@ fn the_example_has_one_chunk_below_byte_41(rt: HostRuntime) -> Result<(), Fail> 
 #[test]
 fn the_order_of_options_does_not_matter(rt: HostRuntime) -> Result<(), Fail> {
     let disk = disk_with(&rt, rt.alloc(), &[(256, ONES, b"abc")])?;
-    for words in [
+    for args in [
         "items --pointer 41 --extent 1 --extents 3 --pages 4 --page 64 disk.img",
         "items --extent 1 --page 64 --pointer 41 --pages 4 --extents 3 disk.img",
         "items --extents=3 --pointer=41 --page=64 --extent=1 --pages=4 disk.img",
@@ -137,7 +137,7 @@ fn the_order_of_options_does_not_matter(rt: HostRuntime) -> Result<(), Fail> {
         "items disk.img --extent 1 --pages 4 --extents 3 --pointer 41 --page 64",
         "items --extent 1 --pages 4 disk.img --pointer=41 --extents 3 --page 64",
     ] {
-        check(&rt, rt.alloc(), words, image(&disk), (0, ABC_LINE, ""))?;
+        check(&rt, rt.alloc(), args, image(&disk), (0, ABC_LINE, ""))?;
     }
     Ok(())
 }
@@ -145,13 +145,14 @@ fn the_order_of_options_does_not_matter(rt: HostRuntime) -> Result<(), Fail> {
 #[test]
 fn without_a_pointer_the_whole_extent_is_listed(rt: HostRuntime) -> Result<(), Fail> {
     let disk = disk_with(&rt, rt.alloc(), &[(256, ONES, b"abc")])?;
-    let words = "items --page 64 --pages 4 --extents 3 --extent 1 disk.img";
+    let args = "items --page 64 --pages 4 --extents 3 --extent 1 disk.img";
     let lines =
-        "chunk 0 41 11111111-1111-1111-1111-111111111111 3\npad 41 64\npad 64 128\npad 128 192\npad 192 256\n";
-    check(&rt, rt.alloc(), words, image(&disk), (0, lines, ""))?;
-    let words = "items --page 64 --pages 4 --extents 3 --extent 0 disk.img";
+        "chunk 0 41 11111111-1111-1111-1111-111111111111 3\npad 41 64\npad 64 128\npad 128 192\n\
+         pad 192 256\n";
+    check(&rt, rt.alloc(), args, image(&disk), (0, lines, ""))?;
+    let args = "items --page 64 --pages 4 --extents 3 --extent 0 disk.img";
     let lines = "pad 0 64\npad 64 128\npad 128 192\npad 192 256\n";
-    check(&rt, rt.alloc(), words, image(&disk), (0, lines, ""))
+    check(&rt, rt.alloc(), args, image(&disk), (0, lines, ""))
 }
 
 #[test]
@@ -162,23 +163,23 @@ fn the_chunk_of_abc_under_smaller_pointers(rt: HostRuntime) -> Result<(), Fail> 
         ("1", 1, "noise 0 1\n"),
         ("0", 0, ""),
     ] {
-        let words = format!(in rt.alloc();
+        let args = format!(in rt.alloc();
             "items --page 64 --pages 4 --extents 3 --extent 1 --pointer {pointer} disk.img"
         )?;
-        check(&rt, rt.alloc(), &words, image(&disk), (status, line, ""))?;
+        check(&rt, rt.alloc(), &args, image(&disk), (status, line, ""))?;
     }
     Ok(())
 }
 
 #[test]
 fn a_frame_over_an_unreadable_page(rt: HostRuntime) -> Result<(), Fail> {
-    let words = "items --page 64 --pages 4 --extents 3 --extent 1 --pointer 98 disk.img 1:1";
+    let args = "items --page 64 --pages 4 --extents 3 --extent 1 --pointer 98 disk.img 1:1";
     let frames = [(256, ONES, [0x78; 60].as_slice())];
     check_lines(
         &rt,
         rt.alloc(),
         &frames,
-        words,
+        args,
         (1, "torn 0 64\nlost 64 98\n"),
     )
 }
@@ -189,25 +190,25 @@ fn the_collision_hides_the_chunk_at_the_page_bound(rt: HostRuntime) -> Result<()
         (256, ENDS_IN_MAGIC, [0x78; 28].as_slice()),
         (320, ONES, b"abc"),
     ];
-    let words = "items --page 64 --pages 4 --extents 3 --extent 1 --pointer 105 disk.img";
+    let args = "items --page 64 --pages 4 --extents 3 --extent 1 --pointer 105 disk.img";
     let lines = "chunk 0 66 33333333-3333-3333-3333-33333333c55e 28\nnoise 66 105\n";
-    check_lines(&rt, rt.alloc(), &frames, words, (1, lines))
+    check_lines(&rt, rt.alloc(), &frames, args, (1, lines))
 }
 
 #[test]
 fn two_frames_end_to_end(rt: HostRuntime) -> Result<(), Fail> {
     let frames = [(256, ONES, [0x78; 12].as_slice()), (306, ONES, b"abc")];
-    let words = "items --page 64 --pages 4 --extents 3 --extent 1 --pointer 91 disk.img";
-    let lines =
-        "chunk 0 50 11111111-1111-1111-1111-111111111111 12\nchunk 50 91 11111111-1111-1111-1111-111111111111 3\n";
-    check_lines(&rt, rt.alloc(), &frames, words, (0, lines))
+    let args = "items --page 64 --pages 4 --extents 3 --extent 1 --pointer 91 disk.img";
+    let lines = "chunk 0 50 11111111-1111-1111-1111-111111111111 12\n\
+         chunk 50 91 11111111-1111-1111-1111-111111111111 3\n";
+    check_lines(&rt, rt.alloc(), &frames, args, (0, lines))
 }
 
 #[test]
 fn a_frame_of_no_payload(rt: HostRuntime) -> Result<(), Fail> {
-    let words = "items --page 64 --pages 4 --extents 3 --extent 1 --pointer 38 disk.img";
+    let args = "items --page 64 --pages 4 --extents 3 --extent 1 --pointer 38 disk.img";
     let line = "chunk 0 38 11111111-1111-1111-1111-111111111111 0\n";
-    check_lines(&rt, rt.alloc(), &[(256, ONES, b"")], words, (0, line))
+    check_lines(&rt, rt.alloc(), &[(256, ONES, b"")], args, (0, line))
 }
 
 #[test]
@@ -215,9 +216,9 @@ fn a_head_that_claims_the_greatest_length(rt: HostRuntime) -> Result<(), Fail> {
     let mut disk = [0; 768];
     put(&rt, &mut disk, 256, &ABC_FRAME[..18]);
     put(&rt, &mut disk, 274, &[0xFF; 4]);
-    let words = "items --page 64 --pages 4 --extents 3 --extent 1 --pointer 256 disk.img";
+    let args = "items --page 64 --pages 4 --extents 3 --extent 1 --pointer 256 disk.img";
     let lines = "torn 0 64\npad 64 128\npad 128 192\npad 192 256\n";
-    check(&rt, rt.alloc(), words, image(&disk), (1, lines, ""))
+    check(&rt, rt.alloc(), args, image(&disk), (1, lines, ""))
 }
 
 #[test]
@@ -227,20 +228,20 @@ fn damage_between_frames_hides_the_one_before_the_page_bound(rt: HostRuntime) ->
         (300, [0x22; 16], b""),
         (384, [0x33; 16], b"abc"),
     ];
-    let words = "items --page 128 --pages 2 --extents 3 --extent 1 --pointer 169 disk.img";
-    let lines =
-        "chunk 0 41 11111111-1111-1111-1111-111111111111 3\nnoise 41 128\nchunk 128 169 33333333-3333-3333-3333-333333333333 3\n";
-    check_lines(&rt, rt.alloc(), &frames, words, (1, lines))
+    let args = "items --page 128 --pages 2 --extents 3 --extent 1 --pointer 169 disk.img";
+    let lines = "chunk 0 41 11111111-1111-1111-1111-111111111111 3\nnoise 41 128\n\
+         chunk 128 169 33333333-3333-3333-3333-333333333333 3\n";
+    check_lines(&rt, rt.alloc(), &frames, args, (1, lines))
 }
 
 #[test]
 fn pages_after_the_end_of_a_short_image_are_lost(rt: HostRuntime) -> Result<(), Fail> {
     let disk = disk_with(&rt, rt.alloc(), &[(512, [0x22; 16], &[0x78; 117])])?;
-    let words = "items --page 64 --pages 4 --extents 3 --extent 2 --pointer 155 disk.img";
+    let args = "items --page 64 --pages 4 --extents 3 --extent 2 --pointer 155 disk.img";
     let lines = "torn 0 64\nnoise 64 128\nlost 128 155\n";
     let (short, _) = disk.split_at(668);
     let short = image(short);
-    check(&rt, rt.alloc(), words, short, (1, lines, ""))
+    check(&rt, rt.alloc(), args, short, (1, lines, ""))
 }
 
 #[test]
@@ -270,7 +271,7 @@ fn a_page_whose_read_fails_is_lost(rt: HostRuntime) -> Result<(), Fail> {
 #[test]
 fn a_page_with_a_byte_that_the_map_lacks_is_lost(rt: HostRuntime) -> Result<(), Fail> {
     let disk = disk_with(&rt, rt.alloc(), &[(256, ONES, b"abc")])?;
-    let words =
+    let args =
         "items --page 64 --pages 4 --extents 3 --extent 1 --pointer 41 --map disk.map disk.img";
     for (map, status, line) in [
         ("0 +\n0 0x300 +\n", 0, ABC_LINE),
@@ -283,7 +284,7 @@ fn a_page_with_a_byte_that_the_map_lacks_is_lost(rt: HostRuntime) -> Result<(), 
         check(
             &rt,
             rt.alloc(),
-            words,
+            args,
             with_map(&disk, map.as_bytes()),
             (status, line, ""),
         )?;
@@ -304,12 +305,12 @@ fn the_first_line_of_a_map_that_breaks_a_rule_is_reported(rt: HostRuntime) -> Re
             "superblocks --page 64 --pages 4 --extents 3",
             "sizes",
         ] {
-            let words = format!(in rt.alloc(); "{command} --map disk.map other.img")?;
+            let args = format!(in rt.alloc(); "{command} --map disk.map other.img")?;
             let expected = format!(in rt.alloc(); "shardscrub: {expected}\n")?;
             check(
                 &rt,
                 rt.alloc(),
-                &words,
+                &args,
                 with_map(&[0; 769], map.as_bytes()),
                 (2, "", &expected),
             )?;
@@ -329,18 +330,18 @@ fn sizes_out_of_the_limits_are_refused(rt: HostRuntime) -> Result<(), Fail> {
         (65536, 65536, 2, "ExtentBytes"),
         (65536, 1024, 65, "TotalBytes"),
     ] {
-        let words = format!(in rt.alloc();
+        let args = format!(in rt.alloc();
             "items --page {page} --pages {pages} --extents {extents} --extent 1 disk.img"
         )?;
         let expected = format!(in rt.alloc(); "shardscrub: geometry refused: {fault}\n")?;
-        check(&rt, rt.alloc(), &words, image(&[]), (2, "", &expected))?;
+        check(&rt, rt.alloc(), &args, image(&[]), (2, "", &expected))?;
     }
     Ok(())
 }
 
 #[test]
 fn places_outside_the_disk_are_refused(rt: HostRuntime) -> Result<(), Fail> {
-    for (words, expected) in [
+    for (args, expected) in [
         ("--extent 3 disk.img", "extent out of range"),
         ("--extent 1 --pointer 257 disk.img", "pointer out of range"),
         ("--extent 1 disk.img 1:4", "bad page refused: 1:4"),
@@ -348,15 +349,9 @@ fn places_outside_the_disk_are_refused(rt: HostRuntime) -> Result<(), Fail> {
         ("--extent 1 disk.img 1:x", "bad page refused: 1:x"),
         ("--extent 1 disk.img 2:3 1:x 1:4", "bad page refused: 1:x"),
     ] {
-        let words = format!(in rt.alloc(); "items --page 64 --pages 4 --extents 3 {words}")?;
+        let args = format!(in rt.alloc(); "items --page 64 --pages 4 --extents 3 {args}")?;
         let expected = format!(in rt.alloc(); "shardscrub: {expected}\n")?;
-        check(
-            &rt,
-            rt.alloc(),
-            &words,
-            image(&[0; 768]),
-            (2, "", &expected),
-        )?;
+        check(&rt, rt.alloc(), &args, image(&[0; 768]), (2, "", &expected))?;
     }
     Ok(())
 }
@@ -364,7 +359,7 @@ fn places_outside_the_disk_are_refused(rt: HostRuntime) -> Result<(), Fail> {
 /// Each case also has the faults of all cases below it.
 #[test]
 fn the_first_of_several_faults_is_reported(rt: HostRuntime) -> Result<(), Fail> {
-    for (words, status, expected) in [
+    for (args, status, expected) in [
         (
             "--page 60 --extent 3 --pointer 257 other.img 1:4",
             2,
@@ -406,12 +401,12 @@ fn the_first_of_several_faults_is_reported(rt: HostRuntime) -> Result<(), Fail> 
             "image too long",
         ),
     ] {
-        let words = format!(in rt.alloc(); "items --pages 4 --extents 3 {words}")?;
+        let args = format!(in rt.alloc(); "items --pages 4 --extents 3 {args}")?;
         let expected = format!(in rt.alloc(); "shardscrub: {expected}\n")?;
         check(
             &rt,
             rt.alloc(),
-            &words,
+            &args,
             image(&[0; 769]),
             (status, "", &expected),
         )?;
@@ -419,10 +414,11 @@ fn the_first_of_several_faults_is_reported(rt: HostRuntime) -> Result<(), Fail> 
     Ok(())
 }
 
-/// The same for the identifier of a shard, with sizes and without: each case also has the faults of all cases below it.
+/// The same for the identifier of a shard, with sizes and without: each case also has the faults of all cases
+/// below it.
 #[test]
 fn the_place_of_a_refused_identifier_among_the_faults(rt: HostRuntime) -> Result<(), Fail> {
-    for (words, status, expected) in [
+    for (args, status, expected) in [
         (
             "--page 60 --pages 4 --extents 3 --id 0 other.img 1:4",
             2,
@@ -464,12 +460,12 @@ fn the_place_of_a_refused_identifier_among_the_faults(rt: HostRuntime) -> Result
             "sizes not found: run shardscrub sizes",
         ),
     ] {
-        let words = format!(in rt.alloc(); "shard {words}")?;
+        let args = format!(in rt.alloc(); "shard {args}")?;
         let expected = format!(in rt.alloc(); "shardscrub: {expected}\n")?;
         check(
             &rt,
             rt.alloc(),
-            &words,
+            &args,
             image(&[0; 769]),
             (status, "", &expected),
         )?;
@@ -499,25 +495,26 @@ fn a_fault_of_the_error_stream_is_ignored(rt: HostRuntime) -> Result<(), Fail> {
     Ok(())
 }
 
-/// Runs arguments, and compares the status and the beginning of the text on the error stream; the output stays empty.
+/// Runs arguments, and compares the status and the beginning of the text on the error stream; the output
+/// stays empty.
 fn check_text(
     rt: &(impl Abort + Threads + Wait + Sync),
     alloc: Global,
-    words: &str,
+    args: &str,
     wanted: (u8, &str),
 ) -> Result<(), Fail> {
     let (mut out, mut err) = (Vec::new(alloc), Vec::new(alloc));
-    let split: Vec<&str> = words.split_whitespace().collect(alloc)?;
+    let split: Vec<&str> = args.split_whitespace().collect(alloc)?;
     let status = run(rt, alloc, &split, &mut image(&[0; 768]), &mut out, &mut err);
     let (wanted_status, beginning) = wanted;
-    assert_eq!(rt; (status, out.len()), (wanted_status, 0), "{words}");
-    assert!(rt; str::from_utf8(&err)?.starts_with(beginning), "{words}");
+    assert_eq!(rt; (status, out.len()), (wanted_status, 0), "{args}");
+    assert!(rt; str::from_utf8(&err)?.starts_with(beginning), "{args}");
     Ok(())
 }
 
 #[test]
 fn invalid_arguments_are_refused(rt: HostRuntime) -> Result<(), Fail> {
-    for words in [
+    for args in [
         "repair",
         "demo 1",
         "items",
@@ -536,23 +533,23 @@ fn invalid_arguments_are_refused(rt: HostRuntime) -> Result<(), Fail> {
         "sizes --page 64 disk.img",
         "sizes disk.img 1:0",
     ] {
-        check_text(&rt, rt.alloc(), words, (2, "error: "))?;
+        check_text(&rt, rt.alloc(), args, (2, "error: "))?;
     }
     Ok(())
 }
 
 #[test]
 fn the_version_goes_to_the_output(rt: HostRuntime) -> Result<(), Fail> {
-    for words in ["--version", "-V"] {
-        let wanted = (0, "shardscrub 2.2.0\n", "");
-        check(&rt, rt.alloc(), words, image(&[]), wanted)?;
+    for args in ["--version", "-V"] {
+        let wanted = (0, "shardscrub 2.3.0\n", "");
+        check(&rt, rt.alloc(), args, image(&[]), wanted)?;
     }
     Ok(())
 }
 
 #[test]
 fn help_is_printed_on_the_error_stream(rt: HostRuntime) -> Result<(), Fail> {
-    for (words, beginning) in [
+    for (args, beginning) in [
         ("--help", "Checks a raw image of a storage node's disk"),
         ("-h", "Checks a raw image of a storage node's disk"),
         ("demo --help", "Prints the report of a small built-in disk"),
@@ -569,7 +566,7 @@ fn help_is_printed_on_the_error_stream(rt: HostRuntime) -> Result<(), Fail> {
         ("superblocks --help", "Lists the superblock records"),
         ("sizes --help", "Lists the superblock records of an image"),
     ] {
-        check_text(&rt, rt.alloc(), words, (0, beginning))?;
+        check_text(&rt, rt.alloc(), args, (0, beginning))?;
     }
     Ok(())
 }
@@ -577,18 +574,18 @@ fn help_is_printed_on_the_error_stream(rt: HostRuntime) -> Result<(), Fail> {
 /// Eight pages are given as unreadable; then an extent has 130 items, and the name of its image 72 bytes.
 #[test]
 fn many_pages_many_items_and_a_long_name(rt: HostRuntime) -> Result<(), Fail> {
-    let words =
+    let args =
         "items --page 64 --pages 4 --extents 3 --extent 1 disk.img 1:0 1:1 1:2 1:3 0:0 0:3 2:0 2:3";
     let lines = "lost 0 64\nlost 64 128\nlost 128 192\nlost 192 256\n";
-    check(&rt, rt.alloc(), words, image(&[0; 768]), (1, lines, ""))?;
+    check(&rt, rt.alloc(), args, image(&[0; 768]), (1, lines, ""))?;
     let mut lines = String::new(rt.alloc());
     for page in 0u32..130 {
         let line = format!(in rt.alloc(); "pad {} {}\n", page * 64, page * 64 + 64)?;
         lines.push_str(&line)?;
     }
-    let words =
-        "items --page 64 --pages 130 --extents 2 --extent 1 a-folder-whose-name-has-many-more-bytes-than-the-name-of-a-disk/disk.img";
-    check(&rt, rt.alloc(), words, image(&[0; 16640]), (0, &lines, ""))
+    let args = "items --page 64 --pages 130 --extents 2 --extent 1 \
+         a-folder-whose-name-has-many-more-bytes-than-the-name-of-a-disk/disk.img";
+    check(&rt, rt.alloc(), args, image(&[0; 16640]), (0, &lines, ""))
 }
 
 /// The two faults that no arguments lead to.
@@ -609,40 +606,42 @@ const MAP_FILE: &str = "scrub_cli_test_of_a_map.map";
 #[test]
 fn a_file_is_read_as_a_map(rt: HostRuntime) -> Result<(), Fail> {
     fs::write(&rt, MAP_FILE, b"0 +\n0 1 x\n")?;
-    let words = format!(in rt.alloc(); "shardscrub sizes --map {MAP_FILE} missing.img")?;
-    check_process(&rt, &words, (2, "", "shardscrub: map refused: line 2\n"))?;
+    let args = format!(in rt.alloc(); "shardscrub sizes --map {MAP_FILE} missing.img")?;
+    check_process(&rt, &args, (2, "", "shardscrub: map refused: line 2\n"))?;
     fs::write(&rt, MAP_FILE, b"0 +\n0 1 +\n")?;
     let expected = "shardscrub: image cannot be opened: missing.img\n";
-    check_process(&rt, &words, (3, "", expected))?;
+    check_process(&rt, &args, (3, "", expected))?;
     fs::remove_file(&rt, MAP_FILE)?;
     let expected = format!(in rt.alloc(); "shardscrub: map cannot be opened: {MAP_FILE}\n")?;
-    check_process(&rt, &words, (3, "", &expected))
+    check_process(&rt, &args, (3, "", &expected))
 }
 
-/// The name of an image file. It has more than 64 bytes, as no clause says that a long name is passed on whole.
+/// The name of an image file. It has more than 64 bytes, as no clause says that a long name is passed on
+/// whole.
 const FILE: &str = "scrub_cli_test_of_an_image_file_whose_name_has_more_than_sixty_four_bytes.img";
 
-/// Runs the program on the arguments of a process, of which the first is its name, and compares the status, the output and
-/// the error stream.
+/// Runs the program on the arguments of a process, of which the first is its name, and compares the status,
+/// the output and the error stream.
 fn check_process<R: Files<File = File> + AllocGlobal + Abort + Threads + Wait + Sync>(
     rt: &R,
-    words: &str,
+    args: &str,
     wanted: (u8, &str, &str),
 ) -> Result<(), Fail> {
     let mut given = Vec::new(rt.alloc());
-    for word in words.split_whitespace() {
-        given.push(String::from_str(rt.alloc(), word)?)?;
+    for arg in args.split_whitespace() {
+        given.push(String::from_str(rt.alloc(), arg)?)?;
     }
     let (mut out, mut err) = (Vec::new(rt.alloc()), Vec::new(rt.alloc()));
     let code = run_process(rt, Ok(given), &mut out, &mut err);
     let (status, wanted_out, wanted_err) = wanted;
-    assert!(rt; code == ExitCode::from(status), "{words}");
-    assert_eq!(rt; str::from_utf8(&out)?, wanted_out, "{words}");
-    assert_eq!(rt; str::from_utf8(&err)?, wanted_err, "{words}");
+    assert!(rt; code == ExitCode::from(status), "{args}");
+    assert_eq!(rt; str::from_utf8(&out)?, wanted_out, "{args}");
+    assert_eq!(rt; str::from_utf8(&err)?, wanted_err, "{args}");
     Ok(())
 }
 
-/// Lists the items of an extent of a file with these bytes, and compares the status, the output and the error stream.
+/// Lists the items of an extent of a file with these bytes, and compares the status, the output and the error
+/// stream.
 fn check_file<R: Files<File = File> + AllocGlobal + Abort + Threads + Wait + Sync>(
     rt: &R,
     bytes: &[u8],
@@ -650,10 +649,10 @@ fn check_file<R: Files<File = File> + AllocGlobal + Abort + Threads + Wait + Syn
     wanted: (u8, &str, &str),
 ) -> Result<(), Fail> {
     fs::write(rt, FILE, bytes)?;
-    let words = format!(in rt.alloc();
+    let args = format!(in rt.alloc();
         "shardscrub items --page 64 --pages 4 --extents 3 --extent {extent} {FILE}"
     )?;
-    check_process(rt, &words, wanted)?;
+    check_process(rt, &args, wanted)?;
     fs::remove_file(rt, FILE)?;
     Ok(())
 }
@@ -672,7 +671,7 @@ fn a_file_is_read_as_an_image(rt: HostRuntime) -> Result<(), Fail> {
     ] {
         check_file(&rt, &disk[..length], extent, wanted)?;
     }
-    let words = "shardscrub items --page 64 --pages 4 --extents 3 --extent 1 missing.img";
+    let args = "shardscrub items --page 64 --pages 4 --extents 3 --extent 1 missing.img";
     let expected = "shardscrub: image cannot be opened: missing.img\n";
-    check_process(&rt, words, (3, "", expected))
+    check_process(&rt, args, (3, "", expected))
 }

@@ -77,21 +77,21 @@ impl<'a> Images for EmptyFile<'a> {
     }
 }
 
-/// Each of the 12 pages is read once, and the byte after them once. The report is that of a disk of zeros, except that all
-/// items are lost and all pages unreadable.
+/// Each of the 12 pages is read once, and the byte after them once. The report is that of a disk of zeros,
+/// except that all items are lost and all pages unreadable.
 #[test]
 fn an_empty_file_is_a_disk_of_lost_pages(rt: HostRuntime) -> Result<(), Fail> {
     let alloc = rt.alloc();
     let lost = ZEROS
         .replace(alloc, "pad", "lost")?
         .replace(alloc, r#""bad":[]"#, r#""bad":[0,1,2,3]"#)?;
-    let words: Vec<&str> = "scan --page 64 --pages 4 --extents 3 disk.img"
+    let args: Vec<&str> = "scan --page 64 --pages 4 --extents 3 disk.img"
         .split_whitespace()
         .collect(alloc)?;
     let reads = AtomicU64::new(0);
     let mut images = EmptyFile { reads: &reads };
     let (mut out, mut err) = (Vec::new(alloc), Vec::new(alloc));
-    let status = run(&rt, alloc, &words, &mut images, &mut out, &mut err);
+    let status = run(&rt, alloc, &args, &mut images, &mut out, &mut err);
     assert_eq!(rt; (status, str::from_utf8(&out)?), (1, lost.as_str()));
     assert!(rt; err.is_empty());
     assert_eq!(rt; reads.load(Ordering::SeqCst), 13);

@@ -1,7 +1,7 @@
-//! Whole runs of the commands on a disk and of `demo`: the published reports byte for byte, the index and the listings, and
-//! what is reported if a page is lost, the output fails or the arguments are wrong.
+//! Whole runs of the commands on a disk and of `demo`: the published reports byte for byte, the index and the
+//! listings, and what is reported if a page is lost, the output fails or the arguments are wrong.
 
-use super::{check, check_words, image, with_map};
+use super::{check, check_args, image, with_map};
 use crate::running::run;
 use scrub_disk::{MemDisk, PageSource};
 use scrub_fakes::published::{COLLISION, NO_SHARDS, ONE_SHARD, TWINS, ZEROS};
@@ -27,8 +27,8 @@ const LOCATORS: &str = "locators --page 64 --pages 4 --extents 3 disk.img";
 const SUPERBLOCKS: &str = "superblocks --page 64 --pages 4 --extents 3 disk.img";
 
 /// The locators of the disk with one shard: the line of the run and that of the shard.
-const TWO_LINES: &str =
-    "run 0 2 0 117 22222222-2222-2222-2222-222222222222 sound\nshard 00000000000000000000000000000001 1 0 3 11111111-1111-1111-1111-111111111111 sound\n";
+const TWO_LINES: &str = "run 0 2 0 117 22222222-2222-2222-2222-222222222222 sound\n\
+     shard 00000000000000000000000000000001 1 0 3 11111111-1111-1111-1111-111111111111 sound\n";
 
 /// The bytes of a disk of pages of 64 bytes, extent by extent.
 fn raw_bytes(alloc: Global, disk: &MemDisk) -> Result<Vec<u8>, Fail> {
@@ -44,8 +44,8 @@ fn raw_bytes(alloc: Global, disk: &MemDisk) -> Result<Vec<u8>, Fail> {
     Ok(raw)
 }
 
-/// The bytes of a disk of three extents: these frames in extent 1, a chunk with the payload of a run at the start of extent
-/// 2, and a superblock with these write pointers, which names the run.
+/// The bytes of a disk of three extents: these frames in extent 1, a chunk with the payload of a run at the
+/// start of extent 2, and a superblock with these write pointers, which names the run.
 fn disk_with_run(
     alloc: Global,
     frames: &[(u32, [u8; 16], &[u8])],
@@ -72,7 +72,7 @@ fn one_shard(alloc: Global) -> Result<(Vec<u8>, Vec<u8>), Fail> {
 #[test]
 fn the_bytes_of_a_shard(rt: HostRuntime) -> Result<(), Fail> {
     let (disk, _) = one_shard(rt.alloc())?;
-    for (words, wanted) in [
+    for (args, wanted) in [
         (
             "--id 00000000000000000000000000000001 disk.img",
             (0, "abc", ""),
@@ -90,8 +90,8 @@ fn the_bytes_of_a_shard(rt: HostRuntime) -> Result<(), Fail> {
             (1, "", "shardscrub: payload lost: 00\n"),
         ),
     ] {
-        let words = format!(in rt.alloc(); "shard {words}")?;
-        check(&rt, rt.alloc(), &words, image(&disk), wanted)?;
+        let args = format!(in rt.alloc(); "shard {args}")?;
+        check(&rt, rt.alloc(), &args, image(&disk), wanted)?;
     }
     Ok(())
 }
@@ -117,9 +117,9 @@ fn check_index(
     disk: &[u8],
     wanted: (u8, &[u8]),
 ) -> Result<(), Fail> {
-    let words: Vec<&str> = INDEX.split_whitespace().collect(alloc)?;
+    let args: Vec<&str> = INDEX.split_whitespace().collect(alloc)?;
     let (mut out, mut err) = (Vec::new(alloc), Vec::new(alloc));
-    let status = run(rt, alloc, &words, &mut image(disk), &mut out, &mut err);
+    let status = run(rt, alloc, &args, &mut image(disk), &mut out, &mut err);
     let (wanted_status, index) = wanted;
     assert!(rt; status == wanted_status && err.is_empty());
     assert!(rt; out.as_slice() == index);
@@ -128,8 +128,8 @@ fn check_index(
 
 #[test]
 fn the_demo_is_the_report_of_a_disk_with_one_shard(rt: HostRuntime) -> Result<(), Fail> {
-    for words in ["", "demo"] {
-        check(&rt, rt.alloc(), words, image(&[]), (0, ONE_SHARD, ""))?;
+    for args in ["", "demo"] {
+        check(&rt, rt.alloc(), args, image(&[]), (0, ONE_SHARD, ""))?;
     }
     Ok(())
 }
@@ -145,12 +145,12 @@ fn a_disk_with_one_shard_is_clean(rt: HostRuntime) -> Result<(), Fail> {
 #[test]
 fn the_number_of_workers_does_not_matter(rt: HostRuntime) -> Result<(), Fail> {
     let (disk, _) = one_shard(rt.alloc())?;
-    for words in [
+    for args in [
         "scan --workers 0 --page 64 --pages 4 --extents 3 disk.img",
         "scan --page 64 --pages 4 --extents 3 disk.img --workers=3",
         "scan --page 64 --workers 64 --pages 4 --extents 3 disk.img",
     ] {
-        check(&rt, rt.alloc(), words, image(&disk), (0, ONE_SHARD, ""))?;
+        check(&rt, rt.alloc(), args, image(&disk), (0, ONE_SHARD, ""))?;
     }
     Ok(())
 }
@@ -159,12 +159,12 @@ fn the_number_of_workers_does_not_matter(rt: HostRuntime) -> Result<(), Fail> {
 #[test]
 fn the_locators_of_a_disk_with_one_shard(rt: HostRuntime) -> Result<(), Fail> {
     let (disk, _) = one_shard(rt.alloc())?;
-    for words in [
+    for args in [
         LOCATORS,
         "locators --workers 0 --page 64 --pages 4 --extents 3 disk.img",
         "locators --page 64 --pages 4 --extents 3 disk.img --workers=3",
     ] {
-        check(&rt, rt.alloc(), words, image(&disk), (0, TWO_LINES, ""))?;
+        check(&rt, rt.alloc(), args, image(&disk), (0, TWO_LINES, ""))?;
     }
     Ok(())
 }
@@ -173,19 +173,24 @@ fn the_locators_of_a_disk_with_one_shard(rt: HostRuntime) -> Result<(), Fail> {
 #[test]
 fn the_manifest_of_a_disk_with_one_shard(rt: HostRuntime) -> Result<(), Fail> {
     let (disk, _) = one_shard(rt.alloc())?;
-    for (words, wanted) in [
+    for (args, wanted) in [
         (
             "manifest --page 64 --pages 4 --extents 3 disk.img",
             (
                 0,
-                "retired\nruns lost 0 hidden 0\nshard 00000000000000000000000000000001 00 3 ba7816bf8f01cfea414140de5dae2223b00361a396177a9cb410ff61f20015ad sound plain\ntotal 1 1\n",
+                "retired\nruns lost 0 hidden 0\n\
+                 shard 00000000000000000000000000000001 00 3 \
+                 ba7816bf8f01cfea414140de5dae2223b00361a396177a9cb410ff61f20015ad sound plain\ntotal 1 1\n",
             ),
         ),
         (
             "manifest --page 64 --pages 4 --extents 3 --workers 3 disk.img 1:0",
             (
                 1,
-                "retired\nruns lost 0 hidden 0\nshard 00000000000000000000000000000001 00 3 ba7816bf8f01cfea414140de5dae2223b00361a396177a9cb410ff61f20015ad unreadable 1 0 11111111-1111-1111-1111-111111111111 none\ntotal 1 1\n",
+                "retired\nruns lost 0 hidden 0\n\
+                 shard 00000000000000000000000000000001 00 3 \
+                 ba7816bf8f01cfea414140de5dae2223b00361a396177a9cb410ff61f20015ad unreadable 1 0 \
+                 11111111-1111-1111-1111-111111111111 none\ntotal 1 1\n",
             ),
         ),
         (
@@ -194,13 +199,14 @@ fn the_manifest_of_a_disk_with_one_shard(rt: HostRuntime) -> Result<(), Fail> {
         ),
     ] {
         let (status, lines) = wanted;
-        check(&rt, rt.alloc(), words, image(&disk), (status, lines, ""))?;
+        check(&rt, rt.alloc(), args, image(&disk), (status, lines, ""))?;
     }
     Ok(())
 }
 
-/// The chunk of the shard is in extent 1, and another one of the same payload is after the run in extent 2. With the pointer of
-/// extent 1 at 0 the shard's locator dangles and has that spare; with the pointer of extent 2 at 0 the run is lost.
+/// The chunk of the shard is in extent 1, and another one of the same payload is after the run in extent 2.
+/// With the pointer of extent 1 at 0 the shard's locator dangles and has that spare; with the pointer of
+/// extent 2 at 0 the run is lost.
 #[test]
 fn the_manifest_as_if_extents_had_been_reset(rt: HostRuntime) -> Result<(), Fail> {
     let alloc = rt.alloc();
@@ -211,10 +217,13 @@ fn the_manifest_as_if_extents_had_been_reset(rt: HostRuntime) -> Result<(), Fail
     put_chunk(alloc, &mut disk, 2, 155, TWOS, b"abc")?;
     put_superblock(alloc, &mut disk, &[41, 196], slice::from_ref(&run))?;
     let disk = raw_bytes(alloc, &disk)?;
-    let sound =
-        "retired\nruns lost 0 hidden 0\nshard 00000000000000000000000000000001 00 3 ba7816bf8f01cfea414140de5dae2223b00361a396177a9cb410ff61f20015ad sound plain\ntotal 1 1\n";
-    let spare =
-        "retired\nruns lost 0 hidden 0\nshard 00000000000000000000000000000001 00 3 ba7816bf8f01cfea414140de5dae2223b00361a396177a9cb410ff61f20015ad past_pointer 1 0 11111111-1111-1111-1111-111111111111 spare\ntotal 1 1\n";
+    let sound = "retired\nruns lost 0 hidden 0\n\
+         shard 00000000000000000000000000000001 00 3 \
+         ba7816bf8f01cfea414140de5dae2223b00361a396177a9cb410ff61f20015ad sound plain\ntotal 1 1\n";
+    let spare = "retired\nruns lost 0 hidden 0\n\
+         shard 00000000000000000000000000000001 00 3 \
+         ba7816bf8f01cfea414140de5dae2223b00361a396177a9cb410ff61f20015ad past_pointer 1 0 \
+         11111111-1111-1111-1111-111111111111 spare\ntotal 1 1\n";
     let lost = "retired\nruns lost 1 hidden 0\ntotal 0 0\n";
     for (resets, status, lines) in [
         ("", 0, sound),
@@ -223,8 +232,8 @@ fn the_manifest_as_if_extents_had_been_reset(rt: HostRuntime) -> Result<(), Fail
         (" --reset 2", 1, lost),
         (" --reset 2 --reset 1 --workers 2", 1, lost),
     ] {
-        let words = format!(in alloc; "manifest --page 64 --pages 4 --extents 3 disk.img{resets}")?;
-        check(&rt, alloc, &words, image(&disk), (status, lines, ""))?;
+        let args = format!(in alloc; "manifest --page 64 --pages 4 --extents 3 disk.img{resets}")?;
+        check(&rt, alloc, &args, image(&disk), (status, lines, ""))?;
     }
     Ok(())
 }
@@ -234,7 +243,7 @@ fn the_manifest_as_if_extents_had_been_reset(rt: HostRuntime) -> Result<(), Fail
 fn an_extent_that_can_not_be_reset_is_reported_before_pages_and_files(
     rt: HostRuntime,
 ) -> Result<(), Fail> {
-    for (words, status, line) in [
+    for (args, status, line) in [
         (
             "manifest --page 60 --pages 4 --extents 3 --reset 3 other.img 3:0",
             2,
@@ -261,23 +270,29 @@ fn an_extent_that_can_not_be_reset_is_reported_before_pages_and_files(
             "shardscrub: image cannot be opened: other.img\n",
         ),
     ] {
-        check(&rt, rt.alloc(), words, image(&[0; 769]), (status, "", line))?;
+        check(&rt, rt.alloc(), args, image(&[0; 769]), (status, "", line))?;
     }
     Ok(())
 }
 
-/// The numbers were counted by hand: a chunk of 41 bytes and an index run of 155 bytes, each with a sound locator.
+/// The numbers were counted by hand: a chunk of 41 bytes and an index run of 155 bytes, each with a sound
+/// locator.
 #[test]
 fn the_summary_of_a_disk_with_one_shard(rt: HostRuntime) -> Result<(), Fail> {
     let (disk, _) = one_shard(rt.alloc())?;
     let text =
-        "verdict sound\npage_bytes 64\nextent_pages 4\nextents 3\nretired_extents 0\nsuperblocks 1\nsuperblock_generation 1\nsuperblock_tie 0\nsuperblocks_damaged 0\nsuperblocks_stray 0\nunreadable_pages 0\nruns 1\nruns_lost 0\nshards 1\nshards_broken 0\nshards_doubtful 0\nlocators 2\nlocators_hidden 0\nlocators_dangling 0\nspares 0\nchunks 2\nchunk_bytes 196\nlive_chunks 2\nlive_bytes 196\norphans 0\norphan_bytes 0\ntwins 0\nshared_places 0\ntorn_items 0\nnoise_items 0\nlost_items 0\ntails 0\ntail_bytes 0\ncandidates 0\ncandidate_bytes 0\nchunks_to_move 0\n";
-    for words in [
+        "verdict sound\npage_bytes 64\nextent_pages 4\nextents 3\nretired_extents 0\nsuperblocks 1\n\
+         superblock_generation 1\nsuperblock_tie 0\nsuperblocks_damaged 0\nsuperblocks_stray 0\n\
+         unreadable_pages 0\nruns 1\nruns_lost 0\nshards 1\nshards_broken 0\nshards_doubtful 0\nlocators 2\n\
+         locators_hidden 0\nlocators_dangling 0\nspares 0\nchunks 2\nchunk_bytes 196\nlive_chunks 2\n\
+         live_bytes 196\norphans 0\norphan_bytes 0\ntwins 0\nshared_places 0\ntorn_items 0\nnoise_items 0\n\
+         lost_items 0\ntails 0\ntail_bytes 0\ncandidates 0\ncandidate_bytes 0\nchunks_to_move 0\n";
+    for args in [
         "summary --page 64 --pages 4 --extents 3 disk.img",
         "summary --page 64 --pages 4 --extents 3 --workers 0 disk.img",
         "summary disk.img",
     ] {
-        check(&rt, rt.alloc(), words, image(&disk), (0, text, ""))?;
+        check(&rt, rt.alloc(), args, image(&disk), (0, text, ""))?;
     }
     Ok(())
 }
@@ -285,12 +300,12 @@ fn the_summary_of_a_disk_with_one_shard(rt: HostRuntime) -> Result<(), Fail> {
 /// Without sizes the order of faults is: the map, the image, the sizes, and then extent and pages.
 #[test]
 fn the_first_of_several_faults_without_sizes(rt: HostRuntime) -> Result<(), Fail> {
-    for words in ["scan disk.img 9:9", "items --extent 3 disk.img 9:9"] {
+    for args in ["scan disk.img 9:9", "items --extent 3 disk.img 9:9"] {
         let line = "shardscrub: sizes not found: run shardscrub sizes\n";
-        check(&rt, rt.alloc(), words, image(&[0; 768]), (2, "", line))?;
+        check(&rt, rt.alloc(), args, image(&[0; 768]), (2, "", line))?;
     }
     let (disk, _) = one_shard(rt.alloc())?;
-    for (words, wanted) in [
+    for (args, wanted) in [
         (
             "scan other.img 9:9",
             (3, "shardscrub: image cannot be opened: other.img\n"),
@@ -305,7 +320,7 @@ fn the_first_of_several_faults_without_sizes(rt: HostRuntime) -> Result<(), Fail
         ),
     ] {
         let (status, line) = wanted;
-        check(&rt, rt.alloc(), words, image(&disk), (status, "", line))?;
+        check(&rt, rt.alloc(), args, image(&disk), (status, "", line))?;
     }
     Ok(())
 }
@@ -314,10 +329,11 @@ fn the_first_of_several_faults_without_sizes(rt: HostRuntime) -> Result<(), Fail
 #[test]
 fn the_locators_of_a_disk_with_an_unreadable_page(rt: HostRuntime) -> Result<(), Fail> {
     let (disk, _) = one_shard(rt.alloc())?;
-    for (words, lines) in [
+    for (args, lines) in [
         (
             "locators --page 64 --pages 4 --extents 3 disk.img 1:0",
-            "run 0 2 0 117 22222222-2222-2222-2222-222222222222 sound\nshard 00000000000000000000000000000001 1 0 3 11111111-1111-1111-1111-111111111111 unreadable\n",
+            "run 0 2 0 117 22222222-2222-2222-2222-222222222222 sound\n\
+             shard 00000000000000000000000000000001 1 0 3 11111111-1111-1111-1111-111111111111 unreadable\n",
         ),
         (
             "locators --page 64 --pages 4 --extents 3 disk.img 2:2",
@@ -325,24 +341,27 @@ fn the_locators_of_a_disk_with_an_unreadable_page(rt: HostRuntime) -> Result<(),
         ),
         ("locators --page 64 --pages 4 --extents 3 disk.img 0:0", ""),
     ] {
-        check(&rt, rt.alloc(), words, image(&disk), (1, lines, ""))?;
+        check(&rt, rt.alloc(), args, image(&disk), (1, lines, ""))?;
     }
     Ok(())
 }
 
-/// After the line of a locator that dangles comes the first chunk with its payload, even at its own place, and how many there are.
+/// After the line of a locator that dangles comes the first chunk with its payload, even at its own place,
+/// and how many there are.
 #[test]
 fn the_spares_of_a_locator_of_another_chunk(rt: HostRuntime) -> Result<(), Fail> {
     let alloc = rt.alloc();
     let payload = run_of(alloc, SHARD, &[abc_at(1, 0)])?;
     let frames: [(u32, [u8; 16], &[u8]); 2] = [(0, TWOS, b"abc"), (41, ONES, b"abc")];
     let disk = disk_with_run(alloc, &frames, &payload, [82, 155])?;
-    let lines =
-        "run 0 2 0 117 22222222-2222-2222-2222-222222222222 sound\nshard 00000000000000000000000000000001 1 0 3 11111111-1111-1111-1111-111111111111 wrong_uuid\nspare 1 0 3 22222222-2222-2222-2222-222222222222 2\n";
+    let lines = "run 0 2 0 117 22222222-2222-2222-2222-222222222222 sound\n\
+         shard 00000000000000000000000000000001 1 0 3 11111111-1111-1111-1111-111111111111 wrong_uuid\n\
+         spare 1 0 3 22222222-2222-2222-2222-222222222222 2\n";
     check(&rt, alloc, LOCATORS, image(&disk), (1, lines, ""))
 }
 
-/// Only a chunk that nothing names, in an extent that may be reclaimed, has the payload of a locator past a pointer.
+/// Only a chunk that nothing names, in an extent that may be reclaimed, has the payload of a locator past a
+/// pointer.
 #[test]
 fn a_spare_that_a_reset_might_take(rt: HostRuntime) -> Result<(), Fail> {
     let alloc = rt.alloc();
@@ -350,7 +369,7 @@ fn a_spare_that_a_reset_might_take(rt: HostRuntime) -> Result<(), Fail> {
     let disk = disk_with_run(alloc, &[(0, ONES, b"abc")], &payload, [41, 155])?;
     let line =
         "spare 1 0 3 11111111-1111-1111-1111-111111111111 shard 00000000000000000000000000000001 41";
-    let mut words = vec![in alloc;
+    let mut args = vec![in alloc;
         "reclaimable",
         "--page=64",
         "--pages=4",
@@ -358,17 +377,17 @@ fn a_spare_that_a_reset_might_take(rt: HostRuntime) -> Result<(), Fail> {
         "disk.img",
     ]?;
     let doubt = format!(in alloc; "doubt {line}\n")?;
-    check_words(&rt, alloc, &words, image(&disk), (1, &doubt, ""))?;
-    words.extend_from_slice(&["--accept", line])?;
+    check_args(&rt, alloc, &args, image(&disk), (1, &doubt, ""))?;
+    args.extend_from_slice(&["--accept", line])?;
     let accepted = format!(in alloc; "accepted {line}\nreclaim 1 41\nlast-room 1 41 215\n")?;
-    check_words(&rt, alloc, &words, image(&disk), (0, &accepted, ""))
+    check_args(&rt, alloc, &args, image(&disk), (0, &accepted, ""))
 }
 
 /// One superblock record on pages 0 and 1 of extent 0.
 #[test]
 fn the_superblocks_and_the_sizes_of_a_disk_with_one_shard(rt: HostRuntime) -> Result<(), Fail> {
     let (disk, _) = one_shard(rt.alloc())?;
-    for (words, status, lines) in [
+    for (args, status, lines) in [
         (SUPERBLOCKS, 0, "record 0 SSB1 1 counts\n"),
         (
             "superblocks --page 64 --pages 4 --extents 3 disk.img 0:3",
@@ -382,19 +401,19 @@ fn the_superblocks_and_the_sizes_of_a_disk_with_one_shard(rt: HostRuntime) -> Re
         ),
         ("sizes disk.img", 0, "0 SSB1 1 64 4 3\n"),
     ] {
-        check(&rt, rt.alloc(), words, image(&disk), (status, lines, ""))?;
+        check(&rt, rt.alloc(), args, image(&disk), (status, lines, ""))?;
     }
     let map = b"0 +\n0 600 +\n";
-    let words = "sizes --map disk.map disk.img";
+    let args = "sizes --map disk.map disk.img";
     let lines = "0 SSB1 1 64 4 3\nlost 512 1024\n";
-    check(&rt, rt.alloc(), words, with_map(&disk, map), (1, lines, ""))
+    check(&rt, rt.alloc(), args, with_map(&disk, map), (1, lines, ""))
 }
 
 /// There is nothing to reclaim. A lost page of extent 0 is a doubt that can't be accepted.
 #[test]
 fn what_may_be_reclaimed_on_a_disk_with_one_shard(rt: HostRuntime) -> Result<(), Fail> {
     let (disk, _) = one_shard(rt.alloc())?;
-    for (words, status, lines) in [
+    for (args, status, lines) in [
         ("", 0, ""),
         (" 0:3", 1, "doubt superblock-lost 3\n"),
         (" --accept=tail-lost 0:3", 1, "doubt superblock-lost 3\n"),
@@ -403,10 +422,10 @@ fn what_may_be_reclaimed_on_a_disk_with_one_shard(rt: HostRuntime) -> Result<(),
         (" 1:1 --accept tail", 1, "doubt tail-lost 1 1 1\n"),
         (" 1:1 --accept tail-lost", 0, "accepted tail-lost 1 1 1\n"),
     ] {
-        let words = format!(in rt.alloc();
-            "reclaimable --page 64 --pages 4 --extents 3 disk.img{words}"
+        let args = format!(in rt.alloc();
+            "reclaimable --page 64 --pages 4 --extents 3 disk.img{args}"
         )?;
-        check(&rt, rt.alloc(), &words, image(&disk), (status, lines, ""))?;
+        check(&rt, rt.alloc(), &args, image(&disk), (status, lines, ""))?;
     }
     Ok(())
 }
@@ -429,8 +448,8 @@ fn a_chunk_at_which_no_item_begins_is_hidden(rt: HostRuntime) -> Result<(), Fail
     ];
     let disk = disk_with_run(rt.alloc(), &frames, &payload, [105, 155])?;
     check(&rt, rt.alloc(), SCAN, image(&disk), (1, COLLISION, ""))?;
-    let lines =
-        "run 0 2 0 117 22222222-2222-2222-2222-222222222222 sound\nshard 00000000000000000000000000000001 1 64 3 11111111-1111-1111-1111-111111111111 hidden\n";
+    let lines = "run 0 2 0 117 22222222-2222-2222-2222-222222222222 sound\n\
+         shard 00000000000000000000000000000001 1 64 3 11111111-1111-1111-1111-111111111111 hidden\n";
     check(&rt, rt.alloc(), LOCATORS, image(&disk), (1, lines, ""))?;
     check_index(&rt, rt.alloc(), &disk, (1, &payload))
 }
@@ -441,8 +460,9 @@ fn twins_and_a_shared_place_are_reported(rt: HostRuntime) -> Result<(), Fail> {
     let frames = [(0, ONES, b"abc".as_slice()), (41, ONES, b"abc")];
     let disk = disk_with_run(rt.alloc(), &frames, &payload, [82, 232])?;
     check(&rt, rt.alloc(), SCAN, image(&disk), (1, TWINS, ""))?;
-    let lines =
-        "run 0 2 0 194 22222222-2222-2222-2222-222222222222 sound\nshard 00000000000000000000000000000001 1 41 3 11111111-1111-1111-1111-111111111111 sound\nshard 00000000000000000000000000000002 1 41 3 11111111-1111-1111-1111-111111111111 sound\n";
+    let lines = "run 0 2 0 194 22222222-2222-2222-2222-222222222222 sound\n\
+         shard 00000000000000000000000000000001 1 41 3 11111111-1111-1111-1111-111111111111 sound\n\
+         shard 00000000000000000000000000000002 1 41 3 11111111-1111-1111-1111-111111111111 sound\n";
     check(&rt, rt.alloc(), LOCATORS, image(&disk), (1, lines, ""))?;
     check_index(&rt, rt.alloc(), &disk, (1, &payload))
 }
@@ -487,7 +507,7 @@ fn an_output_with_just_enough_room_gets_the_whole_answer(rt: HostRuntime) -> Res
 /// Each case also has the faults of all cases below it.
 #[test]
 fn the_first_of_several_faults_is_reported(rt: HostRuntime) -> Result<(), Fail> {
-    for (words, status, expected) in [
+    for (args, status, expected) in [
         (
             "scan --page 60 --pages 4 --extents 3 other.img 1:x 3:0",
             2,
@@ -517,7 +537,7 @@ fn the_first_of_several_faults_is_reported(rt: HostRuntime) -> Result<(), Fail> 
         check(
             &rt,
             rt.alloc(),
-            words,
+            args,
             image(&[0; 769]),
             (status, "", expected),
         )?;

@@ -8,3 +8,6 @@ returns-clause-answer g c =
     IfOk-weaker c.disk_answer.result _ _
     (λ r answer. record { image = image_of c.in_ok-disk.disk; disk = c.in_ok-disk.ensures; answer = answer })
     c.disk_answer.ensures.answer
+
+pub returns-clause-workers : goal.returns-clause-workers
+returns-clause-workers g c = IfOk-weaker c.disk_answer.result _ _ (λ r takings. takings.members) c.disk_answer.ensures.takings

@@ -12,51 +12,51 @@ use Rattle.scrub_cli.proofs.commands.items.items.Goals as goal
 -- no sizes were found
 pub returns-in_err-geometry : goal.returns-in_err-geometry
 returns-in_err-geometry g c =
-    let words = c.args.words.now in
+    let args = c.args.args.now in
     let p = err_from_is_err_and c.from_residual.result c.from_residual.ensures.1 in
     rw (p.1, p.2)
-    (items_geometry_fault (g.I.Images.known c.args.images.now words.image.name.now) (g.I.Images.known_map c.args.images.now) words
+    (items_geometry_fault (g.I.Images.known c.args.images.now args.image.name.now) (g.I.Images.known_map c.args.images.now) args
     c.in_err-geometry.field-0.0 c.in_err-geometry.ensures.geometry)
 
 -- the disk has no such extent
-pub returns-then-words-geometry : goal.returns-then-words-geometry
-returns-then-words-geometry g c =
-    (c.in_ok-geometry.geometry, c.in_ok-geometry.ensures.geometry, omega (arith, c.if-words-geometry.true))
+pub returns-then-args-geometry : goal.returns-then-args-geometry
+returns-then-args-geometry g c =
+    (c.in_ok-geometry.geometry, c.in_ok-geometry.ensures.geometry, omega (arith, c.if-args-geometry.true))
 
 -- the pointer is past the end of the extent
 pub returns-then-pointer-extent_bytes : goal.returns-then-pointer-extent_bytes
 returns-then-pointer-extent_bytes g c =
-    pointer_fault (g.I.Images.known c.args.images.now c.args.words.now.image.name.now) (g.I.Images.known_map c.args.images.now)
-    c.args.words.now c.in_ok-geometry.geometry
+    pointer_fault (g.I.Images.known c.args.images.now c.args.args.now.image.name.now) (g.I.Images.known_map c.args.images.now)
+    c.args.args.now c.in_ok-geometry.geometry
     c.unwrap_or-pointer.result c.extent_bytes.result c.extent_bytes-2.result c.in_ok-geometry.ensures.geometry
-    (omega (arith, c.if-words-geometry.false))
+    (omega (arith, c.if-args-geometry.false))
     c.unwrap_or-pointer.ensures c.extent_bytes.ensures c.extent_bytes-2.ensures c.if-pointer-extent_bytes.true
 
 -- no disk was loaded
 pub returns-in_err-disk : goal.returns-in_err-disk
 returns-in_err-disk g c =
-    let words = c.args.words.now in
+    let args = c.args.args.now in
     let disk = c.in_ok-geometry.geometry in
-    let at = placed (g.I.Images.known c.args.images.now words.image.name.now) (g.I.Images.known_map c.args.images.now) words disk c.unwrap_or-pointer.result c.extent_bytes.result c.extent_bytes-2.result c.in_ok-geometry.ensures.geometry
-    (omega (arith, c.if-words-geometry.false)) c.unwrap_or-pointer.ensures c.extent_bytes.ensures c.extent_bytes-2.ensures
+    let at = placed (g.I.Images.known c.args.images.now args.image.name.now) (g.I.Images.known_map c.args.images.now) args disk c.unwrap_or-pointer.result c.extent_bytes.result c.extent_bytes-2.result c.in_ok-geometry.ensures.geometry
+    (omega (arith, c.if-args-geometry.false)) c.unwrap_or-pointer.ensures c.extent_bytes.ensures c.extent_bytes-2.ensures
     (omega (arith, c.if-pointer-extent_bytes.false)) in
     let p = err_from_is_err_and c.from_residual-in_err-disk.result c.from_residual-in_err-disk.ensures.1 in
     rw (p.1, p.2)
-    (items_disk_fault (g.I.Images.known c.args.images.now words.image.name.now) (g.I.Images.known_map c.args.images.now)
-    words disk c.in_err-disk.field-0.0 at.0
+    (items_disk_fault (g.I.Images.known c.args.images.now args.image.name.now) (g.I.Images.known_map c.args.images.now)
+    args disk c.in_err-disk.field-0.0 at.0
     (rw (c.geometry_of.ensures.same_images, c.geometry_of.ensures.same_maps) at c.in_err-disk.ensures))
 
 pub returns : goal.returns
 returns g c =
-    let words = c.args.words.now in
+    let args = c.args.args.now in
     let disk = c.in_ok-geometry.geometry in
-    let at = placed (g.I.Images.known c.args.images.now words.image.name.now) (g.I.Images.known_map c.args.images.now) words disk c.unwrap_or-pointer.result c.extent_bytes.result c.extent_bytes-2.result c.in_ok-geometry.ensures.geometry
-    (omega (arith, c.if-words-geometry.false)) c.unwrap_or-pointer.ensures c.extent_bytes.ensures c.extent_bytes-2.ensures
+    let at = placed (g.I.Images.known c.args.images.now args.image.name.now) (g.I.Images.known_map c.args.images.now) args disk c.unwrap_or-pointer.result c.extent_bytes.result c.extent_bytes-2.result c.in_ok-geometry.ensures.geometry
+    (omega (arith, c.if-args-geometry.false)) c.unwrap_or-pointer.ensures c.extent_bytes.ensures c.extent_bytes-2.ensures
     (omega (arith, c.if-pointer-extent_bytes.false)) in
-    let known = g.I.Images.known c.args.images.now words.image.name.now in
+    let known = g.I.Images.known c.args.images.now args.image.name.now in
     let answer = c.in_ok-listing.field-0 in
     let tiling = c.in_ok-tiling.tiling in
-    items_answer known (g.I.Images.known_map c.args.images.now) words disk (image_of c.in_ok-disk.disk)
+    items_answer known (g.I.Images.known_map c.args.images.now) args disk (image_of c.in_ok-disk.disk)
     c.unwrap_or-pointer.result answer.text.items answer.outcome at.0
     (rw (c.geometry_of.ensures.same_images, c.geometry_of.ensures.same_maps) at c.in_ok-disk.ensures) at.1
     (record {

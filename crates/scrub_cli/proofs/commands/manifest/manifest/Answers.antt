@@ -2,8 +2,8 @@
 use Rattle.std.proofs.Common.{ap, sym, ◌∙◌}
 use Rattle.std.proofs.lemmas.Result.{err_from_is_err_and}
 use Rattle.scrub_disk.specs.Parted.{image_of}
-use Rattle.scrub_cli.specs.declared.words.ManifestWords.{ManifestWords}
-use Rattle.scrub_cli.specs.Known.{KnownMaps, KnownRaw}
+use Rattle.scrub_cli.specs.declared.args.ManifestArgs.{ManifestArgs}
+use Rattle.scrub_cli.specs.KnownFiles.{KnownMaps, KnownRaw}
 use Rattle.scrub_cli.specs.Manifest.{IsManifestDisk, MayBeReset, may_all_be_reset}
 use Rattle.scrub_cli.proofs.ManifestAnswers.{manifest_disk_fault, manifest_geometry_fault}
 use Rattle.scrub_cli.proofs.commands.manifest.manifest.Given.{Over}
@@ -12,10 +12,10 @@ use Rattle.scrub_cli.proofs.commands.manifest.manifest.Goals as goal
 -- no sizes were found
 pub returns-in_err-geometry-clause-answer : goal.returns-in_err-geometry-clause-answer
 returns-in_err-geometry-clause-answer g c =
-    let words = c.args.words.now in
+    let args = c.args.args.now in
     let p = err_from_is_err_and c.from_residual.result c.from_residual.ensures.1 in
     rw (p.1, p.2)
-    (manifest_geometry_fault (g.I.Images.known c.args.images.now words.scan.image.name.now) (g.I.Images.known_map c.args.images.now) words
+    (manifest_geometry_fault (g.I.Images.known c.args.images.now args.scan.image.name.now) (g.I.Images.known_map c.args.images.now) args
     c.in_err-geometry.field-0.0 c.in_err-geometry.ensures.geometry)
 
 -- an extent can't be reset
@@ -30,31 +30,31 @@ returns-then-not-may_all_be_reset-clause-answer g c = (
 -- no disk was loaded
 pub returns-in_err-disk-clause-answer : goal.returns-in_err-disk-clause-answer
 returns-in_err-disk-clause-answer g c =
-    let words = c.args.words.now in
-    let known = g.I.Images.known c.args.images.now words.scan.image.name.now in
+    let args = c.args.args.now in
+    let known = g.I.Images.known c.args.images.now args.scan.image.name.now in
     let maps = g.I.Images.known_map c.args.images.now in
     let sizes = c.in_ok-geometry.geometry in
-    let places : MayBeReset known maps words sizes = record {
+    let places : MayBeReset known maps args sizes = record {
       sizes = c.in_ok-geometry.ensures.geometry;
       in_disk = ap (may_all_be_reset sizes) (sym c.deref.ensures.value) ∙ sym c.may_all_be_reset.ensures ∙ c.if-not-may_all_be_reset.false;
     } in
     let p = err_from_is_err_and c.from_residual-in_err-disk.result c.from_residual-in_err-disk.ensures.1 in
     rw (p.1, p.2)
-    (manifest_disk_fault known maps words sizes c.in_err-disk.field-0.0 places
+    (manifest_disk_fault known maps args sizes c.in_err-disk.field-0.0 places
     (rw (c.geometry_of.ensures.same_images, c.geometry_of.ensures.same_maps) at c.in_err-disk.ensures))
 
 -- the disk that was loaded is listed
 module _ (g : Over) (c : goal.After-drop-disk-3 g) where
-  abbrev words_of : ManifestWords
-  words_of = c.args.words.now
+  abbrev args_of : ManifestArgs
+  args_of = c.args.args.now
 
   abbrev known_of : KnownRaw
-  known_of = g.I.Images.known c.args.images.now c.args.words.now.scan.image.name.now
+  known_of = g.I.Images.known c.args.images.now c.args.args.now.scan.image.name.now
 
   abbrev maps_of : KnownMaps
   maps_of = g.I.Images.known_map c.args.images.now
 
-  disk_is : IsManifestDisk known_of maps_of words_of (image_of c.in_ok-disk.disk)
+  disk_is : IsManifestDisk known_of maps_of args_of (image_of c.in_ok-disk.disk)
   disk_is = record {
     geometry = c.in_ok-geometry.geometry;
     places = record {
@@ -78,5 +78,5 @@ returns-clause-takings g c = record {
   image = image_of c.in_ok-disk.disk;
   disk = disk_is g c;
   listed = rw c.deref-2.ensures.value at c.in_ok-manifest_listing.ensures.answer;
-  partition = c.in_ok-manifest_listing.ensures.partition;
+  taken = c.in_ok-manifest_listing.ensures.takings;
 }

@@ -14,5 +14,5 @@ returns-clause-takings g c = record {
   image = image_of c.in_ok-disk.disk;
   disk = c.in_ok-disk.ensures;
   answered = c.in_ok-disk_answer.ensures.answer;
-  partition = c.in_ok-disk_answer.ensures.partition;
+  taken = c.in_ok-disk_answer.ensures.takings;
 }

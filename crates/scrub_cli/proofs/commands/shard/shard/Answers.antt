@@ -2,8 +2,8 @@
 use Rattle.std.proofs.Common.{refl}
 use Rattle.std.proofs.lemmas.Result.{err_from_is_err_and}
 use Rattle.scrub_disk.specs.Parted.{image_of}
-use Rattle.scrub_cli.specs.declared.words.ShardWords.{ShardWords}
-use Rattle.scrub_cli.specs.Known.{KnownMaps, KnownRaw}
+use Rattle.scrub_cli.specs.declared.args.ShardArgs.{ShardArgs}
+use Rattle.scrub_cli.specs.KnownFiles.{KnownMaps, KnownRaw}
 use Rattle.scrub_cli.specs.Shard.{IsNamed, IsShardRead}
 use Rattle.scrub_cli.proofs.ShardAnswers.{lost_fault, shard_disk_fault, shard_geometry_fault}
 use Rattle.scrub_cli.proofs.commands.shard.shard.Given.{Over}
@@ -12,10 +12,10 @@ use Rattle.scrub_cli.proofs.commands.shard.shard.Goals as goal
 -- no sizes were found
 pub returns-in_err-geometry-clause-answer : goal.returns-in_err-geometry-clause-answer
 returns-in_err-geometry-clause-answer g c =
-    let words = c.args.words.now in
+    let args = c.args.args.now in
     let p = err_from_is_err_and c.from_residual.result c.from_residual.ensures.1 in
     rw (p.1, p.2)
-    (shard_geometry_fault (g.I.Images.known c.args.images.now words.scan.image.name.now) (g.I.Images.known_map c.args.images.now) words
+    (shard_geometry_fault (g.I.Images.known c.args.images.now args.scan.image.name.now) (g.I.Images.known_map c.args.images.now) args
     c.in_err-geometry.field-0.0 c.in_err-geometry.ensures.geometry)
 
 -- the argument is no identifier
@@ -26,23 +26,23 @@ returns-in_default-clause-answer g c =
 -- no disk was loaded
 pub returns-in_err-disk-clause-answer : goal.returns-in_err-disk-clause-answer
 returns-in_err-disk-clause-answer g c =
-    let words = c.args.words.now in
-    let known = g.I.Images.known c.args.images.now words.scan.image.name.now in
+    let args = c.args.args.now in
+    let known = g.I.Images.known c.args.images.now args.scan.image.name.now in
     let maps = g.I.Images.known_map c.args.images.now in
     let sizes = c.in_ok-geometry.geometry in
-    let named : IsNamed known maps words sizes c.in-Some.id = record { sizes = c.in_ok-geometry.ensures.geometry; id_is = c.in-Some.ensures } in
+    let named : IsNamed known maps args sizes c.in-Some.id = record { sizes = c.in_ok-geometry.ensures.geometry; id_is = c.in-Some.ensures } in
     let p = err_from_is_err_and c.from_residual-in_err-disk.result c.from_residual-in_err-disk.ensures.1 in
     rw (p.1, p.2)
-    (shard_disk_fault known maps words sizes c.in-Some.id c.in_err-disk.field-0.0 named
+    (shard_disk_fault known maps args sizes c.in-Some.id c.in_err-disk.field-0.0 named
     (rw (c.geometry_of.ensures.same_images, c.geometry_of.ensures.same_maps) at c.in_err-disk.ensures))
 
 -- there are no bytes of the shard
 pub returns-in_err-bytes_of-clause-answer : goal.returns-in_err-bytes_of-clause-answer
 returns-in_err-bytes_of-clause-answer g c =
-    let words = c.args.words.now in
-    let known = g.I.Images.known c.args.images.now words.scan.image.name.now in
+    let args = c.args.args.now in
+    let known = g.I.Images.known c.args.images.now args.scan.image.name.now in
     let maps = g.I.Images.known_map c.args.images.now in
-    let is_read : IsShardRead known maps words (image_of c.in_ok-disk.disk) c.in_ok-found.found = record {
+    let is_read : IsShardRead known maps args (image_of c.in_ok-disk.disk) c.in_ok-found.found = record {
       geometry = c.in_ok-geometry.geometry;
       id = c.in-Some.id;
       named = record { sizes = c.in_ok-geometry.ensures.geometry; id_is = c.in-Some.ensures };
@@ -51,21 +51,21 @@ returns-in_err-bytes_of-clause-answer g c =
     } in
     let p = err_from_is_err_and c.from_residual-in_err-bytes_of.result c.from_residual-in_err-bytes_of.ensures.1 in
     rw (p.1, p.2)
-    (lost_fault known maps words (image_of c.in_ok-disk.disk) c.in_ok-found.found c.in_err-bytes_of.field-0.0 is_read
+    (lost_fault known maps args (image_of c.in_ok-disk.disk) c.in_ok-found.found c.in_err-bytes_of.field-0.0 is_read
     c.in_err-bytes_of.ensures)
 
 -- the bytes of the shard are written
 module _ (g : Over) (c : goal.After-drop-disk-3 g) where
-  abbrev words_of : ShardWords
-  words_of = c.args.words.now
+  abbrev args_of : ShardArgs
+  args_of = c.args.args.now
 
   abbrev known_of : KnownRaw
-  known_of = g.I.Images.known c.args.images.now c.args.words.now.scan.image.name.now
+  known_of = g.I.Images.known c.args.images.now c.args.args.now.scan.image.name.now
 
   abbrev maps_of : KnownMaps
   maps_of = g.I.Images.known_map c.args.images.now
 
-  is_read : IsShardRead known_of maps_of words_of (image_of c.in_ok-disk.disk) c.in_ok-found.found
+  is_read : IsShardRead known_of maps_of args_of (image_of c.in_ok-disk.disk) c.in_ok-found.found
   is_read = record {
     geometry = c.in_ok-geometry.geometry;
     id = c.in-Some.id;
@@ -88,5 +88,5 @@ returns-clause-takings g c = record {
   answer = c.in_ok-found.found;
   is_read = is_read g c;
   written = c.in_ok-bytes_of.ensures;
-  partition = c.in_ok-found.ensures.partition;
+  taken = c.in_ok-found.ensures.takings;
 }

@@ -1,0 +1,18 @@
+-- The whole answer was written, or the fault of the output is reported.
+use Rattle.std.proofs.Common.{inl, inr}
+use Rattle.scrub_cli.proofs.running.write_answer.Goals as goal
+
+pub returns-in-Ok : goal.returns-in-Ok
+returns-in-Ok g c = inl (record {
+  status = c.status.ensures;
+  whole = rw c.deref.ensures.value at c.in-Ok.ensures.whole;
+  warns = c.warn.ensures;
+})
+
+pub returns-in-Err : goal.returns-in-Err
+returns-in-Err g c = inr (record {
+  count = c.in-Err.fault.written;
+  short = rw c.deref.ensures.value at c.in-Err.ensures.short;
+  part = rw c.deref.ensures.value at c.in-Err.ensures.part;
+  reported = c.end.ensures;
+})

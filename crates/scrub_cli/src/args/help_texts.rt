@@ -1,0 +1,474 @@
+//! The texts of the help: of the program, of each command and of each argument. For the commands and options
+//! themselves see `command`.
+
+pub(crate) const ABOUT: &str =
+    "Checks a raw image of a storage node's disk, and reports what is on it and which space can be reclaimed";
+
+pub(crate) const AFTER_HELP: &str = "Without a command, demo runs.
+
+Numbers are decimal. Option values may start with '+'; EXTENT:PAGE values may not.
+
+Exit status:
+  0  clean
+  1  findings, or a shard that cannot be had
+  2  the arguments or the map are invalid, or no sizes are found
+  3  the image or the map cannot be opened, the image is too long, or the output failed
+  4  out of memory
+
+Examples:
+  shardscrub summary examples/one-shard.img
+  shardscrub items --extent 1 --pointer 41 examples/one-shard.img
+  shardscrub reclaimable --page 64 --pages 4 --extents 3 examples/one-shard.img";
+
+pub(crate) const SCAN_ABOUT: &str =
+    "Prints a report of the whole disk: what may be reclaimed, what is where, and what is wrong";
+
+pub(crate) const SCAN_AFTER_HELP: &str =
+    "The report is one line of JSON. Its offsets are in bytes from the start of an extent. A locator is a
+reference to a chunk, held by a shard or by the superblock. It is sound if a whole chunk with its UUID,
+length and digest is there, and an item begins there. The keys of the report:
+
+  candidates  the extents that can be reclaimed, judging by this report alone, the greatest gain first,
+              with the bytes to gain and the offsets of the chunks to move first. Before you act, run
+              the command reclaimable: it also lists doubts that keep no extent out of this list,
+              like a damaged superblock or the tail of another extent
+  extents     each extent from 1 on except the retired ones: its write pointer; the items below it, as
+              the command items lists them; bad, its unreadable pages; live, the bytes of chunks
+              that sound locators name; tail, how many readable bytes from the pointer on aren't 0;
+              tail_at, the first of them
+  orphans     chunks that no sound locator names. Most are left from rewriting and deleting, but
+              don't treat one as garbage unless reclaimable names its extent
+  twins       chunks with the UUID of another chunk, as an interrupted move leaves them
+  shards      how many shards are known
+  doubtful    shards that a lost index run may have changed or deleted: what is known of them may be
+              old
+  geometry    the sizes of the disk, as they were given or found
+  retired     the extents that the superblock retired, in rising order. They aren't read: extents
+              doesn't list them, and a locator into one dangles
+  clean       false if any of the following is found
+
+The disk is not clean, and the status is 1, if one of these keys reports a fault:
+
+  super       page is null: there is no superblock, so the write pointers aren't known; or tie is
+              true: two superblocks or more have the greatest generation; or bad isn't empty: pages
+              of extent 0 are unreadable, and one of them may have held a newer superblock
+  runs        a state isn't read: that index run is lost, and with it what no other run has
+  dangling    not empty: locators without their chunk; reason says why
+  broken      not empty: shards with such a locator: at least one of their chunks can't be read or
+              verified
+  hidden      not empty: locators whose chunk is whole, but at which no item begins. The chunk can be
+              read, and you would lose it if you moved chunks by the items alone
+  shared      not empty: places of chunks that two or more sound locators point to. If you move such
+              a chunk, change all of them
+  extents     bad isn't empty, or an item is torn, noise or lost
+
+If super or runs reports a fault, no extent is a candidate.
+
+Exit status: 0 if clean is true, 1 if it is false; for the others see shardscrub --help.
+
+Example:
+  shardscrub scan examples/one-shard.img";
+
+pub(crate) const SHARD_ABOUT: &str =
+    "Writes the bytes of one shard: the payloads of its chunks, one directly after another";
+
+pub(crate) const SHARD_AFTER_HELP: &str =
+    "The chunks are those of the shard's newest entry in the index runs that can be read, in the order of
+the entry. A chunk whose locator is sound or hidden is read at its place. If the locator dangles, its
+first spare is read, as the command locators prints it.
+
+Nothing is written unless there is a payload for each locator. Then the error stream has one of these
+lines, and the status is 1:
+  no such shard           the shard was deleted, or no index run that can be read has it
+  payload lost: NUMBER    the first locator that dangles without a spare, numbered as the command
+                          manifest does
+
+A lost index run may have a newer entry of the shard, as the report says under doubtful. Then the bytes
+are written, the error stream has the line a newer entry may be lost, and the status is 1. Status 0
+doesn't say that the superblock is the last one: behind a lost superblock the bytes may be older ones.
+
+Exit status:
+  0  all bytes are written, whatever else is wrong with the disk
+  1  a newer entry may be lost; or nothing is written, as there is no such shard or a payload is lost
+  2  the arguments or the map are invalid, or no sizes are found
+  3  the image or the map cannot be opened, the image is too long, or the output failed: it may have
+     a part of the bytes
+  4  out of memory
+
+Example:
+  shardscrub shard --id 00000000000000000000000000000001 examples/one-shard.img > restored";
+
+pub(crate) const INDEX_ABOUT: &str =
+    "Prints the index that can be recovered from the disk, in binary, to be written to a file";
+
+pub(crate) const INDEX_AFTER_HELP: &str =
+    "The index is one index run, with nothing around it. It has each known shard that isn't broken, with
+its locators from the newest readable run, hidden ones included. Deleted shards aren't in it.
+
+In the report of scan, broken lists the shards that the index leaves out, and doubtful those in it
+that a lost run may have changed or deleted.
+
+It isn't a repair. If you write it back as the only run, two things are forgotten: every broken shard,
+and anything recorded only in a lost run. The next scan can then be clean, and offer their extents for
+reclamation. So keep the old runs in the superblock, listed after the index, until all of that has been
+restored or given up on purpose. Without a superblock the index is a valid run of no entries; only the
+status shows that.
+
+Exit status, the same as that of scan for this image:
+  0  clean
+  1  findings; the index is whole all the same
+  2  the arguments or the map are invalid
+  3  the image or the map cannot be opened, the image is too long, or the output failed
+  4  out of memory
+
+Example, for a disk with 3 extents of 4 pages of 64 bytes:
+  shardscrub index --page 64 --pages 4 --extents 3 examples/one-shard.img > recovered.run";
+
+pub(crate) const LOCATORS_ABOUT: &str =
+    "Lists the named locators: who names which chunk, and the status of each locator";
+
+pub(crate) const LOCATORS_AFTER_HELP: &str =
+    "A locator is a reference to a chunk, held by a shard or by the superblock. Each has one line, whether
+it is sound or not:
+
+  OWNER EXTENT OFFSET LENGTH UUID STATUS
+
+  OWNER   who names the chunk: run and the number of an index run, from 0 in the order of the
+          superblock; or shard and the 32 hexadecimal digits of its identifier
+  EXTENT  the extent of the chunk
+  OFFSET  where the chunk begins, in bytes from the start of the extent
+  LENGTH  the bytes of its payload
+  UUID    that of the chunk
+  STATUS  sound, or hidden, or why the locator dangles: out_of_range, retired, past_pointer,
+          unreadable, no_frame, wrong_uuid, wrong_length or wrong_digest
+
+A spare of a locator that dangles is a chunk with the length and the digest that the locator has, in
+any extent that is in use and under any UUID. A locator of LENGTH 0 has none. If a locator has spares,
+one more line comes directly after its own:
+
+  spare EXTENT OFFSET LENGTH UUID COUNT
+          the place, length and UUID of the first spare by extent and offset, and how many there are
+
+The index runs come first, in the order of the superblock. The known shards follow, by rising
+identifier, each with its locators in their order. Locators recorded only in a lost run aren't listed.
+
+To find out who names a chunk, look for its extent and offset: an owner is two words, so these are
+the third and the fourth word of a line. The command reclaimable lists the owners of all chunks that
+have to be moved before extents are reset; afterwards locators shows whether each changed one is sound.
+
+Exit status, the same as that of scan for this image:
+  0  clean
+  1  findings; the list is whole all the same
+  2  the arguments or the map are invalid, or no sizes are found
+  3  the image or the map cannot be opened, the image is too long, or the output failed
+  4  out of memory
+
+Example:
+  shardscrub locators examples/one-shard.img
+
+Its second line:
+  shard 00000000000000000000000000000001 1 0 3 11111111-1111-1111-1111-111111111111 sound";
+
+pub(crate) const MANIFEST_ABOUT: &str =
+    "Lists what the disk holds, wherever it lies: retired extents, and the chunks of each shard";
+
+pub(crate) const MANIFEST_AFTER_HELP: &str =
+    "The text is made to be kept and compared (cmp, diff). Its lines are in the order of LC_ALL=C sort:
+
+  retired EXTENT ..       the extents that the superblock retired, rising
+  runs lost L hidden H    L index runs are lost, and H are read although their locator is hidden: the
+                          node's own scan steps over these
+  shard ID NUMBER LENGTH DIGEST sound FORM
+  shard ID NUMBER LENGTH DIGEST STATUS EXTENT OFFSET UUID SPARE
+                          each locator of each shard, by rising identifier and then in order: the
+                          first form if the locator is sound, else the second
+  total S N               how many shards there are, and how many of these lines
+
+  ID      the 32 hexadecimal digits of the shard's identifier
+  NUMBER  the number of the locator among those of the shard, from 00, always two digits
+  LENGTH  the bytes of the payload, as the locator has them
+  DIGEST  the SHA-256 of the payload, as the locator has it, in hexadecimal digits
+  FORM    plain or sealed, the form of the chunk's frame
+  STATUS  that of the locator, as the command locators prints it
+  EXTENT OFFSET UUID
+          the place and the UUID that the locator has
+  SPARE   if the locator dangles: spare if it has one, as locators lists them, else none
+
+Only sound and hidden mean that LENGTH and DIGEST were checked. Without a superblock the text is the one
+line no-superblock. A text without a total line is no manifest. Locators recorded only in a lost run
+aren't listed.
+
+With --reset the text is what it would be if the write pointers of these extents were 0; retired extents
+stay retired. So it shows what a reset would take away before you do it. A sound chunk has no place in
+the text. So the text stays the same when chunks are moved with their frames, except that none may
+become spare, and with --reset for an extent that reclaimable names without a move line, if no line
+there begins with accepted spare.
+
+Exit status, which follows from the text:
+  0  there is a superblock, no run is lost or hidden, and each locator is sound
+  1  else; the text is whole all the same
+  2  the arguments or the map are invalid
+  3  the image or the map cannot be opened, the image is too long, or the output failed
+  4  out of memory
+
+Example, for a disk with 3 extents of 4 pages of 64 bytes:
+  shardscrub manifest --page 64 --pages 4 --extents 3 examples/one-shard.img";
+
+pub(crate) const SUMMARY_ABOUT: &str =
+    "Prints one word on whether the disk is all right, and names and numbers for monitoring";
+
+pub(crate) const SUMMARY_AFTER_HELP: &str =
+    "The first line is the verdict. Each of the others is a name and a decimal number, always all of them, in
+this order. So diff compares two summaries.
+
+  verdict WORD           sound; doubt if the disk is clean, but a page of extent 0 is damaged or stray; or
+                         wrong if the disk isn't clean
+  page_bytes extent_pages extents retired_extents
+                         the sizes of the disk, as they were given or found, and its retired extents
+  superblocks superblock_generation superblock_tie superblocks_damaged superblocks_stray
+                         valid records of extent 0; the generation of the one that counts, or 0; 1 if
+                         another has it too; pages that superblocks calls damaged or stray
+  unreadable_pages       of extent 0 and of the extents in use
+  runs runs_lost         index runs
+  shards shards_broken shards_doubtful
+  locators locators_hidden locators_dangling
+                         named locators, as locators lists them
+  spares                 locators that dangle and have a spare
+  chunks chunk_bytes live_chunks live_bytes orphans orphan_bytes twins shared_places
+                         chunks and the bytes of their frames; a sound locator names live ones, and
+                         none names orphans
+  torn_items noise_items lost_items
+  tails tail_bytes       extents with bytes at or past the write pointer that aren't 0, and those bytes
+  candidates candidate_bytes chunks_to_move
+                         extents that can be reclaimed, judging by the report alone, the bytes to gain,
+                         and the chunks to move first
+
+If the verdict is sound, the statuses of scan and manifest are 0, superblocks has no line lost, damaged or
+stray, and each doubt of reclaimable is a tail. A newest superblock that reads as zeros leaves no trace but
+a tail at most. So compare superblock_generation with the last one that the node logged.
+
+Exit status:
+  0  the verdict is sound
+  1  else; the text is whole all the same
+  2  the arguments or the map are invalid, or no sizes are found
+  3  the image or the map cannot be opened, the image is too long, or the output failed
+  4  out of memory
+
+Example:
+  shardscrub summary examples/one-shard.img
+
+Its first line:
+  verdict sound";
+
+pub(crate) const RECLAIMABLE_ABOUT: &str =
+    "Lists the extents that may be reclaimed, and what has to be moved first, or why none may be";
+
+pub(crate) const RECLAIMABLE_AFTER_HELP: &str =
+    "First comes a line for each doubt: for anything that may hide data that the node wrote.
+
+  doubt no-superblock              there is no valid superblock
+  doubt tie                        two superblocks or more have the greatest generation
+  doubt superblock-lost PAGE       a page of extent 0 can't be read
+  doubt superblock-damaged PAGE    a page of extent 0 begins like a superblock but isn't one
+  doubt superblock-stray PAGE      a page of extent 0 has other bytes
+  doubt run-lost K STATE           an index run is lost; K is its number in the superblock, from 0
+  doubt spare EXTENT OFFSET LENGTH UUID OWNER BYTES
+                                   a locator of OWNER dangles, and all its spares are in extents that
+                                   can be reclaimed, without a sound locator that points to one; this
+                                   is the first, as locators lists it, with a frame of BYTES bytes
+  doubt tail EXTENT OFFSET BYTES   this many bytes at or past the write pointer of an extent aren't
+                                   zero; the first is at OFFSET
+  doubt tail-lost EXTENT FIRST LAST
+                                   these pages of an extent, at or past its write pointer, can't be read
+
+An extent that was reset has a tail until the pointer passes the last old byte. Only the node's log
+shows whether the node wrote after its last superblock. Give a kind to --accept only if you know that
+every line of the kind is harmless: tail and tail-lost if the node wrote nothing after its last
+superblock, superblock-damaged and superblock-stray if the superblock that counts is that last one. Or
+give one line without the word doubt, as in --accept 'tail 2 0 1092': this accepts that line alone, and
+has no effect if the line isn't printed. A spare is accepted by its line alone, because its reset may
+take the last copy of a chunk. An accepted line begins with accepted in place of doubt.
+
+If no line begins with doubt, a line follows for each extent that can be reclaimed, the greatest gain
+first. After it come the lines for the chunks to move out of it, one for each owner:
+
+  reclaim EXTENT FREE                  resetting this extent gains this many bytes
+  move EXTENT OFFSET LENGTH UUID OWNER BYTES
+                                       copy the chunk at this place, with LENGTH bytes of payload in a
+                                       frame of BYTES bytes, and change its owner: run and the number
+                                       of an index run, or shard and its identifier
+
+If an extent is named, the last lines are places for copies, each with the BYTES from OFFSET to the end
+of the extent. A chunk copied to OFFSET is found once the write pointer is at the end of the chunk.
+
+  room EXTENT OFFSET BYTES             in an extent without a reclaim line
+  last-room EXTENT OFFSET BYTES        in an extent with a reclaim line
+
+Before you reset an extent, copy the chunks on its move lines: each place once, however many lines it
+has, and BYTES bytes as they are, to the OFFSET of a room line or directly after the last copy there.
+Never copy into an extent that you reset before you run reclaimable again. If no room is large enough,
+first reset an extent without move lines, and begin again; only if none is listed, use a last-room.
+
+Before the reset make a new image, and check that superblocks counts the generation that you wrote; that
+reclaimable ends with status 0 and names the extent without a move line; and that manifest with --reset
+for this extent prints what manifest printed at the beginning. Begin again after each reset, with the
+same map and the same pages. docs/RECLAIMING.md has all steps.
+
+Exit status:
+  0  no line begins with doubt; there may be nothing to reclaim, and the disk may have other faults
+  1  a line begins with doubt
+  2  the arguments or the map are invalid
+  3  the image or the map cannot be opened, the image is too long, or the output failed
+  4  out of memory
+
+Example, for a disk with 3 extents of 4 pages of 64 bytes:
+  shardscrub reclaimable --page 64 --pages 4 --extents 3 examples/one-shard.img";
+
+pub(crate) const SUPERBLOCKS_ABOUT: &str =
+    "Lists the superblock records of extent 0, and its pages that may have held one";
+
+pub(crate) const SUPERBLOCKS_AFTER_HELP: &str =
+    "Pages of extent 0 are listed in rising order, each with at most one line, the first of these that
+applies:
+
+  lost PAGE                          the page can't be read
+  record PAGE KIND GENERATION STATE  a superblock record of a disk of these sizes begins the page
+  damaged PAGE KIND                  the page begins like a record of this kind but isn't one: its
+                                     digest or its sizes are wrong, a value is out of range, or it
+                                     is cut off
+  stray PAGE                         the page has any other bytes
+
+A page within a record, or of zeros alone, has no line.
+
+  PAGE        the page's number, from 0
+  KIND        SSB1 or SSB2
+  GENERATION  that of the record
+  STATE       counts for the record by which the disk is scanned; tie for each that has the greatest
+              generation if several have it; else older
+
+A newer superblock has no line if its page now reads as zeros or it was never written, and an older
+format with the same sizes may have left records of a greater generation. So compare the generation of
+the record that counts with the last one that the node logged.
+
+Exit status:
+  0  every line is a record, and one of them counts
+  1  anything else, including no line at all
+  2  the arguments or the map are invalid, or no sizes are found
+  3  the image or the map cannot be opened, the image is too long, or the output failed
+  4  out of memory
+
+Example:
+  shardscrub superblocks examples/one-shard.img
+
+Its line:
+  record 0 SSB1 1 counts";
+
+pub(crate) const SIZES_ABOUT: &str =
+    "Lists the superblock records of an image of unknown sizes, each with its own sizes";
+
+pub(crate) const SIZES_AFTER_HELP: &str =
+    "The first 67108864 bytes are searched, as extent 0 ends there at the latest. Each superblock record and
+each range of unreadable bytes has one line, in rising order:
+
+  OFFSET KIND GENERATION PAGE PAGES EXTENTS  a record of a disk of these sizes begins at this byte
+  lost FROM TO                               the bytes from FROM on, up to TO, can't be read, in
+                                             blocks of 512 bytes; a record in one of them isn't found
+
+  OFFSET      a byte of the image, from 0
+  KIND        SSB1 or SSB2
+  GENERATION  that of the record
+  PAGE        bytes of a page
+  PAGES       pages of an extent
+  EXTENTS     extents of the disk
+
+A disk that was formatted twice may have records of two geometries. The list doesn't show which of them
+is the current one.
+
+Exit status:
+  0  there is a record, all have the same sizes, and no byte is lost
+  1  anything else
+  2  the arguments or the map are invalid
+  3  the image or the map cannot be opened, or the output failed
+  4  out of memory
+
+Example:
+  shardscrub sizes examples/one-shard.img
+
+Its line:
+  0 SSB1 1 64 4 3";
+
+pub(crate) const ITEMS_ABOUT: &str =
+    "Lists the items of one extent: chunks, padding, torn chunks, noise and lost pages";
+
+pub(crate) const ITEMS_AFTER_HELP: &str =
+    "Each line has an item's kind, its first byte and the byte after its last, both counted from the start
+of the extent. The kinds:
+  chunk   a whole chunk in a plain frame; its UUID and the bytes of its payload follow
+  sealed  the same in a sealed frame
+  pad     zeros
+  torn    the beginning of a chunk that isn't whole
+  noise   any other bytes
+  lost    an unreadable page, or a part of one
+
+Exit status:
+  0  every item is a chunk, sealed or not, or padding
+  1  an item is torn, noise or lost
+  2  the arguments or the map are invalid, or no sizes are found
+  3  the image or the map cannot be opened, the image is too long, or the output failed
+  4  out of memory
+
+Example:
+  shardscrub items --extent 1 --pointer 41 examples/one-shard.img";
+
+pub(crate) const DEMO_ABOUT: &str = "Prints the report of a small built-in disk with one shard";
+
+pub(crate) const DEMO_AFTER_HELP: &str =
+    "The disk has 3 extents of 4 pages of 64 bytes. Extent 1 begins with a chunk, extent 2 with the
+index run that names it as the only chunk of a shard, and extent 0 with a superblock that names the
+run. The disk is clean. For the keys of the report see shardscrub scan --help.
+
+Exit status:
+  0  the report is printed
+  3  the output failed
+  4  out of memory
+
+Example:
+  shardscrub demo";
+
+pub(crate) const PAGE_HELP: &str = "Bytes of a page: a power of two, 64 to 65536";
+
+pub(crate) const FREE_PAGE_HELP: &str =
+    "Bytes of a page: a power of two, 64 to 65536. Without --page, --pages and --extents the sizes are those \
+     of the disk's superblocks";
+
+pub(crate) const PAGES_HELP: &str =
+    "Pages of an extent: 1 to 65536, and at most 67108864 bytes in an extent";
+
+pub(crate) const EXTENTS_HELP: &str =
+    "Extents of the disk: 2 to 65536, and at most 4294967296 bytes on the disk";
+
+pub(crate) const WORKERS_HELP: &str =
+    "Workers that scan the disk beside the main thread: 0 to 64 (default: 1). Does not affect the output";
+
+pub(crate) const ACCEPT_HELP: &str =
+    "Doubts to accept: superblock-damaged, superblock-stray, tail or tail-lost, or one line without the word \
+     doubt. May be repeated";
+
+pub(crate) const RESET_HELP: &str =
+    "Extent to be taken as reset: 1 to one less than the number of extents. May be repeated";
+
+pub(crate) const ID_HELP: &str =
+    "Identifier of the shard: 32 hexadecimal digits, as locators prints them";
+
+pub(crate) const EXTENT_HELP: &str = "Extent to list: 0 to one less than the number of extents";
+
+pub(crate) const POINTER_HELP: &str =
+    "Write pointer of the extent: 0 to the bytes of an extent (default: all of them)";
+
+pub(crate) const MAP_HELP: &str =
+    "Map of GNU ddrescue: pages that it doesn't list as rescued are unreadable";
+
+pub(crate) const IMAGE_HELP: &str = "Raw image of the disk: its extents, one after another";
+
+pub(crate) const BAD_PAGES_HELP: &str =
+    "More pages to treat as unreadable: 1:3 is page 3 of extent 1";
