@@ -109,7 +109,8 @@ pub fn put_chunk(
     uuid: [u8; 16],
     payload: &[u8],
 ) -> Result<Locator, Misfit>
-    ensures put { IfOk result (λ _. Puts (image_of disk.old) (image_of disk.new) extent offset (frame Form.Plain uuid payload.now)) }
+    ensures put { IfOk result (λ _. Puts (image_of disk.old) (image_of disk.new) extent offset
+        (frame Form.Plain uuid payload.now)) }
     ensures locator { IfOk result (IsLocatorOf extent offset uuid payload.now) }
 {
     let uuid = Uuid::from_bytes(uuid);
@@ -128,7 +129,8 @@ pub fn put_sealed(
     uuid: [u8; 16],
     payload: &[u8],
 ) -> Result<Locator, Misfit>
-    ensures put { IfOk result (λ _. Puts (image_of disk.old) (image_of disk.new) extent offset (frame Form.Sealed uuid payload.now)) }
+    ensures put { IfOk result (λ _. Puts (image_of disk.old) (image_of disk.new) extent offset
+        (frame Form.Sealed uuid payload.now)) }
     ensures locator { IfOk result (IsLocatorOf extent offset uuid payload.now) }
 {
     let uuid = Uuid::from_bytes(uuid);
@@ -138,7 +140,8 @@ pub fn put_sealed(
     Ok(locate(extent, offset, uuid, payload))
 }
 
-/// The payload of the run of one shard with at most 64 locators. Without locators it says that the shard was deleted.
+/// The payload of the run of one shard with at most 64 locators. Without locators it says that the shard was
+/// deleted.
 pub fn run_of(alloc: Global, id: ShardId, locators: &[Locator]) -> Result<Vec<u8>, Misfit>
     ensures { IfOk result (λ out. out.items ≡ run_bytes (record { id = id; locators = locators.now } ∷ [])) }
 {
@@ -160,7 +163,7 @@ fn are_contents(geometry: Geometry, pointers: &[u32], runs: &[Locator]) -> bool
             .all(|pointer| *pointer <= geometry.extent_bytes())
 }
 
-/// Whether extents rise, each from 1 up to `end`, which isn't among them.
+/// Whether extents are ascending, each from 1 up to `end`, which isn't among them.
 fn are_chunk_extents(extents: &[u32], end: u32) -> bool
     requires { 1 ≤ end }
     ensures { IsTrue result → AreChunkExtents end extents.now }
@@ -175,8 +178,9 @@ fn are_chunk_extents(extents: &[u32], end: u32) -> bool
     true
 }
 
-/// Puts the record of a superblock on a page of extent 0, and gives its length in bytes. It has a pointer for each extent
-/// but extent 0, none past the extent's end, at most 32 runs, and retires extents of the disk by rising numbers, if any.
+/// Puts the record of a superblock on a page of extent 0, and gives its length in bytes. It has a pointer for
+/// each extent but extent 0, none past the extent's end, at most 32 runs, and retires extents of the disk by
+/// ascending numbers, if any.
 pub fn put_contents(
     alloc: Global,
     disk: &mut MemDisk,
@@ -198,8 +202,8 @@ pub fn put_contents(
     Ok(record.len())
 }
 
-/// Puts a superblock record on a page of extent 0, and gives its length in bytes. It has a pointer for each extent but
-/// extent 0, none past the extent's end, at most 32 runs, and no retired extents.
+/// Puts a superblock record on a page of extent 0, and gives its length in bytes. It has a pointer for each
+/// extent but extent 0, none past the extent's end, at most 32 runs, and no retired extents.
 pub fn put_record(
     alloc: Global,
     disk: &mut MemDisk,
@@ -236,7 +240,8 @@ pub fn put_superblock(
 pub fn plan_of(alloc: Global, disk: &MemDisk) -> Result<Plan, Misfit>
     ensures plan { IfOk result (IsPlanOfDisk (image_of disk.now)) }
     ensures geometry { IfOk result (λ plan. plan.geometry ≡ (image_of disk.now).geometry) }
-    ensures planned { IfOk result (λ plan. plan.planned ≡ range_with_len 1 ((image_of disk.now).geometry.extents - 1)) }
+    ensures planned { IfOk result (λ plan.
+        plan.planned ≡ range_with_len 1 ((image_of disk.now).geometry.extents - 1)) }
 {
     let chosen = choose(alloc, disk)?;
     let plan = Plan::make(alloc, &chosen, disk.geometry())?;

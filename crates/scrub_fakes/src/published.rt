@@ -1,10 +1,12 @@
-//! The published reports of whole scrubs, as the format's description prints them, and the index of no shard. Each report
-//! is one line with its line feed.
+//! The published reports of whole scrubs, as the format's description prints them, and the index of no shard.
+//! Each report is one line with its line feed.
 
 /// The report of the disk with one shard.
 pub const ONE_SHARD: &str = concat!(
-    r#"{"broken":[],"candidates":[],"clean":true,"dangling":[],"doubtful":[],"extents":[{"bad":[],"extent":1,"#,
-    r#""items":["chunk 0 41 11111111-1111-1111-1111-111111111111 3"],"live":41,"pointer":41,"tail":0,"tail_at":null},"#,
+    r#"{"broken":[],"candidates":[],"clean":true,"dangling":[],"doubtful":[],"extents":[{"bad":[],"#,
+    r#""extent":1,"#,
+    r#""items":["chunk 0 41 11111111-1111-1111-1111-111111111111 3"],"live":41,"pointer":41,"tail":0,"#,
+    r#""tail_at":null},"#,
     r#"{"bad":[],"extent":2,"#,
     r#""items":["chunk 0 155 22222222-2222-2222-2222-222222222222 117"],"live":155,"pointer":155,"tail":0,"#,
     r#""tail_at":null}],"#,
@@ -16,20 +18,25 @@ pub const ONE_SHARD: &str = concat!(
 
 /// The report of a disk of zeros.
 pub const ZEROS: &str = concat!(
-    r#"{"broken":[],"candidates":[],"clean":false,"dangling":[],"doubtful":[],"extents":[{"bad":[],"extent":1,"#,
-    r#""items":["pad 0 64","pad 64 128","pad 128 192","pad 192 256"],"live":0,"pointer":256,"tail":0,"tail_at":null},"#,
+    r#"{"broken":[],"candidates":[],"clean":false,"dangling":[],"doubtful":[],"extents":[{"bad":[],"#,
+    r#""extent":1,"#,
+    r#""items":["pad 0 64","pad 64 128","pad 128 192","pad 192 256"],"live":0,"pointer":256,"tail":0,"#,
+    r#""tail_at":null},"#,
     r#"{"bad":[],"extent":2,"#,
     r#""items":["pad 0 64","pad 64 128","pad 128 192","pad 192 256"],"live":0,"pointer":256,"tail":0,"#,
     r#""tail_at":null}],"#,
-    r#""geometry":{"extents":3,"page":64,"pages":4},"hidden":[],"orphans":[],"retired":[],"runs":[],"shards":0,"#,
+    r#""geometry":{"extents":3,"page":64,"pages":4},"hidden":[],"orphans":[],"retired":[],"runs":[],"#,
+    r#""shards":0,"#,
     r#""shared":[],"super":{"bad":[],"generation":null,"page":null,"records":0,"tie":false},"twins":[]}"#,
     "\n"
 );
 
 /// The report of the disk with a chunk whose last two bytes are the magic of the next one.
 pub const COLLISION: &str = concat!(
-    r#"{"broken":[],"candidates":[],"clean":false,"dangling":[],"doubtful":[],"extents":[{"bad":[],"extent":1,"#,
-    r#""items":["chunk 0 66 33333333-3333-3333-3333-33333333c55e 28","noise 66 105"],"live":0,"pointer":105,"#,
+    r#"{"broken":[],"candidates":[],"clean":false,"dangling":[],"doubtful":[],"extents":[{"bad":[],"#,
+    r#""extent":1,"#,
+    r#""items":["chunk 0 66 33333333-3333-3333-3333-33333333c55e 28","noise 66 105"],"live":0,"#,
+    r#""pointer":105,"#,
     r#""tail":0,"tail_at":null},"#,
     r#"{"bad":[],"extent":2,"#,
     r#""items":["chunk 0 155 22222222-2222-2222-2222-222222222222 117"],"live":155,"pointer":155,"tail":0,"#,
@@ -45,10 +52,12 @@ pub const COLLISION: &str = concat!(
 
 /// The report of the disk with twins and a shared place.
 pub const TWINS: &str = concat!(
-    r#"{"broken":[],"candidates":[{"extent":1,"free":41,"keep":[41]}],"clean":false,"dangling":[],"doubtful":[],"#,
+    r#"{"broken":[],"candidates":[{"extent":1,"free":41,"keep":[41]}],"clean":false,"dangling":[],"#,
+    r#""doubtful":[],"#,
     r#""extents":[{"bad":[],"extent":1,"#,
     r#""items":["chunk 0 41 11111111-1111-1111-1111-111111111111 3","#,
-    r#""chunk 41 82 11111111-1111-1111-1111-111111111111 3"],"live":41,"pointer":82,"tail":0,"tail_at":null},"#,
+    r#""chunk 41 82 11111111-1111-1111-1111-111111111111 3"],"live":41,"pointer":82,"tail":0,"#,
+    r#""tail_at":null},"#,
     r#"{"bad":[],"extent":2,"#,
     r#""items":["chunk 0 232 22222222-2222-2222-2222-222222222222 194"],"live":232,"pointer":232,"tail":0,"#,
     r#""tail_at":null}],"#,

@@ -34,8 +34,8 @@ impl<'a> RawBytes<'a> {
         RawBytes::failing(bytes, usize::MAX, 0, 0)
     }
 
-    /// A raw image whose reads give at most `most` bytes. From read number `failing` on, counted from 0, `faults` reads
-    /// fail.
+    /// A raw image whose reads give at most `most` bytes. From read number `failing` on, counted from 0,
+    /// `faults` reads fail.
     pub fn failing(bytes: &'a [u8], most: usize, failing: u64, faults: u64) -> RawBytes<'a>
         requires { 1 ≤ most }
         ensures bytes { result.bytes.now ≡ bytes.now }
@@ -55,7 +55,8 @@ impl<'a> RawBytes<'a> {
 
     /// Whether the next read fails.
     pub fn fails_next(&self) -> bool
-        ensures { IsTrue result ↔ (self.now.failing ≤ self.now.reads) × (self.now.failures < self.now.faults) }
+        ensures { IsTrue result ↔
+            (self.now.failing ≤ self.now.reads) × (self.now.failures < self.now.faults) }
     {
         self.reads >= self.failing && self.failures < self.faults
     }

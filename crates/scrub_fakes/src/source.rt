@@ -2,15 +2,15 @@
 
 ghost use Rattle.std.specs.Prelude.{◌≡◌, ◌<◌, IfOk, length};
 ghost use Rattle.scrub_disk.specs.Memory.{image_of};
-ghost use Rattle.scrub_disk.specs.WholePages.{memory_pages};
+ghost use Rattle.scrub_disk.specs.steps.WholePages.{memory_pages};
 
 use crate::OutOfMemory;
 use scrub_disk::{Geometry, MemDisk, PageSource, Unreadable};
 use std::alloc::Global;
 use std::sync::atomic::{AtomicU64, Ordering};
 
-/// A disk in memory as a page source that counts, for each extent, how often one of its pages was asked for. No clause
-/// states the counts, since other threads may ask at any time.
+/// A disk in memory as a page source that counts, for each extent, how often one of its pages was asked for.
+/// No clause states the counts, since other threads may ask at any time.
 #[derive(Drop)]
 pub struct CountingSource<'a> {
     disk: &'a MemDisk,
@@ -31,7 +31,7 @@ impl<'a> CountingSource<'a> {
     }
 
     /// How often a page of this extent was asked for.
-    pub fn asked(&self, extent: u32) -> u64
+    pub fn reads_of(&self, extent: u32) -> u64
         requires { extent < (image_of self.now.disk.now).geometry.extents }
     {
         self.asked[extent as usize].load(Ordering::SeqCst)

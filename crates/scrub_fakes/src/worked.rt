@@ -22,8 +22,8 @@ pub fn abc_alone(alloc: Global) -> Result<MemDisk, Misfit> {
     Ok(disk)
 }
 
-/// Writes to a blank disk of three extents: `abc` at the start of extent 1, the run of one shard that names it in extent 2, and
-/// the superblock of both. Returns the run's locator.
+/// Writes to a blank disk of three extents: `abc` at the start of extent 1, the run of one shard that names
+/// it in extent 2, and the superblock of both. Returns the run's locator.
 pub fn put_abc_and_its_run(alloc: Global, disk: &mut MemDisk) -> Result<Locator, Misfit> {
     put_chunk(alloc, disk, 1, 0, ONES, b"abc")?;
     let run = put_run(alloc, disk, 2, 0, TWOS, &[abc_at(1, 0)])?;
@@ -45,8 +45,8 @@ pub fn abc_on_four_extents(alloc: Global) -> Result<MemDisk, Misfit> {
     Ok(disk)
 }
 
-/// A disk of four extents with `abc` in extent 1, the run of one shard that names it in extent 2, and a superblock that retires
-/// extent 3. Returns the run's locator with the disk.
+/// A disk of four extents with `abc` in extent 1, the run of one shard that names it in extent 2, and a
+/// superblock that retires extent 3. Returns the run's locator with the disk.
 pub fn one_retired(alloc: Global) -> Result<(MemDisk, Locator), Misfit> {
     let mut disk = abc_on_four_extents(alloc)?;
     let run = put_run(alloc, &mut disk, 2, 0, TWOS, &[abc_at(1, 0)])?;
@@ -60,8 +60,8 @@ pub fn one_retired(alloc: Global) -> Result<(MemDisk, Locator), Misfit> {
     Ok((disk, run))
 }
 
-/// A disk of four extents with `abc` in extent 1 and three runs of one shard. The newest, at the start of extent 2, deletes it;
-/// the one after it and the one in extent 3 name the chunk.
+/// A disk of four extents with `abc` in extent 1 and three runs of one shard. The newest, at the start of
+/// extent 2, deletes it; the one after it and the one in extent 3 name the chunk.
 pub fn deleted_in_the_newest_run(alloc: Global) -> Result<MemDisk, Misfit> {
     let mut disk = abc_on_four_extents(alloc)?;
     let newest = put_run(alloc, &mut disk, 2, 0, TWOS, &[])?;
@@ -73,8 +73,8 @@ pub fn deleted_in_the_newest_run(alloc: Global) -> Result<MemDisk, Misfit> {
     Ok(disk)
 }
 
-/// A disk of four extents with `abc` in extent 1 and two runs of one shard. The newer, in extent 2, deletes it, but the last
-/// bit of its digest is flipped; the older, in extent 3, names the chunk.
+/// A disk of four extents with `abc` in extent 1 and two runs of one shard. The newer, in extent 2, deletes
+/// it, but the last bit of its digest is flipped; the older, in extent 3, names the chunk.
 pub fn broken_newest_run(alloc: Global) -> Result<MemDisk, Misfit> {
     let mut disk = abc_on_four_extents(alloc)?;
     let broken = broken_run(alloc)?;
@@ -84,7 +84,8 @@ pub fn broken_newest_run(alloc: Global) -> Result<MemDisk, Misfit> {
     Ok(disk)
 }
 
-/// A disk of three extents with `abc` in extent 1 and the run that names it in extent 2. The superblock names the run twice.
+/// A disk of three extents with `abc` in extent 1 and the run that names it in extent 2. The superblock names
+/// the run twice.
 pub fn run_named_twice(alloc: Global) -> Result<MemDisk, Misfit> {
     let mut disk = small_disk(alloc)?;
     let run = put_abc_and_its_run(alloc, &mut disk)?;
@@ -93,7 +94,8 @@ pub fn run_named_twice(alloc: Global) -> Result<MemDisk, Misfit> {
     Ok(disk)
 }
 
-/// The locators of the shard on the disk of `nine_locators`, in its order. No two of them have the same status there.
+/// The locators of the shard on the disk of `nine_locators`, in its order. No two of them have the same
+/// status there.
 pub fn nine_of_a_shard() -> [Locator; 9] {
     let abc = abc_at(1, 0);
     let other_uuid = Locator {
@@ -117,9 +119,10 @@ pub fn nine_of_a_shard() -> [Locator; 9] {
     ]
 }
 
-/// A disk with pages of 256 bytes, eight pages an extent, four extents, and the pointers 512, 297 and 635. Extent 1 has `abc`
-/// at 0, and its page 1 is unreadable. Extent 2 has a frame of 258 bytes at 0; its last two bytes are the magic of the frame of
-/// `abc` at 256. Extent 3 has the run of one shard with the nine locators. Returns the run's locator.
+/// A disk with pages of 256 bytes, eight pages an extent, four extents, and the pointers 512, 297 and 635.
+/// Extent 1 has `abc` at 0, and its page 1 is unreadable. Extent 2 has a frame of 258 bytes at 0; its last
+/// two bytes are the magic of the frame of `abc` at 256. Extent 3 has the run of one shard with the nine
+/// locators. Returns the run's locator.
 pub fn nine_locators(alloc: Global) -> Result<(MemDisk, Locator), Misfit> {
     let mut disk = collision(alloc)?;
     put_chunk(alloc, &mut disk, 1, 0, ONES, b"abc")?;
@@ -130,8 +133,8 @@ pub fn nine_locators(alloc: Global) -> Result<(MemDisk, Locator), Misfit> {
     Ok((disk, run))
 }
 
-/// A disk with pages of 256 bytes, eight pages an extent and four extents. Extent 2 has a frame of 258 bytes at 0; its last two
-/// bytes are the magic of the frame of `abc` at 256.
+/// A disk with pages of 256 bytes, eight pages an extent and four extents. Extent 2 has a frame of 258 bytes
+/// at 0; its last two bytes are the magic of the frame of `abc` at 256.
 pub fn collision(alloc: Global) -> Result<MemDisk, Misfit> {
     let mut disk = MemDisk::blank(alloc, Geometry::new(256, 8, 4)?)?;
     put_chunk(alloc, &mut disk, 2, 0, ENDS_IN_MAGIC, &[0x78; 220])?;
@@ -139,8 +142,8 @@ pub fn collision(alloc: Global) -> Result<MemDisk, Misfit> {
     Ok(disk)
 }
 
-/// A disk of three extents. Extent 1 begins with a frame of 66 bytes under this UUID; `abc`, written at 64, overwrites its last
-/// two bytes. Extent 2 has the run of one shard with this `abc`.
+/// A disk of three extents. Extent 1 begins with a frame of 66 bytes under this UUID; `abc`, written at 64,
+/// overwrites its last two bytes. Extent 2 has the run of one shard with this `abc`.
 pub fn overwritten_end(alloc: Global, uuid: [u8; 16]) -> Result<MemDisk, Misfit> {
     let mut disk = small_disk(alloc)?;
     put_chunk(alloc, &mut disk, 1, 0, uuid, &[0x78; 28])?;
@@ -159,15 +162,16 @@ pub fn half_garbage(alloc: Global) -> Result<MemDisk, Misfit> {
     Ok(disk)
 }
 
-/// A disk of three extents with `abc` at the start of extent 1, and the run of one shard that names it in extent 2.
+/// A disk of three extents with `abc` at the start of extent 1, and the run of one shard that names it in
+/// extent 2.
 pub fn one_shard(alloc: Global) -> Result<MemDisk, Misfit> {
     let mut disk = small_disk(alloc)?;
     put_abc_and_its_run(alloc, &mut disk)?;
     Ok(disk)
 }
 
-/// The disk of `one_shard`, but the chunk in extent 1 has rotted to `abX`, and `abc` is behind the run, too.
-pub fn rotted(alloc: Global) -> Result<MemDisk, Misfit> {
+/// The disk of `one_shard`, but the chunk in extent 1 has rotted to `abX`, and `abc` is after the run, too.
+pub fn rotted_chunk(alloc: Global) -> Result<MemDisk, Misfit> {
     let mut disk = small_disk(alloc)?;
     put_chunk(alloc, &mut disk, 1, 0, ONES, b"abX")?;
     let run = put_run(alloc, &mut disk, 2, 0, TWOS, &[abc_at(1, 0)])?;
@@ -185,8 +189,8 @@ pub fn one_shard_without(alloc: Global, extent: u32, pages: &[u32]) -> Result<Me
     Ok(disk)
 }
 
-/// A disk of three extents with `abc` under one UUID at 0 and 41 of extent 1. The run in extent 2 has two shards, which both
-/// name the second. Returns the run's payload with the disk.
+/// A disk of three extents with `abc` under one UUID at 0 and 41 of extent 1. The run in extent 2 has two
+/// shards, which both name the second. Returns the run's payload with the disk.
 pub fn twins_and_shared(alloc: Global) -> Result<(MemDisk, Vec<u8>), Misfit> {
     let mut disk = abc_alone(alloc)?;
     put_chunk(alloc, &mut disk, 1, 41, ONES, b"abc")?;
@@ -204,7 +208,8 @@ fn past_the_pointer(alloc: Global) -> Result<MemDisk, Misfit> {
     Ok(disk)
 }
 
-/// A disk of three extents with a frame of 98 bytes at the start of extent 1. Page 1 of that extent is unreadable.
+/// A disk of three extents with a frame of 98 bytes at the start of extent 1. Page 1 of that extent is
+/// unreadable.
 fn torn_frame(alloc: Global) -> Result<MemDisk, Misfit> {
     let mut disk = small_disk(alloc)?;
     put_chunk(alloc, &mut disk, 1, 0, ONES, &[0x78; 60])?;
@@ -213,8 +218,8 @@ fn torn_frame(alloc: Global) -> Result<MemDisk, Misfit> {
     Ok(disk)
 }
 
-/// A disk of one shard with two superblocks: one of generation 7 on page 0, and one of this generation on page 2, with the
-/// pointers 0 and 155.
+/// A disk of one shard with two superblocks: one of generation 7 on page 0, and one of this generation on
+/// page 2, with the pointers 0 and 155.
 fn two_superblocks(alloc: Global, generation: u64) -> Result<MemDisk, Misfit> {
     let mut disk = small_disk(alloc)?;
     let run = put_abc_and_its_run(alloc, &mut disk)?;
@@ -251,9 +256,9 @@ fn broken_superblock(alloc: Global) -> Result<MemDisk, Misfit> {
     Ok(disk)
 }
 
-/// A disk of 40 extents, each of 64 pages of 64 bytes. Extents 1 to 38 each begin with `abc`, under a UUID of sixteen bytes
-/// that are the extent's number. Extent 39 has the run of 38 shards, each of one of these chunks. Returns the run's payload
-/// with the disk.
+/// A disk of 40 extents, each of 64 pages of 64 bytes. Extents 1 to 38 each begin with `abc`, under a UUID of
+/// sixteen bytes that are the extent's number. Extent 39 has the run of 38 shards, each of one of these
+/// chunks. Returns the run's payload with the disk.
 pub fn many_shards(alloc: Global) -> Result<(MemDisk, Vec<u8>), Misfit> {
     let mut disk = MemDisk::blank(alloc, Geometry::new(64, 64, 40)?)?;
     let (mut entries, mut pointers) = (Vec::new(alloc), Vec::new(alloc));

@@ -80,7 +80,8 @@ fn check_extents(rt: &impl Abort, all: &AllFindings<'_, MemDisk>) {
     assert!(rt; all.extent_at(0) == 1 && all.extent_at(1) == 3);
 }
 
-/// Asks a book of extents 1 and 3 for its findings while extent 1 is missing, and returns the book that comes back.
+/// Asks a book of extents 1 and 3 for its findings while extent 1 is missing, and returns the book that comes
+/// back.
 fn came_back<'d>(rt: &impl Abort, book: Book<'d, MemDisk>) -> Result<Book<'d, MemDisk>, Fail>
     ensures { IfOk result (λ back. back ≡ book.entry) }
 {

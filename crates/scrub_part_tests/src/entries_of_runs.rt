@@ -1,5 +1,5 @@
-//! Entries with no locator, with one and with two, in one run: read, written, copied and taken. For payloads that aren't runs
-//! see `run_payloads`.
+//! Entries with no locator, with one and with two, in one run: read, written, copied and taken. For payloads
+//! that aren't runs see `run_payloads`.
 
 ghost use Rattle.std.specs.Prelude.{◌≤◌, length};
 
@@ -82,7 +82,8 @@ fn entries_are_copied(rt: HostRuntime) -> Result<(), Fail> {
     Ok(())
 }
 
-/// Takes the entry at a place, and checks its identifier and locators. After that the entry is still there, without locators.
+/// Takes the entry at a place, and checks its identifier and locators. After that the entry is still there,
+/// without locators.
 fn check_taken(
     rt: &impl Abort,
     alloc: Global,

@@ -50,7 +50,7 @@ fn calls_are_counted_for_each_extent(rt: HostRuntime) -> Result<(), Fail> {
     }
     same(&rt, source.read_page(2, 0, &mut out), Ok(()));
     same(&rt, out, [0; 64]);
-    let asked = (source.asked(0), source.asked(1), source.asked(2));
+    let asked = (source.reads_of(0), source.reads_of(1), source.reads_of(2));
     same(&rt, asked, (0, 4, 1));
     Ok(())
 }

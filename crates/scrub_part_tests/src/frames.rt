@@ -1,5 +1,5 @@
-//! Digests and chunk frames of both forms, with bytes from the formats' description and from FIPS 180-4. For frames that come
-//! in pieces see `matching`.
+//! Digests and chunk frames of both forms, with bytes from the formats' description and from FIPS 180-4. For
+//! frames that come in pieces see `matching`.
 
 use scrub_fakes::{ABC_DIGEST, ONES};
 use scrub_frame::{
@@ -93,7 +93,8 @@ fn head_bytes(first: u8, second: u8) -> [u8; 22] {
     bytes
 }
 
-/// A page of that head and bytes FF. If the end of the claimed payload wrapped, the UUID would be found there once more.
+/// A page of that head and bytes FF. If the end of the claimed payload wrapped, the UUID would be found there
+/// once more.
 fn page_of(head: &[u8; 22]) -> [u8; 64] {
     let mut page = [0xFF; 64];
     page[..22].copy_from_slice(head);

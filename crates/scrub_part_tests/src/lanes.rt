@@ -1,4 +1,5 @@
-//! Batches of messages. The expected digests are those of FIPS 180-4's examples, and those of the kit's scalar hash function.
+//! Batches of messages. The expected digests are those of FIPS 180-4's examples, and those of the kit's
+//! scalar hash function.
 
 use sha_lanes::Batch;
 use sha2::{Digest, Sha256};

@@ -1,5 +1,5 @@
-//! Tests of single crates by their public calls: vectors, worked examples and texts that need no whole disk. For tests that
-//! cross more crates see `scrub_tests`. No crate depends on this one.
+//! Tests of single crates by their public calls: vectors, worked examples and texts that need no whole disk.
+//! For tests that cross more crates see `scrub_tests`. No crate depends on this one.
 #![tactic(auto)]
 
 #[cfg(test)]

@@ -18,8 +18,8 @@ fn numbered() -> [u8; 769] {
     bytes
 }
 
-/// Loads three extents of four pages of 64 bytes, checks that each readable page has its own of these bytes, and returns the
-/// unreadable pages as pairs of extent and page.
+/// Loads three extents of four pages of 64 bytes, checks that each readable page has its own of these bytes,
+/// and returns the unreadable pages as pairs of extent and page.
 fn unreadable_pages<R: RawImage>(
     rt: &impl Abort,
     alloc: Global,

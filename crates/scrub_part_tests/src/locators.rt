@@ -1,5 +1,5 @@
-//! Locators and their sixty bytes, one by one and in lists. For the status of a locator on a disk see `status` in
-//! `scrub_tests`.
+//! Locators and their sixty bytes, one by one and in lists. For the status of a locator on a disk see
+//! `status` in `scrub_tests`.
 
 ghost use Rattle.std.specs.Prelude.{◌≡◌};
 

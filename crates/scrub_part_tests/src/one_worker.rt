@@ -1,4 +1,5 @@
-//! What one worker took and found on small disks, and when it retires. For a pool of workers see `events` in `scrub_tests`.
+//! What one worker took and found on small disks, and when it retires. For a pool of workers see `events` in
+//! `scrub_tests`.
 
 ghost use Rattle.std.specs.Prelude.{◌≡◌, None, Some, IfOk};
 ghost use Rattle.scrub_disk.specs.Memory.{image_of};
@@ -14,8 +15,8 @@ use std::alloc::Global;
 use std::process::Abort;
 use std::test::Fail;
 
-/// Makes room for an extent, takes it and scans it. While the worker holds the extent it doesn't retire. That it holds this
-/// extent is proved at `done`.
+/// Makes room for an extent, takes it and scans it. While the worker holds the extent it doesn't retire. That
+/// it holds this extent is proved at `done`.
 fn take_and_scan<'d>(
     rt: &impl Abort,
     alloc: Global,

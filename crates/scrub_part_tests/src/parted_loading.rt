@@ -29,6 +29,16 @@ fn sparse(alloc: Global) -> Result<Vec<u8>, OutOfMemory> {
     Ok(bytes)
 }
 
+/// The bytes of 140,000 pages of 64 bytes, of which one of three is zero.
+fn many_pages(alloc: Global) -> Result<Vec<u8>, OutOfMemory> {
+    let mut bytes = Vec::new(alloc);
+    for place in 0..8_960_000u32 {
+        let is_zero = place / 64 % 3 == 0;
+        bytes.push(if is_zero { 0 } else { (place % 251) as u8 })?;
+    }
+    Ok(bytes)
+}
+
 /// The bytes of all pages. Each byte of an unreadable page is 255.
 fn bytes_of<D: PageSource>(alloc: Global, disk: &D) -> Result<Vec<u8>, OutOfMemory> {
     let geometry = disk.geometry();
@@ -44,8 +54,8 @@ fn bytes_of<D: PageSource>(alloc: Global, disk: &D) -> Result<Vec<u8>, OutOfMemo
     Ok(bytes)
 }
 
-/// Readers of these bytes, of which one read gives at most `most`. Of the last one `faults` reads fail, from read number
-/// `failing` on.
+/// Readers of these bytes, of which one read gives at most `most`. Of the last one `faults` reads fail, from
+/// read number `failing` on.
 fn readers_of<'a>(
     alloc: Global,
     bytes: &'a [u8],
@@ -91,7 +101,8 @@ fn wanted(alloc: Global, bytes: &[u8]) -> Result<Vec<u8>, Fail> {
     Ok(bytes_of(alloc, &disk)?)
 }
 
-/// Checks that one reader and 2, 3, 7 and 64 of them load the same disk of these bytes, whatever a read gives at most.
+/// Checks that one reader and 2, 3, 7 and 64 of them load the same disk of these bytes, whatever a read gives
+/// at most.
 fn same_by_more_readers<R: Threads + Sync + Abort>(
     rt: &R,
     alloc: Global,
@@ -104,6 +115,24 @@ fn same_by_more_readers<R: Threads + Sync + Abort>(
             same(rt, found.as_slice(), wanted.as_slice());
         }
     }
+    Ok(())
+}
+
+/// Checks that one reader, page by page, and `count` readers and one more load the same disk of these bytes.
+fn same_by_readers<R: Threads + Sync + Abort>(
+    rt: &R,
+    alloc: Global,
+    bytes: &[u8],
+    geometry: Geometry,
+    count: usize,
+) -> Result<(), Fail>
+    requires { count ≤ 64 }
+{
+    let mut raw = RawBytes::new(bytes);
+    let wanted = bytes_of(alloc, &load(alloc, &mut raw, geometry, &[])?)?;
+    let readers = readers_of(alloc, bytes, count, 65_536, 0, 0)?;
+    let disk = load_in_parts(rt, alloc, readers, geometry, &[])?;
+    same(rt, bytes_of(alloc, &disk)?.as_slice(), wanted.as_slice());
     Ok(())
 }
 
@@ -128,7 +157,19 @@ fn pages_of_zeros_between_others_are_loaded_as_they_are(rt: HostRuntime) -> Resu
     same_by_more_readers(&rt, rt.alloc(), &zeros)
 }
 
-/// A read asks for four pages. If it fails once, each of them is read alone; if the next read fails too, that costs a page.
+/// Pages enough that one reader has three blocks, of which the last has fewer pages than the others.
+#[test]
+fn a_reader_with_several_blocks_loads_the_same_disk(rt: HostRuntime) -> Result<(), Fail> {
+    let bytes = many_pages(rt.alloc())?;
+    for count in [0, 1] {
+        let geometry = Geometry::new(64, 35_000, 4)?;
+        same_by_readers(&rt, rt.alloc(), &bytes, geometry, count)?;
+    }
+    Ok(())
+}
+
+/// A read asks for four pages. If it fails once, each of them is read alone; if the next read fails too, that
+/// costs a page.
 #[test]
 fn a_failed_read_of_several_pages_costs_none_and_one_of_a_page_costs_it(
     rt: HostRuntime,

@@ -1,5 +1,5 @@
-//! Superblock records as bytes: vectors and worked examples from the format's description, with digests by another SHA-256. For
-//! what counts on a disk, and for the plan, see `superblock`.
+//! Superblock records as bytes: vectors and worked examples from the format's description, with digests by
+//! another SHA-256. For what counts on a disk, and for the plan, see `superblock`.
 
 use crate::compare::same;
 use scrub_disk::Geometry;
@@ -11,8 +11,8 @@ use std::process::Abort;
 use std::test::Fail;
 use uuid::Uuid;
 
-/// The record for pages of 64 bytes, four pages an extent and three extents: generation 1, pointers 41 and 155, and one run of
-/// 117 bytes at extent 2, offset 0, with a UUID of sixteen bytes 22.
+/// The record for pages of 64 bytes, four pages an extent and three extents: generation 1, pointers 41 and
+/// 155, and one run of 117 bytes at extent 2, offset 0, with a UUID of sixteen bytes 22.
 const RECORD: [u8; 126] = [
     0x53, 0x53, 0x42, 0x31, 0x00, 0x00, 0x00, 0x00, 0x00, 0x00, 0x00, 0x01, 0x00, 0x00, 0x00, 0x40,
     0x00, 0x00, 0x00, 0x04, 0x00, 0x00, 0x00, 0x03, 0x00, 0x01, 0x00, 0x00, 0x00, 0x29, 0x00, 0x00,
@@ -101,8 +101,8 @@ fn a_record_is_appended_and_read_whatever_follows_it(rt: HostRuntime) -> Result<
 #[test]
 fn a_record_with_a_wrong_byte_or_geometry_is_not_read(rt: HostRuntime) -> Result<(), Fail> {
     let geometry = Geometry::new(64, 4, 3)?;
-    // The last byte of the magic, of the page size, of the pages, of the extents and of the number of runs; and a pointer of
-    // 257.
+    // The last byte of the magic, of the page size, of the pages, of the extents and of the number of runs;
+    // and a pointer of 257.
     for (place, byte) in [(3, 0x32), (15, 0x80), (19, 8), (23, 2), (25, 0), (28, 1)] {
         let mut record = RECORD;
         record[place] = byte;
@@ -162,8 +162,8 @@ fn a_record_of_65535_pointers_is_read(rt: HostRuntime) -> Result<(), Fail> {
     Ok(())
 }
 
-/// The record of generation 7 for pages of 64 bytes, four pages an extent and three extents, with pointers 41 and 155, no runs,
-/// and these retired extents, whose number it gives as `count`.
+/// The record of generation 7 for pages of 64 bytes, four pages an extent and three extents, with pointers 41
+/// and 155, no runs, and these retired extents, whose number it gives as `count`.
 fn listing(alloc: Global, count: u8, retired: &[u8]) -> Result<Vec<u8>, Fail> {
     let mut record = Vec::new(alloc);
     record.extend_from_slice(b"SSB2\x00\x00\x00\x00\x00\x00\x00\x07")?;
@@ -220,8 +220,8 @@ fn a_record_with_retired_extents_and_a_forged_number_is_not_read(
     rt: HostRuntime,
 ) -> Result<(), Fail> {
     let geometry = Geometry::new(64, 4, 3)?;
-    // The page size, the pages, the extents, the number of runs and that of retired extents: each changed in its first byte, in
-    // its last one, and in both.
+    // The page size, the pages, the extents, the number of runs and that of retired extents: each changed in
+    // its first byte, in its last one, and in both.
     for (first, last) in [(12usize, 15usize), (16, 19), (20, 23), (24, 25), (26, 27)] {
         for (high, low) in [(0xFFu8, None), (0, Some(0xFE)), (0xFF, Some(0xFF))] {
             let mut record = listing(rt.alloc(), 1, &[1])?;

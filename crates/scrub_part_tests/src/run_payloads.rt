@@ -1,5 +1,5 @@
-//! Index runs as bytes, sound and broken, from the format's description; the digests of the two vectors are by another program.
-//! For which runs of a disk are read see `index_runs` in `scrub_tests`.
+//! Index runs as bytes, sound and broken, from the format's description; the digests of the two vectors are
+//! by another program. For which runs of a disk are read see `index_runs` in `scrub_tests`.
 
 ghost use Rattle.std.specs.Prelude.{◌≡◌, IfOk};
 
@@ -62,8 +62,8 @@ const ONE_OF_64: &[u8] = b"RUN1\0\0\0\x01\0\0\0\0\0\0\0\0\0\0\0\0\0\0\0\x01\x40"
 
 const ONE_OF_65: &[u8] = b"RUN1\0\0\0\x01\0\0\0\0\0\0\0\0\0\0\0\0\0\0\0\x01\x41";
 
-/// Three entries of deleted shards. Their identifiers rise and differ only in their last two bytes; the last byte falls once,
-/// when the one before it rises.
+/// Three entries of deleted shards. Their identifiers rise and differ only in their last two bytes; the last
+/// byte falls once, when the one before it rises.
 const LOW: &[u8] = b"\x7F\x7F\x7F\x7F\x7F\x7F\x7F\x7F\x7F\x7F\x7F\x7F\x7F\x7F\x00\x02\x00";
 
 const MIDDLE: &[u8] = b"\x7F\x7F\x7F\x7F\x7F\x7F\x7F\x7F\x7F\x7F\x7F\x7F\x7F\x7F\x01\x01\x00";
@@ -171,8 +171,8 @@ fn deleted_shards_are_read_in_their_order(rt: HostRuntime) -> Result<(), Fail> {
     )
 }
 
-/// Why a payload isn't a run, its head, and the parts after it. No memory could hold as many entries as the first head claims:
-/// the count alone must not make a list grow.
+/// Why a payload isn't a run, its head, and the parts after it. No memory could hold as many entries as the
+/// first head claims: the count alone must not make a list grow.
 const NO_RUNS: [(&str, &[u8], &[&[u8]]); 13] = [
     ("the greatest count", b"RUN1\xFF\xFF\xFF\xFF", &[]),
     ("65 locators", ONE_OF_65, &[ABC; 65]),

@@ -1,5 +1,5 @@
-//! Superblock records in raw images of any sizes, and the lost blocks of such images. The records are spelled out here byte by
-//! byte, except for their digests.
+//! Superblock records in raw images of any sizes, and the lost blocks of such images. The records are spelled
+//! out here byte by byte, except for their digests.
 
 ghost use Rattle.std.specs.Prelude.{◌<◌, ◌^◌};
 
@@ -33,8 +33,9 @@ fn put_with_digest(rt: &impl Abort, image: &mut [u8; 2048], offset: usize, body:
     image[end..end + 32].copy_from_slice(&digest_of(body));
 }
 
-/// A disk that was formatted twice: a record at byte 64, and one of other sizes at byte 512. Three others aren't records: the
-/// first bytes of one at 256, one at 704 that isn't on a boundary of its pages, and one at 1,024 that is past its own extent 0.
+/// A disk that was formatted twice: a record at byte 64, and one of other sizes at byte 512. Three others
+/// aren't records: the first bytes of one at 256, one at 704 that isn't on a boundary of its pages, and one
+/// at 1,024 that is past its own extent 0.
 fn formatted_twice(rt: &impl Abort) -> [u8; 2048] {
     let mut image = [0; 2048];
     put_with_digest(rt, &mut image, 64, &SMALL_PAGES);

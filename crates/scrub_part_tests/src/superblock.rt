@@ -33,8 +33,8 @@ fn nothing<'a>() -> Expected<'a> {
     }
 }
 
-/// Checks the choice: the page and the generation of the superblock that counts, the number of records, whether there is a tie,
-/// and the unreadable pages.
+/// Checks the choice: the page and the generation of the superblock that counts, the number of records,
+/// whether there is a tie, and the unreadable pages.
 fn check_chosen(
     rt: &impl Abort,
     chosen: &Chosen,
@@ -189,8 +189,8 @@ fn a_record_over_three_pages_needs_all_of_them_readable(rt: HostRuntime) -> Resu
     check(&rt, rt.alloc(), &disk, &cut)
 }
 
-/// Two locators that contain these bytes, from byte 30 on. The locators of a record begin at byte 34, so these bytes begin on
-/// page 1.
+/// Two locators that contain these bytes, from byte 30 on. The locators of a record begin at byte 34, so
+/// these bytes begin on page 1.
 fn locators_around(alloc: Global, bytes: &[u8]) -> Result<[Locator; 2], Fail> {
     let mut both = Vec::from_slice(alloc, &[0; 30])?;
     both.extend_from_slice(bytes)?;
@@ -200,8 +200,8 @@ fn locators_around(alloc: Global, bytes: &[u8]) -> Result<[Locator; 2], Fail> {
     Ok([read_locator(first), read_locator(second)])
 }
 
-/// A disk with a record of generation 5 (186 bytes) on page 0. Its locators contain a record of generation 9 (66 bytes) that
-/// begins on page 1.
+/// A disk with a record of generation 5 (186 bytes) on page 0. Its locators contain a record of generation 9
+/// (66 bytes) that begins on page 1.
 pub(crate) fn nested_records(rt: &impl Abort, alloc: Global) -> Result<MemDisk, Fail> {
     // The inner record comes from a disk of its own.
     let mut source = small_disk(alloc)?;

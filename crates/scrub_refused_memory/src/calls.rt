@@ -1,4 +1,5 @@
-//! Which calls are wanted, and how each of them ended. The calls, each with its name, are at the ends of the modules used here.
+//! Which calls are wanted, and how each of them ended. The calls, each with its name, are at the ends of the
+//! modules used here.
 
 use crate::ending::{Stop, Wanted};
 use crate::{batches, checks, frames, lists, loading, maps, pool, records, report, runs, scans};
@@ -8,7 +9,8 @@ use std::io::Write;
 use std::sync::Wait;
 use std::thread::Threads;
 
-/// Which calls are wanted. A call is named by its path and a second word: a number of workers, a kind of record, or nothing.
+/// Which calls are wanted. A call is named by its path and a second word: a number of workers, a kind of
+/// record, or nothing.
 #[derive(Clone, Copy)]
 pub enum Selection<'a> {
     /// Only the names of all calls.

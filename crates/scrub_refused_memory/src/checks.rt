@@ -40,7 +40,8 @@ fn are_three(read: &ReadRuns) -> bool {
     are_right && read.states() == [RunState::Read; 3].as_slice()
 }
 
-/// Whether the newer of two runs is lost, since its payload isn't a run, and the older one names the chunk of the shard.
+/// Whether the newer of two runs is lost, since its payload isn't a run, and the older one names the chunk of
+/// the shard.
 fn is_one_of_two(read: &ReadRuns) -> bool {
     let are_right = match read.runs() {
         [None, Some(older)] => is_one_shard(older),
@@ -109,7 +110,8 @@ pub fn check_all<R: Threads + Sync>(rt: &R, alloc: Global, wanted: Wanted) -> Re
     right(checked.as_slice() == expected.as_slice())
 }
 
-/// So many locators that it is noted where items are, before they are looked for: 4,096 times that of the run.
+/// So many locators that it is noted where items are, before they are looked for: 4,096 times that of the
+/// run.
 pub fn check_many<R: Threads + Sync>(rt: &R, alloc: Global, wanted: Wanted) -> Result<(), Stop> {
     let (disk, run) = nine_locators(alloc)?;
     let plan = plan_of(alloc, &disk)?;
@@ -150,7 +152,7 @@ fn check_named_on<R: Threads + Sync>(
     right(checked.as_slice() == expected.as_slice())
 }
 
-/// The nine locators of a shard, behind that of its run.
+/// The nine locators of a shard, after that of its run.
 pub fn name_shard(alloc: Global, wanted: Wanted) -> Result<(), Stop> {
     let (disk, run) = nine_locators(alloc)?;
     let plan = plan_of(alloc, &disk)?;

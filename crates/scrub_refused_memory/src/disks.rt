@@ -38,8 +38,8 @@ pub fn one_shard(alloc: Global) -> Result<(MemDisk, Locator), Stop> {
     Ok((disk, run))
 }
 
-/// A disk of three extents. Extent 1 has a chunk in which `abc` has rotted, a chunk of `de`, and a copy of `abc`. The run of one
-/// shard in extent 2 names the first two.
+/// A disk of three extents. Extent 1 has a chunk in which `abc` has rotted, a chunk of `de`, and a copy of
+/// `abc`. The run of one shard in extent 2 names the first two.
 pub fn rotted_and_sound(alloc: Global) -> Result<MemDisk, Stop> {
     let mut disk = small_disk(alloc)?;
     put_chunk(alloc, &mut disk, 1, 0, ONES, b"abX")?;

@@ -12,8 +12,8 @@ use uuid::Uuid;
 /// What a list has before a frame is appended.
 const BEFORE: [u8; 1] = [7];
 
-/// `BEFORE`, and after it the frame with these first two bytes, this UUID and this payload. A sealed frame has a seal before
-/// the payload and a mark at the end; a plain one has neither.
+/// `BEFORE`, and after it the frame with these first two bytes, this UUID and this payload. A sealed frame
+/// has a seal before the payload and a mark at the end; a plain one has neither.
 fn framed(
     alloc: Global,
     magic: [u8; 2],

@@ -1,4 +1,5 @@
-//! The lists that follow from the statuses of locators, on the disk of nine locators and on that of twins and a shared place.
+//! The lists that follow from the statuses of locators, on the disk of nine locators and on that of twins and
+//! a shared place.
 
 use crate::calls::Trial;
 use crate::disks::{names_with_status, twins_and_shared};

@@ -23,7 +23,8 @@ fn page_of<D: PageSource>(disk: &D, number: u32) -> Option<[u8; 64]> {
     }
 }
 
-/// Whether a small disk has these bytes, except for two unreadable pages, given by their numbers on the whole disk.
+/// Whether a small disk has these bytes, except for two unreadable pages, given by their numbers on the whole
+/// disk.
 fn has_bytes<D: PageSource>(disk: &D, bytes: &[u8], unreadable: [u32; 2]) -> bool {
     for number in 0..12 {
         let start = number as usize * 64;
@@ -60,8 +61,8 @@ fn one_shard_bytes(alloc: Global) -> Result<Vec<u8>, Stop> {
     Ok(bytes)
 }
 
-/// Loads the disk with one shard twice: from bytes cut off within page 2 of extent 2, and from all bytes with one failure at
-/// page 0 of extent 1.
+/// Loads the disk with one shard twice: from bytes cut off within page 2 of extent 2, and from all bytes with
+/// one failure at page 0 of extent 1.
 pub fn load(alloc: Global, wanted: Wanted) -> Result<(), Stop> {
     let bytes = one_shard_bytes(alloc)?;
     let cut = bytes.get(..668).ok_or(Stop::Wrong)?;
@@ -73,7 +74,8 @@ pub fn load(alloc: Global, wanted: Wanted) -> Result<(), Stop> {
     right(has_bytes(&of_short, &bytes, [10, 11]) && has_bytes(&of_failing, &bytes, [4, NONE]))
 }
 
-/// Loads the same bytes by two readers, half of the pages each. The second one fails once, at page 2 of extent 1.
+/// Loads the same bytes by two readers, half of the pages each. The second one fails once, at page 2 of
+/// extent 1.
 pub fn load_in_parts<R: Threads + Sync>(rt: &R, alloc: Global, wanted: Wanted) -> Result<(), Stop> {
     let bytes = one_shard_bytes(alloc)?;
     let first = RawBytes::new(&bytes);
@@ -109,7 +111,8 @@ pub fn unreadable_pages(alloc: Global, wanted: Wanted) -> Result<(), Stop> {
     right(pages.as_slice() == [0, 2, 4].as_slice())
 }
 
-/// The superblock in the bytes of the disk with one shard. The second block of 512 bytes lacks its first byte.
+/// The superblock in the bytes of the disk with one shard. The second block of 512 bytes lacks its first
+/// byte.
 pub fn find_superblocks(alloc: Global, wanted: Wanted) -> Result<(), Stop> {
     let bytes = one_shard_bytes(alloc)?;
     let mut raw = RawBytes::new(&bytes);

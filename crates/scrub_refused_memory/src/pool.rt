@@ -101,7 +101,8 @@ pub fn new_pool(alloc: Global, wanted: Wanted) -> Result<(), Stop> {
     right(pool.arrivals().is_empty() && !pool.is_complete())
 }
 
-/// Marks a member as done. If that is refused, the member still holds its extent, so that it can't take another.
+/// Marks a member as done. If that is refused, the member still holds its extent, so that it can't take
+/// another.
 fn done(pool: &mut PoolCore<'_, MemDisk>, member: u32) -> Result<(), Stop> {
     match pool.step(Event::Done(member)) {
         Ok(()) => right(pool.arrivals().is_empty()),
@@ -157,7 +158,8 @@ pub fn new_queue<R: Wait>(rt: &R, alloc: Global, wanted: Wanted) -> Result<(), S
     takes(rt, &queue, &mut first, plan.planned())
 }
 
-/// A second pass of that queue takes the first extent, and is joined into the first pass, which takes all others.
+/// A second pass of that queue takes the first extent, and is joined into the first pass, which takes all
+/// others.
 pub fn split<R: Wait>(rt: &R, alloc: Global, wanted: Wanted) -> Result<(), Stop> {
     let (disk, _) = many_shards(alloc)?;
     let plan = plan_of(alloc, &disk)?;

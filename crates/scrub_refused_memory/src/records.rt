@@ -1,5 +1,5 @@
-//! Superblocks of both kinds: that of the disk with one shard, and one that retires an extent. Each is compared as a record
-//! with its bytes field by field, is chosen, and gives a plan.
+//! Superblocks of both kinds: that of the disk with one shard, and one that retires an extent. Each is
+//! compared as a record with its bytes field by field, is chosen, and gives a plan.
 
 ghost use Rattle.std.specs.Prelude.{IfOk, IfSome};
 ghost use Rattle.scrub_super.specs.Planned.{AreRetired};
@@ -189,7 +189,8 @@ pub fn make_plan(alloc: Global, wanted: Wanted, kind: RecordKind) -> Result<(), 
     )
 }
 
-/// Restricted plans of four extents: that of a blank disk to extents 1 and 3, and one with a retired extent to none.
+/// Restricted plans of four extents: that of a blank disk to extents 1 and 3, and one with a retired extent
+/// to none.
 pub fn restrict(alloc: Global, wanted: Wanted, kind: RecordKind) -> Result<(), Stop> {
     match kind {
         RecordKind::Ssb1 => restrict_zeros(alloc, wanted),

@@ -9,7 +9,7 @@ use crate::takings::{WORKERS, is_partition};
 use scrub_fakes::SHARD;
 use scrub_fakes::payloads::{one_shard_payload, two_shards_payload};
 use scrub_fakes::published::{ONE_SHARD, TWINS};
-use scrub_fakes::worked::rotted;
+use scrub_fakes::worked::rotted_chunk;
 use scrub_pool::NoGate;
 use scrub_reclaim::Accepted;
 use scrub_report::ScrubAnswer;
@@ -35,8 +35,10 @@ last-room 1 82 174
 /// What that disk holds as if extent 1 had been reset.
 const MANIFEST: &str = "retired
 runs lost 0 hidden 0
-shard 00000000000000000000000000000001 00 3 ba7816bf8f01cfea414140de5dae2223b00361a396177a9cb410ff61f20015ad past_pointer 1 41 11111111-1111-1111-1111-111111111111 none
-shard 00000000000000000000000000000002 00 3 ba7816bf8f01cfea414140de5dae2223b00361a396177a9cb410ff61f20015ad past_pointer 1 41 11111111-1111-1111-1111-111111111111 none
+shard 00000000000000000000000000000001 00 3 ba7816bf8f01cfea414140de5dae2223b00361a396177a9cb410ff61f20015ad \
+past_pointer 1 41 11111111-1111-1111-1111-111111111111 none
+shard 00000000000000000000000000000002 00 3 ba7816bf8f01cfea414140de5dae2223b00361a396177a9cb410ff61f20015ad \
+past_pointer 1 41 11111111-1111-1111-1111-111111111111 none
 total 2 2
 ";
 
@@ -130,7 +132,7 @@ pub fn list_locators<R: Threads + Wait + Sync>(
 ) -> Result<(), Stop>
     requires { workers ≤ 64 }
 {
-    let disk = rotted(alloc)?;
+    let disk = rotted_chunk(alloc)?;
     wanted.made()?;
     let (listing, takings) = scrub_listings::list_locators(rt, alloc, &disk, workers, &NoGate)?;
     right(
@@ -157,7 +159,7 @@ pub fn list_reclaimable<R: Threads + Wait + Sync>(
     )?;
     right(
         listing.text.as_slice() == RECLAIMABLE.as_bytes()
-            && listing.is_clear
+            && listing.is_clean
             && is_partition(&takings, workers),
     )
 }
@@ -183,7 +185,7 @@ pub fn list_manifest<R: Threads + Wait + Sync>(
     )?;
     right(
         listing.text.as_slice() == MANIFEST.as_bytes()
-            && !listing.is_whole
+            && !listing.is_clean
             && is_partition(&takings, workers),
     )
 }
@@ -202,7 +204,7 @@ pub fn list_summary<R: Threads + Wait + Sync>(
     let (listing, takings) = scrub_listings::list_summary(rt, alloc, &disk, workers, &NoGate)?;
     right(
         listing.text.as_slice() == SUMMARY.as_bytes()
-            && !listing.is_sound
+            && !listing.is_clean
             && is_partition(&takings, workers),
     )
 }
@@ -219,7 +221,8 @@ fn is_found(answer: ShardAnswer, bytes: &[u8]) -> bool {
     }
 }
 
-/// Reads a shard of a rotted chunk, of which there is a copy, and a sound one, by `workers` workers and the caller.
+/// Reads a shard of a rotted chunk, of which there is a copy, and a sound one, by `workers` workers and the
+/// caller.
 pub fn read_shard<R: Threads + Wait + Sync>(
     rt: &R,
     alloc: Global,

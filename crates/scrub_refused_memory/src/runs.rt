@@ -70,8 +70,8 @@ fn not_a_run(alloc: Global, payload: &[u8]) -> Result<(), Stop> {
     }
 }
 
-/// The run of one shard, that of none, and payloads that aren't runs: two shards with one identifier, an entry of 65 locators,
-/// a byte after the digest, no bytes, and a count that 40 bytes can't hold.
+/// The run of one shard, that of none, and payloads that aren't runs: two shards with one identifier, an
+/// entry of 65 locators, a byte after the digest, no bytes, and a count that 40 bytes can't hold.
 pub fn read_run(alloc: Global, wanted: Wanted) -> Result<(), Stop> {
     let payload = one_shard_payload(alloc)?;
     let equal = payload_of_each(alloc, &[SHARD; 2], &[abc_at(1, 0)])?;
@@ -107,7 +107,8 @@ pub fn copy_run(alloc: Global, wanted: Wanted) -> Result<(), Stop> {
     }
 }
 
-/// Runs of the one shard, newest first: `Some(true)` has its chunk, `Some(false)` deletes it, and `None` is lost.
+/// Runs of the one shard, newest first: `Some(true)` has its chunk, `Some(false)` deletes it, and `None` is
+/// lost.
 fn runs_of(alloc: Global, given: &[Option<bool>]) -> Result<Vec<Option<Run>>, Stop> {
     let named = one_shard_payload(alloc)?;
     let deleted = payload_of_each(alloc, &[SHARD], &[])?;

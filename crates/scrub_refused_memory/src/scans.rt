@@ -1,4 +1,5 @@
-//! What is found in extents: tilings and their lines, findings of one extent and of all, and frames at given places.
+//! What is found in extents: tilings and their lines, findings of one extent and of all, and frames at given
+//! places.
 
 ghost use Rattle.std.specs.Prelude.{◌≡◌, IfOk, Some};
 ghost use Rattle.scrub_disk.specs.Memory.{image_of};
@@ -72,7 +73,8 @@ pub fn item_line(alloc: Global, wanted: Wanted) -> Result<(), Stop> {
     right(line.as_str() == "chunk 0 41 11111111-1111-1111-1111-111111111111 3")
 }
 
-/// Whether a result is that of a readable extent, with this pointer and these items, and nothing past the pointer.
+/// Whether a result is that of a readable extent, with this pointer and these items, and nothing past the
+/// pointer.
 fn has(found: &ExtentResult<'_, MemDisk>, extent: u32, pointer: u32, items: &[Item]) -> bool {
     let findings = found.findings();
     found.extent() == extent
@@ -175,8 +177,8 @@ fn standing(extent: u32, offset: u32, uuid: [u8; 16], payload: &[u8]) -> Standin
     }
 }
 
-/// The two frames in extent 2 of the disk of nine locators, the second of which the tiling steps past, and a place of extent 1
-/// without a frame.
+/// The two frames in extent 2 of the disk of nine locators, the second of which the tiling steps past, and a
+/// place of extent 1 without a frame.
 pub fn frame_stands(alloc: Global, wanted: Wanted) -> Result<(), Stop> {
     let (disk, _) = nine_locators(alloc)?;
     let geometry = disk.geometry();

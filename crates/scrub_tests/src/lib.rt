@@ -1,5 +1,5 @@
-//! Tests that cross crates, from the pages up: `scan`, `locators`, `workers`, `scrubs`. What they share is in `support`. No
-//! crate depends on this one.
+//! Tests that cross crates, from the pages up: `scan`, `locators`, `workers`, `scrubs`. What they share is in
+//! `support`. No crate depends on this one.
 #![tactic(auto)]
 
 #[cfg(test)]

@@ -1,4 +1,5 @@
-//! Tests of whole scrubs: reports, indexes, listings, shards that are read, and lists longer than in any example.
+//! Tests of whole scrubs: reports, indexes, listings, shards that are read, and lists longer than in any
+//! example.
 
 pub mod copies;
 pub mod large;

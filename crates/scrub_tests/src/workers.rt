@@ -1,5 +1,5 @@
-//! Tests of workers: any number of them finds and answers what one reader does and takes each extent once, even if a gate holds
-//! some of them up.
+//! Tests of workers: any number of them finds and answers what one reader does and takes each extent once,
+//! even if a gate holds some of them up.
 
 ghost use Rattle.std.specs.Prelude.{◌≤◌};
 
@@ -31,8 +31,9 @@ use std::test::Fail;
 use std::thread::Threads;
 use std::time::Clock;
 
-/// Scans and scrubs a disk with `workers` workers and the caller. Each is held at its first extent until `held` of them have
-/// passed with one. Compares the findings and the answer with those of one reader, and who took what with what the gates saw.
+/// Scans and scrubs a disk with `workers` workers and the caller. Each is held at its first extent until
+/// `held` of them have passed with one. Compares the findings and the answer with those of one reader, and
+/// who took what with what the gates saw.
 fn check_workers<R: Threads + Wait + Abort + Clock + Sync>(
     rt: &R,
     alloc: Global,
@@ -84,8 +85,8 @@ fn each_of_39_extents_has_its_own_worker_of_65(rt: HostRuntime) -> Result<(), Fa
     check_workers(&rt, rt.alloc(), &disk, 64, 39)
 }
 
-/// Scans a disk with `workers` workers and the caller. All but worker `alone` are held at their first extents until every
-/// extent is taken, so that one takes all that the others leave.
+/// Scans a disk with `workers` workers and the caller. All but worker `alone` are held at their first extents
+/// until every extent is taken, so that one takes all that the others leave.
 fn check_left_alone<R: Threads + Wait + Abort + Clock + Sync>(
     rt: &R,
     alloc: Global,
@@ -115,7 +116,8 @@ fn each_worker_goes_on_until_nothing_is_left(rt: HostRuntime) -> Result<(), Fail
     Ok(())
 }
 
-/// Scans a disk with `workers` workers and the caller. Their reads wait until all of them are reading at the same time.
+/// Scans a disk with `workers` workers and the caller. Their reads wait until all of them are reading at the
+/// same time.
 fn check_meeting<R: Threads + Wait + Abort + Clock + Sync>(
     rt: &R,
     alloc: Global,
@@ -144,9 +146,9 @@ fn all_workers_read_pages_at_the_same_time(rt: HostRuntime) -> Result<(), Fail> 
     Ok(())
 }
 
-/// Scrubs a disk with `workers` workers and the caller. Each is held at its first extent until all of them have passed with
-/// one. Checks that each extent was reported to the gate once, by the worker that took it and before it was read, and each
-/// total once, after the extent was read.
+/// Scrubs a disk with `workers` workers and the caller. Each is held at its first extent until all of them
+/// have passed with one. Checks that each extent was reported to the gate once, by the worker that took it
+/// and before it was read, and each total once, after the extent was read.
 fn check_reports<R: Threads + Wait + Abort + Clock + Sync>(
     rt: &R,
     alloc: Global,

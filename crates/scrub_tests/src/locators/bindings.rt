@@ -1,4 +1,5 @@
-//! Which bindings the shard map of a list of index runs has. The runs are read from payloads that are built here.
+//! Which bindings the shard map of a list of index runs has. The runs are read from payloads that are built
+//! here.
 
 use scrub_fakes::payloads::{entry_of, payload_of};
 use scrub_fakes::{abc_at, shard_numbered};
@@ -12,10 +13,12 @@ use std::test::Fail;
 /// A shard in a run: its number, and the offset of its `abc` in extent 1, or `None` if the run deletes it.
 type Written = (u32, Option<u32>);
 
-/// An expected binding: its run, whether it is doubtful, the number of its shard, and the offset of its `abc`.
+/// An expected binding: its run, whether it is doubtful, the number of its shard, and the offset of its
+/// `abc`.
 type Wanted = (u32, bool, u32, u32);
 
-/// Runs, newest first, each lost (`None`) or with its shards; all expected bindings; and two shards without a binding.
+/// Runs, newest first, each lost (`None`) or with its shards; all expected bindings; and two shards without a
+/// binding.
 struct Merge {
     what: &'static str,
     runs: &'static [Option<&'static [Written]>],
@@ -175,8 +178,8 @@ fn numbered(alloc: Global, first: u32) -> Result<Run, Fail> {
     read(alloc, &entries)
 }
 
-/// Checks that the bindings are those of the shards from 0 on, in order: all 2,000 of the first run, and the last 1,000 of each
-/// later run.
+/// Checks that the bindings are those of the shards from 0 on, in order: all 2,000 of the first run, and the
+/// last 1,000 of each later run.
 fn check_numbered(rt: &impl Abort, bindings: &[Binding]) {
     let mut number = 0u32;
     for binding in bindings {

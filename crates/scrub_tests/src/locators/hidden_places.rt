@@ -14,8 +14,8 @@ use std::test::Fail;
 use std::thread::Threads;
 use uuid::Uuid;
 
-/// The byte of extent 1 at which the hidden frames here begin. No item begins there, since it isn't a page boundary and no
-/// frame ends there.
+/// The byte of extent 1 at which the hidden frames here begin. No item begins there, since it isn't a page
+/// boundary and no frame ends there.
 const HIDDEN: u32 = 10;
 
 /// A blank disk of two extents, each of 64 pages of 64 bytes.
@@ -23,7 +23,8 @@ fn blank(alloc: Global) -> Result<MemDisk, Fail> {
     Ok(MemDisk::blank(alloc, Geometry::new(64, 64, 2)?)?)
 }
 
-/// The statuses of `count` copies of one locator to extent 1, and how often checking them asks for a page of that extent.
+/// The statuses of `count` copies of one locator to extent 1, and how often checking them asks for a page of
+/// that extent.
 fn checked_alike<R: Threads + Sync>(
     rt: &R,
     alloc: Global,
@@ -40,14 +41,14 @@ fn checked_alike<R: Threads + Sync>(
         locator: *locator,
     };
     let named = vec![in alloc; one; count]?;
-    let before = source.asked(1);
+    let before = source.reads_of(1);
     let checked = check_all(rt, alloc, &source, &plan, &all, &named)?;
     let statuses = checked.iter().map(|one| one.status).collect(alloc)?;
-    Ok((statuses, source.asked(1).saturating_sub(before)))
+    Ok((statuses, source.reads_of(1).saturating_sub(before)))
 }
 
-/// Checks that a locator has this status, and that a thousand copies of it have it too and ask for no more pages. Returns how
-/// many pages one locator asks for.
+/// Checks that a locator has this status, and that a thousand copies of it have it too and ask for no more
+/// pages. Returns how many pages one locator asks for.
 fn check_alike<R: Threads + Sync + std::process::Abort>(
     rt: &R,
     alloc: Global,
@@ -129,12 +130,12 @@ fn the_pages_of_a_hidden_run_are_not_read_again_for_its_status(
     let (read, statuses) = read_all_runs(&rt, rt.alloc(), &source, &plan, &all)?;
     let map = merge(rt.alloc(), read.runs())?;
     let named = named_locators(rt.alloc(), &plan, &map)?;
-    let before = source.asked(1);
+    let before = source.reads_of(1);
     let checked = check_named(&rt, rt.alloc(), &source, &plan, &all, &statuses, &map)?;
     assert!(rt; checked.len() == 1 && checked[0].status == Status::Hidden);
-    same(&rt, source.asked(1), before);
+    same(&rt, source.reads_of(1), before);
     let again = check_all(&rt, rt.alloc(), &source, &plan, &all, &named)?;
     same(&rt, again.as_slice(), checked.as_slice());
-    assert!(rt; source.asked(1) > before);
+    assert!(rt; source.reads_of(1) > before);
     Ok(())
 }

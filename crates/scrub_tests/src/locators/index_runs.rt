@@ -25,8 +25,8 @@ fn read(alloc: Global, disk: &MemDisk) -> Result<ReadRuns, Fail> {
     Ok(read_runs(alloc, disk, &plan, &all)?)
 }
 
-/// What is expected of a run of one shard: it is lost; or it is read, and deletes the shard or binds it to `abc` at the start
-/// of extent 1.
+/// What is expected of a run of one shard: it is lost; or it is read, and deletes the shard or binds it to
+/// `abc` at the start of extent 1.
 #[derive(Debug, Clone, Copy, PartialEq, Eq)]
 enum Found {
     Lost,

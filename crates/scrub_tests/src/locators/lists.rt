@@ -25,7 +25,8 @@ fn live_one_by_one(alloc: Global, disk: &MemDisk, checked: &[Checked]) -> Result
     Ok([0, 1, 2, 3].map(|extent| live_bytes(&all, checked, extent)))
 }
 
-/// The item at `start` among items that begin at 0, 41, 64 and 128, and how many of them the search looked at.
+/// The item at `start` among items that begin at 0, 41, 64 and 128, and how many of them the search looked
+/// at.
 fn found_at(start: u32) -> Found {
     let items = [
         Item::Noise { start: 0, stop: 41 },

@@ -16,7 +16,8 @@ use std::alloc::Global;
 use std::process::Abort;
 use std::test::Fail;
 
-/// The shard map of a disk, and the locators that it names. The type of the runs says that they are few enough to merge.
+/// The shard map of a disk, and the locators that it names. The type of the runs says that they are few
+/// enough to merge.
 fn shards_and_named(alloc: Global, disk: &MemDisk) -> Result<(ShardMap, Vec<Named>), Fail> {
     let plan = plan_of(alloc, disk)?;
     let all = scan_in_order(alloc, disk, &plan)?;

@@ -13,7 +13,8 @@ use std::collections::BTreeMap;
 use std::process::Abort;
 use std::test::Fail;
 
-/// The newest entry of a shard: the number of its run, whether a lost run comes before that one, and the locators.
+/// The newest entry of a shard: the number of its run, whether a lost run comes before that one, and the
+/// locators.
 #[derive(Debug, PartialEq, Eq, Drop)]
 struct Newest {
     run: u32,

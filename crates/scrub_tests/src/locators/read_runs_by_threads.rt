@@ -1,5 +1,5 @@
-//! The index runs of a disk as threads read them, compared with those that one reader reads. For what they should be see
-//! `index_runs`.
+//! The index runs of a disk as threads read them, compared with those that one reader reads. For what they
+//! should be see `index_runs`.
 
 use crate::support::compare::same;
 use scrub_check::{read_all_runs, read_runs};
@@ -40,8 +40,8 @@ fn check_run(rt: &impl Abort, found: &Option<Run>, wanted: &Option<Run>) {
     }
 }
 
-/// Compares the runs of a disk that threads read with those that one reader reads. Checks how many there are, and how many are
-/// lost.
+/// Compares the runs of a disk that threads read with those that one reader reads. Checks how many there are,
+/// and how many are lost.
 fn check_runs<R: Threads + Abort + Sync>(
     rt: &R,
     alloc: Global,
@@ -90,8 +90,8 @@ fn two_and_three_runs_are_read(rt: HostRuntime) -> Result<(), Fail> {
 /// The size in bytes of the frame of a run with one locator.
 const RUN_FRAME: u32 = 155;
 
-/// A disk with 32 runs in a row, each with its own locator. From the first on, every fifth locator is one byte off, and every
-/// seventh payload isn't a run.
+/// A disk with 32 runs in a row, each with its own locator. From the first on, every fifth locator is one
+/// byte off, and every seventh payload isn't a run.
 fn runs_in_a_row(alloc: Global) -> Result<MemDisk, Fail> {
     let mut disk = MemDisk::blank(alloc, Geometry::new(256, 64, 3)?)?;
     let mut runs = Vec::new(alloc);

@@ -1,4 +1,5 @@
-//! Locators of sealed frames: their statuses, the bytes that such chunks take, and index runs in sealed frames.
+//! Locators of sealed frames: their statuses, the bytes that such chunks take, and index runs in sealed
+//! frames.
 
 use crate::support::compare::same;
 use crate::support::reported::{lists_of, status_on};
@@ -14,7 +15,8 @@ use std::process::Abort;
 use std::slice;
 use std::test::Fail;
 
-/// A disk of three extents with the sealed frame of `abc` (75 bytes) at the start of extent 1, under this write pointer.
+/// A disk of three extents with the sealed frame of `abc` (75 bytes) at the start of extent 1, under this
+/// write pointer.
 fn sealed_under(alloc: Global, pointer: u32) -> Result<MemDisk, Fail> {
     let mut disk = small_disk(alloc)?;
     put_superblock(alloc, &mut disk, &[pointer, 0], &[])?;
@@ -80,7 +82,8 @@ fn live_bytes_count_chunks_of_both_forms(rt: HostRuntime) -> Result<(), Fail> {
     Ok(())
 }
 
-/// A disk with `abc` in extent 1, and in extent 2 the run of one shard that names it, in a sealed frame of 189 bytes.
+/// A disk with `abc` in extent 1, and in extent 2 the run of one shard that names it, in a sealed frame of
+/// 189 bytes.
 fn sealed_run(alloc: Global) -> Result<MemDisk, Fail> {
     let mut disk = small_disk(alloc)?;
     let abc = put_chunk(alloc, &mut disk, 1, 0, ONES, b"abc")?;

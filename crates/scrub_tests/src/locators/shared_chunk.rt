@@ -23,7 +23,8 @@ fn run_of_fifty(alloc: Global) -> Result<Vec<u8>, Fail> {
     Ok(payload_of(alloc, &entries)?)
 }
 
-/// A disk of three extents of 256 KiB with that chunk in extent 1 and that run in extent 2; the run's locator; and its payload.
+/// A disk of three extents of 256 KiB with that chunk in extent 1 and that run in extent 2; the run's
+/// locator; and its payload.
 fn fifty_shards(rt: &impl Abort, alloc: Global) -> Result<(MemDisk, Locator, Vec<u8>), Fail> {
     let mut disk = MemDisk::blank(alloc, Geometry::new(4_096, 64, 3)?)?;
     put_chunk(alloc, &mut disk, 1, 0, ONES, b"abc")?;

@@ -46,8 +46,8 @@ fn nine_locators_have_nine_statuses(rt: HostRuntime) -> Result<(), Fail> {
 /// A chunk: its extent, its offset, its UUID and its payload.
 type Chunk = (u32, u32, [u8; 16], &'static [u8]);
 
-/// A small disk: the pointer of extent 1 if there is a superblock, the chunks, and the unreadable pages. Then locators: the
-/// chunk that each is of, its length, and its status.
+/// A small disk: the pointer of extent 1 if there is a superblock, the chunks, and the unreadable pages. Then
+/// locators: the chunk that each is of, its length, and its status.
 #[derive(Clone, Copy)]
 struct StatusRow {
     what: &'static str,

@@ -1,5 +1,5 @@
-//! Slow references for the lists of the checks: plain walks straight from the definitions. Each worked disk is compared whole
-//! and with each page unreadable in turn, along with its items and its shard map.
+//! Slow references for the lists of the checks: plain walks straight from the definitions. Each worked disk
+//! is compared whole and with each page unreadable in turn, along with its items and its shard map.
 
 ghost use Rattle.std.specs.Prelude.{map};
 ghost use Rattle.std.specs.List.Sorted.{IsStrictlyIncreasing};
@@ -79,7 +79,8 @@ fn walk_twins(alloc: Global, chunks: &[Place]) -> Result<Vec<Place>, Fail> {
     Ok(twins)
 }
 
-/// The places of a small disk that several sound locators point to, found by a walk over all bytes of all extents.
+/// The places of a small disk that several sound locators point to, found by a walk over all bytes of all
+/// extents.
 fn walk_shared(
     alloc: Global,
     disk: &MemDisk,
@@ -93,7 +94,7 @@ fn walk_shared(
     Ok(shared)
 }
 
-/// Adds those places of an extent of `bytes` bytes, in rising order.
+/// Adds those places of an extent of `bytes` bytes, in ascending order.
 fn add_shared(
     shared: &mut Vec<SharedPlace>,
     checked: &[Checked],
@@ -141,7 +142,8 @@ fn walk_live(
     Ok((kept, total))
 }
 
-/// Whether an extent has bytes below its pointer, all of them readable, and only sound locators name the extent.
+/// Whether an extent has bytes below its pointer, all of them readable, and only sound locators name the
+/// extent.
 fn is_known(disk: &MemDisk, found: &ExtentResult<'_, MemDisk>, checked: &[Checked]) -> bool {
     let page = disk.geometry().page() as u64;
     let pointer = found.pointer() as u64;
@@ -155,7 +157,8 @@ fn is_known(disk: &MemDisk, found: &ExtentResult<'_, MemDisk>, checked: &[Checke
             && one.status != Status::Sound)
 }
 
-/// The extents that may be reclaimed if there is a superblock and no doubt: those that free most bytes first, then by number.
+/// The extents that may be reclaimed if there is a superblock and no doubt: those that free most bytes first,
+/// then by number.
 fn walk_candidates(
     alloc: Global,
     disk: &MemDisk,

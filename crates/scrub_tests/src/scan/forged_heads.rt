@@ -1,5 +1,5 @@
-//! Items of heads that claim a frame: eight that claim the rest of an extent, one of the zero UUID that claims all there is or
-//! a byte more, and one of a sealed frame that ends one byte past the pointer.
+//! Items of heads that claim a frame: eight that claim the rest of an extent, one of the zero UUID that
+//! claims all there is or a byte more, and one of a sealed frame that ends one byte past the pointer.
 
 use crate::scan::page_reads::heads;
 use crate::scan::tiling::check_tiling;
@@ -37,14 +37,15 @@ fn reading_a_whole_extent_asks_for_8_pages_and_tiling_it_for_more(
     let geometry = whole.geometry();
     assert!(&rt; geometry.extents() == 2 && geometry.extent_bytes() == 512);
     let _extent = read_extent(rt.alloc(), &whole, 1)?;
-    same(&rt, whole.asked(1), 8);
+    same(&rt, whole.reads_of(1), 8);
     let scanned = CountingSource::new(rt.alloc(), &disk)?;
     let _items = tile(rt.alloc(), &scanned, 1, 512)?;
-    assert!(&rt; scanned.asked(1) > 8);
+    assert!(&rt; scanned.reads_of(1) > 8);
     Ok(())
 }
 
-/// The length that a head of the zero UUID claims at the start of an extent of zeros, and the lines of the whole extent.
+/// The length that a head of the zero UUID claims at the start of an extent of zeros, and the lines of the
+/// whole extent.
 const CLAIMS: [(u32, &[&str]); 3] = [
     (
         218,

@@ -58,8 +58,8 @@ fn one_reader_finds_pads_on_a_blank_disk(rt: HostRuntime) -> Result<(), Fail> {
     check_both(&rt, rt.alloc(), &disk, &[&PADS, &PADS])
 }
 
-/// The lines of extent 1 of the disk of one shard: its chunk, and the zeros after it, which are left out only if there is a
-/// superblock.
+/// The lines of extent 1 of the disk of one shard: its chunk, and the zeros after it, which are left out only
+/// if there is a superblock.
 const FIRST: [&str; 5] = [
     "chunk 0 41 11111111-1111-1111-1111-111111111111 3",
     "pad 41 64",

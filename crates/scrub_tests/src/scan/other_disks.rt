@@ -1,5 +1,5 @@
-//! The scan, the tilings and the counts of page reads compared with the slow reference, on the worked disks that `walks` and
-//! `swept` leave out, or of which they see one extent only.
+//! The scan, the tilings and the counts of page reads compared with the slow reference, on the worked disks
+//! that `walks` and `swept` leave out, or of which they see one extent only.
 
 use crate::locators::walks::copy_of;
 use crate::scan::page_reads::heads;
@@ -50,7 +50,8 @@ fn greatest_length(alloc: Global) -> Result<MemDisk, Fail> {
     Ok(disk)
 }
 
-/// A disk of three extents of two pages of 128 bytes. Extent 1 has two frames with zeros between them, and a third on page 1.
+/// A disk of three extents of two pages of 128 bytes. Extent 1 has two frames with zeros between them, and a
+/// third on page 1.
 fn two_large_pages(alloc: Global) -> Result<MemDisk, Fail> {
     let mut disk = MemDisk::blank(alloc, Geometry::new(128, 2, 3)?)?;
     let frames = [
@@ -63,8 +64,8 @@ fn two_large_pages(alloc: Global) -> Result<MemDisk, Fail> {
     Ok(disk)
 }
 
-/// Frames of extent 1 and its write pointer: two end to end, one without payload, and one that ends at the pointer or is cut
-/// off by it.
+/// Frames of extent 1 and its write pointer: two end to end, one without payload, and one that ends at the
+/// pointer or is cut off by it.
 const BELOW: [(&[Written<'static>], u32); 5] = [
     (&[(0, ONES, &[0x78; 12]), (50, ONES, b"abc")], 91),
     (&[(0, ONES, b"")], 38),
@@ -123,7 +124,8 @@ fn copy_without_all(alloc: Global, disk: &MemDisk, page: u32) -> Result<MemDisk,
     Ok(copy)
 }
 
-/// The findings of an extent depend only on its own pages and pointer, so one copy can have an unreadable page in every extent.
+/// The findings of an extent depend only on its own pages and pointer, so one copy can have an unreadable
+/// page in every extent.
 #[test]
 fn a_disk_of_forty_extents_is_scanned_as_by_the_reference(rt: HostRuntime) -> Result<(), Fail> {
     let alloc = rt.alloc();

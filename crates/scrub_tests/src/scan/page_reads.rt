@@ -14,8 +14,9 @@ use std::alloc::Global;
 use std::process::Abort;
 use std::test::Fail;
 
-/// Checks that choosing a superblock asks once for each page of extent 0, and that a scan by one reader asks for pages of each
-/// other extent as often as its result reports: at least `pages` times, and at most `pages * (pages + 6)` times.
+/// Checks that choosing a superblock asks once for each page of extent 0, and that a scan by one reader asks
+/// for pages of each other extent as often as its result reports: at least `pages` times, and at most `pages
+/// * (pages + 6)` times.
 fn check_asked(rt: &impl Abort, alloc: Global, disk: &MemDisk) -> Result<(), Fail> {
     let source = CountingSource::new(alloc, disk)?;
     let geometry = source.geometry();
@@ -29,15 +30,15 @@ fn check_asked(rt: &impl Abort, alloc: Global, disk: &MemDisk) -> Result<(), Fai
             Some(result) => result.pages_asked(),
             None => pages,
         };
-        let asked = source.asked(extent);
+        let asked = source.reads_of(extent);
         same(rt, asked, reported);
         assert!(rt; pages <= asked && asked <= pages.saturating_mul(pages + 6));
     }
     Ok(())
 }
 
-/// A disk of two extents; extent 0 is blank. Each of the eight pages of extent 1 begins with the head of a frame that would end
-/// with the extent.
+/// A disk of two extents; extent 0 is blank. Each of the eight pages of extent 1 begins with the head of a
+/// frame that would end with the extent.
 pub(crate) fn heads(alloc: Global) -> Result<MemDisk, Fail> {
     let mut disk = MemDisk::blank(alloc, Geometry::new(64, 8, 2)?)?;
     for page in 0u8..8 {
@@ -67,7 +68,7 @@ fn asked_by_tile(
     assert!(rt; geometry.extents() > 1);
     assert!(rt; pointer <= geometry.extent_bytes());
     let _items = tile(alloc, &source, 1, pointer)?;
-    Ok(source.asked(1))
+    Ok(source.reads_of(1))
 }
 
 /// How often the scan of an extent reports that it asked for a page.
@@ -85,7 +86,8 @@ fn asked_by_scan<D: PageSource>(
     Ok(scanned.pages_asked())
 }
 
-/// The disk of `heads`, with or without a far end that agrees with the heads, and with these pages unreadable.
+/// The disk of `heads`, with or without a far end that agrees with the heads, and with these pages
+/// unreadable.
 fn heads_with(alloc: Global, far_end_agrees: bool, bad_pages: &[u32]) -> Result<MemDisk, Fail> {
     let mut disk = heads(alloc)?;
     if far_end_agrees {
@@ -116,8 +118,9 @@ fn at_most_one_head_that_claims_the_extent_is_followed(rt: HostRuntime) -> Resul
     Ok(())
 }
 
-/// A disk of two extents; extent 0 is blank. Each of the first seven of eight pages of extent 1 begins with the head of a
-/// sealed frame that would end with the extent. The closing bytes are there, but no digest is that of its payload.
+/// A disk of two extents; extent 0 is blank. Each of the first seven of eight pages of extent 1 begins with
+/// the head of a sealed frame that would end with the extent. The closing bytes are there, but no digest is
+/// that of its payload.
 pub(crate) fn sealed_heads(alloc: Global) -> Result<MemDisk, Fail> {
     let mut disk = MemDisk::blank(alloc, Geometry::new(64, 8, 2)?)?;
     for page in 0u8..7 {
@@ -134,8 +137,8 @@ pub(crate) fn sealed_heads(alloc: Global) -> Result<MemDisk, Fail> {
 #[test]
 fn each_sealed_head_whose_far_end_agrees_is_hashed(rt: HostRuntime) -> Result<(), Fail> {
     let disk = sealed_heads(rt.alloc())?;
-    // The far end once, each page for its own item, and for each head the pages up to the last. The seal of the fourth is
-    // trusted at first, and its pages are asked for again once it is found to be wrong.
+    // The far end once, each page for its own item, and for each head the pages up to the last. The seal of
+    // the fourth is trusted at first, and its pages are asked for again once it is found to be wrong.
     assert!(rt; asked_by_tile(&rt, rt.alloc(), &disk, 512)? == 40);
     Ok(())
 }
@@ -156,7 +159,7 @@ fn check_scan(rt: &impl Abort, alloc: Global, disk: &MemDisk, asked: u64) -> Res
     let chosen = choose(alloc, &source)?;
     let plan = Plan::make(alloc, &chosen, source.geometry())?;
     assert!(rt; asked_by_scan(rt, alloc, &source, &plan, 1)? == asked);
-    assert!(rt; source.asked(1) == asked);
+    assert!(rt; source.reads_of(1) == asked);
     Ok(())
 }
 

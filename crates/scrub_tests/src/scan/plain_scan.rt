@@ -1,5 +1,5 @@
-//! A slow reference for the scan, straight from the definitions: it copies the whole extent, finds each item by itself, and
-//! counts the tail byte by byte.
+//! A slow reference for the scan, straight from the definitions: it copies the whole extent, finds each item
+//! by itself, and counts the tail byte by byte.
 
 use crate::support::compare::same;
 use scrub_disk::{BufferedExtent, MemDisk, OutOfMemory, PageSource, read_extent, unreadable_pages};
@@ -150,8 +150,8 @@ fn check_extent(
     Ok(())
 }
 
-/// Compares the findings of one reader in each planned extent with the reference, and the page reads that each result reports
-/// with the count of the source.
+/// Compares the findings of one reader in each planned extent with the reference, and the page reads that
+/// each result reports with the count of the source.
 pub(crate) fn check_scan(rt: &impl Abort, alloc: Global, disk: &MemDisk) -> Result<(), Fail> {
     let source = CountingSource::new(alloc, disk)?;
     let geometry = source.geometry();
@@ -164,7 +164,7 @@ pub(crate) fn check_scan(rt: &impl Abort, alloc: Global, disk: &MemDisk) -> Resu
         assert!(rt; found.extent() < geometry.extents());
         check_extent(rt, alloc, disk, found)?;
         let asked = found.pages_asked();
-        same(rt, source.asked(found.extent()), asked);
+        same(rt, source.reads_of(found.extent()), asked);
         assert!(rt; pages <= asked && asked <= pages.saturating_mul(pages + 6));
     }
     Ok(())

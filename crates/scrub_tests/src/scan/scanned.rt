@@ -10,8 +10,8 @@ use std::test::Fail;
 /// The line of the chunk of `abc` at the start of an extent.
 const ABC: [&str; 1] = ["chunk 0 41 11111111-1111-1111-1111-111111111111 3"];
 
-/// Puts a superblock with a pointer of extent 1 and pointer 0 of extent 2. Checks what a scan of extent 1 finds, and that a
-/// scan of extent 2 finds nothing.
+/// Puts a superblock with a pointer of extent 1 and pointer 0 of extent 2. Checks what a scan of extent 1
+/// finds, and that a scan of extent 2 finds nothing.
 fn check_under(
     rt: &impl Abort,
     alloc: Global,
@@ -88,7 +88,8 @@ fn a_tail_begins_after_an_unreadable_page(rt: HostRuntime) -> Result<(), Fail> {
     check_under(&rt, rt.alloc(), &mut disk, 41, &expected)
 }
 
-/// Checks what a scan of extent 1 finds under a pointer, with a frame on pages 0 and 1 of which at least page 1 is unreadable.
+/// Checks what a scan of extent 1 finds under a pointer, with a frame on pages 0 and 1 of which at least page
+/// 1 is unreadable.
 fn check_unreadable(
     rt: &impl Abort,
     alloc: Global,

@@ -1,5 +1,5 @@
-//! Sealed frames beside plain ones: when they are whole, what is left of those that aren't, and the collision that they
-//! prevent.
+//! Sealed frames beside plain ones: when they are whole, what is left of those that aren't, and the collision
+//! that they prevent.
 
 use crate::scan::standing_frames::{Place, check_stands};
 use crate::scan::tiling::check_tiling;
@@ -20,8 +20,8 @@ fn sealed_abc(alloc: Global) -> Result<MemDisk, Fail> {
     Ok(disk)
 }
 
-/// What is put into extent 1 (sealed frames, plain frames, and bytes over them), the unreadable pages, the pointer, and the
-/// lines.
+/// What is put into extent 1 (sealed frames, plain frames, and bytes over them), the unreadable pages, the
+/// pointer, and the lines.
 #[derive(Clone, Copy)]
 struct Tiled {
     sealed: &'static [Written<'static>],

@@ -135,8 +135,8 @@ fn check_put(
 #[test]
 fn a_frame_with_a_byte_on_an_unreadable_page_does_not_stand(rt: HostRuntime) -> Result<(), Fail> {
     let mut disk = two_extents(rt.alloc())?;
-    // Frames of 41 bytes. The first ends with page 0. Of the others the last byte, part of the head, or all bytes are on page
-    // 1.
+    // Frames of 41 bytes. The first ends with page 0. Of the others the last byte, part of the head, or all
+    // bytes are on page 1.
     for (offset, stands) in &[(215, true), (216, false), (240, false), (300, false)] {
         check_put(&rt, rt.alloc(), &mut disk, *offset, *stands)?;
     }

@@ -1,5 +1,5 @@
-//! The tiling compared with the slow reference under every pointer, on worked images of one extent, whole and with each page
-//! unreadable in turn.
+//! The tiling compared with the slow reference under every pointer, on worked images of one extent, whole and
+//! with each page unreadable in turn.
 
 use crate::locators::walks::copy_of;
 use crate::scan::page_reads::{heads, sealed_heads};
@@ -22,8 +22,8 @@ fn check_swept(rt: &impl Abort, alloc: Global, disk: &MemDisk) -> Result<(), Fai
     Ok(())
 }
 
-/// Plain frames of extent 1: one, two that touch, one without payload, one over two pages, the collision, one over three pages,
-/// and three with gaps between them.
+/// Plain frames of extent 1: one, two that touch, one without payload, one over two pages, the collision, one
+/// over three pages, and three with gaps between them.
 const FRAMES: [&[Written<'static>]; 7] = [
     &[(0, ONES, b"abc")],
     &[(0, ONES, &[0x78; 12]), (50, ONES, b"abc")],

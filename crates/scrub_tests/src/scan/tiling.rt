@@ -1,5 +1,5 @@
-//! The items of an extent below its write pointer, and their lines. For `abc` under several pointers, zeros, and a frame over
-//! an unreadable page see `scanned` and `one_reader`.
+//! The items of an extent below its write pointer, and their lines. For `abc` under several pointers, zeros,
+//! and a frame over an unreadable page see `scanned` and `one_reader`.
 
 use crate::support::extents::{Written, check_lines, disk_with, put_all, put_frames};
 use scrub_disk::{Geometry, MemDisk, PageSource};
@@ -39,8 +39,8 @@ struct Tiled<'a> {
     lines: &'a [&'a str],
 }
 
-/// Tilings of a frame whose last page is unreadable, a frame that hides the chunk at the page boundary (the collision), two
-/// frames end to end, and a frame without payload.
+/// Tilings of a frame whose last page is unreadable, a frame that hides the chunk at the page boundary (the
+/// collision), two frames end to end, and a frame without payload.
 const TILINGS: [Tiled<'static>; 4] = [
     Tiled {
         frames: &[(0, TWOS, &[0x78; 117])],

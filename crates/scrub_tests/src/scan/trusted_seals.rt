@@ -1,6 +1,6 @@
-//! Wrong seals among right ones. A tiling compares seals with digests once it has gathered several payloads, and goes back
-//! to the first frame whose seal is wrong: it finds the items of the slow reference all the same, and asks for no more pages
-//! than it may.
+//! Wrong seals among right ones. A tiling compares seals with digests once it has gathered several payloads,
+//! and goes back to the first frame whose seal is wrong: it finds the items of the slow reference all the
+//! same, and asks for no more pages than it may.
 
 use crate::scan::plain_scan::{check_scan, check_tilings};
 use scrub_disk::{Geometry, MemDisk};
@@ -8,8 +8,9 @@ use scrub_fakes::{ONES, TWOS, put, put_chunk, put_sealed, put_superblock};
 use std::alloc::Global;
 use std::test::Fail;
 
-/// A disk of two extents whose pages have 128 bytes. Extent 1 is below its pointer, and each of its pages is a frame: two
-/// sealed ones, then a plain one, and so on. In frames of these numbers a byte of the payload was changed.
+/// A disk of two extents whose pages have 128 bytes. Extent 1 is below its pointer, and each of its pages is
+/// a frame: two sealed ones, then a plain one, and so on. In frames of these numbers a byte of the payload
+/// was changed.
 pub(crate) fn a_frame_a_page(alloc: Global, pages: u8, changed: &[u8]) -> Result<MemDisk, Fail> {
     let mut disk = MemDisk::blank(alloc, Geometry::new(128, u32::from(pages), 2)?)?;
     for number in 0..pages {
@@ -69,8 +70,8 @@ fn wrong_seals_among_frames_of_a_page_are_found(rt: HostRuntime) -> Result<(), F
     Ok(())
 }
 
-/// A disk of two extents. Extent 1 has 64 pages of 64 bytes, and twenty frames of 67 to 301 bytes that touch, all
-/// sealed but each fourth. In one of them a byte of the payload was changed.
+/// A disk of two extents. Extent 1 has 64 pages of 64 bytes, and twenty frames of 67 to 301 bytes that touch,
+/// all sealed but each fourth. In one of them a byte of the payload was changed.
 pub(crate) fn frames_that_touch(alloc: Global, changed: u8) -> Result<MemDisk, Fail> {
     let mut disk = MemDisk::blank(alloc, Geometry::new(64, 64, 2)?)?;
     let mut offset = 0u32;

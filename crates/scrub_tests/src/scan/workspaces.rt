@@ -41,7 +41,8 @@ fn scan_new<'d>(
     Ok(scan_extent(alloc, disk, plan, 1)?)
 }
 
-/// Checks that the scan of extent 1 of a disk in a workspace finds what one in new memory finds, by as many page reads.
+/// Checks that the scan of extent 1 of a disk in a workspace finds what one in new memory finds, by as many
+/// page reads.
 fn check_kept(
     rt: &impl Abort,
     alloc: Global,

@@ -1,5 +1,5 @@
-//! Disks with chunks and their copies: the spares of what dangles, what may be reclaimed and where copies may go, and what the
-//! disks hold, also as if extents had been reset.
+//! Disks with chunks and their copies: the spares of what dangles, what may be reclaimed and where copies may
+//! go, and what the disks hold, also as if extents had been reset.
 
 use crate::scrubs::listings::{NONE, Which, check_listing};
 use crate::scrubs::retired::broken_and_retired;
@@ -17,7 +17,7 @@ use std::process::Abort;
 use std::slice;
 use std::test::Fail;
 
-/// The UUID of garbage in extent 1, or behind a copy in extent 2.
+/// The UUID of garbage in extent 1, or after a copy in extent 2.
 const FIVES: [u8; 16] = [0x55; 16];
 
 /// The UUID of the garbage in extent 2.
@@ -37,9 +37,9 @@ enum Disk {
     Copied,
     Named,
     Empty,
-    /// There is noise behind the run.
+    /// There is noise after the run.
     Full,
-    /// There is no noise behind the run.
+    /// There is no noise after the run.
     Less,
     Both,
     HiddenRun,
@@ -52,8 +52,8 @@ impl Disk {
     fn make(self, rt: &impl Abort, alloc: Global) -> Result<MemDisk, Fail> {
         match self {
             Disk::Zeros => Ok(small_disk(alloc)?),
-            Disk::Rotted => rotted(alloc, false),
-            Disk::Sealed => rotted(alloc, true),
+            Disk::Rotted => rotted_chunk(alloc, false),
+            Disk::Sealed => rotted_chunk(alloc, true),
             Disk::Copied => copied(alloc),
             Disk::Named => named(alloc),
             Disk::Empty => empty(alloc),
@@ -72,8 +72,8 @@ fn blank(alloc: Global) -> Result<MemDisk, Fail> {
     Ok(MemDisk::blank(alloc, Geometry::new(64, 8, 4)?)?)
 }
 
-/// A blank disk, but extent 1 has a chunk in which `abc` has rotted, and extent 2 a copy of the whole one, which may be sealed,
-/// with garbage behind it. Returns the copy's locator with the disk.
+/// A blank disk, but extent 1 has a chunk in which `abc` has rotted, and extent 2 a copy of the whole one,
+/// which may be sealed, with garbage after it. Returns the copy's locator with the disk.
 fn rotted_and_copy(alloc: Global, is_sealed: bool) -> Result<(MemDisk, Locator), Fail> {
     let mut disk = blank(alloc)?;
     put_chunk(alloc, &mut disk, 1, 0, ONES, b"abX")?;
@@ -88,7 +88,7 @@ fn rotted_and_copy(alloc: Global, is_sealed: bool) -> Result<(MemDisk, Locator),
 }
 
 /// That disk, with the run of one shard in extent 3. It names the rotted chunk, and nothing names the copy.
-fn rotted(alloc: Global, is_sealed: bool) -> Result<MemDisk, Fail> {
+fn rotted_chunk(alloc: Global, is_sealed: bool) -> Result<MemDisk, Fail> {
     let (mut disk, _) = rotted_and_copy(alloc, is_sealed)?;
     let run = put_run(alloc, &mut disk, 3, 0, RUN, &[abc_at(1, 0)])?;
     let behind = if is_sealed { 213 } else { 179 };
@@ -96,7 +96,7 @@ fn rotted(alloc: Global, is_sealed: bool) -> Result<MemDisk, Fail> {
     Ok(disk)
 }
 
-/// The disk of `rotted`, with a second plain copy behind the run.
+/// The disk of `rotted_chunk`, with a second plain copy after the run.
 fn copied(alloc: Global) -> Result<MemDisk, Fail> {
     let (mut disk, _) = rotted_and_copy(alloc, false)?;
     let run = put_run(alloc, &mut disk, 3, 0, RUN, &[abc_at(1, 0)])?;
@@ -127,7 +127,7 @@ fn put_two_shards(
     Ok(put_chunk(alloc, disk, 3, offset, RUN, &payload)?)
 }
 
-/// The disk of `rotted`, but a second shard names the copy.
+/// The disk of `rotted_chunk`, but a second shard names the copy.
 fn named(alloc: Global) -> Result<MemDisk, Fail> {
     let (mut disk, copy) = rotted_and_copy(alloc, false)?;
     let run = put_two_shards(alloc, &mut disk, 0, &[abc_at(1, 0)], copy)?;
@@ -135,8 +135,8 @@ fn named(alloc: Global) -> Result<MemDisk, Fail> {
     Ok(disk)
 }
 
-/// A disk of four extents. The shard's chunk in extent 1 has no payload, and another UUID than the run says. Extent 2 has
-/// garbage.
+/// A disk of four extents. The shard's chunk in extent 1 has no payload, and another UUID than the run says.
+/// Extent 2 has garbage.
 fn empty(alloc: Global) -> Result<MemDisk, Fail> {
     let mut disk = blank(alloc)?;
     let chunk = put_chunk(alloc, &mut disk, 1, 0, ONES, b"")?;
@@ -147,8 +147,8 @@ fn empty(alloc: Global) -> Result<MemDisk, Fail> {
     Ok(disk)
 }
 
-/// A disk of four extents. The shard's chunk at the start of extent 1 is sealed, and garbage is behind it and in extent 2. In
-/// extent 3 there may be a byte of noise behind the run.
+/// A disk of four extents. The shard's chunk at the start of extent 1 is sealed, and garbage is after it and
+/// in extent 2. In extent 3 there may be a byte of noise after the run.
 fn sealed_and_garbage(alloc: Global, has_noise: bool) -> Result<MemDisk, Fail> {
     let mut disk = blank(alloc)?;
     let chunk = put_sealed(alloc, &mut disk, 1, 0, ONES, b"abc")?;
@@ -164,8 +164,8 @@ fn sealed_and_garbage(alloc: Global, has_noise: bool) -> Result<MemDisk, Fail> {
     Ok(disk)
 }
 
-/// A disk of four extents. The first shard has a chunk of `abc` in extent 1, and one in extent 3 before the run. The second
-/// shard has a chunk in extent 1. Extent 2 has garbage.
+/// A disk of four extents. The first shard has a chunk of `abc` in extent 1, and one in extent 3 before the
+/// run. The second shard has a chunk in extent 1. Extent 2 has garbage.
 fn both(alloc: Global) -> Result<MemDisk, Fail> {
     let mut disk = blank(alloc)?;
     let one = put_chunk(alloc, &mut disk, 1, 0, ONES, b"abc")?;

@@ -1,5 +1,5 @@
-//! Whole disks with more of one thing than in any example. A body that always answers out of memory for them meets every
-//! contract, so only tests refuse it.
+//! Whole disks with more of one thing than in any example. A body that always answers out of memory for them
+//! meets every contract, so only tests refuse it.
 
 use crate::scrubs::listings::{NONE, Which, listing_of};
 use crate::scrubs::sizes::{filled, run_of_shards};
@@ -35,8 +35,8 @@ enum Places {
 }
 
 impl Places {
-    /// The place that shard `number` names. At a place that isn't shared no item begins: there are six of them on each page,
-    /// from its second byte on.
+    /// The place that shard `number` names. At a place that isn't shared no item begins: there are six of
+    /// them on each page, from its second byte on.
     fn of(self, number: u32) -> u32 {
         match self {
             Places::Blank | Places::Hidden => (number / 6)
@@ -73,8 +73,8 @@ const LAST_SHARED: SharedPlace = SharedPlace {
     count: 2,
 };
 
-/// Checks the locators of these shards: their status, and the numbers of hidden locators, dangling locators, broken shards and
-/// shared places.
+/// Checks the locators of these shards: their status, and the numbers of hidden locators, dangling locators,
+/// broken shards and shared places.
 fn check_statuses<R: Threads + Abort + Sync>(
     rt: &R,
     alloc: Global,
@@ -154,7 +154,8 @@ fn each_of_100032_locators_has_its_lines(rt: HostRuntime) -> Result<(), Fail> {
         "shard 0000000000000000000000000000061a 1 4101271 3 11111111-1111-1111-1111-111111111111 sound\n";
     check_lines(&rt, rt.alloc(), &disk, Which::Locators, 100_033, last)?;
     let last =
-        "move 1 4101271 3 11111111-1111-1111-1111-111111111111 shard 0000000000000000000000000000061a 41\nroom 2 6028569 10748647\nlast-room 1 8202624 8574592\n";
+        "move 1 4101271 3 11111111-1111-1111-1111-111111111111 shard 0000000000000000000000000000061a 41\n\
+        room 2 6028569 10748647\nlast-room 1 8202624 8574592\n";
     check_lines(
         &rt,
         rt.alloc(),
@@ -180,8 +181,8 @@ fn a_sealed_run_of_a_mebibyte_is_read(rt: HostRuntime) -> Result<(), Fail> {
     Ok(())
 }
 
-/// A disk of 104 extents with `abc` in extent 1 and the run of one shard that names it in extent 2. Extents `retired` are
-/// retired.
+/// A disk of 104 extents with `abc` in extent 1 and the run of one shard that names it in extent 2. Extents
+/// `retired` are retired.
 fn retiring(alloc: Global, retired: &[u32]) -> Result<MemDisk, Fail> {
     let mut disk = MemDisk::blank(alloc, Geometry::new(64, 16, 104)?)?;
     put_chunk(alloc, &mut disk, 1, 0, ONES, b"abc")?;

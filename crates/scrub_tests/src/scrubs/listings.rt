@@ -1,5 +1,5 @@
-//! The listings that scan a disk (its named locators, what may be reclaimed, what it holds, and its summary), by any number of
-//! workers.
+//! The listings that scan a disk (its named locators, what may be reclaimed, what it holds, and its summary),
+//! by any number of workers.
 
 ghost use Rattle.std.specs.Prelude.{◌≤◌, IsTrue};
 ghost use Rattle.std.specs.List.Sorted.{IsStrictlyIncreasing};
@@ -77,47 +77,20 @@ fn answer<D: PageSource, G: Gate, R: Threads + Wait + Sync>(
     requires workers { workers ≤ 64 }
     requires rising { IsStrictlyIncreasing resets.now }
 {
-    match which {
-        Which::Locators => {
-            let (listing, takings) = list_locators(rt, alloc, disk, workers, gate)?;
-            Ok(Listing {
-                text: listing.text,
-                is_good: listing.is_clean,
-                takings,
-            })
+    let (listing, takings) = match which {
+        Which::Locators => list_locators(rt, alloc, disk, workers, gate)?,
+        Which::Reclaimable(words) => {
+            let accepted = Accepted::new(words);
+            list_reclaimable(rt, alloc, disk, workers, gate, &accepted)?
         }
-        Which::Reclaimable(accepted) => {
-            let (listing, takings) = list_reclaimable(
-                rt,
-                alloc,
-                disk,
-                workers,
-                gate,
-                &Accepted::new(accepted),
-            )?;
-            Ok(Listing {
-                text: listing.text,
-                is_good: listing.is_clear,
-                takings,
-            })
-        }
-        Which::Manifest(_) => {
-            let (listing, takings) = list_manifest(rt, alloc, disk, workers, gate, resets)?;
-            Ok(Listing {
-                text: listing.text,
-                is_good: listing.is_whole,
-                takings,
-            })
-        }
-        Which::Summary => {
-            let (listing, takings) = list_summary(rt, alloc, disk, workers, gate)?;
-            Ok(Listing {
-                text: listing.text,
-                is_good: listing.is_sound,
-                takings,
-            })
-        }
-    }
+        Which::Manifest(_) => list_manifest(rt, alloc, disk, workers, gate, resets)?,
+        Which::Summary => list_summary(rt, alloc, disk, workers, gate)?,
+    };
+    Ok(Listing {
+        text: listing.text,
+        is_good: listing.is_clean,
+        takings,
+    })
 }
 
 /// A listing of a disk, by `workers` workers and the caller. Out of memory fails the test.
@@ -141,7 +114,8 @@ pub(crate) fn listing_of<D: PageSource, G: Gate, R: Threads + Wait + Sync>(
     }
 }
 
-/// Checks the lines of a listing by one worker and the caller, and whether the program ends with status 0 after them.
+/// Checks the lines of a listing by one worker and the caller, and whether the program ends with status 0
+/// after them.
 pub(crate) fn check_listing<R: Threads + Wait + Abort + Sync>(
     rt: &R,
     alloc: Global,

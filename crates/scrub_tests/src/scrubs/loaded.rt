@@ -1,5 +1,5 @@
-//! The disk with one shard, loaded from raw bytes that come one by one, are cut short or fail. Its scrub is compared with that
-//! of a disk in memory with the same unreadable pages.
+//! The disk with one shard, loaded from raw bytes that come one by one, are cut short or fail. Its scrub is
+//! compared with that of a disk in memory with the same unreadable pages.
 
 ghost use Rattle.std.specs.Prelude.{◌≡◌, ◌≤◌};
 
@@ -31,8 +31,8 @@ fn raw_bytes(rt: &impl Abort, alloc: Global) -> Result<Vec<u8>, Fail> {
     Ok(raw)
 }
 
-/// The scrub of the disk with one shard, with the pages from `first` up to but not including `end` unreadable. Pages are
-/// counted from the first page of extent 0.
+/// The scrub of the disk with one shard, with the pages from `first` up to but not including `end`
+/// unreadable. Pages are counted from the first page of extent 0.
 fn scrubbed_without<R: Threads + Sync>(
     rt: &R,
     alloc: Global,
@@ -99,7 +99,8 @@ fn a_disk_that_is_cut_short_has_the_whole_pages_before_the_cut(
     Ok(())
 }
 
-/// The scrub of the disk loaded from these bytes. Read `failing`, counted from 0, fails; a read gives at most `most` bytes.
+/// The scrub of the disk loaded from these bytes. Read `failing`, counted from 0, fails; a read gives at most
+/// `most` bytes.
 fn scrubbed_failing<R: Abort + Threads + Sync>(
     rt: &R,
     alloc: Global,

@@ -1,8 +1,9 @@
-//! How often a whole scrub asks for each page: once for the scan, and again for the payloads of the index runs.
+//! How often a whole scrub asks for each page: once for the scan, and again for the payloads of the index
+//! runs.
 
 ghost use Rattle.std.specs.Prelude.{◌≤◌};
 ghost use Rattle.scrub_disk.specs.Memory.{image_of};
-ghost use Rattle.scrub_disk.specs.WholePages.{memory_pages};
+ghost use Rattle.scrub_disk.specs.steps.WholePages.{memory_pages};
 
 use crate::support::compare::same;
 use crate::support::reported::{scrubbed, scrubbed_by};
@@ -42,7 +43,7 @@ impl<'a> PageCounts<'a> {
     }
 
     /// How often a page was asked for.
-    fn asked(&self, extent: u32, page: u32) -> u64 {
+    fn reads_of(&self, extent: u32, page: u32) -> u64 {
         match self.count(extent, page) {
             Some(count) => count.load(Ordering::SeqCst),
             None => 0,
@@ -76,8 +77,8 @@ impl PageSource for PageCounts<'_> {
     }
 }
 
-/// How often a scrub of the disk of many shards asks for a page. The run's frame is on pages 0 to 46 of extent 39: its payload
-/// begins on page 0, and both the payload and the closing bytes end on page 46.
+/// How often a scrub of the disk of many shards asks for a page. The run's frame is on pages 0 to 46 of
+/// extent 39: its payload begins on page 0, and both the payload and the closing bytes end on page 46.
 fn wanted(extent: u32, page: u32) -> u64 {
     match (extent, page) {
         // For the scan, the head, and the payload.
@@ -94,7 +95,7 @@ fn wanted(extent: u32, page: u32) -> u64 {
 /// Checks how often each page of an extent of the disk of many shards was asked for.
 fn check_extent(rt: &impl Abort, source: &PageCounts<'_>, extent: u32) {
     for page in 0..64 {
-        let asked = source.asked(extent, page);
+        let asked = source.reads_of(extent, page);
         let wanted = wanted(extent, page);
         assert!(rt; asked == wanted, "page {page} of extent {extent}: {asked}");
     }
@@ -105,7 +106,8 @@ fn check_pages(rt: &impl Abort, source: &PageCounts<'_>) {
     for extent in 0..40 {
         check_extent(rt, source, extent);
     }
-    // 39 extents of 64 pages, and in extent 39 page 0 three times, 45 pages twice, one four times, and 17 once.
+    // 39 extents of 64 pages, and in extent 39 page 0 three times, 45 pages twice, one four times, and 17
+    // once.
     same(rt, source.asked_in_all(), 2_496 + 114);
 }
 

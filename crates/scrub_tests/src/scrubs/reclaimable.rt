@@ -23,7 +23,8 @@ fn check<R: Threads + Wait + Abort + Sync>(
     check_listing(rt, alloc, disk, Which::Reclaimable(accepted), is_good, text)
 }
 
-/// A disk of three extents. Extent 2 has a chunk that nothing names, and after it a run that the superblock names twice.
+/// A disk of three extents. Extent 2 has a chunk that nothing names, and after it a run that the superblock
+/// names twice.
 fn run_after_garbage(alloc: Global) -> Result<MemDisk, Fail> {
     let mut disk = small_disk(alloc)?;
     put_chunk(alloc, &mut disk, 2, 0, ONES, &[0x78; 60])?;

@@ -1,4 +1,5 @@
-//! Disks whose superblock retires extents: what is scanned, the status of locators into retired extents, and the reports.
+//! Disks whose superblock retires extents: what is scanned, the status of locators into retired extents, and
+//! the reports.
 
 ghost use Rattle.std.specs.Prelude.{◌≤◌};
 
@@ -45,8 +46,8 @@ fn put_retiring(
     Ok(put_contents(alloc, disk, page, &superblock)?)
 }
 
-/// A disk of three extents with `abc` in extent 1 and the run of one shard that names it in extent 2. Extents `retired` are
-/// retired. The record has `length` bytes.
+/// A disk of three extents with `abc` in extent 1 and the run of one shard that names it in extent 2. Extents
+/// `retired` are retired. The record has `length` bytes.
 fn one_shard_retiring(
     rt: &impl Abort,
     alloc: Global,
@@ -61,8 +62,8 @@ fn one_shard_retiring(
     Ok(disk)
 }
 
-/// A disk of four extents with `abc` in extent 1 and the run of one shard that names it in extent 2. Extent 3 is retired; it is
-/// full of FF, and its page 0 is unreadable.
+/// A disk of four extents with `abc` in extent 1 and the run of one shard that names it in extent 2. Extent 3
+/// is retired; it is full of FF, and its page 0 is unreadable.
 pub(crate) fn broken_and_retired(rt: &impl Abort, alloc: Global) -> Result<MemDisk, Fail> {
     let mut disk = MemDisk::blank(alloc, Geometry::new(64, 4, 4)?)?;
     put_chunk(alloc, &mut disk, 1, 0, ONES, b"abc")?;
@@ -84,8 +85,8 @@ fn check_pieces(rt: &impl Abort, answer: &ScrubAnswer, pieces: &[&str]) -> Resul
     Ok(())
 }
 
-/// Scrubs a disk with `workers` workers, and compares the answer with that of one reader. Returns which worker took which
-/// extents.
+/// Scrubs a disk with `workers` workers, and compares the answer with that of one reader. Returns which
+/// worker took which extents.
 fn check_workers<R: Threads + Wait + Abort + Sync>(
     rt: &R,
     alloc: Global,
@@ -126,8 +127,8 @@ fn no_page_of_a_retired_extent_is_asked_for(rt: HostRuntime) -> Result<(), Fail>
     let source = CountingSource::new(rt.alloc(), &disk)?;
     assert!(&rt; scrubbed(&rt, rt.alloc(), &source)?.is_clean());
     assert!(&rt; source.geometry().extents() == 4);
-    assert!(&rt; source.asked(2) >= 4);
-    same(&rt, source.asked(3), 0);
+    assert!(&rt; source.reads_of(2) >= 4);
+    same(&rt, source.reads_of(3), 0);
     Ok(())
 }
 
@@ -144,8 +145,8 @@ fn check_unasked<R: Threads + Wait + Abort + Sync>(
     assert!(rt; source.geometry().extents() == 4);
     let (answer, _) = scrubbed_by(rt, alloc, &source, workers, &NoGate)?;
     assert!(rt; answer.is_clean());
-    assert!(rt; source.asked(2) >= 4);
-    same(rt, source.asked(3), 0);
+    assert!(rt; source.reads_of(2) >= 4);
+    same(rt, source.reads_of(3), 0);
     Ok(())
 }
 
@@ -205,8 +206,8 @@ fn nothing_is_scanned_if_all_extents_are_retired(rt: HostRuntime) -> Result<(), 
     Ok(())
 }
 
-/// Checks that a book without planned extents is complete, and that a pool without them is complete after these steps. Both
-/// find nothing.
+/// Checks that a book without planned extents is complete, and that a pool without them is complete after
+/// these steps. Both find nothing.
 fn check_pool(
     rt: &impl Abort,
     alloc: Global,

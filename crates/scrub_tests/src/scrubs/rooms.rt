@@ -1,4 +1,5 @@
-//! Which extents have room for copies, and from where on: by what is in an extent, behind its write pointer, and named in it.
+//! Which extents have room for copies, and from where on: by what is in an extent, past its write pointer,
+//! and named in it.
 
 use crate::scrubs::listings::{Which, check_listing};
 use scrub_disk::{Geometry, MemDisk};
@@ -11,7 +12,7 @@ use std::test::Fail;
 /// What is in extent 3 of a disk of four extents, each of eight pages of 64 bytes, and what is said of it.
 #[derive(Debug, Clone, Copy, PartialEq, Eq)]
 struct Row {
-    /// The length of the payload of the chunk behind `abc`. Both are named.
+    /// The length of the payload of the chunk after `abc`. Both are named.
     length: usize,
     pointer: u32,
     /// Bytes that are no chunk's, and their offset.
@@ -26,7 +27,7 @@ struct Row {
     room: &'static str,
 }
 
-/// Room behind two chunks, which end at 179.
+/// Room after two chunks, which end at 179.
 const ROOM: Row = Row {
     length: 100,
     pointer: 179,
@@ -48,7 +49,7 @@ const ROWS: [Row; 15] = [
         room: "room 3 192 320\n",
         ..ROOM
     },
-    // Behind padding, the room begins at the next page bound.
+    // After padding, the room begins at the next page bound.
     Row {
         pointer: 194,
         room: "room 3 256 256\n",
@@ -61,7 +62,7 @@ const ROWS: [Row; 15] = [
         tail: "accepted tail 3 255 1\n",
         ..NO_ROOM
     },
-    // Bytes behind the place don't matter.
+    // Bytes after the place don't matter.
     Row {
         pointer: 194,
         bytes: (256, &[0xFF]),
@@ -85,7 +86,7 @@ const ROWS: [Row; 15] = [
         bytes: (179, &[0xC5, 0x5E]),
         ..NO_ROOM
     },
-    // A page behind the pointer, and one before it, can't be read.
+    // A page past the pointer, and one before it, can't be read.
     Row {
         bad: Some(7),
         tail: "accepted tail-lost 3 7 7\n",

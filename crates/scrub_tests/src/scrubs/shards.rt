@@ -1,11 +1,12 @@
-//! Shards that are read from disks: their bytes, which of their chunks and copies the bytes are from, and why there are none.
+//! Shards that are read from disks: their bytes, which of their chunks and copies the bytes are from, and why
+//! there are none.
 
 ghost use Rattle.std.specs.Prelude.{◌≤◌};
 
 use crate::support::compare::same;
 use scrub_disk::{Geometry, MemDisk, PageSource};
 use scrub_fakes::payloads::put_run;
-use scrub_fakes::worked::{Worked, many_shards, nine_locators, put_abc_and_its_run, rotted};
+use scrub_fakes::worked::{Worked, many_shards, nine_locators, put_abc_and_its_run, rotted_chunk};
 use scrub_fakes::{
     CountingSource, FOURS, ONES, SHARD, THREES, TWOS, abc_at, put_chunk, put_contents, put_sealed,
     put_superblock, shard_of, small_disk,
@@ -98,15 +99,15 @@ impl Disk {
         match self {
             Disk::Worked(worked) => Ok(worked.disk(alloc)?),
             Disk::NineLocators => Ok(nine_locators(alloc)?.0),
-            Disk::Rotted => Ok(rotted(alloc)?),
+            Disk::Rotted => Ok(rotted_chunk(alloc)?),
             Disk::ManyShards => Ok(many_shards(alloc)?.0),
             Disk::Retiring(retired) => retiring(alloc, retired),
         }
     }
 }
 
-/// A disk of three extents with `abc` in extent 1 and the run of one shard that names it in extent 2. These extents are
-/// retired.
+/// A disk of three extents with `abc` in extent 1 and the run of one shard that names it in extent 2. These
+/// extents are retired.
 fn retiring(alloc: Global, retired: &[u32]) -> Result<MemDisk, Fail> {
     let mut disk = small_disk(alloc)?;
     let run = put_abc_and_its_run(alloc, &mut disk)?;
@@ -229,8 +230,8 @@ impl Piece {
     }
 }
 
-/// A disk of four extents, each of 16 pages of 64 bytes. The chunks of the pieces are in extent 1, and copies in extent 2. The
-/// run in extent 3 has one shard with these pieces, or deletes it if there are none.
+/// A disk of four extents, each of 16 pages of 64 bytes. The chunks of the pieces are in extent 1, and copies
+/// in extent 2. The run in extent 3 has one shard with these pieces, or deletes it if there are none.
 fn pieces(alloc: Global, entry: &[Piece]) -> Result<MemDisk, Fail> {
     let mut disk = MemDisk::blank(alloc, Geometry::new(64, 16, 4)?)?;
     put_chunk(alloc, &mut disk, 1, 0, ONES, b"abc")?;
@@ -307,9 +308,9 @@ fn a_shard_is_the_payloads_of_its_entry_in_order(rt: HostRuntime) -> Result<(), 
     Ok(())
 }
 
-/// A disk of five extents, each of eight pages of 64 bytes. The `abc` in extent 1 has rotted, and a sound chunk is behind it. The
-/// payloads of its three copies, by extent and offset: on two pages of extent 2, on one page of it, and on one of extent 3.
-/// The run of one shard with these locators is in extent 4.
+/// A disk of five extents, each of eight pages of 64 bytes. The `abc` in extent 1 has rotted, and a sound
+/// chunk is after it. The payloads of its three copies, by extent and offset: on two pages of extent 2, on
+/// one page of it, and on one of extent 3. The run of one shard with these locators is in extent 4.
 fn copied(alloc: Global, locators: &[Locator]) -> Result<MemDisk, Fail> {
     let mut disk = MemDisk::blank(alloc, Geometry::new(64, 8, 5)?)?;
     put_chunk(alloc, &mut disk, 1, 0, ONES, b"abX")?;
@@ -324,8 +325,8 @@ fn copied(alloc: Global, locators: &[Locator]) -> Result<MemDisk, Fail> {
     Ok(disk)
 }
 
-/// Reads the shard with these locators of that disk. Checks what is read, and how often pages of extents 1, 2 and 3 are asked
-/// for.
+/// Reads the shard with these locators of that disk. Checks what is read, and how often pages of extents 1, 2
+/// and 3 are asked for.
 fn check_asked<R: Threads + Wait + Abort + Sync>(
     rt: &R,
     alloc: Global,
@@ -340,7 +341,7 @@ fn check_asked<R: Threads + Wait + Abort + Sync>(
     check_answer(rt, answer, expected);
     same(
         rt,
-        [source.asked(1), source.asked(2), source.asked(3)],
+        [source.reads_of(1), source.reads_of(2), source.reads_of(3)],
         asked,
     );
     Ok(())
@@ -371,8 +372,8 @@ fn length_of(number: u8) -> usize {
     }
 }
 
-/// A disk of three extents with 64 chunks in extent 1, and the run of one shard that names them in extent 2. Returns the
-/// payloads, one directly after another, with the disk.
+/// A disk of three extents with 64 chunks in extent 1, and the run of one shard that names them in extent 2.
+/// Returns the payloads, one directly after another, with the disk.
 fn large(alloc: Global) -> Result<(MemDisk, Vec<u8>), Fail> {
     let mut disk = MemDisk::blank(alloc, Geometry::new(256, 8_192, 3)?)?;
     let (mut bytes, mut locators) = (Vec::new(alloc), Vec::new(alloc));

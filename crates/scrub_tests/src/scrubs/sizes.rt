@@ -1,5 +1,5 @@
-//! Lists longer than in any example. A body that answers out of memory for a long list meets every contract, so each call that
-//! makes a list gets a long one here. No clock is read.
+//! Lists longer than in any example. A body that answers out of memory for a long list meets every contract,
+//! so each call that makes a list gets a long one here. No clock is read.
 
 ghost use Rattle.std.specs.Prelude.{◌≡◌, ◌<◌, All, Contains, IsTrue, OnOk};
 ghost use Rattle.scrub_disk.specs.Memory.{image_of};
@@ -42,8 +42,8 @@ pub(crate) fn run_of_shards(alloc: Global, shards: u32) -> Result<Vec<u8>, Fail>
     Ok(payload_of(alloc, &entries)?)
 }
 
-/// A disk of three extents: `chunks` chunks of `abc` under one UUID in extent 1, and in extent 2 the run of `shards` shards
-/// that name the first of the chunks, 64 each.
+/// A disk of three extents: `chunks` chunks of `abc` under one UUID in extent 1, and in extent 2 the run of
+/// `shards` shards that name the first of the chunks, 64 each.
 pub(crate) fn filled(
     alloc: Global,
     geometry: Geometry,

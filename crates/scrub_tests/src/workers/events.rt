@@ -95,8 +95,8 @@ fn a_pool_of_no_workers_takes_nothing(rt: HostRuntime) -> Result<(), Fail> {
     Ok(())
 }
 
-/// Two schedules of three members over three planned extents. They differ in who takes what, who is done first and who retires
-/// first.
+/// Two schedules of three members over three planned extents. They differ in who takes what, who is done
+/// first and who retires first.
 const SCHEDULES: [([Event; 9], [u32; 3]); 2] = [
     (
         [

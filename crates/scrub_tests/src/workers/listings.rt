@@ -1,5 +1,5 @@
-//! The listings that scan a disk, by any number of workers: the lines, who took what, what the gate saw, and how often pages
-//! are asked for.
+//! The listings that scan a disk, by any number of workers: the lines, who took what, what the gate saw, and
+//! how often pages are asked for.
 
 ghost use Rattle.std.specs.Prelude.{◌≤◌};
 
@@ -83,8 +83,8 @@ fn halved(rt: &impl Abort, alloc: Global) -> Result<MemDisk, Fail> {
     Ok(disk)
 }
 
-/// The line of an extent's named chunk in a listing, or the lines of the extent, if it is to be reclaimed, and of the chunk to
-/// move.
+/// The line of an extent's named chunk in a listing, or the lines of the extent, if it is to be reclaimed,
+/// and of the chunk to move.
 fn line_of(alloc: Global, which: Which, byte: u8) -> Result<String, Fail> {
     let uuid = Uuid::from_bytes([byte; 16]);
     match which {
@@ -97,7 +97,8 @@ fn line_of(alloc: Global, which: Which, byte: u8) -> Result<String, Fail> {
     }
 }
 
-/// The lines behind those of the chunks: the room behind the run, and behind the two chunks of each extent to reclaim.
+/// The lines after those of the chunks: the room after the run, and after the two chunks of each extent to
+/// reclaim.
 fn lines_behind(alloc: Global, which: Which) -> Result<String, Fail> {
     if matches!(which, Which::Manifest(_)) {
         return Ok(String::from_str(alloc, "total 38 38\n")?);
@@ -129,8 +130,8 @@ fn lines(alloc: Global, which: Which) -> Result<String, Fail> {
     Ok(text)
 }
 
-/// Lists that disk with `workers` workers and the caller. Each is held at its first extent until `held` of them have passed
-/// with one. Checks the lines, and compares who took what with what the gate saw.
+/// Lists that disk with `workers` workers and the caller. Each is held at its first extent until `held` of
+/// them have passed with one. Checks the lines, and compares who took what with what the gate saw.
 fn check_listing<R: Threads + Wait + Abort + Clock + Sync>(
     rt: &R,
     alloc: Global,
@@ -168,18 +169,19 @@ fn any_number_of_workers_lists_the_same_lines(rt: HostRuntime) -> Result<(), Fai
     Ok(())
 }
 
-/// Checks how often pages of the disk of many shards were asked for: once each, except those with bytes of the run in extent
+/// Checks how often pages of the disk of many shards were asked for: once each, except those with bytes of
+/// the run in extent
 /// 39. The first of these was asked for three times, the last one four times, and the 45 between them twice.
 fn check_asked(rt: &impl Abort, source: &CountingSource<'_>) {
     assert!(rt; source.geometry().extents() == 40);
     for extent in 0..39 {
-        same(rt, source.asked(extent), 64);
+        same(rt, source.reads_of(extent), 64);
     }
-    same(rt, source.asked(39), 114);
+    same(rt, source.reads_of(39), 114);
 }
 
-/// Lists that disk with `workers` workers and the caller. Checks that the gate saw each extent before it was read and each
-/// total after, and that each page was asked for as often as it has to be.
+/// Lists that disk with `workers` workers and the caller. Checks that the gate saw each extent before it was
+/// read and each total after, and that each page was asked for as often as it has to be.
 fn check_reading<R: Threads + Wait + Abort + Clock + Sync>(
     rt: &R,
     alloc: Global,

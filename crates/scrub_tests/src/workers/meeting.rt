@@ -2,15 +2,15 @@
 
 ghost use Rattle.std.specs.Prelude.{◌≡◌};
 ghost use Rattle.scrub_disk.specs.Memory.{image_of};
-ghost use Rattle.scrub_disk.specs.WholePages.{memory_pages};
+ghost use Rattle.scrub_disk.specs.steps.WholePages.{memory_pages};
 
 use crate::workers::pausing::{PAUSES, pause};
 use scrub_disk::{Geometry, MemDisk, PageSource, Unreadable};
 use std::sync::atomic::{AtomicU64, Ordering};
 use std::time::Clock;
 
-/// A disk in memory as a page source. Its reads wait until `wanted` threads are reading at the same time; from then on none
-/// waits. The first that waits too long ends the waiting too.
+/// A disk in memory as a page source. Its reads wait until `wanted` threads are reading at the same time;
+/// from then on none waits. The first that waits too long ends the waiting too.
 #[derive(Drop)]
 pub(super) struct MeetingSource<'a, C: Clock> {
     clock: &'a C,

@@ -9,8 +9,8 @@ use std::process::Abort;
 use std::test::Fail;
 use std::time::Clock;
 
-/// A watch that holds each worker until all have passed. It counts a fault if a page of an extent was asked for before a worker
-/// passed with that extent, or fewer than all pages before the extent was counted.
+/// A watch that holds each worker until all have passed. It counts a fault if a page of an extent was asked
+/// for before a worker passed with that extent, or fewer than all pages before the extent was counted.
 #[derive(Drop)]
 pub(super) struct ReadingWatch<'a, C: Clock> {
     source: &'a CountingSource<'a>,
@@ -31,16 +31,16 @@ impl<'a, C: Clock> ReadingWatch<'a, C> {
     }
 
     /// How often a page of an extent was asked for, or `None` if the disk has no such extent.
-    fn asked(&self, extent: u64) -> Option<u64> {
+    fn reads_of(&self, extent: u64) -> Option<u64> {
         if extent >= u64::from(self.source.geometry().extents()) {
             return None;
         }
-        Some(self.source.asked(extent as u32))
+        Some(self.source.reads_of(extent as u32))
     }
 
     /// Whether pages of an extent were asked for at least as often as it has pages.
     fn was_read(&self, extent: u64) -> bool {
-        match self.asked(extent) {
+        match self.reads_of(extent) {
             Some(asked) => asked >= u64::from(self.source.geometry().pages()),
             None => false,
         }
@@ -54,7 +54,7 @@ impl<'a, C: Clock> ReadingWatch<'a, C> {
 
 impl<C: Clock + Sync> Gate for ReadingWatch<'_, C> {
     fn passed(&self, worker: u32, extent: u32) {
-        if self.asked(u64::from(extent)) != Some(0) {
+        if self.reads_of(u64::from(extent)) != Some(0) {
             self.watch.fault();
         }
         self.watch.passed(worker, extent);

@@ -14,8 +14,8 @@ use std::test::Fail;
 use std::thread::Threads;
 use std::time::Clock;
 
-/// Reads a shard of a disk with `workers` workers and the caller. Each is held at its first extent until `held` of them have
-/// passed with one. Checks the bytes, and compares who took what with what the gate saw.
+/// Reads a shard of a disk with `workers` workers and the caller. Each is held at its first extent until
+/// `held` of them have passed with one. Checks the bytes, and compares who took what with what the gate saw.
 fn check_reading<R: Threads + Wait + Abort + Clock + Sync>(
     rt: &R,
     alloc: Global,

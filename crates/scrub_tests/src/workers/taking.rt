@@ -1,4 +1,5 @@
-//! Two threads that take from one queue, and a scan without a gate. For scans that a gate holds up see `workers`.
+//! Two threads that take from one queue, and a scan without a gate. For scans that a gate holds up see
+//! `workers`.
 
 ghost use Rattle.std.specs.Prelude.{◌≡◌};
 

@@ -9,7 +9,8 @@ use std::sync::atomic::{AtomicU64, Ordering};
 use std::test::Fail;
 use std::time::Clock;
 
-/// Which worker reported which number, from 1 on. Each number is reported once, and the numbers of one worker rise.
+/// Which worker reported which number, from 1 on. Each number is reported once, and the numbers of one worker
+/// rise.
 #[derive(Drop)]
 struct Record {
     // By number: the worker that reported it, plus 1, or 0.
@@ -18,15 +19,16 @@ struct Record {
     last: Vec<AtomicU64>,
 }
 
-/// Records what each worker reports, and holds each at its first extent until `wanted` workers have passed with one.
+/// Records what each worker reports, and holds each at its first extent until `wanted` workers have passed
+/// with one.
 #[derive(Drop)]
 pub(super) struct Watch<'c, C: Clock> {
     clock: &'c C,
     // The extents with which workers passed, and the totals that they counted.
     passed: Record,
     counted: Record,
-    // How often a number came again, didn't rise or wasn't one of the disk's, an unknown worker reported, or a worker was held
-    // too long.
+    // How often a number came again, didn't rise or wasn't one of the disk's, an unknown worker reported, or
+    // a worker was held too long.
     faults: AtomicU64,
     wanted: usize,
 }
@@ -49,7 +51,8 @@ impl Record {
         })
     }
 
-    /// Records that a worker reported a number. Returns the number that it reported before, or 0. `None` is a fault.
+    /// Records that a worker reported a number. Returns the number that it reported before, or 0. `None` is a
+    /// fault.
     fn note(&self, worker: u32, number: u64) -> Option<u64> {
         let last = self.last.get(worker as usize)?;
         let reporter = self.reporters.get(number as usize)?;
@@ -97,8 +100,8 @@ impl Record {
 }
 
 impl<'c, C: Clock> Watch<'c, C> {
-    /// A gate for `workers` workers, the caller among them, on a disk of `extents` extents. It holds each worker until `wanted`
-    /// of them have passed.
+    /// A gate for `workers` workers, the caller among them, on a disk of `extents` extents. It holds each
+    /// worker until `wanted` of them have passed.
     pub(super) fn new(
         clock: &'c C,
         alloc: Global,
@@ -145,9 +148,9 @@ impl<'c, C: Clock> Watch<'c, C> {
         }
     }
 
-    /// Checks that there are as many workers as the gate is for, that each reported the extents that it took, in the order in
-    /// which it took them, and as many totals, one by one; and that each extent but extent 0 is planned. So each planned extent
-    /// was reported once.
+    /// Checks that there are as many workers as the gate is for, that each reported the extents that it took,
+    /// in the order in which it took them, and as many totals, one by one; and that each extent but extent 0
+    /// is planned. So each planned extent was reported once.
     pub(super) fn check(&self, rt: &impl Abort, takings: &Takings, planned: &[u32]) {
         same(rt, takings.workers() as usize + 1, self.passed.last.len());
         same(rt, takings.counted(), planned.len() as u64);
