@@ -9,7 +9,7 @@ import tempfile
 import unittest
 
 from lib.cases import Case
-from lib.examples import PAGES, Transcript, examples_of, starting
+from lib.examples import PAGES, Transcript, examples_of, scans_of, starting
 from lib.program import TOP, need, program
 from lib.schema import check_line, is_row
 
@@ -32,7 +32,7 @@ class ExampleCase(Case):
 
 
 class ReportCase(Case):
-    """The reports and rows that the examples print, and the schema."""
+    """The reports and rows that the examples print, those of which they print a part, and the schema."""
 
     def __init__(self, transcript):
         super().__init__("check")
@@ -48,6 +48,10 @@ class ReportCase(Case):
         for example, printed in zip(self.transcript.examples, self.transcript.printed):
             for line in filter(is_row, printed.splitlines()):
                 check_line(self, f"{PAGES[example.page]}, line {example.line}", line)
+        for words in scans_of("Examples"):
+            done = subprocess.run([program(), "scan", *words.split()], cwd=TOP, capture_output=True, text=True)
+            if done.returncode < 2:
+                check_line(self, f"scan {words}", done.stdout.rstrip("\n"))
 
 
 class Clone(Case):

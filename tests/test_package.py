@@ -32,6 +32,7 @@ INSTALLED = {
     "share/man/man1/shardscrub.1": (0o644, "docs/shardscrub.1"),
     "share/shardscrub/view/fleet.sql": (0o644, "view/fleet.sql"),
     "share/shardscrub/view/metrics": (0o755, "view/metrics"),
+    "share/shardscrub/view/questions.jq": (0o644, "view/questions.jq"),
     "share/shardscrub/view/report.html": (0o644, "view/report.html"),
     "share/shardscrub/view/row": (0o755, "view/row"),
 }

@@ -130,8 +130,8 @@ class Reports(PageCase):
 
     def check_example(self, number, command, report):
         name, disk = f"{number:02}", disk_of(command)
-        outputs = {"locators": "".join(line + "\n" for line in fitting_locators(report))} if disk is None else disk.outputs
-        self.check(f"{command}: the report is that of the image", disk is None or disk.report == report)
+        outputs = disk.outputs
+        self.check(f"{command}: the report is that of the image", disk.report == report)
         shown = self.open(report, {}, name)
         self.check_picture(command, shown, report, {})
         self.check_hovering(command, report, 40)

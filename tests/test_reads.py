@@ -1,8 +1,8 @@
 """Images some of whose bytes can't be read. A page is lost just if a read of it alone fails: each answer has to be, byte for byte,
 the one on the same image with these pages named in the arguments, and that of lib/reference.py.
 
-An image of 4 MiB or more is read by a thread for each processor, in blocks of 256 KiB if it is large enough. A block that can't
-be read as a whole is read again page by page.
+An image of 4 MiB or more is read by a thread for each processor, 256 KiB at once if it is large enough. If such a read fails, its
+pages are read again one by one.
 """
 import os
 import random
@@ -82,7 +82,7 @@ class Reads(RoomCase):
     def setUpClass(cls):
         super().setUpClass()
         cls.library = failing_reads.made(cls.room)
-        # Blocks of 256 KiB; and one that is read by several threads, but in smaller blocks.
+        # Reads of 256 KiB; and one that is read by several threads, but by smaller reads.
         cls.large, cls.small = Image(cls.room, 4096, 256, 24, []), Image(cls.room, 512, 1024, 20, [3, 300])
         every = sorted(os.sched_getaffinity(0))
         cls.processors = [set(every[:1]), set(every)] if len(every) > 1 else [set(every)]

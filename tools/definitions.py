@@ -2,13 +2,13 @@
 """Makes the lists of docs/DEFINITIONS.md: each public definition, with the comment above it as its sentence.
 
 The page keeps its head, which is written by hand, up to a line that says where the lists begin. Files come in the order of each crate's
-Lib.antt. Each definition needs a comment of one sentence directly above it.
+Lib.antt, and then of its steps.antt. Each definition needs a comment of one sentence directly above it.
 """
 import re
 import sys
 
 from pages import run_tool
-from specs import CRATES, TOP, Spec, linked, short
+from specs import CRATES, TOP, Spec, linked, short, spec_files, spec_path
 
 PAGE = TOP / "docs/DEFINITIONS.md"
 # The line that ends the head of the page.
@@ -25,17 +25,17 @@ STANDARDS = [
 
 
 def sections_of(crate, faults):
-    """The spec files of a crate in the order of its Lib.antt: pairs of a comment and the files below it."""
+    """The spec files of a crate in the order of its Lib.antt and its steps.antt: pairs of a comment and the files below it."""
     folder = TOP / "crates" / crate / "specs"
     sections = []
-    lib = folder / "Lib.antt"
-    for line in lib.read_text(encoding="utf-8").splitlines() if lib.is_file() else []:
-        if line.startswith("-- "):
-            sections.append((line[3:], []))
-        elif line.startswith("pub mod "):
-            sections[-1][1].append(Spec(folder / f"{line.split()[2]}.antt"))
+    for path, inner in ((folder / "Lib.antt", ""), (folder / "steps.antt", "steps.")):
+        for line in path.read_text(encoding="utf-8").splitlines() if path.is_file() else []:
+            if line.startswith("-- "):
+                sections.append((line[3:], []))
+            elif line.startswith("pub mod ") and line != "pub mod steps":
+                sections[-1][1].append(Spec(spec_path(crate, inner + line.split()[2])))
     listed = {spec.path for _, specs in sections for spec in specs}
-    faults += [f"crates/{short(path)} isn't listed in its Lib.antt" for path in sorted(folder.glob("*.antt")) if path not in listed | {lib}]
+    faults += [f"crates/{short(path)} isn't listed in Lib.antt or steps.antt" for path in spec_files(crate) if path not in listed]
     return [(comment, specs) for comment, specs in sections if specs]
 
 

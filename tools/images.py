@@ -216,7 +216,7 @@ def rotted():
 
 
 def copied():
-    """The old copy was copied behind the run, and no entry names the new one."""
+    """The old copy was copied after the run, and no entry names the new one."""
     disk, index_run = rotted_disk()
     disk.chunk(3, 155, uuid(0x44), b"abc")
     disk.superblock(0, 2, index_run)
@@ -224,7 +224,7 @@ def copied():
 
 
 def two_copies():
-    """Shard 1's chunk, behind the run, has rotted. Extents 1 and 2 have an old copy each, and garbage."""
+    """Shard 1's chunk, after the run, has rotted. Extents 1 and 2 have an old copy each, and garbage."""
     disk = Disk(8, 4)
     for extent in (1, 2):
         disk.chunk(extent, 0, uuid(0x44), b"abc")
@@ -235,7 +235,7 @@ def two_copies():
 
 
 def less():
-    """Shard 1's chunk is sealed, and garbage lies behind it. Extent 2 has garbage alone."""
+    """Shard 1's chunk is sealed, and garbage lies after it. Extent 2 has garbage alone."""
     disk = Disk(8, 4)
     chunk = disk.chunk(1, 0, uuid(0x11), b"abc", sealed_frame)
     disk.chunk(1, 75, uuid(0x55), bytes(100))
@@ -245,7 +245,7 @@ def less():
 
 
 def full():
-    """The same disk with a byte of noise behind the run."""
+    """The same disk with a byte of noise after the run."""
     disk = less()
     disk.put(3, 155, b"x")
     disk.pointers[2] = 156
@@ -264,7 +264,7 @@ def both():
 
 
 def to_move_disk():
-    """Shard 1's chunk has garbage behind it. In extent 2 a chunk of 66 bytes has lost the last two in a crash, at the page
+    """Shard 1's chunk has garbage after it. In extent 2 a chunk of 66 bytes has lost the last two in a crash, at the page
     boundary. Its UUID ended with the two bytes of the magic. Returns the disk and the locator of its run."""
     disk = Disk(8, 4)
     chunk = disk.chunk(1, 0, uuid(0x11), b"abc")
@@ -298,7 +298,7 @@ def damaged_copy():
 
 
 def completed():
-    """The chunk was copied to the page boundary behind the torn one, and completes it."""
+    """The chunk was copied to the page boundary after the torn one, and completes it."""
     return moved(2, PAGE)
 
 

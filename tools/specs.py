@@ -121,6 +121,22 @@ def short(path):
     return str(path.relative_to(TOP / "crates"))
 
 
+def spec_path(crate, module):
+    """The file of a module of definitions, as `Frame` or `steps.Pages`."""
+    return TOP / "crates" / crate / "specs" / f"{module.replace('.', '/')}.antt"
+
+
+def spec_files(crate):
+    """The files of definitions of a crate, without the lists of them: those of the crate, then its steps."""
+    folder = TOP / "crates" / crate / "specs"
+    return [path for path in [*sorted(folder.glob("*.antt")), *sorted(folder.glob("steps/*.antt"))]
+            if path not in (folder / "Lib.antt", folder / "steps.antt")]
+
+
+def is_step(path):
+    return path.parent.name == "steps"
+
+
 def named(names):
     return ", ".join(f"`{name}`" for name in names)
 

@@ -15,7 +15,7 @@ import re
 import sys
 
 from pages import run_tool
-from specs import CRATES, TOP, USE, Imports, Spec, linked, named, resolved, short, without_comments, words_of
+from specs import CRATES, TOP, USE, Imports, Spec, is_step, linked, named, resolved, short, spec_files, spec_path, without_comments, words_of
 
 PAGE = TOP / "docs/TRUSTED.md"
 # The function whose contract is the headline: its crate, its file, and its name. Then the others, each with what it is.
@@ -95,7 +95,7 @@ class Reader:
         self.faults = []
 
     def spec(self, crate, name):
-        path = TOP / "crates" / crate / "specs" / f"{name}.antt"
+        path = spec_path(crate, name)
         if path not in self.specs:
             self.specs[path] = Spec(path)
         return self.specs[path]
@@ -246,7 +246,7 @@ def page_of(readers):
     lines = sum(spec.lines for spec in specs)
     count = sum(map(len, reached))
     out = ["# What the theorem rests on", ""]
-    out += ["The theorem on the whole scrub is the contract of `scrub`. The [README](../README.md#what-is-proved-of-it) has it with its "
+    out += ["The theorem on the whole scrub is the contract of `scrub`. [The book](THEOREM.md) prints it with its "
             "words. The theorem means what its definitions mean. Read the definitions and the types of the code in them, trust the "
             "toolchain, and you know exactly what is promised. You don't need to read a function's body, a proof or any other "
             f"definition. There are {count} definitions in {len(files)} files of {lines} lines.", ""]
@@ -277,22 +277,32 @@ def page_of(readers):
         out.append(f"| `{module}` | {named(sorted(reader.outside[module]))} |")
     for place, (headline, what) in enumerate(OTHERS, 1):
         out += beside(readers[place], readers[:place], headline, what)
-    every = [path for crate in CRATES for path in sorted((TOP / "crates" / crate / "specs").glob("*.antt")) if path.name != "Lib.antt"]
+    every = [path for crate in CRATES for path in spec_files(crate)]
     files = {path for reader in readers for path in reader.definitions}
     rest = [path for path in every if path not in files]
+    steps = [path for path in rest if is_step(path)]
     out += ["", "## Spec files that none of them rests on", "",
-            f"{len(rest)} of {len(every)}, not counting each crate's list of them, `Lib.antt`. They are for other public clauses, steps of "
-            "the code, and lemmas.", "", "| Crate | Files |", "|---|---|"]
+            f"{len(rest)} of {len(every)}, not counting the lists of them, `Lib.antt` and `steps.antt`. {len(steps)} are in a folder "
+            "`specs/steps`: only bodies and proofs need these. The others are for other public clauses.", "",
+            "| Crate | Beside `steps` | In `steps` |", "|---|---|---|"]
     for crate in CRATES:
-        stems = [path.stem for path in rest if short(path).split("/")[0] == crate]
-        if stems:
-            out.append(f"| `{crate}` | {named(stems)} |")
+        own = [path for path in rest if short(path).split("/")[0] == crate]
+        if own:
+            out.append(f"| `{crate}` | {named(path.stem for path in own if not is_step(path))} | "
+                       f"{named(path.stem for path in own if is_step(path))} |")
     return "\n".join(out) + "\n"
+
+
+def needed_steps(readers):
+    """A fault for each definition that a contract rests on though it is said to be a step."""
+    return [f"crates/{short(path)}: {name} isn't a step, since a contract rests on it" for reader in readers
+            for path in reader.definitions if is_step(path) for name in sorted(reader.definitions[path])]
 
 
 def made():
     readers = read_all()
-    return {PAGE: page_of(readers)}, list(dict.fromkeys(fault for reader in readers for fault in reader.faults))
+    faults = [fault for reader in readers for fault in reader.faults] + needed_steps(readers)
+    return {PAGE: page_of(readers)}, list(dict.fromkeys(faults))
 
 
 if __name__ == "__main__":

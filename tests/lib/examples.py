@@ -50,6 +50,12 @@ def examples_of(page):
     return found
 
 
+def scans_of(page):
+    """The arguments of each scan that is an example of a page, each once. A scan within a longer command isn't one."""
+    found = [re.match(r"\./shardscrub scan ([^|;>]*)", example.command) for example in examples_of(page)]
+    return list(dict.fromkeys(one[1].strip() for one in found if one))
+
+
 def all_examples():
     return [example for page in PAGES for example in examples_of(page)]
 

@@ -22,7 +22,7 @@ WITHOUT_GROWTH = {"ExtentQueue::split", "Spares::among"}
 # These look as if they took memory, but take none: an empty list, the contents of a list, a fault of another kind.
 NOT_CALLED = {"Batch::new", "Workspace::new", "WorkerCore::new", "Run::take", "Geometry::new", "write_out"}
 # What crates above share with the crate that has it. Other calls make these, and so meet each growth of them.
-CALLED_WITHIN = {"LocatorIndex::of", "liveness_by", "scan_by", "scan_chosen", "scan_with_resets", "parts_of", "parts_and_twins", "owner_text", "place_text"}
+CALLED_WITHIN = {"LocatorIndex::of", "liveness_by", "scan_by", "scan_chosen", "scan_with_resets", "parts_of", "parts_and_twins", "owner_text"}
 # The crates whose public functions are calls here.
 LIBRARIES = ["sha_lanes"] + [
     f"scrub_{name}"

@@ -3,10 +3,12 @@ than its disk; those of examples/README.md; and made-up reports of the largest d
 import functools
 import json
 import random
+import subprocess
 
 from lib.disks import Disk, locator, run, sealed_frame, shard, uuid
+from lib.examples import scans_of
 from lib.picture import items_of, kind_of
-from lib.program import TOP
+from lib.program import TOP, program
 from lib.reference import ACCEPTABLE, Image, reclaimable, scrub, superblocks
 from lib.summaries import geometry_of
 
@@ -249,14 +251,10 @@ def most_rows():
 
 
 def example_reports():
-    """The reports of examples/README.md by their arguments, each once."""
-    reports, command = {}, None
-    for line in (TOP / "examples/README.md").read_text(encoding="utf-8").splitlines():
-        if line.startswith("$ "):
-            command = line.removeprefix("$ ./shardscrub").split(";")[0].strip() or "demo"
-        elif line.startswith('{"broken":'):
-            reports[command] = json.loads(line)
-    return reports
+    """The reports of the disks that examples/README.md scans without a map, by their arguments, each once."""
+    done = {words: subprocess.run([program(), "scan", *words.split()], cwd=TOP, capture_output=True)
+            for words in scans_of("Examples") if "--map" not in words}
+    return {f"scan {words}": json.loads(one.stdout) for words, one in done.items() if one.returncode < 2}
 
 
 def written(report):
@@ -270,10 +268,8 @@ def live_chunks(report):
 
 
 def disk_of(command):
-    """The disk of an example, by the arguments of its report; None for the demo, which has no file."""
+    """The disk of an example, by the arguments of its report."""
     words = command.split()
-    if "examples/" not in command:
-        return None
     given = [words[words.index(name) + 1] if name in words else "-" for name in ("--page", "--pages", "--extents")]
     file = next(index for index, word in enumerate(words) if word.startswith("examples/"))
     raw = (TOP / words[file]).read_bytes()
