@@ -21,7 +21,7 @@ from lib.reference import answered
 SEED, DISKS = 3, 300
 PARTS = ("out", "error", "status")
 # An example has about one call, so fewer calls would be a fault of the test.
-LEAST_CALLS = 200
+LEAST_CALLS = 150
 # It keeps what each program answers to a call in a folder, and then answers as the first one does.
 SCRIPT = """#!/bin/sh
 folder=$(mktemp -d ROOM/XXXXXX)
