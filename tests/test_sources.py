@@ -19,13 +19,18 @@ class Sources(Case):
                     self.true(f"{path.relative_to(TOP)}:{number}", False, f"{len(line)} columns")
 
     def test_edits(self):
-        """Each text that a must-fail edit replaces is in its file exactly once, by the time that it is replaced."""
-        edits = sorted(TOP.glob("crates/*/must-fail/*.edit"))
+        """Each text that an edit replaces is in its file exactly once, by the time that it is replaced: those that `rt ci` tries, and
+        those of tests/edits."""
+        edits = {path: path.parent.parent for path in sorted(TOP.glob("crates/*/must-fail/*.edit"))}
         self.true("there are edits", edits)
-        for path in edits:
+        others = {path: TOP / "crates" / path.parent.name for path in sorted(TOP.glob("edits/*/*.edit"))}
+        self.true("there are edits of tests/edits", others)
+        self.same("edits under one name", {f"{crate.name}/{path.name}" for path, crate in edits.items()}
+                  & {f"{crate.name}/{path.name}" for path, crate in others.items()}, set())
+        for path, crate in (edits | others).items():
             lines = path.read_text(encoding="utf-8").splitlines()
             file = next(line.removeprefix("file: ") for line in lines if line.startswith("file: "))
-            text = (path.parent.parent / file).read_text(encoding="utf-8")
+            text = (crate / file).read_text(encoding="utf-8")
             changes = [line for line in lines if line.startswith(("old: ", "new: "))]
             for old, new in list(pairwise(changes))[::2]:
                 old, new = old.removeprefix("old: "), new.removeprefix("new: ")

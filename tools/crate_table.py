@@ -39,6 +39,7 @@ def row(crate):
         len(re.findall(r"^\s*(?:pub(?:\(\w+\))? )?(?:final )?(?:const )?fn \w+", code, flags=re.M)),
         len(re.findall(r"^\s*#\[test\]", code + tests, flags=re.M)),
         len(list((folder / "must-fail").glob("*.edit"))),
+        len(list((TOP / "edits" / crate).glob("*.edit"))),
     ]
     return [f"`{crate}`", *map(str, counts)]
 
