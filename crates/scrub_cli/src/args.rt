@@ -481,6 +481,3 @@ fn number(matches: &ArgMatches<'_>, name: &str) -> u32
         None => unreachable!(),
     }
 }
-
-#[cfg(test)]
-mod tests;

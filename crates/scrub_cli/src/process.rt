@@ -2,8 +2,6 @@
 //! its line on the error stream and its status.
 
 pub(crate) mod decimal;
-#[cfg(test)]
-pub(crate) mod fakes;
 pub(crate) mod fault;
 pub(crate) mod files;
 pub(crate) mod images;

@@ -85,6 +85,3 @@ pub fn run<R: Threads + Wait + Sync, I: Images, O: Write, E: Write>(
         Err(fault) => fault.end(err),
     }
 }
-
-#[cfg(test)]
-mod tests;

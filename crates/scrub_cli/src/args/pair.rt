@@ -25,35 +25,3 @@ fn decimal(text: &str) -> Option<u32>
     }
     text.parse::<u32>().ok()
 }
-
-#[cfg(test)]
-mod tests {
-    use super::bad_page;
-
-    #[test]
-    fn valid_pairs_are_parsed(rt: HostRuntime) {
-        assert_eq!(rt; bad_page("1:4"), Some((1, 4)));
-        assert_eq!(rt; bad_page("007:4294967295"), Some((7, 4294967295)));
-    }
-
-    #[test]
-    fn invalid_pairs_are_refused(rt: HostRuntime) {
-        for arg in [
-            "",
-            ":",
-            "1",
-            "1:",
-            ":1",
-            "1:x",
-            "+1:2",
-            "1:+2",
-            "-1:2",
-            "1 :2",
-            "1:2:3",
-            "4294967296:0",
-            "0:4294967296",
-        ] {
-            assert_eq!(rt; bad_page(arg), None, "{arg}");
-        }
-    }
-}
