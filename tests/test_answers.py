@@ -446,6 +446,48 @@ class Disks(AnswerCase):
         self.listed("index", 1, run(*entries))
 
 
+# What each help has.
+HELP = {
+    "--help": ["Usage: shardscrub [COMMAND]", "\n  summary ", "\n  scan ", "\n  shard ", "\n  index ", "\n  locators ",
+               "\n  manifest ", "\n  reclaimable ", "\n  superblocks ", "\n  sizes ", "\n  items ", "\n  demo ", "Exit status",
+               "\n  shardscrub summary examples/one-shard.img", "--extent 1 --pointer 41 examples/one-shard.img"],
+    "demo --help": ["Usage: shardscrub demo", "Exit status", "\n  shardscrub demo\n"],
+    "items --help": ["Usage: shardscrub items", "--page <BYTES>", "power of two, 64 to 65536", "1 to 65536", "67108864 bytes",
+                     "2 to 65536", "4294967296 bytes", "--pointer <BYTES>", "--map <FILE>", "[EXTENT:PAGE]...", "\n  sealed ",
+                     "Exit status", "--extent 1 --pointer 41 examples/one-shard.img"],
+    "scan --help": ["Usage: shardscrub scan", "--extents <COUNT>", "[EXTENT:PAGE]...", "\n  candidates ", "\n  orphans ",
+                    "\n  doubtful ", "not clean", "\n  super ", "\n  dangling ", "torn, noise or lost", "Exit status",
+                    "\n  shardscrub scan examples/one-shard.img"],
+    "index --help": ["Usage: shardscrub index", "--extents <COUNT>", "[EXTENT:PAGE]...", "hidden", "a repair", "Exit status",
+                     "\n  shardscrub index --page 64 --pages 4 --extents 3 examples/one-shard.img"],
+    "locators --help": ["Usage: shardscrub locators", "--extents <COUNT>", "[EXTENT:PAGE]...",
+                        "OWNER EXTENT OFFSET LENGTH UUID STATUS", "\n  spare EXTENT OFFSET LENGTH UUID COUNT\n", "\n  STATUS ",
+                        "wrong_digest", "Exit status", "\n  shardscrub locators examples/one-shard.img",
+                        "\n  shard 00000000000000000000000000000001 1 0 3 11111111-1111-1111-1111-111111111111 sound\n"],
+    "manifest --help": ["Usage: shardscrub manifest", "--workers <COUNT>", "--reset <EXTENT>", "[EXTENT:PAGE]...",
+                        "\n  retired EXTENT .. ", "\n  runs lost L hidden H ",
+                        "\n  shard ID NUMBER LENGTH DIGEST sound FORM\n",
+                        "\n  shard ID NUMBER LENGTH DIGEST STATUS EXTENT OFFSET UUID SPARE\n", "Exit status",
+                        "\n  shardscrub manifest --page 64 --pages 4 --extents 3 examples/one-shard.img"],
+    "shard --help": ["Usage: shardscrub shard", "--workers <COUNT>", "--id <ID>", "Without --page, --pages and --extents",
+                     "[EXTENT:PAGE]...", "\n  no such shard ", "\n  payload lost: NUMBER ", "a newer entry may be lost",
+                     "Exit status",
+                     "\n  shardscrub shard --id 00000000000000000000000000000001 examples/one-shard.img > restored"],
+    "summary --help": ["Usage: shardscrub summary", "--workers <COUNT>", "[EXTENT:PAGE]...", "\n  verdict WORD ",
+                       "\n  candidates candidate_bytes chunks_to_move\n", "Exit status",
+                       "\n  shardscrub summary examples/one-shard.img", "\n  verdict sound\n"],
+    "superblocks --help": ["Usage: shardscrub superblocks", "--map <FILE>", "record PAGE KIND GENERATION STATE", "stray PAGE",
+                           "Exit status", "\n  record 0 SSB1 1 counts\n"],
+    "reclaimable --help": ["Usage: shardscrub reclaimable", "--accept <KIND>",
+                           "superblock-damaged, superblock-stray, tail or tail-lost, or one line",
+                           "\n  doubt spare EXTENT OFFSET LENGTH UUID OWNER BYTES\n", "doubt tail EXTENT OFFSET BYTES",
+                           "move EXTENT OFFSET LENGTH UUID OWNER BYTES", "\n  room EXTENT OFFSET BYTES ",
+                           "\n  last-room EXTENT OFFSET BYTES ", "Exit status"],
+    "sizes --help": ["Usage: shardscrub sizes", "--map <FILE>", "OFFSET KIND GENERATION PAGE PAGES EXTENTS", "lost FROM TO",
+                     "Exit status", "\n  0 SSB1 1 64 4 3\n"],
+}
+
+
 class Arguments(AnswerCase):
     def said(self, words, *parts):
         """What is refused ends with status 2 and a text with these parts."""
@@ -500,6 +542,15 @@ class Arguments(AnswerCase):
         self.check(f"reclaimable {SMALL} --accept tail --accept spare --accept tie x", 2, "",
                    "error: invalid value 'spare' for '--accept <KIND>': a spare is accepted by its line alone\n\n"
                    "For more information, try '--help'.\n")
+
+    def test_the_help(self):
+        """It goes to the error stream, with status 0."""
+        for words, parts in HELP.items():
+            status, out, error = self.answer(words)
+            self.same(words, (status, out), (0, b""))
+            for part in parts:
+                self.true(f"{words} has {part}", part.encode() in error, error)
+        self.same("-h", self.answer("-h"), self.answer("--help"))
 
     def test_the_version(self):
         self.given()
