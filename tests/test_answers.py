@@ -9,7 +9,7 @@ import signal
 import socket
 import subprocess
 
-from lib import failing_reads
+from lib import failing_reads, full_output
 from lib.cases import RoomCase
 from lib.disks import Disk, be, digest, frame, head, locator, run, shard, uuid
 
@@ -561,19 +561,34 @@ class Arguments(AnswerCase):
 
 
 class Outputs(AnswerCase):
-    """An output that takes some bytes of the demo's report, and then fails."""
+    """An output that takes some bytes of a report, and then no more."""
 
-    def test_an_output_that_fails_after_each_number_of_bytes(self):
+    def check_each_number_of_bytes(self, words):
+        library = full_output.made(self.room)
+        for room in range(len(ONE_SHARD) + 1):
+            for fails in (True, False):
+                status, out, error = full_output.run(self.program, words, library, room, fails)
+                is_whole = room == len(ONE_SHARD)
+                wanted = (0, b"") if is_whole else (3, f"shardscrub: output failed after {room} bytes\n".encode())
+                self.same(f"{room} bytes, {'a fault' if fails else 'then 0'}", (status, error, out), (*wanted, ONE_SHARD[:room].encode()))
+
+    def test_the_demo(self):
+        self.check_each_number_of_bytes(["demo"])
+
+    def test_a_scan(self):
+        self.given(one_shard())
+        self.check_each_number_of_bytes(["scan", *SMALL.split(), str(self.room / "disk.img")])
+
+    def test_a_file_of_limited_size(self):
         path = self.room / "out"
 
         def limit(room):
             signal.signal(signal.SIGXFSZ, signal.SIG_IGN)
             resource.setrlimit(resource.RLIMIT_FSIZE, (room, room))
 
-        for room in range(len(ONE_SHARD) + 1):
+        for room in (0, 1, 10, len(ONE_SHARD) - 1):
             with open(path, "wb") as out:
                 status, _, error = self.answer("demo", stdout=out, preexec_fn=lambda: limit(room))
-            is_whole = room == len(ONE_SHARD)
-            wanted = (0, b"") if is_whole else (3, f"shardscrub: output failed after {room} bytes\n".encode())
-            self.same(f"{room} bytes", (status, error, path.read_bytes()), (*wanted, ONE_SHARD[:room].encode()))
+            wanted = (3, f"shardscrub: output failed after {room} bytes\n".encode(), ONE_SHARD[:room].encode())
+            self.same(f"{room} bytes", (status, error, path.read_bytes()), wanted)
         os.remove(path)
