@@ -3,7 +3,7 @@
 first sentence of each command, the options and the statuses 0 to 4; in docs/REPORT.md the tables of options and of the statuses 0 and 1.
 The version, for the head of docs/shardscrub.1 and for README.md, is that of the newest entry of CHANGELOG.md.
 
-The program has its help in crates/scrub_cli/src/args/command.rt. tests/test_help.py compares that help and the program's version with
+The program has its help in crates/scrub_args/src/command.rt. tests/test_help.py compares that help and the program's version with
 these tables. A word of the program is in backquotes here, and a value to be given between asterisks; the help has neither mark.
 """
 import re

@@ -6,14 +6,14 @@ use Rattle.scrub_disk.specs.Image.{Image}
 use Rattle.scrub_run.specs.declared.shard_id.ShardId.{ShardId}
 use Rattle.scrub_shard.specs.declared.shard.ShardAnswer.{ShardAnswer}
 use Rattle.scrub_listings.proofs.SizesLists.{one_size_lem}
-use Rattle.scrub_cli.specs.declared.args.Wanted.{Wanted}
+use Rattle.scrub_args.specs.declared.args.Wanted.{Wanted}
 use Rattle.scrub_cli.specs.declared.process.fault.Fault.{Fault}
 use Rattle.scrub_cli.specs.declared.process.fault.Fault.TheVariants.{NotUtf8, Help, Args, Geometry, NoSizes, Extent, BadShard, Pointer, BadPage, NoMap, MapLine, NoImage, TooLong, NoShard, PayloadLost, Output, OutOfMemory}
 use Rattle.scrub_cli.specs.declared.process.outcome.Outcome.{Outcome}
-use Rattle.scrub_cli.specs.declared.args.GivenSizes.{GivenSizes}
-use Rattle.scrub_cli.specs.declared.args.ImageArgs.{ImageArgs}
-use Rattle.scrub_cli.specs.declared.args.ItemsArgs.{ItemsArgs}
-use Rattle.scrub_cli.specs.declared.args.ShardArgs.{ShardArgs}
+use Rattle.scrub_args.specs.declared.args.GivenSizes.{GivenSizes}
+use Rattle.scrub_args.specs.declared.args.ImageArgs.{ImageArgs}
+use Rattle.scrub_args.specs.declared.args.ItemsArgs.{ItemsArgs}
+use Rattle.scrub_args.specs.declared.args.ShardArgs.{ShardArgs}
 use Rattle.scrub_cli.specs.DiskImage.{AreReadBefore, IsDiskFault, IsLoadedDisk}
 use Rattle.scrub_cli.specs.DiskGeometry.{AreSizesFound, IsGeometryFault, IsGeometryOf, MayBeLeftOut, with_sizes}
 use Rattle.scrub_cli.specs.Items.{AreInDisk, IsItemsAnswer, IsItemsFault, IsPlacedFault}

@@ -2,7 +2,7 @@
 use Rattle.std.proofs.Common.{inl, inr}
 use Rattle.scrub_disk.specs.declared.geometry.Geometry.{Geometry as Sizes}
 use Rattle.scrub_cli.specs.declared.process.fault.Fault.{Fault}
-use Rattle.scrub_cli.specs.declared.args.ManifestArgs.{ManifestArgs}
+use Rattle.scrub_args.specs.declared.args.ManifestArgs.{ManifestArgs}
 use Rattle.scrub_cli.specs.DiskImage.{IsDiskFault}
 use Rattle.scrub_cli.specs.DiskGeometry.{IsGeometryFault}
 use Rattle.scrub_cli.specs.KnownFiles.{KnownMaps, KnownRaw}

@@ -7,8 +7,8 @@ use Rattle.scrub_map.specs.declared.block.MapBlock.{MapBlock}
 use Rattle.scrub_listings.specs.Sizes.{AreSizesOf}
 use Rattle.scrub_cli.specs.declared.process.fault.Fault.{Fault}
 use Rattle.scrub_cli.specs.declared.process.fault.Fault.TheVariants.{Geometry, NoSizes, NoMap, MapLine, NoImage, OutOfMemory}
-use Rattle.scrub_cli.specs.declared.args.GivenSizes.{GivenSizes}
-use Rattle.scrub_cli.specs.declared.args.ImageArgs.{ImageArgs}
+use Rattle.scrub_args.specs.declared.args.GivenSizes.{GivenSizes}
+use Rattle.scrub_args.specs.declared.args.ImageArgs.{ImageArgs}
 use Rattle.scrub_cli.specs.KnownFiles.{KnownMaps, KnownRaw, known_bytes}
 use Rattle.scrub_cli.specs.Rescue.{AreBlocksOf, IsMapFault}
 use Rattle.scrub_cli.specs.SizesListed.{AreLackingBy}

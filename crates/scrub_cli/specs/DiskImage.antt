@@ -9,9 +9,9 @@ use Rattle.scrub_disk.specs.Raw.{IsLoadedWith}
 use Rattle.scrub_map.specs.declared.block.MapBlock.{MapBlock}
 use Rattle.scrub_cli.specs.declared.process.fault.Fault.{Fault}
 use Rattle.scrub_cli.specs.declared.process.fault.Fault.TheVariants.{BadPage, NoMap, MapLine, NoImage, TooLong, OutOfMemory}
-use Rattle.scrub_cli.specs.declared.args.ImageArgs.{ImageArgs}
+use Rattle.scrub_args.specs.declared.args.ImageArgs.{ImageArgs}
 use Rattle.scrub_cli.specs.KnownFiles.{KnownMaps, KnownRaw}
-use Rattle.scrub_cli.specs.Pair.{IsPair}
+use Rattle.scrub_args.specs.Pair.{IsPair}
 use Rattle.scrub_cli.specs.Rescue.{AreBlocksOf, IsMapFault, LosesByMap}
 
 -- the argument is a pair of an extent of a disk of these sizes and a page of that extent

@@ -7,8 +7,8 @@ use Rattle.scrub_disk.specs.declared.loading.LoadFault.{LoadFault}
 use Rattle.scrub_disk.specs.declared.loading.LoadFault.TheVariants.{TooLong as too_long, OutOfMemory as no_memory_to_load}
 use Rattle.scrub_map.specs.declared.reading.MapFault.{MapFault}
 use Rattle.scrub_map.specs.declared.reading.MapFault.TheVariants.{Line, OutOfMemory as no_memory_for_map}
-use Rattle.scrub_cli.specs.declared.args.ArgsFault.{ArgsFault}
-use Rattle.scrub_cli.specs.declared.args.ArgsFault.TheVariants.{Refused, Help as help, OutOfMemory as no_memory_to_read}
+use Rattle.scrub_args.specs.declared.args.ArgsFault.{ArgsFault}
+use Rattle.scrub_args.specs.declared.args.ArgsFault.TheVariants.{Refused, Help as help, OutOfMemory as no_memory_to_read}
 use Rattle.scrub_cli.specs.declared.process.fault.Fault.{Fault}
 use Rattle.scrub_cli.specs.declared.process.fault.Fault.TheVariants.{NotUtf8, Help, Args, Geometry, NoSizes, Extent, BadShard, Pointer, BadPage, NoMap, MapLine, NoImage, TooLong, NoShard, PayloadLost, Output, OutOfMemory}
 use Rattle.scrub_report.specs.Output.{AppendsFront}

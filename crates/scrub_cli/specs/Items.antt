@@ -6,7 +6,7 @@ use Rattle.scrub_scan.specs.Extent.{extent_of}
 use Rattle.scrub_cli.specs.declared.process.fault.Fault.{Fault}
 use Rattle.scrub_cli.specs.declared.process.fault.Fault.TheVariants.{Geometry, NoSizes, Extent, Pointer, NoMap, MapLine, NoImage, OutOfMemory}
 use Rattle.scrub_cli.specs.declared.process.outcome.Outcome.{Outcome}
-use Rattle.scrub_cli.specs.declared.args.ItemsArgs.{ItemsArgs}
+use Rattle.scrub_args.specs.declared.args.ItemsArgs.{ItemsArgs}
 use Rattle.scrub_cli.specs.DiskImage.{IsLoadedDisk, IsDiskFault}
 use Rattle.scrub_cli.specs.DiskGeometry.{IsGeometryFault, IsGeometryOf}
 use Rattle.scrub_cli.specs.KnownFiles.{KnownMaps, KnownRaw}

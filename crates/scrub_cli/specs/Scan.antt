@@ -10,13 +10,13 @@ use Rattle.scrub_listings.specs.Locators.{AreLocatorLines}
 use Rattle.scrub_listings.specs.Summary.{IsSoundImage, IsSummary}
 use Rattle.scrub_reclaim.specs.Doubts.{Accepted}
 use Rattle.scrub_reclaim.specs.Reclaimable.{AreReclaimLines, IsClear}
-use Rattle.scrub_cli.specs.declared.args.Wanted.{Wanted}
-use Rattle.scrub_cli.specs.declared.args.Wanted.TheVariants.{Report, Index, Locators, Summary, Reclaimable}
+use Rattle.scrub_args.specs.declared.args.Wanted.{Wanted}
+use Rattle.scrub_args.specs.declared.args.Wanted.TheVariants.{Report, Index, Locators, Summary, Reclaimable}
 use Rattle.scrub_cli.specs.declared.process.fault.Fault.{Fault}
 use Rattle.scrub_cli.specs.declared.process.fault.Fault.TheVariants.{Geometry, NoSizes, NoMap, MapLine, NoImage, OutOfMemory}
 use Rattle.scrub_cli.specs.declared.process.outcome.Outcome.{Outcome}
-use Rattle.scrub_cli.specs.declared.args.ImageArgs.{ImageArgs}
-use Rattle.scrub_cli.specs.declared.args.ScanArgs.{ScanArgs}
+use Rattle.scrub_args.specs.declared.args.ImageArgs.{ImageArgs}
+use Rattle.scrub_args.specs.declared.args.ScanArgs.{ScanArgs}
 use Rattle.scrub_cli.specs.DiskImage.{IsLoadedDisk, IsDiskFault}
 use Rattle.scrub_cli.specs.KnownFiles.{KnownMaps, KnownRaw}
 use Rattle.scrub_cli.specs.DiskGeometry.{IsGeometryFault, IsGeometryOf}

@@ -11,12 +11,12 @@ use Rattle.scrub_shard.specs.declared.shard.ShardAnswer.TheVariants.{NoSuchShard
 use Rattle.scrub_cli.specs.declared.process.fault.Fault.{Fault}
 use Rattle.scrub_cli.specs.declared.process.fault.Fault.TheVariants.{Geometry, NoSizes, BadShard, NoMap, MapLine, NoImage, NoShard, PayloadLost, OutOfMemory}
 use Rattle.scrub_cli.specs.declared.process.outcome.Outcome.{Outcome}
-use Rattle.scrub_cli.specs.declared.args.ShardArgs.{ShardArgs}
+use Rattle.scrub_args.specs.declared.args.ShardArgs.{ShardArgs}
 use Rattle.scrub_cli.specs.DiskImage.{IsLoadedDisk, IsDiskFault}
 use Rattle.scrub_cli.specs.DiskGeometry.{IsGeometryFault, IsGeometryOf}
 use Rattle.scrub_cli.specs.KnownFiles.{KnownMaps, KnownRaw}
 use Rattle.scrub_cli.specs.Outcome.{outcome_of_shard}
-use Rattle.scrub_cli.specs.ShardId.{IsIdText, IsNoIdText}
+use Rattle.scrub_args.specs.ShardId.{IsIdText, IsNoIdText}
 
 -- the text is the bytes that were found, and the outcome says whether the entry is doubtful
 abbrev pub IsWrittenFor : ShardAnswer → List ℕ → Outcome → Type 0

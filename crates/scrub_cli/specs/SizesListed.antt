@@ -6,7 +6,7 @@ use Rattle.scrub_listings.specs.Sizes.{IsSizesListingOf}
 use Rattle.scrub_cli.specs.declared.process.fault.Fault.{Fault}
 use Rattle.scrub_cli.specs.declared.process.fault.Fault.TheVariants.{NoMap, MapLine, NoImage, OutOfMemory}
 use Rattle.scrub_cli.specs.declared.process.outcome.Outcome.{Outcome}
-use Rattle.scrub_cli.specs.declared.args.SizesArgs.{SizesArgs}
+use Rattle.scrub_args.specs.declared.args.SizesArgs.{SizesArgs}
 use Rattle.scrub_cli.specs.KnownFiles.{KnownMaps, KnownRaw}
 use Rattle.scrub_cli.specs.Outcome.{outcome_of}
 use Rattle.scrub_cli.specs.Rescue.{AreBlocksOf, IsMapFault}

@@ -7,7 +7,6 @@ ghost use Rattle.std.specs.Process.{exit_status};
 ghost use Rattle.scrub_cli.specs.Answer.{RunWrites, WritesNone};
 ghost use Rattle.scrub_cli.specs.KnownFiles.{file, map_file};
 
-mod args;
 mod commands;
 mod process;
 mod running;

@@ -2,9 +2,8 @@
 
 ghost use Rattle.std.specs.Prelude.{MatchResult};
 ghost use Rattle.scrub_cli.specs.Answer.{IsAnswerOfRun, IsFault, RunWrites, WritesAnswer};
-ghost use Rattle.scrub_cli.specs.Args.{texts};
+ghost use Rattle.scrub_args.specs.Args.{texts};
 
-use crate::args::{Request, read_args};
 use crate::commands::answer::{Answer, version};
 use crate::commands::demo::demo;
 use crate::commands::items::items;
@@ -14,6 +13,7 @@ use crate::commands::shard::shard;
 use crate::commands::sizes::sizes;
 use crate::process::fault::Fault;
 use crate::process::images::Images;
+use scrub_args::{Request, read_args};
 use scrub_report::write_out;
 use std::alloc::Global;
 use std::io::Write;

@@ -14,13 +14,12 @@ ghost use Rattle.scrub_cli.specs.Scan.{IsDiskAnswer};
 ghost use Rattle.scrub_cli.specs.SizesListed.{AreSizesListed};
 ghost use Rattle.scrub_cli.specs.Superblock.{AreSuperblocksListed};
 
-use crate::args::Wanted;
-use crate::args::command::VERSION;
 use crate::process::outcome::Outcome;
+use scrub_args::{AcceptedDoubts, VERSION, Wanted};
 use scrub_disk::{OutOfMemory, PageSource, RawImage};
 use scrub_listings::{list_locators, list_manifest, list_sizes, list_summary, list_superblocks};
 use scrub_pool::{NoGate, Takings};
-use scrub_reclaim::list_reclaimable;
+use scrub_reclaim::{Accepted, list_reclaimable};
 use scrub_report::{ScrubFault, are_clean_items, scrub};
 use scrub_scan::{Item, item_line};
 use std::alloc::Global;
@@ -102,6 +101,13 @@ pub fn sizes_listing<R: RawImage>(
     Ok(Answer::new(listing.text, listing.is_clean))
 }
 
+/// The doubts that the arguments accept, for a list of what may be reclaimed.
+fn as_accepted<'v, 'a>(accepted: &'v AcceptedDoubts<'a>) -> Accepted<'v, 'a>
+    ensures { result ≡ accepted.now }
+{
+    Accepted::new(&accepted.texts)
+}
+
 /// What is wanted of a disk, with its status, and the extents that each worker took. This many workers scan
 /// the disk beside the caller. The takings are for contracts alone: they show how many workers there were,
 /// and that each extent was scanned once.
@@ -137,7 +143,7 @@ pub fn disk_answer<R: Threads + Wait + Sync, D: PageSource>(
             Ok((Answer::new(summary.text, summary.is_clean), takings))
         }
         Wanted::Reclaimable(accepted) => {
-            let accepted = accepted.as_accepted();
+            let accepted = as_accepted(&accepted);
             let (listing, takings) = list_reclaimable(
                 rt, alloc, disk, workers, &NoGate, &accepted,
             )?;

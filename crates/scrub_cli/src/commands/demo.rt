@@ -9,8 +9,8 @@ ghost use Rattle.scrub_run.specs.Run.{run_bytes};
 ghost use Rattle.scrub_super.specs.Record.{record_bytes};
 ghost use Rattle.scrub_cli.specs.Demo.{demo_shard, demo_pointers, IsDemoDisk, IsDemoAnswer};
 
-use crate::args::Wanted;
 use crate::commands::answer::{Answer, disk_answer};
+use scrub_args::Wanted;
 use scrub_disk::{Geometry, MemDisk, OutOfMemory};
 use scrub_frame::{FrameFault, Locator, locate, write_frame};
 use scrub_pool::Takings;

@@ -5,11 +5,10 @@ ghost use Rattle.std.specs.Prelude.{ℕ, ◌<◌, ◌≤◌, MatchOption, MatchR
 ghost use Rattle.scrub_disk.specs.Parted.{image_of};
 ghost use Rattle.scrub_cli.specs.DiskImage.{NamesPage, NamePages, IsBadPageFault, IsLoadedDisk, IsDiskFault};
 
-use crate::args::ImageArgs;
-use crate::args::pair::bad_page;
 use crate::commands::rescue::{apply_map, rescue_map};
 use crate::process::fault::Fault;
 use crate::process::images::Images;
+use scrub_args::{ImageArgs, bad_page};
 use scrub_disk::{Geometry, PartedDisk, load_in_parts};
 use std::alloc::Global;
 use std::thread::{Threads, available_parallelism};

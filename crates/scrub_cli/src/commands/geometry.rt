@@ -4,10 +4,10 @@ ghost use Rattle.std.specs.Prelude.{◌≡◌, ◌<◌, ◌^◌, IfOk, MatchResu
 ghost use Rattle.scrub_cli.specs.DiskGeometry.{AreSizesFound, AreSizesRead, IsFoundFault, IsGeometryFault};
 ghost use Rattle.scrub_cli.specs.DiskGeometry.{IsGeometryOf};
 
-use crate::args::ImageArgs;
 use crate::commands::rescue::{first_lacking, rescue_map};
 use crate::process::fault::Fault;
 use crate::process::images::Images;
+use scrub_args::ImageArgs;
 use scrub_disk::{Geometry, OutOfMemory, RawImage};
 use scrub_listings::find_sizes;
 use std::alloc::Global;

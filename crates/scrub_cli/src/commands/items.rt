@@ -3,12 +3,12 @@
 ghost use Rattle.std.specs.Prelude.{MatchResult};
 ghost use Rattle.scrub_cli.specs.Items.{IsItemsAnswer, IsItemsFault};
 
-use crate::args::ItemsArgs;
 use crate::commands::answer::{Answer, listing};
 use crate::commands::disk_image::load_disk;
 use crate::commands::geometry::geometry_of;
 use crate::process::fault::Fault;
 use crate::process::images::Images;
+use scrub_args::ItemsArgs;
 use scrub_scan::tile;
 use std::alloc::Global;
 use std::thread::Threads;

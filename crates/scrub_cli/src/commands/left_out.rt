@@ -2,13 +2,13 @@
 
 ghost use Rattle.std.specs.Prelude.{◌⊎◌, ℕ, List};
 ghost use Rattle.scrub_disk.specs.declared.geometry.Geometry.{Geometry};
-ghost use Rattle.scrub_cli.specs.declared.args.Wanted.{Wanted};
+ghost use Rattle.scrub_args.specs.declared.args.Wanted.{Wanted};
 ghost use Rattle.scrub_cli.specs.declared.process.fault.Fault.{Fault};
 ghost use Rattle.scrub_cli.specs.declared.process.outcome.Outcome.{Outcome};
-ghost use Rattle.scrub_cli.specs.declared.args.GivenSizes.{GivenSizes};
-ghost use Rattle.scrub_cli.specs.declared.args.ImageArgs.{ImageArgs};
-ghost use Rattle.scrub_cli.specs.declared.args.ItemsArgs.{ItemsArgs};
-ghost use Rattle.scrub_cli.specs.declared.args.ShardArgs.{ShardArgs};
+ghost use Rattle.scrub_args.specs.declared.args.GivenSizes.{GivenSizes};
+ghost use Rattle.scrub_args.specs.declared.args.ImageArgs.{ImageArgs};
+ghost use Rattle.scrub_args.specs.declared.args.ItemsArgs.{ItemsArgs};
+ghost use Rattle.scrub_args.specs.declared.args.ShardArgs.{ShardArgs};
 ghost use Rattle.scrub_cli.specs.DiskGeometry.{IsGeometryFault, MayBeLeftOut, with_sizes};
 ghost use Rattle.scrub_cli.specs.Items.{IsItemsAnswer, IsItemsFault};
 ghost use Rattle.scrub_cli.specs.KnownFiles.{KnownMaps, known_bytes};

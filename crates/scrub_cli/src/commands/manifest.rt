@@ -5,12 +5,12 @@ ghost use Rattle.std.specs.List.Sorted.{IsStrictlyIncreasing};
 ghost use Rattle.scrub_cli.specs.Manifest.{AreManifestTakings, IsManifestAnswer, IsManifestFault};
 ghost use Rattle.scrub_cli.specs.Manifest.{may_all_be_reset};
 
-use crate::args::ManifestArgs;
 use crate::commands::answer::{Answer, manifest_listing};
 use crate::commands::disk_image::load_disk;
 use crate::commands::geometry::geometry_of;
 use crate::process::fault::Fault;
 use crate::process::images::Images;
+use scrub_args::ManifestArgs;
 use scrub_disk::Geometry;
 use scrub_pool::Takings;
 use std::alloc::Global;

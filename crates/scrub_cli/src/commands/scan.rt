@@ -6,12 +6,12 @@ ghost use Rattle.scrub_disk.specs.Parted.{image_of};
 ghost use Rattle.scrub_cli.specs.Scan.{AreTakingsOf, IsDiskOf, IsScanAnswer, IsScanFault};
 ghost use Rattle.scrub_cli.specs.Superblock.{IsSuperblocksAnswer};
 
-use crate::args::{ImageArgs, ScanArgs, Wanted};
 use crate::commands::answer::{Answer, disk_answer, superblock_listing};
 use crate::commands::disk_image::load_disk;
 use crate::commands::geometry::geometry_of;
 use crate::process::fault::Fault;
 use crate::process::images::Images;
+use scrub_args::{ImageArgs, ScanArgs, Wanted};
 use scrub_disk::PartedDisk;
 use scrub_pool::Takings;
 use std::alloc::Global;

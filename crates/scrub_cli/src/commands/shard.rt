@@ -4,14 +4,13 @@ ghost use Rattle.std.specs.Prelude.{◌≤◌, IfOk, MatchResult};
 ghost use Rattle.scrub_cli.specs.Shard.{AreShardTakings, IsFaultFor, IsShardFault, IsShardWritten};
 ghost use Rattle.scrub_cli.specs.Shard.{IsWrittenFor};
 
-use crate::args::ShardArgs;
-use crate::args::id::shard_id;
 use crate::commands::answer::Answer;
 use crate::commands::disk_image::load_disk;
 use crate::commands::geometry::geometry_of;
 use crate::process::fault::Fault;
 use crate::process::images::Images;
 use crate::process::outcome::Outcome;
+use scrub_args::{ShardArgs, shard_id};
 use scrub_pool::{NoGate, Takings};
 use scrub_shard::{ShardAnswer, read_shard};
 use std::alloc::Global;

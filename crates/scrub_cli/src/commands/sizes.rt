@@ -3,11 +3,11 @@
 ghost use Rattle.std.specs.Prelude.{◌≡◌, IfOk, MatchResult};
 ghost use Rattle.scrub_cli.specs.SizesListed.{IsSizesAnswer, IsSizesFault};
 
-use crate::args::SizesArgs;
 use crate::commands::answer::{Answer, sizes_listing};
 use crate::commands::rescue::{first_lacking, rescue_map};
 use crate::process::fault::Fault;
 use crate::process::images::Images;
+use scrub_args::SizesArgs;
 use std::alloc::Global;
 
 /// The superblock records of the image that the arguments name, each with its own sizes, and the lost bytes.

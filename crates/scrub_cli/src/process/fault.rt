@@ -9,8 +9,8 @@ ghost use Rattle.scrub_cli.specs.Fault.{line, text_of};
 ghost use Rattle.scrub_listings.specs.Manifest.{two_digits};
 ghost use Rattle.scrub_report.specs.Output.{AppendsFront};
 
-use crate::args::ArgsFault;
 use crate::process::decimal::write_decimal;
+use scrub_args::ArgsFault;
 use scrub_disk::{GeometryFault, LoadFault, OutOfMemory};
 use scrub_map::MapFault;
 use scrub_report::{ScrubFault, WriteFault, write_out};

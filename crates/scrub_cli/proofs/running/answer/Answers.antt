@@ -1,9 +1,9 @@
 -- The answer or the fault of a request is that of the arguments that ask for it.
 use Rattle.std.proofs.Common.{rules}
-use Rattle.scrub_cli.specs.Args.{NameCommand, texts}
-use Rattle.scrub_cli.specs.declared.args.Request.TheVariants.{Items, Disk, Manifest, Shard, Superblocks, Sizes}
+use Rattle.scrub_args.specs.Args.{NameCommand, texts}
+use Rattle.scrub_args.specs.declared.args.Request.TheVariants.{Items, Disk, Manifest, Shard, Superblocks, Sizes}
 use Rattle.scrub_cli.proofs.RunAnswers.{answered}
-use Rattle.scrub_cli.proofs.ArgsFound.{few_workers}
+use Rattle.scrub_args.proofs.ArgsFound.{few_workers}
 use Rattle.scrub_cli.proofs.running.answer.Goals as goal
 
 pub returns-in-Items : goal.returns-in-Items

@@ -1,6 +1,6 @@
 -- The report and the index are those of what the scrub found, and so is the verdict.
 use Rattle.std.proofs.Common.{◌∙◌, sym, subst}
-use Rattle.scrub_cli.specs.declared.args.Wanted.{Wanted}
+use Rattle.scrub_args.specs.declared.args.Wanted.{Wanted}
 use Rattle.scrub_cli.specs.Scan.{IsDiskAnswer}
 use Rattle.scrub_cli.proofs.commands.answer.disk_answer.Goals as goal
 

@@ -2,7 +2,7 @@
 use Rattle.std.proofs.Common.{ap, sym, ◌∙◌}
 use Rattle.std.proofs.lemmas.Result.{err_from_is_err_and}
 use Rattle.scrub_disk.specs.Parted.{image_of}
-use Rattle.scrub_cli.specs.declared.args.ManifestArgs.{ManifestArgs}
+use Rattle.scrub_args.specs.declared.args.ManifestArgs.{ManifestArgs}
 use Rattle.scrub_cli.specs.KnownFiles.{KnownMaps, KnownRaw}
 use Rattle.scrub_cli.specs.Manifest.{IsManifestDisk, MayBeReset, may_all_be_reset}
 use Rattle.scrub_cli.proofs.ManifestAnswers.{manifest_disk_fault, manifest_geometry_fault}

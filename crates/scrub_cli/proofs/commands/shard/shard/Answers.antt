@@ -2,7 +2,7 @@
 use Rattle.std.proofs.Common.{refl}
 use Rattle.std.proofs.lemmas.Result.{err_from_is_err_and}
 use Rattle.scrub_disk.specs.Parted.{image_of}
-use Rattle.scrub_cli.specs.declared.args.ShardArgs.{ShardArgs}
+use Rattle.scrub_args.specs.declared.args.ShardArgs.{ShardArgs}
 use Rattle.scrub_cli.specs.KnownFiles.{KnownMaps, KnownRaw}
 use Rattle.scrub_cli.specs.Shard.{IsNamed, IsShardRead}
 use Rattle.scrub_cli.proofs.ShardAnswers.{lost_fault, shard_disk_fault, shard_geometry_fault}

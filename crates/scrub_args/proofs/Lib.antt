@@ -1,0 +1,9 @@
+-- Lemmas that several proofs of this crate share.
+pub mod CommandLines
+pub mod Whole
+pub mod Examples
+pub mod Acceptable
+pub mod ArgsFound
+pub mod Numbers
+pub mod Pairs
+pub mod Orders

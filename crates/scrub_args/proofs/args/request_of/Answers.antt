@@ -1,0 +1,74 @@
+-- Each command on an image has all that it needs, and a fault of the sizes is one of its command.
+use Rattle.std.proofs.Common.{◌∙◌}
+use Rattle.std.proofs.lemmas.Result.{err_from_is_err_and}
+use Rattle.clap.specs.Words.{found_of, rows_of, subcommand_rows_of}
+use Rattle.scrub_args.proofs.ArgsFound.{disk_of_whole, found_command, image_of_whole, items_of_whole, manifest_of_whole, name_of_whole, part_fault_of_rows, shard_of_whole, twice}
+use Rattle.scrub_args.proofs.args.request_of.Goals as goal
+
+pub items_args-requires : goal.items_args-requires
+items_args-requires c =
+    let met = c.in-Some-items-default in
+    items_of_whole (subcommand_rows_of c.args.matches.now) met.field-0-0.now (rows_of (found_of met.matches.now)) c.requires
+    (met.ensures.name ∙ twice (λ p. p.0) _ _)
+    met.ensures.rows met.is-items
+
+pub manifest_args-requires : goal.manifest_args-requires
+manifest_args-requires c =
+    let met = c.in-Some-manifest-default in
+    manifest_of_whole (subcommand_rows_of c.args.matches.now) met.field-0-0.now (rows_of (found_of met.matches.now)) c.requires
+    (met.ensures.name ∙ twice (λ p. p.0) _ _)
+    met.ensures.rows met.is-manifest
+
+pub shard_args-requires : goal.shard_args-requires
+shard_args-requires c =
+    let met = c.in-Some-shard-default in
+    shard_of_whole (subcommand_rows_of c.args.matches.now) met.field-0-0.now (rows_of (found_of met.matches.now)) c.requires
+    (met.ensures.name ∙ twice (λ p. p.0) _ _)
+    met.ensures.rows met.is-shard
+
+pub image_args-requires : goal.image_args-requires
+image_args-requires c =
+    let met = c.in-Some-superblocks-default in
+    image_of_whole (subcommand_rows_of c.args.matches.now) met.field-0-0.now (rows_of (found_of met.matches.now)) c.requires
+    (met.ensures.name ∙ twice (λ p. p.0) _ _)
+    met.ensures.rows met.is-superblocks
+
+pub sizes_args-requires : goal.sizes_args-requires
+sizes_args-requires c =
+    let met = c.in-Some-sizes-default in
+    name_of_whole (subcommand_rows_of c.args.matches.now) met.field-0-0.now (rows_of (found_of met.matches.now)) c.requires
+    (met.ensures.name ∙ twice (λ p. p.0) _ _)
+    met.ensures.rows met.is-sizes
+
+pub returns-in_err-image_args-in-Some-superblocks-default : goal.returns-in_err-image_args-in-Some-superblocks-default
+returns-in_err-image_args-in-Some-superblocks-default c =
+    let met = c.in-Some-superblocks-default in
+    let name = met.field-0-0.now in
+    let found = rows_of (found_of met.matches.now) in
+    let command = subcommand_rows_of c.args.matches.now in
+    let fault = c.in_err-image_args-in-Some-superblocks-default in
+    let converted = c.from_residual-in_err-image_args-in-Some-superblocks-default in
+    let p = err_from_is_err_and converted.result converted.ensures.1 in
+    rw (p.1, p.2)
+    (part_fault_of_rows name found command fault.field-0.0
+    (found_command command name found (met.ensures.name ∙ twice (λ p. p.0) _ _) met.ensures.rows) fault.ensures)
+
+pub scan_args-requires : goal.scan_args-requires
+scan_args-requires c =
+    let met = c.in-Some in
+    disk_of_whole (subcommand_rows_of c.args.matches.now) met.name.now (rows_of (found_of met.matches.now)) c.requires
+    (met.ensures.name ∙ twice (λ p. p.0) _ _)
+    met.ensures.rows c.in_ok-wanted-in-Some.wanted c.in_ok-wanted-in-Some.ensures.0
+
+pub returns-in_err-scan_args-in-Some : goal.returns-in_err-scan_args-in-Some
+returns-in_err-scan_args-in-Some c =
+    let met = c.in-Some in
+    let name = met.name.now in
+    let found = rows_of (found_of met.matches.now) in
+    let command = subcommand_rows_of c.args.matches.now in
+    let fault = c.in_err-scan_args-in-Some in
+    let converted = c.from_residual-in_err-scan_args-in-Some in
+    let p = err_from_is_err_and converted.result converted.ensures.1 in
+    rw (p.1, p.2)
+    (part_fault_of_rows name found command fault.field-0.0
+    (found_command command name found (met.ensures.name ∙ twice (λ p. p.0) _ _) met.ensures.rows) fault.ensures)

@@ -1,0 +1,9 @@
+-- For public clauses.
+pub mod CommandLine
+pub mod Accepting
+pub mod Args
+pub mod Order
+pub mod Pair
+pub mod ShardId
+-- Steps of the code, and lemmas that types need.
+pub mod steps

@@ -1,5 +1,0 @@
--- The arguments of `shard` are those that were found.
-use Rattle.scrub_cli.proofs.args.shard_args.Goals as goal
-
-pub returns : goal.returns
-returns c = record { scan = c.in_ok-scan_args.ensures; id = c.text.ensures }
