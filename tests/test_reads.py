@@ -10,7 +10,7 @@ from pathlib import Path
 
 from lib import disks, failing_reads
 from lib.cases import RoomCase, add_tests
-from lib.disks import KIB, MIB, Disk, locator, shard, uuid
+from lib.disks import DIGEST, HEAD, KIB, MIB, ROUND_SEALED, Disk, locator, sealed_frame, shard, uuid
 from lib.reference import answered
 
 BLOCK = 256 * KIB
@@ -167,6 +167,153 @@ class Reads(RoomCase):
             for touched in (False, True):
                 got, _ = self.answer(["sizes", image.path], image, ranges, touched, block=size)
                 self.same(f"blocks {sorted(blocks)}", got, right)
+
+
+def numbered(size, _):
+    """Bytes of which no two pages side by side are equal."""
+    return bytearray((bytes(range(251)) * (size // 251 + 1))[:size])
+
+
+def with_zeros(size, page, is_zero):
+    """Such bytes, but some pages are zero."""
+    raw = numbered(size, page)
+    for number in filter(is_zero, range(size // page)):
+        raw[number * page:(number + 1) * page] = bytes(page)
+    return raw
+
+
+def sparse(size, page):
+    """Two of three pages are zero, but some of these have a last byte."""
+    raw = with_zeros(size, page, lambda number: number % 3 > 0)
+    raw[10 * page - 1::10 * page] = numbered(size, page)[10 * page - 1::10 * page]
+    return raw
+
+
+def part_zero(size, page):
+    """One of three pages is zero."""
+    return with_zeros(size, page, lambda number: number % 3 == 0)
+
+
+def all_zero(size, _):
+    return bytes(size)
+
+
+# A named page. Each image has it.
+NAMED = "1:2"
+READERS = (1, 2, 3, 7, 64)
+
+
+class Parted(RoomCase):
+    """Images that one reader loads, or several, each its own part. Each extent from 1 on is one sealed frame, so that the answer shows
+    whether any byte of it is wrong; and the superblock that counts is on the last pages of extent 0."""
+
+    @classmethod
+    def setUpClass(cls):
+        super().setUpClass()
+        cls.library = failing_reads.made(cls.room)
+
+    def image(self, page, pages, kind):
+        """An image of four extents with bytes of a kind, but for what is around the payloads. The next runs are told its sizes."""
+        disk, size = Disk(pages, 4, page), page * pages
+        raw, begin = kind(4 * size, page), HEAD + DIGEST
+        for extent in (1, 2, 3):
+            payload = bytes(raw[extent * size + begin:extent * size + begin + size - ROUND_SEALED])
+            disk.chunk(extent, 0, uuid(extent), payload, sealed_frame)
+        disk.superblock(0, 1)
+        disk.superblock(pages - 2, 2)
+        self.page, self.sizes, self.path = page, disk.geometry(), str(self.room / "parted")
+        return bytes(disk.bytes)
+
+    def write(self, raw):
+        Path(self.path).write_bytes(raw)
+
+    def scan(self, *pages, ranges=(), **limits):
+        words = ["scan", *self.sizes, self.path, *pages]
+        return failing_reads.run(self.program, words, self.library, self.path, self.page, ranges, True, **limits)
+
+    def right(self, *pages):
+        return answered(["scan", *self.sizes, self.path, *pages])
+
+    def check(self, right, readers, most, *pages):
+        got, counts = self.scan(*pages, told=readers, most=most)
+        self.same(f"{readers} readers, {most or 'any number of'} bytes a read", got, right)
+        self.true(f"{readers} readers", counts and counts.threads == readers, counts)
+
+    def check_one_reader(self, kind, lengths):
+        """Four extents of 64 pages of 64 bytes have one reader, however many processors there are."""
+        raw = self.image(64, 64, kind)
+        for length in lengths:
+            self.write(raw[:length])
+            right = self.right(NAMED)
+            for most in (1, 40, 64, 4096, 65536):
+                self.check(right, 1, most, NAMED)
+
+    def check_readers(self, kind, lengths, mosts):
+        """4 MiB, so that each processor is a reader."""
+        raw = self.image(512, 2048, kind)
+        for length in lengths:
+            self.write(raw[:length])
+            right = self.right(NAMED)
+            for readers in READERS:
+                self.check(right, readers, None, NAMED)
+        self.write(raw[:lengths[-1]])
+        right = self.right(NAMED)
+        for most in mosts:
+            for readers in READERS[::2]:
+                self.check(right, readers, most, NAMED)
+
+    def test_one_reader(self):
+        self.check_one_reader(numbered, (16384, 16383, 10000, 63, 0))
+
+    def test_one_reader_of_pages_of_zeros_between_others(self):
+        self.check_one_reader(sparse, (16384, 10000))
+
+    def test_one_reader_of_zeros(self):
+        self.check_one_reader(all_zero, (16384,))
+
+    def test_several_readers(self):
+        self.check_readers(numbered, (4 * MIB, 4 * MIB - 1, 63, 0, 2_500_000), (500, 512, 4096, 65536))
+
+    def test_several_readers_of_few_bytes_by_single_ones(self):
+        """With 64 readers the first two have some of them."""
+        self.write(self.image(512, 2048, numbered)[:100_000])
+        self.check(self.right(), 64, 1)
+
+    def test_several_readers_of_pages_of_zeros_between_others(self):
+        self.check_readers(sparse, (4 * MIB, 2_500_000), (40,))
+
+    def test_several_readers_of_zeros(self):
+        self.check_readers(all_zero, (4 * MIB,), (65536,))
+
+    def test_several_blocks_of_a_reader(self):
+        """A block has 65,536 pages at most. So one reader has three blocks, of which the last is smaller, and each of two has two."""
+        self.write(self.image(64, 35_000, part_zero))
+        right = self.right()
+        for readers in (1, 2):
+            self.check(right, readers, None)
+
+    def test_a_failed_read_of_several_pages_costs_none_and_one_of_a_page_costs_it(self):
+        """A read asks for four pages. If it fails once, each of them is read alone; if the next read fails too, that costs a page."""
+        self.write(self.image(64, 64, numbered))
+        for first, name in ((12, "0:12"), (140, "2:12")):
+            for times, lost in ((1, []), (2, [name])):
+                got, counts = self.scan(NAMED, ranges=[(first * 64, (first + 4) * 64)], times=times)
+                self.same(f"{times} reads of page {name} fail", got, self.right(NAMED, *lost))
+                self.same(f"{times} reads of page {name} fail, by their size", counts and counts[:2], (1, times - 1))
+
+    def test_a_byte_behind_the_last_page_is_too_long_for_any_number_of_readers(self):
+        self.write(self.image(512, 2048, numbered) + b"x")
+        for readers in READERS:
+            self.check((3, b"", b"shardscrub: image too long\n"), readers, None)
+
+    def test_reads_that_always_fail_load_no_page(self):
+        """Nor does a byte behind the last page count then."""
+        raw = self.image(64, 64, numbered)
+        self.write(raw)
+        right = self.right(*(f"{extent}:{page}" for extent in range(4) for page in range(64)))
+        self.write(raw + b"x")
+        got, _ = self.scan(ranges=[(0, len(raw) + 1)])
+        self.same("no page is loaded", got, right)
 
 
 add_tests(Reads, Reads.check_of_large, FAILURES.items())

@@ -7,9 +7,11 @@ sizes by several numbers of workers, and without the sizes if all its records ha
 import random
 import subprocess
 
+from lib import worked
 from lib.cases import RoomCase
 from lib.disks import MIB, Disk, frame, geometry, locator, record, run, sealed_frame, shard, uuid
 from lib.reference import answered
+from lib.worked import FOURS, ONES, THREES, TWOS, abc, finish
 
 SECONDS = 60
 PAGE, PAGES, EXTENTS = 64, 16, 6
@@ -82,11 +84,11 @@ class ShardCase(RoomCase):
         self.same(what, self.answer(*words), right)
         self.same(f"{what}, by the reference", answered(["shard", *words]), right)
 
-    def check(self, disk, right, *pairs, identifier=shard(1), sizes_are_found=True):
+    def check(self, disk, right, *pairs, identifier=shard(1), sizes_are_found=True, numbers=WORKERS):
         """Compares the answers on a disk, with its sizes and without."""
         image, name = self.write(disk.bytes), identifier.hex()
         given, what = ["--id", name, image, *pairs], " ".join([name, *pairs])
-        for workers in WORKERS:
+        for workers in numbers:
             self.check_words(f"{what}, {workers} workers", [*disk.geometry(), "--workers", workers, *given], right)
         if sizes_are_found:
             self.check_words(f"{what}, without sizes", given, right)
@@ -497,6 +499,122 @@ class Entries(ShardCase):
         self.check(disk, whole(FIRST, SECOND), "0:15", "1:15", "4:3")
 
 
+def rotted_chunk():
+    """`abc` has rotted, and a whole one is after the run."""
+    disk = Disk(4, 3)
+    disk.chunk(1, 0, ONES, b"abX")
+    named = worked.put_run(disk, 2, 0, TWOS, abc(1, 0))
+    disk.chunk(2, 155, FOURS, b"abc")
+    return finish(disk, [41, 196], [named])
+
+
+# A worked disk, the number of a shard, and the right answer. Most shards have one chunk, of `abc`.
+WORKED = [
+    (worked.one_shard, 1, whole(b"abc")),
+    (lambda: worked.second_of_two(1), 1, whole(b"abc")),
+    (lambda: worked.one_shard(times=2), 1, whole(b"abc")),
+    # Another shard of a run, the last of many, and two that share a chunk.
+    (worked.many_shards, 1, whole(b"abc")),
+    (worked.many_shards, 38, whole(b"abc")),
+    (lambda: worked.second_of_two(1, 2), 1, whole(b"abc")),
+    (lambda: worked.second_of_two(1, 2), 2, whole(b"abc")),
+    # A chunk that the scan steps past.
+    (worked.overwritten_end, 1, whole(b"abc")),
+    # The first that is lost is wrong in its length, and the next one in its digest.
+    (worked.nine_locators, 1, lost(5)),
+    # A rotted chunk with a copy, and an unreadable one without.
+    (rotted_chunk, 1, whole(b"abc")),
+    (lambda: worked.one_shard("1:0"), 1, lost(0)),
+    # The superblock that counts has its chunk past the pointer, or not.
+    (lambda: worked.two_superblocks(8), 1, lost(0)),
+    (lambda: worked.two_superblocks(6), 1, whole(b"abc")),
+    # A newer run is broken.
+    (worked.broken_newest_run, 1, doubtful(b"abc")),
+    # An entry of the newest run that deletes it, a run that is lost, and no runs.
+    (worked.deleted_in_the_newest_run, 1, NONE),
+    (lambda: worked.one_shard("2:0"), 1, NONE),
+    (worked.past_the_pointer, 1, NONE),
+    # Identifiers that no entry has, below and above those that one has; and no superblock.
+    (worked.one_shard, 0, NONE),
+    (worked.one_shard, 2, NONE),
+    (worked.many_shards, 39, NONE),
+    (lambda: Disk(4, 3), 1, NONE),
+    # The extent of the chunk is retired, or that of the run.
+    (lambda: worked.one_shard(retired=[1]), 1, lost(0)),
+    (lambda: worked.one_shard(retired=[2]), 1, NONE),
+]
+
+# Locators of the disk of `pieces`.
+PIECES = {
+    "abc": abc(1, 0),
+    "de": locator(1, 41, TWOS, b"de"),
+    # The chunk is sealed, or has no payload.
+    "sealed": locator(1, 81, THREES, b"sealed"),
+    "empty": locator(1, 159, FOURS, b""),
+    # The chunk has rotted, and there is a plain copy under another UUID; or it is past the pointer, and there is a sealed copy.
+    "rotted": locator(1, 197, ONES, b"fgh"),
+    "past": locator(1, 600, ONES, b"ijkl"),
+    # There is no chunk of this content; or it has the wrong UUID for the chunk without a payload.
+    "lost": locator(1, 700, ONES, b"lost"),
+    "lost-empty": locator(1, 159, TWOS, b""),
+}
+
+# The locators of an entry, and the right answer.
+ENTRIES = [
+    # Several chunks, in the order of their places and in others, and one of them twice.
+    ("abc de", whole(b"abcde")),
+    ("de abc", whole(b"deabc")),
+    ("abc de abc", whole(b"abcdeabc")),
+    # Other forms and lengths.
+    ("sealed", whole(b"sealed")),
+    ("empty", whole()),
+    ("de empty sealed abc", whole(b"desealedabc")),
+    # Payloads from copies.
+    ("rotted", whole(b"fgh")),
+    ("past", whole(b"ijkl")),
+    ("past abc rotted", whole(b"ijklabcfgh")),
+    # The first of those that are lost.
+    ("lost abc", lost(0)),
+    ("abc lost", lost(1)),
+    ("abc rotted lost de lost", lost(2)),
+    # No copy is sought for an empty payload, though there is a chunk without one.
+    ("lost-empty", lost(0)),
+    ("empty lost-empty lost", lost(1)),
+    # No chunks at all: the run deletes the shard.
+    ("", NONE),
+]
+
+
+def pieces(words):
+    """The chunks of the pieces are in extent 1, and copies in extent 2. The run in extent 3 has one shard with these pieces."""
+    disk = Disk(16, 4)
+    for offset, name, payload, form in ((0, ONES, b"abc", frame), (41, TWOS, b"de", frame), (81, THREES, b"sealed", sealed_frame),
+                                        (159, FOURS, b"", frame), (197, ONES, b"fgX", frame)):
+        disk.chunk(1, offset, name, payload, form)
+    disk.chunk(2, 0, TWOS, b"fgh")
+    disk.chunk(2, 41, THREES, b"ijkl", sealed_frame)
+    named = worked.put_run(disk, 3, 0, uuid(0xAA), *(PIECES[word] for word in words.split()))
+    return finish(disk, disk.pointers, [named])
+
+
+class Worked(ShardCase):
+    """Small disks made by hand, by the caller alone and by two workers."""
+
+    def test_shards_of_the_worked_disks(self):
+        for make, number, right in WORKED:
+            disk = make()
+            disk, *bad = disk if isinstance(disk, tuple) else (disk,)
+            self.check(disk, right, *bad, identifier=shard(number), sizes_are_found=False, numbers="02")
+
+    def test_a_shard_is_the_payloads_of_its_entry_in_order(self):
+        for words, right in ENTRIES:
+            self.check(pieces(words), right, sizes_are_found=False, numbers="02")
+
+    def test_any_number_of_workers_reads_the_same_shard(self):
+        disk = worked.many_shards()
+        self.check(disk, whole(b"abc"), identifier=shard(38), numbers=("0", "1", "2", "3", "7", "64"))
+
+
 class Words(ShardCase):
     """How a shard, its sizes and unreadable pages are given."""
 
@@ -567,6 +685,14 @@ class Words(ShardCase):
 
 class Large(ShardCase):
     """Shards of many bytes."""
+
+    def test_64_payloads_of_more_than_a_mebibyte(self):
+        """One of them alone has more, and the others follow one another in length from no byte on."""
+        disk = Disk(8_192, 3, 256)
+        payloads = [bytes([number]) * (1_100_000 if number == 40 else number) for number in range(64)]
+        named = [disk.chunk(1, disk.pointers[0], uuid(number), payload) for number, payload in enumerate(payloads)]
+        disk.superblock(0, 1, disk.chunk(2, 0, uuid(0xAA), run((shard(1), named))))
+        self.check(disk, whole(*payloads), sizes_are_found=False, numbers="2")
 
     def test_64_mebibytes(self):
         """64 payloads of a MiB each, some of them hidden, some from spares, in no order."""

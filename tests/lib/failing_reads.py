@@ -1,8 +1,10 @@
-"""Runs a program with a library in which reads of an image fail.
+"""Runs a program with a library in which reads of an image fail or give few bytes.
 
 Some ranges of the image's bytes can't be read. A read fails if it begins in such a range; one that begins before it ends there,
 as the page cache of Linux does it. With `touched` a read that meets such a range at all fails as a whole, as some devices and
-file systems do it.
+file systems do it. If `times` are given, only so many reads fail.
+
+A read gives `most` bytes at most. The program is told of `told` processors, whatever the machine has.
 """
 import os
 from typing import NamedTuple
@@ -13,32 +15,58 @@ LIBRARY = r"""
 #define _GNU_SOURCE
 #include <dlfcn.h>
 #include <errno.h>
+#include <sched.h>
 #include <stdio.h>
 #include <stdlib.h>
+#include <string.h>
 #include <sys/stat.h>
 #include <sys/types.h>
+#include <unistd.h>
 
 #define MOST 100000
 
 static ssize_t (*real_pread)(int, void *, size_t, off_t);
 static off_t begins[MOST], ends[MOST];
-static int ranges, whole;
+static int ranges, whole, told;
 static ino_t image;
-static size_t page;
+static size_t page, most;
+static long times;
 static long failed_long, failed_short, threads;
 static __thread int is_counted;
 
+static long long given(const char *name, long long otherwise) {
+    return getenv(name) ? atoll(getenv(name)) : otherwise;
+}
+
 __attribute__((constructor)) static void begin(void) {
     real_pread = dlsym(RTLD_NEXT, "pread");
-    image = atoll(getenv("IMAGE"));
-    page = atoll(getenv("PAGE"));
+    image = given("IMAGE", 0);
+    page = given("PAGE", 0);
     whole = getenv("TOUCHED") != NULL;
+    most = given("AT_MOST", 1L << 40);
+    times = given("TIMES", 1L << 40);
+    told = given("PROCESSORS", 0);
     char *text = getenv("FAILING");
     while (*text) {
         begins[ranges] = strtoll(text, &text, 10);
         ends[ranges++] = strtoll(text + 1, &text, 10);
         if (*text) text++;
     }
+}
+
+/* A mask of as many processors as are told. The call of the system gives the size of its own mask. */
+int sched_getaffinity(pid_t process, size_t size, cpu_set_t *mask) {
+    int (*real)(pid_t, size_t, cpu_set_t *) = dlsym(RTLD_NEXT, "sched_getaffinity");
+    int got = real(process, size, mask);
+    if (told == 0 || got < 0) return got;
+    memset(mask, 0, size);
+    for (int number = 0; number < told; number++) CPU_SET_S(number, size, mask);
+    return got;
+}
+
+long sysconf(int name) {
+    long (*real)(int) = dlsym(RTLD_NEXT, "sysconf");
+    return told && (name == _SC_NPROCESSORS_ONLN || name == _SC_NPROCESSORS_CONF) ? told : real(name);
 }
 
 static ssize_t fail(size_t size) {
@@ -56,10 +84,10 @@ ssize_t pread(int file, void *to, size_t size, off_t at) {
     size_t wanted = size;
     for (int number = 0; number < ranges; number++) {
         if (at >= ends[number] || at + (off_t)size <= begins[number]) continue;
-        if (whole || at >= begins[number]) return fail(wanted);
-        size = begins[number] - at;
+        if (!whole && at < begins[number]) size = begins[number] - at;
+        else if (__atomic_fetch_sub(&times, 1, __ATOMIC_SEQ_CST) > 0) return fail(wanted);
     }
-    return real_pread(file, to, size, at);
+    return real_pread(file, to, size < most ? size : most, at);
 }
 
 ssize_t pread64(int file, void *to, size_t size, off_t at) { return pread(file, to, size, at); }
@@ -80,8 +108,10 @@ class Counts(NamedTuple):
     threads: int
 
 
-def run(program, words, library, image, page, ranges, touched, processors=None):
+def run(program, words, library, image, page, ranges, touched, processors=None, *, most=None, times=None, told=None):
     """The status and both outputs of a run on these processors, and its counts; None in their place if it didn't end by itself."""
-    given = {"IMAGE": str(os.stat(image).st_ino), "PAGE": str(page), "FAILING": ",".join(f"{begin}-{end}" for begin, end in ranges)}
-    got, numbers = preloaded.run(program, words, library, given | ({"TOUCHED": "1"} if touched else {}), processors)
+    given = {"IMAGE": os.stat(image).st_ino, "PAGE": page, "FAILING": ",".join(f"{begin}-{end}" for begin, end in ranges),
+             "TOUCHED": "1" if touched else None, "AT_MOST": most, "TIMES": times, "PROCESSORS": told}
+    given = {name: str(value) for name, value in given.items() if value is not None}
+    got, numbers = preloaded.run(program, words, library, given, processors)
     return got, Counts(*numbers) if numbers else None

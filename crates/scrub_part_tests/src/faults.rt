@@ -1,4 +1,4 @@
-//! The texts of faults, which no contract states. For those of a refused geometry see `scrub_cli`.
+//! The texts of faults, which no contract states. Those of a refused geometry the program prints.
 
 use crate::compare::same;
 use scrub_disk::{LoadFault, RawFault, Unreadable};

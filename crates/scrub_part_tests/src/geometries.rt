@@ -1,4 +1,4 @@
-//! Sizes of disks at the limits and past them, and the names of broken limits.
+//! Sizes of disks at the limits and past them.
 
 use crate::compare::same;
 use scrub_disk::{Geometry, GeometryFault};
@@ -30,19 +30,4 @@ fn the_first_broken_limit_is_reported(rt: HostRuntime) {
     for (page, pages, extents, fault) in refused {
         same(&rt, Geometry::new(page, pages, extents), Err(fault));
     }
-}
-
-#[test]
-fn a_fault_prints_as_the_name_of_its_limit(rt: HostRuntime) -> Result<(), Fail> {
-    let texts = [
-        (GeometryFault::PageSize, "PageSize"),
-        (GeometryFault::Pages, "Pages"),
-        (GeometryFault::Extents, "Extents"),
-        (GeometryFault::ExtentBytes, "ExtentBytes"),
-        (GeometryFault::TotalBytes, "TotalBytes"),
-    ];
-    for (fault, text) in texts {
-        same(&rt, format!(in rt.alloc(); "{fault}")?.as_str(), text);
-    }
-    Ok(())
 }

@@ -7,8 +7,6 @@ mod books;
 #[cfg(test)]
 mod compare;
 #[cfg(test)]
-mod entries_of_runs;
-#[cfg(test)]
 mod fakes;
 #[cfg(test)]
 mod faults;
@@ -29,18 +27,10 @@ mod memory_disk;
 #[cfg(test)]
 mod one_worker;
 #[cfg(test)]
-mod parted_loading;
-#[cfg(test)]
 mod records;
-#[cfg(test)]
-mod rescue_maps;
 #[cfg(test)]
 mod run_payloads;
 #[cfg(test)]
-mod sizes_anywhere;
-#[cfg(test)]
 mod superblock;
-#[cfg(test)]
-mod superblock_pages;
 #[cfg(test)]
 mod whole_extents;

@@ -45,31 +45,55 @@ fn unreadable_pages<R: RawImage>(
     Ok(unreadable)
 }
 
-#[test]
-fn each_page_of_a_whole_image_is_readable(rt: HostRuntime) -> Result<(), Fail> {
-    let bytes = numbered();
-    let mut raw = RawBytes::failing(&bytes[..768], 4096, 0, 0);
-    let unreadable = unreadable_pages(&rt, rt.alloc(), &mut raw, &[], &bytes)?;
-    same(&rt, unreadable.as_slice(), [].as_slice());
-    same(&rt, raw.reads, 13);
-    Ok(())
-}
+/// All pages.
+const ALL: &[(u32, u32)] = &[
+    (0, 0),
+    (0, 1),
+    (0, 2),
+    (0, 3),
+    (1, 0),
+    (1, 1),
+    (1, 2),
+    (1, 3),
+    (2, 0),
+    (2, 1),
+    (2, 2),
+    (2, 3),
+];
+
+/// What happens; the number of bytes of the image; how many a read gives at most; the first read that fails,
+/// and how many may; the unreadable pages; the number of reads, and of those that failed. In the short image
+/// page 2 of extent 2 takes two reads.
+const ROWS: [(&str, usize, usize, (u64, u64), &[(u32, u32)], (u64, u64)); 8] = [
+    ("whole", 768, 4096, (0, 0), &[], (13, 0)),
+    ("short", 668, 4096, (0, 0), &[(2, 2), (2, 3)], (14, 0)),
+    ("empty", 0, 4096, (0, 0), ALL, (13, 0)),
+    (
+        "a byte too long, which can't be read",
+        769,
+        4096,
+        (12, 1),
+        &[],
+        (13, 1),
+    ),
+    ("one byte at a time", 768, 1, (0, 0), &[], (769, 0)),
+    ("a failed page", 768, 4096, (4, 1), &[(1, 0)], (13, 1)),
+    ("a failed byte", 768, 1, (319, 1), &[(1, 0)], (769, 1)),
+    ("each read fails", 769, 4096, (0, u64::MAX), ALL, (13, 13)),
+];
 
 #[test]
-fn pages_past_the_end_of_a_short_image_are_unreadable(rt: HostRuntime) -> Result<(), Fail> {
+fn pages_that_cannot_be_read_whole_are_unreadable_and_no_others(
+    rt: HostRuntime,
+) -> Result<(), Fail> {
     let bytes = numbered();
-    let mut raw = RawBytes::failing(&bytes[..668], 4096, 0, 0);
-    let unreadable = unreadable_pages(&rt, rt.alloc(), &mut raw, &[], &bytes)?;
-    same(&rt, unreadable.as_slice(), [(2, 2), (2, 3)].as_slice());
-    Ok(())
-}
-
-#[test]
-fn an_empty_image_has_no_readable_page(rt: HostRuntime) -> Result<(), Fail> {
-    let mut raw = RawBytes::failing(&[], 4096, 0, 0);
-    let unreadable = unreadable_pages(&rt, rt.alloc(), &mut raw, &[], &numbered())?;
-    same(&rt, unreadable.len(), 12);
-    same(&rt, (raw.reads, raw.failures), (13, 0));
+    for (what, len, most, (failing, faults), unreadable, reads) in &ROWS {
+        assert!(rt; *len <= 769 && *most >= 1);
+        let mut raw = RawBytes::failing(&bytes[..*len], *most, *failing, *faults);
+        let found = unreadable_pages(&rt, rt.alloc(), &mut raw, &[], &bytes)?;
+        assert!(rt; found.as_slice() == *unreadable, "{what}");
+        assert!(rt; (raw.reads, raw.failures) == *reads, "{what}");
+    }
     Ok(())
 }
 
@@ -84,36 +108,6 @@ fn one_byte_after_the_last_page_is_too_long(rt: HostRuntime) -> Result<(), Fail>
         refused.map(|disk| disk.geometry()),
         Err(LoadFault::TooLong),
     );
-    let mut cut_short = RawBytes::failing(&bytes, 4096, 12, 1);
-    let unreadable = unreadable_pages(&rt, rt.alloc(), &mut cut_short, &[], &bytes)?;
-    same(&rt, unreadable.as_slice(), [].as_slice());
-    same(&rt, (cut_short.reads, cut_short.failures), (13, 1));
-    Ok(())
-}
-
-#[test]
-fn one_byte_at_a_time_takes_as_many_reads_as_bytes_and_one_more(
-    rt: HostRuntime,
-) -> Result<(), Fail> {
-    let bytes = numbered();
-    let mut raw = RawBytes::failing(&bytes[..768], 1, 0, 0);
-    let unreadable = unreadable_pages(&rt, rt.alloc(), &mut raw, &[], &bytes)?;
-    same(&rt, unreadable.as_slice(), [].as_slice());
-    same(&rt, raw.reads, 769);
-    Ok(())
-}
-
-#[test]
-fn a_failed_read_makes_its_own_page_unreadable(rt: HostRuntime) -> Result<(), Fail> {
-    let bytes = numbered();
-    let mut whole_pages = RawBytes::failing(&bytes[..768], 4096, 4, 1);
-    let unreadable = unreadable_pages(&rt, rt.alloc(), &mut whole_pages, &[], &bytes)?;
-    same(&rt, unreadable.as_slice(), [(1, 0)].as_slice());
-    same(&rt, (whole_pages.reads, whole_pages.failures), (13, 1));
-    let mut single_bytes = RawBytes::failing(&bytes[..768], 1, 4 * 64 + 63, 1);
-    let unreadable = unreadable_pages(&rt, rt.alloc(), &mut single_bytes, &[], &bytes)?;
-    same(&rt, unreadable.as_slice(), [(1, 0)].as_slice());
-    same(&rt, (single_bytes.reads, single_bytes.failures), (769, 1));
     Ok(())
 }
 
@@ -124,15 +118,5 @@ fn a_named_page_is_unreadable(rt: HostRuntime) -> Result<(), Fail> {
     let bad = [(2, 3), (0, 0), (2, 3)];
     let unreadable = unreadable_pages(&rt, rt.alloc(), &mut raw, &bad, &bytes)?;
     same(&rt, unreadable.as_slice(), [(0, 0), (2, 3)].as_slice());
-    Ok(())
-}
-
-#[test]
-fn an_image_that_always_fails_has_no_readable_page(rt: HostRuntime) -> Result<(), Fail> {
-    let bytes = numbered();
-    let mut raw = RawBytes::failing(&bytes, 4096, 0, u64::MAX);
-    let unreadable = unreadable_pages(&rt, rt.alloc(), &mut raw, &[], &bytes)?;
-    same(&rt, unreadable.len(), 12);
-    same(&rt, raw.reads, 13);
     Ok(())
 }

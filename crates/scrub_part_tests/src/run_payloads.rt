@@ -35,6 +35,9 @@ const ABC_LOCATOR: [u8; 60] = [
 /// The locator of `abc` as a part of a payload.
 const ABC: &[u8] = &ABC_LOCATOR;
 
+/// The first bytes of a locator of `abc` at offset 41. The others are the same.
+const AT_41: &[u8] = b"\0\0\0\x01\0\0\0\x29\0\0\0\x03";
+
 /// The head of a run of one entry: the magic, and the claimed number of entries.
 const ONE_ENTRY: &[u8] = b"RUN1\0\0\0\x01";
 
@@ -56,6 +59,9 @@ const FIRST_OF_ONE: &[u8] = b"\0\0\0\0\0\0\0\0\0\0\0\0\0\0\0\x01\x01";
 const SECOND_OF_ONE: &[u8] = b"\0\0\0\0\0\0\0\0\0\0\0\0\0\0\0\x02\x01";
 
 const SECOND_OF_TWO: &[u8] = b"\0\0\0\0\0\0\0\0\0\0\0\0\0\0\0\x02\x02";
+
+/// The head of an entry of the identifier of fifteen zero bytes and 03.
+const THIRD_OF_TWO: &[u8] = b"\0\0\0\0\0\0\0\0\0\0\0\0\0\0\0\x03\x02";
 
 /// Heads of runs of one entry, each followed by the head of an entry of 64 locators or of 65.
 const ONE_OF_64: &[u8] = b"RUN1\0\0\0\x01\0\0\0\0\0\0\0\0\0\0\0\0\0\0\0\x01\x40";
@@ -91,6 +97,17 @@ fn is_refused(alloc: Global, payload: &[u8]) -> bool {
     matches!(read_run(alloc, payload), Err(RunFault::NotARun))
 }
 
+/// Any run that is read is written again byte for byte: this follows from the contracts alone.
+fn read_and_written(alloc: Global, payload: &[u8]) -> Result<Vec<u8>, RunFault>
+    ensures { IfOk result (λ out. out.items ≡ payload.now) }
+{
+    let run = read_run(alloc, payload)?;
+    match write_run(alloc, run.entries()) {
+        Ok(bytes) => Ok(bytes),
+        Err(_) => Err(RunFault::OutOfMemory),
+    }
+}
+
 /// Compares entries with identifiers and locators.
 fn check_entries(rt: &impl Abort, entries: &[Entry], wanted: &[(ShardId, &[Locator])]) {
     assert!(rt; entries.len() == wanted.len());
@@ -100,8 +117,8 @@ fn check_entries(rt: &impl Abort, entries: &[Entry], wanted: &[(ShardId, &[Locat
     }
 }
 
-/// Checks the entries of the run with this payload.
-fn check_read(
+/// Checks the entries of the run with this payload, and that it is written again.
+fn check_run(
     rt: &impl Abort,
     alloc: Global,
     payload: &[u8],
@@ -109,27 +126,19 @@ fn check_read(
 ) -> Result<(), Fail> {
     let run = read_run(alloc, payload)?;
     check_entries(rt, run.entries(), wanted);
+    let written = read_and_written(alloc, payload)?;
+    assert!(rt; written.as_slice() == payload);
     Ok(())
 }
 
 #[test]
-fn the_run_of_one_shard_is_written_and_read(rt: HostRuntime) -> Result<(), Fail> {
+fn the_runs_of_one_shard_and_of_none_are_written_and_read(rt: HostRuntime) -> Result<(), Fail> {
     let entry = Entry::new(shard_of(1), Vec::from_slice(rt.alloc(), &[abc_at(1, 0)])?);
     let bytes = write_run(rt.alloc(), slice::from_ref(&entry))?;
     assert!(rt; bytes.as_slice() == ONE_SHARD.as_slice());
-    check_read(
-        &rt,
-        rt.alloc(),
-        &ONE_SHARD,
-        &[(shard_of(1), &[abc_at(1, 0)])],
-    )
-}
-
-#[test]
-fn a_run_of_no_entries_has_40_bytes(rt: HostRuntime) -> Result<(), Fail> {
-    let bytes = write_run(rt.alloc(), &[])?;
-    assert!(rt; bytes.as_slice() == NO_SHARDS.as_slice());
-    check_read(&rt, rt.alloc(), &NO_SHARDS, &[])
+    let wanted: (ShardId, &[Locator]) = (shard_of(1), &[abc_at(1, 0)]);
+    check_run(&rt, rt.alloc(), &ONE_SHARD, &[wanted])?;
+    check_run(&rt, rt.alloc(), &NO_SHARDS, &[])
 }
 
 #[test]
@@ -158,16 +167,36 @@ fn alike(last: [u8; 2]) -> ShardId {
 }
 
 #[test]
-fn deleted_shards_are_read_in_their_order(rt: HostRuntime) -> Result<(), Fail> {
-    let one = payload(rt.alloc(), ONE_ENTRY, &[FIRST_OF_NONE])?;
-    check_read(&rt, rt.alloc(), &one, &[(shard_of(1), &[])])?;
-    let three = payload(rt.alloc(), THREE_ENTRIES, &[LOW, MIDDLE, HIGH])?;
+fn deleted_shards_and_shards_of_one_locator_and_two_are_read_in_their_order(
+    rt: HostRuntime,
+) -> Result<(), Fail> {
+    let deleted = payload(rt.alloc(), THREE_ENTRIES, &[LOW, MIDDLE, HIGH])?;
     let (low, middle, high) = (alike([0, 2]), alike([1, 1]), alike([1, 2]));
-    check_read(
+    check_run(
+        &rt,
+        rt.alloc(),
+        &deleted,
+        &[(low, &[]), (middle, &[]), (high, &[])],
+    )?;
+    let parts = [
+        FIRST_OF_NONE,
+        SECOND_OF_ONE,
+        ABC,
+        THIRD_OF_TWO,
+        ABC,
+        AT_41,
+        &ABC_LOCATOR[12..],
+    ];
+    let three = payload(rt.alloc(), THREE_ENTRIES, &parts)?;
+    check_run(
         &rt,
         rt.alloc(),
         &three,
-        &[(low, &[]), (middle, &[]), (high, &[])],
+        &[
+            (shard_of(1), &[]),
+            (shard_of(2), &[abc_at(1, 0)]),
+            (shard_of(3), &[abc_at(1, 0), abc_at(1, 41)]),
+        ],
     )
 }
 
@@ -263,32 +292,4 @@ fn a_run_ends_with_its_digest(rt: HostRuntime) -> Result<(), Fail> {
     let inner = payload(rt.alloc(), &ONE_SHARD[..85], &[&[0]])?;
     assert!(rt; is_refused(rt.alloc(), &inner), "a byte in front of it");
     Ok(())
-}
-
-/// Any run that is read is written again byte for byte: this follows from the contracts alone.
-fn read_and_written(alloc: Global, payload: &[u8]) -> Result<Vec<u8>, RunFault>
-    ensures { IfOk result (λ out. out.items ≡ payload.now) }
-{
-    let run = read_run(alloc, payload)?;
-    match write_run(alloc, run.entries()) {
-        Ok(bytes) => Ok(bytes),
-        Err(_) => Err(RunFault::OutOfMemory),
-    }
-}
-
-#[test]
-fn two_shards_are_written_and_read(rt: HostRuntime) -> Result<(), Fail> {
-    let bytes = payload(
-        rt.alloc(),
-        TWO_ENTRIES,
-        &[FIRST_OF_NONE, SECOND_OF_ONE, ABC],
-    )?;
-    let written = read_and_written(rt.alloc(), &bytes)?;
-    assert!(rt; written.as_slice() == bytes.as_slice());
-    check_read(
-        &rt,
-        rt.alloc(),
-        &bytes,
-        &[(shard_of(1), &[]), (shard_of(2), &[abc_at(1, 0)])],
-    )
 }

@@ -1,16 +1,10 @@
-//! Tests of whole scrubs: reports, indexes, listings, shards that are read, and lists longer than in any
-//! example.
+//! Tests of whole scrubs that the program can't show: published reports by one reader, how often pages are
+//! asked for, reads of one byte, and calls that only tests make.
 
-pub mod copies;
-pub mod large;
-pub mod listings;
 pub mod loaded;
 pub mod page_counts;
 pub mod published;
-pub mod reclaimable;
 pub mod retired;
-pub mod rooms;
-pub mod scrub;
 pub mod shards;
 pub mod sizes;
 pub mod writing;

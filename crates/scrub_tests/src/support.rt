@@ -1,6 +1,4 @@
-//! What the tests share: extents and their contents, the statuses of nine locators, and comparisons.
+//! What the tests share: what is reported of a disk, and comparisons.
 
 pub mod compare;
-pub mod extents;
-pub mod nine;
 pub mod reported;

@@ -57,32 +57,18 @@ fn check_workers<R: Threads + Wait + Abort + Clock + Sync>(
     Ok(())
 }
 
+/// Of two extents, each has its own worker; four and eight workers have an extent each; and of 65 workers 39.
 #[test]
-fn extent_1_is_held_until_another_worker_has_passed_with_extent_2(
+fn workers_are_held_until_the_others_have_passed_with_an_extent(
     rt: HostRuntime,
 ) -> Result<(), Fail> {
     let disk = one_shard(rt.alloc())?;
-    check_workers(&rt, rt.alloc(), &disk, 1, 2)
-}
-
-#[test]
-fn four_workers_are_held_until_each_has_passed_with_an_extent(rt: HostRuntime) -> Result<(), Fail> {
+    check_workers(&rt, rt.alloc(), &disk, 1, 2)?;
     let (disk, _) = many_shards(rt.alloc())?;
-    check_workers(&rt, rt.alloc(), &disk, 3, 4)
-}
-
-#[test]
-fn eight_workers_are_held_until_each_has_passed_with_an_extent(
-    rt: HostRuntime,
-) -> Result<(), Fail> {
-    let (disk, _) = many_shards(rt.alloc())?;
-    check_workers(&rt, rt.alloc(), &disk, 7, 8)
-}
-
-#[test]
-fn each_of_39_extents_has_its_own_worker_of_65(rt: HostRuntime) -> Result<(), Fail> {
-    let (disk, _) = many_shards(rt.alloc())?;
-    check_workers(&rt, rt.alloc(), &disk, 64, 39)
+    for (workers, held) in [(3, 4), (7, 8), (64, 39)] {
+        check_workers(&rt, rt.alloc(), &disk, workers, held)?;
+    }
+    Ok(())
 }
 
 /// Scans a disk with `workers` workers and the caller. All but worker `alone` are held at their first extents

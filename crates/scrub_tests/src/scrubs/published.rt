@@ -3,9 +3,10 @@
 use crate::support::compare::same;
 use crate::support::reported::scrubbed;
 use scrub_disk::MemDisk;
+use scrub_fakes::payloads::two_shards_payload;
 use scrub_fakes::published::{COLLISION, NO_SHARDS, ONE_SHARD, TWINS, ZEROS};
-use scrub_fakes::worked::{one_shard, overwritten_end, twins_and_shared};
-use scrub_fakes::{ENDS_IN_MAGIC, SHARD, abc_at, mark_bad, run_of, small_disk};
+use scrub_fakes::worked::{Worked, twins_and_shared};
+use scrub_fakes::{SHARD, abc_at, mark_bad, run_of};
 use std::alloc::Global;
 use std::process::Abort;
 use std::test::Fail;
@@ -27,34 +28,27 @@ fn check(
     Ok(())
 }
 
+/// The disk with one shard is clean; a disk of zeros has no superblock; a chunk that the scan steps past is
+/// hidden; and twins and a shared place are reported.
 #[test]
-fn a_disk_with_one_shard_is_clean(rt: HostRuntime) -> Result<(), Fail> {
-    let disk = one_shard(rt.alloc())?;
-    let index = run_of(rt.alloc(), SHARD, &[abc_at(1, 0)])?;
-    assert!(rt; index.len() == 117);
-    check(&rt, rt.alloc(), &disk, ONE_SHARD, &index, true)
+fn whole_scrubs_have_the_published_reports(rt: HostRuntime) -> Result<(), Fail> {
+    let one = run_of(rt.alloc(), SHARD, &[abc_at(1, 0)])?;
+    assert!(&rt; one.len() == 117);
+    let hidden = run_of(rt.alloc(), SHARD, &[abc_at(1, 64)])?;
+    let two = two_shards_payload(rt.alloc())?;
+    for (worked, report, index, is_clean) in [
+        (Worked::OneShard, ONE_SHARD, one.as_slice(), true),
+        (Worked::Zeros, ZEROS, NO_SHARDS.as_slice(), false),
+        (Worked::OverwrittenEnd, COLLISION, hidden.as_slice(), false),
+        (Worked::TwinsAndShared, TWINS, two.as_slice(), false),
+    ] {
+        let disk = worked.disk(rt.alloc())?;
+        check(&rt, rt.alloc(), &disk, report, index, is_clean)?;
+    }
+    Ok(())
 }
 
-#[test]
-fn a_disk_of_zeros_has_no_superblock(rt: HostRuntime) -> Result<(), Fail> {
-    let disk = small_disk(rt.alloc())?;
-    check(&rt, rt.alloc(), &disk, ZEROS, &NO_SHARDS, false)
-}
-
-#[test]
-fn a_chunk_that_the_scan_steps_past_is_hidden(rt: HostRuntime) -> Result<(), Fail> {
-    let disk = overwritten_end(rt.alloc(), ENDS_IN_MAGIC)?;
-    let index = run_of(rt.alloc(), SHARD, &[abc_at(1, 64)])?;
-    check(&rt, rt.alloc(), &disk, COLLISION, &index, false)
-}
-
-#[test]
-fn twins_and_a_shared_place_are_reported(rt: HostRuntime) -> Result<(), Fail> {
-    let (disk, index) = twins_and_shared(rt.alloc())?;
-    check(&rt, rt.alloc(), &disk, TWINS, &index, false)
-}
-
-/// The report differs from that of the test above only in the page and the candidate.
+/// The report differs from that of the last disk above only in the page and the candidate.
 #[test]
 fn an_unreadable_page_of_extent_0_leaves_no_candidate(rt: HostRuntime) -> Result<(), Fail> {
     let (mut disk, index) = twins_and_shared(rt.alloc())?;

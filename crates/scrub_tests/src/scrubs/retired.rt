@@ -1,5 +1,5 @@
-//! Disks whose superblock retires extents: what is scanned, the status of locators into retired extents, and
-//! the reports.
+//! Disks whose superblock retires extents: which pages are asked for, what workers take, a pool over nothing,
+//! and the status of locators into retired extents.
 
 ghost use Rattle.std.specs.Prelude.{◌≤◌};
 
@@ -12,12 +12,10 @@ use scrub_fakes::payloads::put_run;
 use scrub_fakes::published::NO_SHARDS;
 use scrub_fakes::worked::put_abc_and_its_run;
 use scrub_fakes::{
-    CountingSource, ONES, TWOS, abc_at, mark_bad, put, put_chunk, put_contents, put_record,
-    small_disk,
+    CountingSource, ONES, TWOS, abc_at, mark_bad, put, put_chunk, put_contents, small_disk,
 };
 use scrub_frame::Locator;
 use scrub_pool::{NoGate, Takings};
-use scrub_report::ScrubAnswer;
 use scrub_scan::scan_in_order;
 use scrub_super::{Plan, Superblock, choose};
 use std::alloc::Global;
@@ -27,23 +25,21 @@ use std::sync::Wait;
 use std::test::Fail;
 use std::thread::Threads;
 
-/// Puts a superblock record that retires extents on a page of extent 0. Returns its length in bytes.
+/// Puts a superblock record that retires extents on page 0 of extent 0. Returns its length in bytes.
 fn put_retiring(
     alloc: Global,
     disk: &mut MemDisk,
-    page: u32,
-    generation: u64,
     pointers: &[u32],
     retired: &[u32],
     runs: &[Locator],
 ) -> Result<usize, Fail> {
     let superblock = Superblock::with_retired(
-        generation,
+        1,
         Vec::from_slice(alloc, pointers)?,
         Vec::from_slice(alloc, retired)?,
         Vec::from_slice(alloc, runs)?,
     );
-    Ok(put_contents(alloc, disk, page, &superblock)?)
+    Ok(put_contents(alloc, disk, 0, &superblock)?)
 }
 
 /// A disk of three extents with `abc` in extent 1 and the run of one shard that names it in extent 2. Extents
@@ -57,32 +53,23 @@ fn one_shard_retiring(
     let mut disk = small_disk(alloc)?;
     let run = put_abc_and_its_run(alloc, &mut disk)?;
     let runs = slice::from_ref(&run);
-    let put = put_retiring(alloc, &mut disk, 0, 1, &[41, 155], retired, runs)?;
+    let put = put_retiring(alloc, &mut disk, &[41, 155], retired, runs)?;
     same(rt, put, length);
     Ok(disk)
 }
 
 /// A disk of four extents with `abc` in extent 1 and the run of one shard that names it in extent 2. Extent 3
 /// is retired; it is full of FF, and its page 0 is unreadable.
-pub(crate) fn broken_and_retired(rt: &impl Abort, alloc: Global) -> Result<MemDisk, Fail> {
+fn broken_and_retired(rt: &impl Abort, alloc: Global) -> Result<MemDisk, Fail> {
     let mut disk = MemDisk::blank(alloc, Geometry::new(64, 4, 4)?)?;
     put_chunk(alloc, &mut disk, 1, 0, ONES, b"abc")?;
     let run = put_run(alloc, &mut disk, 2, 0, TWOS, &[abc_at(1, 0)])?;
     put(&mut disk, 3, 0, &[0xFF; 256])?;
     mark_bad(&mut disk, 3, 0)?;
     let runs = slice::from_ref(&run);
-    let put = put_retiring(alloc, &mut disk, 0, 1, &[41, 155, 0], &[3], runs)?;
+    let put = put_retiring(alloc, &mut disk, &[41, 155, 0], &[3], runs)?;
     same(rt, put, 136);
     Ok(disk)
-}
-
-/// Checks that a report has these pieces.
-fn check_pieces(rt: &impl Abort, answer: &ScrubAnswer, pieces: &[&str]) -> Result<(), Fail> {
-    let report = str::from_utf8(answer.report())?;
-    for piece in pieces {
-        assert!(rt; report.contains(*piece), "{piece} in {report}");
-    }
-    Ok(())
 }
 
 /// Scrubs a disk with `workers` workers, and compares the answer with that of one reader. Returns which
@@ -100,40 +87,15 @@ fn check_workers<R: Threads + Wait + Abort + Sync>(
     Ok(takings)
 }
 
-#[test]
-fn the_content_of_a_retired_extent_is_ignored(rt: HostRuntime) -> Result<(), Fail> {
-    let disk = broken_and_retired(&rt, rt.alloc())?;
-    let answer = scrubbed(&rt, rt.alloc(), &disk)?;
-    assert!(&rt; answer.is_clean());
-    let pieces = [
-        r#""clean":true,"#,
-        r#""extents":[{"bad":[],"extent":1,"#,
-        concat!(
-            r#",{"bad":[],"extent":2,"items":["chunk 0 155 22222222-2222-2222-2222-222222222222 117"],"#,
-            r#""live":155,"pointer":155,"tail":0,"tail_at":null}],"geometry""#
-        ),
-        r#""retired":[3],"#,
-        r#""runs":[{"entries":1,"extent":2,"offset":0,"state":"read"}],"#,
-    ];
-    check_pieces(&rt, &answer, &pieces)?;
-    let takings = check_workers(&rt, rt.alloc(), &disk, 2)?;
-    same(&rt, takings.counted(), 2);
-    Ok(())
+/// Checks that pages of extent 2 were asked for, and none of extent 3.
+fn check_asked(rt: &impl Abort, source: &CountingSource<'_>) {
+    assert!(rt; source.geometry().extents() == 4);
+    assert!(rt; source.reads_of(2) >= 4);
+    same(rt, source.reads_of(3), 0);
 }
 
-#[test]
-fn no_page_of_a_retired_extent_is_asked_for(rt: HostRuntime) -> Result<(), Fail> {
-    let disk = broken_and_retired(&rt, rt.alloc())?;
-    let source = CountingSource::new(rt.alloc(), &disk)?;
-    assert!(&rt; scrubbed(&rt, rt.alloc(), &source)?.is_clean());
-    assert!(&rt; source.geometry().extents() == 4);
-    assert!(&rt; source.reads_of(2) >= 4);
-    same(&rt, source.reads_of(3), 0);
-    Ok(())
-}
-
-/// Checks that a scrub by `workers` workers asks for pages of extent 2, and for none of extent 3.
-fn check_unasked<R: Threads + Wait + Abort + Sync>(
+/// Checks which pages a scrub by `workers` workers asks for.
+fn check_asked_by<R: Threads + Wait + Abort + Sync>(
     rt: &R,
     alloc: Global,
     disk: &MemDisk,
@@ -142,42 +104,22 @@ fn check_unasked<R: Threads + Wait + Abort + Sync>(
     requires { workers ≤ 64 }
 {
     let source = CountingSource::new(alloc, disk)?;
-    assert!(rt; source.geometry().extents() == 4);
     let (answer, _) = scrubbed_by(rt, alloc, &source, workers, &NoGate)?;
     assert!(rt; answer.is_clean());
-    assert!(rt; source.reads_of(2) >= 4);
-    same(rt, source.reads_of(3), 0);
+    check_asked(rt, &source);
     Ok(())
 }
 
+/// Neither by one reader nor by any number of workers.
 #[test]
-fn no_worker_asks_for_a_page_of_a_retired_extent(rt: HostRuntime) -> Result<(), Fail> {
+fn no_page_of_a_retired_extent_is_asked_for(rt: HostRuntime) -> Result<(), Fail> {
     let disk = broken_and_retired(&rt, rt.alloc())?;
+    let source = CountingSource::new(rt.alloc(), &disk)?;
+    assert!(&rt; scrubbed(&rt, rt.alloc(), &source)?.is_clean());
+    check_asked(&rt, &source);
     for workers in [0, 2, 64] {
-        check_unasked(&rt, rt.alloc(), &disk, workers)?;
+        check_asked_by(&rt, rt.alloc(), &disk, workers)?;
     }
-    Ok(())
-}
-
-#[test]
-fn a_locator_into_a_retired_extent_dangles(rt: HostRuntime) -> Result<(), Fail> {
-    let disk = one_shard_retiring(&rt, rt.alloc(), &[1], 132)?;
-    let answer = scrubbed(&rt, rt.alloc(), &disk)?;
-    assert!(&rt; !answer.is_clean());
-    same(&rt, answer.index(), NO_SHARDS.as_slice());
-    let pieces = [
-        r#""broken":["00000000000000000000000000000001"]"#,
-        concat!(
-            r#""dangling":[{"extent":1,"length":3,"offset":0,"owner":"shard 00000000000000000000000000000001","#,
-            r#""reason":"retired","uuid":"11"#
-        ),
-        r#""extents":[{"bad":[],"extent":2,"#,
-        r#""orphans":[],"#,
-        r#""retired":[1],"#,
-        r#""runs":[{"entries":1,"extent":2,"offset":0,"state":"read"}],"#,
-    ];
-    check_pieces(&rt, &answer, &pieces)?;
-    same(&rt, check_workers(&rt, rt.alloc(), &disk, 2)?.counted(), 1);
     Ok(())
 }
 
@@ -187,15 +129,6 @@ fn nothing_is_scanned_if_all_extents_are_retired(rt: HostRuntime) -> Result<(), 
     let answer = scrubbed(&rt, rt.alloc(), &disk)?;
     assert!(&rt; !answer.is_clean());
     same(&rt, answer.index(), NO_SHARDS.as_slice());
-    let pieces = [
-        r#""candidates":[]"#,
-        r#""dangling":[{"extent":2,"length":117,"offset":0,"owner":"run 0","reason":"retired","uuid":"22"#,
-        r#""extents":[],"#,
-        r#""retired":[1,2],"#,
-        r#""runs":[{"entries":null,"extent":2,"offset":0,"state":"retired"}],"#,
-        r#""shards":0,"#,
-    ];
-    check_pieces(&rt, &answer, &pieces)?;
     for workers in [0, 2, 64] {
         let takings = check_workers(&rt, rt.alloc(), &disk, workers)?;
         same(&rt, takings.counted(), 0);
@@ -272,26 +205,5 @@ fn out_of_range_comes_before_retired_and_retired_before_the_rest(
     for (locator, status) in cases {
         same(&rt, status_on(rt.alloc(), &disk, &locator)?, status);
     }
-    Ok(())
-}
-
-#[test]
-fn a_record_of_the_second_kind_on_a_later_page_ties(rt: HostRuntime) -> Result<(), Fail> {
-    let mut disk = small_disk(rt.alloc())?;
-    put_record(rt.alloc(), &mut disk, 0, 7, &[41, 155], &[])?;
-    put_retiring(rt.alloc(), &mut disk, 2, 7, &[0, 155], &[1], &[])?;
-    let chosen = choose(rt.alloc(), &disk)?;
-    same(&rt, (chosen.page(), chosen.records()), (Some(0), 2));
-    assert!(&rt; chosen.tie());
-    let newest = chosen.superblock().ok_or("a superblock")?;
-    same(&rt, (newest.version(), newest.generation()), (1, 7));
-    assert!(&rt; newest.retired().is_empty());
-    // The newer one counts, whatever its kind.
-    put_retiring(rt.alloc(), &mut disk, 2, 8, &[0, 155], &[1], &[])?;
-    let chosen = choose(rt.alloc(), &disk)?;
-    same(&rt, (chosen.page(), chosen.records()), (Some(2), 2));
-    let newest = chosen.superblock().ok_or("a superblock")?;
-    same(&rt, newest.retired(), [1].as_slice());
-    same(&rt, newest.version(), 2);
     Ok(())
 }

@@ -1,15 +1,19 @@
-//! The listings that scan a disk, by any number of workers: the lines, who took what, what the gate saw, and
-//! how often pages are asked for.
+//! The listings that scan a disk (its named locators, what may be reclaimed, what it holds, and its summary),
+//! by any number of workers: who took what, what the gate saw, and how often pages are asked for. Their lines
+//! are those of the program.
 
 ghost use Rattle.std.specs.Prelude.{◌≤◌};
 
-use crate::scrubs::listings::{NONE, Which, listing_of};
 use crate::support::compare::same;
 use crate::workers::reading_watch::ReadingWatch;
 use crate::workers::watch::Watch;
 use scrub_disk::{MemDisk, PageSource};
 use scrub_fakes::worked::many_shards;
 use scrub_fakes::{CountingSource, plan_of, put_chunk, put_superblock};
+use scrub_listings::{list_locators, list_manifest, list_summary};
+use scrub_pool::{Gate, NoGate, Takings};
+use scrub_reclaim::{Accepted, list_reclaimable};
+use scrub_report::ScrubFault;
 use std::alloc::Global;
 use std::process::Abort;
 use std::slice;
@@ -17,57 +21,84 @@ use std::sync::Wait;
 use std::test::Fail;
 use std::thread::Threads;
 use std::time::Clock;
-use uuid::Uuid;
 
-/// The digest of `abc`.
-const ABC: &str = "ba7816bf8f01cfea414140de5dae2223b00361a396177a9cb410ff61f20015ad";
-
-/// The summary of the disk of `halved`.
-const SUMMARY: &str = "verdict sound
-page_bytes 64
-extent_pages 64
-extents 40
-retired_extents 0
-superblocks 1
-superblock_generation 1
-superblock_tie 0
-superblocks_damaged 0
-superblocks_stray 0
-unreadable_pages 0
-runs 1
-runs_lost 0
-shards 38
-shards_broken 0
-shards_doubtful 0
-locators 39
-locators_hidden 0
-locators_dangling 0
-spares 0
-chunks 77
-chunk_bytes 6120
-live_chunks 39
-live_bytes 4562
-orphans 38
-orphan_bytes 1558
-twins 76
-shared_places 0
-torn_items 0
-noise_items 0
-lost_items 0
-tails 0
-tail_bytes 0
-candidates 38
-candidate_bytes 1558
-chunks_to_move 38
-";
+/// Which listing is made.
+#[derive(Debug, Clone, Copy, PartialEq, Eq)]
+enum Which {
+    /// The named locators.
+    Locators,
+    /// What may be reclaimed, with no doubt accepted.
+    Reclaimable,
+    /// What the disk holds.
+    Manifest,
+    /// The disk summed up.
+    Summary,
+}
 
 /// All listings.
 const ALL: [Which; 4] = [
     Which::Locators,
-    Which::Reclaimable(NONE),
-    Which::Manifest(&[]),
+    Which::Reclaimable,
+    Which::Manifest,
     Which::Summary,
 ];
+
+/// No doubt.
+const NONE: &[&str] = &[];
+
+/// A listing, and which worker took which extents for it.
+#[derive(Drop)]
+struct Listing {
+    /// Its lines.
+    text: Vec<u8>,
+    /// Whether the program ends with status 0 after printing them.
+    is_good: bool,
+    takings: Takings,
+}
+
+/// A listing of a disk, by `workers` workers and the caller.
+fn answer<D: PageSource, G: Gate, R: Threads + Wait + Sync>(
+    rt: &R,
+    alloc: Global,
+    disk: &D,
+    workers: u32,
+    gate: &G,
+    which: Which,
+) -> Result<Listing, ScrubFault>
+    requires { workers ≤ 64 }
+{
+    let (listing, takings) = match which {
+        Which::Locators => list_locators(rt, alloc, disk, workers, gate)?,
+        Which::Reclaimable => {
+            let accepted = Accepted::new(NONE);
+            list_reclaimable(rt, alloc, disk, workers, gate, &accepted)?
+        }
+        Which::Manifest => list_manifest(rt, alloc, disk, workers, gate, &[])?,
+        Which::Summary => list_summary(rt, alloc, disk, workers, gate)?,
+    };
+    Ok(Listing {
+        text: listing.text,
+        is_good: listing.is_clean,
+        takings,
+    })
+}
+
+/// A listing of a disk, by `workers` workers and the caller. Out of memory fails the test.
+fn listing_of<D: PageSource, G: Gate, R: Threads + Wait + Sync>(
+    rt: &R,
+    alloc: Global,
+    disk: &D,
+    workers: u32,
+    gate: &G,
+    which: Which,
+) -> Result<Listing, Fail>
+    requires { workers ≤ 64 }
+{
+    match answer(rt, alloc, disk, workers, gate, which) {
+        Ok(listing) => Ok(listing),
+        Err(ScrubFault::OutOfMemory) => Err(Fail::from("out of memory")),
+    }
+}
 
 /// The disk of many shards, with a second chunk in each of extents 1 to 38 that nobody names.
 fn halved(rt: &impl Abort, alloc: Global) -> Result<MemDisk, Fail> {
@@ -83,55 +114,9 @@ fn halved(rt: &impl Abort, alloc: Global) -> Result<MemDisk, Fail> {
     Ok(disk)
 }
 
-/// The line of an extent's named chunk in a listing, or the lines of the extent, if it is to be reclaimed,
-/// and of the chunk to move.
-fn line_of(alloc: Global, which: Which, byte: u8) -> Result<String, Fail> {
-    let uuid = Uuid::from_bytes([byte; 16]);
-    match which {
-        Which::Locators => Ok(format!(in alloc; "shard {byte:032x} {byte} 0 3 {uuid} sound\n")?),
-        Which::Reclaimable(_) => Ok(format!(in alloc;
-            "reclaim {byte} 41\nmove {byte} 0 3 {uuid} shard {byte:032x} 41\n"
-        )?),
-        Which::Manifest(_) => Ok(format!(in alloc; "shard {byte:032x} 00 3 {ABC} sound plain\n")?),
-        Which::Summary => Ok(String::new(alloc)),
-    }
-}
-
-/// The lines after those of the chunks: the room after the run, and after the two chunks of each extent to
-/// reclaim.
-fn lines_behind(alloc: Global, which: Which) -> Result<String, Fail> {
-    if matches!(which, Which::Manifest(_)) {
-        return Ok(String::from_str(alloc, "total 38 38\n")?);
-    }
-    let mut text = String::new(alloc);
-    if matches!(which, Which::Reclaimable(_)) {
-        text.push_str("room 39 3004 1092\n")?;
-        for extent in 1..39 {
-            let line = format!(in alloc; "last-room {extent} 82 4014\n")?;
-            text.push_str(&line)?;
-        }
-    }
-    Ok(text)
-}
-
-/// The lines of that disk.
-fn lines(alloc: Global, which: Which) -> Result<String, Fail> {
-    let before = match which {
-        Which::Locators => "run 0 39 0 2966 f0f0f0f0-f0f0-f0f0-f0f0-f0f0f0f0f0f0 sound\n",
-        Which::Reclaimable(_) => "",
-        Which::Manifest(_) => "retired\nruns lost 0 hidden 0\n",
-        Which::Summary => SUMMARY,
-    };
-    let mut text = String::from_str(alloc, before)?;
-    for byte in 1..39 {
-        text.push_str(&line_of(alloc, which, byte)?)?;
-    }
-    text.push_str(&lines_behind(alloc, which)?)?;
-    Ok(text)
-}
-
 /// Lists that disk with `workers` workers and the caller. Each is held at its first extent until `held` of
-/// them have passed with one. Checks the lines, and compares who took what with what the gate saw.
+/// them have passed with one. Compares the lines with those by the caller alone, and who took what with what
+/// the gate saw.
 fn check_listing<R: Threads + Wait + Abort + Clock + Sync>(
     rt: &R,
     alloc: Global,
@@ -146,11 +131,8 @@ fn check_listing<R: Threads + Wait + Abort + Clock + Sync>(
     let watch = Watch::new(rt, alloc, workers + 1, disk.geometry().extents(), held)?;
     let found = listing_of(rt, alloc, disk, workers, &watch, which)?;
     watch.check(rt, &found.takings, plan.planned());
-    same(
-        rt,
-        str::from_utf8(&found.text)?,
-        lines(alloc, which)?.as_str(),
-    );
+    let wanted = listing_of(rt, alloc, disk, 0, &NoGate, which)?;
+    same(rt, found.text.as_slice(), wanted.text.as_slice());
     same(rt, found.is_good, true);
     Ok(())
 }
@@ -169,9 +151,9 @@ fn any_number_of_workers_lists_the_same_lines(rt: HostRuntime) -> Result<(), Fai
     Ok(())
 }
 
-/// Checks how often pages of the disk of many shards were asked for: once each, except those with bytes of
-/// the run in extent
-/// 39. The first of these was asked for three times, the last one four times, and the 45 between them twice.
+/// Checks how often pages of that disk were asked for: once each, except those with bytes of the run in
+/// extent 39. The first of these was asked for three times, the last one four times, and the 45 between them
+/// twice.
 fn check_asked(rt: &impl Abort, source: &CountingSource<'_>) {
     assert!(rt; source.geometry().extents() == 40);
     for extent in 0..39 {

@@ -1,0 +1,135 @@
+"""The worked disks: small ones that are made by hand, and that several modules of tests share. What is found on them is in the tests.
+
+A disk with unreadable pages is a tuple: the disk, and the words of these pages.
+"""
+from lib.disks import Disk, be, locator, run, shard, uuid
+
+ONES, TWOS, THREES, FOURS = map(uuid, (0x11, 0x22, 0x33, 0x44))
+# A UUID that ends in the magic of a frame.
+ENDS_IN_MAGIC = be(1, 0x33) * 14 + b"\xc5\x5e"
+# The payload of a run that deletes the shard; and the same with the last bit of its digest flipped.
+DELETED = run((shard(1), []))
+BROKEN = DELETED[:-1] + bytes([DELETED[-1] ^ 1])
+
+
+def abc(extent, offset, name=ONES):
+    """The locator of a chunk of `abc`."""
+    return locator(extent, offset, name, b"abc")
+
+
+def finish(disk, pointers, runs, generation=1, retired=None, page=0):
+    """Puts a superblock on the disk, and returns the disk."""
+    disk.pointers = list(pointers)
+    disk.superblock(page, generation, *runs, retired=retired)
+    return disk
+
+
+def put_run(disk, extent, offset, name, *locators, number=1):
+    """Puts the run of one shard."""
+    return disk.chunk(extent, offset, name, run((shard(number), list(locators))))
+
+
+def abc_and_its_run(disk):
+    """Puts `abc` in extent 1, and the run of one shard that names it in extent 2. Returns the run's locator."""
+    disk.chunk(1, 0, ONES, b"abc")
+    return put_run(disk, 2, 0, TWOS, abc(1, 0))
+
+
+def one_shard(*bad, times=1, retired=None):
+    """`abc` in extent 1, and the run that names it in extent 2, which the superblock names so many times."""
+    disk = Disk(4, 3)
+    named = abc_and_its_run(disk)
+    finish(disk, [41, 155], [named] * times, retired=retired)
+    return (disk, *bad) if bad else disk
+
+
+def broken_and_retired():
+    """The disk with one shard has a fourth extent, which is retired. It is full of FF, and its page 0 is unreadable."""
+    disk = Disk(4, 4)
+    named = abc_and_its_run(disk)
+    disk.put(3, 0, b"\xff" * 256)
+    return finish(disk, [41, 155, 0], [named], retired=[3]), "3:0"
+
+
+def second_of_two(*numbers):
+    """`abc` twice in extent 1, and a run of these shards, which name the second."""
+    disk = Disk(4, 3)
+    disk.chunk(1, 0, ONES, b"abc")
+    disk.chunk(1, 41, ONES, b"abc")
+    named = disk.chunk(2, 0, TWOS, run(*((shard(number), [abc(1, 41)]) for number in numbers)))
+    return finish(disk, [82, disk.pointers[1]], [named])
+
+
+def two_runs(newest, between=0):
+    """`abc` in extent 1, the newest run and maybe others in extent 2, and the oldest run in extent 3."""
+    disk = Disk(4, 4)
+    disk.chunk(1, 0, ONES, b"abc")
+    runs = [disk.chunk(2, 0, TWOS, newest), *(put_run(disk, 2, 95, THREES, abc(1, 0)) for _ in range(between))]
+    runs.append(put_run(disk, 3, 0, FOURS if between else THREES, abc(1, 0)))
+    return finish(disk, [41, disk.pointers[1], 155], runs)
+
+
+def deleted_in_the_newest_run():
+    """Two older runs have the shard."""
+    return two_runs(DELETED, 1)
+
+
+def broken_newest_run():
+    return two_runs(BROKEN)
+
+
+def two_superblocks(generation, is_broken=False):
+    """The disk with one shard. Its superblock has generation 7, and a second one, on page 2, has this generation and its pointer of
+    extent 1 at 0. If that is broken, the last bit of its last byte is flipped."""
+    disk = Disk(4, 3)
+    named = abc_and_its_run(disk)
+    finish(disk, [41, 155], [named], 7)
+    finish(disk, [0, 155], [named], generation, page=2)
+    if is_broken:
+        disk.spoil(0, 192 + 61)
+    return disk
+
+
+def past_the_pointer():
+    """`abc` in extent 1, past the pointer."""
+    disk = Disk(4, 3)
+    disk.chunk(1, 0, ONES, b"abc")
+    return finish(disk, [0, 0], [])
+
+
+def overwritten_end():
+    """`abc`, at 64 of extent 1, overwrites the last two bytes of the frame of 66 bytes before it, whose UUID ends in them."""
+    disk = Disk(4, 3)
+    disk.chunk(1, 0, ENDS_IN_MAGIC, b"x" * 28)
+    disk.chunk(1, 64, ONES, b"abc")
+    return finish(disk, [105, 155], [put_run(disk, 2, 0, TWOS, abc(1, 64))])
+
+
+def collision():
+    """Extent 2 has a frame of 258 bytes at 0; its last two bytes are the magic of the frame of `abc` at 256."""
+    disk = Disk(8, 4, 256)
+    disk.chunk(2, 0, ENDS_IN_MAGIC, b"x" * 220)
+    disk.chunk(2, 256, ONES, b"abc")
+    return disk
+
+
+def nine_locators():
+    """No two locators of the shard have the same status. Page 1 of extent 1 is unreadable."""
+    disk = collision()
+    disk.chunk(1, 0, ONES, b"abc")
+    sound = abc(1, 0)
+    nine = [abc(4, 0), abc(1, 600), abc(1, 300), abc(1, 41), abc(1, 0, TWOS), sound[:8] + be(4, 4) + sound[12:],
+            sound[:28] + bytes(32), abc(2, 256), sound]
+    return finish(disk, [512, 297, 635], [put_run(disk, 3, 0, TWOS, *nine)]), "1:1"
+
+
+def many_shards(is_halved=False):
+    """Each of extents 1 to 38 has `abc`, under a UUID of its own, and extent 39 the run of 38 shards, each of one of these chunks. If
+    the disk is halved, each of the 38 extents has a second chunk of `abc`, which nothing names."""
+    disk, entries = Disk(64, 40), []
+    for number in range(1, 39):
+        entries.append((shard(number), [disk.chunk(number, 0, uuid(number), b"abc")]))
+        if is_halved:
+            disk.chunk(number, 41, uuid(number), b"abc")
+    disk.superblock(0, 1, disk.chunk(39, 0, uuid(0xF0), run(*entries)))
+    return disk

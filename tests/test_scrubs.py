@@ -1,0 +1,357 @@
+"""Whole scrubs: the reports and indexes of worked disks, disks from files that are cut short or whose reads fail, and disks with more
+of one thing than in any example. What is right was written by hand, from docs/FORMAT.md and docs/REPORT.md; of the small disks
+lib/reference.py has to give the same.
+
+A body that answers out of memory for a long list meets every contract, so each list is made long by one of these disks.
+"""
+import json
+import os
+import struct
+
+from lib import failing_reads, worked
+from lib.cases import RoomCase
+from lib.disks import Disk, be, frame, geometry, locator, record, run, sealed_frame, shard, uuid, with_digest
+from lib.reference import answered
+from lib.worked import ONES, TWOS, abc, finish
+from test_answers import NO_SHARDS, ONE_SHARD
+from test_system import answer, written
+
+S1, OWNER = shard(1).hex(), f"shard {shard(1).hex()}"
+U1, U2, U3 = ("-".join(digit * size for size in (8, 4, 4, 4, 12)) for digit in "123")
+ABC = frame(ONES, b"abc")
+SMALL = geometry(64, 4, 3)
+PADS = ["pad 64 128", "pad 128 192", "pad 192 256"]
+
+
+def extent(number, items, live, pointer, bad=(), tail=0, tail_at=None):
+    """An extent in a report."""
+    return {"bad": list(bad), "extent": number, "items": items, "live": live, "pointer": pointer, "tail": tail, "tail_at": tail_at}
+
+
+def at(number, offset, length, name):
+    """A place in a report."""
+    return {"extent": number, "length": length, "offset": offset, "uuid": name}
+
+
+def a_run(entries, number, offset=0, state="read"):
+    return {"entries": entries, "extent": number, "offset": offset, "state": state}
+
+
+def counted(generation, page, records, tie=False, bad=()):
+    """The superblock in a report."""
+    return {"bad": list(bad), "generation": generation, "page": page, "records": records, "tie": tie}
+
+
+def torn_frame():
+    """A frame of 98 bytes in extent 1, whose page 1 is unreadable."""
+    disk = Disk(4, 3)
+    disk.chunk(1, 0, ONES, b"x" * 60)
+    return finish(disk, [98, 0], []), "1:1"
+
+
+def runs_of_a_superblock():
+    """A superblock with all of the 32 runs that it can have."""
+    disk = Disk(2, 3, 1024)
+    return finish(disk, [41, 155], [worked.abc_and_its_run(disk)] * 32)
+
+
+FIRST, SECOND = extent(1, [f"chunk 0 41 {U1} 3"], 41, 41), extent(2, [f"chunk 0 155 {U2} 117"], 155, 155)
+DANGLING = [at(number, offset, length, name) | {"owner": OWNER, "reason": reason} for number, offset, length, name, reason in (
+    (4, 0, 3, U1, "out_of_range"), (1, 600, 3, U1, "past_pointer"), (1, 300, 3, U1, "unreadable"), (1, 41, 3, U1, "no_frame"),
+    (1, 0, 3, U2, "wrong_uuid"), (1, 0, 4, U1, "wrong_length"), (1, 0, 3, U1, "wrong_digest"))]
+
+# A disk, the status of its scrub, parts of its report, and its index if it isn't that of the one shard with the chunk in extent 1.
+REPORTS = {
+    "bytes past a pointer are a tail": (worked.past_the_pointer, 0, {
+        "extents": [extent(1, [], 0, 0, tail=38, tail_at=0), extent(2, [], 0, 0)], "candidates": []}, NO_SHARDS),
+    "a frame with an unreadable page is torn and lost": (torn_frame, 1, {
+        "extents": [extent(1, ["torn 0 64", "lost 64 98"], 0, 98, bad=[1]), extent(2, [], 0, 0)], "candidates": []}, NO_SHARDS),
+    "a run with a wrong digest leaves doubt": (worked.broken_newest_run, 1, {
+        "candidates": [], "doubtful": [S1], "runs": [a_run(None, 2, state="not_a_run"), a_run(1, 3)], "shards": 1}, None),
+    "without extent 0 all chunks are orphans": (lambda: worked.one_shard("0:0", "0:1", "0:2", "0:3"), 1, {
+        "candidates": [], "orphans": [at(1, 0, 3, U1), at(2, 0, 117, U2)], "super": counted(None, None, 0, bad=range(4)),
+        "extents": [extent(1, [f"chunk 0 41 {U1} 3", "pad 41 64", *PADS], 0, 256),
+                    extent(2, [f"chunk 0 155 {U2} 117", "pad 155 192", "pad 192 256"], 0, 256)]}, NO_SHARDS),
+    "a run that is named twice is at a shared place": (lambda: worked.one_shard(times=2), 1, {
+        "runs": [a_run(1, 2)] * 2, "shards": 1, "shared": [{"count": 2, "extent": 2, "offset": 0}]}, None),
+    "all 32 runs of a superblock are read": (runs_of_a_superblock, 1, {
+        "runs": [a_run(1, 2)] * 32, "shards": 1, "shared": [{"count": 32, "extent": 2, "offset": 0}]}, None),
+    "a run with unreadable pages is lost": (lambda: worked.one_shard("2:2", "2:3"), 1, {
+        "extents": [extent(1, [f"chunk 0 41 {U1} 3"], 0, 41),
+                    extent(2, ["torn 0 64", "noise 64 128", "lost 128 155"], 0, 155, bad=[2, 3])],
+        "orphans": [at(1, 0, 3, U1)], "runs": [a_run(None, 2, state="unreadable")], "shards": 0, "candidates": []}, NO_SHARDS),
+    "of two superblocks of one generation the first counts": (lambda: worked.two_superblocks(7), 1, {
+        "candidates": [], "super": counted(7, 0, 2, tie=True)}, None),
+    "the newer superblock counts": (lambda: worked.two_superblocks(8), 1, {
+        "extents": [extent(1, [], 0, 0, tail=38, tail_at=0), SECOND], "super": counted(8, 2, 2)}, NO_SHARDS),
+    "unless it is broken": (lambda: worked.two_superblocks(8, is_broken=True), 0, {"super": counted(7, 0, 1)}, None),
+    "the chunk of a shard that the newest run deletes is an orphan": (worked.deleted_in_the_newest_run, 0, {
+        "candidates": [{"extent": 1, "free": 41, "keep": []}], "orphans": [at(1, 0, 3, U1)],
+        "runs": [a_run(1, 2), a_run(1, 2, 95), a_run(1, 3)], "shards": 0}, NO_SHARDS),
+    "a shard whose locators dangle is broken": (worked.nine_locators, 1, {
+        "broken": [S1], "candidates": [], "dangling": DANGLING, "hidden": [at(2, 256, 3, U1) | {"owner": OWNER}],
+        "orphans": [at(2, 0, 220, "33333333-3333-3333-3333-33333333c55e")], "shards": 1}, NO_SHARDS),
+    "the content of a retired extent is ignored": (worked.broken_and_retired, 0, {
+        "clean": True, "extents": [FIRST, SECOND], "retired": [3], "runs": [a_run(1, 2)]}, None),
+    "a locator into a retired extent dangles": (lambda: worked.one_shard(retired=[1]), 1, {
+        "broken": [S1], "dangling": [at(1, 0, 3, U1) | {"owner": OWNER, "reason": "retired"}], "extents": [SECOND], "orphans": [],
+        "retired": [1], "runs": [a_run(1, 2)]}, NO_SHARDS),
+    "nothing is scanned if all extents are retired": (lambda: worked.one_shard(retired=[1, 2]), 1, {
+        "candidates": [], "dangling": [at(2, 0, 117, U2) | {"owner": "run 0", "reason": "retired"}], "extents": [], "retired": [1, 2],
+        "runs": [a_run(None, 2, state="retired")], "shards": 0}, NO_SHARDS),
+}
+
+
+class Reports(RoomCase):
+    """The report and the index of a disk, by the caller alone and with two workers."""
+
+    def scrubbed(self, what, disk, status):
+        """Compares the report and the index with those of the reference. Returns both."""
+        disk, *bad = disk if isinstance(disk, tuple) else (disk,)
+        path = self.room / "disk.img"
+        path.write_bytes(disk.bytes)
+        for command in ("scan", "index"):
+            words = [*disk.geometry(), str(path), *bad]
+            right = answered([command, *words])
+            for workers in "02":
+                self.same(f"{command}: {what}: by {workers} workers", answer(command, "--workers", workers, *words), right)
+            self.same(f"{command}: {what}: the status", right[0], status)
+            yield right[1]
+
+    def test_worked_disks(self):
+        for what, (make, status, parts, index) in REPORTS.items():
+            report, found = self.scrubbed(what, make(), status)
+            report = json.loads(report)
+            for key, part in parts.items():
+                self.same(f"{what}: {key}", report[key], part)
+            self.same(f"{what}: the index", found, index or run((shard(1), [abc(1, 0)])))
+
+    def test_a_record_of_the_second_kind_on_a_later_page(self):
+        """If it has the generation of the first, that counts; otherwise the newer one does, whatever its kind."""
+        for generation, status, superblock, pages, retired in (
+                (7, 1, counted(7, 0, 2, tie=True), "record 0 SSB1 7 tie\nrecord 2 SSB2 7 tie\n", []),
+                (8, 0, counted(8, 2, 2), "record 0 SSB1 7 older\nrecord 2 SSB2 8 counts\n", [1])):
+            disk = finish(Disk(4, 3), [41, 155], [], 7)
+            report, _ = self.scrubbed(f"generation {generation}", finish(disk, [0, 155], [], generation, [1], 2), status)
+            report = json.loads(report)
+            self.same(f"generation {generation}", (report["super"], report["retired"]), (superblock, retired))
+            found = answer("superblocks", *SMALL, self.room / "disk.img")
+            self.same(f"generation {generation}: the pages", found, (status, pages.encode(), b""))
+
+    def test_three_and_a_hundred_extents_are_retired(self):
+        for end in (6, 103):
+            disk, retired = Disk(16, 104), list(range(3, end))
+            finish(disk, [41, 155, *[0] * 101], [worked.abc_and_its_run(disk)], retired=retired)
+            report, _ = self.scrubbed(f"{len(retired)} extents", disk, 0)
+            report = json.loads(report)
+            self.same(f"{len(retired)} retired", report["retired"], retired)
+            self.same(f"{len(retired)} retired: the others", [one["extent"] for one in report["extents"]], [1, 2, *range(end, 104)])
+            for words, lines in ((["superblocks"], "record 0 SSB2 1 counts\n"),
+                                 (["locators", "--workers", "2"], f"run 0 2 0 117 {U2} sound\n{OWNER} 1 0 3 {U1} sound\n"),
+                                 (["reclaimable", "--workers", "2"], "")):
+                found = answer(*words, *disk.geometry(), self.room / "disk.img")
+                self.same(f"{len(retired)} retired: {words[0]}", found, (0, lines.encode(), b""))
+
+
+class Loaded(RoomCase):
+    """The disk with one shard, from a file that is cut short or whose reads fail."""
+
+    @classmethod
+    def setUpClass(cls):
+        super().setUpClass()
+        cls.raw, cls.path = bytes(worked.one_shard().bytes), str(cls.room / "disk.img")
+
+    def setUp(self):
+        with open(self.path, "wb") as file:
+            file.write(self.raw)
+        self.scan = ["scan", *SMALL, self.path]
+
+    def without(self, pages):
+        """The right answer on the whole disk with these pages unreadable, counted from the first page of extent 0."""
+        return answered([*self.scan, *(f"{page // 4}:{page % 4}" for page in pages)])
+
+    def test_a_file_that_is_cut_short_has_the_whole_pages_before_the_cut(self):
+        """At each length."""
+        right = [self.without(range(whole, 12)) for whole in range(13)]
+        self.same("the whole disk", right[12], (0, ONE_SHARD.encode(), b""))
+        for length in range(768, -1, -1):
+            os.truncate(self.path, length)
+            self.same(f"{length} bytes", answer(*self.scan), right[length // 64])
+
+    def test_a_read_that_fails_makes_its_own_page_unreadable(self):
+        """Either the first read of the page, or the second one, for the 24 bytes that the first one left."""
+        library = failing_reads.made(self.room)
+        for page in range(12):
+            for begin in (64 * page, 64 * page + 40):
+                got, counts = failing_reads.run(self.program, self.scan, library, self.path, 64, [(begin, 64 * page + 64)], False)
+                self.same(f"from byte {begin}", got, self.without([page]))
+                self.true(f"from byte {begin}: a read fails", counts and counts.failed_short > 0, counts)
+
+    def test_a_last_read_that_fails_is_no_fault(self):
+        """It is that of a byte past the end of the disk."""
+        library = failing_reads.made(self.room)
+        got, counts = failing_reads.run(self.program, self.scan, library, self.path, 64, [(768, 769)], False)
+        self.same("the report", got, (0, ONE_SHARD.encode(), b""))
+        self.true("a read fails", counts and counts.failed_short > 0, counts)
+
+    def test_the_sizes_of_a_disk_are_those_of_its_superblock(self):
+        """The bytes of the superblock are all there, lack the first one, or are zeros."""
+        text = self.room / "disk.map"
+        refused = 2, b"", b"shardscrub: sizes not found: run shardscrub sizes\n"
+        for what, raw, block, right in (("all", self.raw, "0 768", (0, ONE_SHARD.encode(), b"")),
+                                        ("without a byte", self.raw, "1 767", refused), ("zeros", bytes(768), "0 768", refused)):
+            (self.room / "other.img").write_bytes(raw)
+            text.write_text(f"0 +\n{block} +\n")
+            self.same(what, answer("scan", "--map", text, self.room / "other.img"), right)
+
+
+# A locator's extent, its offset, and the rest of its fields; and an entry with one locator, after the shard's number and a count.
+LOCATOR, ENTRY = struct.Struct(">II52s"), struct.Struct(">12xIBII52s")
+# The rest of the fields is the same for each chunk of `abc`. Its digest is computed once.
+ABC_BEHIND = abc(1, 0)[8:]
+
+
+def of_1(places):
+    """The payload of the run of shards of one chunk of `abc`, each at one of these places of extent 1."""
+    text = b"".join(ENTRY.pack(number, 1, 1, place, ABC_BEHIND) for number, place in enumerate(places))
+    return with_digest(b"RUN1" + be(4, len(places)) + text)
+
+
+def of_64(shards):
+    """The payload of the run of so many shards, each of 64 chunks of `abc`, one after another in extent 1."""
+    chunks = [LOCATOR.pack(1, 41 * number, ABC_BEHIND) for number in range(64 * shards)]
+    return run(*((shard(number), chunks[64 * number:64 * number + 64]) for number in range(shards)))
+
+
+# How many shards name one place each.
+SHARDS = 200_000
+# Of places at which no item begins there are six on each page, from its second byte on.
+BETWEEN = [number // 6 * 256 + number % 6 * 41 + 1 for number in range(SHARDS)]
+
+
+def lines(text, values):
+    """A list of a report: the text for each value."""
+    return f"[{','.join(map(text, values))}]"
+
+
+class Large(RoomCase):
+    """Whole disks with more of one thing than in any example. Most have chunks of `abc` in extent 1 and their run in extent 2."""
+
+    def made(self, page, pages, chunks, payload, pointer=None, form=frame):
+        """Writes a disk of three extents with these bytes in extent 1 and a run of this payload in extent 2. Returns its words."""
+        size, text = page * pages, form(TWOS, payload)
+        superblock = record(page, pages, 3, [pointer or len(chunks), len(text)], [locator(2, 0, TWOS, payload)])
+        path = written(self.room / "large.img", [(0, superblock), (size, chunks), (2 * size, text)], 3 * size)
+        return [*geometry(page, pages, 3), path]
+
+    def listed(self, what, words, status, right):
+        """Runs a command, and compares the whole output."""
+        found = answer(*words)
+        self.true(what, found == (status, right, b""), (found[0], len(found[1]), found[1][-200:], found[2]))
+
+    def reported(self, words, status, **parts):
+        """Scans a disk, and checks that the report has these texts as its values."""
+        found, report, error = answer("scan", *words)
+        self.same("the status", (found, error), (status, b""))
+        for key, text in parts.items():
+            begin = report.find(f'"{key}":'.encode()) + len(key) + 3
+            end = begin + len(text)
+            is_right = report.startswith(text.encode(), begin) and report[end:end + 1] in (b",", b"}")
+            self.true(key, is_right, (len(report), report[begin:begin + 200]))
+        return report
+
+    def shards_of(self, chunks, places):
+        """Writes the disk whose shards each name the `abc` at one of these places."""
+        return self.made(256, 65_536, chunks, of_1(places), 8_600_000)
+
+    @staticmethod
+    def owned(reason):
+        """The list of the shards that name a place between items, with this text behind each owner."""
+        return lines(lambda number: f'{{"extent":1,"length":3,"offset":{BETWEEN[number]},"owner":"shard {number:032x}",{reason}'
+                                    f'"uuid":"{U1}"}}', range(SHARDS))
+
+    def test_each_of_200000_places_without_a_chunk_breaks_a_shard(self):
+        broken, dangling = lines(lambda number: f'"{number:032x}"', range(SHARDS)), self.owned('"reason":"no_frame",')
+        self.reported(self.shards_of(b"", BETWEEN), 1, dangling=dangling, broken=broken, hidden="[]", shared="[]", shards="200000")
+
+    def test_each_of_200000_hidden_chunks_is_found(self):
+        """Six chunks on each page are inside of an item of noise."""
+        chunks = (b"\0" + ABC * 6 + bytes(9)) * (SHARDS // 6) + b"\0" + ABC * (SHARDS % 6)
+        words = self.shards_of(chunks, BETWEEN)
+        self.reported(words, 1, hidden=self.owned(""), dangling="[]", broken="[]", shared="[]", shards="200000")
+
+    def test_each_of_100000_chunks_that_two_shards_name_is_shared(self):
+        words = self.shards_of(ABC * (SHARDS // 2), [number // 2 * 41 for number in range(SHARDS)])
+        shared = lines(lambda number: f'{{"count":2,"extent":1,"offset":{41 * number}}}', range(SHARDS // 2))
+        self.reported(words, 1, shared=shared, hidden="[]", dangling="[]", broken="[]", shards="200000")
+
+    def test_two_hundred_thousand_named_twins(self):
+        payload = of_64(3_125)
+        words = self.made(256, 65_536, ABC * 200_000, payload)
+        twins = lines(lambda number: f'{{"extent":1,"length":3,"offset":{41 * number},"uuid":"{U1}"}}', range(200_000))
+        report = self.reported(words, 0, twins=twins, shards="3125", orphans="[]", shared="[]", clean="true")
+        self.true("all is live", b'"live":8200000,"pointer":8200000,' in report)
+        self.true("the length of the run", len(payload) == 40 + 3_125 * 17 + 200_000 * 60)
+        self.listed("the index", ["index", *words], 0, payload)
+
+    def test_each_of_100032_locators_has_its_lines(self):
+        """Of 200,064 chunks the first half is named, so that the extent can be reclaimed, and half of its bytes are freed."""
+        words = self.made(256, 65_536, ABC * 200_064, of_64(1_563))
+        named = [(41 * number, f"shard {number // 64:032x}") for number in range(100_032)]
+        listed = "".join(f"{owner} 1 {place} 3 {U1} sound\n" for place, owner in named)
+        self.listed("locators", ["locators", *words], 0, f"run 0 2 0 6028531 {U2} sound\n{listed}".encode())
+        listed = "".join(f"move 1 {place} 3 {U1} {owner} 41\n" for place, owner in named)
+        room = "room 2 6028569 10748647\nlast-room 1 8202624 8574592\n"
+        self.listed("what may be reclaimed", ["reclaimable", *words], 0, f"reclaim 1 4101312\n{listed}{room}".encode())
+
+    def test_half_of_many_chunks_are_garbage(self):
+        """12,480 of 25,000 chunks are named."""
+        words = self.made(64, 16_384, ABC * 25_000, of_64(195))
+        places = [f'{{"extent":1,"length":3,"offset":{41 * number},"uuid":"{U1}"}}' for number in range(25_000)]
+        kept = lines(str, range(0, 41 * 12_480, 41))
+        self.reported(words, 0, orphans=lines(str, places[12_480:]), twins=lines(str, places),
+                      candidates=f'[{{"extent":1,"free":{41 * 12_520},"keep":{kept}}}]')
+        listed = "".join(f"shard {number // 64:032x} 1 {41 * number} 3 {U1} sound\n" for number in range(12_480))
+        self.listed("locators", ["locators", *words], 0, f"run 0 2 0 752155 {U2} sound\n{listed}".encode())
+
+    def test_many_extents_may_be_reclaimed(self):
+        """2,000 extents have a page of zeros below the pointer."""
+        path = written(self.room / "large.img", [(0, record(64, 128, 2_001, [64] * 2_000, []))], 64 * 128 * 2_001)
+        candidates = lines(lambda number: f'{{"extent":{number},"free":64,"keep":[]}}', range(1, 2_001))
+        extents = lines(lambda number: f'{{"bad":[],"extent":{number},"items":["pad 0 64"],"live":0,"pointer":64,"tail":0,'
+                                       '"tail_at":null}', range(1, 2_001))
+        self.reported([*geometry(64, 128, 2_001), path], 0, candidates=candidates, extents=extents)
+
+    def test_many_shards_are_written_bound_and_named(self):
+        """Two runs have the same 40,000 shards, and between them is a lost one."""
+        payload = of_1([0] * 40_000)
+        page, pages, end = 256, 16_384, len(frame(TWOS, payload))
+        size, texts = page * pages, (frame(TWOS, payload), frame(uuid(0x33), payload))
+        runs = [locator(2, 0, TWOS, payload), locator(1, 300, ONES, payload), locator(3, 0, uuid(0x33), payload)]
+        parts = [(0, record(page, pages, 4, [41, end, end], runs)), (size, ABC), (2 * size, texts[0]), (3 * size, texts[1])]
+        words = [*geometry(page, pages, 4), written(self.room / "large.img", parts, 4 * size)]
+        self.listed("the index", ["index", *words], 1, payload)
+        of_runs = (f"run 0 2 0 3080040 {U2} sound\nrun 1 1 300 3080040 {U1} past_pointer\nspare 2 0 3080040 {U2} 2\n"
+                   f"run 2 3 0 3080040 {U3} sound\n")
+        listed = "".join(f"shard {number:032x} 1 0 3 {U1} sound\n" for number in range(40_000))
+        self.listed("locators", ["locators", *words], 1, (of_runs + listed).encode())
+
+    def test_each_page_of_a_blank_extent_is_an_item(self):
+        path = written(self.room / "large.img", [], 64 * 65_536 * 2)
+        words = ["items", *geometry(64, 65_536, 2), "--extent", "1", "--pointer", "4194304", path]
+        self.listed("items", words, 0, "".join(f"pad {64 * page} {64 * page + 64}\n" for page in range(65_536)).encode())
+
+    def test_many_named_pages_are_unreadable(self):
+        """100,000 words name 4,096 pages."""
+        path = written(self.room / "large.img", [], 64 * 4_096 * 2)
+        words = [*geometry(64, 4_096, 2), path, *(f"1:{number % 4_096}" for number in range(100_000))]
+        items = lines(lambda page: f'"lost {64 * page} {64 * page + 64}"', range(4_096))
+        self.reported(words, 1, extents=f'[{{"bad":{lines(str, range(4_096))},"extent":1,"items":{items},"live":0,"pointer":262144,'
+                                        '"tail":0,"tail_at":null}]')
+
+    def test_a_sealed_run_of_a_mebibyte_is_read(self):
+        payload = of_64(272)
+        self.true("its length", len(payload) == 1_049_144)
+        words = self.made(256, 8_192, ABC * 17_408, payload, form=sealed_frame)
+        self.reported(words, 0, clean="true", shards="272", runs='[{"entries":272,"extent":2,"offset":0,"state":"read"}]')
+        self.listed("the index", ["index", *words], 0, payload)
