@@ -1,18 +1,20 @@
 """Refuses each allocation of whole runs in turn, and each growth of single calls, and checks how they end.
 
 For each command line, the program runs with its first allocation refused, then with its second, and so on until a run meets no
-refusal. Then the same again, with all later allocations refused too. The run without a refusal has to give the right answer.
-Every other run has to end out of memory: with status 4, no output and the error message for it. If later allocations aren't
-refused, the whole right answer is right too, since some refused requests are repeated.
+refusal, which has to give the right answer. Every other run has to end out of memory: with status 4, no output and the error message
+for it. The whole right answer is right too, since some refused requests are repeated. Then all later allocations are refused as
+well, and the run has to end out of memory.
 
 Single calls are those of the crate scrub_refused_memory, if `rt` has built its program here. Each public function of a library that
-takes an allocator, or can answer out of memory, has to be a call there.
+takes an allocator, or can answer out of memory, has to be a call there, or to be made by one of the command lines.
 """
+import os
 import unittest
 
 from lib import growths
 from lib.allocations import made, refusing
-from lib.cases import RoomCase, add_tests
+from lib.cases import Case, RoomCase, add_tests
+from lib.disks import Disk, locator, run, shard, uuid
 from lib.program import TOP
 from lib.reference import answered
 
@@ -20,6 +22,10 @@ SMALL = "--page 64 --pages 4 --extents 3 examples/one-shard.img"
 SEVERAL = "--page 64 --pages 16 --extents 5 examples/several-findings.img 3:1"
 RECLAIMED = "--page 64 --pages 8 --extents 5 examples/reclaimed-before.img"
 RESCUED = "--page 512 --pages 4 --extents 4 --map examples/rescued.map examples/rescued.img"
+# Disks that the tests make: see `retiring` and `large`.
+ROOM = "ROOM/"
+RETIRING = f"--page 64 --pages 4 --extents 4 {ROOM}retiring.img"
+LARGE = f"--page 65536 --pages 32 --extents 2 {ROOM}large.img"
 SHARD = "shard --id " + "0" * 31
 COMMAND_LINES = {
     "no words": "",
@@ -32,9 +38,17 @@ COMMAND_LINES = {
     "items": "items --page 64 --pages 4 --extents 3 --extent 1 examples/one-chunk.img",
     "locators": f"locators {SEVERAL}",
     "locators with 2 workers": f"locators --workers 2 {SEVERAL}",
+    "locators with a spare": f"locators --workers 0 {RETIRING}",
     "superblocks": f"superblocks {SEVERAL}",
+    "superblocks of the second kind": f"superblocks {RETIRING}",
     "reclaimable": f"reclaimable {SEVERAL}",
     "reclaimable with tails accepted": f"reclaimable --workers 2 --accept tail {RECLAIMED}",
+    "manifest": f"manifest {SEVERAL}",
+    "manifest with a map": f"manifest --workers 0 {RESCUED}",
+    "manifest with resets": f"manifest --workers 2 --reset 1 {RETIRING}",
+    "summary": f"summary {SEVERAL}",
+    "summary with a map": f"summary --workers 0 {RESCUED}",
+    "summary with 2 workers": f"summary --workers 2 {RETIRING}",
     "sizes": "sizes examples/several-findings.img",
     "sizes with a map": "sizes --map examples/rescued.map examples/rescued.img",
     "scan with a map": f"scan {RESCUED}",
@@ -42,6 +56,7 @@ COMMAND_LINES = {
     "superblocks with a map": f"superblocks {RESCUED}",
     "reclaimable with a map": f"reclaimable --workers 0 {RESCUED}",
     "items with a map": f"items --extent 3 {RESCUED}",
+    "items by several readers": f"items --extent 1 --pointer 41 {LARGE}",
     "shard": f"{SHARD}1 {SMALL}",
     "shard without workers": f"{SHARD}1 --workers 0 {SEVERAL}",
     "shard without sizes": f"{SHARD}2 examples/several-findings.img",
@@ -57,7 +72,31 @@ COMMAND_LINES = {
 }
 # Those to which lib/reference.py has no answer.
 WITHOUT_REFERENCE = {"", "scan --help", "scan --workers 65"}
+# Those in which a worker that scans, or a reader of the image, takes memory on a thread of its own.
+WITH_THREADS = ["scan", "index with 2 workers", "locators", "locators with 2 workers", "reclaimable",
+                "reclaimable with tails accepted", "manifest", "manifest with resets", "summary", "summary with 2 workers",
+                "items by several readers", "shard", "lost payload"]
 OUT_OF_MEMORY = (4, b"", b"shardscrub: out of memory\n")
+
+
+def retiring():
+    """A disk with a superblock of the second kind, which retires extent 3. Extent 1 has a chunk in which `abc` has rotted, a chunk of
+    `de` and a copy of `abc`: three payloads of one block each, which are hashed side by side. The run of one shard in extent 2 names
+    the first two."""
+    disk = Disk(4, 4)
+    disk.chunk(1, 0, uuid(0x11), b"abX")
+    sound = disk.chunk(1, 41, uuid(0x33), b"de")
+    disk.chunk(1, 81, uuid(0x44), b"abc")
+    named = disk.chunk(2, 0, uuid(0x22), run((shard(1), [locator(1, 0, uuid(0x11), b"abc"), sound])))
+    disk.superblock(0, 1, named, retired=[3])
+    return disk
+
+
+def large():
+    """A disk of 4 MiB: from that size on each processor has a reader. Extent 1 begins with `abc`."""
+    disk = Disk(32, 2, page=65536)
+    disk.chunk(1, 0, uuid(0x11), b"abc")
+    return disk
 
 
 def right(words):
@@ -75,24 +114,50 @@ class LibraryCase(RoomCase):
 
 
 class Runs(LibraryCase):
-    def check(self, given):
-        words, all_later = given
-        whole, _ = refusing(self.program, words, self.library, 0)
+    @classmethod
+    def setUpClass(cls):
+        super().setUpClass()
+        (cls.room / "retiring.img").write_bytes(retiring().bytes)
+        (cls.room / "large.img").write_bytes(large().bytes)
+
+    def refusing(self, words, refused, **which):
+        return refusing(self.program, words.replace(ROOM, f"{self.room}/"), self.library, refused, **which)
+
+    def check(self, words):
+        whole, _ = self.refusing(words, 0)
         if words not in WITHOUT_REFERENCE:
-            self.same("the answer", whole, right(words))
+            self.same("the answer", whole, right(words.replace(ROOM, f"{self.room}/")))
         refused = 0
         while True:
             refused += 1
-            got, met = refusing(self.program, words, self.library, refused, all_later)
+            got, met = self.refusing(words, refused)
             if met < refused:
                 self.same("without a refusal", got, whole)
                 break
-            self.true(f"allocation {refused} refused", got == OUT_OF_MEMORY or got == whole and not all_later, got)
+            self.true(f"allocation {refused} refused", got in (OUT_OF_MEMORY, whole), got)
+            # A run that ended out of memory at once has no later ones.
+            if met > refused or got != OUT_OF_MEMORY:
+                got, _ = self.refusing(words, refused, all_later=True)
+                self.same(f"allocation {refused} and all later ones refused", got, OUT_OF_MEMORY)
         self.true("there are allocations", refused > 1)
 
+    def check_threads(self, words):
+        """Each allocation of all threads except the first one is refused. By then that one has scanned all extents, or loaded its part,
+        and still the run has to end out of memory."""
+        if words.endswith(LARGE) and len(os.sched_getaffinity(0)) == 1:
+            raise unittest.SkipTest("with one processor there is one reader")
+        got, refused = self.refusing(words, growths.NONE_REFUSED, all_others=True)
+        self.same("the answer", got, OUT_OF_MEMORY)
+        self.true("allocations are refused", refused > 0)
 
-add_tests(Runs, Runs.check, [(f"{name}, {which}", (words, all_later)) for name, words in COMMAND_LINES.items()
-                             for which, all_later in (("one refused", False), ("all later ones refused", True))])
+
+add_tests(Runs, Runs.check, COMMAND_LINES.items())
+add_tests(Runs, Runs.check_threads, [(f"threads of {name}", COMMAND_LINES[name]) for name in WITH_THREADS])
+
+
+class Account(Case):
+    def test_each_public_function_that_takes_memory_is_tried(self):
+        self.same("the account", list(growths.account(COMMAND_LINES)), [])
 
 
 class Growths(LibraryCase):
@@ -104,17 +169,15 @@ class Growths(LibraryCase):
             raise unittest.SkipTest("the program of crates/scrub_refused_memory isn't built; rt ci builds it")
         super().setUpClass()
 
-    def test_each_public_function_that_takes_memory_is_a_call(self):
-        calls = growths.calls()
-        self.true("there are calls", calls)
-        self.same("those that are none", list(growths.missing(calls)), [])
+    def test_the_calls_are_those_of_the_account(self):
+        self.same("the calls", growths.calls(), growths.listed())
 
     def check_call(self, call):
         self.true(call, *growths.tried(self.library, call))
 
     def check_workers(self, call):
-        """Each growth of the workers is refused. By then the caller has scanned all extents, or loaded its part, and still the call
-        has to run out of memory."""
+        """Each growth of the workers is refused. By then the caller has scanned all extents, and still the call has to run out of
+        memory."""
         self.true(call, *growths.tried_by_workers(self.library, call))
 
 
@@ -125,4 +188,4 @@ def load_tests(loader, tests, _):
     calls = growths.calls()
     add_tests(Growths, Growths.check_call, [(f"call {call}", call) for call in calls])
     add_tests(Growths, Growths.check_workers, [(f"workers {call}", call) for call in filter(growths.starts_workers, calls)])
-    return unittest.TestSuite(map(loader.loadTestsFromTestCase, (Runs, Growths)))
+    return unittest.TestSuite(map(loader.loadTestsFromTestCase, (Runs, Account, Growths)))

@@ -1,7 +1,7 @@
-"""Refuses each growth of single calls, in turn, and says how the calls end; and finds the calls that take memory in the sources.
+"""Refuses each growth of single calls, in turn, and says how the calls end; and accounts for all public functions that take memory.
 
-The program of the crate scrub_refused_memory makes one call on small values. It prints `right` with status 0 for the right answer, `out
-of memory` with status 4, or `wrong` with status 1 for anything else. Growths for the call's values are skipped; a run before
+The program of the crate scrub_refused_memory makes one call on small values. It prints `right` with status 0 for the right answer,
+`out of memory` with status 4, or `wrong` with status 1 for anything else. Growths for the call's values are skipped; a run before
 counts them.
 """
 import re
@@ -16,14 +16,58 @@ RIGHT = (0, b"right\n", b"")
 REFUSED = (4, b"out of memory\n", b"")
 # No program makes so many allocations.
 NONE_REFUSED = 10**9
-# Calls without a growth. Every other call has at least one. The chunks of `Spares::among` are sorted already, as `Spares::of` gives
-# them, and sorting these takes no memory.
-WITHOUT_GROWTH = {"ExtentQueue::split", "Spares::among"}
+# What the program has to print if it makes all calls.
+LISTED = TOP / "crates/scrub_refused_memory/stdout"
+# Calls without a growth. Every other call has at least one.
+WITHOUT_GROWTH = {"ExtentQueue::split"}
 # These look as if they took memory, but take none: an empty list, the contents of a list, a fault of another kind.
-NOT_CALLED = {"Batch::new", "Workspace::new", "WorkerCore::new", "Run::take", "Geometry::new", "write_out"}
-# What crates above share with the crate that has it. Other calls make these, and so meet each growth of them.
-CALLED_WITHIN = {"LocatorIndex::of", "liveness_by", "scan_by", "scan_chosen", "scan_with_resets", "parts_of", "parts_and_twins", "owner_text"}
-# The crates whose public functions are calls here.
+TAKING_NONE = {"Batch::new", "Workspace::new", "WorkerCore::new", "Run::take", "Geometry::new", "write_out"}
+# Functions that no command makes, each with the call that makes it.
+WITHIN_CALLS = {"Run::copy": "merge"}
+# Functions that are tried in whole runs alone, each with a command line of tests/test_memory.py that makes it.
+IN_RUNS = {
+    "Batch::append": "locators with a spare",
+    "Batch::end": "locators with a spare",
+    "Batch::digests": "locators with a spare",
+    "read_extent": "scan",
+    "unreadable_pages": "scan",
+    "load_in_parts": "items by several readers",
+    "read_map": "scan with a map",
+    "RescueMap::lost_blocks": "scan with a map",
+    "RescueMap::first_lacking": "sizes with a map",
+    "read_locators": "scan",
+    "choose_with_pages": "superblocks",
+    "Plan::with_resets": "manifest with resets",
+    "find_superblocks": "sizes",
+    "scan_extent_in": "scan",
+    "claimed_frame": "scan",
+    "RunWriter::new": "index of several findings",
+    "merge_owned": "scan",
+    "liveness_by": "scan",
+    "liveness_of": "locators",
+    "LocatorIndex::of": "scan",
+    "Spares::of": "locators with a spare",
+    "Spares::among": "reclaimable",
+    "name_shard": "scan",
+    "payload_at": "scan",
+    "read_all_runs": "scan",
+    "check_named": "scan",
+    "scan_by": "scan",
+    "scan_chosen": "summary",
+    "scan_with_resets": "manifest with resets",
+    "parts_of": "locators",
+    "parts_and_twins": "summary",
+    "owner_text": "locators",
+    "list_locators": "locators",
+    "list_manifest": "manifest",
+    "find_sizes": "shard without sizes",
+    "list_sizes": "sizes",
+    "list_summary": "summary",
+    "list_superblocks": "superblocks",
+    "list_reclaimable": "reclaimable",
+    "read_shard": "shard",
+}
+# The crates whose public functions are in this account.
 LIBRARIES = ["sha_lanes"] + [
     f"scrub_{name}"
     for name in ("disk", "map", "frame", "super", "scan", "run", "merge", "check", "book", "pool", "report", "listings",
@@ -57,17 +101,35 @@ def taking_memory(source, is_public):
             yield f"{owner}::{name}" if owner else name
 
 
-def missing(calls):
-    """Yields the public functions that take memory but are no call. `lib.rt` makes a name or its module public."""
-    made = {call.split()[0] for call in calls} | NOT_CALLED | CALLED_WITHIN
+def public_functions():
+    """The public functions of the libraries that take memory. `lib.rt` makes a name or its module public."""
     for library in LIBRARIES:
         folder = TOP / "crates" / library / "src"
         root = (folder / "lib.rt").read_text()
         names = set(re.findall(r"\w+", " ".join(re.findall(r"^pub use ([^;]*);", root, re.MULTILINE))))
         for path in sorted(folder.rglob("*.rt")):
             is_open = f"pub mod {path.stem};" in root
-            found = taking_memory(path.read_text(), lambda name: is_open or name in names)
-            yield from (name for name in found if name not in made)
+            yield from taking_memory(path.read_text(), lambda name: is_open or name in names)
+
+
+def account(command_lines):
+    """Yields what is wrong with the account of the public functions that take memory. Each of them is a call, or made within one, or
+    made by one of these command lines, or takes none after all, and no two of these."""
+    functions, made = set(public_functions()), {call.split()[0] for call in listed()}
+    kinds = {"a call": made, "within a call": WITHIN_CALLS, "in whole runs": IN_RUNS, "taking none": TAKING_NONE}
+    for name in sorted(functions):
+        found = [kind for kind, names in kinds.items() if name in names]
+        if len(found) != 1:
+            yield f"{name} is {' and '.join(found) or 'not tried'}"
+    for kind, names in kinds.items():
+        yield from (f"{name}, {kind}, is no such function" for name in sorted(names) if name not in functions)
+    yield from (f"{name} is within {call}, which is no call" for name, call in WITHIN_CALLS.items() if call not in made)
+    yield from (f"{name} is in {line}, which is no command line" for name, line in IN_RUNS.items() if line not in command_lines)
+
+
+def listed():
+    """The words of each call, as they are listed."""
+    return [line.removesuffix(" right") for line in LISTED.read_text().splitlines()]
 
 
 def calls():

@@ -2,15 +2,15 @@
 //! modules used here.
 
 use crate::ending::{Stop, Wanted};
-use crate::{batches, checks, frames, lists, loading, maps, pool, records, report, runs, scans};
+use crate::{checks, frames, lists, loading, pool, records, report, runs, scans};
 use scrub_report::{WriteFault, write_out};
 use std::alloc::Global;
 use std::io::Write;
 use std::sync::Wait;
 use std::thread::Threads;
 
-/// Which calls are wanted. A call is named by its path and a second word: a number of workers, a kind of
-/// record, or nothing.
+/// Which calls are wanted. A call is named by its path and a second word: a number of workers, `many`, or
+/// nothing.
 #[derive(Clone, Copy)]
 pub enum Selection<'a> {
     /// Only the names of all calls.
@@ -105,8 +105,7 @@ fn write_name<O: Write>(
 
 /// Makes the calls that are wanted.
 pub fn all<R: Threads + Wait + Sync, O: Write>(rt: &R, alloc: Global, trial: &mut Trial<'_, O>) {
-    loading::calls(rt, alloc, trial);
-    batches::calls(alloc, trial);
+    loading::calls(alloc, trial);
     frames::calls(alloc, trial);
     records::calls(alloc, trial);
     runs::calls(alloc, trial);
@@ -114,6 +113,5 @@ pub fn all<R: Threads + Wait + Sync, O: Write>(rt: &R, alloc: Global, trial: &mu
     checks::calls(rt, alloc, trial);
     lists::calls(alloc, trial);
     pool::calls(rt, alloc, trial);
-    maps::calls(alloc, trial);
     report::calls(rt, alloc, trial);
 }

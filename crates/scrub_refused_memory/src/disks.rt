@@ -6,16 +6,11 @@ ghost use Rattle.scrub_disk.specs.Memory.{image_of};
 use crate::ending::{Stop, Wanted};
 use scrub_check::{Checked, Named, Owner, Status};
 use scrub_disk::MemDisk;
-use scrub_fakes::payloads::put_run;
 use scrub_fakes::worked::{self, nine_of_a_shard, put_abc_and_its_run};
-use scrub_fakes::{
-    FOURS, ONES, SHARD, THREES, TWOS, abc_at, plan_of, put_chunk, put_superblock, shard_of,
-    small_disk,
-};
+use scrub_fakes::{SHARD, TWOS, abc_at, plan_of, shard_of, small_disk};
 use scrub_frame::{Locator, digest_of};
 use scrub_super::Plan;
 use std::alloc::Global;
-use std::slice;
 use uuid::Uuid;
 
 /// The status of each of the nine locators of the shard, on the disk of `nine_locators`.
@@ -36,18 +31,6 @@ pub fn one_shard(alloc: Global) -> Result<(MemDisk, Locator), Stop> {
     let mut disk = small_disk(alloc)?;
     let run = put_abc_and_its_run(alloc, &mut disk)?;
     Ok((disk, run))
-}
-
-/// A disk of three extents. Extent 1 has a chunk in which `abc` has rotted, a chunk of `de`, and a copy of
-/// `abc`. The run of one shard in extent 2 names the first two.
-pub fn rotted_and_sound(alloc: Global) -> Result<MemDisk, Stop> {
-    let mut disk = small_disk(alloc)?;
-    put_chunk(alloc, &mut disk, 1, 0, ONES, b"abX")?;
-    let sound = put_chunk(alloc, &mut disk, 1, 41, THREES, b"de")?;
-    put_chunk(alloc, &mut disk, 1, 81, FOURS, b"abc")?;
-    let run = put_run(alloc, &mut disk, 2, 0, TWOS, &[abc_at(1, 0), sound])?;
-    put_superblock(alloc, &mut disk, &[122, 215], slice::from_ref(&run))?;
-    Ok(disk)
 }
 
 /// The plan of a disk of four extents without a superblock, restricted to extents 1 and 3.

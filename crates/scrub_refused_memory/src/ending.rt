@@ -1,9 +1,8 @@
 //! How far a call goes, and how it ends. For what is printed of that see `calls`.
 
-use scrub_disk::{GeometryFault, LoadFault, OutOfMemory};
+use scrub_disk::{LoadFault, OutOfMemory};
 use scrub_fakes::Misfit;
 use scrub_frame::FrameFault;
-use scrub_map::MapFault;
 use scrub_pool::PoolFault;
 use scrub_report::ScrubFault;
 use scrub_run::RunFault;
@@ -108,26 +107,11 @@ impl From<RunFault> for Stop {
     }
 }
 
-impl From<MapFault> for Stop {
-    fn from(fault: MapFault) -> Stop {
-        match fault {
-            MapFault::Line(_) => Stop::Wrong,
-            MapFault::OutOfMemory => Stop::OutOfMemory,
-        }
-    }
-}
-
 impl From<LoadFault> for Stop {
     fn from(fault: LoadFault) -> Stop {
         match fault {
             LoadFault::TooLong => Stop::Wrong,
             LoadFault::OutOfMemory => Stop::OutOfMemory,
         }
-    }
-}
-
-impl From<GeometryFault> for Stop {
-    fn from(_fault: GeometryFault) -> Stop {
-        Stop::Wrong
     }
 }

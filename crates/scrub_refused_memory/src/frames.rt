@@ -1,10 +1,10 @@
-//! Frames of both forms, appended and compared with their bytes field by field; and locators that are read.
+//! Frames of both forms, appended and compared with their bytes field by field.
 
 use crate::calls::Trial;
 use crate::ending::{Stop, Wanted, refused, right};
 use scrub_fakes::payloads::one_shard_payload;
-use scrub_fakes::{ABC_DIGEST, ONES, TWOS, abc_at};
-use scrub_frame::{FrameFault, write_locator};
+use scrub_fakes::{ABC_DIGEST, ONES, TWOS};
+use scrub_frame::FrameFault;
 use std::alloc::Global;
 use std::io::Write;
 use uuid::Uuid;
@@ -69,24 +69,8 @@ pub fn write_sealed(alloc: Global, wanted: Wanted) -> Result<(), Stop> {
     right(out.as_slice() == frame.as_slice())
 }
 
-/// Three locators that were written one after another.
-pub fn read_locators(alloc: Global, wanted: Wanted) -> Result<(), Stop> {
-    let locators = [abc_at(1, 0), abc_at(2, 41), abc_at(1, 82)];
-    let mut bytes = Vec::new(alloc);
-    for locator in &locators {
-        bytes.extend_from_slice(&write_locator(locator))?;
-    }
-    if bytes.len() != 180 {
-        return Err(Stop::Wrong);
-    }
-    wanted.made()?;
-    let read = scrub_frame::read_locators(alloc, &bytes, 3)?;
-    right(read.as_slice() == locators.as_slice())
-}
-
 /// The calls of this module.
 pub fn calls<O: Write>(alloc: Global, trial: &mut Trial<'_, O>) {
     made!(trial, "write_frame", "", wanted => write_frame(alloc, wanted));
     made!(trial, "write_sealed", "", wanted => write_sealed(alloc, wanted));
-    made!(trial, "read_locators", "", wanted => read_locators(alloc, wanted));
 }

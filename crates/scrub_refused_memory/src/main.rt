@@ -1,14 +1,14 @@
-//! Makes each call that can run out of memory, on small values, so that `tests/test_memory.py` can refuse
-//! each of its growths in turn. Arguments: the name of the call; for a call with workers how many there are
-//! beside the caller, or `SSB2` for superblocks of the second kind; and `answered`, or `made` to make only
-//! the values of the call. Prints `right` with status 0, `out of memory` with status 4 if a growth was
-//! refused, or `wrong` with status 1. Without arguments it makes each call once, and prints its name before
-//! the answer. `calls` lists the calls.
+//! Makes calls that can run out of memory, on small values, so that `tests/test_memory.py` can refuse each of
+//! their growths in turn. Arguments: the name of the call; for a call with workers how many there are beside
+//! the caller, or `many` for many locators; and `answered`, or `made` to make only the values of the call.
+//! Prints `right` with status 0, `out of memory` with status 4 if a growth was refused, or `wrong` with
+//! status 1. Without arguments it makes each call once, and prints its name before the answer. `calls` lists
+//! the calls.
 #![tactic(auto)]
 
 /// A row for a call: the two words that name it, and the function that makes it as far as wanted.
 macro_rules! made {
-    ($trial:ident, $name:literal, $second:expr, $wanted:ident => $call:expr) => {
+    ($trial:ident, $name:expr, $second:expr, $wanted:ident => $call:expr) => {
         if let Some($wanted) = $trial.wants($name, $second) {
             let ending = $call;
             $trial.ended(ending);
@@ -16,7 +16,6 @@ macro_rules! made {
     };
 }
 
-mod batches;
 mod calls;
 mod checks;
 mod disks;
@@ -24,7 +23,6 @@ mod ending;
 mod frames;
 mod lists;
 mod loading;
-mod maps;
 mod pool;
 mod records;
 mod report;

@@ -1,8 +1,8 @@
-//! Index runs: written and compared with their bytes field by field, read, copied and merged.
+//! Index runs: written and compared with their bytes field by field, read and merged.
 
 use crate::calls::Trial;
 use crate::ending::{Stop, Wanted, right};
-use scrub_fakes::payloads::{one_shard_payload, payload_of_each, two_shards_payload};
+use scrub_fakes::payloads::{one_shard_payload, payload_of_each};
 use scrub_fakes::published::NO_SHARDS;
 use scrub_fakes::{SHARD, abc_at};
 use scrub_merge::ShardMap;
@@ -17,17 +17,6 @@ pub fn write_run(alloc: Global, wanted: Wanted) -> Result<(), Stop> {
     let entry = Entry::new(SHARD, Vec::from_slice(alloc, &[abc_at(1, 0)])?);
     wanted.made()?;
     let written = scrub_run::write_run(alloc, slice::from_ref(&entry))?;
-    right(written.as_slice() == payload.as_slice())
-}
-
-/// The same by a writer with room for it.
-pub fn new_writer(alloc: Global, wanted: Wanted) -> Result<(), Stop> {
-    let payload = one_shard_payload(alloc)?;
-    let entry = Entry::new(SHARD, Vec::from_slice(alloc, &[abc_at(1, 0)])?);
-    wanted.made()?;
-    let mut run = RunWriter::new(alloc, 1, 1)?;
-    run.append(&entry)?;
-    let written = run.finish()?;
     right(written.as_slice() == payload.as_slice())
 }
 
@@ -91,22 +80,6 @@ pub fn read_run(alloc: Global, wanted: Wanted) -> Result<(), Stop> {
     right(is_one_shard(&run) && none.entries().is_empty())
 }
 
-/// A copy of the run of two shards.
-pub fn copy_run(alloc: Global, wanted: Wanted) -> Result<(), Stop> {
-    let run = scrub_run::read_run(alloc, &two_shards_payload(alloc)?)?;
-    wanted.made()?;
-    let copy = run.copy(alloc)?;
-    match (run.entries(), copy.entries()) {
-        ([first, second], [one, other]) => right(
-            one.id() == first.id()
-                && one.locators() == first.locators()
-                && other.id() == second.id()
-                && other.locators() == second.locators(),
-        ),
-        _ => Err(Stop::Wrong),
-    }
-}
-
 /// Runs of the one shard, newest first: `Some(true)` has its chunk, `Some(false)` deletes it, and `None` is
 /// lost.
 fn runs_of(alloc: Global, given: &[Option<bool>]) -> Result<Vec<Option<Run>>, Stop> {
@@ -153,26 +126,11 @@ pub fn merge(alloc: Global, wanted: Wanted) -> Result<(), Stop> {
     right(deleted.bindings().is_empty() && binds_in_doubt(&doubtful))
 }
 
-/// The same for runs that are handed over.
-pub fn merge_owned(alloc: Global, wanted: Wanted) -> Result<(), Stop> {
-    let (three, two) = (runs_of(alloc, &THREE)?, runs_of(alloc, &TWO)?);
-    if three.len() != 3 || two.len() != 2 {
-        return Err(Stop::Wrong);
-    }
-    wanted.made()?;
-    let deleted = scrub_merge::merge_owned(alloc, three)?;
-    let doubtful = scrub_merge::merge_owned(alloc, two)?;
-    right(deleted.bindings().is_empty() && binds_in_doubt(&doubtful))
-}
-
 /// The calls of this module.
 pub fn calls<O: Write>(alloc: Global, trial: &mut Trial<'_, O>) {
     made!(trial, "write_run", "", wanted => write_run(alloc, wanted));
-    made!(trial, "RunWriter::new", "", wanted => new_writer(alloc, wanted));
     made!(trial, "RunWriter::append", "", wanted => append_entry(alloc, wanted));
     made!(trial, "RunWriter::finish", "", wanted => finish_run(alloc, wanted));
     made!(trial, "read_run", "", wanted => read_run(alloc, wanted));
-    made!(trial, "Run::copy", "", wanted => copy_run(alloc, wanted));
     made!(trial, "merge", "", wanted => merge(alloc, wanted));
-    made!(trial, "merge_owned", "", wanted => merge_owned(alloc, wanted));
 }

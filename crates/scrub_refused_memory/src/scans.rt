@@ -13,8 +13,8 @@ use scrub_disk::{MemDisk, PageSource};
 use scrub_fakes::payloads::one_shard_payload;
 use scrub_fakes::worked::{abc_alone, four_extents, nine_locators};
 use scrub_fakes::{ABC_DIGEST, ENDS_IN_MAGIC, ONES, TWOS, plan_of};
-use scrub_frame::{Form, Head, digest_of};
-use scrub_scan::{AllFindings, ExtentResult, Item, Standing, Workspace};
+use scrub_frame::{Form, digest_of};
+use scrub_scan::{AllFindings, ExtentResult, Item, Standing};
 use scrub_super::Plan;
 use std::alloc::Global;
 use std::io::Write;
@@ -137,34 +137,6 @@ pub fn scan_in_order(alloc: Global, wanted: Wanted) -> Result<(), Stop> {
     right(are_of_one_shard(&found, &run))
 }
 
-/// The result of a planned extent, in a workspace.
-fn scan_planned_in<'d>(
-    alloc: Global,
-    workspace: &mut Workspace,
-    disk: &'d MemDisk,
-    plan: &Plan,
-    extent: u32,
-) -> Result<ExtentResult<'d, MemDisk>, Stop>
-    requires { plan.now.geometry ≡ (image_of disk.now).geometry }
-{
-    if !plan.planned().contains(&extent) {
-        return Err(Stop::Wrong);
-    }
-    Ok(scrub_scan::scan_extent_in(alloc, workspace, disk, plan, extent)?)
-}
-
-/// Both extents of the disk with one shard, one after the other in one workspace.
-pub fn scan_extent_in(alloc: Global, wanted: Wanted) -> Result<(), Stop> {
-    let (disk, _) = one_shard(alloc)?;
-    let plan = plan_of(alloc, &disk)?;
-    let run = run_chunk(&one_shard_payload(alloc)?);
-    wanted.made()?;
-    let mut workspace = Workspace::new(alloc);
-    let first = scan_planned_in(alloc, &mut workspace, &disk, &plan, 1)?;
-    let second = scan_planned_in(alloc, &mut workspace, &disk, &plan, 2)?;
-    right(has(&first, 1, 41, &[abc_chunk()]) && has(&second, 2, 155, &[run]))
-}
-
 /// The plain frame of a payload, at a place.
 fn standing(extent: u32, offset: u32, uuid: [u8; 16], payload: &[u8]) -> Standing {
     Standing {
@@ -194,30 +166,6 @@ pub fn frame_stands(alloc: Global, wanted: Wanted) -> Result<(), Stop> {
     right(first == Some(long) && second == Some(abc) && none.is_none())
 }
 
-/// The head of a plain frame.
-fn head(uuid: [u8; 16], length: u32) -> Head {
-    Head {
-        form: Form::Plain,
-        uuid: Uuid::from_bytes(uuid),
-        length,
-    }
-}
-
-/// The heads of these two frames, and of none at that place.
-pub fn claimed_frame(alloc: Global, wanted: Wanted) -> Result<(), Stop> {
-    let (disk, _) = nine_locators(alloc)?;
-    let geometry = disk.geometry();
-    if geometry.extents() <= 2 || geometry.extent_bytes() < 297 {
-        return Err(Stop::Wrong);
-    }
-    wanted.made()?;
-    let first = scrub_scan::claimed_frame(alloc, &disk, 297, 2, 0)?;
-    let second = scrub_scan::claimed_frame(alloc, &disk, 297, 2, 256)?;
-    let none = scrub_scan::claimed_frame(alloc, &disk, 297, 1, 41)?;
-    let (long, abc) = (head(ENDS_IN_MAGIC, 220), head(ONES, 3));
-    right(first == Some(long) && second == Some(abc) && none.is_none())
-}
-
 /// The payloads of these two frames.
 pub fn read_payload(alloc: Global, wanted: Wanted) -> Result<(), Stop> {
     let (disk, _) = nine_locators(alloc)?;
@@ -238,9 +186,7 @@ pub fn calls<O: Write>(alloc: Global, trial: &mut Trial<'_, O>) {
     made!(trial, "tile", "", wanted => tile(alloc, wanted));
     made!(trial, "item_line", "", wanted => item_line(alloc, wanted));
     made!(trial, "scan_extent", "", wanted => scan_extent(alloc, wanted));
-    made!(trial, "scan_extent_in", "", wanted => scan_extent_in(alloc, wanted));
     made!(trial, "scan_in_order", "", wanted => scan_in_order(alloc, wanted));
     made!(trial, "frame_stands", "", wanted => frame_stands(alloc, wanted));
-    made!(trial, "claimed_frame", "", wanted => claimed_frame(alloc, wanted));
     made!(trial, "read_payload", "", wanted => read_payload(alloc, wanted));
 }
