@@ -9,8 +9,45 @@ from lib.program import TOP
 COLUMNS = 110
 LONG_TEXT = re.compile(r'"(?:[^"\\]|\\.){70,}"|r#".{70,}"#')
 
+# The section of CONTRIBUTING with two tables, whose last columns name edits, tests in Rattle and tests of the program.
+NAMED = re.compile(r"^## Named wrong bodies and worked examples$(.*?)^## ", re.M | re.S)
+
+
+def named():
+    """What the last columns of these tables name, in the order of the tables."""
+    section = NAMED.search((TOP / "CONTRIBUTING.md").read_text(encoding="utf-8"))[1]
+    rows = [line.strip("| ").split(" | ") for line in section.splitlines() if line.startswith("| ") and not line.endswith(" by |")]
+    return [name for row in rows for name in re.findall(r"`([^`\s]+[/.:][^`\s]+)`", row[-1])]
+
+
+def is_there(name):
+    """Whether there is an edit of the gate, a test in Rattle, or a test or a class of tests of the program with this name."""
+    if "/" in name:
+        crate, edit = name.split("/")
+        return (TOP / "crates" / crate / "must-fail" / f"{edit}.edit").is_file()
+    if "::" in name:
+        crate, *modules, function = name.split("::")
+        path = (TOP / "crates" / crate / "src").joinpath(*modules).with_suffix(".rt")
+        return path.is_file() and f"#[test]\nfn {function}(" in path.read_text(encoding="utf-8")
+    module, of, *method = name.split(".")
+    path = TOP / "tests" / f"test_{module}.py"
+    text = path.read_text(encoding="utf-8") if path.is_file() else ""
+    body = re.search(rf"^class {of}\(.*?(?=^class |\Z)", text, re.M | re.S)
+    return bool(body) and all(f"    def {one}(self" in body[0] for one in method)
+
 
 class Sources(Case):
+    def test_named_wrong_bodies_and_worked_examples(self):
+        """CONTRIBUTING says what refuses each named wrong body, and what computes each worked example. All of that is there, and the
+        gate has no other edits."""
+        names = named()
+        self.same("there are edits and tests of both kinds", [sum(mark in name for name in names) > 20 for mark in ("/", "::", ".test_")],
+                  [True, True, True])
+        for name in dict.fromkeys(names):
+            self.true(f"{name} is there", is_there(name))
+        edits = {f"{path.parent.parent.name}/{path.stem}" for path in TOP.glob("crates/*/must-fail/*.edit")}
+        self.same("edits of the gate that no row names", edits - set(names), set())
+
     def test_columns(self):
         """No line of code is longer than 110 columns."""
         for path in sorted(TOP.glob("crates/*/src/**/*.rt")):
