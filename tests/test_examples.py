@@ -65,7 +65,7 @@ class Clone(Case):
         with tempfile.TemporaryDirectory(prefix="shardscrub-clone-") as folder:
             clone = os.path.join(folder, "clone")
             subprocess.run(["git", "clone", "-q", TOP, clone], check=True)
-            done = subprocess.run(["sh", "-c", example.command], cwd=clone, env={**os.environ, "PATH": path}, timeout=10,
+            done = subprocess.run(["sh", "-c", example.command], cwd=clone, env={**os.environ, "PATH": path}, timeout=300,
                                   stdin=subprocess.DEVNULL, stdout=subprocess.PIPE, stderr=subprocess.STDOUT, encoding="utf-8")
         self.same(example.command, done.stdout, example.wanted)
 
@@ -77,10 +77,15 @@ class Manual(Case):
         self.same("the warnings", (done.returncode, done.stdout, done.stderr), (0, "", ""))
 
 
+TRANSCRIPT = Transcript(lambda: starting(program()))
+
+
+def setUpModule():
+    unittest.addModuleCleanup(TRANSCRIPT.close)
+
+
 def load_tests(loader, tests, _):
     """Adds a test for each example, and one for all their reports."""
-    transcript = Transcript(lambda: starting(program()))
-    tests.addTests(ExampleCase(transcript, number) for number in range(len(transcript.examples)))
-    tests.addTest(ReportCase(transcript))
-    unittest.addModuleCleanup(transcript.close)
+    tests.addTests(ExampleCase(TRANSCRIPT, number) for number in range(len(TRANSCRIPT.examples)))
+    tests.addTest(ReportCase(TRANSCRIPT))
     return tests

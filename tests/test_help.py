@@ -17,7 +17,7 @@ OWN_COMMAND = ("help", "Print this message or the help of the given subcommand(s
 
 def said(*words):
     """What the program says on the error stream, and on the output with --version."""
-    done = subprocess.run([program(), *words], capture_output=True, text=True, timeout=60)
+    done = subprocess.run([program(), *words], capture_output=True, text=True, timeout=300)
     return done.returncode, done.stdout, done.stderr
 
 

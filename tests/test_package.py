@@ -67,7 +67,7 @@ def run(*words, more=None, **options):
     environment["PATH"] += ":/usr/sbin:/sbin"
     environment["LC_ALL"] = "C.UTF-8"
     return subprocess.run([str(word) for word in words], env=environment | (more or {}), capture_output=True,
-                          **{"cwd": TOP, "text": True, "timeout": 60, **options})
+                          **{"cwd": TOP, "text": True, "timeout": 300, **options})
 
 
 def done(*words, **options):
@@ -299,6 +299,9 @@ class Dpkg(OfTheRelease):
         super().setUpClass()
         need("dpkg-deb")
         need("dpkg")
+        passing = tempfile.TemporaryDirectory()
+        cls.addClassCleanup(passing.cleanup)
+        cls.package = done("release/package", passing.name).strip()
 
     def setUp(self):
         super().setUp()
@@ -306,7 +309,7 @@ class Dpkg(OfTheRelease):
         (self.root / "var/lib/dpkg/info").mkdir(parents=True)
         (self.root / "var/lib/dpkg/updates").mkdir()
         (self.root / "var/lib/dpkg/status").touch()
-        self.dpkg("--force-depends", "--install", done("release/package", self.folder).strip())
+        self.dpkg("--force-depends", "--install", self.package)
 
     def dpkg(self, *words):
         # Some machines are set up to leave out man pages and documents.
@@ -341,7 +344,7 @@ class Dpkg(OfTheRelease):
                 self.assertEqual([name for name in tree(self.root) if not name.startswith("var/")], [])
                 self.assertEqual([name for name in tree(self.root) if "shardscrub" in name], [])
                 self.assertNotEqual(self.state().returncode, 0)
-                self.dpkg("--force-depends", "--install", *self.folder.glob("*.deb"))
+                self.dpkg("--force-depends", "--install", self.package)
 
 
 if __name__ == "__main__":

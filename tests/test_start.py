@@ -64,7 +64,7 @@ class Start(unittest.TestCase):
 
     def run_in(self, folder, *words, **more):
         environment = {"PATH": f"{self.folder}/tools:{os.environ['PATH']}", "CALLS": str(self.calls)} | more
-        return subprocess.run(words, cwd=folder, env=environment, capture_output=True, text=True, timeout=60)
+        return subprocess.run(words, cwd=folder, env=environment, capture_output=True, text=True, timeout=300)
 
     def build(self, *names):
         """Programs that were built here, after the last change of their sources; both if none is named."""

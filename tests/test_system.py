@@ -11,7 +11,6 @@ import shutil
 import signal
 import subprocess
 import tempfile
-import time
 from pathlib import Path
 from typing import NamedTuple
 
@@ -22,7 +21,7 @@ from lib.program import TOP, need, program
 from lib.reference import Image, answered, items, reclaimable, report_text, scrub, scrub_all, superblocks
 from lib.traces import need_traces, opened, state, suspects, traced
 
-SECONDS = 60
+SECONDS = 300
 MAP_SECONDS = 10
 ONE_SHARD = str(TOP / "examples/one-shard.img")
 SMALL = ["--page", "64", "--pages", "4", "--extents", "3"]
@@ -286,12 +285,13 @@ class Maps(RoomCase):
             self.same(f"{text!r}, sizes", answer("sizes", "--map", path, "/nothing/here"), refusal)
 
     def check_long_map(self, last, right):
-        """A map of a million lines is read in seconds."""
+        """A map of a million lines is read in seconds of a processor, however many other programs there are."""
         lines = [b"0x00000000     ?"] + [b"0x%08X  0x00000200  +" % (512 * i) for i in range(1_000_000 - 1)]
         path = self.given_map(b"\n".join([*lines[:-1], last or lines[-2]]))
-        begun = time.monotonic()
+        before = os.times()
         self.same("scan", answer("scan", *SMALL, "--map", path, ONE_SHARD), right)
-        took = time.monotonic() - begun
+        after = os.times()
+        took = after.children_user + after.children_system - before.children_user - before.children_system
         self.true(f"in {MAP_SECONDS} seconds", took < MAP_SECONDS, took)
 
     def test_a_million_lines(self):
@@ -545,17 +545,18 @@ class Streams(RoomCase):
                 self.same(f"shard {number} of {len(runs)} runs, no reader", self.answer_without_reader(words), right)
 
     def check_each_number_of_bytes(self, words, wanted):
-        """The output fails after each number of bytes, and then not at all."""
-        path = self.room / "short"
-
-        def limit(size):
-            signal.signal(signal.SIGXFSZ, signal.SIG_IGN)
-            resource.setrlimit(resource.RLIMIT_FSIZE, (size, size))
-
+        """The output fails after each number of bytes, and then not at all. The limit of this process is that of the program, which
+        ignores the signal as this process does."""
+        path, limits = self.room / "short", resource.getrlimit(resource.RLIMIT_FSIZE)
+        self.same("the signal", signal.getsignal(signal.SIGXFSZ), signal.SIG_IGN)
         status, whole, error = wanted
         for size in range(len(whole) + 1):
             with open(path, "wb") as out:
-                found = self.answer_to(out, words, preexec_fn=lambda: limit(size))
+                resource.setrlimit(resource.RLIMIT_FSIZE, (size, limits[1]))
+                try:
+                    found = self.answer_to(out, words, restore_signals=False)
+                finally:
+                    resource.setrlimit(resource.RLIMIT_FSIZE, limits)
             right = (3, f"shardscrub: output failed after {size} bytes\n".encode()) if size < len(whole) else (status, error)
             self.same(f"{size} bytes", (found, path.read_bytes()), (right, whole[:size]))
 

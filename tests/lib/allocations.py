@@ -85,8 +85,8 @@ class Counts(NamedTuple):
 
 
 def run(program, words, library, refused=0, counted=0, flags=(), processors=None):
-    """The status and both outputs of a run on these processors, and its counts. The counts are None if the run took over a
-    minute or ended by a signal. After a minute the status is None too."""
+    """The status and both outputs of a run on these processors, and its counts. The counts are None if the run took over
+    five minutes or ended by a signal. After five minutes the status is None too."""
     given = dict(REFUSED=str(refused), COUNTED=str(counted), **dict.fromkeys(flags, "1"))
     got, numbers = preloaded.run(program, words, library, given, processors)
     return got, Counts(*numbers) if numbers else None

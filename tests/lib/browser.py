@@ -1,5 +1,6 @@
 """Chromium without a window, driven by Selenium, for tests of a page."""
 import base64
+import fcntl
 import json
 import os
 import shutil
@@ -41,7 +42,10 @@ class Browser:
         if os.geteuid() == 0:
             options.add_argument("--no-sandbox")
         options.set_capability("goog:loggingPrefs", {"browser": "ALL"})
-        self.driver = webdriver.Chrome(options=options, service=Service(shutil.which("chromedriver")))
+        # Selenium chooses a free port and then starts the driver on it. Of two processes, one waits, so that they choose another.
+        with open(__file__, "rb") as lock:
+            fcntl.flock(lock, fcntl.LOCK_EX)
+            self.driver = webdriver.Chrome(options=options, service=Service(shutil.which("chromedriver")))
         self.resize(*WINDOW)
 
     def resize(self, width, height):

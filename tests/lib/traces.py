@@ -9,7 +9,7 @@ from pathlib import Path
 
 from lib.program import need, program
 
-SECONDS = 60
+SECONDS = 300
 # Calls that change nothing outside of the process, whatever their arguments: on its own memory, threads and signals, on the
 # clock, and calls that read. changes_nothing_by has the calls whose arguments decide.
 HARMLESS = set("""
