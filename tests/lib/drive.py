@@ -44,7 +44,8 @@ class Engine:
     """Prints the answers: a program, or the reference by itself."""
 
     def __init__(self, program, room):
-        self.program, self.room, self.calls = program, room, 0
+        self.program, self.calls, self.file, self.written = program, 0, None, b""
+        self.name = os.path.join(room, "image") if room else None
 
     def ask(self, drive, command, accepted=(), resets=()):
         """The text that a command prints, and whether its status is 0."""
@@ -62,13 +63,21 @@ class Engine:
             raise RuntimeError(f"{done.args}: status {done.returncode}, {done.stderr.decode()}")
         return done.stdout.decode(), done.returncode == 0
 
+    def write(self, raw):
+        """Writes the image, unless it is there already. A file that is cut to nothing before each time costs the system much."""
+        if self.file is None:
+            self.file = open(self.name, "wb", buffering=0)
+        if len(raw) != len(self.written):
+            self.file.truncate(len(raw))
+        if raw != self.written:
+            os.pwrite(self.file.fileno(), raw, 0)
+            self.written = bytes(raw)
+
     def run(self, drive, words):
         """A run of the program on an image of the drive."""
-        name = os.path.join(self.room, "image")
-        with open(name, "wb") as file:
-            file.write(drive.raw)
+        self.write(drive.raw)
         pairs = [f"{e}:{g}" for e, g in sorted(drive.unreadable)]
-        return subprocess.run([self.program, *words, *geometry(drive.page, drive.pages, drive.extents), name, *pairs],
+        return subprocess.run([self.program, *words, *geometry(drive.page, drive.pages, drive.extents), self.name, *pairs],
                               stdin=subprocess.DEVNULL, capture_output=True)
 
     def shard(self, drive, identifier):
@@ -168,11 +177,12 @@ def record_pages(drive, length):
 
 
 def put_record(drive, text, begin, with_zeros=True):
-    """Writes a record from this byte on, and zeros the rest of the pages of each other record that it overwrites."""
+    """Writes a record from this byte on, zeros up to the end of its last page, and the rest of the pages of each other record that it
+    overwrites."""
     end = begin + len(text)
     others = [(g * drive.page, (g + (r.length - 1) // drive.page + 1) * drive.page)
               for g, r in reference.records_of(drive.image()).items()]
-    drive.write(0, begin, text)
+    drive.write(0, begin, text + bytes(-end % drive.page) * with_zeros)
     for start, stop in others if with_zeros else []:
         if start < end and begin < stop:
             drive.write(0, start, bytes(max(0, begin - start)))

@@ -130,8 +130,25 @@ class Made:
             first = c.randrange(self.n)
             for page in [first] + ([c.randrange(self.n)] if c.random() < .1 else []):
                 if page * self.p + len(text) <= self.size:
-                    self.put(0, page * self.p, text)
+                    listed = c.choices(runs, k=c.randrange(5)) if runs else []
+                    self.put_record(page * self.p, text, record(self.p, self.n, self.e, pointers, listed, c.choice([1, 2, 3])))
                     self.records.append((page * self.p, len(text)))
+
+    def put_record(self, at, text, other):
+        """Writes a record. Sometimes the other record was there before, or some of its sectors were written over this one, or other
+        bytes are behind this one. So a byte that no valid record holds may be on a page on which one begins or ends."""
+        c, way, end, other = self.c, self.c.random(), at + len(text), other[:self.size - at]
+        if way < .1:
+            self.put(0, at, other)
+        self.put(0, at, text)
+        if .1 <= way < .25:
+            sector = c.choice([16, 32, 64, self.p])
+            for begin in range(0, len(other), sector):
+                if c.random() < .6:
+                    self.put(0, at + begin, other[begin:begin + sector])
+        elif .25 <= way < .3 and end % self.p:
+            page_end = -(-end // self.p) * self.p
+            self.put(0, c.choice([end, c.randrange(end, page_end), page_end - 1]), b"x")
 
     def damage(self):
         """Flips bits, erases a page, writes a magic, cuts the image. Returns the unreadable pages."""
@@ -344,5 +361,6 @@ class Tended(Made):
                 self.put(0, c.randrange((self.size - len(older)) // self.p + 1) * self.p, older)
             if c.random() < .15:
                 self.put(0, c.randrange(self.n) * self.p, c.choice([b"SSB1", b"SSB2", b"x"]))
-            self.put(0, g * self.p, t)
+            other = record(self.p, self.n, self.e, ws, c.choices(runs, k=c.randrange(5)) if runs else [], c.choice([3, 4, 6]))
+            self.put_record(g * self.p, t, other)
         return self.damage()

@@ -115,6 +115,18 @@ def damaged_pages(outputs):
     return [(int(one[2]), one[1].split("-")[1]) for one in words if one[1] in ("superblock-damaged", "superblock-stray")]
 
 
+def held_bytes(report, outputs, number):
+    """How many bytes of a damaged or stray page of extent 0 the superblock that counts holds, if its kind is known."""
+    sizes, chosen = report["geometry"], report["super"]["page"]
+    lines = [line.split() for line in lines_of(outputs.get("superblocks"))]
+    kind = next((words[2] for words in lines if words[:2] == ["record", str(chosen)]), None)
+    if kind is None:
+        return 0
+    head = 26 if kind == "SSB1" else 28 + 4 * len(report["retired"])
+    length = head + 4 * (sizes["extents"] - 1) + 60 * len(report["runs"]) + 32
+    return max(0, min((chosen - number) * sizes["page"] + length, sizes["page"])) if number >= chosen else 0
+
+
 def findings(report, outputs):
     """The groups of findings by title. A finding is the list of places that the page links for it."""
     page, kinds = report["geometry"]["page"], kind_of(report)
@@ -318,13 +330,14 @@ def damaged_bytes_in_hidden(report):
 
 def headline(report, outputs):
     page, kinds = report["geometry"]["page"], kind_of(report)
+    odd_bytes = sum(page - held_bytes(report, outputs, number) for number, _ in damaged_pages(outputs))
     lengths = Counter()
     for extent, words in items_of(report):
         lengths[kinds(extent, words)] += int(words[2]) - int(words[1])
     return {
         "live": sum(extent["live"] for extent in report["extents"]) if has_superblock(report) else None,
         "liveDoubt": live_doubt(report, outputs), "unknown": lengths["chunk"],
-        "damaged": lengths["torn"] + lengths["noise"] + lengths["damaged"] + page * len(damaged_pages(outputs)),
+        "damaged": lengths["torn"] + lengths["noise"] + lengths["damaged"] + odd_bytes,
         "damagedHidden": damaged_bytes_in_hidden(report),
         "unreadable": page * len(unreadable_pages(report)), "unreadablePages": len(unreadable_pages(report)),
         "gain": sum(place["free"] for place in report["candidates"]), "gainIs": gain_state(outputs),
@@ -467,13 +480,14 @@ def kinds(report, outputs):
                 add("unreadable page", (number + 1) * page - max(number * page, reported["pointer"]))
     for _ in report["super"]["bad"]:
         add("unreadable page", page)
-    for _ in damaged_pages(outputs):
-        add("damaged superblock", page)
+    odd, chosen = {number for number, _ in damaged_pages(outputs)}, report["super"]["page"]
+    for number in odd:
+        add("damaged superblock", page - held_bytes(report, outputs, number))
     for line in lines_of(outputs.get("superblocks")):
-        if line.startswith("record") and int(line.split()[1]) != report["super"]["page"]:
+        if line.startswith("record") and int(line.split()[1]) not in odd | {chosen}:
             add("older", page)
-    if has_superblock(report):
-        add("superblock", page)
+    if has_superblock(report) and (chosen not in odd or held_bytes(report, outputs, chosen)):
+        add("superblock", held_bytes(report, outputs, chosen) if chosen in odd else page)
     return counts
 
 

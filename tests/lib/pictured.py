@@ -69,8 +69,27 @@ def flipped_bit():
     return disk
 
 
+def overwritten(count=3):
+    """The disk without damage, with two superblocks that were written over longer ones: an older one, and the one that counts. That
+    lists this many runs, and the one before it on its page listed one more. With three the rest of that is in the second page."""
+    disk = in_order()
+    disk.bytes[0:disk.page * disk.pages] = bytes(disk.page * disk.pages)
+    runs = [disk.chunk(10, disk.pointers[9], uuid(0xE1 + number), run((shard(1), []))) for number in range(count + 1)]
+    disk.superblock(0, 38, *runs[:2])
+    disk.superblock(0, 39, runs[0])
+    disk.superblock(4, 40, runs[0])
+    disk.superblock(8, 41, *runs)
+    disk.superblock(8, 42, *runs[:count])
+    return disk
+
+
+def overwritten_on_a_page():
+    """The same with a superblock that counts and ends on its first page, with the rest behind it."""
+    return overwritten(1)
+
+
 def with_a_tail():
-    """The same with a chunk that was written past the superblock's write pointer."""
+    """The disk without damage, with a chunk that was written past the superblock's write pointer."""
     disk = in_order()
     disk.chunk(9, 300, uuid(0xAA), b"written after the superblock " * 20)
     return disk
@@ -201,6 +220,8 @@ SPARE_OF_ROTTED = f"spare 2 138 21 {'44444444-4444-4444-4444-444444444444'} shar
 LOOKED_AT = {
     "in-order": (in_order, []),
     "flipped-bit": (flipped_bit, []),
+    "overwritten": (overwritten, []),
+    "overwritten-on-a-page": (overwritten_on_a_page, []),
     "tail": (with_a_tail, []),
     "no-superblock": (without_superblock, []),
     "lost-superblock": (in_order, [(0, 8), (9, 2)]),

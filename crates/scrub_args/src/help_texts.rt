@@ -227,7 +227,7 @@ this order. So diff compares two summaries.
                          the sizes of the disk, as they were given or found, and its retired extents
   superblocks superblock_generation superblock_tie superblocks_damaged superblocks_stray
                          valid records of extent 0; the generation of the one that counts, or 0; 1 if
-                         another has it too; pages that superblocks calls damaged or stray
+                         another has it too; the lines damaged and stray of superblocks
   unreadable_pages       of extent 0 and of the extents in use
   runs runs_lost         index runs
   shards shards_broken shards_doubtful
@@ -270,7 +270,8 @@ pub(crate) const RECLAIMABLE_AFTER_HELP: &str =
   doubt tie                        two superblocks or more have the greatest generation
   doubt superblock-lost PAGE       a page of extent 0 can't be read
   doubt superblock-damaged PAGE    a page of extent 0 begins like a superblock but isn't one
-  doubt superblock-stray PAGE      a page of extent 0 has other bytes
+  doubt superblock-stray PAGE      a page of extent 0 has bytes other than zero that no superblock holds,
+                                   also if a superblock begins on it or ends on it
   doubt run-lost K STATE           an index run is lost; K is its number in the superblock, from 0
   doubt spare EXTENT OFFSET LENGTH UUID OWNER BYTES
                                    a locator of OWNER dangles, and all its spares are in extents that
@@ -328,17 +329,22 @@ pub(crate) const SUPERBLOCKS_ABOUT: &str =
     "Lists the superblock records of extent 0, and its pages that may have held one";
 
 pub(crate) const SUPERBLOCKS_AFTER_HELP: &str =
-    "Pages of extent 0 are listed in rising order, each with at most one line, the first of these that
-applies:
+    "Pages of extent 0 are listed in rising order, each with the first of these lines that applies:
 
   lost PAGE                          the page can't be read
   record PAGE KIND GENERATION STATE  a superblock record of a disk of these sizes begins the page
   damaged PAGE KIND                  the page begins like a record of this kind but isn't one: its
                                      digest or its sizes are wrong, a value is out of range, or it
                                      is cut off
-  stray PAGE                         the page has any other bytes
+  stray PAGE                         the page has a byte other than zero that no record holds
 
-A page within a record, or of zeros alone, has no line.
+A page with a record has the line stray, too, directly after its own, if it has such a byte. A page whose
+bytes are held by records that begin on earlier pages, or are zero, has no line.
+
+A record holds the bytes from the start of its page to its own end. Bytes after that may be left of a
+newer superblock whose write was interrupted, or of an older one that was longer. A node leaves no such
+bytes if it writes each superblock in whole pages, with zeros after the record up to the end of its last
+page, and over all that is left of each valid record that it overwrites.
 
   PAGE        the page's number, from 0
   KIND        SSB1 or SSB2

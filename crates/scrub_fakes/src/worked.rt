@@ -3,14 +3,11 @@
 ghost use Rattle.std.specs.Prelude.{◌≡◌, IfOk};
 ghost use Rattle.scrub_disk.specs.Memory.{image_of};
 
-use crate::disk::{
-    Misfit, mark_bad, put, put_chunk, put_contents, put_record, put_superblock, small_disk,
-};
+use crate::disk::{Misfit, mark_bad, put, put_chunk, put_record, put_superblock, small_disk};
 use crate::payloads::{broken_run, entry_of, has_length, payload_of, put_run, two_shards_payload};
 use crate::samples::{ENDS_IN_MAGIC, FOURS, ONES, THREES, TWOS, abc_at, shard_of};
 use scrub_disk::{Geometry, MemDisk, PageSource};
 use scrub_frame::Locator;
-use scrub_super::Superblock;
 use std::alloc::Global;
 use std::slice;
 use uuid::Uuid;
@@ -43,21 +40,6 @@ pub fn abc_on_four_extents(alloc: Global) -> Result<MemDisk, Misfit> {
     let mut disk = four_extents(alloc)?;
     put_chunk(alloc, &mut disk, 1, 0, ONES, b"abc")?;
     Ok(disk)
-}
-
-/// A disk of four extents with `abc` in extent 1, the run of one shard that names it in extent 2, and a
-/// superblock that retires extent 3. Returns the run's locator with the disk.
-pub fn one_retired(alloc: Global) -> Result<(MemDisk, Locator), Misfit> {
-    let mut disk = abc_on_four_extents(alloc)?;
-    let run = put_run(alloc, &mut disk, 2, 0, TWOS, &[abc_at(1, 0)])?;
-    let superblock = Superblock::with_retired(
-        1,
-        Vec::from_slice(alloc, &[41, 155, 0])?,
-        Vec::from_slice(alloc, &[3])?,
-        Vec::from_slice(alloc, slice::from_ref(&run))?,
-    );
-    put_contents(alloc, &mut disk, 0, &superblock)?;
-    Ok((disk, run))
 }
 
 /// A disk of four extents with `abc` in extent 1 and three runs of one shard. The newest, at the start of
@@ -167,16 +149,6 @@ pub fn half_garbage(alloc: Global) -> Result<MemDisk, Misfit> {
 pub fn one_shard(alloc: Global) -> Result<MemDisk, Misfit> {
     let mut disk = small_disk(alloc)?;
     put_abc_and_its_run(alloc, &mut disk)?;
-    Ok(disk)
-}
-
-/// The disk of `one_shard`, but the chunk in extent 1 has rotted to `abX`, and `abc` is after the run, too.
-pub fn rotted_chunk(alloc: Global) -> Result<MemDisk, Misfit> {
-    let mut disk = small_disk(alloc)?;
-    put_chunk(alloc, &mut disk, 1, 0, ONES, b"abX")?;
-    let run = put_run(alloc, &mut disk, 2, 0, TWOS, &[abc_at(1, 0)])?;
-    put_chunk(alloc, &mut disk, 2, 155, FOURS, b"abc")?;
-    put_superblock(alloc, &mut disk, &[41, 196], slice::from_ref(&run))?;
     Ok(disk)
 }
 

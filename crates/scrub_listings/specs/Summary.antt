@@ -6,9 +6,8 @@ use Rattle.std.specs.Option.{option_map_or}
 use Rattle.scrub_disk.specs.Image.{Image}
 use Rattle.scrub_super.specs.Chosen.{Choice}
 use Rattle.scrub_super.specs.Plan.{PlanValue}
-use Rattle.scrub_super.specs.Pages.{AreSuperblockPages}
+use Rattle.scrub_super.specs.Pages.{AreSuperblockPages, is_damaged, is_odd, is_stray}
 use Rattle.scrub_super.specs.declared.pages.SuperblockPage.{SuperblockPage}
-use Rattle.scrub_super.specs.declared.pages.SuperblockPage.TheVariants.{Damaged, Stray}
 use Rattle.scrub_scan.specs.Line.{spaced}
 use Rattle.scrub_scan.specs.Scanned.{Scanned}
 use Rattle.scrub_scan.specs.Item.{start_of}
@@ -30,20 +29,6 @@ use Rattle.scrub_listings.specs.declared.summary.Verdict.TheVariants.{Sound, InD
 use Rattle.scrub_listings.specs.Manifest.{lost_runs}
 
 -- ---- the verdict
-
--- the page begins with the letters of a kind of record, and is no part of a record
-abbrev pub is_damaged : SuperblockPage → Bool
-is_damaged (Damaged kind) = true
-is_damaged _ = false
-
--- the page has a nonzero byte, doesn't begin with the letters of a kind of record, and is no part of a record
-abbrev pub is_stray : SuperblockPage → Bool
-is_stray Stray = true
-is_stray _ = false
-
--- the page is damaged or stray
-abbrev pub is_odd : SuperblockPage → Bool
-is_odd p = is_damaged p || is_stray p
 
 -- the verdict on a disk that is clean or isn't, by whether a page of its extent 0 is damaged or stray
 abbrev pub verdict_by : Bool → Bool → Verdict

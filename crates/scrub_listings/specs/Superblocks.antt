@@ -1,13 +1,14 @@
 -- The lines of the pages of extent 0: the superblocks, which of them counts, and what may have been one.
-use Rattle.std.specs.Prelude.{◌≡◌, ◌++◌, ◌∷◌, ◌&&◌, [], ℕ, List, Bool, true, false, codes}
+use Rattle.std.specs.Prelude.{◌≡◌, ◌++◌, ◌∷◌, ◌&&◌, [], ℕ, List, Bool, true, false, codes, not}
 use Rattle.std.specs.Fmt.{decimal}
 use Rattle.std.specs.List.{enumerate_from, flat_map, list_all, list_any}
 use Rattle.scrub_disk.specs.Image.{Image}
 use Rattle.scrub_scan.specs.Line.{spaced}
+use Rattle.scrub_super.specs.declared.kind.RecordKind.{RecordKind}
 use Rattle.scrub_super.specs.declared.pages.Rank.{Rank}
 use Rattle.scrub_super.specs.declared.pages.Rank.TheVariants.{Tie, Counts, Older}
 use Rattle.scrub_super.specs.declared.pages.SuperblockPage.{SuperblockPage}
-use Rattle.scrub_super.specs.declared.pages.SuperblockPage.TheVariants.{Lost, Record, Covered, Zero, Damaged, Stray}
+use Rattle.scrub_super.specs.declared.pages.SuperblockPage.TheVariants.{Lost, Record, Damaged, Stray, Held}
 use Rattle.scrub_super.specs.Pages.{AreSuperblockPages, magic_of}
 
 -- the word for how new a record is: `tie`, `counts` or `older`
@@ -16,16 +17,23 @@ rank_text Tie = codes "tie"
 rank_text Counts = codes "counts"
 rank_text Older = codes "older"
 
--- the line of page q with its line feed, if it is lost, a record, damaged or stray; a covered page and one of zeros
--- have none
+-- the line of a record on page q, with its line feed
+abbrev pub record_line : ℕ → RecordKind → ℕ → Rank → List ℕ
+record_line q kind generation rank =
+    codes "record" ++ spaced (decimal q) ++ spaced (magic_of kind) ++ spaced (decimal generation) ++ spaced (rank_text rank) ++ 10 ∷ []
+
+-- the line of page q with its line feed if the page has a stray byte, or else nothing
+abbrev pub stray_line : ℕ → Bool → List ℕ
+stray_line q true = codes "stray" ++ spaced (decimal q) ++ 10 ∷ []
+stray_line q false = []
+
+-- the lines of page q, each with its line feed: one if it is lost, damaged or stray, one or two if it is a record, or else none
 abbrev pub superblock_line : ℕ → SuperblockPage → List ℕ
 superblock_line q Lost = codes "lost" ++ spaced (decimal q) ++ 10 ∷ []
-superblock_line q (Record kind generation rank) =
-    codes "record" ++ spaced (decimal q) ++ spaced (magic_of kind) ++ spaced (decimal generation) ++ spaced (rank_text rank) ++ 10 ∷ []
-superblock_line q Covered = []
-superblock_line q Zero = []
+superblock_line q (Record kind generation rank stray) = record_line q kind generation rank ++ stray_line q stray
 superblock_line q (Damaged kind) = codes "damaged" ++ spaced (decimal q) ++ spaced (magic_of kind) ++ 10 ∷ []
-superblock_line q Stray = codes "stray" ++ spaced (decimal q) ++ 10 ∷ []
+superblock_line q Stray = stray_line q true
+superblock_line q Held = []
 
 -- the lines of the pages, by ascending page
 abbrev pub superblock_lines : List SuperblockPage → List ℕ
@@ -33,16 +41,15 @@ superblock_lines pages = flat_map (λ x. superblock_line x.0 x.1) (enumerate_fro
 
 -- the page has the record that counts, and no other record has its generation
 abbrev pub is_counting_page : SuperblockPage → Bool
-is_counting_page (Record kind generation Counts) = true
+is_counting_page (Record kind generation Counts stray) = true
 is_counting_page _ = false
 
--- the page has no line, or the line of a record that ties with none
+-- the page has no line, or only the line of a record that ties with none
 abbrev pub is_orderly_page : SuperblockPage → Bool
-is_orderly_page (Record kind generation Tie) = false
-is_orderly_page (Record kind generation Counts) = true
-is_orderly_page (Record kind generation Older) = true
-is_orderly_page Covered = true
-is_orderly_page Zero = true
+is_orderly_page (Record kind generation Tie stray) = false
+is_orderly_page (Record kind generation Counts stray) = not stray
+is_orderly_page (Record kind generation Older stray) = not stray
+is_orderly_page Held = true
 is_orderly_page Lost = false
 is_orderly_page (Damaged kind) = false
 is_orderly_page Stray = false

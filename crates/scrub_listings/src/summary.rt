@@ -6,7 +6,7 @@ ghost use Rattle.std.specs.List.{count_by, filter, list_any, sum_by};
 ghost use Rattle.std.specs.Option.{option_map_or};
 ghost use Rattle.scrub_disk.specs.Image.{Image};
 ghost use Rattle.scrub_super.specs.declared.pages.SuperblockPage.{SuperblockPage};
-ghost use Rattle.scrub_super.specs.Pages.{AreSuperblockPages};
+ghost use Rattle.scrub_super.specs.Pages.{AreSuperblockPages, is_damaged, is_odd, is_stray};
 ghost use Rattle.scrub_scan.specs.Scanned.{scanned};
 ghost use Rattle.scrub_check.specs.declared.statuses.checked.Checked.{Checked};
 ghost use Rattle.scrub_check.specs.Checked.{is_dangling, is_hidden};
@@ -16,8 +16,8 @@ ghost use Rattle.scrub_check.specs.Runs.{ReadRunsValue};
 ghost use Rattle.scrub_report.specs.Answer.{AreTakingsBy};
 ghost use Rattle.scrub_report.specs.Parts.{AreRowsOf, IsScan, found_in};
 ghost use Rattle.scrub_listings.specs.Summary.{IsSoundImage, IsSummary, candidate_numbers, chunk_numbers};
-ghost use Rattle.scrub_listings.specs.Summary.{disk_numbers, has_spare_by, is_damaged, is_lost, is_noise};
-ghost use Rattle.scrub_listings.specs.Summary.{is_odd, is_sound_verdict, is_stray, is_torn, item_numbers};
+ghost use Rattle.scrub_listings.specs.Summary.{disk_numbers, has_spare_by, is_lost, is_noise};
+ghost use Rattle.scrub_listings.specs.Summary.{is_sound_verdict, is_torn, item_numbers};
 ghost use Rattle.scrub_listings.specs.Summary.{number_line, number_lines, numbers_by, one_if};
 ghost use Rattle.scrub_listings.specs.Summary.{reading_numbers, shard_numbers, superblock_numbers, tally_in};
 ghost use Rattle.scrub_listings.specs.Summary.{verdict, verdict_by, verdict_line, verdict_text};
@@ -72,25 +72,11 @@ pub(crate) enum Tally {
     TailBytes,
 }
 
-/// Whether a page of extent 0 is damaged.
-fn is_damaged(page: &SuperblockPage) -> bool
-    ensures { result ≡ is_damaged page.now }
-{
-    matches!(page, SuperblockPage::Damaged { .. })
-}
-
-/// Whether a page of extent 0 is stray.
-fn is_stray(page: &SuperblockPage) -> bool
-    ensures { result ≡ is_stray page.now }
-{
-    matches!(page, SuperblockPage::Stray)
-}
-
 /// Whether a page of extent 0 is damaged or stray.
 fn is_odd(page: &SuperblockPage) -> bool
     ensures { result ≡ is_odd page.now }
 {
-    is_damaged(page) || is_stray(page)
+    page.is_damaged() || page.is_stray()
 }
 
 /// Whether one of these pages is damaged or stray.
@@ -310,14 +296,14 @@ fn one_if(is_so: bool) -> u128
 fn damaged_count(pages: &[SuperblockPage]) -> usize
     ensures { result ≡ count_by is_damaged pages.now }
 {
-    pages.iter().filter(|page| is_damaged(page)).count()
+    pages.iter().filter(|page| page.is_damaged()).count()
 }
 
 /// How many pages of extent 0 are stray.
 fn stray_count(pages: &[SuperblockPage]) -> usize
     ensures { result ≡ count_by is_stray pages.now }
 {
-    pages.iter().filter(|page| is_stray(page)).count()
+    pages.iter().filter(|page| page.is_stray()).count()
 }
 
 /// How many shards are doubtful.

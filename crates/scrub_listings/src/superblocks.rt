@@ -6,7 +6,8 @@ ghost use Rattle.scrub_disk.specs.Image.{Image};
 ghost use Rattle.scrub_super.specs.declared.pages.SuperblockPage.{SuperblockPage};
 ghost use Rattle.scrub_listings.specs.Superblocks.{AreCleanSuperblocks, AreSuperblockLines, are_clean_pages};
 ghost use Rattle.scrub_listings.specs.Superblocks.{is_counting_page, is_orderly_page, rank_text};
-ghost use Rattle.scrub_listings.specs.Superblocks.{superblock_line, superblock_lines};
+ghost use Rattle.scrub_listings.specs.Superblocks.{record_line, stray_line, superblock_line};
+ghost use Rattle.scrub_listings.specs.Superblocks.{superblock_lines};
 
 use crate::listing::Listing;
 use scrub_disk::{OutOfMemory, PageSource};
@@ -34,7 +35,7 @@ fn append_record(
     rank: Rank,
 ) -> Result<(), OutOfMemory>
     ensures { OnOk result (string_bytes text.new ≡
-        string_bytes text.old ++ superblock_line page (SuperblockPage.Record kind generation rank)) }
+        string_bytes text.old ++ record_line page kind generation rank) }
 {
     let kind = kind.letters();
     let state = rank_text(rank);
@@ -50,7 +51,18 @@ fn append_damaged(text: &mut String, page: usize, kind: RecordKind) -> Result<()
     writeln!(text, "damaged {page} {kind}")
 }
 
-/// Appends the line of a page, with its line feed, if it has one.
+/// Appends the line of a page with a stray byte, or nothing if the page has none.
+fn append_stray(text: &mut String, page: usize, is_stray: bool) -> Result<(), OutOfMemory>
+    ensures { OnOk result (string_bytes text.new ≡ string_bytes text.old ++ stray_line page is_stray) }
+{
+    if is_stray {
+        writeln!(text, "stray {page}")
+    } else {
+        Ok(())
+    }
+}
+
+/// Appends the lines of a page, each with its line feed.
 fn append_line(text: &mut String, page: usize, held: SuperblockPage) -> Result<(), OutOfMemory>
     ensures { OnOk result (string_bytes text.new ≡ string_bytes text.old ++ superblock_line page held) }
 {
@@ -60,10 +72,14 @@ fn append_line(text: &mut String, page: usize, held: SuperblockPage) -> Result<(
             kind,
             generation,
             rank,
-        } => append_record(text, page, kind, generation, rank),
+            is_stray,
+        } => {
+            append_record(text, page, kind, generation, rank)?;
+            append_stray(text, page, is_stray)
+        }
         SuperblockPage::Damaged { kind } => append_damaged(text, page, kind),
-        SuperblockPage::Stray => writeln!(text, "stray {page}"),
-        SuperblockPage::Covered | SuperblockPage::Zero => Ok(()),
+        SuperblockPage::Stray => append_stray(text, page, true),
+        SuperblockPage::Held => Ok(()),
     }
 }
 
@@ -91,13 +107,17 @@ fn is_counting_page(page: SuperblockPage) -> bool
     )
 }
 
-/// Whether the page has no line, or the line of a record that ties with none.
+/// Whether the page has no line, or only the line of a record that ties with none.
 fn is_orderly_page(page: SuperblockPage) -> bool
     ensures { result ≡ is_orderly_page page }
 {
     match page {
-        SuperblockPage::Record { rank, .. } => rank != Rank::Tie,
-        SuperblockPage::Covered | SuperblockPage::Zero => true,
+        SuperblockPage::Record {
+            rank: Rank::Tie,
+            ..
+        } => false,
+        SuperblockPage::Record { is_stray, .. } => !is_stray,
+        SuperblockPage::Held => true,
         SuperblockPage::Lost | SuperblockPage::Damaged { .. } | SuperblockPage::Stray => false,
     }
 }
@@ -109,7 +129,7 @@ fn has_counting_page(pages: &[SuperblockPage]) -> bool
     pages.iter().any(|page| is_counting_page(*page))
 }
 
-/// Whether each page has no line, or the line of a record that ties with none.
+/// Whether each page has no line, or only the line of a record that ties with none.
 fn are_orderly_pages(pages: &[SuperblockPage]) -> bool
     ensures { result ≡ list_all is_orderly_page pages.now }
 {
@@ -126,9 +146,10 @@ fn are_clean_pages(pages: &[SuperblockPage]) -> bool
 /// Lists the superblocks in extent 0 of a disk. It is clean if one record counts, none ties, and no line is
 /// of anything but a record.
 ///
-/// There is a line for each page of extent 0 that has something to report, by ascending page: `lost PAGE`,
-/// `record PAGE KIND GENERATION STATE`, `damaged PAGE KIND` or `stray PAGE`. The kind is `SSB1` or `SSB2`,
-/// and the state `tie`, `counts` or `older`.
+/// There are lines for each page of extent 0 that has something to report, by ascending page: `lost PAGE`,
+/// `record PAGE KIND GENERATION STATE`, `damaged PAGE KIND` or `stray PAGE`. A page with a record has a
+/// second line, `stray PAGE`, if it has a byte other than zero that no valid record holds. The kind is `SSB1`
+/// or `SSB2`, and the state `tie`, `counts` or `older`.
 ///
 /// It reads extent 0 once, and no other extent. The only fault is `OutOfMemory`.
 pub fn list_superblocks<D: PageSource>(alloc: Global, disk: &D) -> Result<Listing, OutOfMemory>

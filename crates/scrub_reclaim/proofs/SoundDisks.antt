@@ -1,23 +1,23 @@
 -- A disk that is sound is clean, nothing is missing of it, no page of extent 0 is lost, damaged or stray, and each doubt is a
 -- tail.
-use Rattle.std.proofs.Common.{bytes_eq, codes, ◌≡◌, ◌<◌, ◌+◌, ◌==◌, ◌&&◌, ◌||◌, ◌++◌, ◌∷◌, [], ℕ, zero, suc, Bool, true, false, not, cond, List, Option, Some, None, MatchOption, is_none, is_some, length, map, nat_lt, arith, refl, sym, ap, ◌∙◌, if◌then◌else◌}
+use Rattle.std.proofs.Common.{bytes_eq, codes, ◌≡◌, ◌<◌, ◌+◌, ◌==◌, ◌&&◌, ◌||◌, ◌++◌, ◌∷◌, [], ℕ, zero, suc, Bool, true, false, not, cond, List, Option, Some, None, MatchOption, is_none, is_some, length, get_or, map, nat_lt, arith, refl, sym, ap, ◌∙◌, if◌then◌else◌}
 use Rattle.std.specs.Cmp.Derive.{both_true}
 use Rattle.std.specs.List.{AllZip, Contains, cons_option, count_by, enumerate_from, filter, filter_map, flat_map, list_all, list_any, range_with_len, zip}
 use Rattle.std.specs.Option.{option_map, option_to_list}
 use Rattle.std.proofs.lemmas.Bool.{and_parts, eq-eqb, eqb-true, false≢true, or_parts, or_right}
 use Rattle.std.proofs.lemmas.List.Folds.{list_all-append}
 use Rattle.std.proofs.lemmas.List.FromFn.{get_or-range_with_len, length-range_with_len}
-use Rattle.std.proofs.lemmas.List.Sums.{sum_by-cons}
-use Rattle.std.proofs.lemmas.Option.{slice_get_within}
+use Rattle.std.proofs.lemmas.List.Sums.{AllPass-from_list_all, sum_by-cons}
+use Rattle.std.proofs.lemmas.Option.{slice_get-get_or, slice_get_within}
 use Rattle.std.specs.List.{slice_get}
 use Rattle.scrub_disk.specs.Image.{Image, unreadable_pages}
 use Rattle.scrub_frame.specs.declared.locator.Locator.{Locator}
 use Rattle.scrub_super.specs.Chosen.{Choice}
 use Rattle.scrub_super.specs.Contents.{Contents}
-use Rattle.scrub_super.specs.Pages.{AreSuperblockPages}
+use Rattle.scrub_super.specs.Pages.{AreHeldBytes, AreSuperblockPages, is_odd}
 use Rattle.scrub_super.specs.Plan.{IsPlanBy, IsPlanOf, IsPlanWithout, PlanValue}
 use Rattle.scrub_super.specs.declared.pages.SuperblockPage.{SuperblockPage}
-use Rattle.scrub_super.specs.declared.pages.SuperblockPage.TheVariants.{Lost, Record, Covered, Zero, Damaged, Stray}
+use Rattle.scrub_super.specs.declared.pages.SuperblockPage.TheVariants.{Lost, Record, Damaged, Stray, Held}
 use Rattle.scrub_scan.specs.Scanned.{Scanned}
 use Rattle.scrub_merge.specs.Binding.{Runs}
 use Rattle.scrub_merge.proofs.Elements.{Contains-filter}
@@ -38,13 +38,13 @@ use Rattle.scrub_report.proofs.OneReport.{one_scrub}
 use Rattle.scrub_listings.specs.declared.summary.Verdict.{Verdict}
 use Rattle.scrub_listings.specs.declared.summary.Verdict.TheVariants.{Sound, InDoubt, Wrong}
 use Rattle.scrub_listings.specs.Manifest.{IsWholeImage, are_sound, hidden_runs, is_of_read_run, is_of_shard, is_whole, lost_runs, of_shards}
-use Rattle.scrub_listings.specs.Summary.{IsSoundImage, is_odd, one_if, is_sound_verdict, verdict, verdict_by}
+use Rattle.scrub_listings.specs.Summary.{IsSoundImage, one_if, is_sound_verdict, verdict, verdict_by}
 use Rattle.scrub_reclaim.specs.declared.doubts.Doubt.{Doubt}
 use Rattle.scrub_reclaim.specs.declared.doubts.Doubt.TheVariants.{NoSuperblock, Tail, Tie}
 use Rattle.scrub_reclaim.specs.Doubts.{Accepted, accepts, accepts_tails, doubt_text, is_accepted, choice_doubts, doubts, ends_past, page_doubts, page_ranges, range_doubts, run_doubts, run_lost, spare_doubt, spare_doubts, spare_doubts_of, staying, superblock_damaged, superblock_lost, superblock_stray, tail_doubts, tail_lost_doubts}
 use Rattle.scrub_reclaim.specs.AllRight.{IsAllRight, is_quiet, is_tail}
 use Rattle.scrub_reclaim.specs.Reclaimable.{IsClear, is_clear}
-use Rattle.scrub_super.proofs.PageLaws.{one_list_of_pages}
+use Rattle.scrub_super.proofs.PageLaws.{held_unless_odd, one_list_of_pages}
 
 -- ---- lists whose elements pass
 
@@ -138,11 +138,10 @@ no_spare_doubt all checked extents c e =
 
 quiet_one : (p : SuperblockPage) → ¬ (p ≡ Lost) → is_odd p ≡ false → is_quiet p ≡ true
 quiet_one Lost n e = absurd (n refl)
-quiet_one (Record kind generation rank) n e = refl
-quiet_one Covered n e = refl
-quiet_one Zero n e = refl
+quiet_one (Record kind generation rank stray) n e = ap not e
 quiet_one (Damaged kind) n e = absurd (false≢true (sym e))
 quiet_one Stray n e = absurd (false≢true (sym e))
+quiet_one Held n e = refl
 
 quiet_pages : (pages : List SuperblockPage) → ((q : ℕ) → ¬ (slice_get pages q ≡ Some Lost)) → list_any is_odd pages ≡ false →
     list_all is_quiet pages ≡ true
@@ -183,8 +182,21 @@ no_damaged q (Damaged kind) e = absurd (false≢true e)
 no_damaged q _ e = refl
 
 no_stray : (q : ℕ) (p : SuperblockPage) → is_quiet p ≡ true → superblock_stray q p ≡ None
+no_stray q Lost e = refl
+no_stray q (Record kind generation rank true) e = absurd (false≢true e)
+no_stray q (Record kind generation rank false) e = refl
+no_stray q (Damaged kind) e = refl
 no_stray q Stray e = absurd (false≢true e)
-no_stray q _ e = refl
+no_stray q Held e = refl
+
+-- a quiet page is not odd
+even_if_quiet : (p : SuperblockPage) → is_quiet p ≡ true → is_odd p ≡ false
+even_if_quiet Lost e = refl
+even_if_quiet (Record kind generation rank true) e = absurd (false≢true e)
+even_if_quiet (Record kind generation rank false) e = refl
+even_if_quiet (Damaged kind) e = absurd (false≢true e)
+even_if_quiet Stray e = absurd (false≢true e)
+even_if_quiet Held e = refl
 
 -- ---- tails
 
@@ -311,6 +323,14 @@ sound_is_clean image x = record { found = x.found; scrubbed = x.scrubbed; verdic
 
 pub sound_is_whole : (image : Image) → IsSoundImage image true → IsWholeImage image true
 sound_is_whole image x = record { found = x.found; scrubbed = x.scrubbed; verdict = sym (right image x).whole }
+
+pub sound_is_held : (image : Image) (q : ℕ) (bytes : List ℕ) → IsSoundImage image true → q < image.geometry.pages →
+    image.page 0 q ≡ Some bytes → AreHeldBytes image q bytes
+sound_is_held image q bytes x here readable =
+    let page : SuperblockPage = get_or x.pages q Lost in
+    let within : q < length x.pages = omega (arith, here, x.held.count) in
+    let even : is_odd page ≡ false = even_if_quiet page (AllPass-from_list_all is_quiet x.pages (right image x).quiet q Lost within) in
+    held_unless_odd image q page bytes (x.held.each q page (slice_get-get_or x.pages q Lost within)) even readable
 
 -- a test that is weaker passes for some element too
 any_weaker : {X : Type 0} (p q : X → Bool) (xs : List X) → ((x : X) → p x ≡ true → q x ≡ true) → list_any p xs ≡ true → list_any q xs ≡ true

@@ -1,8 +1,9 @@
 -- What follows from a disk's summary if it says that the disk is sound.
-use Rattle.std.specs.Prelude.{◌≡◌, Bool, true, false, List}
+use Rattle.std.specs.Prelude.{◌≡◌, Bool, true, false, List, not}
 use Rattle.std.specs.List.{list_all}
 use Rattle.scrub_super.specs.declared.pages.SuperblockPage.{SuperblockPage}
-use Rattle.scrub_super.specs.declared.pages.SuperblockPage.TheVariants.{Lost, Damaged, Stray}
+use Rattle.scrub_super.specs.declared.pages.SuperblockPage.TheVariants.{Lost}
+use Rattle.scrub_super.specs.Pages.{is_odd}
 use Rattle.scrub_report.specs.Scrubbed.{Scrubbed, is_clean}
 use Rattle.scrub_listings.specs.Manifest.{is_whole}
 use Rattle.scrub_reclaim.specs.declared.doubts.Doubt.{Doubt}
@@ -12,9 +13,7 @@ use Rattle.scrub_reclaim.specs.Doubts.{doubts}
 -- the page is neither lost nor damaged nor stray
 abbrev pub is_quiet : SuperblockPage → Bool
 is_quiet Lost = false
-is_quiet (Damaged kind) = false
-is_quiet Stray = false
-is_quiet _ = true
+is_quiet p = not (is_odd p)
 
 -- the doubt is of a tail whose bytes can be read
 abbrev pub is_tail : Doubt → Bool

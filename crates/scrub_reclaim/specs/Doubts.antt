@@ -8,8 +8,9 @@ use Rattle.std.specs.Option.{option_map, option_to_list}
 use Rattle.std.specs.List.{enumerate_from, filter, filter_map, flat_map, list_all, list_any, range_with_len}
 use Rattle.scrub_frame.specs.Frame.{frame_overhead}
 use Rattle.scrub_super.specs.declared.pages.SuperblockPage.{SuperblockPage}
-use Rattle.scrub_super.specs.declared.pages.SuperblockPage.TheVariants.{Lost, Damaged, Stray}
+use Rattle.scrub_super.specs.declared.pages.SuperblockPage.TheVariants.{Lost, Damaged}
 use Rattle.scrub_super.specs.Chosen.{Choice}
+use Rattle.scrub_super.specs.Pages.{is_stray}
 use Rattle.scrub_scan.specs.Scanned.{Scanned}
 use Rattle.scrub_scan.specs.declared.standing.Standing.{Standing}
 use Rattle.scrub_check.specs.declared.named.Owner.{Owner}
@@ -66,16 +67,14 @@ abbrev pub superblock_lost : ℕ → SuperblockPage → Option Doubt
 superblock_lost q Lost = Some (SuperblockLost q)
 superblock_lost q _ = None
 
--- the doubt that page q of extent 0 begins with the letters of a kind of record, and is no part of a record
+-- the doubt that page q of extent 0 is damaged: it begins with the letters of a kind of record, and no valid record holds these
 abbrev pub superblock_damaged : ℕ → SuperblockPage → Option Doubt
 superblock_damaged q (Damaged kind) = Some (SuperblockDamaged q)
 superblock_damaged q _ = None
 
--- the doubt that page q of extent 0 has a nonzero byte, doesn't begin with the letters of a kind of record, and is no
--- part of a record
+-- the doubt that page q of extent 0 has a byte other than zero that no valid record holds, and isn't damaged
 abbrev pub superblock_stray : ℕ → SuperblockPage → Option Doubt
-superblock_stray q Stray = Some (SuperblockStray q)
-superblock_stray q _ = None
+superblock_stray q p = if is_stray p then Some (SuperblockStray q) else None
 
 -- the doubts of one kind for all pages of extent 0, by ascending page
 abbrev pub page_doubts : (ℕ → SuperblockPage → Option Doubt) → List SuperblockPage → List Doubt

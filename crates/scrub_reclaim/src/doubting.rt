@@ -6,7 +6,7 @@ ghost use Rattle.scrub_scan.specs.Scanned.{scanned};
 ghost use Rattle.scrub_report.specs.Parts.{run_states};
 ghost use Rattle.scrub_reclaim.specs.Doubts.{choice_doubts, doubts_in, ends_past, lost_past, page_doubts};
 ghost use Rattle.scrub_reclaim.specs.Doubts.{range_doubts, run_doubts, run_lost, tail_doubts};
-ghost use Rattle.scrub_reclaim.specs.Doubts.{tail_lost_doubts};
+ghost use Rattle.scrub_reclaim.specs.Doubts.{superblock_stray, tail_lost_doubts};
 ghost use Rattle.scrub_reclaim.specs.steps.PageDoubts.{page_doubt};
 
 use crate::doubts::Doubt;
@@ -41,8 +41,19 @@ pub(crate) enum PageDoubt {
     Lost,
     /// It is damaged.
     Damaged,
-    /// It has other bytes.
+    /// It has a stray byte, and isn't damaged.
     Stray,
+}
+
+/// The doubt that a page of extent 0 makes if it is stray.
+fn stray_doubt(page: usize, held: &SuperblockPage) -> Option<Doubt>
+    ensures { result ≡ superblock_stray page held.now }
+{
+    if held.is_stray() {
+        Some(Doubt::SuperblockStray { page })
+    } else {
+        None
+    }
 }
 
 /// The doubt of this kind that a page of extent 0 makes.
@@ -54,7 +65,7 @@ fn page_doubt(kind: PageDoubt, page: usize, held: &SuperblockPage) -> Option<Dou
         (PageDoubt::Damaged, SuperblockPage::Damaged { .. }) => Some(Doubt::SuperblockDamaged {
             page,
         }),
-        (PageDoubt::Stray, SuperblockPage::Stray) => Some(Doubt::SuperblockStray { page }),
+        (PageDoubt::Stray, _) => stray_doubt(page, held),
         _ => None,
     }
 }

@@ -1,9 +1,9 @@
 //! What the other commands say of a disk that `summary` calls sound: a law alone, without code.
 
-ghost use Rattle.std.specs.Prelude.{◌≡◌, Bool, true, List};
+ghost use Rattle.std.specs.Prelude.{◌≡◌, ◌<◌, ℕ, Bool, true, List, Some};
 ghost use Rattle.scrub_disk.specs.Image.{Image};
 ghost use Rattle.scrub_super.specs.declared.pages.SuperblockPage.{SuperblockPage};
-ghost use Rattle.scrub_super.specs.Pages.{AreSuperblockPages};
+ghost use Rattle.scrub_super.specs.Pages.{AreHeldBytes, AreSuperblockPages};
 ghost use Rattle.scrub_report.specs.Scrubbed.{IsCleanImage, IsScrubbed, Scrubbed};
 ghost use Rattle.scrub_listings.specs.Manifest.{IsWholeImage};
 ghost use Rattle.scrub_listings.specs.Summary.{IsSoundImage, is_sound_verdict, verdict};
@@ -13,7 +13,8 @@ ghost use Rattle.scrub_reclaim.specs.AllRight.{IsAllRight};
 
 /// A law: a disk that is sound is clean, nothing is missing of it, no page of its extent 0 is lost, damaged
 /// or stray, and each doubt of what may be reclaimed is a tail. So for its image `scan` and `manifest` end
-/// with status 0, and so does `reclaimable` if tails are accepted.
+/// with status 0, and so does `reclaimable` if tails are accepted. A valid record holds each byte of extent 0
+/// that isn't zero.
 pub fn a_sound_disk_is_all_right()
     ensures found { (image : Image) (pages : List SuperblockPage) (found : Scrubbed) →
         IsScrubbed image found →
@@ -21,6 +22,9 @@ pub fn a_sound_disk_is_all_right()
         IsAllRight pages found }
     ensures clean { (image : Image) → IsSoundImage image true → IsCleanImage image true }
     ensures whole { (image : Image) → IsSoundImage image true → IsWholeImage image true }
+    ensures held { (image : Image) (q : ℕ) (bytes : List ℕ) → IsSoundImage image true →
+        q < image.geometry.pages →
+        image.page 0 q ≡ Some bytes → AreHeldBytes image q bytes }
     ensures clear { (image : Image) (accepted : Accepted) (clear : Bool) → IsSoundImage image true →
         accepts_tails accepted ≡ true →
         IsClear image accepted clear → clear ≡ true }

@@ -1,10 +1,10 @@
 -- What is found on each page of extent 0, what is seen from it, and how far records reach, one page at a time.
-use Rattle.std.proofs.Common.{◌≡◌, ◌<◌, ◌≤◌, ◌+◌, ◌*◌, ℕ, List, [], ◌∷◌, ◌++◌, Bool, false, length, get_or, set, arith, sym, ◌∙◌, ap, Option, Some, None, IfSome, IfNone, inl, inr, max, slice_get, length-append, nat_lt}
+use Rattle.std.proofs.Common.{◌≡◌, ◌<◌, ◌≤◌, ◌+◌, ◌*◌, ◌-◌, ◌↔◌, ℕ, suc, List, [], ◌∷◌, ◌++◌, All, Bool, true, false, not, IsTrue, length, drop, get_or, set, arith, refl, sym, subst, ◌∙◌, ap, Option, Some, None, IfSome, IfNone, inl, inr, max, min, slice_get, length-append, length-drop, nat_lt}
 use Rattle.std.specs.List.{between}
-use Rattle.std.proofs.lemmas.Bool.{cases_lt, cases_eq, ltb-true, lt-ltb}
-use Rattle.std.proofs.lemmas.List.{get_or-set_same, get_or-set_other, get_or_append_left, get_or_push}
+use Rattle.std.proofs.lemmas.Bool.{cases_lt, cases_eq, false≢true, ltb-true, lt-ltb}
+use Rattle.std.proofs.lemmas.List.{get_or-drop, length-take, get_or-set_same, get_or-set_other, get_or_append_left, get_or_push}
 use Rattle.std.proofs.lemmas.Option.{slice_get_within, slice_get-get_or, get_or_from_slice_get}
-use Rattle.std.proofs.Math.Nat.{le-max_left, le-max_right, max-eq_left, max-eq_right}
+use Rattle.std.proofs.Math.Nat.{le-max_left, le-max_right, max-eq_left, max-eq_right, min-eq_left, min-eq_right, min-le_left, mul-le-mul_right, suc-mul}
 use Rattle.scrub_disk.specs.declared.geometry.Geometry.{Geometry}
 use Rattle.scrub_disk.specs.Image.{Image}
 use Rattle.scrub_disk.specs.Buffered.{IsBuffered}
@@ -18,7 +18,7 @@ use Rattle.scrub_super.specs.Contents.{Contents}
 use Rattle.scrub_super.specs.Record.{BeginsWithRecord}
 use Rattle.scrub_super.specs.steps.RecordRead.{BeginsWithSome, digest_place, kind_by, record_head_size, retired_count}
 use Rattle.scrub_super.specs.steps.RecordsSeen.{AddsRecord, AreSeenFrom, StandsFrom}
-use Rattle.scrub_super.specs.Pages.{AreSuperblockPages, IsSuperblockPage}
+use Rattle.scrub_super.specs.Pages.{AreHeldBytes, AreSuperblockPages, HasStrayByte, IsHeldByte, IsSuperblockPage}
 use Rattle.scrub_super.specs.steps.PagesFound.{AreFoundOnPages, IsFoundOf, IsFoundOnPage, IsKnownOfPage, IsRecordReach, image_with}
 use Rattle.scrub_super.proofs.Laws.{one_record_on_page}
 use Rattle.scrub_super.proofs.Found.{known_kind}
@@ -140,25 +140,111 @@ module _ {image : Image} {q reach : ℕ} (h : IsRecordReach image q reach) where
     reached = λ i low. let x = h.reached i low in (x.0, omega (arith, x.1), x.2);
   }
 
--- a page is covered if an earlier record reaches past its first byte
-pub known_of : {image : Image} {bytes part : List ℕ} {readable : List Bool} {q start size reach : ℕ} →
+-- ---- which bytes records hold
+
+module _ (q : ℕ) {image : Image} {reach : ℕ} (r : IsRecordReach image (q + 1) reach) where
+  -- a byte of page q that records reach is held
+  pub held_below : (k : ℕ) → q * image.geometry.page + k < reach → IsHeldByte image (q * image.geometry.page + k)
+  held_below k low =
+      let x = r.reached (q * image.geometry.page + k) low in
+      record {
+        start = x.0;
+        contents = x.2.0;
+        stands = x.2.1;
+        from =
+            omega (arith, mul-le-mul_right {m = x.0} {n = q} image.geometry.page (omega (arith, x.1)));
+        to = x.2.2;
+      }
+
+  -- and no other one is
+  pub below_held : (k : ℕ) → k < image.geometry.page → IsHeldByte image (q * image.geometry.page + k) →
+      q * image.geometry.page + k < reach
+  below_held k within h = omega (arith, h.to, r.ends h.start h.contents before h.stands)
+    where
+      next : suc q * image.geometry.page ≡ q * image.geometry.page + image.geometry.page
+      next = suc-mul q image.geometry.page
+
+      before : h.start < q + 1
+      before = elim (cases_lt h.start (q + 1)) [
+        | inl less ↦ less
+        | inr more ↦
+            absurd
+            (omega (arith, within, h.from, next, mul-le-mul_right {m = suc q} {n = h.start} image.geometry.page (omega (arith, more))))
+      ]
+
+  -- the same of the first byte
+  pub first_held : IsTrue (nat_lt (q * image.geometry.page) reach) ↔ IsHeldByte image (q * image.geometry.page)
+  first_held = (
+    (λ less. rw first at (held_below 0 (omega (arith, ltb-true (q * image.geometry.page) reach less)))),
+    (λ h. lt-ltb (q * image.geometry.page) reach (omega (arith, below_held 0 (omega (arith, image.geometry.page_size.least)) (rw (sym first) at h)))),
+  )
+    where
+      first : q * image.geometry.page + 0 ≡ q * image.geometry.page
+      first = omega arith
+
+  module _ (bytes : List ℕ) {start held : ℕ} (hs : start ≡ q * image.geometry.page) (fits : length bytes ≤ image.geometry.page)
+      (at_most : held ≡ min (reach - start) (length bytes)) where
+    -- past the reach are the bytes from `held` on
+    past : (k : ℕ) → held ≤ k → k < length bytes → reach ≤ q * image.geometry.page + k
+    past k high within = elim (cases_lt (reach - start) (length bytes)) [
+      | inl short ↦
+          omega (arith, hs, high, at_most, min-eq_left {n = reach - start} {m = length bytes} (omega (arith, short)))
+      | inr long ↦
+          absurd
+          (omega (arith, high, within, at_most, min-eq_right {n = length bytes} {m = reach - start} long))
+    ]
+
+    pub zeros_held : All (λ b. b ≡ 0) (drop held bytes) → AreHeldBytes image q bytes
+    zeros_held zeros k b is nonzero = elim (cases_lt k held) [
+      | inl front ↦
+          held_below k (omega (arith, hs, front, at_most, min-le_left (reach - start) (length bytes)))
+      | inr back ↦
+          let within : k < length bytes = slice_get_within bytes k b is in
+          let behind : k - held < length (drop held bytes) = omega (arith, within, back, length-drop held bytes) in
+          let there : held + (k - held) ≡ k = omega (arith, back) in
+          absurd
+          (nonzero (sym (get_or_from_slice_get bytes k b 0 is) ∙ sym (get_or-drop held bytes (k - held) 0 ∙ ap (λ n. get_or bytes n 0) there) ∙ zeros (k - held) 0 behind))
+    ]
+
+    pub held_zeros : AreHeldBytes image q bytes → All (λ b. b ≡ 0) (drop held bytes)
+    held_zeros are j d here = elim (cases_eq (get_or (drop held bytes) j d) 0) [
+      | inl zero ↦ zero
+      | inr other ↦
+          let within : held + j < length bytes = omega (arith, here, length-drop held bytes) in
+          let h : IsHeldByte image (q * image.geometry.page + (held + j)) =
+          are (held + j) (get_or bytes (held + j) d) (slice_get-get_or bytes (held + j) d within) (λ zero. other (get_or-drop held bytes j d ∙ zero)) in
+          absurd
+          (omega (arith, below_held (held + j) (omega (arith, within, fits)) h, past (held + j) (omega arith) within))
+    ]
+
+    -- so a test of these bytes says whether the page has a stray byte
+    pub stray_by : {rest : List ℕ} (zero : Bool) → rest ≡ drop held bytes → IsTrue zero ↔ All (λ b. b ≡ 0) rest →
+        HasStrayByte image q bytes (not zero)
+    stray_by true e is = zeros_held (subst (All (λ b. b ≡ 0)) e (is.0 refl))
+    stray_by false e is = λ are. false≢true (is.1 (subst (All (λ b. b ≡ 0)) (sym e) (held_zeros are)))
+
+-- a part of so many bytes has no more
+pub part_fits : (bytes : List ℕ) (start : ℕ) {part : List ℕ} {size page : ℕ} → part ≡ between start (start + size) bytes → size ≡ page →
+    length part ≤ page
+part_fits bytes start {part} {size} hp hs =
+    omega (
+      arith,
+      ap length hp,
+      length-take (start + size - start) (drop start bytes),
+      min-le_left (start + size - start) (length (drop start bytes)),
+      hs,
+    )
+
+-- what is known of a page from the reach of the records up to it
+pub known_of : {image : Image} {bytes part : List ℕ} {readable : List Bool} {q start size reach : ℕ} {stray : Bool} →
     IsBuffered image 0 bytes readable → q < image.geometry.pages →
     size ≡ image.geometry.page → start ≡ q * size → part ≡ between start (start + size) bytes →
-    IsRecordReach image q reach → IsKnownOfPage image q part (get_or readable q false) (nat_lt start reach)
-known_of {image} {q = q} {start} {reach = reach} h here hs ht hp r = record {
-  held = rw (hp, ht, hs) (h.pages q here);
-  covered_is = (
-    (λ less.
-        let x = r.reached start (ltb-true start reach less) in
-        record {
-          start = x.0;
-          before = x.1;
-          contents = x.2.0;
-          stands = x.2.1;
-          reaches = omega (arith, x.2.2, begins);
-        }),
-    (λ l. lt-ltb start reach (omega (arith, begins, l.reaches, r.ends l.start l.contents l.before l.stands))),
-  );
+    IsRecordReach image (q + 1) reach → HasStrayByte image q part stray →
+    IsKnownOfPage image q part (get_or readable q false) (nat_lt start reach) stray
+known_of {image} {q = q} {start} {reach = reach} h here hs ht hp r stray = record {
+  bytes_are = rw (hp, ht, hs) (h.pages q here);
+  held_is = rw begins (first_held q r);
+  stray_is = stray;
 }
   where
     begins : start ≡ q * image.geometry.page

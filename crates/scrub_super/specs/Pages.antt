@@ -1,5 +1,5 @@
 -- What each page of extent 0 holds of superblocks.
-use Rattle.std.specs.Prelude.{◌≡◌, ◌<◌, ◌+◌, ◌*◌, ℕ, List, All, Some, None, codes, if◌then◌else◌, nat_lt, take, slice_get}
+use Rattle.std.specs.Prelude.{◌≡◌, ◌<◌, ◌≤◌, ◌+◌, ◌*◌, ◌||◌, ℕ, List, Bool, true, false, Some, None, codes, if◌then◌else◌, nat_lt, take, slice_get}
 use Rattle.std.specs.Prelude.{length as len}
 use Rattle.std.specs.List.{list_any}
 use Rattle.std.specs.Option.{option_map_or}
@@ -9,7 +9,7 @@ use Rattle.scrub_super.specs.declared.kind.RecordKind.TheVariants.{Ssb1, Ssb2}
 use Rattle.scrub_super.specs.declared.pages.Rank.{Rank}
 use Rattle.scrub_super.specs.declared.pages.Rank.TheVariants.{Tie, Counts, Older}
 use Rattle.scrub_super.specs.declared.pages.SuperblockPage.{SuperblockPage}
-use Rattle.scrub_super.specs.declared.pages.SuperblockPage.TheVariants.{Lost, Record, Covered, Zero, Damaged, Stray}
+use Rattle.scrub_super.specs.declared.pages.SuperblockPage.TheVariants.{Lost, Record, Damaged, Stray, Held}
 use Rattle.scrub_super.specs.Contents.{Contents}
 use Rattle.scrub_super.specs.Record.{record_bytes}
 use Rattle.scrub_super.specs.Chosen.{AreRecords, RecordStandsAt, newest}
@@ -34,31 +34,61 @@ IsRank image generation rank =
 abbrev pub HasRecord : Image → ℕ → Type 0
 HasRecord image q = (c : Contents) × RecordStandsAt image q c
 
--- a byte of page q lies in a valid record that begins on a page before it
-pub record LiesInRecord (image : Image) (q : ℕ) : Type 0 where
+-- a valid record holds byte i of extent 0: the byte is at or after the start of the page that the record begins on, and before
+-- the record's end
+pub record IsHeldByte (image : Image) (i : ℕ) : Type 0 where
   pub start : ℕ
-  pub before : start < q
   pub contents : Contents
   pub stands : RecordStandsAt image start contents
-  pub reaches : q * image.geometry.page < start * image.geometry.page + len (record_bytes image.geometry contents)
+  pub from : start * image.geometry.page ≤ i
+  pub to : i < start * image.geometry.page + len (record_bytes image.geometry contents)
 
--- page q can be read, no valid record begins there, and no byte of it lies in one
-pub record IsUnclaimed (image : Image) (q : ℕ) (bytes : List ℕ) : Type 0 where
+-- each byte of page q other than zero is held by a valid record
+abbrev pub AreHeldBytes : Image → ℕ → List ℕ → Type 0
+AreHeldBytes image q bytes = (k b : ℕ) → slice_get bytes k ≡ Some b → ¬ (b ≡ 0) → IsHeldByte image (q * image.geometry.page + k)
+
+-- the truth value says whether page q has a stray byte: one other than zero that no valid record holds
+abbrev pub HasStrayByte : Image → ℕ → List ℕ → Bool → Type 0
+HasStrayByte image q bytes true = ¬ AreHeldBytes image q bytes
+HasStrayByte image q bytes false = AreHeldBytes image q bytes
+
+-- page q can be read, and no valid record begins there
+pub record IsRecordless (image : Image) (q : ℕ) (bytes : List ℕ) : Type 0 where
   pub readable : image.page 0 q ≡ Some bytes
   pub no_record : ¬ HasRecord image q
-  pub outside : ¬ LiesInRecord image q
 
--- what page q of extent 0 is: lost; a record with kind, generation and rank; covered by an earlier record; zero;
--- damaged, if it is unclaimed and begins with the letters of a kind; or else stray
+-- page q begins with the letters of this kind, and no valid record holds its first byte
+pub record HasLooseLetters (image : Image) (q : ℕ) (bytes : List ℕ) (kind : RecordKind) : Type 0 where
+  pub letters : take 4 bytes ≡ magic_of kind
+  pub loose : ¬ IsHeldByte image (q * image.geometry.page)
+
+-- what page q of extent 0 is: lost; a record with kind, generation and rank, and with or without a stray byte after it; damaged,
+-- if no record begins there and it has loose letters; or else stray or held, with or without a stray byte
 abbrev pub IsSuperblockPage : Image → ℕ → SuperblockPage → Type 0
 IsSuperblockPage image q Lost = image.page 0 q ≡ None
-IsSuperblockPage image q (Record kind generation rank) =
-    (c : Contents) × RecordStandsAt image q c × (kind ≡ kind_of c) × (generation ≡ c.generation) × IsRank image generation rank
-IsSuperblockPage image q Covered = (¬ HasRecord image q) × LiesInRecord image q
-IsSuperblockPage image q Zero = (bytes : List ℕ) × IsUnclaimed image q bytes × All (λ b. b ≡ 0) bytes
-IsSuperblockPage image q (Damaged kind) = (bytes : List ℕ) × IsUnclaimed image q bytes × (take 4 bytes ≡ magic_of kind)
+IsSuperblockPage image q (Record kind generation rank stray) =
+    (c : Contents) × RecordStandsAt image q c × (kind ≡ kind_of c) × (generation ≡ c.generation) × IsRank image generation rank ×
+    ((bytes : List ℕ) × (image.page 0 q ≡ Some bytes) × HasStrayByte image q bytes stray)
+IsSuperblockPage image q (Damaged kind) = (bytes : List ℕ) × IsRecordless image q bytes × HasLooseLetters image q bytes kind
 IsSuperblockPage image q Stray =
-    (bytes : List ℕ) × IsUnclaimed image q bytes × (¬ All (λ b. b ≡ 0) bytes) × ((kind : RecordKind) → ¬ (take 4 bytes ≡ magic_of kind))
+    (bytes : List ℕ) × IsRecordless image q bytes × ((kind : RecordKind) → ¬ HasLooseLetters image q bytes kind) × HasStrayByte image q bytes true
+IsSuperblockPage image q Held =
+    (bytes : List ℕ) × IsRecordless image q bytes × ((kind : RecordKind) → ¬ HasLooseLetters image q bytes kind) × HasStrayByte image q bytes false
+
+-- the page is damaged
+abbrev pub is_damaged : SuperblockPage → Bool
+is_damaged (Damaged kind) = true
+is_damaged _ = false
+
+-- the page has a stray byte, and isn't damaged
+abbrev pub is_stray : SuperblockPage → Bool
+is_stray Stray = true
+is_stray (Record kind generation rank stray) = stray
+is_stray _ = false
+
+-- the page is damaged or stray
+abbrev pub is_odd : SuperblockPage → Bool
+is_odd p = is_damaged p || is_stray p
 
 -- the list says what each page of extent 0 is, from page 0 on
 pub record AreSuperblockPages (image : Image) (pages : List SuperblockPage) : Type 0 where

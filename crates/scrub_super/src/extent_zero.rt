@@ -1,15 +1,15 @@
 //! Judges each page of extent 0 by itself: where records begin, how far they reach, and what the other pages
 //! hold. `choosing` picks the record that counts.
 
-ghost use Rattle.std.specs.Prelude.{◌≡◌, ◌+◌, ◌*◌, ◌<◌, ◌≤◌, ◌^◌, ℕ, List, Option, IfOk, IfSome, IfNone};
-ghost use Rattle.std.specs.Prelude.{length, slice_range};
+ghost use Rattle.std.specs.Prelude.{◌≡◌, ◌+◌, ◌*◌, ◌<◌, ◌≤◌, ◌^◌, ◌⊎◌, ℕ, List, Option, IfOk, IfSome, IfNone};
+ghost use Rattle.std.specs.Prelude.{IsTrue, Some, length, slice_get, slice_range};
 ghost use Rattle.scrub_disk.specs.Limits.{max_extent_bytes};
 ghost use Rattle.scrub_disk.specs.Buffered.{IsBuffered};
 ghost use Rattle.scrub_disk.specs.Image.{Image};
 ghost use Rattle.scrub_super.specs.Contents.{Contents};
 ghost use Rattle.scrub_super.specs.Record.{BeginsWithRecord};
 ghost use Rattle.scrub_super.specs.Chosen.{IsChoice, RecordStandsAt};
-ghost use Rattle.scrub_super.specs.Pages.{AreSuperblockPages, IsRank, IsSuperblockPage};
+ghost use Rattle.scrub_super.specs.Pages.{AreSuperblockPages, IsHeldByte, IsRank, IsSuperblockPage, is_odd};
 ghost use Rattle.scrub_super.specs.steps.PagesFound.{AreFoundOnPages, IsFoundOf, IsFoundOnPage};
 ghost use Rattle.scrub_super.specs.steps.PagesFound.{IsKnownOfPage, IsRecordReach, image_with};
 ghost use Rattle.scrub_super.specs.steps.RecordsSeen.{AreSeenFrom, StandsFrom};
@@ -19,7 +19,7 @@ use crate::choosing::{RecordsSeen, chosen_by, readable_end, with_record};
 use crate::chosen::Chosen;
 use crate::head::body_len;
 use crate::kind::RecordKind;
-use crate::pages::{Rank, SuperblockPage, page_without_record};
+use crate::pages::{Rank, SuperblockPage, has_stray_byte, page_without_record};
 use crate::record::record_at;
 use scrub_disk::{Geometry, OutOfMemory, PageSource, read_extent};
 use scrub_frame::DIGEST_BYTES;
@@ -109,11 +109,12 @@ fn rank_of(seen: RecordsSeen, generation: u64) -> Rank
 fn page_of(
     bytes: &[u8],
     is_readable: bool,
-    is_covered: bool,
+    is_held: bool,
+    is_stray: bool,
     found: Option<PageRecord>,
     seen: RecordsSeen,
 ) -> SuperblockPage
-    ensures { (image : Image) (q : ℕ) → IsKnownOfPage image q bytes.now is_readable is_covered →
+    ensures { (image : Image) (q : ℕ) → IsKnownOfPage image q bytes.now is_readable is_held is_stray →
         IsFoundOnPage image q found → AreSeenFrom (StandsFrom image) 0 seen →
         IsSuperblockPage image q result }
 {
@@ -122,8 +123,9 @@ fn page_of(
             kind: record.kind,
             generation: record.generation,
             rank: rank_of(seen, record.generation),
+            is_stray,
         },
-        None => page_without_record(bytes, is_readable, is_covered),
+        None => page_without_record(bytes, is_readable, is_held, is_stray),
     }
 }
 
@@ -158,14 +160,16 @@ fn pages_of(
 {
     let size = geometry.page() as usize;
     let mut pages = Vec::with_capacity(alloc, found.len())?;
-    // How far the records on earlier pages reach.
+    // How far the records up to this page reach.
     let mut reach = 0;
     for page in 0..found.len() {
         let start = page * size;
         let part = &bytes[start..start + size];
-        let is_covered = start < reach;
-        pages.push(page_of(part, readable[page], is_covered, found[page], seen))?;
         reach = reach_with(reach, found[page]);
+        let is_held = start < reach;
+        let is_stray = has_stray_byte(part, start, reach);
+        let held = page_of(part, readable[page], is_held, is_stray, found[page], seen);
+        pages.push(held)?;
     }
     Ok(pages)
 }
@@ -195,6 +199,15 @@ pub fn choose_with_pages<D: PageSource>(
     let chosen = chosen_by(alloc, disk, &extent, seen)?;
     Ok((chosen, pages))
 }
+
+/// A law: no byte is overlooked. A byte of a readable page of extent 0 is zero, or a valid record holds it,
+/// or its page is damaged or stray.
+pub fn no_byte_is_overlooked()
+    ensures { (image : Image) (pages : List SuperblockPage) (q k b : ℕ) (page : SuperblockPage)
+        (bytes : List ℕ) → AreSuperblockPages image pages → slice_get pages q ≡ Some page →
+        image.page 0 q ≡ Some bytes → slice_get bytes k ≡ Some b → ¬ (b ≡ 0) →
+        IsHeldByte image (q * image.geometry.page + k) ⊎ IsTrue (is_odd page) }
+{}
 
 /// A law: an image has at most one list of what the pages of extent 0 hold.
 pub fn one_list_of_superblock_pages()

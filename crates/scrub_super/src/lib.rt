@@ -14,7 +14,7 @@ pub mod unknown_sizes;
 
 pub use choosing::{choice_by_conditions, choose, one_choice};
 pub use chosen::Chosen;
-pub use extent_zero::{choose_with_pages, one_list_of_superblock_pages};
+pub use extent_zero::{choose_with_pages, no_byte_is_overlooked, one_list_of_superblock_pages};
 pub use kind::RecordKind;
 pub use pages::{Rank, SuperblockPage};
 pub use plan::Plan;

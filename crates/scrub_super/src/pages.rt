@@ -1,9 +1,11 @@
 //! What a page of extent 0 holds: a superblock record, the rest of one, a damaged one, or anything else.
 
-ghost use Rattle.std.specs.Prelude.{◌≡◌, ◌↔◌, ℕ, All, IsTrue};
+ghost use Rattle.std.specs.Prelude.{◌≡◌, ◌↔◌, ◌≤◌, ◌+◌, ◌*◌, ℕ, All, IsTrue, MatchOption, length};
 ghost use Rattle.scrub_disk.specs.Image.{Image};
-ghost use Rattle.scrub_super.specs.Pages.{HasRecord, IsSuperblockPage};
-ghost use Rattle.scrub_super.specs.steps.PagesFound.{IsKnownOfPage};
+ghost use Rattle.scrub_super.specs.Pages.{HasLooseLetters, HasRecord, HasStrayByte, IsHeldByte};
+ghost use Rattle.scrub_super.specs.Pages.{IsSuperblockPage, is_damaged, is_stray};
+ghost use Rattle.scrub_super.specs.steps.PagesFound.{IsKnownOfPage, IsRecordReach};
+ghost use Rattle.scrub_super.specs.declared.kind.RecordKind.{RecordKind};
 
 use crate::kind::RecordKind;
 
@@ -19,7 +21,8 @@ pub enum Rank {
     Older,
 }
 
-/// What a page of extent 0 holds: the first of these that applies.
+/// What a page of extent 0 holds: the first of these that applies. A valid record holds the bytes from the
+/// start of its page to its own end. A byte is stray if it isn't zero and no valid record holds it.
 #[derive(Debug, Clone, Copy, PartialEq, Eq)]
 pub enum SuperblockPage {
     /// The page is unreadable.
@@ -29,18 +32,39 @@ pub enum SuperblockPage {
         kind: RecordKind,
         generation: u64,
         rank: Rank,
+        /// Whether a byte of the page is stray.
+        is_stray: bool,
     },
-    /// A valid record that begins on an earlier page reaches into the page.
-    Covered,
-    /// All bytes of the page are zero.
-    Zero,
-    /// The page begins with the four bytes of a kind, but with no valid record: its digest is wrong, it has
-    /// other sizes or a field out of range, or an unreadable page or the end of the extent cuts it off.
+    /// The page begins with the four bytes of a kind, but with no valid record, and none holds them. The
+    /// digest is wrong, the record has other sizes or a field out of range, or an unreadable page or the end
+    /// of the extent cuts it off.
     Damaged {
         kind: RecordKind,
     },
-    /// Anything else.
+    /// A byte of the page is stray.
     Stray,
+    /// Valid records that begin on earlier pages hold all bytes of the page that aren't zero.
+    Held,
+}
+
+impl SuperblockPage {
+    /// Whether the page is damaged.
+    pub fn is_damaged(&self) -> bool
+        ensures { result ≡ is_damaged self.now }
+    {
+        matches!(self, SuperblockPage::Damaged { .. })
+    }
+
+    /// Whether a byte of the page is stray, and the page isn't damaged.
+    pub fn is_stray(&self) -> bool
+        ensures { result ≡ is_stray self.now }
+    {
+        match self {
+            SuperblockPage::Record { is_stray, .. } => *is_stray,
+            SuperblockPage::Stray => true,
+            SuperblockPage::Lost | SuperblockPage::Damaged { .. } | SuperblockPage::Held => false,
+        }
+    }
 }
 
 /// Whether all bytes are zero.
@@ -55,26 +79,45 @@ fn are_zero(bytes: &[u8]) -> bool
     true
 }
 
+/// Whether a byte of a page is stray. The page begins at byte `start` of extent 0, and the records that begin
+/// on it or before it reach up to byte `reach`.
+pub(crate) fn has_stray_byte(bytes: &[u8], start: usize, reach: usize) -> bool
+    ensures { (image : Image) (q : ℕ) → start ≡ q * image.geometry.page →
+        length bytes.now ≤ image.geometry.page →
+        IsRecordReach image (q + 1) reach → HasStrayByte image q bytes.now result }
+{
+    let held = reach.saturating_sub(start).min(bytes.len());
+    !are_zero(&bytes[held..])
+}
+
+/// The kind whose letters a page begins with, if no record holds them.
+fn loose_letters(bytes: &[u8], is_held: bool) -> Option<RecordKind>
+    ensures { (image : Image) (q : ℕ) → IsTrue is_held ↔ IsHeldByte image (q * image.geometry.page) →
+        MatchOption result ((kind : RecordKind) → ¬ HasLooseLetters image q bytes.now kind)
+        (HasLooseLetters image q bytes.now) }
+{
+    if is_held { None } else { RecordKind::at(bytes) }
+}
+
 /// What a page holds if no record begins on it.
 pub(crate) fn page_without_record(
     bytes: &[u8],
     is_readable: bool,
-    is_covered: bool,
+    is_held: bool,
+    is_stray: bool,
 ) -> SuperblockPage
-    ensures { (image : Image) (q : ℕ) → IsKnownOfPage image q bytes.now is_readable is_covered →
+    ensures { (image : Image) (q : ℕ) → IsKnownOfPage image q bytes.now is_readable is_held is_stray →
         ¬ HasRecord image q → IsSuperblockPage image q result }
 {
     if !is_readable {
         return SuperblockPage::Lost;
     }
-    if is_covered {
-        return SuperblockPage::Covered;
+    if let Some(kind) = loose_letters(bytes, is_held) {
+        return SuperblockPage::Damaged { kind };
     }
-    if are_zero(bytes) {
-        return SuperblockPage::Zero;
-    }
-    match RecordKind::at(bytes) {
-        Some(kind) => SuperblockPage::Damaged { kind },
-        None => SuperblockPage::Stray,
+    if is_stray {
+        SuperblockPage::Stray
+    } else {
+        SuperblockPage::Held
     }
 }

@@ -7,7 +7,7 @@ use Rattle.scrub_super.specs.declared.extent_zero.PageRecord.{PageRecord}
 use Rattle.scrub_super.specs.Contents.{Contents}
 use Rattle.scrub_super.specs.Record.{record_bytes}
 use Rattle.scrub_super.specs.Chosen.{RecordStandsAt}
-use Rattle.scrub_super.specs.Pages.{HasRecord, LiesInRecord, kind_of}
+use Rattle.scrub_super.specs.Pages.{HasRecord, HasStrayByte, IsHeldByte, kind_of}
 
 -- the image of a disk of these sizes and pages
 abbrev pub image_with : Geometry → (ℕ → ℕ → Option (List ℕ)) → Image
@@ -37,7 +37,9 @@ pub record IsRecordReach (image : Image) (q reach : ℕ) : Type 0 where
   pub reached : (i : ℕ) → i < reach →
       (r : ℕ) × (r < q) × ((c : Contents) × RecordStandsAt image r c × (i < r * image.geometry.page + len (record_bytes image.geometry c)))
 
--- what is known of page q before it is judged: its bytes if it can be read, and whether an earlier record reaches it
-pub record IsKnownOfPage (image : Image) (q : ℕ) (bytes : List ℕ) (readable covered : Bool) : Type 0 where
-  pub held : image.page 0 q ≡ (if readable then Some bytes else None)
-  pub covered_is : IsTrue covered ↔ LiesInRecord image q
+-- what is known of page q before it is judged: its bytes if it can be read, whether a record holds the first of them, and
+-- whether one of them is stray
+pub record IsKnownOfPage (image : Image) (q : ℕ) (bytes : List ℕ) (readable held stray : Bool) : Type 0 where
+  pub bytes_are : image.page 0 q ≡ (if readable then Some bytes else None)
+  pub held_is : IsTrue held ↔ IsHeldByte image (q * image.geometry.page)
+  pub stray_is : HasStrayByte image q bytes stray
