@@ -447,7 +447,8 @@ for number, copies in (("6", "7"), ("8", "8")):
 
 mistake("box 6: the pointer of the extent to reset is 0 already", "superblock of box 6", "7")(
     lambda walk, fields: {**fields, "pointers": [0 if e in walk.chosen else w for e, w in enumerate(fields["pointers"], 1)]})
-mistake("box 8: another extent is reset", "extents of box 8", "8 none", often=True)(
+mistake("box 8: no extent is reset", "extents of box 8", "8", often=True)(lambda walk, extents: [])
+mistake("box 8: another extent is reset", "extents of box 8", "8", often=True)(
     lambda walk, extents: [e for e in range(1, walk.drive.extents) if e not in extents and e not in walk.fields["retired"]][:1] or None)
 mistake("box 8: one more extent is reset", "extents of box 8", "8 none", often=True)(
     lambda walk, extents: [*extents, *[e for e in range(1, walk.drive.extents) if e not in extents and e not in walk.fields["retired"]][:1]])
@@ -522,6 +523,18 @@ def erase(walk, value):
 
 mistake("the extent is erased between box 3 and box 4", "before box 4", "7 7! none")(erase)
 mistake("the extent is erased between box 7 and box 8", "before box 8", "8")(erase)
+
+
+@mistake("a copy rots between box 7 and box 8", "before box 8", "8")
+def rot(walk, value):
+    if not walk.parts:
+        return None
+    part = walk.choice.choice(walk.parts)
+    extent, offset = part.target
+    walk.drive.write(extent, offset, flipped(walk, walk.drive.read(*part.target, part.count)))
+    return ()
+
+
 mistake("box 8 writes into another extent, too", "after writing of box 8", "8 8!")(
     lambda walk, value: walk.drive.write(walk.choice.randrange(1, walk.drive.extents), walk.choice.randrange(walk.drive.size - 4), b"oops") or ())
 
@@ -530,7 +543,7 @@ mistake("box 8 writes into another extent, too", "after writing of box 8", "8 8!
 
 mistake("a tail is accepted that the node wrote after its last superblock", "accepted", "none none!", drive="later")(
     lambda walk, accepted: walk.doubts)
-mistake("a damaged superblock is accepted that was the newest, and its generation isn't compared", "accepted", "none none!",
+mistake("a damaged superblock is accepted that was the newest, and its generation isn't compared", "accepted", "2 none none!",
         drive="damaged", without=(1,), often=True)(lambda walk, accepted: walk.doubts)
 mistake("a damaged superblock is accepted that was the newest", "accepted", "1", drive="damaged", without=("nothing",))(
     lambda walk, accepted: walk.doubts)

@@ -276,7 +276,7 @@ class Walk:
 
     def write_superblock(self, box, fields):
         """Writes one with these fields, as a mistake may change them."""
-        self.undo = self.fields
+        self.fields_before = self.fields
         self.written = box
         self.fields = self.slip(f"superblock of box {box}", fields)
         text = self.slip(f"record of box {box}", self.drive.record(*(self.fields[key] for key in FIELDS)))
@@ -320,19 +320,30 @@ class Walk:
         text, _ = self.ask(8, "manifest")
         self.check(8, self.is_kept(text), "the manifest differs", "manifest of box 8")
         text, _ = self.ask(8, "reclaimable")
-        for line in doubts_in(text):
+        doubts = doubts_in(text)
+        for line in doubts:
             words = line.split()
             tail = words[0] == "tail" and int(words[1]) in self.chosen
             self.check(8, line in self.doubts_7 or tail or words[0] == "spare", f"a new doubt: {line}", "doubts of box 8")
+        text, clear = self.ask(8, "reclaimable", doubts)
+        self.check(8, clear, "status 1", "doubts of box 8")
+        listed = {int(words[1]) for words in lines_with(text, "reclaim")}
+        self.check(8, not listed & set(self.chosen), "an extent is still listed", "listing of box 8")
 
-    def put_back(self):
-        """Writes the superblock of before again, with a generation greater than any on the disk."""
+    def put_back(self, box):
+        """Writes the superblock of box 1 again; if the manifest isn't the kept one after box 8, that of box 7."""
         if self.written is not None:
-            newest = max([self.fields["generation"], *(r.generation for r in reference.records_of(self.drive.image()).values())])
-            text = self.drive.record(*({**self.undo, "generation": min(newest + 1, 2 ** 64 - 1)}[key] for key in FIELDS))
-            pages = record_pages(self.drive, len(text))
-            if pages:
-                put_record(self.drive, text, self.choice.choice(pages) * self.drive.page)
+            self.write_again(self.first_fields)
+            if box == 8 and not self.is_kept(self.engine.ask(self.drive, "manifest")[0]):
+                self.write_again(self.fields_before)
+
+    def write_again(self, fields):
+        """Writes a superblock with a generation greater than any on the disk."""
+        newest = max([self.fields["generation"], *(r.generation for r in reference.records_of(self.drive.image()).values())])
+        text = self.drive.record(*({**fields, "generation": min(newest + 1, 2 ** 64 - 1)}[key] for key in FIELDS))
+        pages = record_pages(self.drive, len(text))
+        if pages:
+            put_record(self.drive, text, self.choice.choice(pages) * self.drive.page)
 
 
 FIELDS = ("generation", "pointers", "retired", "runs")
@@ -452,7 +463,7 @@ def trial(engine, one, seed, without=()):
     if not walk.slipped or one.without and stopped in (1, 2) and one.drive is None:
         return None
     if stopped in (7, 8):
-        walk.put_back()
+        walk.put_back(stopped)
     after = drive
     if walk.node is not None:
         after = superseded(after, {"pointers": walk.node.pointers, "retired": walk.node.retired, "runs": walk.node.runs})
