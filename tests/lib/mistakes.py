@@ -570,7 +570,7 @@ def node_writes(rounds):
     return make
 
 
-for number, boxes, more in ((1, "2", "2 4 7 8"), (3, "4 5 7 none!", "4 7"), (4, "5 7 none!", "5 6 7"), (5, "7 none!", "6 7"), (6, "7", "7"),
+for number, boxes, more in ((1, "2", "2 4 7 8"), (3, "4 5 7 none!", "4 7"), (4, "5 7 none!", "5 6 6! 7"), (5, "7 none!", "6 7"), (6, "7", "7"),
                             (7, "8", "8 none!")):
     where = f"after box {number}"
     mistake(f"the node appends a chunk {where}", where, boxes)(node_writes(0))

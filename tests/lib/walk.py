@@ -124,6 +124,7 @@ class Walk:
         accepted = self.slip("accepted", [d for d in self.doubts if d in self.explained])
         self.check(2, set(accepted) >= set(self.doubts), "a doubt without an explanation")
         self.listing, clear = self.ask(2, "reclaimable", accepted)
+        self.raw_of_2 = bytes(self.slip("image of box 2", self.drive).raw)
         self.check(2, clear, "status 1")
         self.accepted = accepted
         for words in [d.split() for d in self.doubts if d.startswith("spare ")]:
@@ -207,8 +208,11 @@ class Walk:
         places = {(int(w[1]), int(w[2])): int(w[7]) for w in moves}
         self.parts = [Part(place, count) for place, count in places.items()]
         self.parts += [Part(part.place, part.count) for part in self.owed if part.place[0] in some]
+        shards = sorted({bytes.fromhex(w[6]) for w in moves if w[5] == "shard"})
         bindings = bindings_of(self.drive)
-        self.entries = [(i, bindings[i][0]) for i in sorted({bytes.fromhex(w[6]) for w in moves if w[5] == "shard"})]
+        if not bindings.keys() >= set(shards):  # a node has deleted one since the listing
+            bindings = {**bindings_of(self.drive.copy(self.raw_of_2)), **bindings}
+        self.entries = [(i, bindings[i][0]) for i in shards]
         self.form = self.choice.choice([frame, sealed_frame])
         run_part = Part(None, len(self.form(bytes(16), run_of(self.entries))))
         left = {x: list(room) for x, room in rooms.items()}
